@@ -1,0 +1,21 @@
+//! DNS messages: read where they lie, and written (RFC 1035 4.1).
+#![tactic(auto)]
+
+mod answer;
+mod builder;
+mod message;
+mod question;
+mod record;
+#[cfg(test)]
+mod tests;
+
+pub use answer::is_answer;
+pub use builder::{Builder, PushError};
+pub use dns_names::{LabelIter, Name, ParsedName, ToName, is_same_name, name_laws, to_name};
+pub use dns_values::{
+    Class, Failed, LongName, LongOptData, NoMemory, Octets, Opcode, OptRcode, ParseError, Rcode,
+    Rtype, Section, Serial, ShortMessage, Status, Ttl,
+};
+pub use message::Message;
+pub use question::{Question, QuestionSection};
+pub use record::{Record, RecordData, RecordSection};

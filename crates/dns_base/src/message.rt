@@ -1,0 +1,104 @@
+//! Messages, read where they lie.
+
+ghost use Rattle.std.specs.Prelude.{◌≡◌, ◌≤◌, ◌<◌, ◌↔◌, ℕ, List, length, take, option_map, IfOk, IsErr, MatchOption, MatchResult, None, Some};
+ghost use Rattle.dns_base.specs.Message.{question_at, items_at, list_at, u16_at, first_question, sole_question, answer_items};
+
+use crate::question::{Question, QuestionSection, u16_at};
+use crate::record::RecordSection;
+use dns_values::{Octets, ParseError, ShortMessage};
+use std::marker::Model;
+
+/// A message: twelve octets at least.
+#[derive(Drop)]
+pub struct Message {
+    octets: Octets,
+}
+
+impl Model for Message {
+    ghost Value = { List ℕ };
+
+    ghost view = { λ m. m.octets };
+
+    ghost invariant = { λ m. 12 ≤ length m.octets };
+}
+
+impl Message {
+    pub fn from_octets(octets: Octets) -> Result<Message, ShortMessage>
+        ensures found { IfOk result (λ m. m ≡ octets) }
+        ensures short { IsErr result ↔ (length octets < 12) }
+    {
+        if octets.as_slice().len() < 12 {
+            return Err(ShortMessage);
+        }
+        Ok(Message { octets })
+    }
+
+    pub fn as_slice(&self) -> &[u8]
+        ensures all { result.now ≡ self.now }
+        ensures long { 12 ≤ length self.now }
+    {
+        self.octets.as_slice()
+    }
+
+    pub fn question(&self) -> QuestionSection<'_>
+        ensures all { result ≡ items_at (question_at self.now) (u16_at self.now 4) 12 }
+        ensures few { length result < 65536 }
+    {
+        let octets = self.as_slice();
+        QuestionSection::new(octets, 12, u16_at(octets, 4))
+    }
+
+    /// The first question, where it can be read.
+    #[tactic(auto, unfolding(crate::specs::Message::first_question))]
+    pub fn first_question(&self) -> Option<Question<'_>>
+        ensures { result ≡ first_question self.now }
+    {
+        let octets = self.as_slice();
+        if u16_at(octets, 4) == 0 {
+            return None;
+        }
+        let (question, _) = Question::parse(octets, 12)?;
+        Some(question)
+    }
+
+    /// The only question.
+    #[tactic(auto, unfolding(crate::specs::Message::sole_question))]
+    pub fn sole_question(&self) -> Result<Question<'_>, ParseError>
+        ensures { MatchResult result (λ q. sole_question self.now ≡ Some q) (λ _. sole_question self.now ≡ None) }
+    {
+        let octets = self.as_slice();
+        if u16_at(octets, 4) != 1 {
+            return Err(ParseError);
+        }
+        match Question::parse(octets, 12) {
+            None => Err(ParseError),
+            Some((question, _)) => Ok(question),
+        }
+    }
+}
+
+impl Message {
+    /// The records of the answer section.
+    #[tactic(auto, unfolding(crate::specs::Message::answer_items, crate::specs::Message::questions_of))]
+    pub fn answer(&self) -> Result<RecordSection<'_>, ParseError>
+        ensures { MatchResult result (λ s. answer_items self.now ≡ Some s) (λ _. answer_items self.now ≡ None) }
+    {
+        let octets = self.as_slice();
+        match questions_end(octets, u16_at(octets, 4), 12) {
+            None => Err(ParseError),
+            Some(at) => Ok(RecordSection::new(octets, at, u16_at(octets, 6))),
+        }
+    }
+}
+
+/// Where the octets after so many questions stand.
+pub(crate) fn questions_end(octets: &[u8], count: u16, place: usize) -> Option<usize>
+    ensures { result ≡ option_map (λ x. x.1) (list_at (question_at octets.now) count place) }
+{
+    let mut at = place;
+    for _ in 0..count {
+        let (_, end) = Question::parse(octets, at)?;
+        at = end;
+    }
+    Some(at)
+}

@@ -1,0 +1,208 @@
+//! Records, and the sections that have them.
+
+ghost use Rattle.std.specs.Prelude.{◌≡◌, ◌+◌, ◌≤◌, ◌<◌, length, List, Result, Option, MatchResult, IfOk, Some, None, slice_range, option_map};
+ghost use Rattle.std.specs.Iterator.{YieldsFirst, item_count};
+ghost use Rattle.dns_values.specs.declared.error.ParseError.{ParseError};
+ghost use Rattle.dns_base.specs.Message.{Known, record_at, data_at, name_to, items_at, u16_at, u32_at};
+ghost use Rattle.dns_base.specs.RecordData.{data_view};
+
+use crate::question::u16_at;
+use dns_names::ParsedName;
+use dns_values::{Class, ParseError, Rtype, Ttl};
+use std::marker::Model;
+
+/// What the data of a record says, by its type.
+#[derive(Drop)]
+pub enum RecordData<'a> {
+    A([u8; 4]),
+    Ns(ParsedName<'a>),
+    Cname(ParsedName<'a>),
+    Ptr(ParsedName<'a>),
+    Mx(u16, ParsedName<'a>),
+    Other(&'a [u8]),
+}
+
+/// A record of a message.
+#[derive(Drop)]
+pub struct Record<'a> {
+    octets: &'a [u8],
+    owner: ParsedName<'a>,
+    rtype: Rtype,
+    class: Class,
+    ttl: Ttl,
+    at: usize,
+    end: usize,
+}
+
+impl<'a> Model for Record<'a> {
+    ghost Value = { Known };
+
+    ghost view = { λ r. record {
+      entry = record {
+        owner = r.owner;
+        rtype = r.rtype.0;
+        class = r.class.0;
+        ttl = r.ttl.0;
+        octets = slice_range r.octets.now r.at r.end;
+      };
+      says = data_at r.rtype.0 r.octets.now r.at r.end;
+    } };
+
+    ghost invariant = { λ r. (r.at ≤ r.end) × (r.end ≤ length r.octets.now) };
+}
+
+fn u32_at(octets: &[u8], at: usize) -> u32
+    requires { at + 4 ≤ length octets.now }
+    ensures { result ≡ u32_at octets.now at }
+{
+    u32::from_be_bytes([octets[at], octets[at + 1], octets[at + 2], octets[at + 3]])
+}
+
+/// A name that fills the octets up to an end.
+fn name_to(octets: &[u8], at: usize, end: usize) -> Result<ParsedName<'_>, ParseError>
+    ensures { MatchResult result (λ n. name_to octets.now at end ≡ Some n) (λ _. name_to octets.now at end ≡ None) }
+{
+    match ParsedName::parse(octets, at) {
+        Some((name, after)) => {
+            if after == end {
+                Ok(name)
+            } else {
+                Err(ParseError)
+            }
+        }
+        None => Err(ParseError),
+    }
+}
+
+/// The data of a type between two places.
+#[tactic(auto, unfolding(crate::specs::Message::data_at))]
+fn data_at(rtype: Rtype, octets: &[u8], at: usize, end: usize) -> Result<RecordData<'_>, ParseError>
+    requires order { at ≤ end }
+    requires within { end ≤ length octets.now }
+    ensures { MatchResult result (λ d. data_at rtype.0 octets.now at end ≡ Some (data_view d)) (λ _. data_at rtype.0 octets.now at end ≡ None) }
+{
+    match rtype.0 {
+        1 => {
+            if at + 4 != end {
+                return Err(ParseError);
+            }
+            Ok(RecordData::A([octets[at], octets[at + 1], octets[at + 2], octets[at + 3]]))
+        }
+        2 => Ok(RecordData::Ns(name_to(octets, at, end)?)),
+        5 => Ok(RecordData::Cname(name_to(octets, at, end)?)),
+        12 => Ok(RecordData::Ptr(name_to(octets, at, end)?)),
+        15 => {
+            if end < at + 2 {
+                return Err(ParseError);
+            }
+            let preference = u16_at(octets, at);
+            Ok(RecordData::Mx(preference, name_to(octets, at + 2, end)?))
+        }
+        _ => Ok(RecordData::Other(&octets[at..end])),
+    }
+}
+
+impl<'a> Record<'a> {
+    pub fn owner(&self) -> ParsedName<'a>
+        ensures { result ≡ self.now.entry.owner }
+    {
+        self.owner.again()
+    }
+
+    pub fn rtype(&self) -> Rtype
+        ensures { result.0 ≡ self.now.entry.rtype }
+    {
+        self.rtype
+    }
+
+    pub fn raw_data(&self) -> &'a [u8]
+        ensures { result.now ≡ self.now.entry.octets }
+    {
+        &self.octets[self.at..self.end]
+    }
+
+    pub fn data(&self) -> Result<RecordData<'a>, ParseError>
+        ensures { MatchResult result (λ d. self.now.says ≡ Some (data_view d)) (λ _. self.now.says ≡ None) }
+    {
+        data_at(self.rtype, self.octets, self.at, self.end)
+    }
+
+    /// The record at a place, and where the octets after it stand.
+    #[tactic(auto, unfolding(crate::specs::Message::record_at))]
+    pub(crate) fn parse(octets: &'a [u8], place: usize) -> Option<(Record<'a>, usize)>
+        ensures { result ≡ record_at octets.now place }
+    {
+        let (owner, after) = ParsedName::parse(octets, place)?;
+        if octets.len() < after + 10 {
+            return None;
+        }
+        let at = after + 10;
+        let end = at + u16_at(octets, after + 8) as usize;
+        if octets.len() < end {
+            return None;
+        }
+        let rtype = Rtype(u16_at(octets, after));
+        let class = Class(u16_at(octets, after + 2));
+        let ttl = Ttl(u32_at(octets, after + 4));
+        Some((
+            Record {
+                octets,
+                owner,
+                rtype,
+                class,
+                ttl,
+                at,
+                end,
+            },
+            end,
+        ))
+    }
+}
+
+/// The records of a section, read one by one.
+#[derive(Drop)]
+pub struct RecordSection<'a> {
+    octets: &'a [u8],
+    at: usize,
+    left: u16,
+}
+
+impl<'a> Model for RecordSection<'a> {
+    ghost Value = { List (Result Known ParseError) };
+
+    ghost view = { λ s. items_at (record_at s.octets.now) s.left s.at };
+}
+
+impl<'a> RecordSection<'a> {
+    pub(crate) fn new(octets: &'a [u8], at: usize, left: u16) -> Self
+        ensures { result ≡ items_at (record_at octets.now) left at }
+    {
+        RecordSection { octets, at, left }
+    }
+}
+
+impl<'a> Iterator for RecordSection<'a> {
+    type Item = Result<Record<'a>, ParseError>;
+
+    ghost next_gives = { YieldsFirst (λ s. s) };
+
+    ghost remaining = { item_count (λ s. s) };
+
+    #[tactic(auto, unfolding(crate::specs::Message::items_at))]
+    fn next(&mut self) -> Option<Result<Record<'a>, ParseError>> {
+        if self.left == 0 {
+            return None;
+        }
+        match Record::parse(self.octets, self.at) {
+            None => {
+                self.left = 0;
+                Some(Err(ParseError))
+            }
+            Some((record, end)) => {
+                self.left -= 1;
+                self.at = end;
+                Some(Ok(record))
+            }
+        }
+    }
+}
