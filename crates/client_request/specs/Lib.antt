@@ -6,3 +6,5 @@ pub mod Board
 pub mod View
 pub mod Cx
 pub mod Response
+pub mod Composing
+pub mod Limits
