@@ -13,8 +13,8 @@ pub use answer::is_answer;
 pub use builder::{Builder, PushError};
 pub use dns_names::{LabelIter, Name, ParsedName, ToName, is_same_name, name_laws, to_name};
 pub use dns_values::{
-    Class, Failed, LongName, LongOptData, NoMemory, Octets, Opcode, OptRcode, ParseError, Rcode,
-    Rtype, Section, Serial, ShortMessage, Status, Ttl,
+    Class, Duration, Failed, IpAddr, LongName, LongOptData, NoMemory, Octets, Opcode, OptRcode,
+    ParseError, Rcode, Rtype, Section, Serial, ShortMessage, SocketAddr, Status, Ttl,
 };
 pub use message::Message;
 pub use question::{Question, QuestionSection};

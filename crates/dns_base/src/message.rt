@@ -102,3 +102,12 @@ pub(crate) fn questions_end(octets: &[u8], count: u16, place: usize) -> Option<u
     }
     Some(at)
 }
+
+impl Message {
+    /// Its octets.
+    pub fn into_octets(self) -> Octets
+        ensures { result ≡ self }
+    {
+        self.octets
+    }
+}
