@@ -7,7 +7,8 @@ use Rattle.std.proofs.lemmas.Nat.{from_be_bytes-to_be_bytes_2, from_be_bytes-to_
 use Rattle.std.proofs.lemmas.List.{drop-append-le, length-drop, length-take, take-append-drop}
 use Rattle.std.proofs.lemmas.Option.{some_pair_parts}
 use Rattle.dns_names.specs.Name.{Labels, name_at, IsLegal, spelling, octet_count, same_name, lowered}
-use Rattle.dns_base.specs.Message.{Asked, Entry, Known, A, One, Mx, Other, data_at, is_one_name, name_to, question_at, record_at, list_at, u16_at, u32_at, reads, questions_of, answer_of, authority_of, additional_of, ◌>>=◌}
+use Rattle.dns_base.specs.Message.{Asked, Entry, Known, A, One, Mx, Other, data_at, is_one_name, name_to, question_at, record_at, list_at, reads, questions_of, answer_of, authority_of, additional_of, ◌>>=◌}
+use Rattle.dns_base.specs.Numbers.{u16_at, u32_at}
 use Rattle.dns_base.specs.Draft.{Draft, Parts, parts_at, parts_of, IsWritten, question_spelling, question_size, refusal, Pushed, head, is_opaque, opaque, record_spelling, record_size}
 use Rattle.std.proofs.lemmas.Cmp.{lists_equiv, nat_list_eq_equiv}
 use Rattle.dns_base.specs.declared.builder.PushError.{PushError}

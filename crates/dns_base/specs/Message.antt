@@ -1,19 +1,12 @@
 -- A message, as RFC 1035 4.1 has it: a header of twelve octets, then questions, and three lists of records.
 use Rattle.std.specs.Prelude.{ℕ, zero, suc, ◌+◌, List, [], ◌∷◌, length, take, Option, Some, None, Result, Ok, Err, option_and_then, option_map, slice_range, nat_le, ◌==◌, ◌||◌, ◌&&◌, ◌%◌, not, Bool, true, false, slice_index, nat_lt, if◌then◌else◌}
-use Rattle.std.specs.Int.{w16, w32, from_be_bytes}
 use Rattle.dns_values.specs.declared.error.ParseError.{ParseError}
+use Rattle.dns_base.specs.Numbers.{u16_at, u32_at}
 use Rattle.dns_names.specs.Name.{Labels, Found, name_at, same_name}
 
 infixl 10 ◌>>=◌
 abbrev pub ◌>>=◌ : {A B : Type 0} → Option A → (A → Option B) → Option B
 o >>= f = option_and_then f o
-
--- two octets as a number, and four
-abbrev pub u16_at : List ℕ → ℕ → ℕ
-u16_at octets at = from_be_bytes w16 (slice_range octets at (at + 2))
-
-abbrev pub u32_at : List ℕ → ℕ → ℕ
-u32_at octets at = from_be_bytes w32 (slice_range octets at (at + 4))
 
 pub record Asked : Type 0 where
   pub name : Labels

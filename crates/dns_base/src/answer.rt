@@ -4,7 +4,8 @@ ghost use Rattle.std.specs.Prelude.{◌≡◌, ◌≤◌, length};
 ghost use Rattle.dns_base.specs.Message.{same_asked, same_items, is_bare, is_answer};
 
 use crate::message::Message;
-use crate::question::{Question, QuestionSection, u16_at};
+use crate::numbers::u16_at;
+use crate::question::{Question, QuestionSection};
 use dns_names::is_same_name;
 
 fn is_same_question(a: &Question<'_>, b: &Question<'_>) -> bool

@@ -3,7 +3,9 @@
 
 mod answer;
 mod builder;
+mod header;
 mod message;
+mod numbers;
 mod question;
 mod record;
 #[cfg(test)]
@@ -16,6 +18,7 @@ pub use dns_values::{
     Class, Failed, LongName, LongOptData, NoMemory, Octets, Opcode, OptRcode, ParseError, Rcode,
     Rtype, Section, Serial, ShortMessage, Status, Ttl,
 };
+pub use header::{Header, HeaderCounts};
 pub use message::Message;
 pub use question::{Question, QuestionSection};
 pub use record::{Record, RecordData, RecordSection};

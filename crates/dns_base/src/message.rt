@@ -1,9 +1,11 @@
 //! Messages, read where they lie.
 
 ghost use Rattle.std.specs.Prelude.{◌≡◌, ◌≤◌, ◌<◌, ◌↔◌, ℕ, List, length, take, option_map, IfOk, IsErr, MatchOption, MatchResult, None, Some};
-ghost use Rattle.dns_base.specs.Message.{question_at, items_at, list_at, u16_at, first_question, sole_question, answer_items};
+ghost use Rattle.dns_base.specs.Numbers.{u16_at};
+ghost use Rattle.dns_base.specs.Message.{question_at, items_at, list_at, first_question, sole_question, answer_items};
 
-use crate::question::{Question, QuestionSection, u16_at};
+use crate::numbers::u16_at;
+use crate::question::{Question, QuestionSection};
 use crate::record::RecordSection;
 use dns_values::{Octets, ParseError, ShortMessage};
 use std::marker::Model;

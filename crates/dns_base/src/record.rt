@@ -3,10 +3,10 @@
 ghost use Rattle.std.specs.Prelude.{◌≡◌, ◌+◌, ◌≤◌, ◌<◌, length, List, Result, Option, MatchResult, IfOk, Some, None, slice_range, option_map};
 ghost use Rattle.std.specs.Iterator.{YieldsFirst, item_count};
 ghost use Rattle.dns_values.specs.declared.error.ParseError.{ParseError};
-ghost use Rattle.dns_base.specs.Message.{Known, record_at, data_at, name_to, items_at, u16_at, u32_at};
+ghost use Rattle.dns_base.specs.Message.{Known, record_at, data_at, name_to, items_at};
 ghost use Rattle.dns_base.specs.RecordData.{data_view};
 
-use crate::question::u16_at;
+use crate::numbers::{u16_at, u32_at};
 use dns_names::ParsedName;
 use dns_values::{Class, ParseError, Rtype, Ttl};
 use std::marker::Model;
@@ -49,13 +49,6 @@ impl<'a> Model for Record<'a> {
     } };
 
     ghost invariant = { λ r. (r.at ≤ r.end) × (r.end ≤ length r.octets.now) };
-}
-
-fn u32_at(octets: &[u8], at: usize) -> u32
-    requires { at + 4 ≤ length octets.now }
-    ensures { result ≡ u32_at octets.now at }
-{
-    u32::from_be_bytes([octets[at], octets[at + 1], octets[at + 2], octets[at + 3]])
 }
 
 /// A name that fills the octets up to an end.
