@@ -1,10 +1,11 @@
 //! The first four octets of a message, and the counts behind them (RFC 1035 4.1.1).
 
-ghost use Rattle.std.specs.Prelude.{◌≡◌, ◌+◌, ◌-◌, ◌≤◌, ◌<◌, ◌^◌, ℕ, List, Bool, length, not, ◌==◌, bit_and, bit_or, if◌then◌else◌};
+ghost use Rattle.std.specs.Prelude.{◌≡◌, ◌+◌, ◌≤◌, ◌<◌, ◌++◌, ℕ, List, length, take, drop};
 ghost use Rattle.dns_base.specs.Header as spec;
+ghost use Rattle.dns_base.specs.Sections as sections;
 
 use crate::numbers::u16_at;
-use dns_values::{Opcode, Rcode};
+use dns_values::{Opcode, Rcode, Section};
 use std::marker::Model;
 
 /// A copy of the id and the flags of a message, its first four octets.
@@ -41,6 +42,23 @@ impl Header {
         ensures four { length self.now ≡ 4 }
     {
         self.octets
+    }
+
+    /// Writes it over the first four octets of a message.
+    fn write_over(&self, octets: &mut [u8])
+        requires { 4 ≤ length octets.old }
+        ensures { octets.new ≡ self.now ++ drop 4 octets.old }
+    {
+        octets[..4].copy_from_slice(&self.octets);
+    }
+
+    /// Writes it over the first four octets of a message.
+    pub(crate) fn put_over(&self, octets: &mut Vec<u8>)
+        requires { 4 ≤ length octets.old.items }
+        ensures items { octets.new.items ≡ self.now ++ drop 4 octets.old.items }
+        ensures len { length octets.new.items ≡ length octets.old.items }
+    {
+        self.write_over(octets);
     }
 
     /// The id, by which an answer is found for its query.
@@ -215,6 +233,75 @@ impl HeaderCounts {
             authority: u16_at(octets, 8),
             additional: u16_at(octets, 10),
         }
+    }
+
+    pub(crate) fn none() -> HeaderCounts
+        ensures { result ≡ sections.no_entries }
+    {
+        HeaderCounts {
+            questions: 0,
+            answer: 0,
+            authority: 0,
+            additional: 0,
+        }
+    }
+
+    /// How many records a section has.
+    pub(crate) fn records_in(&self, section: Section) -> u16
+        ensures { result ≡ sections.entries_in section self.now }
+    {
+        match section {
+            Section::Answer => self.answer,
+            Section::Authority => self.authority,
+            Section::Additional => self.additional,
+        }
+    }
+
+    pub(crate) fn add_question(&mut self)
+        requires { self.old.questions < 65535 }
+        ensures { self.new ≡ record self.old { questions = self.old.questions + 1 } }
+    {
+        self.questions += 1;
+    }
+
+    pub(crate) fn add_record(&mut self, section: Section)
+        requires { sections.entries_in section self.old < 65535 }
+        ensures { self.new ≡ sections.one_more_in section self.old }
+    {
+        match section {
+            Section::Answer => self.answer += 1,
+            Section::Authority => self.authority += 1,
+            Section::Additional => self.additional += 1,
+        }
+    }
+
+    /// Writes them over the octets 4 to 11 of a message.
+    fn write_over(&self, octets: &mut [u8])
+        requires { 12 ≤ length octets.old }
+        ensures { octets.new ≡ take 4 octets.old ++ sections.counts_spelling self.now ++ drop 12 octets.old }
+    {
+        octets[4..12].copy_from_slice(&self.to_octets());
+    }
+
+    /// Writes them over the octets 4 to 11 of a message.
+    pub(crate) fn put_over(&self, octets: &mut Vec<u8>)
+        requires { 12 ≤ length octets.old.items }
+        ensures items { octets.new.items ≡ take 4 octets.old.items ++ sections.counts_spelling self.now ++ drop 12 octets.old.items }
+        ensures len { length octets.new.items ≡ length octets.old.items }
+    {
+        self.write_over(octets);
+    }
+
+    /// The eight octets of the counts.
+    #[tactic(auto, unfolding(crate::specs::Sections::counts_spelling))]
+    fn to_octets(&self) -> [u8; 8]
+        ensures { result ≡ sections.counts_spelling self.now }
+    {
+        let [q1, q0] = self.questions.to_be_bytes();
+        let [n1, n0] = self.answer.to_be_bytes();
+        let [t1, t0] = self.authority.to_be_bytes();
+        let [d1, d0] = self.additional.to_be_bytes();
+        [q1, q0, n1, n0, t1, t0, d1, d0]
     }
 
     /// How many questions.
