@@ -1,6 +1,6 @@
 use Rattle.std.proofs.Common.{◌≡◌, ◌+◌, ◌≤◌}
 use Rattle.dns_names.specs.Name.{octet_count}
-use Rattle.dns_base.proofs.builder.octet_count.Given as goal
+use Rattle.dns_base.proofs.spelling.name_size.Given as goal
 
 abbrev pub invariant-loop-label : goal.invariant-loop-label
 invariant-loop-label l = record {
