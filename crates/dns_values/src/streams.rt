@@ -91,3 +91,76 @@ pub fn write_all<K: Sink>(sink: &mut K, octets: &[u8]) -> Result<(), SinkFault>
     }
     Ok(())
 }
+
+#[cfg(test)]
+mod tests {
+    use super::*;
+    use crate::octets::Octets;
+    use crate::sink::{MemSink, SureSink};
+    use crate::source::{MemSource, SureSource};
+    use crate::std_edge::{StdSink, StdSource};
+    use std::test::Fail;
+
+    fn calls(alloc: Global, numbers: &[u64]) -> Result<Vec<u64>, AllocError> {
+        Vec::from_slice(alloc, numbers)
+    }
+
+    #[test]
+    fn a_source_is_read_to_its_end_or_to_its_limit(rt: HostRuntime) -> Result<(), Fail> {
+        let alloc = rt.alloc();
+        // The bound of one piece, and the octets round it.
+        for (size, most, fails, want) in [
+            (0, 0, 9, Ok(0)),
+            (1, 0, 9, Err(ReadFault::TooLong)),
+            (8192, 8192, 9, Ok(8192)),
+            (8193, 8192, 9, Err(ReadFault::TooLong)),
+            (20000, 20000, 9, Ok(20000)),
+            (20000, 20000, 1, Err(ReadFault::Failed)),
+        ] {
+            let octets = Octets::from_vec(vec![in alloc; 7u8; size]?)?;
+            let mut source = MemSource::new(octets, calls(alloc, &[fails])?);
+            let read = read_to_end(alloc, &mut source, most);
+            assert_eq!(rt; read.map(|v| v.len()), want, "at {size} of {most}");
+        }
+        Ok(())
+    }
+
+    #[test]
+    fn octets_are_written_whole_or_the_fault_is_told(rt: HostRuntime) -> Result<(), Fail> {
+        let alloc = rt.alloc();
+        for (fails, takes_nothing, want) in [
+            (9, 9, Ok(())),
+            (0, 9, Err(SinkFault::Failed)),
+            (9, 0, Err(SinkFault::Failed)),
+        ] {
+            let mut sink = MemSink::new(
+                alloc,
+                calls(alloc, &[fails])?,
+                calls(alloc, &[takes_nothing])?,
+            );
+            assert_eq!(rt; write_all(&mut sink, b"dns"), want);
+            assert_eq!(rt; sink.as_slice().is_empty(), want.is_err());
+            assert!(rt; sink.flush().is_ok());
+        }
+        Ok(())
+    }
+
+    #[test]
+    fn sure_ones_and_those_of_std_hand_octets_on(rt: HostRuntime) -> Result<(), Fail> {
+        let alloc = rt.alloc();
+        let octets = Octets::from_slice(alloc, b"dns")?;
+        let mut sink = SureSink::new(alloc);
+        let read = read_to_end(alloc, &mut SureSource::new(octets), 3)?;
+        write_all(&mut sink, &read)?;
+        assert!(rt; sink.as_slice() == b"dns".as_slice() && sink.flush().is_ok());
+        let reader: &[u8] = b"dns";
+        let read = read_to_end(alloc, &mut StdSource::new(reader), 3)?;
+        let mut written = [0u8; 4];
+        let writer: &mut [u8] = &mut written;
+        let mut sink = StdSink::new(writer);
+        assert!(rt; write_all(&mut sink, &read).is_ok() && sink.flush().is_ok());
+        // Two octets more than there is room for: one is taken, and then none.
+        assert_eq!(rt; write_all(&mut sink, b"xy"), Err(SinkFault::Failed));
+        Ok(())
+    }
+}
