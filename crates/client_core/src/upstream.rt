@@ -55,6 +55,8 @@ impl<CR: ComposeRequest> SendRequest<CR> for Upstream<CR> {
 
     ghost has_failed = { plain.has_failed };
 
+    ghost holds_failed = { plain.has_failed };
+
     ghost plain_send = { plain.plain_send (requests_of CR.with_id CR.with_payload_size CR.composed CR.is_answered) };
 
     ghost plain_step = { plain.plain_step (requests_of CR.with_id CR.with_payload_size CR.composed CR.is_answered) };

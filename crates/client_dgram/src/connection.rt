@@ -119,6 +119,8 @@ impl<Req: ComposeRequest> SendRequest<Req> for Connection<Req> {
 
     ghost has_failed = { λ c. c.failed };
 
+    ghost holds_failed = { λ c. c.failed };
+
     ghost plain_send = { plain.plain_send (requests_of Req.with_id Req.with_payload_size Req.composed Req.is_answered) };
 
     ghost plain_step = { plain.plain_step (requests_of Req.with_id Req.with_payload_size Req.composed Req.is_answered) };

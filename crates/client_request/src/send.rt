@@ -18,8 +18,11 @@ use crate::words::Words;
 pub trait SendRequest<CR> {
     type Response: GetResponse;
 
-    /// Whether an earlier call gave up.
+    /// Whether an earlier call gave up: then each call answers `Failed`.
     ghost has_failed: { Self → Bool };
+
+    /// Whether it, or a transport that it holds, gave up: else no call answers `Failed`.
+    ghost holds_failed: { Self → Bool };
 
     ghost plain_send: { CR → Step Self };
 
@@ -41,7 +44,7 @@ pub trait SendRequest<CR> {
         ensures refused { IfErr result IsRefusal }
         ensures err { OnErr result (has_failed self.new ≡ true) }
         ensures failed { has_failed self.old ≡ true → (result ≡ Err Error.Failed) × (self.new ≡ self.old) × (view_of W.stream cx.new ≡ view_of W.stream cx.old) }
-        ensures failed_only { IsErrOf result Error.Failed → has_failed self.old ≡ true };
+        ensures failed_only { IsErrOf result Error.Failed → holds_failed self.old ≡ true };
 
     /// Hears what happened.
     fn step<W: Words>(&mut self, cx: &mut Cx<'_, W>, signal: Signal<'_>) -> Result<(), Error>
@@ -51,7 +54,7 @@ pub trait SendRequest<CR> {
         ensures refused { IfErr result IsRefusal }
         ensures err { OnErr result (has_failed self.new ≡ true) }
         ensures failed { has_failed self.old ≡ true → (result ≡ Err Error.Failed) × (self.new ≡ self.old) × (view_of W.stream cx.new ≡ view_of W.stream cx.old) }
-        ensures failed_only { IsErrOf result Error.Failed → has_failed self.old ≡ true };
+        ensures failed_only { IsErrOf result Error.Failed → holds_failed self.old ≡ true };
 
     /// Gives a request up, whose result then never comes.
     fn cancel<W: Words>(
@@ -65,5 +68,5 @@ pub trait SendRequest<CR> {
         ensures refused { IfErr result IsRefusal }
         ensures err { OnErr result (has_failed self.new ≡ true) }
         ensures failed { has_failed self.old ≡ true → (result ≡ Err Error.Failed) × (self.new ≡ self.old) × (view_of W.stream cx.new ≡ view_of W.stream cx.old) }
-        ensures failed_only { IsErrOf result Error.Failed → has_failed self.old ≡ true };
+        ensures failed_only { IsErrOf result Error.Failed → holds_failed self.old ≡ true };
 }
