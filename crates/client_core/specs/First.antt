@@ -81,3 +81,19 @@ module _ {U : Type 0} where
 
   abbrev pub plain_send : {R : Type 0} → (R → Result (List ℕ) Error) → (R → Step U) → R → Step (First U)
   plain_send composed send request f v = with_upstream f (takes composed send request f.upstream v)
+
+  module _ {R P : Type 0} (composed : R → Result (List ℕ) Error) (below : R → U → View → P) where
+    abbrev pub response_below : R → Option U → View → Passed P
+    response_below request None v = Here v.ticket false
+    response_below request (Some u) v = Below (below request u v)
+
+    abbrev pub response_at : R → Option U → View → Option Error → Passed P
+    response_at request u v (Some error) = Here v.ticket false
+    response_at request u v None = response_below request u v
+
+    -- what stands for the result of a request
+    abbrev pub response_of : R → Option U → View → Passed P
+    response_of request u v = response_at request u v (fault_of (is_some u) (composed request))
+
+    abbrev pub plain_response : R → First U → View → Passed P
+    plain_response request f v = response_of request f.upstream v

@@ -108,6 +108,7 @@ fn take_on<CR: ComposeRequest, U: SendRequest<CR>, W: Words>(
 ) -> Result<Passed<U::Response>, Error>
     ensures lends { LendsTheSame cx.old cx.new }
     ensures ok { OnOk result (plain.takes CR.composed U.plain_send request upstream.old (view_of W.stream cx.old) ≡ Some (upstream.new, view_of W.stream cx.new)) }
+    ensures response { IfOk result (λ r. r ≡ plain.response_of CR.composed U.plain_response request upstream.old (view_of W.stream cx.old)) }
     ensures ticket { IfOk result (λ r. plain.ticket_of U.Response.ticket_of r ≡ cx.old.ticket) }
     ensures waits { IfOk result (λ r. plain.has_given U.Response.has_given r ≡ false) }
     ensures numbers { IsErrOf result Error.NumbersUsed → plain.takes CR.composed U.plain_send request upstream.old (view_of W.stream cx.old) ≡ None }
@@ -183,6 +184,8 @@ impl<CR: ComposeRequest, U: SendRequest<CR>> SendRequest<CR> for FirstServer<U> 
     ghost holds_failed = { plain.holds_failed U.holds_failed };
 
     ghost plain_send = { plain.plain_send CR.composed U.plain_send };
+
+    ghost plain_response = { plain.plain_response CR.composed U.plain_response };
 
     ghost plain_step = { λ heard. plain.plain_step (U.plain_step heard) };
 

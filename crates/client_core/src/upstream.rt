@@ -24,8 +24,7 @@ fn start<CR: ComposeRequest, W: Words>(
 ) -> Result<Request, Error>
     ensures lends { LendsTheSame cx.old cx.new }
     ensures ok { OnOk result (plain.starts (requests_of CR.with_id CR.with_payload_size CR.composed CR.is_answered) request connection.old (view_of W.stream cx.old) ≡ Some (connection.new, view_of W.stream cx.new)) }
-    ensures ticket { IfOk result (λ r. r.ticket ≡ cx.old.ticket) }
-    ensures waits { IfOk result (λ r. r.given ≡ false) }
+    ensures response { IfOk result (λ r. r ≡ record { ticket = cx.old.ticket; given = false }) }
     ensures numbers { IsErrOf result Error.NumbersUsed → plain.starts (requests_of CR.with_id CR.with_payload_size CR.composed CR.is_answered) request connection.old (view_of W.stream cx.old) ≡ None }
     ensures refused { IfErr result IsRefusal }
     ensures err { OnErr result (connection.new.failed ≡ true) }
@@ -58,6 +57,8 @@ impl<CR: ComposeRequest> SendRequest<CR> for Upstream<CR> {
     ghost holds_failed = { plain.has_failed };
 
     ghost plain_send = { plain.plain_send (requests_of CR.with_id CR.with_payload_size CR.composed CR.is_answered) };
+
+    ghost plain_response = { λ request u v. record { ticket = v.ticket; given = false } };
 
     ghost plain_step = { plain.plain_step (requests_of CR.with_id CR.with_payload_size CR.composed CR.is_answered) };
 

@@ -1,6 +1,6 @@
 //! The transport over one server by datagrams.
 
-ghost use Rattle.std.specs.Prelude.{◌≡◌, true, IsOkAnd};
+ghost use Rattle.std.specs.Prelude.{◌≡◌, true, false, IsOkAnd};
 ghost use Rattle.client_request.specs.Response.{response_of};
 ghost use Rattle.client_dgram.specs.Plain as plain;
 ghost use Rattle.client_dgram.specs.Settings.{default_settings};
@@ -122,6 +122,8 @@ impl<Req: ComposeRequest> SendRequest<Req> for Connection<Req> {
     ghost holds_failed = { λ c. c.failed };
 
     ghost plain_send = { plain.plain_send (requests_of Req.with_id Req.with_payload_size Req.composed Req.is_answered) };
+
+    ghost plain_response = { λ request c v. record { ticket = v.ticket; given = false } };
 
     ghost plain_step = { plain.plain_step (requests_of Req.with_id Req.with_payload_size Req.composed Req.is_answered) };
 

@@ -26,6 +26,9 @@ pub trait SendRequest<CR> {
 
     ghost plain_send: { CR → Step Self };
 
+    /// What stands for the result of a request that is taken on.
+    ghost plain_response: { CR → Self → View → Self.Response };
+
     ghost plain_step: { Heard → Step Self };
 
     ghost plain_cancel: { Self.Response → Step Self };
@@ -38,6 +41,7 @@ pub trait SendRequest<CR> {
     ) -> Result<Self::Response, Error>
         ensures lends { LendsTheSame cx.old cx.new }
         ensures ok { OnOk result (plain_send request self.old (view_of W.stream cx.old) ≡ Some (self.new, view_of W.stream cx.new)) }
+        ensures response { IfOk result (λ r. r ≡ plain_response request self.old (view_of W.stream cx.old)) }
         ensures ticket { IfOk result (λ r. Self.Response.ticket_of r ≡ cx.old.ticket) }
         ensures waits { IfOk result (λ r. Self.Response.has_given r ≡ false) }
         ensures numbers { IsErrOf result Error.NumbersUsed → plain_send request self.old (view_of W.stream cx.old) ≡ None }
