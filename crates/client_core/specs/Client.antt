@@ -110,31 +110,46 @@ module _ {U P : Type 0} where
   abbrev pub settles : Asked P → Option (U × View) → Option (Client U P)
   settles a after = option_and_then (λ x. Some (client_of x.0 (replies (a, x.1)))) after
 
-  module _ (m : Machine U P) (timeout : ℕ) where
+  abbrev pub at_moment : ℕ → Client U P → Client U P
+  at_moment moment c = record c { view = record c.view { now = max c.view.now moment } }
+
+  -- a new row begins
+  abbrev pub rested : Client U P → Client U P
+  rested c = record c { view = record c.view { outs = []; request = 0; more = false } }
+
+  abbrev pub row_of : Event → Client U P → Row
+  row_of e c = record { event = e; outs = c.view.outs }
+
+  abbrev pub then_rows : (Client U P → Option (List Row)) → Event → Client U P → Option (List Row)
+  then_rows rows e c = option_map (λ rest. row_of e c ∷ rest) (rows (rested c))
+
+  module _ (m : Machine U P) where
     abbrev pub hears : Heard → Client U P → Option (Client U P)
     hears h c = settles c.asked (m.step h c.layer c.view)
 
-    -- A request's deadline: its reply is that it timed out, and it is given up.
-    abbrev pub times_out : ℕ → Client U P → Option (Waiting P) → Option (Client U P)
-    times_out ticket c None = Some c
-    times_out ticket c (Some w) =
-        option_and_then (λ x. Some (client_of x.0 (record c.asked { waiting = frees ticket c.asked.waiting }, x.1)))
+    -- A request whose deadline passed: its reply is that it timed out, and it is given up.
+    abbrev pub times_out : Client U P → Option (Waiting P) → Option (Client U P)
+    times_out c None = Some c
+    times_out c (Some w) =
+        option_and_then (λ x. Some (client_of x.0 (c.asked, x.1)))
         (m.cancel w.response c.layer (asks (Reply w.number (Err TimedOut)) c.view))
 
     abbrev pub fires_at : ℕ → Client U P → Option ℕ → Option (Client U P)
-    fires_at timer c (Some ticket) = times_out ticket (record c { asked = record c.asked { deadlines = frees timer c.asked.deadlines } }) (entry_at ticket c.asked.waiting)
-    fires_at timer c None = hears (due_timer timer) c
+    fires_at timer c (Some ticket) = times_out (record c { asked = without_late timer (Some ticket) c.asked }) (entry_at ticket c.asked.waiting)
+    fires_at timer c None = hears (due_timer timer) (record c { asked = without_late timer None c.asked })
 
-    -- a timer that was taken out fires: it is a deadline or the transport's
-    abbrev pub fires_timer : Client U P → Option Timer → (Client U P → Option (Client U P)) → Option (Client U P)
-    fires_timer c None goes_on = Some c
-    fires_timer c (Some t) goes_on =
-        option_and_then goes_on (fires_at t.id (record c { view = record c.view { timers = fired c.view.now c.view.timers } }) (entry_at t.id c.asked.deadlines))
+    -- a timer fires: it is a deadline or the transport's
+    abbrev pub fire : ℕ → Client U P → Option (Client U P)
+    fire timer c = fires_at timer c (entry_at timer c.asked.deadlines)
+
+    abbrev pub fires_first : (Client U P → Option (Client U P)) → Client U P → Option Timer → Option (Client U P)
+    fires_first goes_on c None = Some c
+    fires_first goes_on c (Some t) = option_and_then goes_on (fire t.id (record c { view = record c.view { timers = fired c.view.now c.view.timers } }))
 
     -- timers fire until none is due, at most so many
     abbrev pub fires : ℕ → Client U P → Option (Client U P)
     fires zero c = Some c
-    fires (suc n) c = fires_timer c (due_now c.view.now c.view.timers.set) (fires n)
+    fires (suc n) c = fires_first (fires n) c (due_now c.view.now c.view.timers.set)
 
     abbrev pub fires_all : Client U P → Option (Client U P)
     fires_all c = fires (length c.view.timers.set) c
@@ -148,34 +163,22 @@ module _ {U P : Type 0} where
     sends request c timer v =
         option_and_then (λ x. Some (accepts timer c.asked.next (m.response request c.layer v) c.asked x)) (m.send request c.layer v)
 
+  module _ (m : Machine U P) (timeout : ℕ) where
     abbrev pub asks_request : Request → Client U P → Option (Client U P)
     asks_request request c =
         if can_draw c.asked.next
-        then option_and_then (sends request c c.view.timers.next) (sets_timer (c.view.now + timeout) (record c.view { request = c.asked.next }))
+        then option_and_then (sends m request c c.view.timers.next) (sets_timer (c.view.now + timeout) (record c.view { request = c.asked.next }))
         else None
 
     -- what an event does
     abbrev pub happens : What → Client U P → Option (Client U P)
     happens (Ask request) c = asks_request request c
     happens Tick c = Some c
-    happens what c = hears (told what) c
-
-    abbrev pub at_moment : ℕ → Client U P → Client U P
-    at_moment moment c = record c { view = record c.view { now = max c.view.now moment } }
+    happens what c = hears m (told what) c
 
     -- Timers that are due fire, then the event happens, and timers that are due fire again.
     abbrev pub client_step : Event → Client U P → Option (Client U P)
-    client_step e c = option_and_then fires_all (option_and_then (happens e.what) (fires_all (at_moment e.moment.0 c)))
-
-    -- a new row begins
-    abbrev pub rested : Client U P → Client U P
-    rested c = record c { view = record c.view { outs = []; request = 0; more = false } }
-
-    abbrev pub row_of : Event → Client U P → Row
-    row_of e c = record { event = e; outs = c.view.outs }
-
-    abbrev pub then_rows : (Client U P → Option (List Row)) → Event → Client U P → Option (List Row)
-    then_rows rows e c = option_map (λ rest. row_of e c ∷ rest) (rows (rested c))
+    client_step e c = option_and_then (fires_all m) (option_and_then (happens e.what) (fires_all m (at_moment e.moment.0 c)))
 
     -- the rows of a list of events; none where a number would pass 64 bits
     abbrev pub plain_rows : List Event → Client U P → Option (List Row)

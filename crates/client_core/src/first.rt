@@ -112,6 +112,7 @@ fn take_on<CR: ComposeRequest, U: SendRequest<CR>, W: Words>(
     ensures ticket { IfOk result (λ r. plain.ticket_of U.Response.ticket_of r ≡ cx.old.ticket) }
     ensures waits { IfOk result (λ r. plain.has_given U.Response.has_given r ≡ false) }
     ensures numbers { IsErrOf result Error.NumbersUsed → plain.takes CR.composed U.plain_send request upstream.old (view_of W.stream cx.old) ≡ None }
+    ensures keeps { OnOk result (plain.below_failed U.holds_failed upstream.new ≡ plain.below_failed U.holds_failed upstream.old) }
     ensures refused { IfErr result IsRefusal }
     ensures failed_only { IsErrOf result Error.Failed → plain.below_failed U.holds_failed upstream.old ≡ true }
 {
@@ -146,6 +147,7 @@ fn hear<CR: ComposeRequest, U: SendRequest<CR>, W: Words>(
     ensures lends { LendsTheSame cx.old cx.new }
     ensures ok { OnOk result (plain.hears (U.plain_step (heard signal.entry)) upstream.old (view_of W.stream cx.old) ≡ Some (upstream.new, view_of W.stream cx.new)) }
     ensures numbers { IsErrOf result Error.NumbersUsed → plain.hears (U.plain_step (heard signal.entry)) upstream.old (view_of W.stream cx.old) ≡ None }
+    ensures keeps { OnOk result (plain.below_failed U.holds_failed upstream.new ≡ plain.below_failed U.holds_failed upstream.old) }
     ensures refused { IfErr result IsRefusal }
     ensures failed_only { IsErrOf result Error.Failed → plain.below_failed U.holds_failed upstream.old ≡ true }
 {
@@ -164,6 +166,7 @@ fn give_up<CR: ComposeRequest, U: SendRequest<CR>, W: Words>(
     ensures lends { LendsTheSame cx.old cx.new }
     ensures ok { OnOk result (plain.drops U.plain_cancel response upstream.old (view_of W.stream cx.old) ≡ Some (upstream.new, view_of W.stream cx.new)) }
     ensures numbers { IsErrOf result Error.NumbersUsed → plain.drops U.plain_cancel response upstream.old (view_of W.stream cx.old) ≡ None }
+    ensures keeps { OnOk result (plain.below_failed U.holds_failed upstream.new ≡ plain.below_failed U.holds_failed upstream.old) }
     ensures refused { IfErr result IsRefusal }
     ensures failed_only { IsErrOf result Error.Failed → plain.below_failed U.holds_failed upstream.old ≡ true }
 {

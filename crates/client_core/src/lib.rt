@@ -2,6 +2,7 @@
 #![tactic(auto)]
 
 mod asked;
+mod calls;
 mod first;
 mod upstream;
 

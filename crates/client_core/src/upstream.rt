@@ -26,6 +26,7 @@ fn start<CR: ComposeRequest, W: Words>(
     ensures ok { OnOk result (plain.starts (requests_of CR.with_id CR.with_payload_size CR.composed CR.is_answered) request connection.old (view_of W.stream cx.old) ≡ Some (connection.new, view_of W.stream cx.new)) }
     ensures response { IfOk result (λ r. r ≡ record { ticket = cx.old.ticket; given = false }) }
     ensures numbers { IsErrOf result Error.NumbersUsed → plain.starts (requests_of CR.with_id CR.with_payload_size CR.composed CR.is_answered) request connection.old (view_of W.stream cx.old) ≡ None }
+    ensures keeps { OnOk result (connection.new.failed ≡ connection.old.failed) }
     ensures refused { IfErr result IsRefusal }
     ensures err { OnErr result (connection.new.failed ≡ true) }
     ensures failed { connection.old.failed ≡ true → (result ≡ Err Error.Failed) × (connection.new ≡ connection.old) × (view_of W.stream cx.new ≡ view_of W.stream cx.old) }

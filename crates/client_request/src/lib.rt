@@ -6,6 +6,7 @@
 
 mod board;
 mod compose;
+mod copies;
 mod cx;
 mod error;
 mod event;

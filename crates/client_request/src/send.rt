@@ -45,6 +45,7 @@ pub trait SendRequest<CR> {
         ensures ticket { IfOk result (λ r. Self.Response.ticket_of r ≡ cx.old.ticket) }
         ensures waits { IfOk result (λ r. Self.Response.has_given r ≡ false) }
         ensures numbers { IsErrOf result Error.NumbersUsed → plain_send request self.old (view_of W.stream cx.old) ≡ None }
+        ensures keeps { OnOk result (holds_failed self.new ≡ holds_failed self.old) }
         ensures refused { IfErr result IsRefusal }
         ensures err { OnErr result (has_failed self.new ≡ true) }
         ensures failed { has_failed self.old ≡ true → (result ≡ Err Error.Failed) × (self.new ≡ self.old) × (view_of W.stream cx.new ≡ view_of W.stream cx.old) }
@@ -55,6 +56,7 @@ pub trait SendRequest<CR> {
         ensures lends { LendsTheSame cx.old cx.new }
         ensures ok { OnOk result (plain_step (heard signal.entry) self.old (view_of W.stream cx.old) ≡ Some (self.new, view_of W.stream cx.new)) }
         ensures numbers { IsErrOf result Error.NumbersUsed → plain_step (heard signal.entry) self.old (view_of W.stream cx.old) ≡ None }
+        ensures keeps { OnOk result (holds_failed self.new ≡ holds_failed self.old) }
         ensures refused { IfErr result IsRefusal }
         ensures err { OnErr result (has_failed self.new ≡ true) }
         ensures failed { has_failed self.old ≡ true → (result ≡ Err Error.Failed) × (self.new ≡ self.old) × (view_of W.stream cx.new ≡ view_of W.stream cx.old) }
@@ -69,6 +71,7 @@ pub trait SendRequest<CR> {
         ensures lends { LendsTheSame cx.old cx.new }
         ensures ok { OnOk result (plain_cancel response self.old (view_of W.stream cx.old) ≡ Some (self.new, view_of W.stream cx.new)) }
         ensures numbers { IsErrOf result Error.NumbersUsed → plain_cancel response self.old (view_of W.stream cx.old) ≡ None }
+        ensures keeps { OnOk result (holds_failed self.new ≡ holds_failed self.old) }
         ensures refused { IfErr result IsRefusal }
         ensures err { OnErr result (has_failed self.new ≡ true) }
         ensures failed { has_failed self.old ≡ true → (result ≡ Err Error.Failed) × (self.new ≡ self.old) × (view_of W.stream cx.new ≡ view_of W.stream cx.old) }
