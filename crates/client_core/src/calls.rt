@@ -1,6 +1,6 @@
 //! Calls of the transport, each with its replies, and the deadlines of requests.
 
-ghost use Rattle.std.specs.Prelude.{◌≡◌, ◌<◌, true, zero, length, Some, None, Err, Ok, OnOk, OnErr, IfOk, IfErr, IsErrOf};
+ghost use Rattle.std.specs.Prelude.{◌≡◌, ◌+◌, ◌<◌, true, zero, length, Some, None, Err, Ok, OnOk, OnErr, IfOk, IfErr, IsErrOf};
 ghost use Rattle.client_request.specs.Cx.{view_of, heard, LendsTheSame};
 ghost use Rattle.client_request.specs.Response.{IsRefusal};
 ghost use Rattle.client_request.specs.View.{told, due_timer};
@@ -10,7 +10,8 @@ ghost use Rattle.client_core.specs.Machines.{machine_of};
 
 use crate::asked::{Asked, Waiting, reply_all};
 use client_request::{
-    Cx, Error, Event, GetResponse, Out, RequestMessage, SendRequest, Signal, TimerId, What, Words,
+    Cx, Error, Event, GetResponse, Moment, Out, RequestMessage, SendRequest, Signal, TimerId, What,
+    Words,
 };
 use dns_base::Duration;
 use std::alloc::Global;
@@ -105,4 +106,92 @@ fn fire_all<L: SendRequest<RequestMessage>, W: Words>(
         left -= 1;
     }
     Ok(())
+}
+
+/// A request is asked: it gets the next number and a deadline, and goes to the transport.
+fn ask<L: SendRequest<RequestMessage>, W: Words>(
+    layer: &mut L,
+    asked: &mut Asked<L::Response>,
+    cx: &mut Cx<'_, W>,
+    timeout: Duration,
+    request: RequestMessage,
+) -> Result<(), Error>
+    ensures lends { LendsTheSame cx.old cx.new }
+    ensures ok { OnOk result (plain.asks_request (machine_of L.plain_send L.plain_step L.plain_cancel L.plain_response L.Response.ticket_of) timeout request (client_of layer.old (asked.old, view_of W.stream cx.old)) ≡ Some (client_of layer.new (asked.new, view_of W.stream cx.new))) }
+    ensures numbers { IsErrOf result Error.NumbersUsed → plain.asks_request (machine_of L.plain_send L.plain_step L.plain_cancel L.plain_response L.Response.ticket_of) timeout request (client_of layer.old (asked.old, view_of W.stream cx.old)) ≡ None }
+    ensures keeps { OnOk result (L.holds_failed layer.new ≡ L.holds_failed layer.old) }
+    ensures refused { IfErr result IsRefusal }
+    ensures failed_only { IsErrOf result Error.Failed → L.holds_failed layer.old ≡ true }
+{
+    let number = asked.next();
+    if number == u64::MAX {
+        return Err(Error::NumbersUsed);
+    }
+    cx.request = number;
+    let timer = cx.timers.set(deadline(cx.now, timeout))?;
+    let response = layer.send_request(cx, request)?;
+    let ticket = response.ticket();
+    let waiting = Waiting {
+        number,
+        timer: timer.0,
+        response,
+    };
+    asked.wait(ticket, waiting)?;
+    reply_all(asked, cx)?;
+    Ok(())
+}
+
+/// When a request that is asked now is to have its reply, in microseconds.
+fn deadline(now: Moment, timeout: Duration) -> u128
+    ensures { result ≡ now.0 + timeout }
+{
+    u128::from(now.0) + timeout.as_micros()
+}
+
+/// What an event does.
+fn happen<L: SendRequest<RequestMessage>, W: Words>(
+    layer: &mut L,
+    asked: &mut Asked<L::Response>,
+    cx: &mut Cx<'_, W>,
+    alloc: Global,
+    timeout: Duration,
+    what: &What,
+) -> Result<(), Error>
+    ensures lends { LendsTheSame cx.old cx.new }
+    ensures ok { OnOk result (plain.happens (machine_of L.plain_send L.plain_step L.plain_cancel L.plain_response L.Response.ticket_of) timeout what.now (client_of layer.old (asked.old, view_of W.stream cx.old)) ≡ Some (client_of layer.new (asked.new, view_of W.stream cx.new))) }
+    ensures numbers { IsErrOf result Error.NumbersUsed → plain.happens (machine_of L.plain_send L.plain_step L.plain_cancel L.plain_response L.Response.ticket_of) timeout what.now (client_of layer.old (asked.old, view_of W.stream cx.old)) ≡ None }
+    ensures keeps { OnOk result (L.holds_failed layer.new ≡ L.holds_failed layer.old) }
+    ensures refused { IfErr result IsRefusal }
+    ensures failed_only { IsErrOf result Error.Failed → L.holds_failed layer.old ≡ true }
+{
+    match what {
+        What::Ask { request } => {
+            let request = request.try_clone(alloc)?;
+            ask(layer, asked, cx, timeout, request)
+        }
+        What::Tick => Ok(()),
+        _ => hear(layer, asked, cx, Signal::Told(what)),
+    }
+}
+
+/// Timers that are due fire, then an event happens, and timers that are due fire again.
+pub(crate) fn take_in<L: SendRequest<RequestMessage>, W: Words>(
+    layer: &mut L,
+    asked: &mut Asked<L::Response>,
+    cx: &mut Cx<'_, W>,
+    alloc: Global,
+    timeout: Duration,
+    event: &Event,
+) -> Result<(), Error>
+    ensures lends { LendsTheSame cx.old cx.new }
+    ensures ok { OnOk result (plain.client_step (machine_of L.plain_send L.plain_step L.plain_cancel L.plain_response L.Response.ticket_of) timeout event.now (client_of layer.old (asked.old, view_of W.stream cx.old)) ≡ Some (client_of layer.new (asked.new, view_of W.stream cx.new))) }
+    ensures numbers { IsErrOf result Error.NumbersUsed → plain.client_step (machine_of L.plain_send L.plain_step L.plain_cancel L.plain_response L.Response.ticket_of) timeout event.now (client_of layer.old (asked.old, view_of W.stream cx.old)) ≡ None }
+    ensures keeps { OnOk result (L.holds_failed layer.new ≡ L.holds_failed layer.old) }
+    ensures refused { IfErr result IsRefusal }
+    ensures failed_only { IsErrOf result Error.Failed → L.holds_failed layer.old ≡ true }
+{
+    cx.now = cx.now.max(event.moment);
+    fire_all(layer, asked, cx)?;
+    happen(layer, asked, cx, alloc, timeout, &event.what)?;
+    fire_all(layer, asked, cx)
 }
