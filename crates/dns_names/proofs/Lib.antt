@@ -6,5 +6,6 @@ pub mod Names
 pub mod NameTexts
 pub mod NextLabel
 pub mod OwnOctets
+pub mod Reversed
 pub mod Texts
 pub mod Walks

@@ -7,6 +7,7 @@ mod laws;
 mod name;
 mod owned;
 mod relative;
+mod reverse;
 mod show;
 mod text;
 
