@@ -7,5 +7,6 @@ pub mod NameTexts
 pub mod NextLabel
 pub mod OwnOctets
 pub mod Reversed
+pub mod Shown
 pub mod Texts
 pub mod Walks
