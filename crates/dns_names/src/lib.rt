@@ -9,6 +9,8 @@ mod owned;
 mod relative;
 mod reverse;
 mod show;
+#[cfg(test)]
+mod tests;
 mod text;
 
 pub use fault::{ChainFault, NameFault};
