@@ -4,6 +4,7 @@
 mod answer;
 mod builder;
 mod header;
+mod laws;
 mod lookups;
 mod message;
 mod numbers;
@@ -24,6 +25,7 @@ pub use dns_values::{
     Rtype, Section, Serial, ShortMessage, Status, Ttl,
 };
 pub use header::{Header, HeaderCounts};
+pub use laws::draft_laws;
 pub use message::Message;
 pub use opt_record::OptRecord;
 pub use push_error::PushError;
