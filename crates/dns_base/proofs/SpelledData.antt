@@ -66,8 +66,13 @@ srv_read octets srv at end s h e =
     let priority = first_stands octets P W at front2 in
     let weight = second_stands octets P W at (at + 2) front2 refl in
     let fills : at + 6 + length T ≡ end = omega (arith, length-append (P ++ W ++ N) T) in
-    rw (le-leb (at + 6) end (omega arith), name_fills octets srv.target (at + 6) end target h.3 fills, number_stands octets srv.priority at priority h.0, number_stands octets srv.weight (at + 2) weight h.1,
-    number_stands octets srv.port (at + 4) port h.2) refl
+    rw (
+      le-leb (at + 6) end (omega arith),
+      name_fills octets srv.target (at + 6) end target h.3 fills,
+      number_stands octets srv.priority at priority h.0,
+      number_stands octets srv.weight (at + 2) weight h.1,
+      number_stands octets srv.port (at + 4) port h.2,
+    ) refl
 
 soa_read : (octets : List ℕ) (soa : Soa) (at end : ℕ) → Stands octets at (data_spelling (StartOfAuthority soa)) → IsWritableData (StartOfAuthority soa)
     → at + length (data_spelling (StartOfAuthority soa)) ≡ end → soa_to octets at end ≡ Some (StartOfAuthority soa)
@@ -100,9 +105,16 @@ soa_read octets soa at end s h e =
     let minimum = second_stands octets (M ++ R ++ S ++ F ++ T ++ X) N at (numbers + 16) s (omega arith) in
     let fills : numbers + 20 ≡ end = omega (arith, length-append (M ++ R ++ S ++ F ++ T ++ X) N) in
     let ranges = h.2 in
-    rw (name_stands octets soa.mname at mname h.0, name_stands octets soa.rname (at + octet_count soa.mname) rname h.1, eq-eqb _ _ fills,
-    wide_stands octets soa.serial numbers serial ranges.0, wide_stands octets soa.refresh (numbers + 4) refresh ranges.1, wide_stands octets soa.retry (numbers + 8) retry ranges.2,
-    wide_stands octets soa.expire (numbers + 12) expire ranges.3, wide_stands octets soa.minimum (numbers + 16) minimum ranges.4) refl
+    rw (
+      name_stands octets soa.mname at mname h.0,
+      name_stands octets soa.rname (at + octet_count soa.mname) rname h.1,
+      eq-eqb _ _ fills,
+      wide_stands octets soa.serial numbers serial ranges.0,
+      wide_stands octets soa.refresh (numbers + 4) refresh ranges.1,
+      wide_stands octets soa.retry (numbers + 8) retry ranges.2,
+      wide_stands octets soa.expire (numbers + 12) expire ranges.3,
+      wide_stands octets soa.minimum (numbers + 16) minimum ranges.4,
+    ) refl
 
 both : (a b : Bool) → (a && b) ≡ true → (a ≡ true) × (b ≡ true)
 both true true e = (refl, refl)

@@ -76,8 +76,8 @@ record_read w octets at h s =
     let whole : last ≤ length octets = omega (arith, stands_within octets D (end + 10) content) in
     let counted : end + 10 + u16_at octets (end + 8) ≡ last = ap (λ k. end + 10 + k) (number_stands octets (length D) (end + 8) count h.short) in
     let found = record_found octets at end 0 last entry (name_stands octets w.owner at owner h.owner) (omega arith) whole counted
-        (number_stands octets w.rtype end rtype h.rtype) (number_stands octets w.class (end + 2) class h.class) (wide_stands octets w.ttl (end + 4) ttl h.ttl)
-        (range_stands octets D (end + 10) last content refl) in
+    (number_stands octets w.rtype end rtype h.rtype) (number_stands octets w.class (end + 2) class h.class) (wide_stands octets w.ttl (end + 4) ttl h.ttl)
+    (range_stands octets D (end + 10) last content refl) in
     let size : last ≡ at + record_size w = omega arith in
     record {
       known = known;

@@ -6,6 +6,7 @@ ghost use Rattle.dns_base.specs.Draft as spec;
 ghost use Rattle.dns_base.specs.Sections as sections;
 ghost use Rattle.dns_names.specs.Name.{octet_count};
 ghost use Rattle.dns_base.specs.Data.{data_spelling, is_of_type};
+ghost use Rattle.dns_base.specs.Holding.{IsAskable, IsWritable};
 ghost use Rattle.dns_base.specs.RecordData.{data_view};
 
 use crate::header::{Header, HeaderCounts};
@@ -91,6 +92,7 @@ impl Builder {
     ) -> Result<(), PushError>
         requires order { sections.HasNoRecords (spec.counts_in self.old) }
         ensures ok { OnOk result (self.new ≡ spec.pushed_question (record { name = N.labels_of name.now; rtype = rtype.0; class = class.0 }) self.old) }
+        ensures askable { OnOk result (IsAskable (record { name = N.labels_of name.now; rtype = rtype.0; class = class.0 })) }
         ensures err { OnErr result (self.new ≡ self.old) }
         ensures count { (result ≡ Err PushError.Count) ↔ ((spec.counts_in self.old).questions ≡ 65535) }
         ensures limit_only { result ≡ Err PushError.Limit → IsTrue (spec.is_past (spec.limit_of self.old) (spec.size self.old + (octet_count (N.labels_of name.now) + 4))) }
@@ -121,6 +123,7 @@ impl Builder {
         requires typed { IsTrue (is_of_type rtype.0 (data_view rdata.now)) }
         requires short { length (data_spelling (data_view rdata.now)) < 65536 }
         ensures ok { OnOk result (self.new ≡ spec.pushed_record section (record { owner = N.labels_of owner.now; rtype = rtype.0; class = class.0; ttl = ttl.0; content = data_view rdata.now }) self.old) }
+        ensures writable { OnOk result (IsWritable (record { owner = N.labels_of owner.now; rtype = rtype.0; class = class.0; ttl = ttl.0; content = data_view rdata.now })) }
         ensures err { OnErr result (self.new ≡ self.old) }
         ensures count { (result ≡ Err PushError.Count) ↔ (sections.entries_in section (spec.counts_in self.old) ≡ 65535) }
         ensures limit_only { result ≡ Err PushError.Limit → IsTrue (spec.is_past (spec.limit_of self.old) (spec.size self.old + (octet_count (N.labels_of owner.now) + 10 + length (data_spelling (data_view rdata.now))))) }
