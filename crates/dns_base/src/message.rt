@@ -54,10 +54,10 @@ impl Message {
     }
 
     /// The same message again.
-    pub fn try_clone(&self, alloc: Global) -> Result<Message, NoMemory>
+    pub fn try_clone(&self) -> Result<Message, NoMemory>
         ensures { IfOk result (λ m. m ≡ self.now) }
     {
-        let octets = Octets::from_slice(alloc, self.as_slice())?;
+        let octets = self.octets.try_clone()?;
         Ok(Message::long(octets))
     }
 
