@@ -5,8 +5,8 @@ use Rattle.std.specs.Int.{w16, w32, to_be_bytes}
 use Rattle.dns_names.specs.Name.{spelling}
 use Rattle.dns_names.proofs.NameLaws.{spelled_length}
 use Rattle.dns_base.specs.Data.{data_spelling}
-use Rattle.dns_base.specs.Message.{Asked}
-use Rattle.dns_base.specs.Draft.{Written, IsWithin, question_spelling, question_size, record_spelling, record_size}
+use Rattle.dns_base.specs.Message.{Asked, Written}
+use Rattle.dns_base.specs.Draft.{IsWithin, question_spelling, question_size, record_spelling, record_size}
 
 pub question_long : (q : Asked) → length (question_spelling q) ≡ question_size q
 unfolding question_spelling

@@ -3,5 +3,8 @@ pub mod Header
 pub mod Sections
 pub mod Data
 pub mod Message
+pub mod Answering
+pub mod OptRecord
+pub mod Canonical
 pub mod RecordData
 pub mod Draft

@@ -4,8 +4,10 @@
 mod answer;
 mod builder;
 mod header;
+mod lookups;
 mod message;
 mod numbers;
+mod opt_record;
 mod push_error;
 mod question;
 mod record;
@@ -23,6 +25,7 @@ pub use dns_values::{
 };
 pub use header::{Header, HeaderCounts};
 pub use message::Message;
+pub use opt_record::OptRecord;
 pub use push_error::PushError;
 pub use question::{Question, QuestionSection};
 pub use record::{Record, RecordSection};

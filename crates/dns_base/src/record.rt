@@ -130,7 +130,8 @@ impl<'a> Model for RecordSection<'a> {
 
 impl<'a> RecordSection<'a> {
     pub(crate) fn new(octets: &'a [u8], at: usize, left: u16) -> Self
-        ensures { result ≡ items_at (record_at octets.now) left at }
+        ensures all { result ≡ items_at (record_at octets.now) left at }
+        ensures few { length result < 65536 }
     {
         RecordSection { octets, at, left }
     }

@@ -1,6 +1,7 @@
 use Rattle.std.proofs.Common.{◌≡◌, ℕ, ◌+◌, ◌++◌, length, arith, ap, sym, ◌∙◌, subst}
 use Rattle.dns_base.specs.RecordData.{data_view}
-use Rattle.dns_base.specs.Draft.{Draft, Written, IsWithin, size, limit_of, pushed_record}
+use Rattle.dns_base.specs.Message.{Written}
+use Rattle.dns_base.specs.Draft.{Draft, IsWithin, size, limit_of, pushed_record}
 use Rattle.dns_base.proofs.Sizes.{record_long, still_within}
 use Rattle.dns_base.proofs.builder.Builder.push_record.Goals as goal
 
