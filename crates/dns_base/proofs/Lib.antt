@@ -1,3 +1,4 @@
+pub mod Aliases
 pub mod Lists
 pub mod Sizes
 pub mod Whole

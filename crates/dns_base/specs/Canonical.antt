@@ -14,9 +14,9 @@ abbrev pub alias_in : Labels → List Known → Option Known
 alias_in owner [] = None
 alias_in owner (known ∷ others) = if is_alias owner known then Some known else alias_in owner others
 
--- the name that its data says, if the data is read
+-- the name that the data of an alias says, if it is read
 abbrev pub target_in : Option Data → Option Labels
-target_in (Some (One rtype target)) = Some target
+target_in (Some (One rtype target)) = if rtype == 5 then Some target else None
 target_in _ = None
 
 -- from alias to alias, in at most so many steps

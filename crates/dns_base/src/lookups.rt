@@ -3,7 +3,7 @@
 ghost use Rattle.std.specs.Prelude.{◌≡◌, option_map};
 ghost use Rattle.dns_base.specs.Message.{is_xfr, all_read, answer_records};
 ghost use Rattle.dns_base.specs.OptRecord.{opt_of, opt_rcode};
-ghost use Rattle.dns_base.specs.Canonical.{is_alias, alias_in, canonical_name};
+ghost use Rattle.dns_base.specs.Canonical.{is_alias, alias_in, target_in, canonical_name};
 
 use crate::message::Message;
 use crate::opt_record::OptRecord;
@@ -31,6 +31,16 @@ fn first_alias<'a>(records: RecordSection<'a>, owner: &ParsedName<'_>) -> Option
         }
     }
     Some(found)
+}
+
+/// The name that an alias stands for, if its data is read.
+fn alias_target<'a>(alias: &Record<'a>) -> Option<ParsedName<'a>>
+    ensures { result ≡ target_in alias.now.says }
+{
+    match alias.data() {
+        Ok(RecordData::Cname(target)) => Some(target),
+        _ => None,
+    }
 }
 
 impl Message {
@@ -69,7 +79,10 @@ impl Message {
     fn alias_of(&self, owner: &ParsedName<'_>) -> Option<Option<Record<'_>>>
         ensures { result ≡ option_map (alias_in owner.now) (answer_records self.now) }
     {
-        first_alias(self.answer().ok()?, owner)
+        match self.answer() {
+            Ok(records) => first_alias(records, owner),
+            Err(_) => None,
+        }
     }
 
     /// The name that the first question's name leads to by the aliases of the answer section. None where the question,
@@ -89,10 +102,7 @@ impl Message {
                 return None;
             }
             left -= 1;
-            name = match alias.data() {
-                Ok(RecordData::Cname(target)) => target,
-                _ => return None,
-            };
+            name = alias_target(&alias)?;
         }
     }
 }
