@@ -82,7 +82,7 @@ impl Builder {
     }
 
     /// Adds a question.
-    #[tactic(auto, unfolding(crate::specs::Draft::pushed_question, crate::specs::Draft::size, crate::specs::Draft::limit_of, crate::specs::Draft::counts_in))]
+    #[tactic(auto, unfolding(crate::specs::Draft::pushed_question, crate::specs::Draft::cleared, crate::specs::Draft::size, crate::specs::Draft::limit_of, crate::specs::Draft::counts_in))]
     pub fn push_question<N: ToName>(
         &mut self,
         name: &N,
@@ -92,6 +92,7 @@ impl Builder {
         requires order { sections.HasNoRecords (spec.counts_in self.old) }
         ensures ok { OnOk result (self.new ≡ spec.pushed_question (record { name = N.labels_of name.now; rtype = rtype.0; class = class.0 }) self.old) }
         ensures err { OnErr result (self.new ≡ self.old) }
+        ensures head { spec.cleared self.new ≡ spec.cleared self.old }
         ensures count { (result ≡ Err PushError.Count) ↔ ((spec.counts_in self.old).questions ≡ 65535) }
         ensures limit_only { result ≡ Err PushError.Limit → IsTrue (spec.is_past (spec.limit_of self.old) (spec.size self.old + (octet_count (N.labels_of name.now) + 4))) }
         ensures fits { OnOk result (spec.IsWithin (spec.limit_of self.new) (spec.size self.new)) }
@@ -107,7 +108,7 @@ impl Builder {
     }
 
     /// Adds a record to a section, with the names in its data spelled out.
-    #[tactic(auto, unfolding(crate::specs::Draft::pushed_record, crate::specs::Draft::size, crate::specs::Draft::limit_of, crate::specs::Draft::counts_in))]
+    #[tactic(auto, unfolding(crate::specs::Draft::pushed_record, crate::specs::Draft::cleared, crate::specs::Draft::size, crate::specs::Draft::limit_of, crate::specs::Draft::counts_in))]
     pub fn push_record<N: ToName>(
         &mut self,
         section: Section,
@@ -122,6 +123,7 @@ impl Builder {
         requires short { length (data_spelling (data_view rdata.now)) < 65536 }
         ensures ok { OnOk result (self.new ≡ spec.pushed_record section (record { owner = N.labels_of owner.now; rtype = rtype.0; class = class.0; ttl = ttl.0; content = data_view rdata.now }) self.old) }
         ensures err { OnErr result (self.new ≡ self.old) }
+        ensures head { spec.cleared self.new ≡ spec.cleared self.old }
         ensures count { (result ≡ Err PushError.Count) ↔ (sections.entries_in section (spec.counts_in self.old) ≡ 65535) }
         ensures limit_only { result ≡ Err PushError.Limit → IsTrue (spec.is_past (spec.limit_of self.old) (spec.size self.old + (octet_count (N.labels_of owner.now) + 10 + length (data_spelling (data_view rdata.now))))) }
         ensures fits { OnOk result (spec.IsWithin (spec.limit_of self.new) (spec.size self.new)) }

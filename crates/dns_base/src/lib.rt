@@ -18,7 +18,7 @@ mod tests;
 
 pub use answer::is_answer;
 pub use builder::Builder;
-pub use dns_names::{LabelIter, Name, ParsedName, ToName, is_same_name, name_laws, to_name};
+pub use dns_names::{LabelIter, Name, ParsedName, ToName, is_same_name, name_laws};
 pub use dns_values::{
     Class, Duration, Failed, IpAddr, LongName, LongOptData, NoMemory, Octets, Opcode, OptRcode,
     ParseError, Rcode, Rtype, Section, Serial, ShortMessage, SocketAddr, Status, Ttl,
