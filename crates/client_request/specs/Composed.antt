@@ -66,26 +66,34 @@ each one [] d = Ok d
 each one (Ok x ∷ items) d = one x d >> each one items
 each one (Err e ∷ items) d = Err (Parse e)
 
--- the records of a section, where those before it are read
-abbrev pub section_copied : Section → Option (List (Result Known ParseError)) → Draft → Copied
-section_copied section None d = Err (Parse (record {}))
-section_copied section (Some items) d = each (copies section) items d
+abbrev pub section_items : Section → List ℕ → Option (List (Result Known ParseError))
+section_items Answer base = answer_items base
+section_items Authority base = authority_items base
+section_items Additional base = additional_items base
 
-abbrev pub opt_added : Option OptFields → Draft → Copied
-opt_added None d = Ok d
-opt_added (Some opt) d = adds Additional (opt_written opt) d
+-- the records of a section, where those before it are read
+abbrev pub each_found : Section → Option (List (Result Known ParseError)) → Draft → Copied
+each_found section None d = Err (Parse (record {}))
+each_found section (Some items) d = each (copies section) items d
+
+abbrev pub copies_section : Section → List ℕ → Draft → Copied
+copies_section section base d = each_found section (section_items section base) d
+
+abbrev pub adds_opt : Option OptFields → Draft → Copied
+adds_opt None d = Ok d
+adds_opt (Some opt) d = adds Additional (opt_written opt) d
 
 -- the questions and records of the base in order, and then the recorded OPT record
-abbrev pub entries_added : Request → Draft → Copied
-entries_added r d =
-    each asks (question_items r.base) d
-    >> section_copied Answer (answer_items r.base)
-    >> section_copied Authority (authority_items r.base)
-    >> section_copied Additional (additional_items r.base)
-    >> opt_added r.opt
+abbrev pub copies_all : List ℕ → Option OptFields → Draft → Copied
+copies_all base opt d =
+    each asks (question_items base) d
+    >> copies_section Answer base
+    >> copies_section Authority base
+    >> copies_section Additional base
+    >> adds_opt opt
 
 unfoldable pub appended : Request → Draft → Copied
-appended r d = entries_added r d >> (λ all. Ok (with_header r.header all))
+appended r d = copies_all r.base r.opt d >> (λ all. Ok (with_header r.header all))
 
 abbrev pub error_of : CopyRecordsError → Error
 error_of (Parse e) = errors.MessageParseError

@@ -8,8 +8,11 @@ ghost use Rattle.dns_base.specs.Draft.{counts_in, cleared};
 ghost use Rattle.client_request.specs.Composed.{content_of, asks, adds, copies, each, written_from, is_replaced, IsCopied};
 
 use crate::error::CopyRecordsError;
-use dns_base::{Builder, Question, QuestionSection, Record, RecordData, RecordSection, Rtype, Section};
+use dns_base::{
+    Builder, Question, QuestionSection, Record, RecordData, RecordSection, Rtype, Section,
+};
 
+#[tactic(auto, unfolding(dns_base::specs::Draft::counts_in, dns_base::specs::Draft::pushed_question))]
 fn copy_question(question: &Question<'_>, target: &mut Builder) -> Result<(), CopyRecordsError>
     requires { HasNoRecords (counts_in target.old) }
     ensures copied { IsCopied (asks question.now target.old) result target.new }
@@ -37,6 +40,7 @@ pub(crate) fn copy_questions(
 }
 
 /// The data of a record as its type reads it, else its octets.
+#[tactic(auto, unfolding(dns_base::specs::Data::data_spelling))]
 fn copied_data<'a>(source: &Record<'a>) -> RecordData<'a>
     ensures value { data_view result ≡ content_of source.now.entry source.now.says }
     ensures typed { IsTrue (is_of_type source.now.entry.rtype (data_view result)) }
@@ -48,6 +52,7 @@ fn copied_data<'a>(source: &Record<'a>) -> RecordData<'a>
     }
 }
 
+#[tactic(auto, unfolding(dns_base::specs::Draft::counts_in, dns_base::specs::Draft::pushed_record))]
 fn push_copy(
     section: Section,
     source: &Record<'_>,
