@@ -13,7 +13,7 @@ impl What {
     {
         match self {
             What::Ask { request } => {
-                let request = request.try_clone(alloc)?;
+                let request = request.try_clone()?;
                 Ok(What::Ask { request })
             }
             What::Datagram { place, octets } => {

@@ -1,4 +1,5 @@
 pub mod Aliases
+pub mod DataSizes
 pub mod Holding
 pub mod Lists
 pub mod ReadData

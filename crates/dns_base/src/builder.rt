@@ -85,7 +85,7 @@ impl Builder {
     }
 
     /// Adds a question.
-    #[tactic(auto, unfolding(crate::specs::Draft::pushed_question, crate::specs::Draft::size, crate::specs::Draft::limit_of, crate::specs::Draft::counts_in))]
+    #[tactic(auto, unfolding(crate::specs::Draft::pushed_question, crate::specs::Draft::cleared, crate::specs::Draft::size, crate::specs::Draft::limit_of, crate::specs::Draft::counts_in))]
     pub fn push_question<N: ToName>(
         &mut self,
         name: &N,
@@ -97,6 +97,7 @@ impl Builder {
         ensures counted { OnOk result (spec.counts_in self.new ≡ record (spec.counts_in self.old) { questions = (spec.counts_in self.old).questions + 1 }) }
         ensures askable { OnOk result (IsAskable (record { name = N.labels_of name.now; rtype = rtype.0; class = class.0 })) }
         ensures err { OnErr result (self.new ≡ self.old) }
+        ensures head { spec.cleared self.new ≡ spec.cleared self.old }
         ensures count { (result ≡ Err PushError.Count) ↔ ((spec.counts_in self.old).questions ≡ 65535) }
         ensures limit_only { result ≡ Err PushError.Limit → IsTrue (spec.is_past (spec.limit_of self.old) (spec.size self.old + (octet_count (N.labels_of name.now) + 4))) }
         ensures fits { OnOk result (spec.IsWithin (spec.limit_of self.new) (spec.size self.new)) }
@@ -112,7 +113,7 @@ impl Builder {
     }
 
     /// Adds a record to a section, with the names in its data spelled out.
-    #[tactic(auto, unfolding(crate::specs::Draft::pushed_record, crate::specs::Draft::size, crate::specs::Draft::limit_of, crate::specs::Draft::counts_in))]
+    #[tactic(auto, unfolding(crate::specs::Draft::pushed_record, crate::specs::Draft::cleared, crate::specs::Draft::size, crate::specs::Draft::limit_of, crate::specs::Draft::counts_in))]
     pub fn push_record<N: ToName>(
         &mut self,
         section: Section,
@@ -129,6 +130,7 @@ impl Builder {
         ensures counted { OnOk result (spec.counts_in self.new ≡ sections.one_more_in section (spec.counts_in self.old)) }
         ensures writable { OnOk result (IsWritable (record { owner = N.labels_of owner.now; rtype = rtype.0; class = class.0; ttl = ttl.0; content = data_view rdata.now })) }
         ensures err { OnErr result (self.new ≡ self.old) }
+        ensures head { spec.cleared self.new ≡ spec.cleared self.old }
         ensures count { (result ≡ Err PushError.Count) ↔ (sections.entries_in section (spec.counts_in self.old) ≡ 65535) }
         ensures limit_only { result ≡ Err PushError.Limit → IsTrue (spec.is_past (spec.limit_of self.old) (spec.size self.old + (octet_count (N.labels_of owner.now) + 10 + length (data_spelling (data_view rdata.now))))) }
         ensures fits { OnOk result (spec.IsWithin (spec.limit_of self.new) (spec.size self.new)) }

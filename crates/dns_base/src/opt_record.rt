@@ -1,6 +1,7 @@
 //! OPT records, which extend a message (RFC 6891 6.1).
 
-ghost use Rattle.std.specs.Prelude.{◌≡◌, MatchResult, Some, None, option_map};
+ghost use Rattle.std.specs.Prelude.{◌≡◌, ◌<◌, ◌^◌, length, IsTrue, MatchResult, Some, None, option_map};
+ghost use Rattle.dns_base.specs.Data.{are_options};
 ghost use Rattle.dns_base.specs.OptRecord.{OptFields, opt_in, opt_record, first_opt, dnssec_ok};
 
 use crate::record::{Record, RecordSection};
@@ -27,9 +28,32 @@ impl<'a> Model for OptRecord<'a> {
       flags = o.flags;
       options = o.options.now;
     } };
+
+    ghost invariant = { λ o. IsTrue (are_options o.options.now) × (length o.options.now < 2 ^ 16) };
 }
 
 impl<'a> OptRecord<'a> {
+    /// The record of these fields.
+    pub fn new(
+        udp_payload_size: u16,
+        ext_rcode: u8,
+        version: u8,
+        flags: u16,
+        options: &'a [u8],
+    ) -> OptRecord<'a>
+        requires whole { IsTrue (are_options options.now) }
+        requires short { length options.now < 2 ^ 16 }
+        ensures { result ≡ record { udp_payload_size = udp_payload_size; ext_rcode = ext_rcode; version = version; flags = flags; options = options.now } }
+    {
+        OptRecord {
+            udp_payload_size,
+            ext_rcode,
+            version,
+            flags,
+            options,
+        }
+    }
+
     /// Reads one OPT record of the root. Refused exactly where the octets are no such record, its data doesn't fill
     /// the rest, or the data isn't a list of whole options.
     #[tactic(auto, unfolding(crate::specs::OptRecord::opt_record))]
@@ -116,7 +140,9 @@ impl<'a> OptRecord<'a> {
 
     /// The options, each with a code, a length and its octets.
     pub fn data(&self) -> &[u8]
-        ensures { result.now ≡ self.now.options }
+        ensures all { result.now ≡ self.now.options }
+        ensures whole { IsTrue (are_options self.now.options) }
+        ensures short { length self.now.options < 2 ^ 16 }
     {
         self.options
     }
