@@ -2,3 +2,4 @@ pub mod Upstream
 pub mod First
 pub mod Client
 pub mod Machines
+pub mod Whole
