@@ -7,9 +7,11 @@
 mod append;
 mod board;
 mod compose;
+mod copies;
 mod copying;
 mod cx;
 mod error;
+mod error_text;
 mod event;
 mod fault;
 mod limits;
@@ -19,6 +21,8 @@ mod recorded_opt;
 mod request;
 mod response;
 mod send;
+#[cfg(test)]
+mod tests;
 mod timers;
 mod words;
 

@@ -138,6 +138,18 @@ impl ComposeRequest for RequestMessage {
 
     ghost appended = { appended };
 
+    ghost header_of = { λ r. r.header };
+
+    ghost with_header = { spec.with_header };
+
+    ghost is_dnssec_ok = { spec.is_dnssec_ok };
+
+    ghost with_dnssec_ok = { spec.with_dnssec_ok };
+
+    ghost with_option = { spec.with_option };
+
+    ghost is_full_for = { spec.is_full_for };
+
     fn append_message(&self, target: &mut Builder) -> Result<(), CopyRecordsError> {
         append(
             self.alloc,
@@ -168,5 +180,58 @@ impl ComposeRequest for RequestMessage {
 
     fn is_answer(&self, answer: &Message) -> bool {
         is_answer(self.header.id(), &self.base, answer)
+    }
+
+    fn to_vec(&self) -> Result<Vec<u8>, Error> {
+        let message = self.to_message()?;
+        let octets = Vec::from_slice(self.alloc, message.as_slice())?;
+        Ok(octets)
+    }
+
+    fn header(&self) -> &Header {
+        &self.header
+    }
+
+    fn set_header(&mut self, header: Header) {
+        self.header = header;
+    }
+
+    fn dnssec_ok(&self) -> bool {
+        match &self.opt {
+            None => false,
+            Some(opt) => opt.dnssec_ok(),
+        }
+    }
+
+    fn set_dnssec_ok(&mut self, value: bool) {
+        let mut opt = opt_or_empty(self.alloc, self.opt.take());
+        opt.set_dnssec_ok(value);
+        self.opt = Some(opt);
+    }
+
+    fn add_opt(&mut self, code: u16, octets: &[u8]) -> Result<(), Error> {
+        match &mut self.opt {
+            Some(opt) => opt.add_option(code, octets),
+            None => {
+                let mut opt = RecordedOpt::empty(self.alloc);
+                opt.add_option(code, octets)?;
+                self.opt = Some(opt);
+                Ok(())
+            }
+        }
+    }
+
+    fn try_clone(&self, alloc: Global) -> Result<RequestMessage, NoMemory> {
+        let base = self.base.try_clone()?;
+        let opt = match &self.opt {
+            None => None,
+            Some(opt) => Some(opt.try_clone(alloc)?),
+        };
+        Ok(RequestMessage {
+            alloc,
+            base,
+            header: self.header,
+            opt,
+        })
     }
 }

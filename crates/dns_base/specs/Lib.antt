@@ -7,4 +7,7 @@ pub mod Answering
 pub mod OptRecord
 pub mod Canonical
 pub mod RecordData
+pub mod Knowing
 pub mod Draft
+pub mod Holding
+pub mod DraftLaws

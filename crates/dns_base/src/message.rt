@@ -54,10 +54,10 @@ impl Message {
     }
 
     /// The same message again.
-    pub fn try_clone(&self, alloc: Global) -> Result<Message, NoMemory>
+    pub fn try_clone(&self) -> Result<Message, NoMemory>
         ensures { IfOk result (λ m. m ≡ self.now) }
     {
-        let octets = Octets::from_slice(alloc, self.as_slice())?;
+        let octets = self.octets.try_clone()?;
         Ok(Message::long(octets))
     }
 
@@ -178,15 +178,6 @@ fn questions_end(octets: &[u8], count: u16, place: usize) -> Option<usize>
     Some(at)
 }
 
-impl Message {
-    /// Its octets.
-    pub fn into_octets(self) -> Octets
-        ensures { result ≡ self }
-    {
-        self.octets
-    }
-}
-
 /// Where the octets after so many records stand.
 fn records_end(octets: &[u8], count: u16, place: usize) -> Option<usize>
     ensures { result ≡ option_map (λ x. x.1) (list_at (record_at octets.now) count place) }
@@ -221,4 +212,13 @@ fn additional_start(octets: &[u8]) -> Option<usize>
     ensures { result ≡ option_map (λ x. x.1) (authority_of octets.now) }
 {
     records_end(octets, u16_at(octets, 8), authority_start(octets)?)
+}
+
+impl Message {
+    /// Its octets.
+    pub fn into_octets(self) -> Octets
+        ensures { result ≡ self }
+    {
+        self.octets
+    }
 }

@@ -1,13 +1,12 @@
 -- What a draft says when a label more is whole, and at its end.
-use Rattle.std.proofs.Common.{◌≡◌, ◌≤◌, ◌<◌, ◌+◌, ℕ, zero, suc, List, [], ◌∷◌, ◌++◌, length, refl, sym, ◌∙◌, ap, arith, Bool, true, false, append_assoc, append-nil, length-append}
-use Rattle.std.specs.Prelude.{IsTrue, ◌&&◌, nat_le, nat_lt, Some, Ok, Err, Result}
+use Rattle.std.proofs.Common.{◌≡◌, ◌≤◌, ◌<◌, ◌+◌, ℕ, List, [], ◌∷◌, ◌++◌, length, refl, sym, ◌∙◌, ap, arith, Bool, true, false, append_assoc, append-nil, length-append}
+use Rattle.std.specs.Prelude.{IsTrue, ◌&&◌, nat_le, nat_lt, Ok, Err}
 use Rattle.std.specs.List.{AllByRecursion}
 use Rattle.std.proofs.lemmas.Bool.{leb-true, ltb-true, le-leb, lt-leb}
-use Rattle.dns_names.specs.Name.{Labels, octet_count, spelling, IsLabel, IsLegal, Spells}
-use Rattle.dns_names.specs.Text.{are_full, are_short, judged, full, fit}
+use Rattle.dns_names.specs.Name.{Labels, octet_count, spelling, IsLabel, IsLegal}
+use Rattle.dns_names.specs.Text.{are_full, are_short, judged, full}
 use Rattle.dns_names.specs.Draft.{IsDraft, written}
 use Rattle.dns_names.specs.declared.draft.Draft.{Draft}
-use Rattle.dns_names.specs.declared.fault.NameFault.{NameFault}
 use Rattle.dns_names.specs.declared.fault.NameFault.TheVariants as Fault
 
 and_assoc : (a b c : Bool) → (a && (b && c)) ≡ ((a && b) && c)

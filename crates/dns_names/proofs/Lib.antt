@@ -6,5 +6,7 @@ pub mod Names
 pub mod NameTexts
 pub mod NextLabel
 pub mod OwnOctets
+pub mod Reversed
+pub mod Shown
 pub mod Texts
 pub mod Walks

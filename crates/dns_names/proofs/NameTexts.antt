@@ -1,11 +1,10 @@
 -- What a whole text is read as.
-use Rattle.std.proofs.Common.{◌≡◌, ◌≤◌, ◌<◌, ◌+◌, ◌-◌, ℕ, zero, suc, List, [], ◌∷◌, ◌++◌, length, refl, sym, ◌∙◌, ap, subst, arith, Bool, true, false}
-use Rattle.std.specs.Prelude.{Option, Some, None, option_map, option_and_then, Ok, Err, Result, ◌==◌, ◌&&◌, nat_le, if◌then◌else◌}
+use Rattle.std.proofs.Common.{◌≡◌, ◌<◌, ℕ, zero, suc, List, [], ◌∷◌, ◌++◌, length, refl, sym, ◌∙◌, ap, subst, arith, Bool, true, false}
+use Rattle.std.specs.Prelude.{Option, Some, None, option_map, Ok, Err, Result, ◌==◌, ◌&&◌, nat_le, if◌then◌else◌}
 use Rattle.std.proofs.lemmas.Bool.{eqb-true}
 use Rattle.dns_names.specs.Name.{Labels}
 use Rattle.dns_names.specs.Text.{cut_text, escaped, numbered, onto, dot, backslash, is_dot, is_digit, is_printable, three_digits, undotted, full, judged, name_labels, relative_labels, name_of_text, relative_of_text, Gives}
 use Rattle.dns_names.specs.Draft.{ReadsDraft}
-use Rattle.dns_names.specs.declared.draft.Draft.{Draft}
 use Rattle.dns_names.specs.declared.fault.NameFault.{NameFault}
 use Rattle.dns_names.specs.declared.fault.NameFault.TheVariants as Fault
 

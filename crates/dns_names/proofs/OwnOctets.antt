@@ -1,6 +1,6 @@
 -- What a name owns.
-use Rattle.std.proofs.Common.{◌≡◌, ◌≤◌, ◌<◌, ◌+◌, ℕ, List, [], ◌∷◌, ◌⊎◌, inl, inr, length, refl, sym, ◌∙◌, ap, subst, arith, eq-eqb, length-append}
-use Rattle.std.specs.Prelude.{IsSome, IsTrue, ◌↔◌, ◌==◌}
+use Rattle.std.proofs.Common.{◌≡◌, ℕ, List, [], ◌∷◌, ◌⊎◌, inl, inr, length, refl, sym, ◌∙◌, ap, subst, arith, eq-eqb}
+use Rattle.std.specs.Prelude.{IsTrue, ◌↔◌, ◌==◌}
 use Rattle.std.proofs.lemmas.Bool.{eqb-true}
 use Rattle.dns_names.specs.Name.{Labels, head_at, walk, name_at, labels_at, octet_count, spelling, IsLegal, IsOwn}
 use Rattle.dns_names.proofs.NameLaws.{spelled_alone, spelled_length}

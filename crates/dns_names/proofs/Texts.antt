@@ -1,13 +1,13 @@
 -- The texts of names, as they are read.
-use Rattle.std.proofs.Common.{◌++◌, append_assoc, append-nil, ◌≡◌, ◌≤◌, ◌<◌, ◌+◌, ◌-◌, ◌*◌, ℕ, suc, List, [], ◌∷◌, length, get_or, take, drop, refl, sym, ◌∙◌, ap, arith, Bool, true, false, IsTrue}
-use Rattle.std.specs.Prelude.{Option, Some, None, option_map, nat_le, if◌then◌else◌}
+use Rattle.std.proofs.Common.{◌++◌, append_assoc, append-nil, ◌≡◌, ◌≤◌, ◌-◌, ℕ, suc, List, [], ◌∷◌, length, get_or, take, drop, refl, sym, ◌∙◌, ap, arith, true}
+use Rattle.std.specs.Prelude.{Option, Some, None, option_map}
 use Rattle.std.proofs.lemmas.Bool.{le-leb}
 use Rattle.std.proofs.lemmas.List.{take_all}
 use Rattle.dns_names.specs.Name.{Labels}
 use Rattle.dns_names.specs.Draft.{after_piece}
 use Rattle.dns_names.specs.declared.text.Piece.{Piece}
 use Rattle.dns_names.specs.declared.text.Piece.TheVariants.{Dot, Octet}
-use Rattle.dns_names.specs.Text.{cut_text, escaped, numbered, onto, is_digit, three_digits}
+use Rattle.dns_names.specs.Text.{cut_text, numbered, onto, is_digit, three_digits}
 
 -- three digits that write an octet
 pub number_is_read : (a : ℕ) (text : List ℕ) → 2 ≤ length text → is_digit (get_or text 0 0) ≡ true → is_digit (get_or text 1 0) ≡ true

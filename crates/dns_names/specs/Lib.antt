@@ -4,3 +4,4 @@ pub mod Laws
 pub mod Text
 pub mod Draft
 pub mod Chain
+pub mod Reverse

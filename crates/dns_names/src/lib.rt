@@ -7,11 +7,14 @@ mod laws;
 mod name;
 mod owned;
 mod relative;
+mod reverse;
 mod show;
+#[cfg(test)]
+mod tests;
 mod text;
 
 pub use fault::{ChainFault, NameFault};
-pub use laws::name_laws;
+pub use laws::{name_is_read_back, name_laws, relative_name_is_read_back, text_laws};
 pub use name::{LabelIter, ParsedName};
 pub use owned::{Name, ToName, is_same_name};
 pub use relative::RelativeName;

@@ -1,7 +1,6 @@
-use Rattle.std.proofs.Common.{◌≡◌, ◌∷◌, ◌++◌, ℕ, List, rules, arith, append_assoc, sym, ◌∙◌, ap}
+use Rattle.std.proofs.Common.{◌∷◌, ◌++◌, rules, append_assoc, ◌∙◌}
 use Rattle.std.specs.List.{flat_map}
 use Rattle.std.proofs.Output.{has_written_append}
-use Rattle.std.proofs.lemmas.Grind.{common_steps}
 use Rattle.dns_names.specs.Text.{label_text}
 use Rattle.dns_names.proofs.show.write_labels.Goals as goal
 

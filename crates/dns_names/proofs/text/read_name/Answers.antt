@@ -1,8 +1,6 @@
 use Rattle.std.proofs.Common.{◌≡◌, ◌<◌, Err, vec_len, length, arith, sym, ◌∙◌, ap, subst}
 use Rattle.std.proofs.lemmas.Bool.{eqb-true}
-use Rattle.std.proofs.lemmas.Grind.{common_steps}
 use Rattle.std.proofs.lemmas.Result.{err_from_is_err_and}
-use Rattle.dns_names.specs.Name.{Labels}
 use Rattle.dns_names.specs.Draft.{IsDraft}
 use Rattle.dns_names.specs.declared.draft.Draft.{Draft}
 use Rattle.dns_names.proofs.NameTexts.{last_label, final_dot, gives, empty_name, dot_name, name_fails, has_some, has_none}

@@ -11,7 +11,7 @@ returns-clause-fits g c =
     let P : Draft → Type 0 = λ d. IsWithin d.limit (length d.octets + more) in
     let fits = subst P (sym c.self.view_is) c.in_ok-refuse.ensures.fits in
     let q : Asked = record { name = c.parsed-name.result; rtype = c.args.rtype.0; class = c.args.class.0 } in
-    let long : length c.in_ok-added.added.items ≡ more = omega (arith, ap length c.in_ok-added.ensures, question_long q, c.name_size.ensures.all) in
+    let long : length c.in_ok-added.added.items ≡ more = omega (arith, ap length c.in_ok-added.ensures.items, question_long q, c.name_size.ensures.all) in
     still_within c.self.inside.limit c.self.inside.octets.items c.in_ok-added.added.items _ more fits
     (c.in_ok-extend_from_slice.ensures.items ∙ ap (λ a. c.self.inside.octets.items ++ a) c.deref.ensures.value) long
 

@@ -18,7 +18,7 @@ returns-clause-fits g c =
       ttl = c.args.ttl.0;
       content = data_view c.args.rdata.now;
     } in
-    let long : length c.in_ok-added.added.items ≡ more = omega (arith, ap length c.in_ok-added.ensures, record_long w, c.name_size.ensures.all, c.data_size.ensures) in
+    let long : length c.in_ok-added.added.items ≡ more = omega (arith, ap length c.in_ok-added.ensures.items, record_long w, c.name_size.ensures.all, c.data_size.ensures) in
     still_within c.self.inside.limit c.self.inside.octets.items c.in_ok-added.added.items _ more fits
     (c.in_ok-extend_from_slice.ensures.items ∙ ap (λ a. c.self.inside.octets.items ++ a) c.deref.ensures.value) long
 
