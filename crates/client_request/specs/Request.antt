@@ -1,5 +1,5 @@
 -- A request: the base message, the recorded header, and the recorded OPT record.
-use Rattle.std.specs.Prelude.{ℕ, ◌+◌, ◌*◌, ◌^◌, ◌==◌, ◌||◌, ◌&&◌, nat_le, List, [], ◌∷◌, ◌++◌, length, Option, Some, None, Bool, true, false, not, bit_and, bit_or, if◌then◌else◌}
+use Rattle.std.specs.Prelude.{ℕ, ◌+◌, ◌*◌, ◌^◌, ◌==◌, ◌&&◌, nat_le, List, [], ◌∷◌, ◌++◌, length, Option, Some, None, Bool, true, false, not, bit_and, bit_or, if◌then◌else◌}
 use Rattle.std.specs.Option.{option_map_or}
 use Rattle.std.specs.Int.{w16, to_be_bytes}
 use Rattle.dns_base.specs.Header as head
@@ -42,6 +42,13 @@ option_octets code octets = to_be_bytes w16 code ++ to_be_bytes w16 (length octe
 abbrev pub with_do : Bool → OptFields → OptFields
 with_do on opt = record opt { flags = (if on then bit_or opt.flags 0x8000 else bit_and opt.flags 0x7fff) }
 
+abbrev pub option_added : ℕ → List ℕ → OptFields → OptFields
+option_added code octets opt = record opt { options = opt.options ++ option_octets code octets }
+
+-- With an option of so many octets more, the data would have more than its length can say.
+abbrev pub is_too_long : ℕ → OptFields → Bool
+is_too_long count opt = nat_le 65536 (length opt.options + 4 + count)
+
 -- what is recorded, changed in one part
 abbrev pub with_header : List ℕ → Request → Request
 with_header header r = record r { header = header }
@@ -56,12 +63,10 @@ abbrev pub with_dnssec_ok : Bool → Request → Request
 with_dnssec_ok on r = record r { opt = Some (with_do on (opt_or_empty r.opt)) }
 
 abbrev pub with_option : ℕ → List ℕ → Request → Request
-with_option code octets r =
-    let opt = opt_or_empty r.opt in record r { opt = Some (record opt { options = opt.options ++ option_octets code octets }) }
+with_option code octets r = record r { opt = Some (option_added code octets (opt_or_empty r.opt)) }
 
--- so many octets of an option more are too many
 abbrev pub is_full_for : ℕ → Request → Bool
-is_full_for count r = nat_le 65536 (length (opt_or_empty r.opt).options + 4 + count)
+is_full_for count r = is_too_long count (opt_or_empty r.opt)
 
 abbrev pub is_dnssec_ok : Request → Bool
 is_dnssec_ok r = option_map_or dnssec_ok r.opt false

@@ -11,6 +11,7 @@ mod copies;
 mod copying;
 mod cx;
 mod error;
+mod error_text;
 mod event;
 mod fault;
 mod limits;
@@ -20,6 +21,8 @@ mod recorded_opt;
 mod request;
 mod response;
 mod send;
+#[cfg(test)]
+mod tests;
 mod timers;
 mod words;
 

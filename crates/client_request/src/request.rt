@@ -1,6 +1,7 @@
 //! Requests: a base message with the header and the OPT record that are recorded beside it.
 
 ghost use Rattle.std.specs.Prelude.{◌≡◌, ◌↔◌, ◌⊎◌, IfOk, IfErr, IsErrOf, OnErr, IsTrue, Some, None, option_map};
+ghost use Rattle.dns_base.specs.Draft.{fresh};
 ghost use Rattle.dns_base.specs.OptRecord.{OptFields};
 ghost use Rattle.client_request.specs.Request as spec;
 ghost use Rattle.client_request.specs.Composed.{composed, appended, HoldsNothing};
@@ -117,6 +118,15 @@ fn opt_or_empty(alloc: Global, opt: Option<RecordedOpt>) -> RecordedOpt
     }
 }
 
+/// A message without entries, which may grow as long as it needs to.
+#[tactic(auto, unfolding(dns_base::specs::Draft::fresh, dns_base::specs::Draft::cleared))]
+fn empty_message(alloc: Global) -> Result<Builder, NoMemory>
+    ensures fresh { IfOk result (λ b. b ≡ fresh None) }
+    ensures empty { IfOk result HoldsNothing }
+{
+    Builder::new(alloc, None)
+}
+
 impl ComposeRequest for RequestMessage {
     ghost with_id = { spec.with_id };
 
@@ -128,6 +138,18 @@ impl ComposeRequest for RequestMessage {
 
     ghost appended = { appended };
 
+    ghost header_of = { λ r. r.header };
+
+    ghost with_header = { spec.with_header };
+
+    ghost is_dnssec_ok = { spec.is_dnssec_ok };
+
+    ghost with_dnssec_ok = { spec.with_dnssec_ok };
+
+    ghost with_option = { spec.with_option };
+
+    ghost is_full_for = { spec.is_full_for };
+
     fn append_message(&self, target: &mut Builder) -> Result<(), CopyRecordsError> {
         append(
             self.alloc,
@@ -138,8 +160,9 @@ impl ComposeRequest for RequestMessage {
         )
     }
 
+    #[tactic(auto, unfolding(crate::specs::Composed::composed))]
     fn to_message(&self) -> Result<Message, Error> {
-        let mut target = Builder::new(self.alloc, None)?;
+        let mut target = empty_message(self.alloc)?;
         self.append_message(&mut target)?;
         let message = target.finish()?;
         Ok(message)
@@ -157,5 +180,60 @@ impl ComposeRequest for RequestMessage {
 
     fn is_answer(&self, answer: &Message) -> bool {
         is_answer(self.header.id(), &self.base, answer)
+    }
+
+    fn to_vec(&self) -> Result<Vec<u8>, Error> {
+        let message = self.to_message()?;
+        match Vec::from_slice(self.alloc, message.as_slice()) {
+            Ok(octets) => Ok(octets),
+            Err(_) => Err(Error::NoMemory),
+        }
+    }
+
+    fn header(&self) -> &Header {
+        &self.header
+    }
+
+    fn set_header(&mut self, header: Header) {
+        self.header = header;
+    }
+
+    fn dnssec_ok(&self) -> bool {
+        match &self.opt {
+            None => false,
+            Some(opt) => opt.dnssec_ok(),
+        }
+    }
+
+    fn set_dnssec_ok(&mut self, value: bool) {
+        let mut opt = opt_or_empty(self.alloc, self.opt.take());
+        opt.set_dnssec_ok(value);
+        self.opt = Some(opt);
+    }
+
+    fn add_opt(&mut self, code: u16, octets: &[u8]) -> Result<(), Error> {
+        match &mut self.opt {
+            Some(opt) => opt.add_option(code, octets),
+            None => {
+                let mut opt = RecordedOpt::empty(self.alloc);
+                opt.add_option(code, octets)?;
+                self.opt = Some(opt);
+                Ok(())
+            }
+        }
+    }
+
+    fn try_clone(&self, alloc: Global) -> Result<RequestMessage, NoMemory> {
+        let base = self.base.try_clone()?;
+        let opt = match &self.opt {
+            None => None,
+            Some(opt) => Some(opt.try_clone(alloc)?),
+        };
+        Ok(RequestMessage {
+            alloc,
+            base,
+            header: self.header,
+            opt,
+        })
     }
 }
