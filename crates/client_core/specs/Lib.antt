@@ -3,3 +3,5 @@ pub mod First
 pub mod Client
 pub mod Machines
 pub mod Whole
+pub mod Clock
+pub mod Edge

@@ -173,4 +173,29 @@ impl Client {
             }
         }
     }
+
+    /// The trace of a client that is told these events and draws these words: a row for each event, in
+    /// order. `NoMemory`, or `NumbersUsed` where a number would pass the greatest `u64`.
+    pub fn replay<W: Words>(
+        alloc: Global,
+        conf: &ResolvConf,
+        redundant: redundant::Config,
+        cache: cache::Config,
+        words: &mut W,
+        events: &[Event],
+    ) -> Result<Trace, Error>
+        ensures plain { IfOk result (λ t. plain_trace conf.now (W.stream words.old) events.now ≡ Some t.rows) }
+        ensures events { IfOk result (λ t. map (λ row. row.event) t.rows ≡ events.now) }
+        ensures numbers { IsErrOf result Error.NumbersUsed → plain_trace conf.now (W.stream words.old) events.now ≡ None }
+        ensures refused { IfErr result IsWant }
+    {
+        let mut client = Client::new(alloc, conf, redundant, cache)?;
+        let mut rows = Rows::new(alloc);
+        for event in events {
+            let event = event.try_clone(alloc)?;
+            let row = client.step(words, event)?;
+            rows.push(row)?;
+        }
+        Ok(Trace { rows })
+    }
 }
