@@ -184,8 +184,10 @@ impl ComposeRequest for RequestMessage {
 
     fn to_vec(&self) -> Result<Vec<u8>, Error> {
         let message = self.to_message()?;
-        let octets = Vec::from_slice(self.alloc, message.as_slice())?;
-        Ok(octets)
+        match Vec::from_slice(self.alloc, message.as_slice()) {
+            Ok(octets) => Ok(octets),
+            Err(_) => Err(Error::NoMemory),
+        }
     }
 
     fn header(&self) -> &Header {
