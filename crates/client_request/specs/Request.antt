@@ -1,5 +1,5 @@
 -- A request: the base message, the recorded header, and the recorded OPT record.
-use Rattle.std.specs.Prelude.{ℕ, ◌+◌, ◌*◌, ◌^◌, ◌==◌, ◌&&◌, nat_le, List, [], ◌∷◌, ◌++◌, length, Option, Some, None, Bool, true, false, not, bit_and, bit_or, if◌then◌else◌}
+use Rattle.std.specs.Prelude.{ℕ, ◌+◌, ◌*◌, ◌^◌, ◌==◌, ◌||◌, ◌&&◌, nat_le, List, [], ◌∷◌, ◌++◌, length, Option, Some, None, Bool, true, false, not, bit_and, bit_or, if◌then◌else◌}
 use Rattle.std.specs.Option.{option_map_or}
 use Rattle.std.specs.Int.{w16, to_be_bytes}
 use Rattle.dns_base.specs.Header as head
@@ -81,3 +81,13 @@ recorded_from base = record { base = base; header = header_of base; opt = None }
 -- The question is missing, can't be read or asks for a whole zone: several messages may answer that.
 abbrev pub is_misformed : List ℕ → Bool
 is_misformed base = head.opcode_of base == 0 && option_map_or (λ q. q.rtype == 252) (first_question base) true
+
+-- The first question asks for a whole zone.
+abbrev pub is_axfr : List ℕ → Bool
+is_axfr base = option_map_or (λ q. q.rtype == 252) (first_question base) false
+
+-- A message of a zone that is transferred may have no question (RFC 5936 2.2.1).
+abbrev pub is_answered_in_part : List ℕ → Request → Bool
+is_answered_in_part octets r =
+    is_answered octets r
+    || (is_axfr r.base && (head.qr_of octets && (head.id_of octets == head.id_of r.header && (head.counts_of octets).questions == 0)))

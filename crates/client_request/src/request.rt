@@ -57,13 +57,20 @@ impl RequestMessage {
         if is_misformed(&msg) {
             return Err(Error::FormError);
         }
-        let header = msg.header();
-        Ok(RequestMessage {
+        Ok(RequestMessage::recorded_from(alloc, msg))
+    }
+
+    /// A request with the base's own header and no OPT record.
+    pub(crate) fn recorded_from(alloc: Global, base: Message) -> RequestMessage
+        ensures { result ≡ spec.recorded_from base }
+    {
+        let header = base.header();
+        RequestMessage {
             alloc,
-            base: msg,
+            base,
             header,
             opt: None,
-        })
+        }
     }
 
     /// The request with another header and another OPT record, or none.

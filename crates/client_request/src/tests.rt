@@ -101,12 +101,52 @@ fn some_queries_are_refused(rt: HostRuntime) -> Result<(), Fail> {
 }
 
 #[test]
-fn a_base_may_lack_a_question_or_be_full(rt: HostRuntime) -> Result<(), Fail> {
-    let alloc = rt.alloc();
+fn a_question_may_be_missing(rt: HostRuntime) -> Result<(), Fail> {
     let mut octets = QUERY;
     octets[5] = 2;
-    let request = RequestMessage::new(alloc, message(alloc, &octets)?)?;
+    let request = RequestMessage::new(rt.alloc(), message(rt.alloc(), &octets)?)?;
     assert_eq!(rt; request.to_message().err(), Some(Error::MessageParseError));
+    Ok(())
+}
+
+/// A record of the root, of a type without meaning and without data.
+const RECORD: [u8; 11] = [0, 0xff, 0, 0, 1, 0, 0, 0, 0, 0, 0];
+
+#[test]
+fn a_full_section_takes_no_opt_record(rt: HostRuntime) -> Result<(), Fail> {
+    let alloc = rt.alloc();
+    let mut octets = Vec::from_slice(alloc, &[0, 0, 0x20, 0, 0, 0, 0, 0, 0, 0, 0xff, 0xff])?;
+    for _ in 0..65535u16 {
+        octets.extend_from_slice(&RECORD)?;
+    }
+    let mut request = RequestMessage::new(alloc, message(alloc, octets.as_slice())?)?;
+    assert!(rt; request.to_message().is_ok());
+    request.set_udp_payload_size(1232);
+    assert_eq!(rt;
+        request.to_message().err(),
+        Some(Error::MessageBuilderPushError)
+    );
+    Ok(())
+}
+
+#[test]
+fn a_zone_is_answered_in_parts(rt: HostRuntime) -> Result<(), Fail> {
+    let alloc = rt.alloc();
+    assert_eq!(rt;
+        RequestMessageMulti::new(alloc, message(alloc, &QUERY)?).err(),
+        Some(Error::FormError)
+    );
+    let mut octets = QUERY;
+    octets[26] = 252;
+    let request = RequestMessageMulti::new(alloc, message(alloc, &octets)?)?;
+    let part = [0, 0, 0x80, 0, 0, 0, 0, 0, 0, 0, 0, 0];
+    assert!(rt; request.is_answer(&message(alloc, &part)?));
+    octets[26] = 251;
+    let changes = RequestMessageMulti::new(alloc, message(alloc, &octets)?)?;
+    assert!(rt; !changes.is_answer(&message(alloc, &part)?));
+    octets[2] = 0x80;
+    assert!(rt; changes.is_answer(&message(alloc, &octets)?));
+    assert_eq!(rt; changes.to_message()?.as_slice().len(), 29);
     Ok(())
 }
 
