@@ -10,3 +10,4 @@ pub mod Reversed
 pub mod Shown
 pub mod Texts
 pub mod Walks
+pub mod Worked

@@ -1,11 +1,11 @@
 -- What a name prints is read as that name.
-use Rattle.std.proofs.Common.{◌≡◌, ◌≤◌, ◌<◌, ◌+◌, ◌*◌, ◌-◌, ◌/◌, ◌%◌, ◌^◌, ℕ, zero, suc, List, [], ◌∷◌, ◌++◌, length, get_or, refl, sym, ◌∙◌, ap, subst, arith, Bool, true, false, append_assoc, append-nil, decimal, inl, inr, ◌⊎◌}
-use Rattle.std.specs.Prelude.{Option, Some, None, option_map, option_and_then, Ok, Err, Result, ◌==◌, ◌&&◌, ◌||◌, nat_le, nat_lt, if◌then◌else◌}
-use Rattle.std.specs.List.{AllByRecursion, flat_map, join_by}
-use Rattle.std.proofs.lemmas.Bool.{eqb-true, leb-true, le-leb, lt-leb, lt-ltb}
+use Rattle.std.proofs.Common.{◌≡◌, ◌≤◌, ◌<◌, ◌+◌, ◌/◌, ◌%◌, ◌^◌, ℕ, suc, List, [], ◌∷◌, ◌++◌, length, get_or, refl, sym, ◌∙◌, ap, subst, arith, Bool, true, false, append_assoc, append-nil, decimal, inl, inr, ◌⊎◌}
+use Rattle.std.specs.Prelude.{Option, Some, None, option_map, Ok, ◌==◌, ◌&&◌, ◌||◌, nat_le}
+use Rattle.std.specs.List.{AllByRecursion, flat_map}
+use Rattle.std.proofs.lemmas.Bool.{eqb-true, leb-true, le-leb, lt-ltb}
 use Rattle.std.proofs.lemmas.Fmt.{decimal_digit}
 use Rattle.dns_names.specs.Name.{Labels, octet_count, spelling, IsLabel, IsLegal, AreOctets}
-use Rattle.dns_names.specs.Text.{cut_text, escaped, numbered, onto, dot, backslash, is_dot, is_digit, is_printable, three_digits, undotted, are_full, are_short, full, fit, judged, name_labels, relative_labels, name_of_text, relative_of_text, octet_text, label_text, relative_text, name_text}
+use Rattle.dns_names.specs.Text.{cut_text, escaped, numbered, onto, dot, backslash, is_dot, is_digit, three_digits, undotted, are_full, are_short, full, judged, name_labels, relative_labels, name_of_text, relative_of_text, octet_text, label_text, relative_text, name_text}
 use Rattle.dns_names.proofs.Texts.{onto_none}
 
 -- the octets behind a backslash, by their digits
