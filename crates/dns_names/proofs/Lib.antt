@@ -1,5 +1,6 @@
 pub mod Chains
 pub mod Drafts
+pub mod Grammars
 pub mod Heads
 pub mod NameLaws
 pub mod Names

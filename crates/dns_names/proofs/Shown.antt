@@ -78,12 +78,12 @@ octet_read n rest h = go ((n == dot) || (n == backslash)) (nat_le 33 n && nat_le
     go false true e f = rw (e, f) (plain n rest e f)
     go false false e f = rw (e, f) (by_digits n rest h)
 
-onto_onto : (n : ℕ) (label : List ℕ) (o : Option Labels) → option_map (onto (n ∷ [])) (option_map (onto label) o) ≡ option_map (onto (n ∷ label)) o
+pub onto_onto : (n : ℕ) (label : List ℕ) (o : Option Labels) → option_map (onto (n ∷ [])) (option_map (onto label) o) ≡ option_map (onto (n ∷ label)) o
 onto_onto n label None = refl
 onto_onto n label (Some []) = refl
 onto_onto n label (Some (l ∷ ls)) = refl
 
-onto_nothing : (o : Option Labels) → o ≡ option_map (onto []) o
+pub onto_nothing : (o : Option Labels) → o ≡ option_map (onto []) o
 onto_nothing None = refl
 onto_nothing (Some ls) = ap Some (sym (onto_none ls))
 
@@ -93,11 +93,11 @@ label_read (n ∷ label) rest h =
     ap cut_text (append_assoc (octet_text n) (label_text label) rest) ∙ octet_read n (label_text label ++ rest) h.0
     ∙ ap (option_map (onto (n ∷ []))) (label_read label rest h.1) ∙ onto_onto n label (cut_text rest)
 
-cut_end : (label : List ℕ) → option_map (onto label) (cut_text []) ≡ Some (label ∷ [])
+pub cut_end : (label : List ℕ) → option_map (onto label) (cut_text []) ≡ Some (label ∷ [])
 unfolding cut_text
 cut_end label = ap (λ l. Some (l ∷ [])) (append-nil label)
 
-cut_dot : (label text : List ℕ) → option_map (onto label) (cut_text (dot ∷ text)) ≡ option_map (λ labels. label ∷ labels) (cut_text text)
+pub cut_dot : (label text : List ℕ) → option_map (onto label) (cut_text (dot ∷ text)) ≡ option_map (λ labels. label ∷ labels) (cut_text text)
 unfolding cut_text
 cut_dot label text = go (cut_text text)
   where

@@ -198,6 +198,7 @@ fn pointers_and_octets_are_counted(rt: HostRuntime) -> Result<(), Fail> {
     assert!(rt; ParsedName::parse(&chain, 1 + 2 * 255).is_none());
     name_laws();
     text_laws();
+    grammar_laws();
     // 127 labels of one octet, and then 128
     let mut labels = Vec::new(alloc);
     for _ in 0..128 {
