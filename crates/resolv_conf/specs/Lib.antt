@@ -1,3 +1,4 @@
 pub mod Conf
 pub mod Number
 pub mod Script
+pub mod Words

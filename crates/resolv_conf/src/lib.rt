@@ -8,6 +8,7 @@ mod options;
 mod script;
 mod search;
 mod server;
+mod words;
 
 pub use conf::ResolvConf;
 pub use fault::LineFault;
