@@ -1,6 +1,5 @@
 -- The words of a line, one after another.
-use Rattle.std.proofs.Common.{◌≡◌, ◌==◌, ◌<◌, ◌≤◌, ◌+◌, ◌-◌, ◌*◌, ◌/◌, ◌%◌, ℕ, zero, suc, Bool, true, false, List, [], ◌∷◌, ◌++◌, length, refl, ap, sym, ◌∙◌, subst, arith, map, not, cond, nat_lt, append_assoc, append-nil, Option, Some, None}
-use Rattle.std.proofs.lemmas.Grind.{common_steps}
+use Rattle.std.proofs.Common.{◌≡◌, ◌<◌, ◌+◌, ◌-◌, ◌*◌, ◌/◌, ◌%◌, ℕ, Bool, true, false, List, [], ◌∷◌, ◌++◌, length, refl, ap, sym, ◌∙◌, arith, map, not, cond, nat_lt, append_assoc, append-nil, Option, Some, None}
 use Rattle.std.proofs.lemmas.Bool.Decides.{nat_tests}
 use Rattle.std.specs.List.{filter, onto_first, slice_split}
 use Rattle.std.specs.Char.{is_whitespace, is_not_whitespace}
@@ -35,18 +34,18 @@ encoded_one c rest h = led c 0 c rest (grind (arith, nat_tests)) (grind (arith, 
 
 encoded_two : (c : ℕ) (rest : List ℕ) → c < 2048 → chars ((192 + c / 64) ∷ (128 + c % 64) ∷ rest) ≡ c ∷ chars rest
 encoded_two c rest h =
-  let small : c / 64 < 32 = omega arith in
-  led (192 + c / 64) 1 (c / 64) _ (grind (arith, nat_tests)) (grind (arith, nat_tests)) ∙ after_one (c / 64) c (128 + c % 64) rest (omega arith)
+    let small : c / 64 < 32 = omega arith in
+    led (192 + c / 64) 1 (c / 64) _ (grind (arith, nat_tests)) (grind (arith, nat_tests)) ∙ after_one (c / 64) c (128 + c % 64) rest (omega arith)
 
 encoded_three : (c : ℕ) (rest : List ℕ) → c < 65536 → chars ((224 + c / 4096) ∷ (128 + c / 64 % 64) ∷ (128 + c % 64) ∷ rest) ≡ c ∷ chars rest
 encoded_three c rest h =
-  let small : c / 4096 < 16 = omega arith in
-  led (224 + c / 4096) 2 (c / 4096) _ (grind (arith, nat_tests)) (grind (arith, nat_tests)) ∙ after_two (c / 4096) c (128 + c / 64 % 64) (128 + c % 64) rest (omega arith)
+    let small : c / 4096 < 16 = omega arith in
+    led (224 + c / 4096) 2 (c / 4096) _ (grind (arith, nat_tests)) (grind (arith, nat_tests)) ∙ after_two (c / 4096) c (128 + c / 64 % 64) (128 + c % 64) rest (omega arith)
 
 encoded_four : (c : ℕ) (rest : List ℕ) → chars ((240 + c / 262144) ∷ (128 + c / 4096 % 64) ∷ (128 + c / 64 % 64) ∷ (128 + c % 64) ∷ rest) ≡ c ∷ chars rest
 encoded_four c rest =
-  led (240 + c / 262144) 3 (c / 262144) _ (grind (arith, nat_tests)) (grind (arith, nat_tests)) ∙
-  after_three (c / 262144) c (128 + c / 4096 % 64) (128 + c / 64 % 64) (128 + c % 64) rest (omega arith)
+    led (240 + c / 262144) 3 (c / 262144) _ (grind (arith, nat_tests)) (grind (arith, nat_tests)) ∙
+    after_three (c / 262144) c (128 + c / 4096 % 64) (128 + c / 64 % 64) (128 + c % 64) rest (omega arith)
 
 encoded : (c : ℕ) (rest : List ℕ) → chars (encode c ++ rest) ≡ c ∷ chars rest
 unfolding encode
@@ -77,21 +76,21 @@ is_white c e = turned (is_whitespace c) e
 past_gap : (gap cs : List ℕ) → NonePass is_not_whitespace gap → pieces (gap ++ cs) ≡ pieces cs
 past_gap [] cs h = refl
 past_gap (g ∷ gap) cs h =
-  ap (λ b. filter (λ word. not (is_empty word)) (cond b ([] ∷ slice_split is_whitespace (gap ++ cs)) (onto_first g (slice_split is_whitespace (gap ++ cs))))) (is_white g h.0)
-  ∙ past_gap gap cs h.1
+    ap (λ b. filter (λ word. not (is_empty word)) (cond b ([] ∷ slice_split is_whitespace (gap ++ cs)) (onto_first g (slice_split is_whitespace (gap ++ cs))))) (is_white g h.0)
+    ∙ past_gap gap cs h.1
 
 split_behind : (ds cs : List ℕ) (tail : Words) → NonePass is_whitespace ds → slice_split is_whitespace cs ≡ [] ∷ tail
     → slice_split is_whitespace (ds ++ cs) ≡ ds ∷ tail
 split_behind [] cs tail h e = e
 split_behind (d ∷ ds) cs tail h e =
-  ap (λ b. cond b ([] ∷ slice_split is_whitespace (ds ++ cs)) (onto_first d (slice_split is_whitespace (ds ++ cs)))) h.0
-  ∙ ap (onto_first d) (split_behind ds cs tail h.1 e)
+    ap (λ b. cond b ([] ∷ slice_split is_whitespace (ds ++ cs)) (onto_first d (slice_split is_whitespace (ds ++ cs)))) h.0
+    ∙ ap (onto_first d) (split_behind ds cs tail h.1 e)
 
 one_piece : (d : ℕ) (ds cs : List ℕ) (tail : Words) → NonePass is_whitespace (d ∷ ds) → slice_split is_whitespace cs ≡ [] ∷ tail
     → pieces ((d ∷ ds) ++ cs) ≡ (d ∷ ds) ∷ pieces cs
 one_piece d ds cs tail h e =
-  ap (filter (λ word. not (is_empty word))) (split_behind (d ∷ ds) cs tail h e)
-  ∙ ap (λ t. (d ∷ ds) ∷ t) (sym (ap (filter (λ word. not (is_empty word))) e))
+    ap (filter (λ word. not (is_empty word))) (split_behind (d ∷ ds) cs tail h e)
+    ∙ ap (λ t. (d ∷ ds) ∷ t) (sym (ap (filter (λ word. not (is_empty word))) e))
 
 -- what is left after a word begins with white space, or is nothing
 split_rest : (rest : List ℕ) → ((more : List ℕ) × EmptyOrStartsWithPassing is_whitespace rest more)
@@ -99,37 +98,38 @@ split_rest : (rest : List ℕ) → ((more : List ℕ) × EmptyOrStartsWithPassin
 unfolding chars
 split_rest [] h = ([], refl)
 split_rest (b ∷ bs) h =
-  let starts = h.1 (omega arith) in
-  let c : ℕ = starts.0 in
-  let spelled : chars (b ∷ bs) ≡ c ∷ chars h.0 = ap chars starts.2 ∙ encoded c h.0 in
-  ( slice_split is_whitespace (chars h.0)
-  , ap (slice_split is_whitespace) spelled
-    ∙ ap (λ t. cond t ([] ∷ slice_split is_whitespace (chars h.0)) (onto_first c (slice_split is_whitespace (chars h.0)))) starts.1)
+    let starts = h.1 (omega arith) in
+    let c : ℕ = starts.0 in
+    let spelled : chars (b ∷ bs) ≡ c ∷ chars h.0 = ap chars starts.2 ∙ encoded c h.0 in (
+      slice_split is_whitespace (chars h.0),
+      ap (slice_split is_whitespace) spelled
+          ∙ ap (λ t. cond t ([] ∷ slice_split is_whitespace (chars h.0)) (onto_first c (slice_split is_whitespace (chars h.0)))) starts.1,
+    )
 
 pub no_words : (text : List ℕ) → NoCharPasses is_not_whitespace text → words_of text ≡ []
 unfolding words_of chars
 no_words text (cs, spelled, white) =
-  let are : chars text ≡ cs ++ [] = ap chars (sym spelled) ∙ ap chars (sym (append-nil (encodes cs))) ∙ all_encoded cs [] in
-  ap (λ t. map encode_utf8_all (pieces t)) are ∙ ap (map encode_utf8_all) (past_gap cs [] white)
+    let are : chars text ≡ cs ++ [] = ap chars (sym spelled) ∙ ap chars (sym (append-nil (encodes cs))) ∙ all_encoded cs [] in
+    ap (λ t. map encode_utf8_all (pieces t)) are ∙ ap (map encode_utf8_all) (past_gap cs [] white)
 
 pub first_word : (text word rest gap : List ℕ) → text ≡ gap ++ (word ++ rest) → 0 < length word → NoCharPasses is_not_whitespace gap
     → NoCharPasses is_whitespace word → ((more : List ℕ) × EmptyOrStartsWithPassing is_whitespace rest more)
     → words_of text ≡ word ∷ words_of rest
 unfolding words_of
 first_word text word rest gap cut long (gs, gap_is, white) ([], word_is, plain) behind =
-  absurd (let none : length word ≡ 0 = sym (ap length word_is) in omega arith)
+    absurd (let none : length word ≡ 0 = sym (ap length word_is) in omega arith)
 first_word text word rest gap cut long (gs, gap_is, white) (d ∷ ds, word_is, plain) behind =
-  let tail = split_rest rest behind in
-  let are : chars text ≡ gs ++ ((d ∷ ds) ++ chars rest) =
+    let tail = split_rest rest behind in
+    let are : chars text ≡ gs ++ ((d ∷ ds) ++ chars rest) =
     ap chars (cut ∙ ap (λ t. t ++ (word ++ rest)) (sym gap_is) ∙ ap (λ t. encodes gs ++ (t ++ rest)) (sym word_is))
     ∙ all_encoded gs (encodes (d ∷ ds) ++ rest) ∙ ap (λ t. gs ++ t) (all_encoded (d ∷ ds) rest) in
-  ap (λ t. map encode_utf8_all (pieces t)) are
-  ∙ ap (map encode_utf8_all) (past_gap gs ((d ∷ ds) ++ chars rest) white ∙ one_piece d ds (chars rest) tail.0 plain tail.1)
-  ∙ ap (λ t. t ∷ map encode_utf8_all (pieces (chars rest))) word_is
+    ap (λ t. map encode_utf8_all (pieces t)) are
+    ∙ ap (map encode_utf8_all) (past_gap gs ((d ∷ ds) ++ chars rest) white ∙ one_piece d ds (chars rest) tail.0 plain tail.1)
+    ∙ ap (λ t. t ∷ map encode_utf8_all (pieces (chars rest))) word_is
 
 pub next_is : (from to : SplitWhitespace) (r : Option (Bor (List ℕ))) → split_whitespace_steps from r to
     → MatchOption r (words_of (split_whitespace_rest from) ≡ [])
-      (λ word. words_of (split_whitespace_rest from) ≡ word.now ∷ words_of (split_whitespace_rest to))
+    (λ word. words_of (split_whitespace_rest from) ≡ word.now ∷ words_of (split_whitespace_rest to))
 next_is from to None h = no_words (split_whitespace_rest from) h.1
 next_is from to (Some word) (gap, cut, long, white, plain, behind) =
-  first_word (split_whitespace_rest from) word.now (split_whitespace_rest to) gap cut long white plain behind
+    first_word (split_whitespace_rest from) word.now (split_whitespace_rest to) gap cut long white plain behind

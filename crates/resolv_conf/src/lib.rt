@@ -3,7 +3,9 @@
 
 mod conf;
 mod fault;
+mod line;
 mod number;
+mod option_words;
 mod options;
 mod script;
 mod search;

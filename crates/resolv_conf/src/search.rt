@@ -50,6 +50,13 @@ impl SearchList {
         Ok(())
     }
 
+    /// Adds the root at the end.
+    pub fn push_root(&mut self, alloc: Global) -> Result<(), NoMemory>
+        ensures { MatchResult result (λ _. self.new ≡ self.old ++ [] ∷ []) (λ _. self.new ≡ self.old) }
+    {
+        self.push(Name::root(alloc))
+    }
+
     pub fn len(&self) -> usize
         ensures { result ≡ length self.now }
     {

@@ -7,6 +7,9 @@ use dns_values::{Duration, NoMemory, SocketAddr};
 use std::alloc::Global;
 use std::marker::Model;
 
+/// The port of the DNS (RFC 1035 4.2).
+pub(crate) const DNS_PORT: u16 = 53;
+
 /// The greatest datagram that a server is asked for, in octets.
 const DATAGRAM_SIZE: u16 = 1232;
 
