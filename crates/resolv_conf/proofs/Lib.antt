@@ -1,3 +1,5 @@
 pub mod Numbers
 pub mod Scripts
 pub mod Splits
+pub mod Lines
+pub mod Parses

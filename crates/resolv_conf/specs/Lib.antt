@@ -1,7 +1,9 @@
 pub mod Conf
+pub mod Error
 pub mod Fault
 pub mod Line
 pub mod Number
 pub mod Options
+pub mod Parse
 pub mod Script
 pub mod Words

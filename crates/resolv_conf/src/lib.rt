@@ -2,17 +2,20 @@
 #![tactic(auto)]
 
 mod conf;
+mod error;
 mod fault;
 mod line;
 mod number;
 mod option_words;
 mod options;
+mod parse;
 mod script;
 mod search;
 mod server;
 mod words;
 
 pub use conf::ResolvConf;
+pub use error::{Error, IoFault};
 pub use fault::LineFault;
 pub use options::ResolvOptions;
 pub use search::{SearchList, SearchSuffix};
