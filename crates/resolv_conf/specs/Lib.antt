@@ -1,9 +1,13 @@
 pub mod Conf
 pub mod Error
 pub mod Fault
+pub mod Final
 pub mod Line
 pub mod Number
+pub mod OptionWord
 pub mod Options
 pub mod Parse
 pub mod Script
+pub mod Server
+pub mod Show
 pub mod Words

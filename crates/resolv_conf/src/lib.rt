@@ -12,9 +12,10 @@ mod parse;
 mod script;
 mod search;
 mod server;
+mod show;
 mod words;
 
-pub use conf::ResolvConf;
+pub use conf::{ResolvConf, finalize_laws};
 pub use error::{Error, IoFault};
 pub use fault::LineFault;
 pub use options::ResolvOptions;

@@ -1,9 +1,10 @@
 //! Servers, and how they are asked.
 
-ghost use Rattle.std.specs.Prelude.{◌≡◌, ◌*◌, List, [], ◌∷◌, ◌++◌, length, MatchResult};
+ghost use Rattle.std.specs.Prelude.{◌≡◌, ◌*◌, List, [], ◌∷◌, ◌++◌, length, map, IfOk, MatchResult};
+ghost use Rattle.resolv_conf.specs.Server.{or_this_host, with_timeout};
 ghost use Rattle.resolv_conf.specs.declared.server.ServerConf.{ServerConf};
 
-use dns_values::{Duration, NoMemory, SocketAddr};
+use dns_values::{Duration, IpAddr, NoMemory, SocketAddr};
 use std::alloc::Global;
 use std::marker::Model;
 
@@ -72,6 +73,17 @@ impl Servers {
         }
     }
 
+    /// This host alone, at the port of the DNS.
+    pub(crate) fn this_host(alloc: Global) -> Result<Servers, NoMemory>
+        ensures { IfOk result (λ s. s ≡ or_this_host []) }
+    {
+        let ip = IpAddr::V4([127, 0, 0, 1]);
+        let addr = SocketAddr { ip, port: DNS_PORT };
+        let mut servers = Servers::new(alloc);
+        servers.push(ServerConf::new(addr, Transport::UdpTcp))?;
+        Ok(servers)
+    }
+
     /// Adds a server at the end.
     pub fn push(&mut self, item: ServerConf) -> Result<(), NoMemory>
         ensures { MatchResult result (λ _. self.new ≡ self.old ++ item ∷ []) (λ _. self.new ≡ self.old) }
@@ -90,5 +102,14 @@ impl Servers {
         ensures { result.now ≡ self.now }
     {
         self.items.as_slice()
+    }
+
+    /// Gives each server this time for a request.
+    pub(crate) fn set_request_timeout(&mut self, timeout: Duration)
+        ensures { self.new ≡ map (with_timeout timeout) self.old }
+    {
+        for server in self.items.iter_mut() {
+            server.request_timeout = timeout;
+        }
     }
 }
