@@ -1,5 +1,5 @@
 -- Finalizing twice is finalizing once.
-use Rattle.std.proofs.Common.{◌≡◌, ◌≢◌, ℕ, List, [], ◌∷◌, map, refl, ap, ◌∙◌}
+use Rattle.std.proofs.Common.{◌≡◌, ◌≢◌, ℕ, List, [], ◌∷◌, map, refl, ap}
 use Rattle.dns_names.specs.Name.{Labels}
 use Rattle.resolv_conf.specs.declared.conf.ResolvConf.{ResolvConf}
 use Rattle.resolv_conf.specs.declared.server.ServerConf.{ServerConf}
@@ -21,9 +21,9 @@ root_twice (name ∷ names) = refl
 
 pub twice : (conf : ResolvConf) → finalized (finalized conf) ≡ finalized conf
 twice conf =
-  let ss = servers_twice conf.options.timeout conf.servers in
-  let ns = root_twice conf.options.search in
-  let both : finalized (finalized conf) ≡ finalized conf = cc in both
+    let ss = servers_twice conf.options.timeout conf.servers in
+    let ns = root_twice conf.options.search in
+    let both : finalized (finalized conf) ≡ finalized conf = cc in both
 
 pub has_server : (t : ℕ) (servers : List ServerConf) → map (with_timeout t) (or_this_host servers) ≢ []
 has_server t [] e = absurd cc

@@ -6,3 +6,5 @@ pub mod Parses
 pub mod Shows
 pub mod Finals
 pub mod Changes
+pub mod Paths
+pub mod Defaults

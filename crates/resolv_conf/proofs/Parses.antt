@@ -1,5 +1,5 @@
 -- What taking the lines of a text answers.
-use Rattle.std.proofs.Common.{◌≡◌, ◌<◌, ◌≤◌, ◌+◌, ℕ, List, [], ◌∷◌, length, refl, ap, sym, subst, Option, Some, None, IfSome, Result, Ok, Err, inr, arith}
+use Rattle.std.proofs.Common.{◌≡◌, ◌≤◌, ◌+◌, ℕ, List, [], ◌∷◌, length, refl, sym, subst, Option, Some, None, IfSome, Result, Ok, Err, inr, arith}
 use Rattle.resolv_conf.specs.declared.conf.ResolvConf.{ResolvConf}
 use Rattle.resolv_conf.specs.declared.error.Error.{Error}
 use Rattle.resolv_conf.specs.declared.error.Error.TheVariants.{ParseError, Io, TooLong, NoMemory}
@@ -51,20 +51,20 @@ pub told_answer : (left after : Option (List ℕ)) (text : List ℕ) (conf new :
     → LinesAnswer 1 (lines_of text) conf answer new → IfSome left (λ xs. ParseAnswers xs conf answer new)
 told_answer None after text conf new answer h told l = tt
 told_answer (Some xs) after text conf new answer h told l =
-  let P : List ℕ → Type 0 = λ t. ParseAnswers t conf answer new in subst P told.0 (answered text conf new answer h l)
+    let P : List ℕ → Type 0 = λ t. ParseAnswers t conf answer new in subst P told.0 (answered text conf new answer h l)
 
 pub stops : (n : ℕ) (text line behind : List ℕ) (conf new : ResolvConf) (e : Error) → lines_of text ≡ line ∷ lines_of behind
     → LineAnswers n line conf (Err e) new → LinesAnswer n (lines_of text) conf (Err e) new
 stops n text line behind conf new e first h =
-  let P : List (List ℕ) → Type 0 = λ ls. LinesAnswer n ls conf (Err e) new in
-  subst P (sym first) (bad_line n line (lines_of behind) conf new e h)
+    let P : List (List ℕ) → Type 0 = λ ls. LinesAnswer n ls conf (Err e) new in
+    subst P (sym first) (bad_line n line (lines_of behind) conf new e h)
 
 pub goes_on : (n : ℕ) (text line behind : List ℕ) (conf mid new : ResolvConf) (answer : Result (Unit {0}) Error)
     → lines_of text ≡ line ∷ lines_of behind → LineAnswers n line conf (Ok tt) mid
     → LinesAnswer (n + 1) (lines_of behind) mid answer new → LinesAnswer n (lines_of text) conf answer new
 goes_on n text line behind conf mid new answer first h rest =
-  let P : List (List ℕ) → Type 0 = λ ls. LinesAnswer n ls conf answer new in
-  subst P (sym first) (good_line n line (lines_of behind) conf mid new answer h rest)
+    let P : List (List ℕ) → Type 0 = λ ls. LinesAnswer n ls conf answer new in
+    subst P (sym first) (good_line n line (lines_of behind) conf mid new answer h rest)
 
 pub ends : (n : ℕ) (text : List ℕ) (conf : ResolvConf) → length text ≡ 0 → LinesAnswer n (lines_of text) conf (Ok tt) conf
 ends n [] conf e = no_line n conf

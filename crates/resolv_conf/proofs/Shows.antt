@@ -1,5 +1,5 @@
 -- The words of an options line.
-use Rattle.std.proofs.Common.{◌≡◌, ◌++◌, ◌||◌, ℕ, Bool, true, false, List, [], ◌∷◌, map, refl, ap, sym, ◌∙◌, codes, cond, not, ◌==◌, ◌/◌}
+use Rattle.std.proofs.Common.{◌≡◌, ◌++◌, ◌||◌, ℕ, Bool, true, false, List, [], ◌∷◌, map, refl, ap, ◌∙◌, codes, cond, not, ◌==◌, ◌/◌}
 use Rattle.std.specs.Fmt.{decimal}
 use Rattle.std.specs.List.{list_any, flat_map}
 use Rattle.resolv_conf.specs.declared.show.OptionWord.{OptionWord}
@@ -17,13 +17,13 @@ texts_shown (w ∷ words) = ap (λ t. shown_text (shown_word w) ++ t) (texts_sho
 
 pub none_shown : (words : List OptionWord) → list_any (λ w. w.shown) words ≡ false → line_text (map shown_word words) ≡ []
 none_shown words e =
-  ap (λ b. cond b (codes "options" ++ flat_map shown_text (map shown_word words) ++ 10 ∷ []) []) (any_shown words ∙ e)
+    ap (λ b. cond b (codes "options" ++ flat_map shown_text (map shown_word words) ++ 10 ∷ []) []) (any_shown words ∙ e)
 
 pub some_shown : (words : List OptionWord) → list_any (λ w. w.shown) words ≡ true
     → line_text (map shown_word words) ≡ codes "options" ++ flat_map (λ w. shown_text (shown_word w)) words ++ 10 ∷ []
 some_shown words e =
-  ap (λ b. cond b (codes "options" ++ flat_map shown_text (map shown_word words) ++ 10 ∷ []) []) (any_shown words ∙ e)
-  ∙ ap (λ t. codes "options" ++ t ++ 10 ∷ []) (texts_shown words)
+    ap (λ b. cond b (codes "options" ++ flat_map shown_text (map shown_word words) ++ 10 ∷ []) []) (any_shown words ∙ e)
+    ∙ ap (λ t. codes "options" ++ t ++ 10 ∷ []) (texts_shown words)
 
 pub beside : {A : Type 0} {x y : A} {xs ys : List A} → x ≡ y → xs ≡ ys → x ∷ xs ≡ y ∷ ys
 beside e f = cc

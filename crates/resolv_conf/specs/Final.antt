@@ -13,7 +13,8 @@ or_root (name ∷ names) = name ∷ names
 abbrev pub finalized : ResolvConf → ResolvConf
 finalized conf = record {
   servers = map (with_timeout conf.options.timeout) (or_this_host conf.servers);
-  options = record conf.options { search = or_root conf.options.search } }
+  options = record conf.options { search = or_root conf.options.search };
+}
 
 -- The laws of finalizing: twice is once, and there are then a server and a suffix.
 pub record FinalLaws : Type 0 where

@@ -1,8 +1,10 @@
 pub mod Conf
 pub mod Error
 pub mod Fault
+pub mod Files
 pub mod Final
 pub mod Line
+pub mod MemFiles
 pub mod Number
 pub mod OptionWord
 pub mod Options

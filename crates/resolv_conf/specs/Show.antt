@@ -1,5 +1,5 @@
 -- What is printed of a configuration.
-use Rattle.std.specs.Prelude.{◌==◌, ℕ, ◌/◌, List, [], ◌∷◌, ◌++◌, map, codes, decimal, Bool, not, Option, Some, None, flat_map, if◌then◌else◌}
+use Rattle.std.specs.Prelude.{◌==◌, ℕ, ◌/◌, List, [], ◌∷◌, ◌++◌, codes, decimal, Bool, not, flat_map, if◌then◌else◌}
 use Rattle.std.specs.List.{list_any}
 use Rattle.dns_values.specs.Address.{address_text, socket_address_text}
 use Rattle.dns_names.specs.Name.{Labels}

@@ -153,7 +153,11 @@ impl OptionsLine<'_> {
         let o = self.0;
         [
             number("ndots", o.ndots != 1, o.ndots as u64),
-            number("timeout", o.timeout.as_micros() != DEFAULT_TIMEOUT, o.timeout.as_secs()),
+            number(
+                "timeout",
+                o.timeout.as_micros() != DEFAULT_TIMEOUT,
+                o.timeout.as_secs(),
+            ),
             number("attempts", o.attempts != 2, o.attempts as u64),
             flag("aa-only", o.aa_only),
             flag("use-vc", o.use_vc),

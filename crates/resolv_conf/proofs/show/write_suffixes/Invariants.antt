@@ -6,4 +6,4 @@ use Rattle.resolv_conf.proofs.show.write_suffixes.Given as goal
 
 abbrev pub invariant-loop-suffix : goal.invariant-loop-suffix
 invariant-loop-suffix g l =
-  IsPlainFormatter l.fn.f → HasWritten g.W.Write.write_str_gives l.fn.f (flat_map suffix_text (take l.suffix-index l.suffixes)) l.f
+    IsPlainFormatter l.fn.f → HasWritten g.W.Write.write_str_gives l.fn.f (flat_map suffix_text (take l.suffix-index l.suffixes)) l.f

@@ -7,4 +7,4 @@ use Rattle.resolv_conf.proofs.show.write_words.Given as goal
 
 abbrev pub invariant-loop-word : goal.invariant-loop-word
 invariant-loop-word g l =
-  IsPlainFormatter l.fn.f → HasWritten g.W.Write.write_str_gives l.fn.f (flat_map (λ w. shown_text (shown_word w)) (take l.word-index l.words)) l.f
+    IsPlainFormatter l.fn.f → HasWritten g.W.Write.write_str_gives l.fn.f (flat_map (λ w. shown_text (shown_word w)) (take l.word-index l.words)) l.f

@@ -1,10 +1,9 @@
-use Rattle.std.proofs.Common.{arith}
 use Rattle.resolv_conf.proofs.Parses.{not_long, not_unread, told_answer}
 use Rattle.resolv_conf.proofs.conf.ResolvConf.parse.Goals as goal
 
 pub returns-clause-answer : goal.returns-clause-answer
 returns-clause-answer g c =
-  told_answer (g.S.Source.left c.args.source.now) (g.S.Source.left c.read_to_end.new.source) c.in_ok-text.text.items c.args.self.now
+    told_answer (g.S.Source.left c.args.source.now) (g.S.Source.left c.read_to_end.new.source) c.in_ok-text.text.items c.args.self.now
     c.take_lines.new.self c.take_lines.result c.in_ok-text.ensures.fits c.in_ok-text.ensures.whole
     (rw c.deref.ensures.value at c.take_lines.ensures)
 

@@ -1,4 +1,4 @@
-use Rattle.std.proofs.Common.{◌≡◌, ◌+◌, ◌≤◌, ℕ, length, Result}
+use Rattle.std.proofs.Common.{◌+◌, ◌≤◌, length, Result}
 use Rattle.resolv_conf.specs.declared.conf.ResolvConf.{ResolvConf}
 use Rattle.resolv_conf.specs.declared.error.Error.{Error}
 use Rattle.resolv_conf.specs.Parse.{LinesAnswer}

@@ -6,7 +6,7 @@ use Rattle.resolv_conf.proofs.show.OptionsLine.words.Goals as goal
 pub returns : goal.returns
 unfolding option_texts
 returns c =
-  beside c.number.ensures
+    beside c.number.ensures
     (beside (c.number-2.ensures ∙ timeout_word c.as_micros.result c.as_secs.result c.args.self.now.0.now.timeout c.as_micros.ensures.micros c.as_secs.ensures)
     (beside c.number-3.ensures
     (beside c.flag.ensures
