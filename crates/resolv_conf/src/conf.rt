@@ -1,6 +1,6 @@
 //! The configuration of a resolver.
 
-ghost use Rattle.std.specs.Prelude.{◌≡◌, [], MatchResult};
+ghost use Rattle.std.specs.Prelude.{◌≡◌, [], IfOk, MatchResult};
 ghost use Rattle.resolv_conf.specs.Final.{finalized, FinalLaws};
 ghost use Rattle.resolv_conf.specs.Conf.{default_options};
 
@@ -46,6 +46,15 @@ impl ResolvConf {
         }
         self.servers.set_request_timeout(self.options.timeout);
         Ok(())
+    }
+
+    /// The same servers and options.
+    pub fn try_clone(&self, alloc: Global) -> Result<ResolvConf, NoMemory>
+        ensures { IfOk result (λ c. c ≡ self.now) }
+    {
+        let servers = self.servers.try_clone(alloc)?;
+        let options = self.options.try_clone(alloc)?;
+        Ok(ResolvConf { servers, options })
     }
 }
 

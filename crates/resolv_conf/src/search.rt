@@ -81,4 +81,15 @@ impl SearchList {
     {
         self.suffixes.as_slice()
     }
+
+    /// The same suffixes.
+    pub fn try_clone(&self, alloc: Global) -> Result<SearchList, NoMemory>
+        ensures { IfOk result (λ s. s ≡ self.now) }
+    {
+        let mut list = SearchList::new(alloc);
+        for suffix in self.as_slice() {
+            list.push(suffix.try_clone(alloc)?)?;
+        }
+        Ok(list)
+    }
 }

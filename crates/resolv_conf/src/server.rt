@@ -112,4 +112,12 @@ impl Servers {
             server.request_timeout = timeout;
         }
     }
+
+    /// The same servers.
+    pub fn try_clone(&self, alloc: Global) -> Result<Servers, NoMemory>
+        ensures { IfOk result (λ s. s ≡ self.now) }
+    {
+        let items = Vec::from_slice(alloc, self.as_slice())?;
+        Ok(Servers { items })
+    }
 }
