@@ -98,9 +98,9 @@ fn read_search(alloc: Global, mut words: SplitWhitespace<'_>) -> Result<SearchLi
     let mut list = SearchList::new(alloc);
     let mut rooted = false;
     while let Some(word) = next_word(&mut words) {
-        let name = Name::from_text(alloc, word)?;
-        rooted = rooted || name.is_root();
-        list.push(name)?;
+        let suffix = Name::from_text(alloc, word)?;
+        rooted = rooted || suffix.is_root();
+        list.push(suffix)?;
     }
     if !rooted {
         list.push_root(alloc)?;
