@@ -48,14 +48,15 @@ class Writer:
 
     def name(self):
         rng = self.rng
+        before = list(self.places)
         for _ in range(rng.choice([0, 1, 1, 2, 2, 3])):
             self.places.append(len(self.octets))
             label = rng.randbytes(rng.choice([1, 2, 3, 7, 20, 63]))
             if rng.random() < 0.7:
                 label = bytes([rng.choice(b"abcXYZ-1") for _ in label])
             self.octets += bytes([len(label)]) + label
-        if self.places and rng.random() < 0.6:
-            place = rng.choice(self.places)
+        if before and rng.random() < 0.6:
+            place = rng.choice(before)
             if place < 0x4000:
                 self.places.append(len(self.octets))
                 self.octets += (0xC000 | place).to_bytes(2, "big")
@@ -109,7 +110,7 @@ class Writer:
         self.octets += b"\0\0"
         self.data(rtype)
         length = len(self.octets) - at - 2
-        if rng.random() < 0.1:
+        if rng.random() < 0.02:
             length = max(0, length + rng.choice([-2, -1, 1, 2]))
         self.octets[at:at + 2] = length.to_bytes(2, "big")
 
@@ -129,7 +130,7 @@ class Writer:
 def mangled(rng, octets):
     """A message with a few octets changed, cut, or doubled."""
     out = bytearray(octets)
-    for _ in range(rng.choice([0, 0, 0, 1, 1, 2, 5])):
+    for _ in range(rng.choice([0, 0, 0, 0, 0, 1, 1, 2, 5])):
         way = rng.randrange(4)
         at = rng.randrange(len(out)) if out else 0
         if way == 0 and out:
