@@ -8,6 +8,7 @@ pub mod OptRecord
 pub mod Canonical
 pub mod RecordData
 pub mod Knowing
+pub mod DataReading
 pub mod Draft
 pub mod Holding
 pub mod DraftLaws

@@ -6,6 +6,7 @@ ghost use Rattle.dns_values.specs.declared.error.ParseError.{ParseError};
 ghost use Rattle.dns_base.specs.Data.{data_at, data_spelling, is_of_type};
 ghost use Rattle.dns_base.specs.Message.{Known, record_at, items_at};
 ghost use Rattle.dns_base.specs.RecordData.{data_view};
+ghost use Rattle.dns_base.specs.DataReading.{DataReadsAs};
 
 use crate::numbers::{u16_at, u32_at};
 use crate::record_data::{RecordData, data_at};
@@ -79,6 +80,7 @@ impl<'a> Record<'a> {
     /// The data, read by its type. Refused exactly where its parts don't fill it.
     pub fn data(&self) -> Result<RecordData<'a>, ParseError>
         ensures says { MatchResult result (λ d. self.now.says ≡ Some (data_view d)) (λ _. self.now.says ≡ None) }
+        ensures itself { IfOk result (λ d. DataReadsAs self.now (data_view d)) }
         ensures typed { IfOk result (λ d. IsTrue (is_of_type self.now.entry.rtype (data_view d))) }
         ensures short { IfOk result (λ d. length (data_spelling (data_view d)) < 65536) }
     {
