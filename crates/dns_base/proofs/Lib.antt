@@ -2,6 +2,7 @@ pub mod Aliases
 pub mod Holding
 pub mod Lists
 pub mod ReadData
+pub mod Readings
 pub mod Sizes
 pub mod SpelledData
 pub mod SpelledEntries

@@ -4,6 +4,7 @@ pub mod Sections
 pub mod Data
 pub mod Message
 pub mod Answering
+pub mod ReadingLaws
 pub mod OptRecord
 pub mod Canonical
 pub mod RecordData
