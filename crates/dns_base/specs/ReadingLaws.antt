@@ -11,7 +11,15 @@ pub record ItemsAre (octets : List ℕ) (questions : List Asked) (answer authori
   pub authority_is : option_and_then all_read (authority_items octets) ≡ Some authority
   pub additional_is : option_and_then all_read (additional_items octets) ≡ Some additional
 
+-- Each section has as many entries as its count says.
+pub record AreCounted (r : Reading) : Type 0 where
+  pub questions : length r.questions ≡ r.counts.questions
+  pub answer : length r.answer ≡ r.counts.answer
+  pub authority : length r.authority ≡ r.counts.authority
+  pub additional : length r.additional ≡ r.counts.additional
+
 pub record ReadingLaws : Type 0 where
+  pub are_counted : (octets : List ℕ) (r : Reading) → reads octets ≡ Some r → AreCounted r
   pub items_are_read : (octets : List ℕ) (r : Reading) → reads octets ≡ Some r → ItemsAre octets r.questions r.answer r.authority r.additional
   pub read_is_items : (octets : List ℕ) (questions : List Asked) (answer authority additional : List Known) → 12 ≤ length octets → ItemsAre octets questions answer authority additional
       → reads octets ≡ Some (record {

@@ -101,6 +101,7 @@ impl<'a> OptRecord<'a> {
         self.flags
     }
 
+    /// The version of the extension, 0 as yet.
     pub fn version(&self) -> u8
         ensures { result ≡ self.now.version }
     {

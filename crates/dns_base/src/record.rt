@@ -44,18 +44,21 @@ impl<'a> Model for Record<'a> {
 }
 
 impl<'a> Record<'a> {
+    /// The name that the record belongs to.
     pub fn owner(&self) -> ParsedName<'a>
         ensures { result ≡ self.now.entry.owner }
     {
         self.owner.again()
     }
 
+    /// The type, which says how the data is read.
     pub fn rtype(&self) -> Rtype
         ensures { result.0 ≡ self.now.entry.rtype }
     {
         self.rtype
     }
 
+    /// The class; that of an OPT record is a size.
     pub fn class(&self) -> Class
         ensures { result.0 ≡ self.now.entry.class }
     {
