@@ -7,5 +7,6 @@ pub mod Sizes
 pub mod SpelledData
 pub mod SpelledEntries
 pub mod Stands
+pub mod Steps
 pub mod Whole
 pub mod Worked

@@ -13,3 +13,4 @@ pub mod DataReading
 pub mod Draft
 pub mod Holding
 pub mod DraftLaws
+pub mod DraftSteps
