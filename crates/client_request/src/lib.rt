@@ -4,17 +4,32 @@
 //! socket is put out as data.
 #![tactic(auto)]
 
+mod board;
+mod compose;
+mod cx;
 mod error;
 mod event;
 mod fault;
+mod limits;
 mod list_words;
 mod lists;
 mod request;
+mod response;
+mod send;
+mod timers;
 mod words;
 
+pub use board::{Board, Posted};
+pub use compose::ComposeRequest;
+pub use cx::{Cx, Signal};
 pub use error::{CopyRecordsError, Error, QueryError, QueryErrorKind};
 pub use event::{Event, Moment, Out, Row, Trace, Via, What};
 pub use fault::Fault;
+pub use limits::DefMinMax;
 pub use list_words::ListWords;
 pub use lists::{Events, Outs, Rows, WordList};
 pub use request::RequestMessage;
+pub use response::{GetResponse, Poll, take_response};
+pub use send::SendRequest;
+pub use timers::{Timer, TimerId, Timers};
+pub use words::Words;

@@ -1,10 +1,18 @@
 //! Octets and the small values of the DNS: no messages and no names.
 #![tactic(auto)]
 
+mod address;
+mod duration;
 mod error;
+mod laws;
 mod numbers;
 mod octets;
+#[cfg(test)]
+mod tests;
 
+pub use address::{IpAddr, SocketAddr};
+pub use duration::Duration;
 pub use error::{Failed, LongName, LongOptData, NoMemory, ParseError, ShortMessage};
+pub use laws::address_laws;
 pub use numbers::{Class, Opcode, OptRcode, Rcode, Rtype, Section, Serial, Status, Ttl};
 pub use octets::Octets;

@@ -1,0 +1,30 @@
+-- The board: parts for tickets, in the order in which they were put.
+use Rattle.std.specs.Prelude.{ℕ, ◌==◌, List, [], ◌∷◌, ◌++◌, Option, Some, None, option_map, option_and_then, Result, slice_get}
+use Rattle.std.specs.List.{position, remove}
+use Rattle.client_request.specs.declared.error.Error.{Error}
+use Rattle.client_request.specs.declared.board.Posted.{Posted}
+
+abbrev pub Part : Type 0
+Part = Result (Option (List ℕ)) Error
+
+abbrev pub posted : ℕ → Part → List Posted → List Posted
+posted ticket part ps = ps ++ record { ticket = ticket; part = part } ∷ []
+
+abbrev pub place_of : ℕ → List Posted → Option ℕ
+place_of ticket ps = position (λ p. p.ticket == ticket) ps
+
+-- the oldest part of a ticket
+abbrev pub part_of : ℕ → List Posted → Option Part
+part_of ticket ps = option_and_then (λ i. option_map (λ p. p.part) (slice_get ps i)) (place_of ticket ps)
+
+abbrev pub removed_at : List Posted → Option ℕ → List Posted
+removed_at ps None = ps
+removed_at ps (Some i) = remove ps i
+
+-- without the oldest part of a ticket
+abbrev pub without_part : ℕ → List Posted → List Posted
+without_part ticket ps = removed_at ps (place_of ticket ps)
+
+-- the ticket whose part was put first
+abbrev pub oldest : List Posted → Option ℕ
+oldest ps = option_map (λ p. p.ticket) (slice_get ps 0)

@@ -1,0 +1,86 @@
+//! Results by ticket.
+
+ghost use Rattle.std.specs.Prelude.{◌≡◌, ◌==◌, ◌<◌, ◌++◌, ◌∷◌, [], length, position, option_map, OnOk, OnErr, IfSome, slice_get};
+ghost use Rattle.client_request.specs.Board.{part_of, without_part, posted, oldest};
+
+use crate::error::Error;
+use dns_base::{Message, NoMemory};
+use std::alloc::Global;
+use std::collections::VecDeque;
+use std::marker::Model;
+
+/// What a request may get: a message, the end of a transfer (`None`), or an error.
+pub type Part = Result<Option<Message>, Error>;
+
+/// A part that stands for a ticket.
+#[derive(Drop)]
+pub struct Posted {
+    pub ticket: u64,
+    pub part: Result<Option<Message>, Error>,
+}
+
+/// The parts that were put and not taken, in the order in which they were put.
+#[derive(Drop)]
+pub struct Board {
+    posted: VecDeque<Posted>,
+}
+
+impl Model for Board {
+    ghost use Rattle.std.specs.Prelude.{List};
+    ghost use Rattle.client_request.specs.declared.board.Posted.{Posted};
+
+    ghost Value = { List Posted };
+
+    ghost view = { λ b. b.posted.items };
+}
+
+fn place_of(posted: &VecDeque<Posted>, ticket: u64) -> Option<usize>
+    ensures value { result ≡ position (λ p. p.ticket == ticket) posted.now.items }
+    ensures within { IfSome result (λ i. i < length posted.now.items) }
+{
+    posted.iter().position(|p| p.ticket == ticket)
+}
+
+impl Board {
+    pub fn new(alloc: Global) -> Board
+        ensures { result ≡ [] }
+    {
+        Board {
+            posted: VecDeque::new(alloc),
+        }
+    }
+
+    /// Puts a part for a ticket behind all others. After want of memory nothing was put.
+    pub fn put(&mut self, ticket: u64, part: Result<Option<Message>, Error>) -> Result<(), NoMemory>
+        ensures ok { OnOk result (self.new ≡ posted ticket part self.old) }
+        ensures err { OnErr result (self.new ≡ self.old) }
+    {
+        match self.posted.push_back(Posted { ticket, part }) {
+            Ok(()) => Ok(()),
+            Err(_) => Err(NoMemory),
+        }
+    }
+
+    /// Takes the oldest part of a ticket.
+    pub fn take(&mut self, ticket: u64) -> Option<Result<Option<Message>, Error>>
+        ensures value { result ≡ part_of ticket self.old }
+        ensures rest { self.new ≡ without_part ticket self.old }
+    {
+        let i = place_of(&self.posted, ticket)?;
+        match self.posted.remove(i) {
+            Some(posted) => {
+                let Posted { ticket: _, part } = posted;
+                Some(part)
+            }
+            None => None,
+        }
+    }
+
+    /// The ticket whose part was put first, of all that stand.
+    pub fn oldest(&self) -> Option<u64>
+        ensures { result ≡ oldest self.now }
+    {
+        let posted = self.posted.get(0)?;
+        Some(posted.ticket)
+    }
+}

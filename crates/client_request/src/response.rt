@@ -1,0 +1,60 @@
+//! What stands for a result to come.
+
+ghost use Rattle.std.specs.Prelude.{◌≡◌, ℕ, Bool};
+ghost use Rattle.client_request.specs.Response.{response_of, board_after, is_ready};
+
+use crate::board::Board;
+use crate::error::Error;
+use dns_base::Message;
+
+/// Whether a result has come.
+#[derive(Debug, Drop)]
+pub enum Poll<T> {
+    Ready(T),
+    Pending,
+}
+
+/// What stands for the result of one request.
+pub trait GetResponse: Drop {
+    ghost ticket_of: { Self → ℕ };
+
+    ghost has_given: { Self → Bool };
+
+    /// The result, where it stands on the board, which then has it no more. Once it was given the
+    /// answer is `AlreadyDone`.
+    fn get_response(&mut self, board: &mut Board) -> Poll<Result<Message, Error>>
+        ensures value { result ≡ response_of (has_given self.old) (ticket_of self.old) board.old }
+        ensures taken { board.new ≡ board_after (has_given self.old) (ticket_of self.old) board.old }
+        ensures given { has_given self.new ≡ is_ready result }
+        ensures ticket { ticket_of self.new ≡ ticket_of self.old };
+
+    /// The number under which its result is put on the board.
+    fn ticket(&self) -> u64
+        ensures { result ≡ ticket_of self.now };
+}
+
+/// The result of the request with a ticket, of which `given` says whether it was given before.
+pub fn take_response(
+    board: &mut Board,
+    ticket: u64,
+    given: &mut bool,
+) -> Poll<Result<Message, Error>>
+    ensures value { result ≡ response_of given.old ticket board.old }
+    ensures taken { board.new ≡ board_after given.old ticket board.old }
+    ensures given { given.new ≡ is_ready result }
+{
+    if *given {
+        return Poll::Ready(Err(Error::AlreadyDone));
+    }
+    match board.take(ticket) {
+        None => Poll::Pending,
+        Some(part) => {
+            *given = true;
+            match part {
+                Ok(Some(message)) => Poll::Ready(Ok(message)),
+                Ok(None) => Poll::Ready(Err(Error::ConnectionClosed)),
+                Err(error) => Poll::Ready(Err(error)),
+            }
+        }
+    }
+}

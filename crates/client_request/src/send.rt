@@ -1,0 +1,69 @@
+//! The trait of a transport.
+
+ghost use Rattle.std.specs.Prelude.{◌≡◌, ℕ, Bool, true, false, Option, Some, None, OnOk, OnErr, IfOk, IfErr, IsErrOf, Err};
+ghost use Rattle.client_request.specs.View.{View, Heard, Step};
+ghost use Rattle.client_request.specs.Cx.{view_of, heard, LendsTheSame};
+ghost use Rattle.client_request.specs.Response.{IsRefusal};
+
+use crate::cx::{Cx, Signal};
+use crate::error::Error;
+use crate::response::GetResponse;
+use crate::words::Words;
+
+/// A transport: each call is the step of the plain machine that its ghost members say.
+///
+/// The three calls answer `NoMemory`, `NumbersUsed` (a number would pass the greatest `u64`) or
+/// `Failed` by `Err`; every other error is a request's result on the board. After `NoMemory` or
+/// `NumbersUsed` the object is failed: each later call answers `Failed` and changes nothing.
+pub trait SendRequest<CR> {
+    type Response: GetResponse;
+
+    /// Whether an earlier call gave up.
+    ghost has_failed: { Self → Bool };
+
+    ghost plain_send: { CR → Step Self };
+
+    ghost plain_step: { Heard → Step Self };
+
+    ghost plain_cancel: { Self.Response → Step Self };
+
+    /// Takes a request on. Its result will stand on the board under the response's ticket.
+    fn send_request<W: Words>(
+        &mut self,
+        cx: &mut Cx<'_, W>,
+        request: CR,
+    ) -> Result<Self::Response, Error>
+        ensures lends { LendsTheSame cx.old cx.new }
+        ensures ok { OnOk result (plain_send request self.old (view_of W.stream cx.old) ≡ Some (self.new, view_of W.stream cx.new)) }
+        ensures ticket { IfOk result (λ r. Self.Response.ticket_of r ≡ cx.old.ticket) }
+        ensures waits { IfOk result (λ r. Self.Response.has_given r ≡ false) }
+        ensures numbers { IsErrOf result Error.NumbersUsed → plain_send request self.old (view_of W.stream cx.old) ≡ None }
+        ensures refused { IfErr result IsRefusal }
+        ensures err { OnErr result (has_failed self.new ≡ true) }
+        ensures failed { has_failed self.old ≡ true → (result ≡ Err Error.Failed) × (self.new ≡ self.old) × (view_of W.stream cx.new ≡ view_of W.stream cx.old) }
+        ensures failed_only { IsErrOf result Error.Failed → has_failed self.old ≡ true };
+
+    /// Hears what happened.
+    fn step<W: Words>(&mut self, cx: &mut Cx<'_, W>, signal: Signal<'_>) -> Result<(), Error>
+        ensures lends { LendsTheSame cx.old cx.new }
+        ensures ok { OnOk result (plain_step (heard signal.entry) self.old (view_of W.stream cx.old) ≡ Some (self.new, view_of W.stream cx.new)) }
+        ensures numbers { IsErrOf result Error.NumbersUsed → plain_step (heard signal.entry) self.old (view_of W.stream cx.old) ≡ None }
+        ensures refused { IfErr result IsRefusal }
+        ensures err { OnErr result (has_failed self.new ≡ true) }
+        ensures failed { has_failed self.old ≡ true → (result ≡ Err Error.Failed) × (self.new ≡ self.old) × (view_of W.stream cx.new ≡ view_of W.stream cx.old) }
+        ensures failed_only { IsErrOf result Error.Failed → has_failed self.old ≡ true };
+
+    /// Gives a request up, whose result then never comes.
+    fn cancel<W: Words>(
+        &mut self,
+        cx: &mut Cx<'_, W>,
+        response: Self::Response,
+    ) -> Result<(), Error>
+        ensures lends { LendsTheSame cx.old cx.new }
+        ensures ok { OnOk result (plain_cancel response self.old (view_of W.stream cx.old) ≡ Some (self.new, view_of W.stream cx.new)) }
+        ensures numbers { IsErrOf result Error.NumbersUsed → plain_cancel response self.old (view_of W.stream cx.old) ≡ None }
+        ensures refused { IfErr result IsRefusal }
+        ensures err { OnErr result (has_failed self.new ≡ true) }
+        ensures failed { has_failed self.old ≡ true → (result ≡ Err Error.Failed) × (self.new ≡ self.old) × (view_of W.stream cx.new ≡ view_of W.stream cx.old) }
+        ensures failed_only { IsErrOf result Error.Failed → has_failed self.old ≡ true };
+}
