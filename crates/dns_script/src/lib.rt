@@ -3,5 +3,7 @@
 //! A trace is printed as a text that is read back as that trace, and no other text is read.
 #![tactic(auto)]
 
-mod trace_text;
+mod printing;
 mod words;
+
+pub use printing::trace_text;
