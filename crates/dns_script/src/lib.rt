@@ -3,6 +3,7 @@
 //! A trace is printed as a text that is read back as that trace, and no other text is read.
 #![tactic(auto)]
 
+mod line;
 mod printing;
 mod words;
 

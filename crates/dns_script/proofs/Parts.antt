@@ -1,0 +1,28 @@
+-- The parts of octets: the first ends at the first separator.
+use Rattle.std.proofs.Common.{◌≡◌, ℕ, ◌+◌, ◌-◌, ◌<◌, ◌≤◌, true, eqb, ltb, List, [], ◌∷◌, length, take, drop, Option, Some, None, refl, sym, ◌∙◌, subst, arith, inl, inr}
+use Rattle.std.specs.List.{position, position_or_len}
+use Rattle.std.proofs.lemmas.Bool.{cases_lt, lt-ltb, ltb-true, cond-true}
+use Rattle.std.proofs.lemmas.List.{take_rest}
+use Rattle.std.proofs.lemmas.List.Splits.{slice_split_first, slice_split_none}
+use Rattle.std.proofs.lemmas.List.Sums.{fails_before_first}
+use Rattle.std.proofs.lemmas.Option.{cond_some, none-some}
+use Rattle.dns_script.specs.Reading.{parts}
+
+none_passes : (s : ℕ) (xs : List ℕ) → position (λ o. eqb o s) xs ≡ None → length xs ≤ position_or_len (λ o. eqb o s) xs
+none_passes s xs e =
+    elim (cases_lt (position_or_len (λ o. eqb o s) xs) (length xs)) [
+      | inl lt ↦ absurd (none-some _ (sym e ∙ cond-true (ltb (position_or_len (λ o. eqb o s) xs) (length xs)) (Some (position_or_len (λ o. eqb o s) xs)) None (lt-ltb _ _ lt)))
+      | inr le ↦ le
+    ]
+
+pub parts_none : (s : ℕ) (xs : List ℕ) → position (λ o. eqb o s) xs ≡ None → parts s xs ≡ xs ∷ []
+parts_none s xs e =
+    let le = none_passes s xs e in
+    slice_split_none (λ o. eqb o s) xs (λ k d h. fails_before_first (λ o. eqb o s) xs k d (omega arith))
+
+pub parts_some : (s : ℕ) (xs : List ℕ) (i : ℕ) → position (λ o. eqb o s) xs ≡ Some i → parts s xs ≡ take i xs ∷ parts s (take (length xs - (i + 1)) (drop (i + 1) xs))
+parts_some s xs i e =
+    let p = λ (o : ℕ). eqb o s in
+    let found = cond_some (ltb (position_or_len p xs) (length xs)) (position_or_len p xs) i e in
+    let split : parts s xs ≡ take (position_or_len p xs) xs ∷ parts s (drop (position_or_len p xs + 1) xs) = slice_split_first p xs 0 (ltb-true _ _ found.0) in
+    rw take_rest (subst (λ (k : ℕ). parts s xs ≡ take k xs ∷ parts s (drop (k + 1) xs)) found.1 split)
