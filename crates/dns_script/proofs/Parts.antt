@@ -1,9 +1,9 @@
 -- The parts of octets: the first ends at the first separator.
-use Rattle.std.proofs.Common.{◌≡◌, ℕ, ◌+◌, ◌-◌, ◌<◌, ◌≤◌, true, eqb, ltb, List, [], ◌∷◌, length, take, drop, Option, Some, None, refl, sym, ◌∙◌, subst, arith, inl, inr}
+use Rattle.std.proofs.Common.{◌≡◌, ◌≢◌, ap, ℕ, ◌+◌, ◌-◌, ◌<◌, ◌≤◌, true, eqb, ltb, List, [], ◌∷◌, length, take, drop, Option, Some, None, refl, sym, ◌∙◌, subst, arith, inl, inr}
 use Rattle.std.specs.List.{position, position_or_len}
 use Rattle.std.proofs.lemmas.Bool.{cases_lt, lt-ltb, ltb-true, cond-true}
 use Rattle.std.proofs.lemmas.List.{take_rest}
-use Rattle.std.proofs.lemmas.List.Splits.{slice_split_first, slice_split_none}
+use Rattle.std.proofs.lemmas.List.Splits.{length-slice_split, slice_split_first, slice_split_none}
 use Rattle.std.proofs.lemmas.List.Sums.{fails_before_first}
 use Rattle.std.proofs.lemmas.Option.{cond_some, none-some}
 use Rattle.dns_script.specs.Reading.{parts}
@@ -26,3 +26,6 @@ parts_some s xs i e =
     let found = cond_some (ltb (position_or_len p xs) (length xs)) (position_or_len p xs) i e in
     let split : parts s xs ≡ take (position_or_len p xs) xs ∷ parts s (drop (position_or_len p xs + 1) xs) = slice_split_first p xs 0 (ltb-true _ _ found.0) in
     rw take_rest (subst (λ (k : ℕ). parts s xs ≡ take k xs ∷ parts s (drop (k + 1) xs)) found.1 split)
+
+pub parts_not_nil : (s : ℕ) (xs : List ℕ) → parts s xs ≢ []
+parts_not_nil s xs e = absurd (omega (arith, length-slice_split (λ o. eqb o s) xs, ap length e))

@@ -29,6 +29,12 @@ Gives (Ok x) rest read = read ≡ Some (x, rest)
 Gives (Err line.Refused) rest read = read ≡ None
 Gives (Err line.NoMemory) rest read = Unit {0}
 
+-- the same of what a function returned, seen by view, where it leaves nothing
+abbrev pub Reads : {X A : Type 0} → (X → A) → Result X LineFault → Option A → Type 0
+Reads view (Ok x) read = read ≡ Some (view x)
+Reads view (Err line.Refused) read = read ≡ None
+Reads view (Err line.NoMemory) read = Unit {0}
+
 infixl 10 ◌>>=◌
 abbrev pub ◌>>=◌ : {A B : Type 0} → Option A → (A → Option B) → Option B
 o >>= f = option_and_then f o

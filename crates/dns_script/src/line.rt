@@ -1,10 +1,11 @@
 //! The words of a line, and what they say.
 
-ghost use Rattle.std.specs.Prelude.{◌≡◌, ◌==◌, ◌∷◌, [], MatchOption, IfSome, length, ◌<◌};
+ghost use Rattle.std.specs.Prelude.{◌≡◌, ◌≢◌, ◌==◌, MatchResult, ◌∷◌, [], MatchOption, IfSome, length, ◌<◌, ◌≤◌};
 ghost use Rattle.std.specs.List.{position};
-ghost use Rattle.dns_script.specs.Reading.{parts, words_of, number_of, octets_of, with_digit, digit_of, octet_of, Gives, one_word};
+ghost use Rattle.dns_script.specs.declared.line.LineFault.TheVariants as line;
+ghost use Rattle.dns_script.specs.Reading.{parts, words_of, number_of, octets_of, with_digit, digit_of, octet_of, Gives, Reads, one_word, pairs};
 
-use dns_base::NoMemory;
+use dns_base::{NoMemory, Octets};
 use std::alloc::{AllocError, AllocFailed, Global};
 use std::marker::Model;
 
@@ -15,6 +16,30 @@ pub(crate) enum LineFault {
     Refused,
     /// Memory ran out.
     NoMemory,
+}
+
+impl From<NoMemory> for LineFault {
+    ghost from_gives = { λ _ e. e ≡ line.NoMemory };
+
+    fn from(_error: NoMemory) -> LineFault {
+        LineFault::NoMemory
+    }
+}
+
+impl From<AllocError> for LineFault {
+    ghost from_gives = { λ _ e. e ≡ line.NoMemory };
+
+    fn from(_error: AllocError) -> LineFault {
+        LineFault::NoMemory
+    }
+}
+
+impl<T: Drop> From<AllocFailed<T>> for LineFault {
+    ghost from_gives = { λ _ e. e ≡ line.NoMemory };
+
+    fn from(_error: AllocFailed<T>) -> LineFault {
+        LineFault::NoMemory
+    }
 }
 
 /// The place of the first separator.
@@ -32,4 +57,141 @@ pub(crate) fn split_first(octets: &[u8], separator: u8) -> Option<(&[u8], &[u8])
 {
     let at = place_of(octets, separator)?;
     Some((&octets[..at], &octets[at + 1..]))
+}
+
+/// A number with one more digit, where it is at most the greatest.
+fn with_digit(greatest: u64, number: u64, digit: u8) -> Option<u64>
+    ensures { result ≡ with_digit greatest number digit }
+{
+    if !digit.is_ascii_digit() {
+        return None;
+    }
+    let more = number.checked_mul(10)?.checked_add((digit - b'0') as u64)?;
+    if more > greatest { None } else { Some(more) }
+}
+
+/// A decimal number without sign or leading zeros that is at most the greatest.
+#[tactic(auto, unfolding(crate::specs::Reading::number_of))]
+fn number_of(greatest: u64, word: &[u8]) -> Option<u64>
+    ensures value { result ≡ number_of greatest word.now }
+    ensures below { IfSome result (λ n. n ≤ greatest) }
+{
+    if word.len() == 0 || (word.len() > 1 && word[0] == b'0') {
+        return None;
+    }
+    let mut number = 0;
+    for digit in word {
+        number = with_digit(greatest, number, *digit)?;
+    }
+    Some(number)
+}
+
+/// The number that a lower-case hexadecimal digit stands for.
+fn digit_of(digit: u8) -> Option<u8>
+    ensures value { result ≡ digit_of digit }
+    ensures small { IfSome result (λ n. n < 16) }
+{
+    if digit.is_ascii_digit() {
+        Some(digit - b'0')
+    } else if digit >= b'a' && digit < b'g' {
+        Some(digit - b'a' + 10)
+    } else {
+        None
+    }
+}
+
+fn octet_of(high: u8, low: u8) -> Option<u8>
+    ensures { result ≡ octet_of high low }
+{
+    let high = digit_of(high)?;
+    let low = digit_of(low)?;
+    Some(16 * high + low)
+}
+
+/// An octet for each two digits.
+fn pairs(alloc: Global, digits: &[u8]) -> Result<Vec<u8>, LineFault>
+    ensures { Reads (λ v. v.items) result (pairs digits.now) }
+{
+    let mut octets = Vec::with_capacity(alloc, digits.len() / 2)?;
+    let mut rest = digits;
+    while let [high, low, behind @ ..] = rest {
+        match octet_of(*high, *low) {
+            None => return Err(LineFault::Refused),
+            Some(octet) => octets.push(octet)?,
+        }
+        rest = behind;
+    }
+    match rest {
+        [] => Ok(octets),
+        _ => Err(LineFault::Refused),
+    }
+}
+
+/// Octets as hexadecimal digits, and a hyphen for no octet.
+#[tactic(auto, unfolding(crate::specs::Reading::octets_of))]
+fn octets_of(alloc: Global, word: &[u8]) -> Result<Octets, LineFault>
+    ensures { Reads (λ o. o) result (octets_of word.now) }
+{
+    if word == b"-".as_slice() {
+        return Ok(Octets::from_slice(alloc, b"")?);
+    }
+    if word.len() == 0 {
+        return Err(LineFault::Refused);
+    }
+    let octets = pairs(alloc, word)?;
+    Ok(Octets::from_vec(octets)?)
+}
+
+/// The words of a line that are left, parted by single blanks.
+#[derive(Drop)]
+pub(crate) struct Words<'a> {
+    /// What stands behind the blank after the last word taken, or None where that word ended the line.
+    rest: Option<&'a [u8]>,
+}
+
+impl<'a> Model for Words<'a> {
+    ghost use Rattle.std.specs.Prelude.{List, ℕ, option_map};
+    ghost use Rattle.dns_script.specs.Reading.{words_left};
+
+    ghost Value = { List (List ℕ) };
+
+    ghost view = { λ w. words_left (option_map (λ rest. rest.now) w.rest) };
+}
+
+impl<'a> Words<'a> {
+    pub(crate) fn of(line: &'a [u8]) -> Words<'a>
+        ensures { result ≡ words_of line.now }
+    {
+        Words { rest: Some(line) }
+    }
+
+    /// Takes the first word.
+    pub(crate) fn word(&mut self) -> Result<&'a [u8], LineFault>
+        ensures { MatchResult result (λ word. self.old ≡ word.now ∷ self.new) (λ e. (e ≡ line.Refused) × (self.old ≡ [])) }
+    {
+        let Some(rest) = self.rest else {
+            return Err(LineFault::Refused);
+        };
+        match split_first(rest, b' ') {
+            None => {
+                self.rest = None;
+                Ok(rest)
+            }
+            Some((word, behind)) => {
+                self.rest = Some(behind);
+                Ok(word)
+            }
+        }
+    }
+
+    /// Refuses words that are left.
+    #[tactic(auto, using(crate::proofs::Parts::parts_not_nil))]
+    pub(crate) fn end(&self) -> Result<(), LineFault>
+        ensures { MatchResult result (λ _. self.now ≡ []) (λ e. (e ≡ line.Refused) × (self.now ≢ [])) }
+    {
+        match self.rest {
+            None => Ok(()),
+            Some(_) => Err(LineFault::Refused),
+        }
+    }
 }
