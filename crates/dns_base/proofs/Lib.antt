@@ -1,3 +1,4 @@
-pub mod Drafts
 pub mod Lists
+pub mod Sizes
+pub mod Whole
 pub mod Worked

@@ -3,7 +3,8 @@ use Rattle.std.proofs.Common.{◌≡◌, ℕ, zero, suc, ◌+◌, List, [], ◌�
 use Rattle.std.specs.Prelude.{Option, Some, None, option_map, slice_range}
 use Rattle.std.proofs.lemmas.List.Edits.{between_more, between_none}
 use Rattle.std.proofs.lemmas.Option.{some_pair_parts}
-use Rattle.dns_base.specs.Message.{list_at, items_at, item_then, all_read, ◌>>=◌}
+use Rattle.dns_base.specs.Message.{list_at, items_at, item_then, all_read}
+use Rattle.dns_base.specs.Numbers.{◌>>=◌}
 use Rattle.dns_names.proofs.Heads.{then_ok}
 
 module _ {A : Type 0} where

@@ -2,7 +2,8 @@
 use Rattle.std.proofs.Common.{◌≡◌, ℕ, List, [], ◌∷◌, ◌++◌, refl, Some, None}
 use Rattle.std.specs.Prelude.{option_map}
 use Rattle.dns_names.specs.Name.{name_at, walk, head_at}
-use Rattle.dns_base.specs.Message.{A, One, Other, data_at, question_at, record_at, list_at, questions_of, answer_of, authority_of, additional_of, reads}
+use Rattle.dns_base.specs.Data.{A, One, Opt, data_at}
+use Rattle.dns_base.specs.Message.{question_at, record_at, list_at, questions_of, answer_of, authority_of, additional_of, reads}
 
 abbrev example : List (List ℕ)
 example = (101 ∷ 120 ∷ 97 ∷ 109 ∷ 112 ∷ 108 ∷ 101 ∷ []) ∷ (99 ∷ 111 ∷ 109 ∷ []) ∷ []
@@ -26,6 +27,7 @@ name_a = refl
 
 pub reads_a : reads a_1234 ≡ Some (record {
   header = 18 ∷ 52 ∷ 0x81 ∷ 0x80 ∷ [];
+  counts = record { questions = 1; answer = 1; authority = 0; additional = 0 };
   questions = record { name = example; rtype = 1; class = 1 } ∷ [];
   answer = record { entry = record { owner = example; rtype = 1; class = 1; ttl = 100; octets = 192 ∷ 0 ∷ 2 ∷ 1 ∷ [] }; says = Some (A (192 ∷ 0 ∷ 2 ∷ 1 ∷ [])) } ∷ [];
   authority = [];
@@ -36,10 +38,11 @@ reads_a = refl
 
 pub reads_s : reads s ≡ Some (record {
   header = 18 ∷ 52 ∷ 1 ∷ 0 ∷ [];
+  counts = record { questions = 1; answer = 0; authority = 0; additional = 1 };
   questions = record { name = example; rtype = 1; class = 1 } ∷ [];
   answer = [];
   authority = [];
-  additional = record { entry = record { owner = []; rtype = 41; class = 1232; ttl = 0; octets = [] }; says = Some (Other []) } ∷ [];
+  additional = record { entry = record { owner = []; rtype = 41; class = 1232; ttl = 0; octets = [] }; says = Some (Opt []) } ∷ [];
 })
 unfolding name_at walk head_at question_at record_at data_at list_at questions_of answer_of authority_of additional_of reads
 reads_s = refl

@@ -1,108 +1,92 @@
--- A message that is being written.
-use Rattle.std.specs.Prelude.{◌≡◌, ℕ, ◌+◌, ◌<◌, ◌≤◌, List, [], ◌∷◌, ◌++◌, length, drop, Option, Some, None, option_map, unwrap_or, Result, Ok, Err, nat_lt, ◌==◌, ◌&&◌, not, Bool, if◌then◌else◌}
+-- A message that is being written. Other crates cite these functions and their laws, and look into none of them.
+use Rattle.std.specs.Prelude.{◌≡◌, ℕ, ◌+◌, ◌≤◌, List, [], ◌∷◌, ◌++◌, length, take, drop, replicate, Option, Some, None, Result, Ok, Err, nat_lt, ◌==◌, Bool, false, if◌then◌else◌}
 use Rattle.std.specs.Int.{w16, w32, to_be_bytes}
-use Rattle.dns_base.specs.declared.builder.PushError.{PushError}
-use Rattle.dns_base.specs.declared.builder.PushError.TheVariants.{Count, Limit, NoMemory}
-use Rattle.dns_names.specs.Name.{same_name, spelling, octet_count}
-use Rattle.dns_base.specs.Message.{Asked, Entry, Known, Other, is_one_name, question_at, record_at, list_at, ◌>>=◌}
-use Rattle.std.specs.Prelude.{IsTrue}
+use Rattle.dns_values.specs.declared.numbers.Section.{Section}
+use Rattle.dns_base.specs.declared.push_error.PushError.{PushError}
+use Rattle.dns_base.specs.declared.push_error.PushError.TheVariants.{Count, Limit, NoMemory}
+use Rattle.dns_names.specs.Name.{Labels, spelling, octet_count}
+use Rattle.dns_base.specs.Header.{Counts}
+use Rattle.dns_base.specs.Sections.{no_entries, entries_in, one_more_in, counts_spelling}
+use Rattle.dns_base.specs.Data.{Data, data_spelling}
+use Rattle.dns_base.specs.Message.{Asked}
 
--- what stands in it, how many octets it has, and the most that it may have
+-- its octets so far, what each section has, and the most octets that it may have
 pub record Draft : Type 0 where
-  pub questions : List Asked
-  pub answer : List Known
-  pub size : ℕ
+  pub octets : List ℕ
+  pub counts : Counts
   pub limit : Option ℕ
 
-abbrev pub Parts : Type 0
-Parts = List Asked × List Known
+-- a record as it is pushed, with what its data says
+pub record Written : Type 0 where
+  pub owner : Labels
+  pub rtype : ℕ
+  pub class : ℕ
+  pub ttl : ℕ
+  pub content : Data
 
--- so many questions and records of the answer, and the place behind them
-unfoldable pub parts_at : List ℕ → ℕ → ℕ → Option (Parts × ℕ)
-parts_at octets questions answers = do
-  asked ← list_at (question_at octets) questions 12
-  known ← list_at (record_at octets) answers asked.1
-  Some ((asked.0, known.0), known.1)
-
-unfoldable pub parts_of : List ℕ → ℕ → ℕ → Parts
-parts_of octets questions answers = unwrap_or (option_map (λ x. x.0) (parts_at octets questions answers)) ([], [])
-
--- All octets are read, whatever the header is and whatever follows.
-pub record IsWritten (octets : List ℕ) (questions answers : ℕ) : Type 0 where
-  pub long : 12 ≤ length octets
-  pub read : (header tail : List ℕ) → length header ≡ 12 →
-      parts_at (header ++ (drop 12 octets ++ tail)) questions answers ≡ Some (parts_of octets questions answers, length octets)
-
--- the same question, but for case
-pub record SameAsked (a b : Asked) : Type 0 where
-  pub name : IsTrue (same_name a.name b.name)
-  pub rtype : a.rtype ≡ b.rtype
-  pub class : a.class ≡ b.class
-
--- the most octets that a question takes
+-- how many octets a question and a record have with their names spelled out
 abbrev pub question_size : Asked → ℕ
 question_size q = octet_count q.name + 4
 
--- A question is read behind the others, and all else stays.
-pub record PushesQuestion (old new : Draft) (q : Asked) : Type 0 where
-  pub asked : Asked
-  pub same : SameAsked asked q
-  pub questions : new.questions ≡ old.questions ++ asked ∷ []
-  pub answer : new.answer ≡ old.answer
-  pub limit : new.limit ≡ old.limit
-  pub grows : old.size < new.size
-  pub at_most : new.size ≤ old.size + question_size q
+abbrev pub record_size : Written → ℕ
+record_size w = octet_count w.owner + 10 + length (data_spelling w.content)
 
--- a record whose data is octets that are not looked into
-abbrev pub is_opaque : ℕ → Bool
-is_opaque rtype = not (rtype == 1) && (not (is_one_name rtype) && not (rtype == 15))
-
-abbrev pub opaque : Entry → Known
-opaque r = record { entry = r; says = Some (Other r.octets) }
-
-abbrev pub record_size : Entry → ℕ
-record_size r = octet_count r.owner + 10 + length r.octets
-
--- the same record, but for case
-pub record SameEntry (a b : Entry) : Type 0 where
-  pub owner : IsTrue (same_name a.owner b.owner)
-  pub rtype : a.rtype ≡ b.rtype
-  pub class : a.class ≡ b.class
-  pub ttl : a.ttl ≡ b.ttl
-  pub octets : a.octets ≡ b.octets
-
--- A record is read behind the others, and all else stays.
-pub record PushesOpaque (old new : Draft) (r : Entry) : Type 0 where
-  pub entry : Entry
-  pub same : SameEntry entry r
-  pub answer : new.answer ≡ old.answer ++ opaque entry ∷ []
-  pub questions : new.questions ≡ old.questions
-  pub limit : new.limit ≡ old.limit
-  pub grows : old.size < new.size
-  pub at_most : new.size ≤ old.size + record_size r
-
-abbrev pub record_spelling : Entry → List ℕ
-record_spelling r =
-    spelling r.owner ++ to_be_bytes w16 r.rtype ++ to_be_bytes w16 r.class ++ to_be_bytes w32 r.ttl ++ to_be_bytes w16 (length r.octets) ++ r.octets
-
--- as this writer spells it
-abbrev pub question_spelling : Asked → List ℕ
+unfoldable pub question_spelling : Asked → List ℕ
 question_spelling q = spelling q.name ++ to_be_bytes w16 q.rtype ++ to_be_bytes w16 q.class
 
--- why so many octets more are refused, where so many entries stand
-abbrev pub past : Option ℕ → ℕ → Option PushError
-past None size = None
-past (Some limit) size = if nat_lt limit size then Some Limit else None
+unfoldable pub record_spelling : Written → List ℕ
+record_spelling w =
+    spelling w.owner ++ to_be_bytes w16 w.rtype ++ to_be_bytes w16 w.class ++ to_be_bytes w32 w.ttl
+    ++ to_be_bytes w16 (length (data_spelling w.content)) ++ data_spelling w.content
 
+-- how many octets it has, and what may be asked of it
+unfoldable pub size : Draft → ℕ
+size d = length d.octets
+
+unfoldable pub limit_of : Draft → Option ℕ
+limit_of d = d.limit
+
+unfoldable pub counts_in : Draft → Counts
+counts_in d = d.counts
+
+unfoldable pub fresh : Option ℕ → Draft
+fresh limit = record { octets = replicate 12 0; counts = no_entries; limit = limit }
+
+unfoldable pub with_header : List ℕ → Draft → Draft
+with_header header d = record d { octets = header ++ drop 4 d.octets }
+
+unfoldable pub pushed_question : Asked → Draft → Draft
+pushed_question q d = record d { octets = d.octets ++ question_spelling q; counts = record d.counts { questions = d.counts.questions + 1 } }
+
+unfoldable pub pushed_record : Section → Written → Draft → Draft
+pushed_record section w d = record d { octets = d.octets ++ record_spelling w; counts = one_more_in section d.counts }
+
+-- with no entry, and the header as it was
+unfoldable pub cleared : Draft → Draft
+cleared d = record d { octets = take 12 d.octets; counts = no_entries }
+
+-- the octets of the message
+unfoldable pub finished : Draft → List ℕ
+finished d = take 4 d.octets ++ counts_spelling d.counts ++ drop 12 d.octets
+
+-- so many octets would pass the limit
+abbrev pub is_past : Option ℕ → ℕ → Bool
+is_past None octets = false
+is_past (Some limit) octets = nat_lt limit octets
+
+abbrev pub IsWithin : Option ℕ → ℕ → Type 0
+IsWithin None octets = Unit {0}
+IsWithin (Some limit) octets = octets ≤ limit
+
+-- why so many octets more are refused, where so many entries stand
 unfoldable pub refusal : ℕ → Draft → ℕ → Option PushError
-refusal entries d more = if entries == 65535 then Some Count else past d.limit (d.size + more)
+refusal entries d more =
+    if entries == 65535 then Some Count
+    else if is_past d.limit (length d.octets + more) then Some Limit
+    else None
 
 -- A push answers this refusal. With none it is done, unless memory runs out.
 abbrev pub Pushed : Option PushError → Result (Unit {0}) PushError → Type 0
 Pushed (Some e) result = result ≡ Err e
 Pushed None (Ok _) = Unit {0}
 Pushed None (Err e) = e ≡ NoMemory
-
--- the header of a message with so many questions and answers
-abbrev pub head : ℕ → ℕ → List ℕ
-head questions answers = (0 ∷ 0 ∷ 0 ∷ 0 ∷ []) ++ (to_be_bytes w16 questions ++ (to_be_bytes w16 answers ++ (0 ∷ 0 ∷ 0 ∷ 0 ∷ [])))

@@ -1,19 +1,10 @@
 -- A message, as RFC 1035 4.1 has it: a header of twelve octets, then questions, and three lists of records.
 use Rattle.std.specs.Prelude.{ℕ, zero, suc, ◌+◌, List, [], ◌∷◌, length, take, Option, Some, None, Result, Ok, Err, option_and_then, option_map, slice_range, nat_le, ◌==◌, ◌||◌, ◌&&◌, ◌%◌, not, Bool, true, false, slice_index, nat_lt, if◌then◌else◌}
-use Rattle.std.specs.Int.{w16, w32, from_be_bytes}
 use Rattle.dns_values.specs.declared.error.ParseError.{ParseError}
+use Rattle.dns_base.specs.Numbers.{u16_at, u32_at, ◌>>=◌}
+use Rattle.dns_base.specs.Data.{Data, data_at}
+use Rattle.dns_base.specs.Header.{Counts, counts_of, id_of, qr_of, rcode_of}
 use Rattle.dns_names.specs.Name.{Labels, Found, name_at, same_name}
-
-infixl 10 ◌>>=◌
-abbrev pub ◌>>=◌ : {A B : Type 0} → Option A → (A → Option B) → Option B
-o >>= f = option_and_then f o
-
--- two octets as a number, and four
-abbrev pub u16_at : List ℕ → ℕ → ℕ
-u16_at octets at = from_be_bytes w16 (slice_range octets at (at + 2))
-
-abbrev pub u32_at : List ℕ → ℕ → ℕ
-u32_at octets at = from_be_bytes w32 (slice_range octets at (at + 4))
 
 pub record Asked : Type 0 where
   pub name : Labels
@@ -28,13 +19,6 @@ pub record Entry : Type 0 where
   pub ttl : ℕ
   pub octets : List ℕ
 
--- what the data of a record says, by its type
-pub data Data : Type 0 where
-  A : List ℕ → Data
-  One : ℕ → Labels → Data
-  Mx : ℕ → Labels → Data
-  Other : List ℕ → Data
-
 -- a record, and what its data says, if it is read
 pub record Known : Type 0 where
   pub entry : Entry
@@ -47,24 +31,6 @@ question_at octets at = do
   if nat_le (name.end + 4) (length octets)
       then Some (record { name = name.labels; rtype = u16_at octets name.end; class = u16_at octets (name.end + 2) }, name.end + 4)
       else None
-
--- a name that fills the octets up to an end
-abbrev pub name_to : List ℕ → ℕ → ℕ → Option Labels
-name_to octets at end = do
-  name ← name_at octets at
-  if name.end == end then Some name.labels else None
-
--- the types whose data is one name
-abbrev pub is_one_name : ℕ → Bool
-is_one_name rtype = rtype == 2 || rtype == 5 || rtype == 12
-
--- data of a type between two places, whose parts fill it exactly
-unfoldable pub data_at : ℕ → List ℕ → ℕ → ℕ → Option Data
-data_at rtype octets at end =
-    if rtype == 1 then (if at + 4 == end then Some (A (slice_range octets at end)) else None)
-    else if is_one_name rtype then option_map (One rtype) (name_to octets at end)
-    else if rtype == 15 then (if nat_le (at + 2) end then option_map (Mx (u16_at octets at)) (name_to octets (at + 2) end) else None)
-    else Some (Other (slice_range octets at end))
 
 unfoldable pub record_at : List ℕ → ℕ → Option (Known × ℕ)
 record_at octets at = do
@@ -107,6 +73,7 @@ items_at one (suc n) at = item_then (λ end. items_at one n end) (one at)
 
 pub record Reading : Type 0 where
   pub header : List ℕ
+  pub counts : Counts
   pub questions : List Asked
   pub answer : List Known
   pub authority : List Known
@@ -134,6 +101,7 @@ reads octets = if nat_lt (length octets) 12 then None else do
   additional ← additional_of octets
   Some (record {
     header = take 4 octets;
+    counts = counts_of octets;
     questions = questions.0;
     answer = answer.0;
     authority = authority.0;
@@ -172,17 +140,11 @@ question_items octets = items_at (question_at octets) (u16_at octets 4) 12
 abbrev pub is_bare : List ℕ → Bool
 is_bare octets = u16_at octets 4 == 0 && (u16_at octets 6 == 0 && (u16_at octets 8 == 0 && u16_at octets 10 == 0))
 
-abbrev pub is_response : List ℕ → Bool
-is_response octets = nat_le 128 (slice_index octets 2)
-
-abbrev pub rcode : List ℕ → ℕ
-rcode octets = slice_index octets 3 % 16
-
 -- an answer to a request with this id and these questions
 unfoldable pub is_answer : ℕ → List ℕ → List ℕ → Bool
 is_answer id base octets =
-    is_response octets && (u16_at octets 0 == id
-    && ((not (rcode octets == 0) && is_bare octets)
+    qr_of octets && (id_of octets == id
+    && ((not (rcode_of octets == 0) && is_bare octets)
     || (u16_at octets 4 == u16_at base 4 && same_items (question_items octets) (question_items base))))
 
 -- all of them, where each is read

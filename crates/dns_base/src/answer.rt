@@ -4,8 +4,10 @@ ghost use Rattle.std.specs.Prelude.{◌≡◌, ◌≤◌, length};
 ghost use Rattle.dns_base.specs.Message.{same_asked, same_items, is_bare, is_answer};
 
 use crate::message::Message;
-use crate::question::{Question, QuestionSection, u16_at};
+use crate::numbers::u16_at;
+use crate::question::{Question, QuestionSection};
 use dns_names::is_same_name;
+use dns_values::Rcode;
 
 fn is_same_question(a: &Question<'_>, b: &Question<'_>) -> bool
     ensures { result ≡ same_asked a.now b.now }
@@ -50,10 +52,11 @@ pub fn is_answer(id: u16, base: &Message, answer: &Message) -> bool
     ensures { result ≡ is_answer id base.now answer.now }
 {
     let octets = answer.as_slice();
-    if octets[2] < 128 || u16_at(octets, 0) != id {
+    let header = answer.header();
+    if !header.qr() || header.id() != id {
         return false;
     }
-    if octets[3] % 16 != 0 && is_bare(octets) {
+    if header.rcode() != Rcode::NOERROR && is_bare(octets) {
         return true;
     }
     u16_at(octets, 4) == u16_at(base.as_slice(), 4)

@@ -1,11 +1,16 @@
 //! Messages, read where they lie.
 
-ghost use Rattle.std.specs.Prelude.{◌≡◌, ◌≤◌, ◌<◌, ◌↔◌, ℕ, List, length, take, option_map, IfOk, IsErr, MatchOption, MatchResult, None, Some};
-ghost use Rattle.dns_base.specs.Message.{question_at, items_at, list_at, u16_at, first_question, sole_question, answer_items};
+ghost use Rattle.std.specs.Prelude.{◌≡◌, ◌≤◌, ◌<◌, ◌↔◌, ℕ, List, ◌++◌, length, take, drop, option_map, IfOk, OnOk, OnErr, IsErr, MatchOption, MatchResult, None, Some};
+ghost use Rattle.dns_base.specs.Header.{counts_of};
+ghost use Rattle.dns_base.specs.Numbers.{u16_at};
+ghost use Rattle.dns_base.specs.Message.{question_at, items_at, list_at, first_question, sole_question, answer_items};
 
-use crate::question::{Question, QuestionSection, u16_at};
+use crate::header::{Header, HeaderCounts};
+use crate::numbers::u16_at;
+use crate::question::{Question, QuestionSection};
 use crate::record::RecordSection;
-use dns_values::{Octets, ParseError, ShortMessage};
+use dns_values::{NoMemory, Octets, ParseError, ShortMessage};
+use std::alloc::Global;
 use std::marker::Model;
 
 /// A message: twelve octets at least.
@@ -40,6 +45,49 @@ impl Message {
         self.octets.as_slice()
     }
 
+    /// The message of octets that are long enough.
+    pub(crate) fn long(octets: Octets) -> Message
+        requires { 12 ≤ length octets }
+        ensures { result ≡ octets }
+    {
+        Message { octets }
+    }
+
+    /// The same message again.
+    pub fn try_clone(&self, alloc: Global) -> Result<Message, NoMemory>
+        ensures { IfOk result (λ m. m ≡ self.now) }
+    {
+        let octets = Octets::from_slice(alloc, self.as_slice())?;
+        Ok(Message::long(octets))
+    }
+
+    /// A copy of the id and the flags.
+    pub fn header(&self) -> Header
+        ensures { result ≡ take 4 self.now }
+    {
+        let octets = self.as_slice();
+        Header::from_octets([octets[0], octets[1], octets[2], octets[3]])
+    }
+
+    /// How many entries each section has.
+    pub fn header_counts(&self) -> HeaderCounts
+        ensures { result ≡ counts_of self.now }
+    {
+        HeaderCounts::of(self.as_slice())
+    }
+
+    /// Sets the id and the flags. Where memory runs out the message is as it was.
+    pub fn set_header(&mut self, alloc: Global, header: Header) -> Result<(), NoMemory>
+        ensures ok { OnOk result (self.new ≡ header ++ drop 4 self.old) }
+        ensures err { OnErr result (self.new ≡ self.old) }
+    {
+        let mut octets = Vec::from_slice(alloc, self.as_slice())?;
+        header.put_over(&mut octets);
+        self.octets = Octets::from_vec(octets)?;
+        Ok(())
+    }
+
+    /// The questions, read one by one.
     pub fn question(&self) -> QuestionSection<'_>
         ensures all { result ≡ items_at (question_at self.now) (u16_at self.now 4) 12 }
         ensures few { length result < 65536 }
@@ -101,4 +149,13 @@ pub(crate) fn questions_end(octets: &[u8], count: u16, place: usize) -> Option<u
         at = end;
     }
     Some(at)
+}
+
+impl Message {
+    /// Its octets.
+    pub fn into_octets(self) -> Octets
+        ensures { result ≡ self }
+    {
+        self.octets
+    }
 }

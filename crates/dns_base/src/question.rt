@@ -3,8 +3,9 @@
 ghost use Rattle.std.specs.Prelude.{◌≡◌, ◌+◌, ◌≤◌, ◌<◌, length, List, Result};
 ghost use Rattle.std.specs.Iterator.{YieldsFirst, item_count};
 ghost use Rattle.dns_values.specs.declared.error.ParseError.{ParseError};
-ghost use Rattle.dns_base.specs.Message.{Asked, question_at, items_at, u16_at};
+ghost use Rattle.dns_base.specs.Message.{Asked, question_at, items_at};
 
+use crate::numbers::u16_at;
 use dns_names::ParsedName;
 use dns_values::{Class, ParseError, Rtype};
 use std::marker::Model;
@@ -21,13 +22,6 @@ impl<'a> Model for Question<'a> {
     ghost Value = { Asked };
 
     ghost view = { λ q. record { name = q.qname; rtype = q.qtype.0; class = q.qclass.0 } };
-}
-
-pub(crate) fn u16_at(octets: &[u8], at: usize) -> u16
-    requires { at + 2 ≤ length octets.now }
-    ensures { result ≡ u16_at octets.now at }
-{
-    u16::from_be_bytes([octets[at], octets[at + 1]])
 }
 
 impl<'a> Question<'a> {

@@ -3,24 +3,15 @@
 ghost use Rattle.std.specs.Prelude.{◌≡◌, ◌+◌, ◌≤◌, ◌<◌, length, List, Result, Option, MatchResult, IfOk, Some, None, slice_range, option_map};
 ghost use Rattle.std.specs.Iterator.{YieldsFirst, item_count};
 ghost use Rattle.dns_values.specs.declared.error.ParseError.{ParseError};
-ghost use Rattle.dns_base.specs.Message.{Known, record_at, data_at, name_to, items_at, u16_at, u32_at};
+ghost use Rattle.dns_base.specs.Data.{data_at};
+ghost use Rattle.dns_base.specs.Message.{Known, record_at, items_at};
 ghost use Rattle.dns_base.specs.RecordData.{data_view};
 
-use crate::question::u16_at;
+use crate::numbers::{u16_at, u32_at};
+use crate::record_data::{RecordData, data_at};
 use dns_names::ParsedName;
 use dns_values::{Class, ParseError, Rtype, Ttl};
 use std::marker::Model;
-
-/// What the data of a record says, by its type.
-#[derive(Drop)]
-pub enum RecordData<'a> {
-    A([u8; 4]),
-    Ns(ParsedName<'a>),
-    Cname(ParsedName<'a>),
-    Ptr(ParsedName<'a>),
-    Mx(u16, ParsedName<'a>),
-    Other(&'a [u8]),
-}
 
 /// A record of a message.
 #[derive(Drop)]
@@ -51,57 +42,6 @@ impl<'a> Model for Record<'a> {
     ghost invariant = { λ r. (r.at ≤ r.end) × (r.end ≤ length r.octets.now) };
 }
 
-fn u32_at(octets: &[u8], at: usize) -> u32
-    requires { at + 4 ≤ length octets.now }
-    ensures { result ≡ u32_at octets.now at }
-{
-    u32::from_be_bytes([octets[at], octets[at + 1], octets[at + 2], octets[at + 3]])
-}
-
-/// A name that fills the octets up to an end.
-fn name_to(octets: &[u8], at: usize, end: usize) -> Result<ParsedName<'_>, ParseError>
-    ensures { MatchResult result (λ n. name_to octets.now at end ≡ Some n) (λ _. name_to octets.now at end ≡ None) }
-{
-    match ParsedName::parse(octets, at) {
-        Some((name, after)) => {
-            if after == end {
-                Ok(name)
-            } else {
-                Err(ParseError)
-            }
-        }
-        None => Err(ParseError),
-    }
-}
-
-/// The data of a type between two places.
-#[tactic(auto, unfolding(crate::specs::Message::data_at))]
-fn data_at(rtype: Rtype, octets: &[u8], at: usize, end: usize) -> Result<RecordData<'_>, ParseError>
-    requires order { at ≤ end }
-    requires within { end ≤ length octets.now }
-    ensures { MatchResult result (λ d. data_at rtype.0 octets.now at end ≡ Some (data_view d)) (λ _. data_at rtype.0 octets.now at end ≡ None) }
-{
-    match rtype.0 {
-        1 => {
-            if at + 4 != end {
-                return Err(ParseError);
-            }
-            Ok(RecordData::A([octets[at], octets[at + 1], octets[at + 2], octets[at + 3]]))
-        }
-        2 => Ok(RecordData::Ns(name_to(octets, at, end)?)),
-        5 => Ok(RecordData::Cname(name_to(octets, at, end)?)),
-        12 => Ok(RecordData::Ptr(name_to(octets, at, end)?)),
-        15 => {
-            if end < at + 2 {
-                return Err(ParseError);
-            }
-            let preference = u16_at(octets, at);
-            Ok(RecordData::Mx(preference, name_to(octets, at + 2, end)?))
-        }
-        _ => Ok(RecordData::Other(&octets[at..end])),
-    }
-}
-
 impl<'a> Record<'a> {
     pub fn owner(&self) -> ParsedName<'a>
         ensures { result ≡ self.now.entry.owner }
@@ -115,12 +55,27 @@ impl<'a> Record<'a> {
         self.rtype
     }
 
+    pub fn class(&self) -> Class
+        ensures { result.0 ≡ self.now.entry.class }
+    {
+        self.class
+    }
+
+    /// How long it may be kept, in seconds.
+    pub fn ttl(&self) -> Ttl
+        ensures { result.0 ≡ self.now.entry.ttl }
+    {
+        self.ttl
+    }
+
+    /// The data as it stands.
     pub fn raw_data(&self) -> &'a [u8]
         ensures { result.now ≡ self.now.entry.octets }
     {
         &self.octets[self.at..self.end]
     }
 
+    /// The data, read by its type. Refused exactly where its parts don't fill it.
     pub fn data(&self) -> Result<RecordData<'a>, ParseError>
         ensures { MatchResult result (λ d. self.now.says ≡ Some (data_view d)) (λ _. self.now.says ≡ None) }
     {

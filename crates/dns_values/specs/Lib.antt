@@ -1,1 +1,3 @@
+pub mod Source
+pub mod Sink
 pub mod Address

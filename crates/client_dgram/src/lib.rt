@@ -1,0 +1,22 @@
+//! One server by datagrams: each request has up to so many tries, each at a place of its own.
+//!
+//! ```text
+//! send_request ──► Queued ──slot──► Opening ──Opened──► Sent ──answer, fault──► result
+//!                                      ▲                  │
+//!                                      └──next try──read timer──last try──► result
+//! ```
+//!
+//! There is no socket here: a place is opened, sent at and closed by outs, and events tell what became
+//! of it.
+#![tactic(auto)]
+
+mod config;
+mod connection;
+mod job;
+mod tables;
+
+pub use client_request::{QueryError, QueryErrorKind};
+pub use config::Config;
+pub use connection::{Connection, Request};
+pub use job::{Job, Stage};
+pub use tables::Tables;

@@ -1,0 +1,192 @@
+//! The octets of questions and records, with their names spelled out.
+
+ghost use Rattle.std.specs.Prelude.{◌≡◌, ◌≤◌, ◌<◌, ◌+◌, ◌++◌, length, IfOk, OnOk};
+ghost use Rattle.std.specs.Int.{w16, w32, to_be_bytes};
+ghost use Rattle.dns_names.specs.Name.{spelling, octet_count};
+ghost use Rattle.dns_base.specs.Data.{data_spelling};
+ghost use Rattle.dns_base.specs.RecordData.{data_view};
+ghost use Rattle.dns_base.specs.Draft.{question_spelling, record_spelling};
+
+use crate::record_data::RecordData;
+use dns_names::ParsedName;
+use dns_values::{Class, NoMemory, Rtype, Ttl};
+use std::alloc::Global;
+
+/// How many octets a name has spelled out.
+pub(crate) fn name_size(name: &ParsedName<'_>) -> usize
+    ensures all { result ≡ octet_count name.now }
+    ensures spelled { result ≡ length (spelling name.now) }
+    ensures few { result ≤ 255 }
+{
+    let mut count = 1;
+    for label in name.labels() {
+        count += 1 + label.len();
+    }
+    count
+}
+
+/// Appends a name.
+fn put_name(octets: &mut Vec<u8>, name: &ParsedName<'_>) -> Result<(), NoMemory>
+    ensures { OnOk result (octets.new.items ≡ octets.old.items ++ spelling name.now) }
+{
+    for label in name.labels() {
+        octets.push(label.len() as u8)?;
+        octets.extend_from_slice(label)?;
+    }
+    octets.push(0)?;
+    Ok(())
+}
+
+/// Appends two octets, the highest first.
+fn put_u16(octets: &mut Vec<u8>, n: u16) -> Result<(), NoMemory>
+    ensures { OnOk result (octets.new.items ≡ octets.old.items ++ to_be_bytes w16 n) }
+{
+    octets.extend_from_slice(&n.to_be_bytes())?;
+    Ok(())
+}
+
+/// Appends four octets, the highest first.
+fn put_u32(octets: &mut Vec<u8>, n: u32) -> Result<(), NoMemory>
+    ensures { OnOk result (octets.new.items ≡ octets.old.items ++ to_be_bytes w32 n) }
+{
+    octets.extend_from_slice(&n.to_be_bytes())?;
+    Ok(())
+}
+
+fn put_octets(octets: &mut Vec<u8>, more: &[u8]) -> Result<(), NoMemory>
+    ensures { OnOk result (octets.new.items ≡ octets.old.items ++ more.now) }
+{
+    octets.extend_from_slice(more)?;
+    Ok(())
+}
+
+/// The octets of a question.
+#[tactic(auto, unfolding(crate::specs::Draft::question_spelling))]
+pub(crate) fn question_octets(
+    alloc: Global,
+    name: &ParsedName<'_>,
+    rtype: Rtype,
+    class: Class,
+) -> Result<Vec<u8>, NoMemory>
+    ensures { IfOk result (λ v. v.items ≡ question_spelling (record { name = name.now; rtype = rtype.0; class = class.0 })) }
+{
+    let mut octets = Vec::new(alloc);
+    put_name(&mut octets, name)?;
+    put_u16(&mut octets, rtype.0)?;
+    put_u16(&mut octets, class.0)?;
+    Ok(octets)
+}
+
+fn octets_size(octets: &[u8]) -> usize
+    ensures { result ≡ length octets.now }
+{
+    octets.len()
+}
+
+/// How many octets data has.
+#[tactic(auto, unfolding(crate::specs::Data::data_spelling))]
+pub(crate) fn data_size(rdata: &RecordData<'_>) -> usize
+    ensures { result ≡ length (data_spelling (data_view rdata.now)) }
+{
+    match rdata {
+        RecordData::A(address) => octets_size(address),
+        RecordData::Aaaa(address) => octets_size(address),
+        RecordData::Ns(name)
+        | RecordData::Md(name)
+        | RecordData::Mf(name)
+        | RecordData::Cname(name)
+        | RecordData::Mb(name)
+        | RecordData::Mg(name)
+        | RecordData::Mr(name)
+        | RecordData::Ptr(name)
+        | RecordData::Dname(name) => name_size(name),
+        RecordData::Minfo(first, second) => name_size(first) + name_size(second),
+        RecordData::Mx(_, exchange) => 2 + name_size(exchange),
+        RecordData::Soa { mname, rname, .. } => name_size(mname) + name_size(rname) + 20,
+        RecordData::Srv { target, .. } => 6 + name_size(target),
+        RecordData::Txt(octets) | RecordData::Opt(octets) | RecordData::Other(octets) =>
+            octets.len(),
+    }
+}
+
+/// Appends data.
+#[tactic(auto, unfolding(crate::specs::Data::data_spelling))]
+fn put_data(octets: &mut Vec<u8>, rdata: &RecordData<'_>) -> Result<(), NoMemory>
+    ensures { OnOk result (octets.new.items ≡ octets.old.items ++ data_spelling (data_view rdata.now)) }
+{
+    match rdata {
+        RecordData::A(address) => put_octets(octets, address),
+        RecordData::Aaaa(address) => put_octets(octets, address),
+        RecordData::Ns(name)
+        | RecordData::Md(name)
+        | RecordData::Mf(name)
+        | RecordData::Cname(name)
+        | RecordData::Mb(name)
+        | RecordData::Mg(name)
+        | RecordData::Mr(name)
+        | RecordData::Ptr(name)
+        | RecordData::Dname(name) => put_name(octets, name),
+        RecordData::Minfo(first, second) => {
+            put_name(octets, first)?;
+            put_name(octets, second)
+        }
+        RecordData::Mx(preference, exchange) => {
+            put_u16(octets, *preference)?;
+            put_name(octets, exchange)
+        }
+        RecordData::Soa {
+            mname,
+            rname,
+            serial,
+            refresh,
+            retry,
+            expire,
+            minimum,
+        } => {
+            put_name(octets, mname)?;
+            put_name(octets, rname)?;
+            put_u32(octets, serial.0)?;
+            put_u32(octets, refresh.0)?;
+            put_u32(octets, retry.0)?;
+            put_u32(octets, expire.0)?;
+            put_u32(octets, minimum.0)
+        }
+        RecordData::Srv {
+            priority,
+            weight,
+            port,
+            target,
+        } => {
+            put_u16(octets, *priority)?;
+            put_u16(octets, *weight)?;
+            put_u16(octets, *port)?;
+            put_name(octets, target)
+        }
+        RecordData::Txt(content) | RecordData::Opt(content) | RecordData::Other(content) => {
+            put_octets(octets, content)
+        }
+    }
+}
+
+/// The octets of a record, whose data has at most 65535 octets.
+#[tactic(auto, unfolding(crate::specs::Draft::record_spelling))]
+pub(crate) fn record_octets(
+    alloc: Global,
+    owner: &ParsedName<'_>,
+    rtype: Rtype,
+    class: Class,
+    ttl: Ttl,
+    rdata: &RecordData<'_>,
+) -> Result<Vec<u8>, NoMemory>
+    requires { length (data_spelling (data_view rdata.now)) < 65536 }
+    ensures { IfOk result (λ v. v.items ≡ record_spelling (record { owner = owner.now; rtype = rtype.0; class = class.0; ttl = ttl.0; content = data_view rdata.now })) }
+{
+    let mut octets = Vec::new(alloc);
+    put_name(&mut octets, owner)?;
+    put_u16(&mut octets, rtype.0)?;
+    put_u16(&mut octets, class.0)?;
+    put_u32(&mut octets, ttl.0)?;
+    put_u16(&mut octets, data_size(rdata) as u16)?;
+    put_data(&mut octets, rdata)?;
+    Ok(octets)
+}

@@ -1,0 +1,12 @@
+//! The configuration of a resolver, as `resolv.conf` has it.
+#![tactic(auto)]
+
+mod conf;
+mod options;
+mod search;
+mod server;
+
+pub use conf::ResolvConf;
+pub use options::ResolvOptions;
+pub use search::{SearchList, SearchSuffix};
+pub use server::{ServerConf, Servers, Transport};
