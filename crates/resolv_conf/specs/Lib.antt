@@ -1,1 +1,3 @@
 pub mod Conf
+pub mod Number
+pub mod Script

@@ -1,0 +1,23 @@
+//! Why a line was not taken.
+
+ghost use Rattle.std.specs.Prelude.{◌≡◌};
+
+use dns_values::NoMemory;
+
+/// Why a line was not taken.
+#[derive(Clone, Copy, Debug, PartialEq, Eq)]
+pub enum LineFault {
+    /// The line is outside the grammar.
+    Parse,
+    NoMemory,
+}
+
+impl From<NoMemory> for LineFault {
+    ghost use Rattle.resolv_conf.specs.declared.fault.LineFault.{LineFault};
+
+    ghost from_gives = { λ _ e. e ≡ LineFault.NoMemory };
+
+    fn from(_e: NoMemory) -> LineFault {
+        LineFault::NoMemory
+    }
+}
