@@ -1,11 +1,14 @@
 //! The words of a line, and what they say.
 
-ghost use Rattle.std.specs.Prelude.{◌≡◌, ◌≢◌, ◌==◌, MatchResult, ◌∷◌, [], MatchOption, IfSome, length, ◌<◌, ◌≤◌};
+ghost use Rattle.std.specs.Prelude.{◌≡◌, ◌≢◌, ◌==◌, MatchResult, ◌∷◌, [], MatchOption, IfOk, IfSome, length, ◌<◌, ◌≤◌};
 ghost use Rattle.std.specs.List.{position};
 ghost use Rattle.dns_script.specs.declared.line.LineFault.TheVariants as line;
+ghost use Rattle.dns_script.specs.Grammar.{u64_at, u32_at, u16_at, octets_at, message_at, fault_at, via_at};
 ghost use Rattle.dns_script.specs.Reading.{parts, words_of, number_of, octets_of, with_digit, digit_of, octet_of, Gives, Reads, one_word, pairs};
 
-use dns_base::{NoMemory, Octets};
+use crate::names::{fault_named, via_named};
+use client_request::{Fault, Via};
+use dns_base::{Message, NoMemory, Octets};
 use std::alloc::{AllocError, AllocFailed, Global};
 use std::marker::Model;
 
@@ -151,6 +154,7 @@ pub(crate) struct Words<'a> {
 
 impl<'a> Model for Words<'a> {
     ghost use Rattle.std.specs.Prelude.{List, ℕ, option_map};
+    ghost use Rattle.dns_script.specs.Grammar.{u64_at, u32_at, u16_at, octets_at, message_at, fault_at, via_at};
     ghost use Rattle.dns_script.specs.Reading.{words_left};
 
     ghost Value = { List (List ℕ) };
@@ -192,6 +196,69 @@ impl<'a> Words<'a> {
         match self.rest {
             None => Ok(()),
             Some(_) => Err(LineFault::Refused),
+        }
+    }
+}
+
+impl<'a> Words<'a> {
+    pub(crate) fn number(&mut self, greatest: u64) -> Result<u64, LineFault>
+        ensures read { Gives result self.new (one_word (number_of greatest) self.old) }
+        ensures below { IfOk result (λ n. n ≤ greatest) }
+    {
+        match number_of(greatest, self.word()?) {
+            None => Err(LineFault::Refused),
+            Some(number) => Ok(number),
+        }
+    }
+
+    pub(crate) fn u64(&mut self) -> Result<u64, LineFault>
+        ensures { Gives result self.new (u64_at self.old) }
+    {
+        self.number(u64::MAX)
+    }
+
+    pub(crate) fn u32(&mut self) -> Result<u32, LineFault>
+        ensures { Gives result self.new (u32_at self.old) }
+    {
+        Ok(self.number(u32::MAX as u64)? as u32)
+    }
+
+    pub(crate) fn u16(&mut self) -> Result<u16, LineFault>
+        ensures { Gives result self.new (u16_at self.old) }
+    {
+        Ok(self.number(u16::MAX as u64)? as u16)
+    }
+
+    pub(crate) fn octets(&mut self, alloc: Global) -> Result<Octets, LineFault>
+        ensures { Gives result self.new (octets_at self.old) }
+    {
+        octets_of(alloc, self.word()?)
+    }
+
+    pub(crate) fn message(&mut self, alloc: Global) -> Result<Message, LineFault>
+        ensures { Gives result self.new (message_at self.old) }
+    {
+        match Message::from_octets(self.octets(alloc)?) {
+            Ok(message) => Ok(message),
+            Err(_) => Err(LineFault::Refused),
+        }
+    }
+
+    pub(crate) fn fault(&mut self) -> Result<Fault, LineFault>
+        ensures { Gives result self.new (fault_at self.old) }
+    {
+        match fault_named(self.word()?) {
+            None => Err(LineFault::Refused),
+            Some(fault) => Ok(fault),
+        }
+    }
+
+    pub(crate) fn via(&mut self) -> Result<Via, LineFault>
+        ensures { Gives result self.new (via_at self.old) }
+    {
+        match via_named(self.word()?) {
+            None => Err(LineFault::Refused),
+            Some(via) => Ok(via),
         }
     }
 }

@@ -1,0 +1,113 @@
+-- The lines of traces and scripts as words: what happened, and what was put out.
+use Rattle.std.specs.Prelude.{◌≡◌, ℕ, ◌+◌, ◌-◌, ◌^◌, List, [], ◌∷◌, length, Option, Some, None, Result, Ok, Err, option_map, ◌==◌, nat_lt, if◌then◌else◌, codes}
+use Rattle.std.specs.Str.{bytes_eq}
+use Rattle.client_request.specs.Request.{Request}
+use Rattle.client_request.specs.declared.fault.Fault.{Fault}
+use Rattle.client_request.specs.declared.fault.Fault.TheVariants as fault
+use Rattle.client_request.specs.declared.error.Error.{Error}
+use Rattle.client_request.specs.declared.error.Error.TheVariants as error
+use Rattle.client_request.specs.declared.error.QueryError.{QueryError}
+use Rattle.client_request.specs.declared.error.QueryError.TheVariants as query
+use Rattle.client_request.specs.declared.error.QueryErrorKind.{QueryErrorKind}
+use Rattle.client_request.specs.declared.error.QueryErrorKind.TheVariants as kind
+use Rattle.client_request.specs.declared.event.Via.{Via}
+use Rattle.client_request.specs.declared.event.Event.{Event}
+use Rattle.client_request.specs.declared.event.What.{What}
+use Rattle.client_request.specs.declared.event.What.TheVariants as what
+use Rattle.client_request.specs.declared.event.Out.{Out}
+use Rattle.client_request.specs.declared.event.Out.TheVariants as out
+use Rattle.dns_script.specs.declared.names.EventName.{EventName}
+use Rattle.dns_script.specs.declared.names.EventName.TheVariants as event_name
+use Rattle.dns_script.specs.declared.names.OutName.{OutName}
+use Rattle.dns_script.specs.declared.names.OutName.TheVariants as out_name
+use Rattle.dns_script.specs.Names.{error_names, event_names, fault_names, kind_names, out_names, via_names}
+use Rattle.dns_script.specs.Reading.{◌>>=◌, Reader, one_word, named, number_of, octets_of, pairs}
+
+-- a value of one part
+abbrev pub one : {A X : Type 0} → (A → X) → Reader A → Reader X
+one make first words = first words >>= (λ a. Some (make a.0, a.1))
+
+-- a value of two parts, one behind the other
+abbrev pub two : {A B X : Type 0} → (A → B → X) → Reader A → Reader B → Reader X
+two make first second words = first words >>= (λ a. one (make a.0) second a.1)
+
+abbrev pub three : {A B C X : Type 0} → (A → B → C → X) → Reader A → Reader B → Reader C → Reader X
+three make first second third words = first words >>= (λ a. two (make a.0) second third a.1)
+
+abbrev pub four : {A B C D X : Type 0} → (A → B → C → D → X) → Reader A → Reader B → Reader C → Reader D → Reader X
+four make first second third fourth words = first words >>= (λ a. three (make a.0) second third fourth a.1)
+
+abbrev pub u64_at : Reader ℕ
+u64_at = one_word (number_of 18446744073709551615)
+
+abbrev pub u32_at : Reader ℕ
+u32_at = one_word (number_of 4294967295)
+
+abbrev pub u16_at : Reader ℕ
+u16_at = one_word (number_of 65535)
+
+abbrev pub octets_at : Reader (List ℕ)
+octets_at = one_word octets_of
+
+abbrev pub fault_at : Reader Fault
+fault_at = one_word (named fault_names)
+
+abbrev pub via_at : Reader Via
+via_at = one_word (named via_names)
+
+-- a message has twelve octets at least
+abbrev pub message_of : List ℕ → Option (List ℕ)
+message_of word = octets_of word >>= (λ octets. if nat_lt (length octets) 12 then None else Some octets)
+
+abbrev pub message_at : Reader (List ℕ)
+message_at = one_word message_of
+
+-- a timeout has one fault alone
+abbrev pub timeout_of : Fault → Option QueryError
+timeout_of fault.Expired = Some query.Timeout
+timeout_of _ = None
+
+abbrev pub query_error_behind : QueryErrorKind → Reader QueryError
+query_error_behind kind.Connect words = one query.Connect fault_at words
+query_error_behind kind.Send words = one query.Send fault_at words
+query_error_behind kind.Receive words = one query.Receive fault_at words
+query_error_behind kind.Timeout words = fault_at words >>= (λ f. option_map (λ q. (q, f.1)) (timeout_of f.0))
+
+abbrev pub query_error_at : Reader QueryError
+query_error_at words = one_word (named kind_names) words >>= (λ k. query_error_behind k.0 k.1)
+
+-- an error whose name has a fault behind it
+abbrev pub error_behind : List ℕ → Reader Error
+error_behind name words =
+    if bytes_eq name (codes "StreamReadError") then one error.StreamReadError fault_at words
+    else (if bytes_eq name (codes "StreamWriteError") then one error.StreamWriteError fault_at words
+    else (if bytes_eq name (codes "Dgram") then one error.Dgram query_error_at words else None))
+
+-- an error that is its name alone, or has more behind it
+abbrev pub error_called : Option Error → List ℕ → Reader Error
+error_called (Some e) name words = Some (e, words)
+error_called None name words = error_behind name words
+
+abbrev pub error_at : Reader Error
+error_at words = one_word (λ name. Some name) words >>= (λ name. error_called (named error_names name.0) name.0 name.1)
+
+abbrev pub result_behind : List ℕ → Reader (Result (List ℕ) Error)
+result_behind name words =
+    if bytes_eq name (codes "ok") then one Ok message_at words
+    else (if bytes_eq name (codes "err") then one Err error_at words else None)
+
+abbrev pub result_at : Reader (Result (List ℕ) Error)
+result_at words = one_word (λ name. Some name) words >>= (λ name. result_behind name.0 name.1)
+
+abbrev pub out_behind : OutName → Reader Out
+out_behind out_name.Start words = three out.Start u64_at u32_at via_at words
+out_behind out_name.OpenDgram words = two out.OpenDgram u64_at u32_at words
+out_behind out_name.OpenStream words = two out.OpenStream u64_at u32_at words
+out_behind out_name.Send words = four out.Send u64_at u64_at u16_at octets_at words
+out_behind out_name.Write words = four out.Write u64_at u64_at u16_at octets_at words
+out_behind out_name.Resume words = two out.Resume u64_at octets_at words
+out_behind out_name.Close words = one out.Close u64_at words
+out_behind out_name.Reply words = two out.Reply u64_at result_at words
+
+abbrev pub out_at : Reader Out
+out_at words = one_word (named out_names) words >>= (λ name. out_behind name.0 name.1)
