@@ -6,6 +6,7 @@
 mod line;
 mod names;
 mod printing;
+mod reading;
 mod words;
 
 pub use printing::trace_text;

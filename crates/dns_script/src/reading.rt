@@ -1,0 +1,136 @@
+//! What happened and what was put out, read from the words of a line.
+
+ghost use Rattle.std.specs.Prelude.{◌≡◌};
+ghost use Rattle.dns_script.specs.Reading.{Gives};
+ghost use Rattle.dns_script.specs.Grammar.{query_error_behind, query_error_at, error_behind, error_at, result_behind, result_at, out_behind, out_at};
+
+use crate::line::{LineFault, Words};
+use crate::names::{OutName, error_named, kind_named, out_named};
+use client_request::{Error, Fault, Out, QueryError, QueryErrorKind};
+use dns_base::Message;
+use std::alloc::Global;
+
+fn query_error_behind(kind: QueryErrorKind, words: &mut Words<'_>) -> Result<QueryError, LineFault>
+    ensures { Gives result words.new (query_error_behind kind words.old) }
+{
+    let fault = words.fault()?;
+    match kind {
+        QueryErrorKind::Connect => Ok(QueryError::Connect(fault)),
+        QueryErrorKind::Send => Ok(QueryError::Send(fault)),
+        QueryErrorKind::Receive => Ok(QueryError::Receive(fault)),
+        QueryErrorKind::Timeout => match fault {
+            Fault::Expired => Ok(QueryError::Timeout),
+            _ => Err(LineFault::Refused),
+        },
+    }
+}
+
+fn query_error(words: &mut Words<'_>) -> Result<QueryError, LineFault>
+    ensures { Gives result words.new (query_error_at words.old) }
+{
+    match kind_named(words.word()?) {
+        None => Err(LineFault::Refused),
+        Some(kind) => query_error_behind(kind, words),
+    }
+}
+
+fn error_behind(name: &[u8], words: &mut Words<'_>) -> Result<Error, LineFault>
+    ensures { Gives result words.new (error_behind name.now words.old) }
+{
+    if name == b"StreamReadError".as_slice() {
+        return Ok(Error::StreamReadError(words.fault()?));
+    }
+    if name == b"StreamWriteError".as_slice() {
+        return Ok(Error::StreamWriteError(words.fault()?));
+    }
+    if name == b"Dgram".as_slice() {
+        return Ok(Error::Dgram(query_error(words)?));
+    }
+    Err(LineFault::Refused)
+}
+
+fn error(words: &mut Words<'_>) -> Result<Error, LineFault>
+    ensures { Gives result words.new (error_at words.old) }
+{
+    let name = words.word()?;
+    match error_named(name) {
+        None => error_behind(name, words),
+        Some(error) => Ok(error),
+    }
+}
+
+fn result_behind(
+    alloc: Global,
+    name: &[u8],
+    words: &mut Words<'_>,
+) -> Result<Result<Message, Error>, LineFault>
+    ensures { Gives result words.new (result_behind name.now words.old) }
+{
+    if name == b"ok".as_slice() {
+        return Ok(Ok(words.message(alloc)?));
+    }
+    if name == b"err".as_slice() {
+        return Ok(Err(error(words)?));
+    }
+    Err(LineFault::Refused)
+}
+
+fn result(alloc: Global, words: &mut Words<'_>) -> Result<Result<Message, Error>, LineFault>
+    ensures { Gives result words.new (result_at words.old) }
+{
+    let name = words.word()?;
+    result_behind(alloc, name, words)
+}
+
+fn out_behind(alloc: Global, name: OutName, words: &mut Words<'_>) -> Result<Out, LineFault>
+    ensures { Gives result words.new (out_behind name words.old) }
+{
+    Ok(match name {
+        OutName::Start => Out::Start {
+            request: words.u64()?,
+            server: words.u32()?,
+            via: words.via()?,
+        },
+        OutName::OpenDgram => Out::OpenDgram {
+            place: words.u64()?,
+            server: words.u32()?,
+        },
+        OutName::OpenStream => Out::OpenStream {
+            place: words.u64()?,
+            server: words.u32()?,
+        },
+        OutName::Send => Out::Send {
+            place: words.u64()?,
+            request: words.u64()?,
+            id: words.u16()?,
+            octets: words.octets(alloc)?,
+        },
+        OutName::Write => Out::Write {
+            place: words.u64()?,
+            request: words.u64()?,
+            id: words.u16()?,
+            octets: words.octets(alloc)?,
+        },
+        OutName::Resume => Out::Resume {
+            place: words.u64()?,
+            octets: words.octets(alloc)?,
+        },
+        OutName::Close => Out::Close {
+            place: words.u64()?,
+        },
+        OutName::Reply => Out::Reply {
+            request: words.u64()?,
+            result: result(alloc, words)?,
+        },
+    })
+}
+
+/// What was put out.
+pub(crate) fn out(alloc: Global, words: &mut Words<'_>) -> Result<Out, LineFault>
+    ensures { Gives result words.new (out_at words.old) }
+{
+    match out_named(words.word()?) {
+        None => Err(LineFault::Refused),
+        Some(name) => out_behind(alloc, name, words),
+    }
+}
