@@ -11,6 +11,7 @@ use Rattle.client_request.specs.declared.error.QueryError.TheVariants as query
 use Rattle.client_request.specs.declared.error.QueryErrorKind.{QueryErrorKind}
 use Rattle.client_request.specs.declared.error.QueryErrorKind.TheVariants as kind
 use Rattle.client_request.specs.declared.event.Via.{Via}
+use Rattle.client_request.specs.declared.event.Moment.{Moment}
 use Rattle.client_request.specs.declared.event.Event.{Event}
 use Rattle.client_request.specs.declared.event.What.{What}
 use Rattle.client_request.specs.declared.event.What.TheVariants as what
@@ -111,3 +112,46 @@ out_behind out_name.Reply words = two out.Reply u64_at result_at words
 
 abbrev pub out_at : Reader Out
 out_at words = one_word (named out_names) words >>= (λ name. out_behind name.0 name.1)
+
+-- the first four octets of a header
+abbrev pub header_of : List ℕ → Option (List ℕ)
+header_of word = if length word == 8 then pairs word else None
+
+-- a recorded OPT record, or a hyphen for none
+abbrev pub opt_of : List ℕ → Option (Option (List ℕ))
+opt_of word = if bytes_eq word (codes "-") then Some None else None
+
+abbrev pub recorded : List ℕ → List ℕ → Option (List ℕ) → Request
+recorded base header opt = record { base = base; header = header; opt = opt }
+
+abbrev pub request_at : Reader Request
+request_at = three recorded message_at (one_word header_of) (one_word opt_of)
+
+abbrev pub what_behind : EventName → Reader What
+what_behind event_name.Ask words = one what.Ask request_at words
+what_behind event_name.Opened words = one what.Opened u64_at words
+what_behind event_name.OpenFailed words = two what.OpenFailed u64_at fault_at words
+what_behind event_name.SendFailed words = two what.SendFailed u64_at fault_at words
+what_behind event_name.ShortSend words = one what.ShortSend u64_at words
+what_behind event_name.Datagram words = two what.Datagram u64_at octets_at words
+what_behind event_name.RecvFailed words = two what.RecvFailed u64_at fault_at words
+what_behind event_name.Wrote words = two what.Wrote u64_at u64_at words
+what_behind event_name.WriteFailed words = two what.WriteFailed u64_at fault_at words
+what_behind event_name.Bytes words = two what.Bytes u64_at octets_at words
+what_behind event_name.ReadFailed words = two what.ReadFailed u64_at fault_at words
+what_behind event_name.Ended words = one what.Ended u64_at words
+what_behind event_name.Tick words = Some (what.Tick, words)
+
+abbrev pub what_at : Reader What
+what_at words = one_word (named event_names) words >>= (λ name. what_behind name.0 name.1)
+
+abbrev pub event_from : ℕ → What → Event
+event_from moment what = record { moment = record { 0 = moment }; what = what }
+
+-- what stands behind `at`
+abbrev pub event_at : Reader Event
+event_at = two event_from u64_at what_at
+
+-- the words are these alone
+abbrev pub whole : {A : Type 0} → A × List (List ℕ) → Option A
+whole read = if length read.1 == 0 then Some read.0 else None

@@ -2,11 +2,13 @@
 
 ghost use Rattle.std.specs.Prelude.{◌≡◌};
 ghost use Rattle.dns_script.specs.Reading.{Gives};
-ghost use Rattle.dns_script.specs.Grammar.{query_error_behind, query_error_at, error_behind, error_at, result_behind, result_at, out_behind, out_at};
+ghost use Rattle.dns_script.specs.Grammar.{query_error_behind, query_error_at, error_behind, error_at, result_behind, result_at, out_behind, out_at, request_at, what_behind, what_at, event_at};
 
 use crate::line::{LineFault, Words};
-use crate::names::{OutName, error_named, kind_named, out_named};
-use client_request::{Error, Fault, Out, QueryError, QueryErrorKind};
+use crate::names::{EventName, OutName, error_named, event_named, kind_named, out_named};
+use client_request::{
+    Error, Event, Fault, Moment, Out, QueryError, QueryErrorKind, RequestMessage, What,
+};
 use dns_base::Message;
 use std::alloc::Global;
 
@@ -133,4 +135,82 @@ pub(crate) fn out(alloc: Global, words: &mut Words<'_>) -> Result<Out, LineFault
         None => Err(LineFault::Refused),
         Some(name) => out_behind(alloc, name, words),
     }
+}
+
+/// A request: its base message, and the header and the OPT record that are recorded.
+fn request(_alloc: Global, _words: &mut Words<'_>) -> Result<RequestMessage, LineFault>
+    ensures { Gives result _words.new (request_at _words.old) }
+{
+    Err(LineFault::NoMemory)
+}
+
+fn what_behind(alloc: Global, name: EventName, words: &mut Words<'_>) -> Result<What, LineFault>
+    ensures { Gives result words.new (what_behind name words.old) }
+{
+    Ok(match name {
+        EventName::Ask => What::Ask {
+            request: request(alloc, words)?,
+        },
+        EventName::Opened => What::Opened {
+            place: words.u64()?,
+        },
+        EventName::OpenFailed => What::OpenFailed {
+            place: words.u64()?,
+            fault: words.fault()?,
+        },
+        EventName::SendFailed => What::SendFailed {
+            place: words.u64()?,
+            fault: words.fault()?,
+        },
+        EventName::ShortSend => What::ShortSend {
+            place: words.u64()?,
+        },
+        EventName::Datagram => What::Datagram {
+            place: words.u64()?,
+            octets: words.octets(alloc)?,
+        },
+        EventName::RecvFailed => What::RecvFailed {
+            place: words.u64()?,
+            fault: words.fault()?,
+        },
+        EventName::Wrote => What::Wrote {
+            place: words.u64()?,
+            count: words.u64()?,
+        },
+        EventName::WriteFailed => What::WriteFailed {
+            place: words.u64()?,
+            fault: words.fault()?,
+        },
+        EventName::Bytes => What::Bytes {
+            place: words.u64()?,
+            octets: words.octets(alloc)?,
+        },
+        EventName::ReadFailed => What::ReadFailed {
+            place: words.u64()?,
+            fault: words.fault()?,
+        },
+        EventName::Ended => What::Ended {
+            place: words.u64()?,
+        },
+        EventName::Tick => What::Tick,
+    })
+}
+
+fn what(alloc: Global, words: &mut Words<'_>) -> Result<What, LineFault>
+    ensures { Gives result words.new (what_at words.old) }
+{
+    match event_named(words.word()?) {
+        None => Err(LineFault::Refused),
+        Some(name) => what_behind(alloc, name, words),
+    }
+}
+
+/// An event: its moment, and what happened.
+pub(crate) fn event(alloc: Global, words: &mut Words<'_>) -> Result<Event, LineFault>
+    ensures { Gives result words.new (event_at words.old) }
+{
+    Ok(Event {
+        moment: Moment(words.u64()?),
+        what: what(alloc, words)?,
+    })
 }
