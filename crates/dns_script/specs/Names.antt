@@ -10,6 +10,8 @@ use Rattle.client_request.specs.declared.error.Error.{Error}
 use Rattle.client_request.specs.declared.error.Error.TheVariants as error
 use Rattle.dns_script.specs.declared.names.EventName.{EventName}
 use Rattle.dns_script.specs.declared.names.EventName.TheVariants as event
+use Rattle.dns_script.specs.declared.names.ScriptName.{ScriptName}
+use Rattle.dns_script.specs.declared.names.ScriptName.TheVariants as script
 use Rattle.dns_script.specs.declared.names.OutName.{OutName}
 use Rattle.dns_script.specs.declared.names.OutName.TheVariants as out
 
@@ -98,4 +100,12 @@ out_names =
     ∷ (codes "resume", out.Resume)
     ∷ (codes "close", out.Close)
     ∷ (codes "reply", out.Reply)
+    ∷ []
+
+-- the lines of a script that have more than one word
+abbrev pub script_names : List (List ℕ × ScriptName)
+script_names =
+    (codes "conf", script.Conf)
+    ∷ (codes "words", script.Words)
+    ∷ (codes "at", script.At)
     ∷ []

@@ -1,7 +1,7 @@
 -- Words that are read: a number, octets, a word of a list.
-use Rattle.std.specs.Prelude.{◌≡◌, ℕ, ◌+◌, ◌*◌, ◌-◌, List, [], ◌∷◌, length, slice_index, Option, Some, None, Result, Ok, Err, option_map, option_and_then, Bool, ◌&&◌, ◌||◌, ◌==◌, not, nat_lt, if◌then◌else◌, codes}
+use Rattle.std.specs.Prelude.{◌≡◌, ℕ, ◌+◌, ◌*◌, ◌-◌, List, [], ◌∷◌, length, slice_index, take, drop, Option, Some, None, Result, Ok, Err, option_map, option_and_then, Bool, ◌&&◌, ◌||◌, ◌==◌, not, nat_lt, if◌then◌else◌, codes}
 use Rattle.std.specs.Char.{is_ascii_digit}
-use Rattle.std.specs.List.{slice_split}
+use Rattle.std.specs.List.{position, slice_split}
 use Rattle.std.specs.Str.{bytes_eq}
 use Rattle.dns_script.specs.declared.line.LineFault.{LineFault}
 use Rattle.dns_script.specs.declared.line.LineFault.TheVariants as line
@@ -9,6 +9,10 @@ use Rattle.dns_script.specs.declared.line.LineFault.TheVariants as line
 -- the parts between the separators
 abbrev pub parts : ℕ → List ℕ → List (List ℕ)
 parts separator octets = slice_split (λ octet. octet == separator) octets
+
+-- what stands before the first separator, and what stands behind it
+abbrev pub cut : ℕ → List ℕ → Option (List ℕ × List ℕ)
+cut separator octets = option_map (λ at. (take at octets, drop (at + 1) octets)) (position (λ octet. octet == separator) octets)
 
 -- the words of a line
 abbrev pub words_of : List ℕ → List (List ℕ)
@@ -34,6 +38,18 @@ abbrev pub Reads : {X A : Type 0} → (X → A) → Result X LineFault → Optio
 Reads view (Ok x) read = read ≡ Some (view x)
 Reads view (Err line.Refused) read = read ≡ None
 Reads view (Err line.NoMemory) read = Unit {0}
+
+-- What a function made of a value is what reading gives, unless memory ran out.
+abbrev pub Makes : {A : Type 0} → Result Unit LineFault → A → Option A → Type 0
+Makes (Ok _) new read = read ≡ Some new
+Makes (Err line.Refused) new read = read ≡ None
+Makes (Err line.NoMemory) new read = Unit {0}
+
+-- The same of a relation: what was made stands in it, or nothing does.
+abbrev pub MakesBy : {A : Type 0} → Result Unit LineFault → A → (A → Type 0) → Type 0
+MakesBy (Ok _) new Stands = Stands new
+MakesBy {A} (Err line.Refused) new Stands = (next : A) → ¬ (Stands next)
+MakesBy (Err line.NoMemory) new Stands = Unit {0}
 
 infixl 10 ◌>>=◌
 abbrev pub ◌>>=◌ : {A B : Type 0} → Option A → (A → Option B) → Option B
@@ -82,3 +98,8 @@ pairs (high ∷ low ∷ digits) = octet_of high low >>= (λ octet. option_map (�
 -- octets as hexadecimal digits, and a hyphen for no octet
 unfoldable pub octets_of : List ℕ → Option (List ℕ)
 octets_of word = if bytes_eq word (codes "-") then Some [] else (if length word == 0 then None else pairs word)
+
+-- one number or more
+abbrev pub numbers_of : List (List ℕ) → Option (List ℕ)
+numbers_of [] = Some []
+numbers_of (word ∷ words) = number_of 18446744073709551615 word >>= (λ number. option_map (λ numbers. number ∷ numbers) (numbers_of words))

@@ -7,6 +7,10 @@ mod line;
 mod names;
 mod printing;
 mod reading;
+mod script;
+mod script_lines;
+mod stage;
 mod words;
 
 pub use printing::trace_text;
+pub use script::{Lanes, Script};

@@ -4,7 +4,7 @@ ghost use Rattle.std.specs.Prelude.{◌≡◌, ◌≢◌, ◌==◌, MatchResult,
 ghost use Rattle.std.specs.List.{position};
 ghost use Rattle.dns_script.specs.declared.line.LineFault.TheVariants as line;
 ghost use Rattle.dns_script.specs.Grammar.{u64_at, u32_at, u16_at, octets_at, message_at, fault_at, via_at};
-ghost use Rattle.dns_script.specs.Reading.{parts, words_of, number_of, octets_of, with_digit, digit_of, octet_of, Gives, Reads, one_word, pairs};
+ghost use Rattle.dns_script.specs.Reading.{cut, parts, words_of, number_of, octets_of, with_digit, digit_of, octet_of, Gives, Reads, one_word, pairs};
 
 use crate::names::{fault_named, via_named};
 use client_request::{Fault, Via};
@@ -56,6 +56,7 @@ fn place_of(octets: &[u8], separator: u8) -> Option<usize>
 #[tactic(auto, using(crate::proofs::Parts::parts_none, crate::proofs::Parts::parts_some))]
 pub(crate) fn split_first(octets: &[u8], separator: u8) -> Option<(&[u8], &[u8])>
     ensures parts { MatchOption result (parts separator octets.now ≡ octets.now ∷ []) (λ found. parts separator octets.now ≡ found.0.now ∷ parts separator found.1.now) }
+    ensures cut { MatchOption result (cut separator octets.now ≡ None) (λ found. cut separator octets.now ≡ Some (found.0.now, found.1.now)) }
     ensures shorter { IfSome result (λ found. length found.1.now < length octets.now) }
 {
     let at = place_of(octets, separator)?;

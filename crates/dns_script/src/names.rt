@@ -2,7 +2,7 @@
 
 ghost use Rattle.std.specs.Prelude.{◌≡◌};
 ghost use Rattle.dns_script.specs.Reading.{named};
-ghost use Rattle.dns_script.specs.Names.{error_names, event_names, fault_names, kind_names, out_names, via_names};
+ghost use Rattle.dns_script.specs.Names.{error_names, event_names, fault_names, kind_names, out_names, script_names, via_names};
 
 use client_request::{Error, Fault, QueryErrorKind, Via};
 
@@ -22,6 +22,14 @@ pub(crate) enum EventName {
     ReadFailed,
     Ended,
     Tick,
+}
+
+/// The kinds of a script's lines that have more than one word.
+#[derive(Clone, Copy, Debug, PartialEq, Eq)]
+pub(crate) enum ScriptName {
+    Conf,
+    Words,
+    At,
 }
 
 /// The kinds of what is put out, as a line names them.
@@ -246,6 +254,22 @@ pub(crate) fn out_named(word: &[u8]) -> Option<OutName>
     }
     if word == b"reply".as_slice() {
         return Some(OutName::Reply);
+    }
+    None
+}
+
+/// A line of a script.
+pub(crate) fn script_named(word: &[u8]) -> Option<ScriptName>
+    ensures { result ≡ named script_names word.now }
+{
+    if word == b"conf".as_slice() {
+        return Some(ScriptName::Conf);
+    }
+    if word == b"words".as_slice() {
+        return Some(ScriptName::Words);
+    }
+    if word == b"at".as_slice() {
+        return Some(ScriptName::At);
     }
     None
 }
