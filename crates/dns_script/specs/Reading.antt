@@ -1,5 +1,5 @@
 -- Words that are read: a number, octets, a word of a list.
-use Rattle.std.specs.Prelude.{◌≡◌, ℕ, ◌+◌, ◌*◌, ◌-◌, List, [], ◌∷◌, length, slice_index, take, drop, Option, Some, None, Result, Ok, Err, option_map, option_and_then, Bool, ◌&&◌, ◌||◌, ◌==◌, not, nat_lt, if◌then◌else◌, codes}
+use Rattle.std.specs.Prelude.{◌≡◌, ℕ, ◌+◌, ◌*◌, ◌-◌, List, [], ◌∷◌, length, slice_index, take, drop, Option, Some, None, Result, Ok, Err, option_map, option_and_then, Bool, true, false, ◌&&◌, ◌||◌, ◌==◌, not, nat_lt, if◌then◌else◌, codes}
 use Rattle.std.specs.Char.{is_ascii_digit}
 use Rattle.std.specs.List.{position, slice_split}
 use Rattle.std.specs.Str.{bytes_eq}
@@ -38,6 +38,12 @@ abbrev pub Reads : {X A : Type 0} → (X → A) → Result X LineFault → Optio
 Reads view (Ok x) read = read ≡ Some (view x)
 Reads view (Err line.Refused) read = read ≡ None
 Reads view (Err line.NoMemory) read = Unit {0}
+
+-- A test that must hold.
+abbrev pub Checks : Result Unit LineFault → Bool → Type 0
+Checks (Ok _) holds = holds ≡ true
+Checks (Err line.Refused) holds = holds ≡ false
+Checks (Err line.NoMemory) holds = Unit {0}
 
 -- What a function made of a value is what reading gives, unless memory ran out.
 abbrev pub Makes : {A : Type 0} → Result Unit LineFault → A → Option A → Type 0

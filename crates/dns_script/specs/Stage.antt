@@ -1,12 +1,14 @@
 -- The forms of scripts whose layers exist.
-use Rattle.std.specs.Prelude.{ℕ, List, length, slice_index, Option, Some, None, Bool, true, false, ◌&&◌, ◌||◌, ◌==◌, not, nat_lt, bit_and, is_some}
+use Rattle.std.specs.Prelude.{ℕ, List, length, slice_index, Option, Some, None, Bool, true, false, ◌&&◌, ◌||◌, ◌==◌, not, nat_lt, bit_and, is_some, codes}
+use Rattle.std.specs.Option.{option_map_or}
+use Rattle.std.specs.Str.{bytes_eq}
 use Rattle.client_request.specs.Request.{Request}
 use Rattle.client_request.specs.declared.event.What.{What}
 use Rattle.client_request.specs.declared.event.What.TheVariants as what
 use Rattle.dns_base.specs.Numbers.{u16_at}
 use Rattle.dns_base.specs.Message.{sole_question}
 use Rattle.resolv_conf.specs.declared.conf.ResolvConf.{ResolvConf}
-use Rattle.resolv_conf.specs.Script.{script_address}
+use Rattle.dns_script.specs.Reading.{cut}
 
 -- one question that can be read, and nothing else
 abbrev pub is_plain_base : List ℕ → Bool
@@ -35,4 +37,4 @@ takes_what asks conf _ = false
 
 -- a line of the configuration names a server
 abbrev pub takes_conf : List ℕ → Bool
-takes_conf line = is_some (script_address line)
+takes_conf line = option_map_or (λ parts. bytes_eq parts.0 (codes "nameserver")) (cut 32 line) false

@@ -1,6 +1,6 @@
 //! The words of a line, and what they say.
 
-ghost use Rattle.std.specs.Prelude.{◌≡◌, ◌≢◌, ◌==◌, MatchResult, ◌∷◌, [], MatchOption, IfOk, IfSome, length, ◌<◌, ◌≤◌};
+ghost use Rattle.std.specs.Prelude.{◌≡◌, ◌≢◌, ◌↔◌, IsTrue, ◌==◌, MatchResult, ◌∷◌, [], MatchOption, IfOk, IfSome, length, ◌<◌, ◌≤◌};
 ghost use Rattle.std.specs.List.{position};
 ghost use Rattle.dns_script.specs.declared.line.LineFault.TheVariants as line;
 ghost use Rattle.dns_script.specs.Grammar.{u64_at, u32_at, u16_at, octets_at, message_at, fault_at, via_at};
@@ -187,6 +187,13 @@ impl<'a> Words<'a> {
                 Ok(word)
             }
         }
+    }
+
+    #[tactic(auto, using(crate::proofs::Parts::parts_not_nil))]
+    pub(crate) fn is_empty(&self) -> bool
+        ensures { IsTrue result ↔ (self.now ≡ []) }
+    {
+        self.rest.is_none()
     }
 
     /// Refuses words that are left.
