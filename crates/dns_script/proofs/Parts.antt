@@ -8,6 +8,7 @@ use Rattle.std.proofs.lemmas.List.Sums.{fails_before_first}
 use Rattle.std.proofs.lemmas.Option.{cond_some, none-some, some_pair_parts}
 use Rattle.std.specs.Prelude.{option_map}
 use Rattle.std.specs.Str.{IsUtf8}
+use Rattle.std.specs.Str.Lines.{lines, lines_of_parts, strip_carriage_return}
 use Rattle.std.proofs.lemmas.Str.{IsUtf8-drop, IsCharBoundary-after_ascii}
 use Rattle.std.proofs.lemmas.List.Quantifiers.{position-Some}
 use Rattle.dns_script.specs.Reading.{cut, parts}
@@ -48,3 +49,11 @@ utf8_behind line name text u e =
     let found = position-Some (λ o. eqb o 32) line at.0 0 at.1 in
     let blank : get_or line at.0 0 ≡ 32 = eqb-true _ _ found.1 in
     rw at.2 (IsUtf8-drop line (at.0 + 1) u (IsCharBoundary-after_ascii line at.0 u found.0 (omega arith)))
+
+lines_first : (line : List ℕ) (ps : List (List ℕ)) → ps ≢ [] → lines_of_parts (line ∷ ps) ≡ strip_carriage_return line ∷ lines_of_parts ps
+lines_first line [] h = absurd (h refl)
+lines_first line (p ∷ ps) h = refl
+
+-- a part before a line feed is a line
+pub lines_more : (xs line behind : List ℕ) → parts 10 xs ≡ line ∷ parts 10 behind → lines xs ≡ strip_carriage_return line ∷ lines behind
+lines_more xs line behind e = ap lines_of_parts e ∙ lines_first line (parts 10 behind) (parts_not_nil 10 behind)

@@ -13,4 +13,5 @@ mod stage;
 mod words;
 
 pub use printing::trace_text;
-pub use script::{Lanes, Script};
+pub use script::{Lanes, Script, ScriptFault};
+pub use script_lines::read_script;

@@ -2,6 +2,7 @@
 
 ghost use Rattle.std.specs.Prelude.{◌≡◌, ◌≢◌, ◌↔◌, IsTrue, ◌==◌, MatchResult, ◌∷◌, [], MatchOption, IfOk, IfSome, length, ◌<◌, ◌≤◌};
 ghost use Rattle.std.specs.List.{position};
+ghost use Rattle.std.specs.Str.Lines.{lines, strip_carriage_return};
 ghost use Rattle.dns_script.specs.declared.line.LineFault.TheVariants as line;
 ghost use Rattle.dns_script.specs.Grammar.{u64_at, u32_at, u16_at, octets_at, message_at, fault_at, via_at};
 ghost use Rattle.dns_script.specs.Reading.{cut, parts, words_of, number_of, octets_of, with_digit, digit_of, octet_of, Gives, Reads, one_word, pairs};
@@ -144,6 +145,45 @@ fn octets_of(alloc: Global, word: &[u8]) -> Result<Octets, LineFault>
     }
     let octets = pairs(alloc, word)?;
     Ok(Octets::from_vec(octets)?)
+}
+
+/// The line without a carriage return at its end.
+fn without_return(line: &[u8]) -> &[u8]
+    ensures { result.now ≡ strip_carriage_return line.now }
+{
+    match line {
+        [front @ .., b'\r'] => front,
+        _ => line,
+    }
+}
+
+/// The lines of a text that are left: those between its line feeds, each without one carriage return
+/// before its line feed.
+#[derive(Drop)]
+pub(crate) struct Lines<'a> {
+    pub rest: &'a [u8],
+}
+
+impl<'a> Lines<'a> {
+    /// Takes the next line, where there is one.
+    #[tactic(auto, using(crate::proofs::Parts::lines_more))]
+    pub(crate) fn take(&mut self) -> Option<&'a [u8]>
+        ensures lines { MatchOption result (lines self.old.rest.now ≡ []) (λ line. lines self.old.rest.now ≡ line.now ∷ lines self.new.rest.now) }
+        ensures shorter { IfSome result (λ _. length self.new.rest.now < length self.old.rest.now) }
+    {
+        let rest = self.rest;
+        match split_first(rest, b'\n') {
+            Some((line, behind)) => {
+                self.rest = behind;
+                Some(without_return(line))
+            }
+            None if rest.len() == 0 => None,
+            None => {
+                self.rest = &rest[rest.len()..];
+                Some(rest)
+            }
+        }
+    }
 }
 
 /// The words of a line that are left, parted by single blanks.

@@ -56,6 +56,16 @@ impl Lanes {
     }
 }
 
+/// Why a text was not read.
+#[derive(Clone, Copy, Debug, PartialEq, Eq)]
+pub enum ScriptFault {
+    /// The first line that is refused, counted from 1, or the line after the last where the text
+    /// ends early.
+    Line(u64),
+    /// Memory ran out.
+    NoMemory,
+}
+
 /// What a script says: the configuration, the words to draw, and the events of each lane.
 #[derive(Drop)]
 pub struct Script {

@@ -4,12 +4,12 @@ ghost use Rattle.std.specs.Prelude.{◌≡◌, ◌++◌, Some, option_map};
 ghost use Rattle.dns_script.specs.Reading.{Makes, MakesBy, named, numbers_of};
 ghost use Rattle.dns_script.specs.Names.{script_names};
 ghost use Rattle.std.specs.Str.{IsUtf8};
-ghost use Rattle.dns_script.specs.ScriptReading.{TakesConf, TakesEvent, TakesLane, TakesLine, TakesNamed, TakesWords};
+ghost use Rattle.dns_script.specs.ScriptReading.{ReadsScript, begun_with, TakesConf, TakesEvent, TakesLane, TakesLine, TakesNamed, TakesWords};
 
-use crate::line::{LineFault, Words, split_first};
+use crate::line::{LineFault, Lines, Words, split_first};
 use crate::names::{ScriptName, script_named};
 use crate::reading::event;
-use crate::script::Lanes;
+use crate::script::{Lanes, Script, ScriptFault};
 use crate::stage::{check_what, takes_conf};
 use client_request::{Events, What, WordList};
 use resolv_conf::ResolvConf;
@@ -44,6 +44,21 @@ fn add_numbers(numbers: &mut WordList, words: &mut Words<'_>) -> Result<(), Line
 }
 
 impl ScriptReader {
+    /// Where `many`, no lane has begun.
+    fn new(alloc: Global, many: bool) -> ScriptReader
+        ensures { result ≡ begun_with many }
+    {
+        ScriptReader {
+            many,
+            begun: false,
+            asks: 0,
+            conf: ResolvConf::new(alloc),
+            words: WordList::new(alloc),
+            lanes: Lanes::new(alloc),
+            lane: if many { None } else { Some(Events::new(alloc)) },
+        }
+    }
+
     fn conf_line(&mut self, text: &str) -> Result<(), LineFault>
         ensures { MakesBy result self.new (TakesConf text.now self.old) }
     {
@@ -134,5 +149,40 @@ impl ScriptReader {
             None => Err(LineFault::Refused),
             Some((name, text)) => self.named_line(alloc, name, text),
         }
+    }
+}
+
+/// Reads a script. Where `lanes`, its events stand in lanes, of which there is one at least.
+///
+/// A text that is no script gives the first line that is refused, or the line after the last where a
+/// lane is wanted and none came.
+#[tactic(auto, using(crate::proofs::ScriptLoop::nothing_read, crate::proofs::ScriptLoop::line_read, crate::proofs::ScriptLoop::line_refused, crate::proofs::ScriptLoop::no_lane, crate::proofs::ScriptLoop::script_read))]
+pub fn read_script(alloc: Global, text: &[u8], lanes: bool) -> Result<Script, ScriptFault>
+    ensures { ReadsScript lanes text.now result }
+{
+    let mut reader = ScriptReader::new(alloc, lanes);
+    let mut left = Lines { rest: text };
+    let mut count: u64 = 0;
+    while let Some(line) = left.take() {
+        count += 1;
+        match reader.line(alloc, line) {
+            Ok(()) => {}
+            Err(LineFault::Refused) => return Err(ScriptFault::Line(count)),
+            Err(LineFault::NoMemory) => return Err(ScriptFault::NoMemory),
+        }
+    }
+    let ScriptReader {
+        conf,
+        words,
+        mut lanes,
+        lane,
+        ..
+    } = reader;
+    match lane {
+        None => Err(ScriptFault::Line(count + 1)),
+        Some(lane) => match lanes.push(lane) {
+            Ok(()) => Ok(Script { conf, words, lanes }),
+            Err(_) => Err(ScriptFault::NoMemory),
+        },
     }
 }
