@@ -1,6 +1,6 @@
 //! The transport over one server by datagrams.
 
-ghost use Rattle.std.specs.Prelude.{◌≡◌, IfOk};
+ghost use Rattle.std.specs.Prelude.{◌≡◌, true, false, IsOkAnd};
 ghost use Rattle.client_request.specs.Response.{response_of};
 ghost use Rattle.client_dgram.specs.Plain as plain;
 ghost use Rattle.client_dgram.specs.Settings.{default_settings};
@@ -34,19 +34,20 @@ impl<Req> Model for Connection<Req> {
 }
 
 impl<Req> Connection<Req> {
-    /// A connection with the default settings.
+    /// A connection with the default settings. It takes no memory.
     pub fn new(alloc: Global, server: u32) -> Result<Connection<Req>, NoMemory>
-        ensures { IfOk result (λ c. c ≡ plain.started server default_settings) }
+        ensures { IsOkAnd result (λ c. c ≡ plain.started server default_settings) }
     {
         Connection::with_config(alloc, server, Config::new())
     }
 
+    /// A connection with settings of one's own. It takes no memory.
     pub fn with_config(
         alloc: Global,
         server: u32,
         config: Config,
     ) -> Result<Connection<Req>, NoMemory>
-        ensures { IfOk result (λ c. c ≡ plain.started server config) }
+        ensures { IsOkAnd result (λ c. c ≡ plain.started server config) }
     {
         Ok(Connection {
             server,
@@ -54,6 +55,27 @@ impl<Req> Connection<Req> {
             tables: Tables::new(alloc),
             failed: false,
         })
+    }
+
+    /// The number that its outs name.
+    pub fn server(&self) -> u32
+        ensures { result ≡ self.now.server }
+    {
+        self.server
+    }
+
+    /// Whether an earlier call found no memory or no number.
+    pub fn has_failed(&self) -> bool
+        ensures { result ≡ self.now.failed }
+    {
+        self.failed
+    }
+
+    /// Lets each later call answer `Failed`, for what holds it and could not go on.
+    pub fn fail(&mut self)
+        ensures { self.new ≡ record self.old { failed = true } }
+    {
+        self.failed = true;
     }
 }
 
@@ -97,7 +119,11 @@ impl<Req: ComposeRequest> SendRequest<Req> for Connection<Req> {
 
     ghost has_failed = { λ c. c.failed };
 
+    ghost holds_failed = { λ c. c.failed };
+
     ghost plain_send = { plain.plain_send (requests_of Req.with_id Req.with_payload_size Req.composed Req.is_answered) };
+
+    ghost plain_response = { λ request c v. record { ticket = v.ticket; given = false } };
 
     ghost plain_step = { plain.plain_step (requests_of Req.with_id Req.with_payload_size Req.composed Req.is_answered) };
 

@@ -1,5 +1,6 @@
 pub mod Fault
 pub mod Request
+pub mod Composed
 pub mod Words
 pub mod Timers
 pub mod Board

@@ -76,6 +76,13 @@ impl Board {
         }
     }
 
+    /// How many parts stand.
+    pub fn len(&self) -> usize
+        ensures { result ≡ length self.now }
+    {
+        self.posted.len()
+    }
+
     /// The ticket whose part was put first, of all that stand.
     pub fn oldest(&self) -> Option<u64>
         ensures { result ≡ oldest self.now }

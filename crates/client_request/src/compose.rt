@@ -1,11 +1,13 @@
 //! The trait of a request that a transport can compose and match.
 
-ghost use Rattle.std.specs.Prelude.{◌≡◌, ℕ, Bool, List, Result};
+ghost use Rattle.std.specs.Prelude.{◌≡◌, ℕ, Bool, List, Result, OnErr};
 ghost use Rattle.client_request.specs.declared.error.Error.{Error};
+ghost use Rattle.dns_base.specs.Draft.{Draft};
 ghost use Rattle.client_request.specs.Composing.{IsComposed};
+ghost use Rattle.client_request.specs.Composed.{Copied, IsCopied, HoldsNothing};
 
-use crate::error::Error;
-use dns_base::Message;
+use crate::error::{CopyRecordsError, Error};
+use dns_base::{Builder, Message};
 
 /// A request that a transport sends and whose answer it knows.
 ///
@@ -19,6 +21,16 @@ pub trait ComposeRequest: Drop {
     ghost composed: { Self → Result (List ℕ) Error };
 
     ghost is_answered: { List ℕ → Self → Bool };
+
+    ghost appended: { Self → Draft → Copied };
+
+    /// Appends that message to a builder that holds no entry. A refusal leaves the builder as it was:
+    /// `Parse` where the base can't be read, `Push` where a section is full, the builder's limit would be
+    /// passed, or memory runs out. Of two refusals the first in message order is given.
+    fn append_message(&self, target: &mut Builder) -> Result<(), CopyRecordsError>
+        requires { HoldsNothing target.old }
+        ensures copied { IsCopied (appended self.now target.old) result target.new }
+        ensures err { OnErr result (target.new ≡ target.old) };
 
     /// The message: the recorded header, the base's questions and records without the OPT records of
     /// its additional section, and then the recorded OPT record (RFC 1035 4.1, RFC 6891 6.1).

@@ -2,9 +2,10 @@
 
 ghost use Rattle.std.specs.Prelude.{◌≡◌, Some};
 ghost use Rattle.client_request.specs.declared.error.Error.TheVariants as errors;
+ghost use Rattle.client_request.specs.declared.error.CopyRecordsError.TheVariants as copying;
 
 use crate::fault::Fault;
-use dns_base::{NoMemory, ParseError, PushError, ShortMessage};
+use dns_base::{LongOptData, NoMemory, ParseError, PushError, ShortMessage};
 
 /// Why a datagram try failed: what was being done, and the fault.
 #[derive(Clone, Copy, Debug, PartialEq, Eq, Hash)]
@@ -60,6 +61,22 @@ pub enum Error {
     Failed,
 }
 
+impl From<ParseError> for CopyRecordsError {
+    ghost from_gives = { λ p e. e ≡ copying.Parse p };
+
+    fn from(error: ParseError) -> CopyRecordsError {
+        CopyRecordsError::Parse(error)
+    }
+}
+
+impl From<PushError> for CopyRecordsError {
+    ghost from_gives = { λ p e. e ≡ copying.Push p };
+
+    fn from(error: PushError) -> CopyRecordsError {
+        CopyRecordsError::Push(error)
+    }
+}
+
 impl From<NoMemory> for Error {
     ghost from_gives = { λ _ e. e ≡ errors.NoMemory };
 
@@ -89,5 +106,29 @@ impl From<QueryError> for Error {
 
     fn from(error: QueryError) -> Error {
         Error::Dgram(error)
+    }
+}
+
+impl From<LongOptData> for Error {
+    ghost from_gives = { λ _ e. e ≡ errors.OptTooLong };
+
+    fn from(_error: LongOptData) -> Error {
+        Error::OptTooLong
+    }
+}
+
+impl From<CopyRecordsError> for Error {
+    ghost use Rattle.client_request.specs.Composed.{error_of};
+
+    ghost from_gives = { λ c e. e ≡ error_of c };
+
+    fn from(error: CopyRecordsError) -> Error {
+        match error {
+            CopyRecordsError::Parse(_) => Error::MessageParseError,
+            CopyRecordsError::Push(PushError::Count | PushError::Limit) => {
+                Error::MessageBuilderPushError
+            }
+            CopyRecordsError::Push(PushError::NoMemory) => Error::NoMemory,
+        }
     }
 }

@@ -4,8 +4,11 @@
 //! socket is put out as data.
 #![tactic(auto)]
 
+mod append;
 mod board;
 mod compose;
+mod copies;
+mod copying;
 mod cx;
 mod error;
 mod event;
@@ -13,6 +16,7 @@ mod fault;
 mod limits;
 mod list_words;
 mod lists;
+mod recorded_opt;
 mod request;
 mod response;
 mod send;

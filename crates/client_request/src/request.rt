@@ -1,15 +1,27 @@
-//! A request: a base message with the header and the OPT record that are recorded beside it.
+//! Requests: a base message with the header and the OPT record that are recorded beside it.
 
-use dns_base::{Message, Octets};
+ghost use Rattle.std.specs.Prelude.{◌≡◌, ◌↔◌, ◌⊎◌, IfOk, IfErr, IsErrOf, OnErr, IsTrue, Some, None, option_map};
+ghost use Rattle.dns_base.specs.OptRecord.{OptFields};
+ghost use Rattle.client_request.specs.Request as spec;
+ghost use Rattle.client_request.specs.Composed.{composed, appended, HoldsNothing};
+ghost use Rattle.client_request.specs.declared.error.Error.TheVariants as errors;
+
+use crate::append::append;
+use crate::compose::ComposeRequest;
+use crate::error::{CopyRecordsError, Error};
+use crate::recorded_opt::RecordedOpt;
+use dns_base::{Builder, Header, Message, NoMemory, Opcode, OptRecord, Rtype, is_answer};
+use std::alloc::Global;
 use std::marker::Model;
 
-/// A request as a caller asks it. What is sent is the base message under the recorded header, with
-/// the recorded OPT record in place of the base's own.
+/// A request for one message. What is sent is the base message under the recorded header, with the
+/// recorded OPT record in place of those of its additional section.
 #[derive(Drop)]
 pub struct RequestMessage {
+    alloc: Global,
     base: Message,
-    header: [u8; 4],
-    opt: Option<Octets>,
+    header: Header,
+    opt: Option<RecordedOpt>,
 }
 
 impl Model for RequestMessage {
@@ -18,4 +30,132 @@ impl Model for RequestMessage {
     ghost Value = { Request };
 
     ghost view = { λ r. record { base = r.base; header = r.header; opt = r.opt } };
+}
+
+/// Whether the first question is missing, can't be read, or asks for a whole zone.
+fn is_misformed(base: &Message) -> bool
+    ensures { result ≡ spec.is_misformed base.now }
+{
+    if base.header().opcode() != Opcode::QUERY {
+        return false;
+    }
+    match base.first_question() {
+        None => true,
+        Some(question) => question.qtype() == Rtype::AXFR,
+    }
+}
+
+impl RequestMessage {
+    /// A request with the base's own header and no OPT record. `FormError` where the base is a query
+    /// without a first question that can be read, or one for a whole zone, which several messages answer.
+    pub fn new(alloc: Global, msg: Message) -> Result<RequestMessage, Error>
+        ensures made { IfOk result (λ r. r ≡ spec.recorded_from msg) }
+        ensures misformed { IsErrOf result errors.FormError ↔ IsTrue (spec.is_misformed msg) }
+        ensures refused { IfErr result (λ e. e ≡ errors.FormError) }
+    {
+        if is_misformed(&msg) {
+            return Err(Error::FormError);
+        }
+        let header = msg.header();
+        Ok(RequestMessage {
+            alloc,
+            base: msg,
+            header,
+            opt: None,
+        })
+    }
+
+    /// The request with another header and another OPT record, or none.
+    pub fn with_recorded(
+        self,
+        header: Header,
+        opt: Option<OptRecord<'_>>,
+    ) -> Result<RequestMessage, NoMemory>
+        ensures { IfOk result (λ r. r ≡ record { base = self.base; header = header; opt = opt.entry }) }
+    {
+        let RequestMessage {
+            alloc,
+            base,
+            header: _,
+            opt: _,
+        } = self;
+        let opt = match opt {
+            None => None,
+            Some(opt) => Some(RecordedOpt::of(alloc, &opt)?),
+        };
+        Ok(RequestMessage {
+            alloc,
+            base,
+            header,
+            opt,
+        })
+    }
+
+    pub fn base(&self) -> &Message
+        ensures { result.now ≡ self.now.base }
+    {
+        &self.base
+    }
+
+    pub fn recorded_opt(&self) -> Option<OptRecord<'_>>
+        ensures { result ≡ self.now.opt }
+    {
+        match &self.opt {
+            None => None,
+            Some(opt) => Some(opt.as_record()),
+        }
+    }
+}
+
+/// The recorded OPT record, which is added where there is none.
+fn opt_or_empty(alloc: Global, opt: Option<RecordedOpt>) -> RecordedOpt
+    ensures { result ≡ spec.opt_or_empty opt }
+{
+    match opt {
+        Some(opt) => opt,
+        None => RecordedOpt::empty(alloc),
+    }
+}
+
+impl ComposeRequest for RequestMessage {
+    ghost with_id = { spec.with_id };
+
+    ghost with_payload_size = { spec.with_payload_size };
+
+    ghost composed = { composed };
+
+    ghost is_answered = { spec.is_answered };
+
+    ghost appended = { appended };
+
+    fn append_message(&self, target: &mut Builder) -> Result<(), CopyRecordsError> {
+        append(
+            self.alloc,
+            &self.base,
+            self.header,
+            self.recorded_opt(),
+            target,
+        )
+    }
+
+    fn to_message(&self) -> Result<Message, Error> {
+        let mut target = Builder::new(self.alloc, None)?;
+        self.append_message(&mut target)?;
+        let message = target.finish()?;
+        Ok(message)
+    }
+
+    fn set_id(&mut self, id: u16) {
+        self.header.set_id(id);
+    }
+
+    fn set_udp_payload_size(&mut self, value: u16) {
+        let mut opt = opt_or_empty(self.alloc, self.opt.take());
+        opt.set_udp_payload_size(value);
+        self.opt = Some(opt);
+    }
+
+    fn is_answer(&self, answer: &Message) -> bool {
+        is_answer(self.header.id(), &self.base, answer)
+    }
 }

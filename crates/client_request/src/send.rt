@@ -18,10 +18,16 @@ use crate::words::Words;
 pub trait SendRequest<CR> {
     type Response: GetResponse;
 
-    /// Whether an earlier call gave up.
+    /// Whether an earlier call gave up: then each call answers `Failed`.
     ghost has_failed: { Self → Bool };
 
+    /// Whether it, or a transport that it holds, gave up: else no call answers `Failed`.
+    ghost holds_failed: { Self → Bool };
+
     ghost plain_send: { CR → Step Self };
+
+    /// What stands for the result of a request that is taken on.
+    ghost plain_response: { CR → Self → View → Self.Response };
 
     ghost plain_step: { Heard → Step Self };
 
@@ -35,23 +41,26 @@ pub trait SendRequest<CR> {
     ) -> Result<Self::Response, Error>
         ensures lends { LendsTheSame cx.old cx.new }
         ensures ok { OnOk result (plain_send request self.old (view_of W.stream cx.old) ≡ Some (self.new, view_of W.stream cx.new)) }
+        ensures response { IfOk result (λ r. r ≡ plain_response request self.old (view_of W.stream cx.old)) }
         ensures ticket { IfOk result (λ r. Self.Response.ticket_of r ≡ cx.old.ticket) }
         ensures waits { IfOk result (λ r. Self.Response.has_given r ≡ false) }
         ensures numbers { IsErrOf result Error.NumbersUsed → plain_send request self.old (view_of W.stream cx.old) ≡ None }
+        ensures keeps { OnOk result (holds_failed self.new ≡ holds_failed self.old) }
         ensures refused { IfErr result IsRefusal }
         ensures err { OnErr result (has_failed self.new ≡ true) }
         ensures failed { has_failed self.old ≡ true → (result ≡ Err Error.Failed) × (self.new ≡ self.old) × (view_of W.stream cx.new ≡ view_of W.stream cx.old) }
-        ensures failed_only { IsErrOf result Error.Failed → has_failed self.old ≡ true };
+        ensures failed_only { IsErrOf result Error.Failed → holds_failed self.old ≡ true };
 
     /// Hears what happened.
     fn step<W: Words>(&mut self, cx: &mut Cx<'_, W>, signal: Signal<'_>) -> Result<(), Error>
         ensures lends { LendsTheSame cx.old cx.new }
         ensures ok { OnOk result (plain_step (heard signal.entry) self.old (view_of W.stream cx.old) ≡ Some (self.new, view_of W.stream cx.new)) }
         ensures numbers { IsErrOf result Error.NumbersUsed → plain_step (heard signal.entry) self.old (view_of W.stream cx.old) ≡ None }
+        ensures keeps { OnOk result (holds_failed self.new ≡ holds_failed self.old) }
         ensures refused { IfErr result IsRefusal }
         ensures err { OnErr result (has_failed self.new ≡ true) }
         ensures failed { has_failed self.old ≡ true → (result ≡ Err Error.Failed) × (self.new ≡ self.old) × (view_of W.stream cx.new ≡ view_of W.stream cx.old) }
-        ensures failed_only { IsErrOf result Error.Failed → has_failed self.old ≡ true };
+        ensures failed_only { IsErrOf result Error.Failed → holds_failed self.old ≡ true };
 
     /// Gives a request up, whose result then never comes.
     fn cancel<W: Words>(
@@ -62,8 +71,9 @@ pub trait SendRequest<CR> {
         ensures lends { LendsTheSame cx.old cx.new }
         ensures ok { OnOk result (plain_cancel response self.old (view_of W.stream cx.old) ≡ Some (self.new, view_of W.stream cx.new)) }
         ensures numbers { IsErrOf result Error.NumbersUsed → plain_cancel response self.old (view_of W.stream cx.old) ≡ None }
+        ensures keeps { OnOk result (holds_failed self.new ≡ holds_failed self.old) }
         ensures refused { IfErr result IsRefusal }
         ensures err { OnErr result (has_failed self.new ≡ true) }
         ensures failed { has_failed self.old ≡ true → (result ≡ Err Error.Failed) × (self.new ≡ self.old) × (view_of W.stream cx.new ≡ view_of W.stream cx.old) }
-        ensures failed_only { IsErrOf result Error.Failed → has_failed self.old ≡ true };
+        ensures failed_only { IsErrOf result Error.Failed → holds_failed self.old ≡ true };
 }

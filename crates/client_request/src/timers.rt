@@ -104,6 +104,13 @@ impl Timers {
         Ok(TimerId(id))
     }
 
+    /// How many timers are set.
+    pub fn len(&self) -> usize
+        ensures { result ≡ length self.now.set }
+    {
+        self.kept.len()
+    }
+
     /// Drops a timer, if it is still set.
     pub fn cancel(&mut self, id: TimerId)
         ensures { self.new ≡ cancelled id.0 self.old }

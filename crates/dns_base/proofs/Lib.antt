@@ -1,4 +1,11 @@
+pub mod Aliases
+pub mod DataSizes
+pub mod Holding
 pub mod Lists
+pub mod ReadData
 pub mod Sizes
+pub mod SpelledData
+pub mod SpelledEntries
+pub mod Stands
 pub mod Whole
 pub mod Worked

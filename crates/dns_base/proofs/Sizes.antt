@@ -1,12 +1,13 @@
 -- How many octets are written.
-use Rattle.std.proofs.Common.{◌≡◌, ℕ, ◌+◌, ◌≤◌, List, ◌++◌, length, arith, ap, subst, length-append}
+use Rattle.std.proofs.Common.{◌≡◌, ℕ, ◌+◌, ◌≤◌, List, ◌++◌, take, length, arith, ap, subst, length-append}
+use Rattle.std.proofs.lemmas.List.{take-append-le}
 use Rattle.std.specs.Prelude.{Option, Some, None}
 use Rattle.std.specs.Int.{w16, w32, to_be_bytes}
 use Rattle.dns_names.specs.Name.{spelling}
 use Rattle.dns_names.proofs.NameLaws.{spelled_length}
 use Rattle.dns_base.specs.Data.{data_spelling}
-use Rattle.dns_base.specs.Message.{Asked}
-use Rattle.dns_base.specs.Draft.{Written, IsWithin, question_spelling, question_size, record_spelling, record_size}
+use Rattle.dns_base.specs.Message.{Asked, Written}
+use Rattle.dns_base.specs.Draft.{Draft, cleared, IsWithin, question_spelling, question_size, record_spelling, record_size}
 
 pub question_long : (q : Asked) → length (question_spelling q) ≡ question_size q
 unfolding question_spelling
@@ -28,3 +29,10 @@ pub still_within : (limit : Option ℕ) (octets added now : List ℕ) (more : �
 still_within limit octets added now more h n e =
     let is : length octets + more ≡ length now = omega (arith, ap length n, length-append octets added) in
     subst (IsWithin limit) is h
+
+-- what stands before the entries stays
+pub head_kept : (d e : Draft) (more : List ℕ) → 12 ≤ length d.octets → e.octets ≡ d.octets ++ more → e.limit ≡ d.limit → cleared e ≡ cleared d
+unfolding cleared
+head_kept d e more long is same =
+    let head : take 12 (d.octets ++ more) ≡ take 12 d.octets = take-append-le 12 d.octets more long in
+    cc

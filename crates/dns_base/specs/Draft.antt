@@ -4,25 +4,17 @@ use Rattle.std.specs.Int.{w16, w32, to_be_bytes}
 use Rattle.dns_values.specs.declared.numbers.Section.{Section}
 use Rattle.dns_base.specs.declared.push_error.PushError.{PushError}
 use Rattle.dns_base.specs.declared.push_error.PushError.TheVariants.{Count, Limit, NoMemory}
-use Rattle.dns_names.specs.Name.{Labels, spelling, octet_count}
+use Rattle.dns_names.specs.Name.{spelling, octet_count}
 use Rattle.dns_base.specs.Header.{Counts}
 use Rattle.dns_base.specs.Sections.{no_entries, entries_in, one_more_in, counts_spelling}
-use Rattle.dns_base.specs.Data.{Data, data_spelling}
-use Rattle.dns_base.specs.Message.{Asked}
+use Rattle.dns_base.specs.Data.{data_spelling}
+use Rattle.dns_base.specs.Message.{Asked, Written}
 
 -- its octets so far, what each section has, and the most octets that it may have
 pub record Draft : Type 0 where
   pub octets : List ℕ
   pub counts : Counts
   pub limit : Option ℕ
-
--- a record as it is pushed, with what its data says
-pub record Written : Type 0 where
-  pub owner : Labels
-  pub rtype : ℕ
-  pub class : ℕ
-  pub ttl : ℕ
-  pub content : Data
 
 -- how many octets a question and a record have with their names spelled out
 abbrev pub question_size : Asked → ℕ

@@ -3,5 +3,11 @@ pub mod Header
 pub mod Sections
 pub mod Data
 pub mod Message
+pub mod Answering
+pub mod OptRecord
+pub mod Canonical
 pub mod RecordData
+pub mod Knowing
 pub mod Draft
+pub mod Holding
+pub mod DraftLaws

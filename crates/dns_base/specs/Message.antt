@@ -1,10 +1,11 @@
 -- A message, as RFC 1035 4.1 has it: a header of twelve octets, then questions, and three lists of records.
 use Rattle.std.specs.Prelude.{ℕ, zero, suc, ◌+◌, List, [], ◌∷◌, length, take, Option, Some, None, Result, Ok, Err, option_and_then, option_map, slice_range, nat_le, ◌==◌, ◌||◌, ◌&&◌, ◌%◌, not, Bool, true, false, slice_index, nat_lt, if◌then◌else◌}
+use Rattle.std.specs.Option.{option_map_or}
 use Rattle.dns_values.specs.declared.error.ParseError.{ParseError}
 use Rattle.dns_base.specs.Numbers.{u16_at, u32_at, ◌>>=◌}
 use Rattle.dns_base.specs.Data.{Data, data_at}
-use Rattle.dns_base.specs.Header.{Counts, counts_of, id_of, qr_of, rcode_of}
-use Rattle.dns_names.specs.Name.{Labels, Found, name_at, same_name}
+use Rattle.dns_base.specs.Header.{Counts, counts_of}
+use Rattle.dns_names.specs.Name.{Labels, Found, name_at}
 
 pub record Asked : Type 0 where
   pub name : Labels
@@ -18,6 +19,14 @@ pub record Entry : Type 0 where
   pub class : ℕ
   pub ttl : ℕ
   pub octets : List ℕ
+
+-- a record, with what its data says
+pub record Written : Type 0 where
+  pub owner : Labels
+  pub rtype : ℕ
+  pub class : ℕ
+  pub ttl : ℕ
+  pub content : Data
 
 -- a record, and what its data says, if it is read
 pub record Known : Type 0 where
@@ -71,6 +80,10 @@ unfoldable pub items_at : {A : Type 0} → (ℕ → Option (A × ℕ)) → ℕ �
 items_at one zero at = []
 items_at one (suc n) at = item_then (λ end. items_at one n end) (one at)
 
+-- the first four octets, where the id and the flags stand
+abbrev pub header_of : List ℕ → List ℕ
+header_of octets = take 4 octets
+
 pub record Reading : Type 0 where
   pub header : List ℕ
   pub counts : Counts
@@ -100,7 +113,7 @@ reads octets = if nat_lt (length octets) 12 then None else do
   authority ← authority_of octets
   additional ← additional_of octets
   Some (record {
-    header = take 4 octets;
+    header = header_of octets;
     counts = counts_of octets;
     questions = questions.0;
     answer = answer.0;
@@ -108,9 +121,22 @@ reads octets = if nat_lt (length octets) 12 then None else do
     additional = additional.0;
   })
 
--- what a reader of the answer section meets, where the questions are read
+-- the records of the answer section
+abbrev pub answer_records : List ℕ → Option (List Known)
+answer_records octets = option_map (λ found. found.0) (answer_of octets)
+
+-- what a reader of a section meets, where the sections before it are read
+abbrev pub items_behind : {A : Type 0} → List ℕ → ℕ → Option (List A × ℕ) → Option (List (Result Known ParseError))
+items_behind octets count before = option_map (λ found. items_at (record_at octets) count found.1) before
+
 unfoldable pub answer_items : List ℕ → Option (List (Result Known ParseError))
-answer_items octets = option_map (λ before. items_at (record_at octets) (u16_at octets 6) before.1) (questions_of octets)
+answer_items octets = items_behind octets (u16_at octets 6) (questions_of octets)
+
+unfoldable pub authority_items : List ℕ → Option (List (Result Known ParseError))
+authority_items octets = items_behind octets (u16_at octets 8) (answer_of octets)
+
+unfoldable pub additional_items : List ℕ → Option (List (Result Known ParseError))
+additional_items octets = items_behind octets (u16_at octets 10) (authority_of octets)
 
 -- the first question
 unfoldable pub first_question : List ℕ → Option Asked
@@ -120,35 +146,12 @@ first_question octets = if u16_at octets 4 == 0 then None else option_map (λ x.
 unfoldable pub sole_question : List ℕ → Option Asked
 sole_question octets = if u16_at octets 4 == 1 then option_map (λ x. x.0) (question_at octets 12) else None
 
--- without case
-abbrev pub same_asked : Asked → Asked → Bool
-same_asked a b = same_name a.name b.name && (a.rtype == b.rtype && a.class == b.class)
-
--- both are read to their ends, and the same item by item
-abbrev pub same_items : List (Result Asked ParseError) → List (Result Asked ParseError) → Bool
-same_items [] [] = true
-same_items (Ok x ∷ xs) (Ok y ∷ ys) = same_asked x y && same_items xs ys
-same_items [] (y ∷ ys) = false
-same_items (x ∷ xs) [] = false
-same_items (Err e ∷ xs) (y ∷ ys) = false
-same_items (Ok x ∷ xs) (Err e ∷ ys) = false
-
-abbrev pub question_items : List ℕ → List (Result Asked ParseError)
-question_items octets = items_at (question_at octets) (u16_at octets 4) 12
-
--- no entries in any section
-abbrev pub is_bare : List ℕ → Bool
-is_bare octets = u16_at octets 4 == 0 && (u16_at octets 6 == 0 && (u16_at octets 8 == 0 && u16_at octets 10 == 0))
-
--- an answer to a request with this id and these questions
-unfoldable pub is_answer : ℕ → List ℕ → List ℕ → Bool
-is_answer id base octets =
-    qr_of octets && (id_of octets == id
-    && ((not (rcode_of octets == 0) && is_bare octets)
-    || (u16_at octets 4 == u16_at base 4 && same_items (question_items octets) (question_items base))))
-
 -- all of them, where each is read
 abbrev pub all_read : {A : Type 0} → List (Result A ParseError) → Option (List A)
 all_read [] = Some []
 all_read (Ok x ∷ rs) = option_map (λ xs. x ∷ xs) (all_read rs)
 all_read (Err e ∷ rs) = None
+
+-- the first question asks for a zone transfer
+unfoldable pub is_xfr : List ℕ → Bool
+is_xfr octets = option_map_or (λ q. q.rtype == 252 || q.rtype == 251) (first_question octets) false

@@ -1,7 +1,7 @@
 //! Which messages answer a request.
 
 ghost use Rattle.std.specs.Prelude.{◌≡◌, ◌≤◌, length};
-ghost use Rattle.dns_base.specs.Message.{same_asked, same_items, is_bare, is_answer};
+ghost use Rattle.dns_base.specs.Answering.{same_asked, same_items, is_bare, is_answer};
 
 use crate::message::Message;
 use crate::numbers::u16_at;
@@ -47,7 +47,7 @@ fn is_bare(octets: &[u8]) -> bool
 }
 
 /// Whether a message answers a request with an id, made from a base message.
-#[tactic(auto, unfolding(crate::specs::Message::is_answer))]
+#[tactic(auto, unfolding(crate::specs::Answering::is_answer))]
 pub fn is_answer(id: u16, base: &Message, answer: &Message) -> bool
     ensures { result ≡ is_answer id base.now answer.now }
 {

@@ -6,6 +6,7 @@ ghost use Rattle.dns_base.specs.Draft as spec;
 ghost use Rattle.dns_base.specs.Sections as sections;
 ghost use Rattle.dns_names.specs.Name.{octet_count};
 ghost use Rattle.dns_base.specs.Data.{data_spelling, is_of_type};
+ghost use Rattle.dns_base.specs.Holding.{IsAskable, IsWritable};
 ghost use Rattle.dns_base.specs.RecordData.{data_view};
 
 use crate::header::{Header, HeaderCounts};
@@ -36,10 +37,11 @@ impl Model for Builder {
 
 impl Builder {
     /// A message of twelve zero octets, which may grow to a limit of octets.
-    #[tactic(auto, unfolding(crate::specs::Draft::fresh))]
+    #[tactic(auto, unfolding(crate::specs::Draft::fresh, crate::specs::Draft::counts_in))]
     pub fn new(alloc: Global, limit: Option<u32>) -> Result<Builder, NoMemory>
         requires { IfSome limit (λ l. 12 ≤ l) }
-        ensures { IfOk result (λ b. b ≡ spec.fresh limit) }
+        ensures fresh { IfOk result (λ b. b ≡ spec.fresh limit) }
+        ensures empty { IfOk result (λ b. spec.counts_in b ≡ sections.no_entries) }
     {
         let octets = vec![in alloc; 0; 12]?;
         Ok(Builder {
@@ -50,9 +52,10 @@ impl Builder {
     }
 
     /// Sets the id and the flags.
-    #[tactic(auto, unfolding(crate::specs::Draft::with_header))]
+    #[tactic(auto, unfolding(crate::specs::Draft::with_header, crate::specs::Draft::counts_in))]
     pub fn set_header(&mut self, header: Header)
-        ensures { self.new ≡ spec.with_header header self.old }
+        ensures set { self.new ≡ spec.with_header header self.old }
+        ensures counts { spec.counts_in self.new ≡ spec.counts_in self.old }
     {
         header.put_over(&mut self.octets);
     }
@@ -82,7 +85,7 @@ impl Builder {
     }
 
     /// Adds a question.
-    #[tactic(auto, unfolding(crate::specs::Draft::pushed_question, crate::specs::Draft::size, crate::specs::Draft::limit_of, crate::specs::Draft::counts_in))]
+    #[tactic(auto, unfolding(crate::specs::Draft::pushed_question, crate::specs::Draft::cleared, crate::specs::Draft::size, crate::specs::Draft::limit_of, crate::specs::Draft::counts_in))]
     pub fn push_question<N: ToName>(
         &mut self,
         name: &N,
@@ -91,7 +94,10 @@ impl Builder {
     ) -> Result<(), PushError>
         requires order { sections.HasNoRecords (spec.counts_in self.old) }
         ensures ok { OnOk result (self.new ≡ spec.pushed_question (record { name = N.labels_of name.now; rtype = rtype.0; class = class.0 }) self.old) }
+        ensures counted { OnOk result (spec.counts_in self.new ≡ record (spec.counts_in self.old) { questions = (spec.counts_in self.old).questions + 1 }) }
+        ensures askable { OnOk result (IsAskable (record { name = N.labels_of name.now; rtype = rtype.0; class = class.0 })) }
         ensures err { OnErr result (self.new ≡ self.old) }
+        ensures head { spec.cleared self.new ≡ spec.cleared self.old }
         ensures count { (result ≡ Err PushError.Count) ↔ ((spec.counts_in self.old).questions ≡ 65535) }
         ensures limit_only { result ≡ Err PushError.Limit → IsTrue (spec.is_past (spec.limit_of self.old) (spec.size self.old + (octet_count (N.labels_of name.now) + 4))) }
         ensures fits { OnOk result (spec.IsWithin (spec.limit_of self.new) (spec.size self.new)) }
@@ -107,7 +113,7 @@ impl Builder {
     }
 
     /// Adds a record to a section, with the names in its data spelled out.
-    #[tactic(auto, unfolding(crate::specs::Draft::pushed_record, crate::specs::Draft::size, crate::specs::Draft::limit_of, crate::specs::Draft::counts_in))]
+    #[tactic(auto, unfolding(crate::specs::Draft::pushed_record, crate::specs::Draft::cleared, crate::specs::Draft::size, crate::specs::Draft::limit_of, crate::specs::Draft::counts_in))]
     pub fn push_record<N: ToName>(
         &mut self,
         section: Section,
@@ -121,7 +127,10 @@ impl Builder {
         requires typed { IsTrue (is_of_type rtype.0 (data_view rdata.now)) }
         requires short { length (data_spelling (data_view rdata.now)) < 65536 }
         ensures ok { OnOk result (self.new ≡ spec.pushed_record section (record { owner = N.labels_of owner.now; rtype = rtype.0; class = class.0; ttl = ttl.0; content = data_view rdata.now }) self.old) }
+        ensures counted { OnOk result (spec.counts_in self.new ≡ sections.one_more_in section (spec.counts_in self.old)) }
+        ensures writable { OnOk result (IsWritable (record { owner = N.labels_of owner.now; rtype = rtype.0; class = class.0; ttl = ttl.0; content = data_view rdata.now })) }
         ensures err { OnErr result (self.new ≡ self.old) }
+        ensures head { spec.cleared self.new ≡ spec.cleared self.old }
         ensures count { (result ≡ Err PushError.Count) ↔ (sections.entries_in section (spec.counts_in self.old) ≡ 65535) }
         ensures limit_only { result ≡ Err PushError.Limit → IsTrue (spec.is_past (spec.limit_of self.old) (spec.size self.old + (octet_count (N.labels_of owner.now) + 10 + length (data_spelling (data_view rdata.now))))) }
         ensures fits { OnOk result (spec.IsWithin (spec.limit_of self.new) (spec.size self.new)) }
@@ -140,9 +149,10 @@ impl Builder {
     }
 
     /// Drops every entry, and keeps the header.
-    #[tactic(auto, unfolding(crate::specs::Draft::cleared))]
+    #[tactic(auto, unfolding(crate::specs::Draft::cleared, crate::specs::Draft::counts_in))]
     pub fn clear(&mut self)
-        ensures { self.new ≡ spec.cleared self.old }
+        ensures cleared { self.new ≡ spec.cleared self.old }
+        ensures empty { spec.counts_in self.new ≡ sections.no_entries }
     {
         self.octets.truncate(12);
         self.counts = HeaderCounts::none();

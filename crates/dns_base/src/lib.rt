@@ -4,8 +4,11 @@
 mod answer;
 mod builder;
 mod header;
+mod laws;
+mod lookups;
 mod message;
 mod numbers;
+mod opt_record;
 mod push_error;
 mod question;
 mod record;
@@ -16,13 +19,18 @@ mod tests;
 
 pub use answer::is_answer;
 pub use builder::Builder;
-pub use dns_names::{LabelIter, Name, ParsedName, ToName, is_same_name, name_laws, to_name};
+pub use dns_names::{
+    ChainFault, LabelIter, Name, NameFault, ParsedName, RelativeName, ToName, is_same_name,
+    name_is_read_back, name_laws, relative_name_is_read_back, text_laws,
+};
 pub use dns_values::{
     Class, Duration, Failed, IpAddr, LongName, LongOptData, NoMemory, Octets, Opcode, OptRcode,
-    ParseError, Rcode, Rtype, Section, Serial, ShortMessage, SocketAddr, Status, Ttl,
+    ParseError, Rcode, Rtype, Section, Serial, ShortMessage, SocketAddr, Status, Ttl, address_laws,
 };
 pub use header::{Header, HeaderCounts};
+pub use laws::draft_laws;
 pub use message::Message;
+pub use opt_record::OptRecord;
 pub use push_error::PushError;
 pub use question::{Question, QuestionSection};
 pub use record::{Record, RecordSection};

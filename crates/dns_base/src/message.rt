@@ -1,14 +1,14 @@
 //! Messages, read where they lie.
 
-ghost use Rattle.std.specs.Prelude.{◌≡◌, ◌≤◌, ◌<◌, ◌↔◌, ℕ, List, ◌++◌, length, take, drop, option_map, IfOk, OnOk, OnErr, IsErr, MatchOption, MatchResult, None, Some};
+ghost use Rattle.std.specs.Prelude.{◌≡◌, ◌≤◌, ◌<◌, ◌↔◌, ℕ, List, ◌++◌, length, drop, option_map, IfOk, OnOk, OnErr, IsErr, MatchOption, MatchResult, None, Some};
 ghost use Rattle.dns_base.specs.Header.{counts_of};
 ghost use Rattle.dns_base.specs.Numbers.{u16_at};
-ghost use Rattle.dns_base.specs.Message.{question_at, items_at, list_at, first_question, sole_question, answer_items};
+ghost use Rattle.dns_base.specs.Message.{question_at, items_at, list_at, record_at, questions_of, answer_of, authority_of, first_question, sole_question, answer_items, authority_items, additional_items, header_of};
 
 use crate::header::{Header, HeaderCounts};
 use crate::numbers::u16_at;
 use crate::question::{Question, QuestionSection};
-use crate::record::RecordSection;
+use crate::record::{Record, RecordSection};
 use dns_values::{NoMemory, Octets, ParseError, ShortMessage};
 use std::alloc::Global;
 use std::marker::Model;
@@ -54,16 +54,16 @@ impl Message {
     }
 
     /// The same message again.
-    pub fn try_clone(&self, alloc: Global) -> Result<Message, NoMemory>
+    pub fn try_clone(&self) -> Result<Message, NoMemory>
         ensures { IfOk result (λ m. m ≡ self.now) }
     {
-        let octets = Octets::from_slice(alloc, self.as_slice())?;
+        let octets = self.octets.try_clone()?;
         Ok(Message::long(octets))
     }
 
     /// A copy of the id and the flags.
     pub fn header(&self) -> Header
-        ensures { result ≡ take 4 self.now }
+        ensures { result ≡ header_of self.now }
     {
         let octets = self.as_slice();
         Header::from_octets([octets[0], octets[1], octets[2], octets[3]])
@@ -126,21 +126,48 @@ impl Message {
 }
 
 impl Message {
-    /// The records of the answer section.
-    #[tactic(auto, unfolding(crate::specs::Message::answer_items, crate::specs::Message::questions_of))]
+    /// The records of the answer section. Refused exactly where the questions can't be read.
+    #[tactic(auto, unfolding(crate::specs::Message::answer_items))]
     pub fn answer(&self) -> Result<RecordSection<'_>, ParseError>
-        ensures { MatchResult result (λ s. answer_items self.now ≡ Some s) (λ _. answer_items self.now ≡ None) }
+        ensures all { MatchResult result (λ s. answer_items self.now ≡ Some s) (λ _. answer_items self.now ≡ None) }
+        ensures few { IfOk result (λ s. length s < 65536) }
     {
         let octets = self.as_slice();
-        match questions_end(octets, u16_at(octets, 4), 12) {
+        match answer_start(octets) {
             None => Err(ParseError),
             Some(at) => Ok(RecordSection::new(octets, at, u16_at(octets, 6))),
+        }
+    }
+
+    /// The records of the authority section. Refused exactly where a section before it can't be read.
+    #[tactic(auto, unfolding(crate::specs::Message::authority_items))]
+    pub fn authority(&self) -> Result<RecordSection<'_>, ParseError>
+        ensures all { MatchResult result (λ s. authority_items self.now ≡ Some s) (λ _. authority_items self.now ≡ None) }
+        ensures few { IfOk result (λ s. length s < 65536) }
+    {
+        let octets = self.as_slice();
+        match authority_start(octets) {
+            None => Err(ParseError),
+            Some(at) => Ok(RecordSection::new(octets, at, u16_at(octets, 8))),
+        }
+    }
+
+    /// The records of the additional section. Refused exactly where a section before it can't be read.
+    #[tactic(auto, unfolding(crate::specs::Message::additional_items))]
+    pub fn additional(&self) -> Result<RecordSection<'_>, ParseError>
+        ensures all { MatchResult result (λ s. additional_items self.now ≡ Some s) (λ _. additional_items self.now ≡ None) }
+        ensures few { IfOk result (λ s. length s < 65536) }
+    {
+        let octets = self.as_slice();
+        match additional_start(octets) {
+            None => Err(ParseError),
+            Some(at) => Ok(RecordSection::new(octets, at, u16_at(octets, 10))),
         }
     }
 }
 
 /// Where the octets after so many questions stand.
-pub(crate) fn questions_end(octets: &[u8], count: u16, place: usize) -> Option<usize>
+fn questions_end(octets: &[u8], count: u16, place: usize) -> Option<usize>
     ensures { result ≡ option_map (λ x. x.1) (list_at (question_at octets.now) count place) }
 {
     let mut at = place;
@@ -149,6 +176,42 @@ pub(crate) fn questions_end(octets: &[u8], count: u16, place: usize) -> Option<u
         at = end;
     }
     Some(at)
+}
+
+/// Where the octets after so many records stand.
+fn records_end(octets: &[u8], count: u16, place: usize) -> Option<usize>
+    ensures { result ≡ option_map (λ x. x.1) (list_at (record_at octets.now) count place) }
+{
+    let mut at = place;
+    for _ in 0..count {
+        let (_, end) = Record::parse(octets, at)?;
+        at = end;
+    }
+    Some(at)
+}
+
+#[tactic(auto, unfolding(crate::specs::Message::questions_of))]
+fn answer_start(octets: &[u8]) -> Option<usize>
+    requires { 12 ≤ length octets.now }
+    ensures { result ≡ option_map (λ x. x.1) (questions_of octets.now) }
+{
+    questions_end(octets, u16_at(octets, 4), 12)
+}
+
+#[tactic(auto, unfolding(crate::specs::Message::answer_of))]
+fn authority_start(octets: &[u8]) -> Option<usize>
+    requires { 12 ≤ length octets.now }
+    ensures { result ≡ option_map (λ x. x.1) (answer_of octets.now) }
+{
+    records_end(octets, u16_at(octets, 6), answer_start(octets)?)
+}
+
+#[tactic(auto, unfolding(crate::specs::Message::authority_of))]
+fn additional_start(octets: &[u8]) -> Option<usize>
+    requires { 12 ≤ length octets.now }
+    ensures { result ≡ option_map (λ x. x.1) (authority_of octets.now) }
+{
+    records_end(octets, u16_at(octets, 8), authority_start(octets)?)
 }
 
 impl Message {

@@ -1,9 +1,10 @@
 //! The octets of questions and records, with their names spelled out.
 
-ghost use Rattle.std.specs.Prelude.{◌≡◌, ◌≤◌, ◌<◌, ◌+◌, ◌++◌, length, IfOk, OnOk};
+ghost use Rattle.std.specs.Prelude.{◌≡◌, ◌≤◌, ◌<◌, ◌^◌, ◌++◌, length, IfOk, OnOk, IsTrue};
 ghost use Rattle.std.specs.Int.{w16, w32, to_be_bytes};
-ghost use Rattle.dns_names.specs.Name.{spelling, octet_count};
-ghost use Rattle.dns_base.specs.Data.{data_spelling};
+ghost use Rattle.dns_names.specs.Name.{spelling, octet_count, IsLegal};
+ghost use Rattle.dns_base.specs.Data.{data_spelling, is_of_type};
+ghost use Rattle.dns_base.specs.Holding.{IsAskable, IsWritable, IsWritableData};
 ghost use Rattle.dns_base.specs.RecordData.{data_view};
 ghost use Rattle.dns_base.specs.Draft.{question_spelling, record_spelling};
 
@@ -17,6 +18,7 @@ pub(crate) fn name_size(name: &ParsedName<'_>) -> usize
     ensures all { result ≡ octet_count name.now }
     ensures spelled { result ≡ length (spelling name.now) }
     ensures few { result ≤ 255 }
+    ensures legal { IsLegal name.now }
 {
     let mut count = 1;
     for label in name.labels() {
@@ -27,7 +29,8 @@ pub(crate) fn name_size(name: &ParsedName<'_>) -> usize
 
 /// Appends a name.
 fn put_name(octets: &mut Vec<u8>, name: &ParsedName<'_>) -> Result<(), NoMemory>
-    ensures { OnOk result (octets.new.items ≡ octets.old.items ++ spelling name.now) }
+    ensures items { OnOk result (octets.new.items ≡ octets.old.items ++ spelling name.now) }
+    ensures legal { IsLegal name.now }
 {
     for label in name.labels() {
         octets.push(label.len() as u8)?;
@@ -39,7 +42,8 @@ fn put_name(octets: &mut Vec<u8>, name: &ParsedName<'_>) -> Result<(), NoMemory>
 
 /// Appends two octets, the highest first.
 fn put_u16(octets: &mut Vec<u8>, n: u16) -> Result<(), NoMemory>
-    ensures { OnOk result (octets.new.items ≡ octets.old.items ++ to_be_bytes w16 n) }
+    ensures items { OnOk result (octets.new.items ≡ octets.old.items ++ to_be_bytes w16 n) }
+    ensures range { n < 2 ^ 16 }
 {
     octets.extend_from_slice(&n.to_be_bytes())?;
     Ok(())
@@ -47,7 +51,8 @@ fn put_u16(octets: &mut Vec<u8>, n: u16) -> Result<(), NoMemory>
 
 /// Appends four octets, the highest first.
 fn put_u32(octets: &mut Vec<u8>, n: u32) -> Result<(), NoMemory>
-    ensures { OnOk result (octets.new.items ≡ octets.old.items ++ to_be_bytes w32 n) }
+    ensures items { OnOk result (octets.new.items ≡ octets.old.items ++ to_be_bytes w32 n) }
+    ensures range { n < 2 ^ 32 }
 {
     octets.extend_from_slice(&n.to_be_bytes())?;
     Ok(())
@@ -60,6 +65,20 @@ fn put_octets(octets: &mut Vec<u8>, more: &[u8]) -> Result<(), NoMemory>
     Ok(())
 }
 
+fn put_address(octets: &mut Vec<u8>, address: [u8; 4]) -> Result<(), NoMemory>
+    ensures items { OnOk result (octets.new.items ≡ octets.old.items ++ address) }
+    ensures len { length address ≡ 4 }
+{
+    put_octets(octets, &address)
+}
+
+fn put_long_address(octets: &mut Vec<u8>, address: [u8; 16]) -> Result<(), NoMemory>
+    ensures items { OnOk result (octets.new.items ≡ octets.old.items ++ address) }
+    ensures len { length address ≡ 16 }
+{
+    put_octets(octets, &address)
+}
+
 /// The octets of a question.
 #[tactic(auto, unfolding(crate::specs::Draft::question_spelling))]
 pub(crate) fn question_octets(
@@ -68,7 +87,8 @@ pub(crate) fn question_octets(
     rtype: Rtype,
     class: Class,
 ) -> Result<Vec<u8>, NoMemory>
-    ensures { IfOk result (λ v. v.items ≡ question_spelling (record { name = name.now; rtype = rtype.0; class = class.0 })) }
+    ensures items { IfOk result (λ v. v.items ≡ question_spelling (record { name = name.now; rtype = rtype.0; class = class.0 })) }
+    ensures askable { OnOk result (IsAskable (record { name = name.now; rtype = rtype.0; class = class.0 })) }
 {
     let mut octets = Vec::new(alloc);
     put_name(&mut octets, name)?;
@@ -112,11 +132,12 @@ pub(crate) fn data_size(rdata: &RecordData<'_>) -> usize
 /// Appends data.
 #[tactic(auto, unfolding(crate::specs::Data::data_spelling))]
 fn put_data(octets: &mut Vec<u8>, rdata: &RecordData<'_>) -> Result<(), NoMemory>
-    ensures { OnOk result (octets.new.items ≡ octets.old.items ++ data_spelling (data_view rdata.now)) }
+    ensures items { OnOk result (octets.new.items ≡ octets.old.items ++ data_spelling (data_view rdata.now)) }
+    ensures writable { OnOk result (IsWritableData (data_view rdata.now)) }
 {
     match rdata {
-        RecordData::A(address) => put_octets(octets, address),
-        RecordData::Aaaa(address) => put_octets(octets, address),
+        RecordData::A(address) => put_address(octets, *address),
+        RecordData::Aaaa(address) => put_long_address(octets, *address),
         RecordData::Ns(name)
         | RecordData::Md(name)
         | RecordData::Mf(name)
@@ -178,8 +199,10 @@ pub(crate) fn record_octets(
     ttl: Ttl,
     rdata: &RecordData<'_>,
 ) -> Result<Vec<u8>, NoMemory>
-    requires { length (data_spelling (data_view rdata.now)) < 65536 }
-    ensures { IfOk result (λ v. v.items ≡ record_spelling (record { owner = owner.now; rtype = rtype.0; class = class.0; ttl = ttl.0; content = data_view rdata.now })) }
+    requires typed { IsTrue (is_of_type rtype.0 (data_view rdata.now)) }
+    requires short { length (data_spelling (data_view rdata.now)) < 65536 }
+    ensures items { IfOk result (λ v. v.items ≡ record_spelling (record { owner = owner.now; rtype = rtype.0; class = class.0; ttl = ttl.0; content = data_view rdata.now })) }
+    ensures writable { OnOk result (IsWritable (record { owner = owner.now; rtype = rtype.0; class = class.0; ttl = ttl.0; content = data_view rdata.now })) }
 {
     let mut octets = Vec::new(alloc);
     put_name(&mut octets, owner)?;

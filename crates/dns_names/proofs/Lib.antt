@@ -1,5 +1,12 @@
+pub mod Chains
+pub mod Drafts
 pub mod Heads
 pub mod NameLaws
 pub mod Names
+pub mod NameTexts
 pub mod NextLabel
+pub mod OwnOctets
+pub mod Reversed
+pub mod Shown
+pub mod Texts
 pub mod Walks

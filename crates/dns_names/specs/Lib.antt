@@ -1,3 +1,7 @@
 pub mod Name
 pub mod NameHash
 pub mod Laws
+pub mod Text
+pub mod Draft
+pub mod Chain
+pub mod Reverse

@@ -1,5 +1,5 @@
 -- A name in a message, as RFC 1035 4.1.4 has it.
-use Rattle.std.specs.Prelude.{◌≡◌, ◌<◌, ◌≤◌, ℕ, zero, suc, ◌+◌, ◌-◌, ◌*◌, List, [], ◌∷◌, ◌++◌, length, Option, Some, None, option_and_then, option_map, IsSome, Bool, map, slice_get, slice_range, nat_lt, nat_le, ◌==◌, ◌&&◌, if◌then◌else◌}
+use Rattle.std.specs.Prelude.{◌≡◌, ◌⊎◌, ◌<◌, ◌≤◌, ℕ, zero, suc, ◌+◌, ◌-◌, ◌*◌, ◌^◌, List, [], ◌∷◌, ◌++◌, length, Option, Some, None, option_and_then, option_map, IsSome, Bool, map, slice_get, slice_range, nat_lt, nat_le, ◌==◌, ◌&&◌, if◌then◌else◌}
 use Rattle.std.specs.Option.{option_map_or}
 use Rattle.std.specs.List.{AllByRecursion}
 use Rattle.std.specs.Cmp.Lexicographic.{pointwise}
@@ -120,3 +120,15 @@ pub record NextLabel (steps : ℕ) (octets : List ℕ) (at from to left : ℕ) :
   pub within : to ≤ length octets
   pub labels : labels_within steps octets at ≡ slice_range octets from to ∷ labels_within left octets to
   pub goes_on : IsSome (walk left octets to)
+
+-- octets that a name may own: its spelling, or none for the root
+abbrev pub IsOwn : List ℕ → Type 0
+IsOwn octets = IsLegal (labels_at octets 0) × ((octets ≡ []) ⊎ (octets ≡ spelling (labels_at octets 0)))
+
+-- octets that spell a legal name
+abbrev pub Spells : List ℕ → Type 0
+Spells octets = (labels : Labels) × IsLegal labels × (octets ≡ spelling labels)
+
+-- each number is one of an octet
+abbrev pub AreOctets : Labels → Type 0
+AreOctets labels = AllByRecursion (AllByRecursion (λ n. n < 2 ^ 8)) labels

@@ -1,10 +1,20 @@
 //! Domain names: owned, and as they stand in a message (RFC 1035 3.1 and 4.1.4).
 #![tactic(auto)]
 
+mod draft;
+mod fault;
 mod laws;
 mod name;
 mod owned;
+mod relative;
+mod reverse;
+mod show;
+#[cfg(test)]
+mod tests;
+mod text;
 
-pub use laws::name_laws;
+pub use fault::{ChainFault, NameFault};
+pub use laws::{name_is_read_back, name_laws, relative_name_is_read_back, text_laws};
 pub use name::{LabelIter, ParsedName};
-pub use owned::{Name, ToName, is_same_name, to_name};
+pub use owned::{Name, ToName, is_same_name};
+pub use relative::RelativeName;

@@ -1,20 +1,23 @@
 //! Names that own their octets, and what has the labels of a name.
 
-ghost use Rattle.std.specs.Prelude.{◌≡◌, ◌↔◌, IfOk, IsSome, IsTrue, Bool, true, fold, map};
+ghost use Rattle.std.specs.Prelude.{◌≡◌, ◌↔◌, ◌<◌, ◌++◌, [], ◌∷◌, length, IfOk, OnOk, IsTrue, Bool, true, fold, map};
 ghost use Rattle.std.specs.Char.{to_ascii_lowercase};
 ghost use Rattle.std.specs.Hash as fed;
 ghost use Rattle.dns_names.specs.NameHash.{name_hash, same_hash};
-ghost use Rattle.dns_names.specs.Name.{Labels, name_at, labels_at, lowered, same_name};
+ghost use Rattle.dns_names.specs.Name.{Labels, labels_at, lowered, same_name, spelling, IsLegal, IsOwn, Spells};
 ghost use Rattle.std.proofs.Common.{rules};
 ghost use Rattle.std.specs.Cmp.Rules.{comparing};
 
 use crate::name::ParsedName;
 use dns_values::NoMemory;
-use std::alloc::Global;
+use std::alloc::{AllocError, Global};
 use std::hash::{Hash, Hasher};
 use std::marker::Model;
 
-/// A name that owns its octets, uncompressed.
+/// The octets of the root.
+static ROOT: [u8; 1] = [0];
+
+/// A name that owns its octets, uncompressed; none for the root.
 #[derive(Drop)]
 pub struct Name {
     octets: Vec<u8>,
@@ -25,15 +28,67 @@ impl Model for Name {
 
     ghost view = { λ n. labels_at n.octets.items 0 };
 
-    ghost invariant = { λ n. IsSome (name_at n.octets.items 0) };
+    ghost invariant = { λ n. IsOwn n.octets.items };
+}
+
+impl Name {
+    /// The name with no labels. It takes no memory.
+    pub fn root(alloc: Global) -> Name
+        ensures { result ≡ [] }
+    {
+        Name {
+            octets: Vec::new(alloc),
+        }
+    }
+
+    /// Whether it has no labels.
+    pub fn is_root(&self) -> bool
+        ensures { IsTrue result ↔ (self.now ≡ []) }
+    {
+        self.as_octets().len() == 1
+    }
+
+    /// Its octets uncompressed, with the root's (RFC 1035 3.1).
+    pub fn as_octets(&self) -> &[u8]
+        ensures octets { result.now ≡ spelling self.now }
+        ensures legal { IsLegal self.now }
+    {
+        if self.octets.is_empty() {
+            &ROOT
+        } else {
+            &self.octets
+        }
+    }
+
+    /// The name that these octets spell.
+    pub(crate) fn from_spelling(octets: Vec<u8>) -> Name
+        requires { Spells octets.items }
+        ensures { (labels : Labels) → IsLegal labels → octets.items ≡ spelling labels → result ≡ labels }
+    {
+        Name { octets }
+    }
+
+    /// The same name.
+    pub fn try_clone(&self, alloc: Global) -> Result<Name, NoMemory>
+        ensures { IfOk result (λ n. n ≡ self.now) }
+    {
+        let mut octets = Vec::new(alloc);
+        octets.extend_from_slice(self.as_octets())?;
+        Ok(Name { octets })
+    }
 }
 
 /// What has the labels of a name.
 pub trait ToName {
     ghost labels_of: { Self → Labels };
 
+    /// Its labels as they are read.
     fn parsed(&self) -> ParsedName<'_>
         ensures { result ≡ labels_of self.now };
+
+    /// The same labels, owned.
+    fn to_name(&self, alloc: Global) -> Result<Name, NoMemory>
+        ensures { IfOk result (λ n. n ≡ labels_of self.now) };
 }
 
 impl<'a> ToName for ParsedName<'a> {
@@ -42,21 +97,31 @@ impl<'a> ToName for ParsedName<'a> {
     fn parsed(&self) -> ParsedName<'_> {
         self.again()
     }
+
+    fn to_name(&self, alloc: Global) -> Result<Name, NoMemory> {
+        owned(alloc, self)
+    }
 }
 
 impl ToName for Name {
     ghost labels_of = { λ n. n };
 
     fn parsed(&self) -> ParsedName<'_> {
-        ParsedName::at_start(&self.octets)
+        ParsedName::at_start(self.as_octets())
+    }
+
+    fn to_name(&self, alloc: Global) -> Result<Name, NoMemory> {
+        self.try_clone(alloc)
     }
 }
 
-/// The same labels, owned.
-pub fn to_name<N: ToName>(alloc: Global, name: &N) -> Result<Name, NoMemory>
-    ensures { IfOk result (λ n. n ≡ N.labels_of name.now) }
+/// Adds a label behind its length.
+pub(crate) fn push_label(octets: &mut Vec<u8>, label: &[u8]) -> Result<(), AllocError>
+    requires { length label.now < 64 }
+    ensures { OnOk result (octets.new.items ≡ octets.old.items ++ (length label.now ∷ label.now)) }
 {
-    owned(alloc, &name.parsed())
+    octets.push(label.len() as u8)?;
+    octets.extend_from_slice(label)
 }
 
 fn owned(alloc: Global, name: &ParsedName<'_>) -> Result<Name, NoMemory>
@@ -64,8 +129,7 @@ fn owned(alloc: Global, name: &ParsedName<'_>) -> Result<Name, NoMemory>
 {
     let mut octets = Vec::new(alloc);
     for label in name.labels() {
-        octets.push(label.len() as u8)?;
-        octets.extend_from_slice(label)?;
+        push_label(&mut octets, label)?;
     }
     octets.push(0)?;
     Ok(Name { octets })

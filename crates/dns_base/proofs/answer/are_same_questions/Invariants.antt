@@ -1,5 +1,5 @@
 use Rattle.std.proofs.Common.{◌≡◌, length}
-use Rattle.dns_base.specs.Message.{same_items}
+use Rattle.dns_base.specs.Answering.{same_items}
 use Rattle.dns_base.proofs.answer.are_same_questions.Given as goal
 
 abbrev pub invariant-items : goal.invariant-items

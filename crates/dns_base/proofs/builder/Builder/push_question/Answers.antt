@@ -1,7 +1,7 @@
-use Rattle.std.proofs.Common.{◌≡◌, ℕ, ◌+◌, ◌++◌, length, arith, ap, sym, ◌∙◌, subst}
+use Rattle.std.proofs.Common.{◌≡◌, ℕ, ◌+◌, ◌++◌, length, arith, ap, sym, refl, ◌∙◌, subst}
 use Rattle.dns_base.specs.Message.{Asked}
 use Rattle.dns_base.specs.Draft.{Draft, IsWithin, size, limit_of, pushed_question}
-use Rattle.dns_base.proofs.Sizes.{question_long, still_within}
+use Rattle.dns_base.proofs.Sizes.{head_kept, question_long, still_within}
 use Rattle.dns_base.proofs.builder.Builder.push_question.Goals as goal
 
 pub returns-clause-fits : goal.returns-clause-fits
@@ -11,6 +11,10 @@ returns-clause-fits g c =
     let P : Draft → Type 0 = λ d. IsWithin d.limit (length d.octets + more) in
     let fits = subst P (sym c.self.view_is) c.in_ok-refuse.ensures.fits in
     let q : Asked = record { name = c.parsed-name.result; rtype = c.args.rtype.0; class = c.args.class.0 } in
-    let long : length c.in_ok-added.added.items ≡ more = omega (arith, ap length c.in_ok-added.ensures, question_long q, c.name_size.ensures.all) in
+    let long : length c.in_ok-added.added.items ≡ more = omega (arith, ap length c.in_ok-added.ensures.items, question_long q, c.name_size.ensures.all) in
     still_within c.self.inside.limit c.self.inside.octets.items c.in_ok-added.added.items _ more fits
     (c.in_ok-extend_from_slice.ensures.items ∙ ap (λ a. c.self.inside.octets.items ++ a) c.deref.ensures.value) long
+
+pub returns-clause-head : goal.returns-clause-head
+returns-clause-head g c =
+    rw (← c.self.view_is) (head_kept _ _ _ (omega arith) c.in_ok-extend_from_slice.ensures.items refl)

@@ -1,0 +1,41 @@
+-- Steps that are made so many times.
+use Rattle.std.proofs.Common.{◌≡◌, ℕ, zero, suc, ◌-◌, ◌<◌, refl, ap, sym, ◌∙◌, Option, Some, None, arith, sub-one}
+use Rattle.client_request.specs.View.{View}
+use Rattle.std.specs.Prelude.{option_and_then, option_map}
+use Rattle.client_request.specs.Timers.{TimerList, due_now, fired}
+use Rattle.client_request.specs.declared.timers.Timer.{Timer}
+use Rattle.client_request.specs.declared.timers.TimerId.{TimerId}
+use Rattle.client_core.specs.Client.{Asked, Client, Machine, replies_many, replies_first, fires, fires_first, fire}
+
+pub replies_many_suc : {P : Type 0} (n : ℕ) (x : Asked P × View) → 0 < n → replies_many n x ≡ replies_many (n - 1) (replies_first x)
+replies_many_suc zero x h = absurd (omega arith)
+replies_many_suc (suc n) x h = rw sub-one refl
+
+module _ {U P : Type 0} (m : Machine U P) where
+  pub fires_suc : (n : ℕ) (c : Client U P) → 0 < n → fires m n c ≡ fires_first m (fires m (n - 1)) c (due_now c.view.now c.view.timers.set)
+  fires_suc zero c h = absurd (omega arith)
+  fires_suc (suc n) c h = rw sub-one refl
+
+  -- the client with these timers
+  abbrev pub with_timers : TimerList → Client U P → Client U P
+  with_timers ts c = record c { view = record c.view { timers = ts } }
+
+  abbrev pub taken : Client U P → Client U P
+  taken c = with_timers (fired c.view.now c.view.timers) c
+
+  first_some : (k : Client U P → Option (Client U P)) (c d : Client U P) (timer : TimerId) (t : Option Timer)
+      → option_map (λ u. record { 0 = u.id }) t ≡ Some timer → fire m timer.0 (taken c) ≡ Some d → fires_first m k c t ≡ k d
+  first_some k c d timer None e f = absurd (cc)
+  first_some k c d timer (Some t) e f =
+      let s : record { 0 = t.id } ≡ timer = cc in
+      let i : t.id ≡ timer.0 = ap (λ (x : TimerId). x.0) s in
+      ap (option_and_then k) (ap (λ (n : ℕ). fire m n (taken c)) i ∙ f)
+
+  -- a timer fires, and one step less is left
+  pub fires_some : (n : ℕ) (c d : Client U P) (timer : TimerId) (ts : TimerList) → 0 < n
+      → option_map (λ u. record { 0 = u.id }) (due_now c.view.now c.view.timers.set) ≡ Some timer
+      → ts ≡ fired c.view.now c.view.timers
+      → fire m timer.0 (with_timers ts c) ≡ Some d → fires m n c ≡ fires m (n - 1) d
+  fires_some n c d timer ts h e s f =
+      fires_suc n c h
+      ∙ first_some (fires m (n - 1)) c d timer (due_now c.view.now c.view.timers.set) e (ap (λ (x : TimerList). fire m timer.0 (with_timers x c)) (sym s) ∙ f)

@@ -1,0 +1,4 @@
+pub mod Upstream
+pub mod First
+pub mod Client
+pub mod Machines

@@ -1,0 +1,197 @@
+//! Calls of the transport, each with its replies, and the deadlines of requests.
+
+ghost use Rattle.std.specs.Prelude.{◌≡◌, ◌+◌, ◌<◌, true, zero, length, Some, None, Err, Ok, OnOk, OnErr, IfOk, IfErr, IsErrOf};
+ghost use Rattle.client_request.specs.Cx.{view_of, heard, LendsTheSame};
+ghost use Rattle.client_request.specs.Response.{IsRefusal};
+ghost use Rattle.client_request.specs.View.{told, due_timer};
+ghost use Rattle.client_core.specs.Client as plain;
+ghost use Rattle.client_core.specs.Client.{client_of, entry_at};
+ghost use Rattle.client_core.specs.Machines.{machine_of};
+
+use crate::asked::{Asked, Waiting, reply_all};
+use client_request::{
+    Cx, Error, Event, GetResponse, Moment, Out, RequestMessage, SendRequest, Signal, TimerId, What,
+    Words,
+};
+use dns_base::Duration;
+use std::alloc::Global;
+
+/// The transport hears something, and its results are put out as replies.
+fn hear<L: SendRequest<RequestMessage>, W: Words>(
+    layer: &mut L,
+    asked: &mut Asked<L::Response>,
+    cx: &mut Cx<'_, W>,
+    signal: Signal<'_>,
+) -> Result<(), Error>
+    ensures lends { LendsTheSame cx.old cx.new }
+    ensures ok { OnOk result (plain.hears (machine_of L.plain_send L.plain_step L.plain_cancel L.plain_response L.Response.ticket_of) (heard signal.entry) (client_of layer.old (asked.old, view_of W.stream cx.old)) ≡ Some (client_of layer.new (asked.new, view_of W.stream cx.new))) }
+    ensures numbers { IsErrOf result Error.NumbersUsed → plain.hears (machine_of L.plain_send L.plain_step L.plain_cancel L.plain_response L.Response.ticket_of) (heard signal.entry) (client_of layer.old (asked.old, view_of W.stream cx.old)) ≡ None }
+    ensures keeps { OnOk result (L.holds_failed layer.new ≡ L.holds_failed layer.old) }
+    ensures refused { IfErr result IsRefusal }
+    ensures failed_only { IsErrOf result Error.Failed → L.holds_failed layer.old ≡ true }
+{
+    layer.step(cx, signal)?;
+    reply_all(asked, cx)?;
+    Ok(())
+}
+
+/// A request whose deadline passed gets its reply, and is given up.
+fn time_out<L: SendRequest<RequestMessage>, W: Words>(
+    layer: &mut L,
+    asked: &mut Asked<L::Response>,
+    cx: &mut Cx<'_, W>,
+    waiting: Option<Waiting<L::Response>>,
+) -> Result<(), Error>
+    ensures lends { LendsTheSame cx.old cx.new }
+    ensures ok { OnOk result (plain.times_out (machine_of L.plain_send L.plain_step L.plain_cancel L.plain_response L.Response.ticket_of) (client_of layer.old (asked.old, view_of W.stream cx.old)) waiting ≡ Some (client_of layer.new (asked.new, view_of W.stream cx.new))) }
+    ensures numbers { IsErrOf result Error.NumbersUsed → plain.times_out (machine_of L.plain_send L.plain_step L.plain_cancel L.plain_response L.Response.ticket_of) (client_of layer.old (asked.old, view_of W.stream cx.old)) waiting ≡ None }
+    ensures keeps { OnOk result (L.holds_failed layer.new ≡ L.holds_failed layer.old) }
+    ensures refused { IfErr result IsRefusal }
+    ensures failed_only { IsErrOf result Error.Failed → L.holds_failed layer.old ≡ true }
+{
+    let Some(waiting) = waiting else {
+        return Ok(());
+    };
+    let Waiting {
+        number,
+        timer: _,
+        response,
+    } = waiting;
+    cx.outs.push(Out::Reply {
+        request: number,
+        result: Err(Error::TimedOut),
+    })?;
+    layer.cancel(cx, response)
+}
+
+/// A timer fires: it is the deadline of a request, or the transport's.
+fn fire<L: SendRequest<RequestMessage>, W: Words>(
+    layer: &mut L,
+    asked: &mut Asked<L::Response>,
+    cx: &mut Cx<'_, W>,
+    timer: TimerId,
+) -> Result<(), Error>
+    ensures lends { LendsTheSame cx.old cx.new }
+    ensures ok { OnOk result (plain.fire (machine_of L.plain_send L.plain_step L.plain_cancel L.plain_response L.Response.ticket_of) timer.0 (client_of layer.old (asked.old, view_of W.stream cx.old)) ≡ Some (client_of layer.new (asked.new, view_of W.stream cx.new))) }
+    ensures numbers { IsErrOf result Error.NumbersUsed → plain.fire (machine_of L.plain_send L.plain_step L.plain_cancel L.plain_response L.Response.ticket_of) timer.0 (client_of layer.old (asked.old, view_of W.stream cx.old)) ≡ None }
+    ensures keeps { OnOk result (L.holds_failed layer.new ≡ L.holds_failed layer.old) }
+    ensures refused { IfErr result IsRefusal }
+    ensures failed_only { IsErrOf result Error.Failed → L.holds_failed layer.old ≡ true }
+{
+    match asked.take_late(timer.0) {
+        Some(waiting) => time_out(layer, asked, cx, waiting),
+        None => hear(layer, asked, cx, Signal::Due(timer)),
+    }
+}
+
+/// Timers fire until none is due, at most as many as are set.
+fn fire_all<L: SendRequest<RequestMessage>, W: Words>(
+    layer: &mut L,
+    asked: &mut Asked<L::Response>,
+    cx: &mut Cx<'_, W>,
+) -> Result<(), Error>
+    ensures lends { LendsTheSame cx.old cx.new }
+    ensures ok { OnOk result (plain.fires_all (machine_of L.plain_send L.plain_step L.plain_cancel L.plain_response L.Response.ticket_of) (client_of layer.old (asked.old, view_of W.stream cx.old)) ≡ Some (client_of layer.new (asked.new, view_of W.stream cx.new))) }
+    ensures numbers { IsErrOf result Error.NumbersUsed → plain.fires_all (machine_of L.plain_send L.plain_step L.plain_cancel L.plain_response L.Response.ticket_of) (client_of layer.old (asked.old, view_of W.stream cx.old)) ≡ None }
+    ensures keeps { OnOk result (L.holds_failed layer.new ≡ L.holds_failed layer.old) }
+    ensures refused { IfErr result IsRefusal }
+    ensures failed_only { IsErrOf result Error.Failed → L.holds_failed layer.old ≡ true }
+{
+    let mut left = cx.timers.len();
+    while left > 0 {
+        let Some(timer) = cx.timers.fire(cx.now) else {
+            return Ok(());
+        };
+        fire(layer, asked, cx, timer)?;
+        left -= 1;
+    }
+    Ok(())
+}
+
+/// A request is asked: it gets the next number and a deadline, and goes to the transport.
+fn ask<L: SendRequest<RequestMessage>, W: Words>(
+    layer: &mut L,
+    asked: &mut Asked<L::Response>,
+    cx: &mut Cx<'_, W>,
+    timeout: Duration,
+    request: RequestMessage,
+) -> Result<(), Error>
+    ensures lends { LendsTheSame cx.old cx.new }
+    ensures ok { OnOk result (plain.asks_request (machine_of L.plain_send L.plain_step L.plain_cancel L.plain_response L.Response.ticket_of) timeout request (client_of layer.old (asked.old, view_of W.stream cx.old)) ≡ Some (client_of layer.new (asked.new, view_of W.stream cx.new))) }
+    ensures numbers { IsErrOf result Error.NumbersUsed → plain.asks_request (machine_of L.plain_send L.plain_step L.plain_cancel L.plain_response L.Response.ticket_of) timeout request (client_of layer.old (asked.old, view_of W.stream cx.old)) ≡ None }
+    ensures keeps { OnOk result (L.holds_failed layer.new ≡ L.holds_failed layer.old) }
+    ensures refused { IfErr result IsRefusal }
+    ensures failed_only { IsErrOf result Error.Failed → L.holds_failed layer.old ≡ true }
+{
+    let number = asked.next();
+    if number == u64::MAX {
+        return Err(Error::NumbersUsed);
+    }
+    cx.request = number;
+    let timer = cx.timers.set(deadline(cx.now, timeout))?;
+    let response = layer.send_request(cx, request)?;
+    let ticket = response.ticket();
+    let waiting = Waiting {
+        number,
+        timer: timer.0,
+        response,
+    };
+    asked.wait(ticket, waiting)?;
+    reply_all(asked, cx)?;
+    Ok(())
+}
+
+/// When a request that is asked now is to have its reply, in microseconds.
+fn deadline(now: Moment, timeout: Duration) -> u128
+    ensures { result ≡ now.0 + timeout }
+{
+    u128::from(now.0) + timeout.as_micros()
+}
+
+/// What an event does.
+fn happen<L: SendRequest<RequestMessage>, W: Words>(
+    layer: &mut L,
+    asked: &mut Asked<L::Response>,
+    cx: &mut Cx<'_, W>,
+    alloc: Global,
+    timeout: Duration,
+    what: &What,
+) -> Result<(), Error>
+    ensures lends { LendsTheSame cx.old cx.new }
+    ensures ok { OnOk result (plain.happens (machine_of L.plain_send L.plain_step L.plain_cancel L.plain_response L.Response.ticket_of) timeout what.now (client_of layer.old (asked.old, view_of W.stream cx.old)) ≡ Some (client_of layer.new (asked.new, view_of W.stream cx.new))) }
+    ensures numbers { IsErrOf result Error.NumbersUsed → plain.happens (machine_of L.plain_send L.plain_step L.plain_cancel L.plain_response L.Response.ticket_of) timeout what.now (client_of layer.old (asked.old, view_of W.stream cx.old)) ≡ None }
+    ensures keeps { OnOk result (L.holds_failed layer.new ≡ L.holds_failed layer.old) }
+    ensures refused { IfErr result IsRefusal }
+    ensures failed_only { IsErrOf result Error.Failed → L.holds_failed layer.old ≡ true }
+{
+    match what {
+        What::Ask { request } => {
+            let request = request.try_clone(alloc)?;
+            ask(layer, asked, cx, timeout, request)
+        }
+        What::Tick => Ok(()),
+        _ => hear(layer, asked, cx, Signal::Told(what)),
+    }
+}
+
+/// Timers that are due fire, then an event happens, and timers that are due fire again.
+pub(crate) fn take_in<L: SendRequest<RequestMessage>, W: Words>(
+    layer: &mut L,
+    asked: &mut Asked<L::Response>,
+    cx: &mut Cx<'_, W>,
+    alloc: Global,
+    timeout: Duration,
+    event: &Event,
+) -> Result<(), Error>
+    ensures lends { LendsTheSame cx.old cx.new }
+    ensures ok { OnOk result (plain.client_step (machine_of L.plain_send L.plain_step L.plain_cancel L.plain_response L.Response.ticket_of) timeout event.now (client_of layer.old (asked.old, view_of W.stream cx.old)) ≡ Some (client_of layer.new (asked.new, view_of W.stream cx.new))) }
+    ensures numbers { IsErrOf result Error.NumbersUsed → plain.client_step (machine_of L.plain_send L.plain_step L.plain_cancel L.plain_response L.Response.ticket_of) timeout event.now (client_of layer.old (asked.old, view_of W.stream cx.old)) ≡ None }
+    ensures keeps { OnOk result (L.holds_failed layer.new ≡ L.holds_failed layer.old) }
+    ensures refused { IfErr result IsRefusal }
+    ensures failed_only { IsErrOf result Error.Failed → L.holds_failed layer.old ≡ true }
+{
+    cx.now = cx.now.max(event.moment);
+    fire_all(layer, asked, cx)?;
+    happen(layer, asked, cx, alloc, timeout, &event.what)?;
+    fire_all(layer, asked, cx)
+}

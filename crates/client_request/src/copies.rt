@@ -1,0 +1,76 @@
+//! Copies of events.
+
+ghost use Rattle.std.specs.Prelude.{◌≡◌, IfOk};
+
+use crate::event::{Event, What};
+use dns_base::NoMemory;
+use std::alloc::Global;
+
+impl What {
+    /// The same once more.
+    pub fn try_clone(&self, alloc: Global) -> Result<What, NoMemory>
+        ensures { IfOk result (λ copy. copy ≡ self.now) }
+    {
+        match self {
+            What::Ask { request } => {
+                let request = request.try_clone()?;
+                Ok(What::Ask { request })
+            }
+            What::Datagram { place, octets } => {
+                let octets = octets.try_clone()?;
+                Ok(What::Datagram {
+                    place: *place,
+                    octets,
+                })
+            }
+            What::Bytes { place, octets } => {
+                let octets = octets.try_clone()?;
+                Ok(What::Bytes {
+                    place: *place,
+                    octets,
+                })
+            }
+            What::Opened { place } => Ok(What::Opened { place: *place }),
+            What::OpenFailed { place, fault } => Ok(What::OpenFailed {
+                place: *place,
+                fault: *fault,
+            }),
+            What::SendFailed { place, fault } => Ok(What::SendFailed {
+                place: *place,
+                fault: *fault,
+            }),
+            What::ShortSend { place } => Ok(What::ShortSend { place: *place }),
+            What::RecvFailed { place, fault } => Ok(What::RecvFailed {
+                place: *place,
+                fault: *fault,
+            }),
+            What::Wrote { place, count } => Ok(What::Wrote {
+                place: *place,
+                count: *count,
+            }),
+            What::WriteFailed { place, fault } => Ok(What::WriteFailed {
+                place: *place,
+                fault: *fault,
+            }),
+            What::ReadFailed { place, fault } => Ok(What::ReadFailed {
+                place: *place,
+                fault: *fault,
+            }),
+            What::Ended { place } => Ok(What::Ended { place: *place }),
+            What::Tick => Ok(What::Tick),
+        }
+    }
+}
+
+impl Event {
+    /// The same once more.
+    pub fn try_clone(&self, alloc: Global) -> Result<Event, NoMemory>
+        ensures { IfOk result (λ copy. copy ≡ self.now) }
+    {
+        let what = self.what.try_clone(alloc)?;
+        Ok(Event {
+            moment: self.moment,
+            what,
+        })
+    }
+}

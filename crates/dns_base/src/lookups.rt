@@ -1,0 +1,108 @@
+//! What is found in the sections of a message.
+
+ghost use Rattle.std.specs.Prelude.{◌≡◌, option_map};
+ghost use Rattle.dns_base.specs.Message.{is_xfr, all_read, answer_records};
+ghost use Rattle.dns_base.specs.OptRecord.{opt_of, opt_rcode};
+ghost use Rattle.dns_base.specs.Canonical.{is_alias, alias_in, target_in, canonical_name};
+
+use crate::message::Message;
+use crate::opt_record::OptRecord;
+use crate::record::{Record, RecordSection};
+use crate::record_data::RecordData;
+use dns_names::{ParsedName, is_same_name};
+use dns_values::{OptRcode, Rtype};
+
+/// Whether a record is an alias of an owner.
+fn is_alias(record: &Record<'_>, owner: &ParsedName<'_>) -> bool
+    ensures { result ≡ is_alias owner.now record.now }
+{
+    record.rtype() == Rtype::CNAME && is_same_name(&record.owner(), owner)
+}
+
+/// The first alias of an owner, where all records are read.
+fn first_alias<'a>(records: RecordSection<'a>, owner: &ParsedName<'_>) -> Option<Option<Record<'a>>>
+    ensures { result ≡ option_map (alias_in owner.now) (all_read records.entry) }
+{
+    let mut found = None;
+    for record in records {
+        let record = record.ok()?;
+        if found.is_none() && is_alias(&record, owner) {
+            found = Some(record);
+        }
+    }
+    Some(found)
+}
+
+/// The name that an alias stands for, if its data is read.
+fn alias_target<'a>(alias: &Record<'a>) -> Option<ParsedName<'a>>
+    ensures { result ≡ target_in alias.now.says }
+{
+    match alias.data() {
+        Ok(RecordData::Cname(target)) => Some(target),
+        _ => None,
+    }
+}
+
+impl Message {
+    /// The first OPT record of the additional section whose data is read, before the first record that can't be read.
+    #[tactic(auto, unfolding(crate::specs::OptRecord::opt_of))]
+    pub fn opt(&self) -> Option<OptRecord<'_>>
+        ensures { result ≡ opt_of self.now }
+    {
+        OptRecord::first(self.additional().ok()?)
+    }
+
+    /// The twelve bits of the response code: those of the OPT record, if one is found, above those of the header.
+    #[tactic(auto, unfolding(crate::specs::OptRecord::opt_rcode))]
+    pub fn opt_rcode(&self) -> OptRcode
+        ensures { result.0 ≡ opt_rcode self.now }
+    {
+        let high = match self.opt() {
+            Some(opt) => opt.ext_rcode() as u16,
+            None => 0,
+        };
+        OptRcode(16 * high + self.header().rcode().0 as u16)
+    }
+
+    /// Whether the first question is read and asks for a zone transfer.
+    #[tactic(auto, unfolding(crate::specs::Message::is_xfr))]
+    pub fn is_xfr(&self) -> bool
+        ensures { result ≡ is_xfr self.now }
+    {
+        match self.first_question() {
+            Some(question) => question.qtype() == Rtype::AXFR || question.qtype() == Rtype::IXFR,
+            None => false,
+        }
+    }
+
+    /// The first alias of an owner in the answer section, where that is read.
+    fn alias_of(&self, owner: &ParsedName<'_>) -> Option<Option<Record<'_>>>
+        ensures { result ≡ option_map (alias_in owner.now) (answer_records self.now) }
+    {
+        match self.answer() {
+            Ok(records) => first_alias(records, owner),
+            Err(_) => None,
+        }
+    }
+
+    /// The name that the first question's name leads to by the aliases of the answer section. None where the question,
+    /// the section or the data of such an alias can't be read, or where more steps are made than there are answers.
+    #[tactic(auto, unfolding(crate::specs::Canonical::canonical_name))]
+    pub fn canonical_name(&self) -> Option<ParsedName<'_>>
+        ensures { result ≡ canonical_name self.now }
+    {
+        let mut name = self.first_question()?.qname();
+        let mut left = self.header_counts().ancount();
+        'steps: loop {
+            let alias = match self.alias_of(&name)? {
+                None => return Some(name),
+                Some(alias) => alias,
+            };
+            if left == 0 {
+                return None;
+            }
+            left -= 1;
+            name = alias_target(&alias)?;
+        }
+    }
+}
