@@ -1,6 +1,7 @@
 //! Requests: a base message with the header and the OPT record that are recorded beside it.
 
 ghost use Rattle.std.specs.Prelude.{◌≡◌, ◌↔◌, ◌⊎◌, IfOk, IfErr, IsErrOf, OnErr, IsTrue, Some, None, option_map};
+ghost use Rattle.dns_base.specs.Draft.{fresh};
 ghost use Rattle.dns_base.specs.OptRecord.{OptFields};
 ghost use Rattle.client_request.specs.Request as spec;
 ghost use Rattle.client_request.specs.Composed.{composed, appended, HoldsNothing};
@@ -117,6 +118,15 @@ fn opt_or_empty(alloc: Global, opt: Option<RecordedOpt>) -> RecordedOpt
     }
 }
 
+/// A message without entries, which may grow as long as it needs to.
+#[tactic(auto, unfolding(dns_base::specs::Draft::fresh, dns_base::specs::Draft::cleared))]
+fn empty_message(alloc: Global) -> Result<Builder, NoMemory>
+    ensures fresh { IfOk result (λ b. b ≡ fresh None) }
+    ensures empty { IfOk result HoldsNothing }
+{
+    Builder::new(alloc, None)
+}
+
 impl ComposeRequest for RequestMessage {
     ghost with_id = { spec.with_id };
 
@@ -138,8 +148,9 @@ impl ComposeRequest for RequestMessage {
         )
     }
 
+    #[tactic(auto, unfolding(crate::specs::Composed::composed))]
     fn to_message(&self) -> Result<Message, Error> {
-        let mut target = Builder::new(self.alloc, None)?;
+        let mut target = empty_message(self.alloc)?;
         self.append_message(&mut target)?;
         let message = target.finish()?;
         Ok(message)
