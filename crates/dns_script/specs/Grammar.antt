@@ -1,7 +1,8 @@
 -- The lines of traces and scripts as words: what happened, and what was put out.
 use Rattle.std.specs.Prelude.{◌≡◌, ℕ, ◌+◌, ◌-◌, ◌^◌, List, [], ◌∷◌, length, Option, Some, None, Result, Ok, Err, option_map, ◌==◌, nat_lt, if◌then◌else◌, codes}
 use Rattle.std.specs.Str.{bytes_eq}
-use Rattle.client_request.specs.Request.{Request}
+use Rattle.dns_base.specs.OptRecord.{OptFields, opt_record}
+use Rattle.client_request.specs.Request.{Request, is_misformed}
 use Rattle.client_request.specs.declared.fault.Fault.{Fault}
 use Rattle.client_request.specs.declared.fault.Fault.TheVariants as fault
 use Rattle.client_request.specs.declared.error.Error.{Error}
@@ -115,17 +116,20 @@ out_at words = one_word (named out_names) words >>= (λ name. out_behind name.0 
 
 -- the first four octets of a header
 abbrev pub header_of : List ℕ → Option (List ℕ)
-header_of word = if length word == 8 then pairs word else None
+header_of word = pairs word >>= (λ octets. if length octets == 4 then Some octets else None)
 
--- a recorded OPT record, or a hyphen for none
-abbrev pub opt_of : List ℕ → Option (Option (List ℕ))
-opt_of word = if bytes_eq word (codes "-") then Some None else None
+-- an OPT record, or a hyphen for none
+abbrev pub opt_of : List ℕ → Option (Option OptFields)
+opt_of word = if bytes_eq word (codes "-") then Some None else octets_of word >>= (λ octets. option_map (λ opt. Some opt) (opt_record octets))
 
-abbrev pub recorded : List ℕ → List ℕ → Option (List ℕ) → Request
-recorded base header opt = record { base = base; header = header; opt = opt }
+-- a request with what is recorded beside its base, where it may be asked
+abbrev pub recorded : List ℕ → List ℕ → Option OptFields → Option Request
+recorded base header opt = if is_misformed base then None else Some (record { base = base; header = header; opt = opt })
 
 abbrev pub request_at : Reader Request
-request_at = three recorded message_at (one_word header_of) (one_word opt_of)
+request_at words =
+    message_at words >>= (λ base. one_word header_of base.1 >>= (λ header. one_word opt_of header.1 >>= (λ opt.
+      option_map (λ request. (request, opt.1)) (recorded base.0 header.0 opt.0))))
 
 abbrev pub what_behind : EventName → Reader What
 what_behind event_name.Ask words = one what.Ask request_at words

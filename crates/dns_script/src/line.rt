@@ -4,12 +4,12 @@ ghost use Rattle.std.specs.Prelude.{◌≡◌, ◌≢◌, ◌↔◌, IsTrue, ◌
 ghost use Rattle.std.specs.List.{position};
 ghost use Rattle.std.specs.Str.Lines.{lines, strip_carriage_return};
 ghost use Rattle.dns_script.specs.declared.line.LineFault.TheVariants as line;
-ghost use Rattle.dns_script.specs.Grammar.{u64_at, u32_at, u16_at, octets_at, message_at, fault_at, via_at};
+ghost use Rattle.dns_script.specs.Grammar.{header_of, u64_at, u32_at, u16_at, octets_at, message_at, fault_at, via_at};
 ghost use Rattle.dns_script.specs.Reading.{cut, parts, words_of, number_of, octets_of, with_digit, digit_of, octet_of, Gives, Reads, one_word, pairs};
 
 use crate::names::{fault_named, via_named};
 use client_request::{Fault, Via};
-use dns_base::{Message, NoMemory, Octets};
+use dns_base::{Header, Message, NoMemory, Octets};
 use std::alloc::{AllocError, AllocFailed, Global};
 use std::marker::Model;
 
@@ -134,7 +134,7 @@ fn pairs(alloc: Global, digits: &[u8]) -> Result<Vec<u8>, LineFault>
 
 /// Octets as hexadecimal digits, and a hyphen for no octet.
 #[tactic(auto, unfolding(crate::specs::Reading::octets_of))]
-fn octets_of(alloc: Global, word: &[u8]) -> Result<Octets, LineFault>
+pub(crate) fn octets_of(alloc: Global, word: &[u8]) -> Result<Octets, LineFault>
     ensures { Reads (λ o. o) result (octets_of word.now) }
 {
     if word == b"-".as_slice() {
@@ -195,7 +195,7 @@ pub(crate) struct Words<'a> {
 
 impl<'a> Model for Words<'a> {
     ghost use Rattle.std.specs.Prelude.{List, ℕ, option_map};
-    ghost use Rattle.dns_script.specs.Grammar.{u64_at, u32_at, u16_at, octets_at, message_at, fault_at, via_at};
+    ghost use Rattle.dns_script.specs.Grammar.{header_of, u64_at, u32_at, u16_at, octets_at, message_at, fault_at, via_at};
     ghost use Rattle.dns_script.specs.Reading.{words_left};
 
     ghost Value = { List (List ℕ) };
@@ -290,6 +290,17 @@ impl<'a> Words<'a> {
             Ok(message) => Ok(message),
             Err(_) => Err(LineFault::Refused),
         }
+    }
+
+    /// The first four octets of a header.
+    pub(crate) fn header(&mut self, alloc: Global) -> Result<Header, LineFault>
+        ensures { Gives result self.new (one_word header_of self.old) }
+    {
+        let octets = pairs(alloc, self.word()?)?;
+        if octets.len() != 4 {
+            return Err(LineFault::Refused);
+        }
+        Ok(Header::from_octets([octets[0], octets[1], octets[2], octets[3]]))
     }
 
     pub(crate) fn fault(&mut self) -> Result<Fault, LineFault>

@@ -1,15 +1,15 @@
 //! What happened and what was put out, read from the words of a line.
 
-ghost use Rattle.std.specs.Prelude.{◌≡◌};
-ghost use Rattle.dns_script.specs.Reading.{Gives};
-ghost use Rattle.dns_script.specs.Grammar.{query_error_behind, query_error_at, error_behind, error_at, result_behind, result_at, out_behind, out_at, request_at, what_behind, what_at, event_at};
+ghost use Rattle.std.specs.Prelude.{◌≡◌, option_map};
+ghost use Rattle.dns_script.specs.Reading.{Gives, Reads};
+ghost use Rattle.dns_script.specs.Grammar.{opt_of, query_error_behind, query_error_at, error_behind, error_at, result_behind, result_at, out_behind, out_at, request_at, what_behind, what_at, event_at};
 
-use crate::line::{LineFault, Words};
+use crate::line::{LineFault, Words, octets_of};
 use crate::names::{EventName, OutName, error_named, event_named, kind_named, out_named};
 use client_request::{
     Error, Event, Fault, Moment, Out, QueryError, QueryErrorKind, RequestMessage, What,
 };
-use dns_base::Message;
+use dns_base::{Header, Message, OptRecord};
 use std::alloc::Global;
 
 fn query_error_behind(kind: QueryErrorKind, words: &mut Words<'_>) -> Result<QueryError, LineFault>
@@ -137,11 +137,37 @@ pub(crate) fn out(alloc: Global, words: &mut Words<'_>) -> Result<Out, LineFault
     }
 }
 
-/// A request: its base message, and the header and the OPT record that are recorded.
-fn request(_alloc: Global, _words: &mut Words<'_>) -> Result<RequestMessage, LineFault>
-    ensures { Gives result _words.new (request_at _words.old) }
+/// The request with what is recorded: a header, and the OPT record of a word.
+#[tactic(auto, unfolding(crate::specs::Reading::octets_of))]
+fn with_recorded(
+    alloc: Global,
+    request: RequestMessage,
+    header: Header,
+    word: &[u8],
+) -> Result<RequestMessage, LineFault>
+    ensures { Reads (λ r. r) result (option_map (λ opt. record { base = request.base; header = header; opt = opt }) (opt_of word.now)) }
 {
-    Err(LineFault::NoMemory)
+    if word == b"-".as_slice() {
+        return Ok(request.with_recorded(header, None)?);
+    }
+    let octets = octets_of(alloc, word)?;
+    match OptRecord::from_octets(octets.as_slice()) {
+        Ok(opt) => Ok(request.with_recorded(header, Some(opt))?),
+        Err(_) => Err(LineFault::Refused),
+    }
+}
+
+/// A request: its base message, and the header and the OPT record that are recorded.
+fn request(alloc: Global, words: &mut Words<'_>) -> Result<RequestMessage, LineFault>
+    ensures { Gives result words.new (request_at words.old) }
+{
+    let base = words.message(alloc)?;
+    let header = words.header(alloc)?;
+    let opt = words.word()?;
+    match RequestMessage::new(alloc, base) {
+        Ok(request) => with_recorded(alloc, request, header, opt),
+        Err(_) => Err(LineFault::Refused),
+    }
 }
 
 fn what_behind(alloc: Global, name: EventName, words: &mut Words<'_>) -> Result<What, LineFault>

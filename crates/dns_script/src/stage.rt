@@ -2,11 +2,30 @@
 
 ghost use Rattle.std.specs.Prelude.{◌≡◌, ◌≤◌};
 ghost use Rattle.dns_script.specs.Reading.{Checks};
-ghost use Rattle.dns_script.specs.Stage.{takes_conf, takes_datagram, takes_what};
+ghost use Rattle.dns_script.specs.Stage.{is_plain_base, takes_ask, takes_conf, takes_datagram, takes_what};
 
 use crate::line::{LineFault, split_first};
-use client_request::What;
+use client_request::{RequestMessage, What};
+use dns_base::Message;
 use resolv_conf::ResolvConf;
+
+/// One question that can be read, and nothing else.
+fn is_plain_base(base: &Message) -> bool
+    ensures { result ≡ is_plain_base base.now }
+{
+    let counts = base.header_counts();
+    counts.ancount() == 0 && counts.nscount() == 0 && counts.arcount() == 0 && base.sole_question().is_ok()
+}
+
+/// Fewer than a hundred requests stand before it, and a server is known.
+fn takes_ask(asks: u64, conf: &ResolvConf, request: &RequestMessage) -> bool
+    ensures { result ≡ takes_ask asks conf.now request.now }
+{
+    asks < 100
+        && conf.servers.len() != 0
+        && request.recorded_opt().is_none()
+        && is_plain_base(request.base())
+}
 
 /// A datagram is not truncated (RFC 1035 4.1.1).
 fn takes_datagram(octets: &[u8]) -> bool
@@ -30,7 +49,7 @@ pub(crate) fn check_what(asks: u64, conf: &ResolvConf, what: &What) -> Result<()
     ensures { Checks result (takes_what asks conf.now what.now) }
 {
     let taken = match what {
-        What::Ask { request: _ } => return Err(LineFault::NoMemory),
+        What::Ask { request } => takes_ask(asks, conf, request),
         What::Opened { place: _ } => true,
         What::Datagram { place: _, octets } => takes_datagram(octets.as_slice()),
         What::Tick => true,
