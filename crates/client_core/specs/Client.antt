@@ -120,8 +120,12 @@ module _ {U P : Type 0} where
   abbrev pub row_of : Event → Client U P → Row
   row_of e c = record { event = e; outs = c.view.outs }
 
-  abbrev pub then_rows : (Client U P → Option (List Row)) → Event → Client U P → Option (List Row)
-  then_rows rows e c = option_map (λ rest. row_of e c ∷ rest) (rows (rested c))
+  -- a row is made, and a new one begins
+  abbrev pub row_and_rest : Event → Client U P → Row × Client U P
+  row_and_rest e c = (row_of e c, rested c)
+
+  abbrev pub then_rows : (Client U P → Option (List Row)) → Row × Client U P → Option (List Row)
+  then_rows rows x = option_map (λ rest. x.0 ∷ rest) (rows x.1)
 
   module _ (m : Machine U P) where
     abbrev pub hears : Heard → Client U P → Option (Client U P)
@@ -180,7 +184,10 @@ module _ {U P : Type 0} where
     abbrev pub client_step : Event → Client U P → Option (Client U P)
     client_step e c = option_and_then (fires_all m) (option_and_then (happens e.what) (fires_all m (at_moment e.moment.0 c)))
 
+    abbrev pub row_step : Event → Client U P → Option (Row × Client U P)
+    row_step e c = option_map (row_and_rest e) (client_step e c)
+
     -- the rows of a list of events; none where a number would pass 64 bits
     abbrev pub plain_rows : List Event → Client U P → Option (List Row)
     plain_rows [] c = Some []
-    plain_rows (e ∷ es) c = option_and_then (then_rows (plain_rows es) e) (client_step e c)
+    plain_rows (e ∷ es) c = option_and_then (then_rows (plain_rows es)) (row_step e c)

@@ -2,3 +2,6 @@ pub mod Upstream
 pub mod First
 pub mod Client
 pub mod Machines
+pub mod Whole
+pub mod Clock
+pub mod Edge

@@ -10,7 +10,7 @@ ghost use Rattle.client_core.specs.Machines.{machine_of};
 
 use crate::asked::{Asked, Waiting, reply_all};
 use client_request::{
-    Cx, Error, Event, GetResponse, Moment, Out, RequestMessage, SendRequest, Signal, TimerId, What,
+    ComposeRequest, Cx, Error, Event, GetResponse, Moment, Out, RequestMessage, SendRequest, Signal, TimerId, What,
     Words,
 };
 use dns_base::Duration;

@@ -1,4 +1,5 @@
 pub mod Fault
+pub mod ErrorText
 pub mod Request
 pub mod Composed
 pub mod Words

@@ -42,6 +42,13 @@ option_octets code octets = to_be_bytes w16 code ++ to_be_bytes w16 (length octe
 abbrev pub with_do : Bool → OptFields → OptFields
 with_do on opt = record opt { flags = (if on then bit_or opt.flags 0x8000 else bit_and opt.flags 0x7fff) }
 
+abbrev pub option_added : ℕ → List ℕ → OptFields → OptFields
+option_added code octets opt = record opt { options = opt.options ++ option_octets code octets }
+
+-- With an option of so many octets more, the data would have more than its length can say.
+abbrev pub is_too_long : ℕ → OptFields → Bool
+is_too_long count opt = nat_le 65536 (length opt.options + 4 + count)
+
 -- what is recorded, changed in one part
 abbrev pub with_header : List ℕ → Request → Request
 with_header header r = record r { header = header }
@@ -56,12 +63,10 @@ abbrev pub with_dnssec_ok : Bool → Request → Request
 with_dnssec_ok on r = record r { opt = Some (with_do on (opt_or_empty r.opt)) }
 
 abbrev pub with_option : ℕ → List ℕ → Request → Request
-with_option code octets r =
-    let opt = opt_or_empty r.opt in record r { opt = Some (record opt { options = opt.options ++ option_octets code octets }) }
+with_option code octets r = record r { opt = Some (option_added code octets (opt_or_empty r.opt)) }
 
--- so many octets of an option more are too many
 abbrev pub is_full_for : ℕ → Request → Bool
-is_full_for count r = nat_le 65536 (length (opt_or_empty r.opt).options + 4 + count)
+is_full_for count r = is_too_long count (opt_or_empty r.opt)
 
 abbrev pub is_dnssec_ok : Request → Bool
 is_dnssec_ok r = option_map_or dnssec_ok r.opt false
@@ -76,3 +81,13 @@ recorded_from base = record { base = base; header = header_of base; opt = None }
 -- The question is missing, can't be read or asks for a whole zone: several messages may answer that.
 abbrev pub is_misformed : List ℕ → Bool
 is_misformed base = head.opcode_of base == 0 && option_map_or (λ q. q.rtype == 252) (first_question base) true
+
+-- The first question asks for a whole zone.
+abbrev pub is_axfr : List ℕ → Bool
+is_axfr base = option_map_or (λ q. q.rtype == 252) (first_question base) false
+
+-- A message of a zone that is transferred may have no question (RFC 5936 2.2.1).
+abbrev pub is_answered_in_part : List ℕ → Request → Bool
+is_answered_in_part octets r =
+    is_answered octets r
+    || (is_axfr r.base && (head.qr_of octets && (head.id_of octets == head.id_of r.header && (head.counts_of octets).questions == 0)))

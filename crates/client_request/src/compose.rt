@@ -1,13 +1,15 @@
 //! The trait of a request that a transport can compose and match.
 
-ghost use Rattle.std.specs.Prelude.{◌≡◌, ℕ, Bool, List, Result, OnErr};
-ghost use Rattle.client_request.specs.declared.error.Error.{Error};
+ghost use Rattle.std.specs.Prelude.{◌≡◌, ◌↔◌, ◌⊎◌, ℕ, Bool, List, Result, Ok, Err, IsTrue, IfOk, IfErr, OnOk, OnErr, MatchResult, IsErrOf, length};
 ghost use Rattle.dns_base.specs.Draft.{Draft};
+ghost use Rattle.client_request.specs.declared.error.Error.{Error};
+ghost use Rattle.client_request.specs.declared.error.Error.TheVariants as errors;
 ghost use Rattle.client_request.specs.Composing.{IsComposed};
 ghost use Rattle.client_request.specs.Composed.{Copied, IsCopied, HoldsNothing};
 
 use crate::error::{CopyRecordsError, Error};
-use dns_base::{Builder, Message};
+use dns_base::{Builder, Header, Message, NoMemory};
+use std::alloc::Global;
 
 /// A request that a transport sends and whose answer it knows.
 ///
@@ -22,15 +24,21 @@ pub trait ComposeRequest: Drop {
 
     ghost is_answered: { List ℕ → Self → Bool };
 
+    /// A builder with the request's entries under its header, or why not.
     ghost appended: { Self → Draft → Copied };
 
-    /// Appends that message to a builder that holds no entry. A refusal leaves the builder as it was:
-    /// `Parse` where the base can't be read, `Push` where a section is full, the builder's limit would be
-    /// passed, or memory runs out. Of two refusals the first in message order is given.
-    fn append_message(&self, target: &mut Builder) -> Result<(), CopyRecordsError>
-        requires { HoldsNothing target.old }
-        ensures copied { IsCopied (appended self.now target.old) result target.new }
-        ensures err { OnErr result (target.new ≡ target.old) };
+    ghost header_of: { Self → List ℕ };
+
+    ghost with_header: { List ℕ → Self → Self };
+
+    ghost is_dnssec_ok: { Self → Bool };
+
+    ghost with_dnssec_ok: { Bool → Self → Self };
+
+    ghost with_option: { ℕ → List ℕ → Self → Self };
+
+    /// So many octets of an option would pass what the OPT record's data may have.
+    ghost is_full_for: { ℕ → Self → Bool };
 
     /// The message: the recorded header, the base's questions and records without the OPT records of
     /// its additional section, and then the recorded OPT record (RFC 1035 4.1, RFC 6891 6.1).
@@ -49,4 +57,45 @@ pub trait ComposeRequest: Drop {
     /// are the base's, or an error came without any entry.
     fn is_answer(&self, answer: &Message) -> bool
         ensures { result ≡ is_answered answer.now self.now };
+
+    /// Appends that message to a builder that holds no entry. A refusal leaves the builder as it was:
+    /// `Parse` where the base can't be read, `Push` where a section is full, the builder's limit would be
+    /// passed, or memory runs out. Of two refusals the first in message order is given.
+    fn append_message(&self, target: &mut Builder) -> Result<(), CopyRecordsError>
+        requires { HoldsNothing target.old }
+        ensures copied { IsCopied (appended self.now target.old) result target.new }
+        ensures err { OnErr result (target.new ≡ target.old) };
+
+    /// The octets of that message.
+    fn to_vec(&self) -> Result<Vec<u8>, Error>
+        ensures { MatchResult result (λ v. composed self.now ≡ Ok v.items) (λ e. IsComposed (composed self.now) (Err e)) };
+
+    /// The recorded header.
+    fn header(&self) -> &Header
+        ensures { result.now ≡ header_of self.now };
+
+    /// Records a header.
+    fn set_header(&mut self, header: Header)
+        ensures { self.new ≡ with_header header self.old };
+
+    /// Whether the recorded OPT record says that DNSSEC records are taken (RFC 3225 3).
+    fn dnssec_ok(&self) -> bool
+        ensures { result ≡ is_dnssec_ok self.now };
+
+    /// Records whether DNSSEC records are taken, in an OPT record that is added where there is none.
+    fn set_dnssec_ok(&mut self, value: bool)
+        ensures { self.new ≡ with_dnssec_ok value self.old };
+
+    /// Appends an option to the OPT record, which is added where there is none (RFC 6891 6.1.2).
+    /// `OptTooLong` exactly where its data would pass 65535 octets, and else `NoMemory`; either leaves
+    /// the request as it was.
+    fn add_opt(&mut self, code: u16, octets: &[u8]) -> Result<(), Error>
+        ensures ok { OnOk result (self.new ≡ with_option code octets.now self.old) }
+        ensures err { OnErr result (self.new ≡ self.old) }
+        ensures long { IsErrOf result errors.OptTooLong ↔ IsTrue (is_full_for (length octets.now) self.old) }
+        ensures refused { IfErr result (λ e. (e ≡ errors.OptTooLong) ⊎ (e ≡ errors.NoMemory)) };
+
+    /// The same request once more.
+    fn try_clone(&self, alloc: Global) -> Result<Self, NoMemory>
+        ensures { IfOk result (λ copy. copy ≡ self.now) };
 }

@@ -2,6 +2,7 @@
 
 ghost use Rattle.std.specs.Prelude.{◌≡◌, IfOk};
 
+use crate::compose::ComposeRequest;
 use crate::event::{Event, What};
 use dns_base::NoMemory;
 use std::alloc::Global;
@@ -13,7 +14,7 @@ impl What {
     {
         match self {
             What::Ask { request } => {
-                let request = request.try_clone()?;
+                let request = request.try_clone(alloc)?;
                 Ok(What::Ask { request })
             }
             What::Datagram { place, octets } => {

@@ -7,10 +7,12 @@
 mod append;
 mod board;
 mod compose;
+mod compose_multi;
 mod copies;
 mod copying;
 mod cx;
 mod error;
+mod error_text;
 mod event;
 mod fault;
 mod limits;
@@ -18,13 +20,17 @@ mod list_words;
 mod lists;
 mod recorded_opt;
 mod request;
+mod request_multi;
 mod response;
 mod send;
+#[cfg(test)]
+mod tests;
 mod timers;
 mod words;
 
 pub use board::{Board, Posted};
 pub use compose::ComposeRequest;
+pub use compose_multi::ComposeRequestMulti;
 pub use cx::{Cx, Signal};
 pub use error::{CopyRecordsError, Error, QueryError, QueryErrorKind};
 pub use event::{Event, Moment, Out, Row, Trace, Via, What};
@@ -33,6 +39,7 @@ pub use limits::DefMinMax;
 pub use list_words::ListWords;
 pub use lists::{Events, Outs, Rows, WordList};
 pub use request::RequestMessage;
+pub use request_multi::RequestMessageMulti;
 pub use response::{GetResponse, Poll, take_response};
 pub use send::SendRequest;
 pub use timers::{Timer, TimerId, Timers};

@@ -1,13 +1,18 @@
 //! The OPT record that is recorded for a request.
 
-ghost use Rattle.std.specs.Prelude.{◌≡◌, ◌<◌, ◌+◌, ◌++◌, [], IfOk, OnOk, OnErr, IsTrue, Bool, length};
+ghost use Rattle.std.specs.Prelude.{◌≡◌, ◌<◌, ◌↔◌, ◌⊎◌, IfOk, IfErr, IsErrOf, OnOk, OnErr, IsTrue, length};
 ghost use Rattle.dns_base.specs.Data.{are_options};
 ghost use Rattle.dns_base.specs.OptRecord.{OptFields, dnssec_ok};
-ghost use Rattle.client_request.specs.Request.{empty_opt, opt_written, option_octets, with_do};
+ghost use Rattle.client_request.specs.Request.{empty_opt, option_octets, option_added, is_too_long, with_do};
+ghost use Rattle.client_request.specs.declared.error.Error.TheVariants as errors;
 
+use crate::error::Error;
 use dns_base::{NoMemory, OptRecord};
 use std::alloc::Global;
 use std::marker::Model;
+
+/// The most octets that the data of a record has (RFC 1035 4.1.3).
+const MAX_OPTIONS: usize = 65535;
 
 /// An OPT record that owns its options (RFC 6891 6.1).
 #[derive(Drop)]
@@ -34,7 +39,7 @@ impl Model for RecordedOpt {
 }
 
 /// An option: its code, its length and its octets (RFC 6891 6.1.2).
-pub(crate) fn option_octets(alloc: Global, code: u16, octets: &[u8]) -> Result<Vec<u8>, NoMemory>
+fn option_octets(alloc: Global, code: u16, octets: &[u8]) -> Result<Vec<u8>, NoMemory>
     requires { length octets.now < 65536 }
     ensures { IfOk result (λ o. o.items ≡ option_octets code octets.now) }
 {
@@ -99,5 +104,42 @@ impl RecordedOpt {
         } else {
             self.flags &= 0x7fff;
         }
+    }
+
+    pub(crate) fn dnssec_ok(&self) -> bool
+        ensures { result ≡ dnssec_ok self.now }
+    {
+        self.flags & 0x8000 != 0
+    }
+
+    /// Adds an option behind all others. A refusal changes nothing.
+    pub(crate) fn add_option(&mut self, code: u16, octets: &[u8]) -> Result<(), Error>
+        ensures ok { OnOk result (self.new ≡ option_added code octets.now self.old) }
+        ensures err { OnErr result (self.new ≡ self.old) }
+        ensures long { IsErrOf result errors.OptTooLong ↔ IsTrue (is_too_long (length octets.now) self.old) }
+        ensures refused { IfErr result (λ e. (e ≡ errors.OptTooLong) ⊎ (e ≡ errors.NoMemory)) }
+    {
+        if MAX_OPTIONS < self.options.len() + 4 + octets.len() {
+            return Err(Error::OptTooLong);
+        }
+        let alloc = *self.options.allocator();
+        let option = option_octets(alloc, code, octets)?;
+        match self.options.extend_from_slice(&option) {
+            Ok(()) => Ok(()),
+            Err(_) => Err(Error::NoMemory),
+        }
+    }
+
+    pub(crate) fn try_clone(&self, alloc: Global) -> Result<RecordedOpt, NoMemory>
+        ensures { IfOk result (λ copy. copy ≡ self.now) }
+    {
+        let options = Vec::from_slice(alloc, &self.options)?;
+        Ok(RecordedOpt {
+            udp_payload_size: self.udp_payload_size,
+            ext_rcode: self.ext_rcode,
+            version: self.version,
+            flags: self.flags,
+            options,
+        })
     }
 }

@@ -57,13 +57,20 @@ impl RequestMessage {
         if is_misformed(&msg) {
             return Err(Error::FormError);
         }
-        let header = msg.header();
-        Ok(RequestMessage {
+        Ok(RequestMessage::recorded_from(alloc, msg))
+    }
+
+    /// A request with the base's own header and no OPT record.
+    pub(crate) fn recorded_from(alloc: Global, base: Message) -> RequestMessage
+        ensures { result ≡ spec.recorded_from base }
+    {
+        let header = base.header();
+        RequestMessage {
             alloc,
-            base: msg,
+            base,
             header,
             opt: None,
-        })
+        }
     }
 
     /// The request with another header and another OPT record, or none.
@@ -138,6 +145,18 @@ impl ComposeRequest for RequestMessage {
 
     ghost appended = { appended };
 
+    ghost header_of = { λ r. r.header };
+
+    ghost with_header = { spec.with_header };
+
+    ghost is_dnssec_ok = { spec.is_dnssec_ok };
+
+    ghost with_dnssec_ok = { spec.with_dnssec_ok };
+
+    ghost with_option = { spec.with_option };
+
+    ghost is_full_for = { spec.is_full_for };
+
     fn append_message(&self, target: &mut Builder) -> Result<(), CopyRecordsError> {
         append(
             self.alloc,
@@ -168,5 +187,60 @@ impl ComposeRequest for RequestMessage {
 
     fn is_answer(&self, answer: &Message) -> bool {
         is_answer(self.header.id(), &self.base, answer)
+    }
+
+    fn to_vec(&self) -> Result<Vec<u8>, Error> {
+        let message = self.to_message()?;
+        match Vec::from_slice(self.alloc, message.as_slice()) {
+            Ok(octets) => Ok(octets),
+            Err(_) => Err(Error::NoMemory),
+        }
+    }
+
+    fn header(&self) -> &Header {
+        &self.header
+    }
+
+    fn set_header(&mut self, header: Header) {
+        self.header = header;
+    }
+
+    fn dnssec_ok(&self) -> bool {
+        match &self.opt {
+            None => false,
+            Some(opt) => opt.dnssec_ok(),
+        }
+    }
+
+    fn set_dnssec_ok(&mut self, value: bool) {
+        let mut opt = opt_or_empty(self.alloc, self.opt.take());
+        opt.set_dnssec_ok(value);
+        self.opt = Some(opt);
+    }
+
+    fn add_opt(&mut self, code: u16, octets: &[u8]) -> Result<(), Error> {
+        match &mut self.opt {
+            Some(opt) => opt.add_option(code, octets),
+            None => {
+                let mut opt = RecordedOpt::empty(self.alloc);
+                opt.add_option(code, octets)?;
+                self.opt = Some(opt);
+                Ok(())
+            }
+        }
+    }
+
+    fn try_clone(&self, alloc: Global) -> Result<RequestMessage, NoMemory> {
+        let base = self.base.try_clone()?;
+        let opt = match &self.opt {
+            None => None,
+            Some(opt) => Some(opt.try_clone(alloc)?),
+        };
+        Ok(RequestMessage {
+            alloc,
+            base,
+            header: self.header,
+            opt,
+        })
     }
 }

@@ -1,5 +1,4 @@
 pub mod Aliases
-pub mod DataSizes
 pub mod Holding
 pub mod Lists
 pub mod ReadData

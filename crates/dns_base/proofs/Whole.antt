@@ -1,7 +1,10 @@
 -- Data that is a list of strings or of options, read from its start.
-use Rattle.std.proofs.Common.{◌≡◌, ℕ, zero, suc, ◌+◌, ◌-◌, ◌*◌, ◌<◌, ◌≤◌, List, [], ◌∷◌, length, take, drop, get_or, refl, ap, sym, ◌∙◌, arith, Bool, true, false, drop-cons, add-one, length-drop}
+use Rattle.std.proofs.Common.{inl, inr, ◌≡◌, ℕ, zero, suc, ◌+◌, ◌-◌, ◌*◌, ◌<◌, ◌≤◌, List, [], ◌∷◌, length, take, drop, get_or, refl, ap, sym, ◌∙◌, arith, Bool, true, false, drop-cons, add-one, length-drop}
 use Rattle.std.proofs.lemmas.List.{take_all}
-use Rattle.dns_base.specs.Data.{are_strings_after, are_options, are_options_after}
+use Rattle.std.specs.Prelude.{Option, Some, None, Result, Ok, Err, MatchResult}
+use Rattle.std.specs.Result.{is_err}
+use Rattle.dns_names.proofs.Heads.{chosen, none_some}
+use Rattle.dns_base.specs.Data.{Data, Opt, whole, are_strings_after, are_options, are_options_after}
 
 -- a count, and then what it counts
 pub string_begins : (xs : List ℕ) (i left next : ℕ) → i < length xs → left ≡ 0 → next ≡ get_or xs i 0 → are_strings_after left (drop i xs) ≡ are_strings_after next (drop (i + 1) xs)
@@ -42,3 +45,11 @@ option_short rest others count h o c s = option_begins rest h ∙ rw (← o, ←
 pub option_long : (rest others after : List ℕ) (count : ℕ) → 4 ≤ length rest → others ≡ drop 4 rest → count ≡ get_or rest 2 0 * 256 + get_or rest 3 0 → count ≤ length others → after ≡ drop count others → are_options rest ≡ are_options after
 unfolding count_of
 option_long rest others after count h o c s a = option_begins rest h ∙ rw (← o, ← c, a) (options_long count others s)
+
+-- Options that are read are whole.
+pub read_whole : {T E : Type 0} (view : T → Data) (r : Result T E) (octets : List ℕ) (says : Option Data) → says ≡ whole are_options Opt octets
+    → MatchResult r (λ d. says ≡ Some (view d)) (λ _. says ≡ None) → is_err r ≡ false → are_options octets ≡ true
+read_whole view (Ok d) octets says e h ok =
+    let f : whole are_options Opt octets ≡ Some (view d) = cc in
+    elim (chosen (are_options octets) (Some (Opt octets)) None (Some (view d)) f) [ inl p ↦ p.0 | inr p ↦ none_some p.1 ]
+read_whole view (Err x) octets says e h ok = absurd cc

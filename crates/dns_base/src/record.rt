@@ -1,9 +1,9 @@
 //! Records, and the sections that have them.
 
-ghost use Rattle.std.specs.Prelude.{◌≡◌, ◌+◌, ◌≤◌, ◌<◌, ◌^◌, length, List, Result, Option, MatchResult, IfOk, IsTrue, Some, None, slice_range, option_map};
+ghost use Rattle.std.specs.Prelude.{◌≡◌, ◌+◌, ◌≤◌, ◌<◌, length, List, Result, Option, MatchResult, IfOk, Some, None, slice_range, option_map, IsTrue};
 ghost use Rattle.std.specs.Iterator.{YieldsFirst, item_count};
 ghost use Rattle.dns_values.specs.declared.error.ParseError.{ParseError};
-ghost use Rattle.dns_base.specs.Data.{data_at, is_of_type, data_spelling, whole, are_options, Opt};
+ghost use Rattle.dns_base.specs.Data.{data_at, data_spelling, is_of_type, whole, are_options, Opt};
 ghost use Rattle.dns_base.specs.Message.{Known, record_at, items_at};
 ghost use Rattle.dns_base.specs.RecordData.{data_view};
 
@@ -39,7 +39,7 @@ impl<'a> Model for Record<'a> {
       says = data_at r.rtype.0 r.octets.now r.at r.end;
     } };
 
-    ghost invariant = { λ r. (r.at ≤ r.end) × (r.end ≤ length r.octets.now) × (r.end < r.at + 2 ^ 16) };
+    ghost invariant = { λ r. (r.at ≤ r.end) × (r.end ≤ length r.octets.now) × (r.end < r.at + 65536) };
 }
 
 impl<'a> Record<'a> {
@@ -71,7 +71,7 @@ impl<'a> Record<'a> {
     /// The data as it stands.
     pub fn raw_data(&self) -> &'a [u8]
         ensures all { result.now ≡ self.now.entry.octets }
-        ensures short { length result.now < 2 ^ 16 }
+        ensures short { length result.now < 65536 }
     {
         &self.octets[self.at..self.end]
     }
@@ -79,9 +79,9 @@ impl<'a> Record<'a> {
     /// The data, read by its type. Refused exactly where its parts don't fill it.
     #[tactic(auto, unfolding(crate::specs::Data::data_at))]
     pub fn data(&self) -> Result<RecordData<'a>, ParseError>
-        ensures value { MatchResult result (λ d. self.now.says ≡ Some (data_view d)) (λ _. self.now.says ≡ None) }
+        ensures says { MatchResult result (λ d. self.now.says ≡ Some (data_view d)) (λ _. self.now.says ≡ None) }
         ensures typed { IfOk result (λ d. IsTrue (is_of_type self.now.entry.rtype (data_view d))) }
-        ensures short { IfOk result (λ d. length (data_spelling (data_view d)) < 2 ^ 16) }
+        ensures short { IfOk result (λ d. length (data_spelling (data_view d)) < 65536) }
         ensures options { self.now.entry.rtype ≡ 41 → self.now.says ≡ whole are_options Opt self.now.entry.octets }
     {
         data_at(self.rtype, self.octets, self.at, self.end)

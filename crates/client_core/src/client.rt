@@ -1,0 +1,201 @@
+//! The client: one step for each event, and the replay of a list of events.
+
+ghost use Rattle.std.specs.Prelude.{◌≡◌, true, false, Some, None, Ok, Err, OnOk, OnErr, IfOk, IfErr, IsErrOf, map};
+ghost use Rattle.client_request.specs.Cx.{view_of, LendsTheSame};
+ghost use Rattle.client_request.specs.Response.{IsRefusal};
+ghost use Rattle.client_request.specs.Timers.{IsWant};
+ghost use Rattle.client_core.specs.Client as plain;
+ghost use Rattle.client_core.specs.Client.{client_of};
+ghost use Rattle.client_core.specs.First.{holds_failed};
+ghost use Rattle.client_core.specs.Upstream as upstream;
+ghost use Rattle.client_core.specs.Whole.{machine, started, first_upstream, plain_step, plain_trace, client_with};
+
+use crate::asked::Asked;
+use crate::calls::take_in;
+use crate::first::{FirstServer, Passed};
+use crate::upstream::Upstream;
+use crate::{cache, redundant};
+use client_dgram::{Connection, Request};
+use client_request::{
+    Board, Cx, Error, Event, Moment, Outs, RequestMessage, Row, Rows, Timers, Trace, Words,
+};
+use dns_base::Duration;
+use resolv_conf::ResolvConf;
+use std::alloc::Global;
+use std::marker::Model;
+
+/// A client of the servers of a configuration.
+///
+/// It is told what happens by `step`, and what it puts out is to be done by whoever holds it.
+#[derive(Drop)]
+pub struct Client {
+    alloc: Global,
+    layer: FirstServer<Upstream<RequestMessage>>,
+    asked: Asked<Passed<Request>>,
+    timeout: Duration,
+    now: Moment,
+    board: Board,
+    timers: Timers,
+    ticket: u64,
+    place: u64,
+    failed: bool,
+}
+
+impl Model for Client {
+    ghost use Rattle.std.specs.Prelude.{◌≡◌, true, false};
+    ghost use Rattle.client_core.specs.Whole.{Whole};
+    ghost use Rattle.client_core.specs.First.{holds_failed};
+    ghost use Rattle.client_core.specs.Upstream as upstream;
+
+    ghost Value = { Whole };
+
+    ghost view = { λ c. record {
+      layer = c.layer;
+      asked = c.asked;
+      timeout = c.timeout;
+      now = c.now.0;
+      board = c.board;
+      timers = c.timers;
+      ticket = c.ticket;
+      place = c.place;
+      failed = c.failed;
+    } };
+
+    ghost invariant = { λ c. c.failed ≡ false → holds_failed upstream.has_failed c.layer ≡ false };
+}
+
+/// The first server of a configuration, if it has one.
+fn first_upstream(
+    alloc: Global,
+    conf: &ResolvConf,
+) -> Result<Option<Upstream<RequestMessage>>, Error>
+    ensures { IfOk result (λ u. u ≡ first_upstream conf.now.servers) }
+{
+    match conf.servers.as_slice() {
+        [] => Ok(None),
+        _ => Ok(Some(Upstream::Dgram(Connection::new(alloc, 0)?))),
+    }
+}
+
+/// A step over this very transport.
+fn turn<W: Words>(
+    layer: &mut FirstServer<Upstream<RequestMessage>>,
+    asked: &mut Asked<Passed<Request>>,
+    cx: &mut Cx<'_, W>,
+    alloc: Global,
+    timeout: Duration,
+    event: &Event,
+) -> Result<(), Error>
+    ensures lends { LendsTheSame cx.old cx.new }
+    ensures ok { OnOk result (plain.client_step machine timeout event.now (client_of layer.old (asked.old, view_of W.stream cx.old)) ≡ Some (client_of layer.new (asked.new, view_of W.stream cx.new))) }
+    ensures numbers { IsErrOf result Error.NumbersUsed → plain.client_step machine timeout event.now (client_of layer.old (asked.old, view_of W.stream cx.old)) ≡ None }
+    ensures keeps { OnOk result (holds_failed upstream.has_failed layer.new ≡ holds_failed upstream.has_failed layer.old) }
+    ensures refused { IfErr result IsRefusal }
+    ensures failed_only { IsErrOf result Error.Failed → holds_failed upstream.has_failed layer.old ≡ true }
+{
+    take_in(layer, asked, cx, alloc, timeout, event)
+}
+
+impl Client {
+    /// A client of the first server of a configuration, with the default settings. `redundant` and
+    /// `cache` have no effect yet.
+    pub fn new(
+        alloc: Global,
+        conf: &ResolvConf,
+        _redundant: redundant::Config,
+        _cache: cache::Config,
+    ) -> Result<Client, Error>
+        ensures made { IfOk result (λ c. c ≡ started conf.now) }
+        ensures refused { IfErr result (λ e. e ≡ Error.NoMemory) }
+    {
+        let upstream = first_upstream(alloc, conf)?;
+        Ok(Client {
+            alloc,
+            layer: FirstServer::new(upstream),
+            asked: Asked::new(alloc),
+            timeout: conf.options.timeout,
+            now: Moment(0),
+            board: Board::new(alloc),
+            timers: Timers::new(alloc),
+            ticket: 0,
+            place: 0,
+            failed: false,
+        })
+    }
+
+    /// Takes an event in: timers that are due fire, then it happens, and timers that are due fire again.
+    ///
+    /// `NoMemory`, or `NumbersUsed` where a number would pass the greatest `u64`; after either each
+    /// further step answers `Failed` and changes nothing.
+    pub fn step<W: Words>(&mut self, words: &mut W, event: Event) -> Result<Row, Error>
+        ensures row { IfOk result (λ row. plain_step (W.stream words.old) event self.old ≡ Some (row, client_with (W.stream words.new) self.new)) }
+        ensures timeout { OnOk result (self.new.timeout ≡ self.old.timeout) }
+        ensures lasts { OnOk result (self.new.failed ≡ false) }
+        ensures numbers { IsErrOf result Error.NumbersUsed → plain_step (W.stream words.old) event self.old ≡ None }
+        ensures refused { IfErr result IsRefusal }
+        ensures err { OnErr result (self.new.failed ≡ true) }
+        ensures failed { self.old.failed ≡ true → (result ≡ Err Error.Failed) × (self.new ≡ self.old) × (W.stream words.new ≡ W.stream words.old) }
+        ensures failed_only { IsErrOf result Error.Failed → self.old.failed ≡ true }
+    {
+        if self.failed {
+            return Err(Error::Failed);
+        }
+        let alloc = self.alloc;
+        let mut outs = Outs::new(alloc);
+        let mut cx = Cx {
+            now: self.now,
+            words,
+            outs: &mut outs,
+            board: &mut self.board,
+            timers: &mut self.timers,
+            ticket: self.ticket,
+            place: self.place,
+            request: 0,
+            more: false,
+        };
+        let result = turn(
+            &mut self.layer,
+            &mut self.asked,
+            &mut cx,
+            alloc,
+            self.timeout,
+            &event,
+        );
+        let (now, ticket, place) = (cx.now, cx.ticket, cx.place);
+        self.now = now;
+        self.ticket = ticket;
+        self.place = place;
+        match result {
+            Ok(()) => Ok(Row { event, outs }),
+            Err(error) => {
+                self.failed = true;
+                Err(error)
+            }
+        }
+    }
+
+    /// The trace of a client that is told these events and draws these words: a row for each event, in
+    /// order. `NoMemory`, or `NumbersUsed` where a number would pass the greatest `u64`.
+    pub fn replay<W: Words>(
+        alloc: Global,
+        conf: &ResolvConf,
+        redundant: redundant::Config,
+        cache: cache::Config,
+        words: &mut W,
+        events: &[Event],
+    ) -> Result<Trace, Error>
+        ensures plain { IfOk result (λ t. plain_trace conf.now (W.stream words.old) events.now ≡ Some t.rows) }
+        ensures events { IfOk result (λ t. map (λ row. row.event) t.rows ≡ events.now) }
+        ensures numbers { IsErrOf result Error.NumbersUsed → plain_trace conf.now (W.stream words.old) events.now ≡ None }
+        ensures refused { IfErr result IsWant }
+    {
+        let mut client = Client::new(alloc, conf, redundant, cache)?;
+        let mut rows = Rows::new(alloc);
+        for event in events {
+            let event = event.try_clone(alloc)?;
+            let row = client.step(words, event)?;
+            rows.push(row)?;
+        }
+        Ok(Trace { rows })
+    }
+}

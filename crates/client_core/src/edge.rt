@@ -1,0 +1,39 @@
+//! The edge of a client: where outs are acted on and events come from.
+
+ghost use Rattle.std.specs.Prelude.{◌≡◌, ℕ, ◌≤◌, List, Option, OnOk, OnErr, IfOk};
+ghost use Rattle.dns_values.specs.Source.{one_more};
+ghost use Rattle.client_core.specs.Edge.{Deed, after_deed, Acted, Polled, Learned, after_fault};
+
+use client_request::{Out, What};
+use dns_base::NoMemory;
+use resolv_conf::ServerConf;
+
+/// Where a client's outs are acted on, and its events come from.
+///
+/// Where an edge knows what was done with it, it tells that as one list. It counts its polls and the
+/// faults that it gave as events; a count stands still at its last value.
+pub trait Edge {
+    ghost deeds: { Self → Option (List Deed) };
+
+    ghost polls: { Self → ℕ };
+
+    ghost faults: { Self → ℕ };
+
+    /// The next server's address, numbered from 0.
+    fn learn_server(&mut self, server: &ServerConf) -> Result<(), NoMemory>
+        ensures deeds { OnOk result (deeds self.new ≡ after_deed (Learned server.now) (deeds self.old)) }
+        ensures polls { polls self.new ≡ polls self.old }
+        ensures faults { faults self.new ≡ faults self.old };
+
+    /// Does what an out asks for.
+    fn act(&mut self, out: &Out) -> Result<(), NoMemory>
+        ensures deeds { OnOk result (deeds self.new ≡ after_deed (Acted out.now) (deeds self.old)) }
+        ensures polls { polls self.new ≡ polls self.old }
+        ensures faults { faults self.new ≡ faults self.old };
+
+    /// What happened, if anything did.
+    fn poll(&mut self) -> Result<Option<What>, NoMemory>
+        ensures deeds { IfOk result (λ what. deeds self.new ≡ after_deed (Polled what) (deeds self.old)) }
+        ensures polls { OnOk result (polls self.new ≡ one_more (polls self.old)) }
+        ensures faults { IfOk result (λ what. faults self.new ≡ after_fault what (faults self.old)) };
+}

@@ -1,0 +1,97 @@
+//! The trait of a request that several messages may answer.
+
+ghost use Rattle.std.specs.Prelude.{◌≡◌, ◌↔◌, ◌⊎◌, ℕ, Bool, List, Result, IsTrue, IfOk, IfErr, OnOk, OnErr, IsErrOf, length};
+ghost use Rattle.dns_base.specs.Draft.{Draft};
+ghost use Rattle.client_request.specs.declared.error.Error.{Error};
+ghost use Rattle.client_request.specs.declared.error.Error.TheVariants as errors;
+ghost use Rattle.client_request.specs.Composing.{IsComposed};
+ghost use Rattle.client_request.specs.Composed.{Copied, IsCopied, HoldsNothing};
+
+use crate::error::{CopyRecordsError, Error};
+use dns_base::{Builder, Header, Message, NoMemory};
+use std::alloc::Global;
+
+/// A request that a transport sends and whose answers it knows, of which there may be several.
+///
+/// `composed` is the message that is made of it, as for a request for one message.
+pub trait ComposeRequestMulti: Drop {
+    ghost with_id: { ℕ → Self → Self };
+
+    ghost with_payload_size: { ℕ → Self → Self };
+
+    ghost composed: { Self → Result (List ℕ) Error };
+
+    ghost is_answered: { List ℕ → Self → Bool };
+
+    /// A builder with the request's entries under its header, or why not.
+    ghost appended: { Self → Draft → Copied };
+
+    ghost header_of: { Self → List ℕ };
+
+    ghost with_header: { List ℕ → Self → Self };
+
+    ghost is_dnssec_ok: { Self → Bool };
+
+    ghost with_dnssec_ok: { Bool → Self → Self };
+
+    ghost with_option: { ℕ → List ℕ → Self → Self };
+
+    /// So many octets of an option would pass what the OPT record's data may have.
+    ghost is_full_for: { ℕ → Self → Bool };
+
+    /// The message: the recorded header, the base's questions and records without the OPT records of
+    /// its additional section, and then the recorded OPT record (RFC 1035 4.1, RFC 6891 6.1).
+    fn to_message(&self) -> Result<Message, Error>
+        ensures { IsComposed (composed self.now) result };
+
+    /// Records an id.
+    fn set_id(&mut self, id: u16)
+        ensures { self.new ≡ with_id id self.old };
+
+    /// Records the payload size, in an OPT record that is added where there is none.
+    fn set_udp_payload_size(&mut self, value: u16)
+        ensures { self.new ≡ with_payload_size value self.old };
+
+    /// Whether a message is one of this request's answers: QR is set, the id is the recorded one, and the
+    /// questions are the base's, or an error came without any entry, or the request is for a whole zone
+    /// and the message has no question (RFC 5936 2.2.1).
+    fn is_answer(&self, answer: &Message) -> bool
+        ensures { result ≡ is_answered answer.now self.now };
+
+    /// Appends that message to a builder that holds no entry. A refusal leaves the builder as it was:
+    /// `Parse` where the base can't be read, `Push` where a section is full, the builder's limit would be
+    /// passed, or memory runs out. Of two refusals the first in message order is given.
+    fn append_message(&self, target: &mut Builder) -> Result<(), CopyRecordsError>
+        requires { HoldsNothing target.old }
+        ensures copied { IsCopied (appended self.now target.old) result target.new }
+        ensures err { OnErr result (target.new ≡ target.old) };
+
+    /// The recorded header.
+    fn header(&self) -> &Header
+        ensures { result.now ≡ header_of self.now };
+
+    /// Records a header.
+    fn set_header(&mut self, header: Header)
+        ensures { self.new ≡ with_header header self.old };
+
+    /// Whether the recorded OPT record says that DNSSEC records are taken (RFC 3225 3).
+    fn dnssec_ok(&self) -> bool
+        ensures { result ≡ is_dnssec_ok self.now };
+
+    /// Records whether DNSSEC records are taken, in an OPT record that is added where there is none.
+    fn set_dnssec_ok(&mut self, value: bool)
+        ensures { self.new ≡ with_dnssec_ok value self.old };
+
+    /// Appends an option to the OPT record, which is added where there is none (RFC 6891 6.1.2).
+    /// `OptTooLong` exactly where its data would pass 65535 octets, and else `NoMemory`; either leaves
+    /// the request as it was.
+    fn add_opt(&mut self, code: u16, octets: &[u8]) -> Result<(), Error>
+        ensures ok { OnOk result (self.new ≡ with_option code octets.now self.old) }
+        ensures err { OnErr result (self.new ≡ self.old) }
+        ensures long { IsErrOf result errors.OptTooLong ↔ IsTrue (is_full_for (length octets.now) self.old) }
+        ensures refused { IfErr result (λ e. (e ≡ errors.OptTooLong) ⊎ (e ≡ errors.NoMemory)) };
+
+    /// The same request once more.
+    fn try_clone(&self, alloc: Global) -> Result<Self, NoMemory>
+        ensures { IfOk result (λ copy. copy ≡ self.now) };
+}

@@ -1,0 +1,144 @@
+//! Requests that several messages may answer.
+
+ghost use Rattle.std.specs.Prelude.{◌≡◌, ◌↔◌, IfOk, IfErr, IsErrOf, IsTrue, false};
+ghost use Rattle.dns_base.specs.Message.{is_xfr};
+ghost use Rattle.client_request.specs.Request as spec;
+ghost use Rattle.client_request.specs.Composed.{composed, appended};
+ghost use Rattle.client_request.specs.declared.error.Error.TheVariants as errors;
+
+use crate::compose::ComposeRequest;
+use crate::compose_multi::ComposeRequestMulti;
+use crate::error::{CopyRecordsError, Error};
+use crate::request::RequestMessage;
+use dns_base::{Builder, Header, Message, NoMemory, OptRecord, Rtype};
+use std::alloc::Global;
+use std::marker::Model;
+
+/// A request for a zone, or for its changes (RFC 5936, RFC 1995).
+#[derive(Drop)]
+pub struct RequestMessageMulti {
+    request: RequestMessage,
+}
+
+impl Model for RequestMessageMulti {
+    ghost use Rattle.client_request.specs.Request.{Request};
+
+    ghost Value = { Request };
+
+    ghost view = { λ r. r.request };
+}
+
+/// Whether the first question asks for a whole zone.
+fn is_axfr(base: &Message) -> bool
+    ensures { result ≡ spec.is_axfr base.now }
+{
+    match base.first_question() {
+        None => false,
+        Some(question) => question.qtype() == Rtype::AXFR,
+    }
+}
+
+impl RequestMessageMulti {
+    /// A request with the base's own header and no OPT record. `FormError` exactly where the first
+    /// question is missing, can't be read, or asks for no zone transfer.
+    pub fn new(alloc: Global, msg: Message) -> Result<RequestMessageMulti, Error>
+        ensures made { IfOk result (λ r. r ≡ spec.recorded_from msg) }
+        ensures misformed { IsErrOf result errors.FormError ↔ (is_xfr msg ≡ false) }
+        ensures refused { IfErr result (λ e. e ≡ errors.FormError) }
+    {
+        if !msg.is_xfr() {
+            return Err(Error::FormError);
+        }
+        Ok(RequestMessageMulti {
+            request: RequestMessage::recorded_from(alloc, msg),
+        })
+    }
+
+    pub fn base(&self) -> &Message
+        ensures { result.now ≡ self.now.base }
+    {
+        self.request.base()
+    }
+
+    pub fn recorded_opt(&self) -> Option<OptRecord<'_>>
+        ensures { result ≡ self.now.opt }
+    {
+        self.request.recorded_opt()
+    }
+}
+
+impl ComposeRequestMulti for RequestMessageMulti {
+    ghost with_id = { spec.with_id };
+
+    ghost with_payload_size = { spec.with_payload_size };
+
+    ghost composed = { composed };
+
+    ghost is_answered = { spec.is_answered_in_part };
+
+    ghost appended = { appended };
+
+    ghost header_of = { λ r. r.header };
+
+    ghost with_header = { spec.with_header };
+
+    ghost is_dnssec_ok = { spec.is_dnssec_ok };
+
+    ghost with_dnssec_ok = { spec.with_dnssec_ok };
+
+    ghost with_option = { spec.with_option };
+
+    ghost is_full_for = { spec.is_full_for };
+
+    fn to_message(&self) -> Result<Message, Error> {
+        self.request.to_message()
+    }
+
+    fn set_id(&mut self, id: u16) {
+        self.request.set_id(id);
+    }
+
+    fn set_udp_payload_size(&mut self, value: u16) {
+        self.request.set_udp_payload_size(value);
+    }
+
+    fn is_answer(&self, answer: &Message) -> bool {
+        if self.request.is_answer(answer) {
+            return true;
+        }
+        let header = answer.header();
+        is_axfr(self.request.base())
+            && header.qr()
+            && header.id() == self.request.header().id()
+            && answer.header_counts().qdcount() == 0
+    }
+
+    fn append_message(&self, target: &mut Builder) -> Result<(), CopyRecordsError> {
+        self.request.append_message(target)
+    }
+
+    fn header(&self) -> &Header {
+        self.request.header()
+    }
+
+    fn set_header(&mut self, header: Header) {
+        self.request.set_header(header);
+    }
+
+    fn dnssec_ok(&self) -> bool {
+        self.request.dnssec_ok()
+    }
+
+    fn set_dnssec_ok(&mut self, value: bool) {
+        self.request.set_dnssec_ok(value);
+    }
+
+    fn add_opt(&mut self, code: u16, octets: &[u8]) -> Result<(), Error> {
+        self.request.add_opt(code, octets)
+    }
+
+    fn try_clone(&self, alloc: Global) -> Result<RequestMessageMulti, NoMemory> {
+        let request = self.request.try_clone(alloc)?;
+        Ok(RequestMessageMulti { request })
+    }
+}
