@@ -122,14 +122,14 @@ header_of word = pairs word >>= (λ octets. if length octets == 4 then Some octe
 abbrev pub opt_of : List ℕ → Option (Option OptFields)
 opt_of word = if bytes_eq word (codes "-") then Some None else octets_of word >>= (λ octets. option_map (λ opt. Some opt) (opt_record octets))
 
--- a request with what is recorded beside its base, where it may be asked
-abbrev pub recorded : List ℕ → List ℕ → Option OptFields → Option Request
-recorded base header opt = if is_misformed base then None else Some (record { base = base; header = header; opt = opt })
+-- a base that may be asked, with what is recorded beside it
+unfoldable pub request_of : List ℕ → List ℕ → List ℕ → Option Request
+request_of base header word =
+    if is_misformed base then None else option_map (λ opt. record { base = base; header = header; opt = opt }) (opt_of word)
 
 abbrev pub request_at : Reader Request
 request_at words =
-    message_at words >>= (λ base. one_word header_of base.1 >>= (λ header. one_word opt_of header.1 >>= (λ opt.
-      option_map (λ request. (request, opt.1)) (recorded base.0 header.0 opt.0))))
+    message_at words >>= (λ base. one_word header_of base.1 >>= (λ header. one_word (request_of base.0 header.0) header.1))
 
 abbrev pub what_behind : EventName → Reader What
 what_behind event_name.Ask words = one what.Ask request_at words

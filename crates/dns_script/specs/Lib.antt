@@ -4,5 +4,6 @@ pub mod Names
 pub mod Reading
 pub mod ScriptReading
 pub mod Stage
+pub mod TraceReading
 pub mod TraceText
 pub mod Words

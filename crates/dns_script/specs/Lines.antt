@@ -1,7 +1,9 @@
 -- The lines of a trace: its events and what was put out.
-use Rattle.std.specs.Prelude.{ℕ, List, [], ◌∷◌, ◌++◌, Option, Some, None, Result, Ok, Err, codes}
+use Rattle.std.specs.Prelude.{ℕ, List, [], ◌∷◌, ◌++◌, length, Option, Some, None, Result, Ok, Err, codes}
 use Rattle.std.specs.Fmt.{decimal}
 use Rattle.std.specs.List.{join_with_byte}
+use Rattle.std.specs.Int.{w16, to_be_bytes}
+use Rattle.dns_base.specs.OptRecord.{OptFields}
 use Rattle.client_request.specs.Request.{Request}
 use Rattle.client_request.specs.declared.error.Error.{Error}
 use Rattle.client_request.specs.declared.event.Moment.{Moment}
@@ -16,10 +18,17 @@ use Rattle.dns_script.specs.Words.{hex_word, via_word, fault_word, error_words}
 abbrev pub line : List (List ℕ) → List ℕ
 line words = join_with_byte 32 words ++ 10 ∷ []
 
+-- an OPT record of the root (RFC 6891 6.1.2)
+abbrev pub opt_octets : OptFields → List ℕ
+opt_octets opt =
+    0 ∷ 0 ∷ 41 ∷ to_be_bytes w16 opt.udp_payload_size
+    ++ opt.ext_rcode ∷ opt.version ∷ to_be_bytes w16 opt.flags
+    ++ to_be_bytes w16 (length opt.options) ++ opt.options
+
 -- the recorded OPT record, or a hyphen
-abbrev pub opt_word : Option (List ℕ) → List ℕ
+abbrev pub opt_word : Option OptFields → List ℕ
 opt_word None = codes "-"
-opt_word (Some record_octets) = hex_word record_octets
+opt_word (Some opt) = hex_word (opt_octets opt)
 
 abbrev pub request_words : Request → List (List ℕ)
 request_words request = hex_word request.base ∷ hex_word request.header ∷ opt_word request.opt ∷ []

@@ -10,8 +10,10 @@ mod reading;
 mod script;
 mod script_lines;
 mod stage;
+mod trace_lines;
 mod words;
 
 pub use printing::trace_text;
 pub use script::{Lanes, Script, ScriptFault};
 pub use script_lines::read_script;
+pub use trace_lines::read_trace;

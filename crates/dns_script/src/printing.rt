@@ -5,12 +5,14 @@ ghost use Rattle.std.specs.String.{string_bytes};
 ghost use Rattle.std.specs.Fmt.{decimal};
 ghost use Rattle.std.specs.List.{join_with_byte};
 ghost use Rattle.dns_script.specs.Words.{error_words, fault_word, hex_word, query_error_words};
-ghost use Rattle.dns_script.specs.Lines.{event_line, out_line, request_words, result_words, what_words};
+ghost use Rattle.dns_script.specs.Lines.{event_line, opt_octets, out_line, request_words, result_words, what_words};
 ghost use Rattle.dns_script.specs.TraceText.{row_text, trace_text_of};
 
-use crate::words::{error_name, fault_word, push_hex, via_word};
-use client_request::{Error, Event, Fault, Out, QueryError, Row, Trace, What};
-use dns_base::{Message, NoMemory};
+use crate::words::{error_name, fault_word, push_digits, push_hex, via_word};
+use client_request::{
+    ComposeRequest, Error, Event, Fault, Out, QueryError, RequestMessage, Row, Trace, What,
+};
+use dns_base::{Message, NoMemory, OptRecord};
 use std::alloc::Global;
 use std::fmt::Write;
 
@@ -111,6 +113,48 @@ pub(crate) fn push_out(text: &mut String, out: &Out) -> Result<(), NoMemory>
     Ok(())
 }
 
+/// Adds the digits of an OPT record of the root (RFC 6891 6.1.2).
+fn push_opt(text: &mut String, opt: &OptRecord<'_>) -> Result<(), NoMemory>
+    ensures { OnOk result (string_bytes text.new ≡ string_bytes text.old ++ hex_word (opt_octets opt.now)) }
+{
+    let data = opt.data();
+    let [size_high, size_low] = opt.udp_payload_size().to_be_bytes();
+    let [flags_high, flags_low] = opt.flags().to_be_bytes();
+    let [count_high, count_low] = (data.len() as u16).to_be_bytes();
+    let head = [
+        0,
+        0,
+        41,
+        size_high,
+        size_low,
+        opt.ext_rcode(),
+        opt.version(),
+        flags_high,
+        flags_low,
+        count_high,
+        count_low,
+    ];
+    push_digits(text, &head)?;
+    push_digits(text, data)
+}
+
+/// Adds the words of a request.
+fn push_request(text: &mut String, request: &RequestMessage) -> Result<(), NoMemory>
+    ensures { OnOk result (string_bytes text.new ≡ string_bytes text.old ++ join_with_byte 32 (request_words request.now)) }
+{
+    push_hex(text, request.base().as_slice())?;
+    text.push_str(" ")?;
+    push_hex(text, &request.header().to_octets())?;
+    text.push_str(" ")?;
+    match request.recorded_opt() {
+        None => {
+            text.push_str("-")?;
+            Ok(())
+        }
+        Some(opt) => push_opt(text, &opt),
+    }
+}
+
 /// Adds a word, a blank, a place, a blank and a fault's word.
 fn push_failed(text: &mut String, word: &str, place: u64, fault: Fault) -> Result<(), NoMemory>
     ensures { OnOk result (string_bytes text.new ≡ string_bytes text.old ++ join_with_byte 32 (word.now ∷ decimal place ∷ fault_word fault ∷ [])) }
@@ -148,7 +192,10 @@ fn push_what(text: &mut String, what: &What) -> Result<(), NoMemory>
     ensures { OnOk result (string_bytes text.new ≡ string_bytes text.old ++ join_with_byte 32 (what_words what.now)) }
 {
     match what {
-        What::Ask { request: _ } => Err(NoMemory),
+        What::Ask { request } => {
+            text.push_str("ask ")?;
+            push_request(text, request)
+        }
         What::Opened { place } => push_place(text, "opened", *place),
         What::OpenFailed { place, fault } => push_failed(text, "open-failed", *place, *fault),
         What::SendFailed { place, fault } => push_failed(text, "send-failed", *place, *fault),

@@ -2,7 +2,7 @@
 
 ghost use Rattle.std.specs.Prelude.{◌≡◌, option_map};
 ghost use Rattle.dns_script.specs.Reading.{Gives, Reads};
-ghost use Rattle.dns_script.specs.Grammar.{opt_of, query_error_behind, query_error_at, error_behind, error_at, result_behind, result_at, out_behind, out_at, request_at, what_behind, what_at, event_at};
+ghost use Rattle.dns_script.specs.Grammar.{opt_of, request_of, query_error_behind, query_error_at, error_behind, error_at, result_behind, result_at, out_behind, out_at, request_at, what_behind, what_at, event_at};
 
 use crate::line::{LineFault, Words, octets_of};
 use crate::names::{EventName, OutName, error_named, event_named, kind_named, out_named};
@@ -157,17 +157,28 @@ fn with_recorded(
     }
 }
 
+/// A base that may be asked, with what is recorded beside it.
+fn request_of(
+    alloc: Global,
+    base: Message,
+    header: Header,
+    word: &[u8],
+) -> Result<RequestMessage, LineFault>
+    ensures { Reads (λ r. r) result (request_of base header word.now) }
+{
+    match RequestMessage::new(alloc, base) {
+        Ok(request) => with_recorded(alloc, request, header, word),
+        Err(_) => Err(LineFault::Refused),
+    }
+}
+
 /// A request: its base message, and the header and the OPT record that are recorded.
 fn request(alloc: Global, words: &mut Words<'_>) -> Result<RequestMessage, LineFault>
     ensures { Gives result words.new (request_at words.old) }
 {
     let base = words.message(alloc)?;
     let header = words.header(alloc)?;
-    let opt = words.word()?;
-    match RequestMessage::new(alloc, base) {
-        Ok(request) => with_recorded(alloc, request, header, opt),
-        Err(_) => Err(LineFault::Refused),
-    }
+    request_of(alloc, base, header, words.word()?)
 }
 
 fn what_behind(alloc: Global, name: EventName, words: &mut Words<'_>) -> Result<What, LineFault>

@@ -14,7 +14,10 @@ fn is_plain_base(base: &Message) -> bool
     ensures { result ≡ is_plain_base base.now }
 {
     let counts = base.header_counts();
-    counts.ancount() == 0 && counts.nscount() == 0 && counts.arcount() == 0 && base.sole_question().is_ok()
+    counts.ancount() == 0
+        && counts.nscount() == 0
+        && counts.arcount() == 0
+        && base.sole_question().is_ok()
 }
 
 /// Fewer than a hundred requests stand before it, and a server is known.

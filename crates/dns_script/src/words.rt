@@ -2,8 +2,9 @@
 
 ghost use Rattle.std.specs.Prelude.{◌≡◌, ◌++◌, ◌<◌, OnOk};
 ghost use Rattle.std.specs.Char.{digit_char};
+ghost use Rattle.std.specs.List.{flat_map};
 ghost use Rattle.std.specs.String.{string_bytes};
-ghost use Rattle.dns_script.specs.Words.{hex_word, via_word, fault_word, error_name};
+ghost use Rattle.dns_script.specs.Words.{octet_digits, hex_word, via_word, fault_word, error_name};
 
 use client_request::{Error, Fault, Via};
 use dns_base::NoMemory;
@@ -77,19 +78,24 @@ fn hex_digit(number: u8) -> char
     }
 }
 
-/// Writes two digits for each octet, and a hyphen for no octet.
-pub(crate) fn push_hex(text: &mut String, octets: &[u8]) -> Result<(), NoMemory>
-    ensures { OnOk result (string_bytes text.new ≡ string_bytes text.old ++ hex_word octets.now) }
+/// Adds two digits for each octet.
+pub(crate) fn push_digits(text: &mut String, octets: &[u8]) -> Result<(), NoMemory>
+    ensures { OnOk result (string_bytes text.new ≡ string_bytes text.old ++ flat_map octet_digits octets.now) }
 {
-    if octets.is_empty() {
-        return match text.push('-') {
-            Ok(()) => Ok(()),
-            Err(_) => Err(NoMemory),
-        };
-    }
     for octet in octets {
         text.push(hex_digit(*octet / 16))?;
         text.push(hex_digit(*octet % 16))?;
     }
     Ok(())
+}
+
+/// Adds two digits for each octet, and a hyphen for no octet.
+pub(crate) fn push_hex(text: &mut String, octets: &[u8]) -> Result<(), NoMemory>
+    ensures { OnOk result (string_bytes text.new ≡ string_bytes text.old ++ hex_word octets.now) }
+{
+    if octets.is_empty() {
+        text.push_str("-")?;
+        return Ok(());
+    }
+    push_digits(text, octets)
 }

@@ -3,7 +3,7 @@ use Rattle.std.proofs.Common.{◌≡◌, ◌++◌, take}
 use Rattle.std.specs.String.{string_bytes}
 use Rattle.std.specs.List.{flat_map}
 use Rattle.dns_script.specs.Words.{octet_digits}
-use Rattle.dns_script.proofs.words.push_hex.Given as goal
+use Rattle.dns_script.proofs.words.push_digits.Given as goal
 
 abbrev pub invariant-loop-octet : goal.invariant-loop-octet
 invariant-loop-octet l =
