@@ -1,0 +1,11 @@
+-- the octets so far, and those of the digits that are left, are those of all digits
+use Rattle.std.proofs.Common.{◌≡◌, ◌++◌, length}
+use Rattle.std.specs.Prelude.{option_map}
+use Rattle.dns_script.specs.Reading.{pairs}
+use Rattle.dns_script.proofs.line.pairs.Given as goal
+
+abbrev pub invariant-loop-rest : goal.invariant-loop-rest
+invariant-loop-rest l = option_map (λ more. l.octets.items ++ more) (pairs l.rest) ≡ pairs l.fn.digits
+
+abbrev pub decreases-loop-rest : goal.decreases-loop-rest
+decreases-loop-rest l = length l.rest

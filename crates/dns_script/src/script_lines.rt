@@ -1,0 +1,188 @@
+//! Scripts, read line by line.
+
+ghost use Rattle.std.specs.Prelude.{◌≡◌, ◌++◌, Some, option_map};
+ghost use Rattle.dns_script.specs.Reading.{Makes, MakesBy, named, numbers_of};
+ghost use Rattle.dns_script.specs.Names.{script_names};
+ghost use Rattle.std.specs.Str.{IsUtf8};
+ghost use Rattle.dns_script.specs.ScriptReading.{ReadsScript, begun_with, TakesConf, TakesEvent, TakesLane, TakesLine, TakesNamed, TakesWords};
+
+use crate::line::{LineFault, Lines, Words, split_first};
+use crate::names::{ScriptName, script_named};
+use crate::reading::event;
+use crate::script::{Lanes, Script, ScriptFault};
+use crate::stage::{check_what, takes_conf};
+use client_request::{Events, What, WordList};
+use resolv_conf::ResolvConf;
+use std::alloc::Global;
+use std::str;
+
+/// What the lines of a script said so far.
+#[derive(Drop)]
+pub(crate) struct ScriptReader {
+    /// There may be lanes, and none has begun at first.
+    pub many: bool,
+    /// An event or a lane came.
+    pub begun: bool,
+    /// How many requests were asked.
+    pub asks: u64,
+    pub conf: ResolvConf,
+    pub words: WordList,
+    /// The lanes that are whole.
+    pub lanes: Lanes,
+    /// The lane that is being read.
+    pub lane: Option<Events>,
+}
+
+/// Adds a number for each word.
+fn add_numbers(numbers: &mut WordList, words: &mut Words<'_>) -> Result<(), LineFault>
+    ensures { Makes result numbers.new (option_map (λ more. numbers.old ++ more) (numbers_of words.old)) }
+{
+    while !words.is_empty() {
+        numbers.push(words.u64()?)?;
+    }
+    Ok(())
+}
+
+impl ScriptReader {
+    /// Where `many`, no lane has begun.
+    fn new(alloc: Global, many: bool) -> ScriptReader
+        ensures { result ≡ begun_with many }
+    {
+        ScriptReader {
+            many,
+            begun: false,
+            asks: 0,
+            conf: ResolvConf::new(alloc),
+            words: WordList::new(alloc),
+            lanes: Lanes::new(alloc),
+            lane: if many { None } else { Some(Events::new(alloc)) },
+        }
+    }
+
+    fn conf_line(&mut self, text: &str) -> Result<(), LineFault>
+        ensures { MakesBy result self.new (TakesConf text.now self.old) }
+    {
+        if self.begun || !takes_conf(text) {
+            return Err(LineFault::Refused);
+        }
+        match self.conf.script_conf_line(text) {
+            Ok(()) => Ok(()),
+            Err(resolv_conf::LineFault::Parse) => Err(LineFault::Refused),
+            Err(resolv_conf::LineFault::NoMemory) => Err(LineFault::NoMemory),
+        }
+    }
+
+    fn words_line(&mut self, text: &[u8]) -> Result<(), LineFault>
+        ensures { MakesBy result self.new (TakesWords text.now self.old) }
+    {
+        if self.begun {
+            return Err(LineFault::Refused);
+        }
+        add_numbers(&mut self.words, &mut Words::of(text))
+    }
+
+    fn event_line(&mut self, alloc: Global, text: &[u8]) -> Result<(), LineFault>
+        ensures { MakesBy result self.new (TakesEvent text.now self.old) }
+    {
+        let mut words = Words::of(text);
+        let event = event(alloc, &mut words)?;
+        words.end()?;
+        check_what(self.asks, &self.conf, &event.what)?;
+        let Some(lane) = &mut self.lane else {
+            return Err(LineFault::Refused);
+        };
+        let asked = matches!(event.what, What::Ask { .. });
+        lane.push(event)?;
+        if asked {
+            self.asks += 1;
+        }
+        self.begun = true;
+        Ok(())
+    }
+
+    /// The next lane, of 64 at most.
+    fn lane_line(&mut self, alloc: Global) -> Result<(), LineFault>
+        ensures { MakesBy result self.new (TakesLane self.old) }
+    {
+        let whole = if self.lane.is_some() { 63 } else { 64 };
+        if !self.many || self.lanes.len() >= whole {
+            return Err(LineFault::Refused);
+        }
+        if let Some(lane) = self.lane.take() {
+            self.lanes.push(lane)?;
+        }
+        self.lane = Some(Events::new(alloc));
+        self.begun = true;
+        Ok(())
+    }
+
+    /// A name and what stands behind it.
+    fn named_line(&mut self, alloc: Global, name: &[u8], text: &[u8]) -> Result<(), LineFault>
+        requires { IsUtf8 text.now }
+        ensures { MakesBy result self.new (TakesNamed (named script_names name.now) text.now self.old) }
+    {
+        match script_named(name) {
+            None => Err(LineFault::Refused),
+            Some(ScriptName::Conf) => match str::from_utf8(text) {
+                Ok(text) => self.conf_line(text),
+                Err(_) => Err(LineFault::Refused),
+            },
+            Some(ScriptName::Words) => self.words_line(text),
+            Some(ScriptName::At) => self.event_line(alloc, text),
+        }
+    }
+
+    /// Takes a line. A reader that gave an error is not used again.
+    #[tactic(auto, using(crate::proofs::Parts::utf8_behind))]
+    pub(crate) fn line(&mut self, alloc: Global, line: &[u8]) -> Result<(), LineFault>
+        ensures { MakesBy result self.new (TakesLine line.now self.old) }
+    {
+        match str::from_utf8(line) {
+            Ok(_) => {}
+            Err(_) => return Err(LineFault::Refused),
+        }
+        if line.len() == 0 || line[0] == b'#' {
+            return Ok(());
+        }
+        match split_first(line, b' ') {
+            None if line == b"lane".as_slice() => self.lane_line(alloc),
+            None => Err(LineFault::Refused),
+            Some((name, text)) => self.named_line(alloc, name, text),
+        }
+    }
+}
+
+/// Reads a script. Where `lanes`, its events stand in lanes, of which there is one at least.
+///
+/// A text that is no script gives the first line that is refused, or the line after the last where a
+/// lane is wanted and none came.
+#[tactic(auto, using(crate::proofs::ScriptLoop::nothing_read, crate::proofs::ScriptLoop::line_read, crate::proofs::ScriptLoop::line_refused, crate::proofs::ScriptLoop::no_lane, crate::proofs::ScriptLoop::script_read))]
+pub fn read_script(alloc: Global, text: &[u8], lanes: bool) -> Result<Script, ScriptFault>
+    ensures { ReadsScript lanes text.now result }
+{
+    let mut reader = ScriptReader::new(alloc, lanes);
+    let mut left = Lines { rest: text };
+    let mut count: u64 = 0;
+    while let Some(line) = left.take() {
+        count += 1;
+        match reader.line(alloc, line) {
+            Ok(()) => {}
+            Err(LineFault::Refused) => return Err(ScriptFault::Line(count)),
+            Err(LineFault::NoMemory) => return Err(ScriptFault::NoMemory),
+        }
+    }
+    let ScriptReader {
+        conf,
+        words,
+        mut lanes,
+        lane,
+        ..
+    } = reader;
+    match lane {
+        None => Err(ScriptFault::Line(count + 1)),
+        Some(lane) => match lanes.push(lane) {
+            Ok(()) => Ok(Script { conf, words, lanes }),
+            Err(_) => Err(ScriptFault::NoMemory),
+        },
+    }
+}
