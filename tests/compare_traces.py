@@ -1,0 +1,61 @@
+"""Compares the traces of the built program dnsq with a reference client.
+
+usage: python3 tests/compare_traces.py REFERENCE_FOLDER PROGRAM [--profile P] [--stage N] [--scripts N] [--events N]
+
+REFERENCE_FOLDER holds the package `plain`; PROGRAM is the built dnsq. Without the folder nothing is
+compared, and that is said. Each script is made by the reference's own generator from its number as the
+seed, so a failure can be made again.
+"""
+
+import argparse
+import os
+import subprocess
+import sys
+import tempfile
+
+
+def reference(folder, *words, **how):
+    return subprocess.run([sys.executable, "-m", *words], cwd=folder, capture_output=True, **how)
+
+
+def compare(folder, program, seed, options, room):
+    made = reference(folder, "plain.fuzz", "--seed", str(seed), "--events", str(options.events),
+                     "--profile", options.profile, check=True).stdout
+    script, trace = os.path.join(room, "script"), os.path.join(room, "trace")
+    ran = subprocess.run([program, "replay"], input=made, capture_output=True, timeout=120)
+    with open(script, "wb") as it:
+        it.write(made)
+    with open(trace, "wb") as it:
+        it.write(ran.stdout)
+    told = reference(folder, "plain." + options.judge, "--stage", str(options.stage), script, trace)
+    good = ran.returncode == 0 and told.returncode == 0
+    if not good:
+        print(f"seed {seed}: status {ran.returncode}, judged:", (told.stdout + told.stderr).decode()[:600])
+    return good
+
+
+def main():
+    parser = argparse.ArgumentParser()
+    parser.add_argument("reference")
+    parser.add_argument("program")
+    parser.add_argument("--profile", default="dgram1")
+    parser.add_argument("--stage", type=int, default=1)
+    parser.add_argument("--scripts", type=int, default=200)
+    parser.add_argument("--events", type=int, default=200)
+    parser.add_argument("--first", type=int, default=1)
+    parser.add_argument("--judge", default="check_trace", choices=("check_trace", "check_right"))
+    options = parser.parse_args()
+    if not os.path.isdir(os.path.join(options.reference, "plain")):
+        print("skipped: no reference client in", options.reference)
+        return 0
+    program = os.path.abspath(options.program)
+    failed = 0
+    with tempfile.TemporaryDirectory() as room:
+        for seed in range(options.first, options.first + options.scripts):
+            failed += not compare(options.reference, program, seed, options, room)
+    print(f"{options.scripts - failed} passed, {failed} failed")
+    return 1 if failed else 0
+
+
+if __name__ == "__main__":
+    sys.exit(main())
