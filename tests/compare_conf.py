@@ -18,7 +18,7 @@ ROOT = Path(__file__).resolve().parent.parent
 
 WHITE = [" ", " ", " ", "\t", "  ", "\x0b", "\x0c", "\u0085", "\u00a0", "\u1680", "\u2003", "\u2028", "\u202f",
          "\u205f", "\u3000", "\u200b", "\ufeff", "\r"]
-ADDRESSES = ["192.0.2.53", "0.0.0.0", "255.255.255.255", "256.0.0.1", "1.2.3", "01.2.3.4", "1.2.3.4.", "::", "::1",
+ADDRESSES = ["256.0.0.1", "1.2.3", "01.2.3.4", "1.2.3.4.", "::", "::1", "0.0.0.0", "255.255.255.255", "192.0.2.53",
              "2001:db8::53", "2001:DB8:0:0:1:0:0:1", "1:2:3:4:5:6:7:8", "1:2:3:4:5:6:7::", "::ffff:192.0.2.1",
              "64:ff9b::192.0.2.33", "1::2::3", "fe80::1%eth0", "[::1]", "192.0.2.1:53", "12345::", "ns.example"]
 NAMES = [".", "example", "example.com", "example.com.", "CORP.Example", "a..b", "..", "\\.", "a\\.b", "\\032", "\\256",
@@ -35,17 +35,17 @@ NUMBERS = ["0", "1", "2", "5", "30", "007", "+3", "-1", "", "+", "1.5", "x", "18
 def option(rng):
     if rng.random() < 0.5:
         return rng.choice(FLAGS)
-    return rng.choice(NUMBERED) + ":" + rng.choice(NUMBERS if rng.random() < 0.5 else NUMBERS[:6])
+    return rng.choice(NUMBERED) + ":" + rng.choice(NUMBERS if rng.random() < 0.2 else NUMBERS[:7])
 
 
 def words(rng):
     kind = rng.randrange(12)
     if kind < 4:
-        out = ["nameserver"] + [rng.choice(ADDRESSES[:10] if rng.random() < 0.7 else ADDRESSES)]
+        out = ["nameserver"] + [rng.choice(ADDRESSES[7:13] if rng.random() < 0.8 else ADDRESSES)]
     elif kind < 6:
-        out = ["domain", rng.choice(NAMES)]
+        out = ["domain", rng.choice(NAMES[:5] if rng.random() < 0.8 else NAMES)]
     elif kind < 8:
-        out = ["search"] + [rng.choice(NAMES[:5] if rng.random() < 0.7 else NAMES) for _ in range(rng.randrange(5))]
+        out = ["search"] + [rng.choice(NAMES[:5] if rng.random() < 0.8 else NAMES) for _ in range(rng.randrange(5))]
     elif kind < 10:
         out = ["options"] + [option(rng) for _ in range(rng.randrange(5))]
     elif kind < 11:
@@ -93,7 +93,7 @@ def configuration(rng):
     octets = end.join(line(rng) for _ in range(rng.randrange(8))).encode("utf-8")
     if rng.random() < 0.8:
         octets += end.encode()
-    if rng.random() < 0.3:
+    if rng.random() < 0.15:
         octets = mangled(rng, octets)
     return octets
 

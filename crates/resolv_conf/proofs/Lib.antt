@@ -8,3 +8,4 @@ pub mod Finals
 pub mod Changes
 pub mod Paths
 pub mod Defaults
+pub mod Outcomes

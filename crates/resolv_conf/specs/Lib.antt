@@ -4,6 +4,7 @@ pub mod Fault
 pub mod Files
 pub mod Final
 pub mod Line
+pub mod LineLaws
 pub mod MemFiles
 pub mod Number
 pub mod OptionWord

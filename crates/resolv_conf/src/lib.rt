@@ -1,10 +1,20 @@
-//! The configuration of a resolver, as `resolv.conf` has it.
+//! The configuration of a resolver, as `resolv.conf` has it (resolver(5)).
+//!
+//! It is read from a `Source` or through an `OpenFile`, line by line, and printed. What asks the
+//! servers, and what searches names, is left to others.
+//!
+//! ```text
+//! let mut conf = ResolvConf::new(alloc);
+//! conf.parse(alloc, &mut source)?;
+//! conf.finalize(alloc)?;
+//! ```
 #![tactic(auto)]
 
 mod conf;
 mod error;
 mod fault;
 mod file;
+mod laws;
 mod line;
 mod mem_files;
 mod number;
@@ -23,6 +33,7 @@ pub use conf::{ResolvConf, finalize_laws};
 pub use error::{Error, IoFault};
 pub use fault::LineFault;
 pub use file::OpenFile;
+pub use laws::line_laws;
 pub use mem_files::MemFiles;
 pub use options::ResolvOptions;
 pub use search::{SearchList, SearchSuffix};

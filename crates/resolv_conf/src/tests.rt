@@ -196,6 +196,7 @@ fn a_configuration_is_finalized(rt: HostRuntime) -> Result<(), Fail> {
         assert!(rt; server.request_timeout == Duration::from_secs(7));
     }
     finalize_laws();
+    line_laws();
     Ok(())
 }
 
