@@ -2,16 +2,9 @@
 use Rattle.std.specs.Prelude.{ℕ, Bool, true, false, if◌then◌else◌, List, [], ◌∷◌, ◌++◌, Option, None, Some, option_map}
 use Rattle.std.specs.Option.{option_map_or}
 use Rattle.dns_values.specs.Source.{one_more}
-use Rattle.client_request.specs.declared.event.Out.{Out}
 use Rattle.client_request.specs.declared.event.What.{What}
 use Rattle.client_request.specs.declared.event.What.TheVariants.{OpenFailed, SendFailed, ShortSend, RecvFailed, WriteFailed, ReadFailed, Ended}
-use Rattle.resolv_conf.specs.declared.server.ServerConf.{ServerConf}
-
--- a server was learned, an out was acted on, or the edge was polled and gave this
-pub data Deed : Type 0 where
-  Learned : ServerConf → Deed
-  Acted : Out → Deed
-  Polled : Option What → Deed
+use Rattle.client_core.specs.declared.deed.Deed.{Deed}
 
 abbrev pub after_deed : Deed → Option (List Deed) → Option (List Deed)
 after_deed deed deeds = option_map (λ ds. ds ++ deed ∷ []) deeds

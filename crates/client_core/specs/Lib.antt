@@ -5,3 +5,4 @@ pub mod Machines
 pub mod Whole
 pub mod Clock
 pub mod Edge
+pub mod ListEdge

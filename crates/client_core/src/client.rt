@@ -1,6 +1,6 @@
 //! The client: one step for each event, and the replay of a list of events.
 
-ghost use Rattle.std.specs.Prelude.{◌≡◌, true, false, Some, None, Ok, Err, OnOk, OnErr, IfOk, IfErr, IsErrOf, map};
+ghost use Rattle.std.specs.Prelude.{◌≡◌, true, false, Some, None, Ok, Err, OnOk, OnErr, IfOk, IfErr, IsErrOf, IsOkAnd, map};
 ghost use Rattle.client_request.specs.Cx.{view_of, LendsTheSame};
 ghost use Rattle.client_request.specs.Response.{IsRefusal};
 ghost use Rattle.client_request.specs.Timers.{IsWant};
@@ -19,7 +19,7 @@ use client_dgram::{Connection, Request};
 use client_request::{
     Board, Cx, Error, Event, Moment, Outs, RequestMessage, Row, Rows, Timers, Trace, Words,
 };
-use dns_base::Duration;
+use dns_base::{Duration, NoMemory};
 use resolv_conf::ResolvConf;
 use std::alloc::Global;
 use std::marker::Model;
@@ -68,8 +68,8 @@ impl Model for Client {
 fn first_upstream(
     alloc: Global,
     conf: &ResolvConf,
-) -> Result<Option<Upstream<RequestMessage>>, Error>
-    ensures { IfOk result (λ u. u ≡ first_upstream conf.now.servers) }
+) -> Result<Option<Upstream<RequestMessage>>, NoMemory>
+    ensures { IsOkAnd result (λ u. u ≡ first_upstream conf.now.servers) }
 {
     match conf.servers.as_slice() {
         [] => Ok(None),

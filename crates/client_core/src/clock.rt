@@ -1,6 +1,6 @@
 //! Where moments come from.
 
-ghost use Rattle.std.specs.Prelude.{ℕ, List, Option};
+ghost use Rattle.std.specs.Prelude.{◌≡◌, ℕ, List, Option};
 ghost use Rattle.client_request.specs.Words.{IsGivenOn};
 ghost use Rattle.client_core.specs.Clock.{moment_at, told_moments};
 

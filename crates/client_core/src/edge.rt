@@ -2,7 +2,8 @@
 
 ghost use Rattle.std.specs.Prelude.{◌≡◌, ℕ, ◌≤◌, List, Option, OnOk, OnErr, IfOk};
 ghost use Rattle.dns_values.specs.Source.{one_more};
-ghost use Rattle.client_core.specs.Edge.{Deed, after_deed, Acted, Polled, Learned, after_fault};
+ghost use Rattle.client_core.specs.Edge.{after_deed, after_fault};
+ghost use Rattle.client_core.specs.declared.deed.Deed.{Deed};
 
 use client_request::{Out, What};
 use dns_base::NoMemory;
@@ -21,19 +22,19 @@ pub trait Edge {
 
     /// The next server's address, numbered from 0.
     fn learn_server(&mut self, server: &ServerConf) -> Result<(), NoMemory>
-        ensures deeds { OnOk result (deeds self.new ≡ after_deed (Learned server.now) (deeds self.old)) }
+        ensures deeds { OnOk result (deeds self.new ≡ after_deed (Deed.Learned server.now) (deeds self.old)) }
         ensures polls { polls self.new ≡ polls self.old }
         ensures faults { faults self.new ≡ faults self.old };
 
     /// Does what an out asks for.
     fn act(&mut self, out: &Out) -> Result<(), NoMemory>
-        ensures deeds { OnOk result (deeds self.new ≡ after_deed (Acted out.now) (deeds self.old)) }
+        ensures deeds { OnOk result (deeds self.new ≡ after_deed (Deed.Acted out.now) (deeds self.old)) }
         ensures polls { polls self.new ≡ polls self.old }
         ensures faults { faults self.new ≡ faults self.old };
 
     /// What happened, if anything did.
     fn poll(&mut self) -> Result<Option<What>, NoMemory>
-        ensures deeds { IfOk result (λ what. deeds self.new ≡ after_deed (Polled what) (deeds self.old)) }
+        ensures deeds { IfOk result (λ what. deeds self.new ≡ after_deed (Deed.Polled what) (deeds self.old)) }
         ensures polls { OnOk result (polls self.new ≡ one_more (polls self.old)) }
         ensures faults { IfOk result (λ what. faults self.new ≡ after_fault what (faults self.old)) };
 }

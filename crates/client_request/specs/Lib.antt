@@ -2,6 +2,7 @@ pub mod Fault
 pub mod ErrorText
 pub mod Request
 pub mod Composed
+pub mod Carries
 pub mod Words
 pub mod Timers
 pub mod Board

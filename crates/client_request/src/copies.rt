@@ -1,9 +1,9 @@
-//! Copies of events.
+//! Copies of events and outs.
 
 ghost use Rattle.std.specs.Prelude.{◌≡◌, IfOk};
 
 use crate::compose::ComposeRequest;
-use crate::event::{Event, What};
+use crate::event::{Event, Out, What};
 use dns_base::NoMemory;
 use std::alloc::Global;
 
@@ -73,5 +73,73 @@ impl Event {
             moment: self.moment,
             what,
         })
+    }
+}
+
+impl Out {
+    /// The same once more.
+    pub fn try_clone(&self) -> Result<Out, NoMemory>
+        ensures { IfOk result (λ copy. copy ≡ self.now) }
+    {
+        match self {
+            Out::Start {
+                request,
+                server,
+                via,
+            } => Ok(Out::Start {
+                request: *request,
+                server: *server,
+                via: *via,
+            }),
+            Out::OpenDgram { place, server } => Ok(Out::OpenDgram {
+                place: *place,
+                server: *server,
+            }),
+            Out::OpenStream { place, server } => Ok(Out::OpenStream {
+                place: *place,
+                server: *server,
+            }),
+            Out::Send {
+                place,
+                request,
+                id,
+                octets,
+            } => Ok(Out::Send {
+                place: *place,
+                request: *request,
+                id: *id,
+                octets: octets.try_clone()?,
+            }),
+            Out::Write {
+                place,
+                request,
+                id,
+                octets,
+            } => Ok(Out::Write {
+                place: *place,
+                request: *request,
+                id: *id,
+                octets: octets.try_clone()?,
+            }),
+            Out::Resume { place, octets } => Ok(Out::Resume {
+                place: *place,
+                octets: octets.try_clone()?,
+            }),
+            Out::Close { place } => Ok(Out::Close { place: *place }),
+            Out::Reply {
+                request,
+                result: Ok(message),
+            } => Ok(Out::Reply {
+                request: *request,
+                result: Ok(message.try_clone()?),
+            }),
+            Out::Reply {
+                request,
+                result: Err(error),
+            } => Ok(Out::Reply {
+                request: *request,
+                result: Err(*error),
+            }),
+        }
     }
 }

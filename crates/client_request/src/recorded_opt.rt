@@ -1,8 +1,9 @@
 //! The OPT record that is recorded for a request.
 
-ghost use Rattle.std.specs.Prelude.{◌≡◌, ◌<◌, ◌↔◌, ◌⊎◌, IfOk, IfErr, IsErrOf, OnOk, OnErr, IsTrue, length};
+ghost use Rattle.std.specs.Prelude.{◌≡◌, ◌<◌, ◌^◌, ◌↔◌, ◌⊎◌, IfOk, IfErr, IsErrOf, OnOk, OnErr, IsTrue, length};
 ghost use Rattle.dns_base.specs.Data.{are_options};
 ghost use Rattle.dns_base.specs.OptRecord.{OptFields, dnssec_ok};
+ghost use Rattle.client_request.specs.Carries.{IsOpt};
 ghost use Rattle.client_request.specs.Request.{empty_opt, option_octets, option_added, is_too_long, with_do};
 ghost use Rattle.client_request.specs.declared.error.Error.TheVariants as errors;
 
@@ -51,6 +52,14 @@ fn option_octets(alloc: Global, code: u16, octets: &[u8]) -> Result<Vec<u8>, NoM
     Ok(option)
 }
 
+/// Numbers have their ranges.
+fn opt_fields_fit(udp_payload_size: u16, ext_rcode: u8, version: u8, flags: u16)
+    ensures size { udp_payload_size < 2 ^ 16 }
+    ensures rcode { ext_rcode < 2 ^ 8 }
+    ensures version { version < 2 ^ 8 }
+    ensures flags { flags < 2 ^ 16 }
+{}
+
 impl RecordedOpt {
     /// The record without options, of payload size 0. It takes no memory.
     pub(crate) fn empty(alloc: Global) -> RecordedOpt
@@ -88,6 +97,18 @@ impl RecordedOpt {
             self.flags,
             &self.options,
         )
+    }
+
+    /// Its fields have their ranges.
+    pub(crate) fn is_opt(&self)
+        ensures { IsOpt self.now }
+    {
+        opt_fields_fit(
+            self.udp_payload_size,
+            self.ext_rcode,
+            self.version,
+            self.flags,
+        );
     }
 
     pub(crate) fn set_udp_payload_size(&mut self, value: u16)

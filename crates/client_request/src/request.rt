@@ -1,9 +1,10 @@
 //! Requests: a base message with the header and the OPT record that are recorded beside it.
 
-ghost use Rattle.std.specs.Prelude.{◌≡◌, ◌↔◌, ◌⊎◌, IfOk, IfErr, IsErrOf, OnErr, IsTrue, Some, None, option_map};
+ghost use Rattle.std.specs.Prelude.{◌≡◌, ◌<◌, ◌↔◌, ◌⊎◌, ℕ, slice_index, IfOk, IfErr, IsErrOf, OnErr, IsTrue, Some, None, option_map};
 ghost use Rattle.dns_base.specs.Draft.{fresh};
 ghost use Rattle.dns_base.specs.OptRecord.{OptFields};
 ghost use Rattle.client_request.specs.Request as spec;
+ghost use Rattle.client_request.specs.Carries.{IsOfOctets};
 ghost use Rattle.client_request.specs.Composed.{composed, appended, HoldsNothing};
 ghost use Rattle.client_request.specs.declared.error.Error.TheVariants as errors;
 
@@ -31,6 +32,13 @@ impl Model for RequestMessage {
     ghost Value = { Request };
 
     ghost view = { λ r. record { base = r.base; header = r.header; opt = r.opt } };
+}
+
+/// Each octet is one.
+fn base_is_of_octets(octets: &[u8])
+    ensures { (i : ℕ) → slice_index octets.now i < 256 }
+{
+    let _octets = octets;
 }
 
 /// Whether the first question is missing, can't be read, or asks for a whole zone.
@@ -103,6 +111,18 @@ impl RequestMessage {
         ensures { result.now ≡ self.now.base }
     {
         &self.base
+    }
+
+    /// The parts of a request have the ranges of what they are made of.
+    pub fn is_of_octets(&self)
+        ensures { IsOfOctets self.now }
+    {
+        base_is_of_octets(self.base.as_slice());
+        let _header = self.header.to_octets();
+        match &self.opt {
+            None => {}
+            Some(opt) => opt.is_opt(),
+        }
     }
 
     pub fn recorded_opt(&self) -> Option<OptRecord<'_>>

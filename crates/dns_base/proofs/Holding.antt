@@ -16,7 +16,7 @@ use Rattle.dns_base.specs.Header.{Counts, counts_of}
 use Rattle.dns_base.specs.Sections.{no_entries, entries_in, one_more_in, HasNoRecords, HasNoneAfter, counts_spelling}
 use Rattle.dns_base.specs.Data.{data_spelling}
 use Rattle.dns_base.specs.Message.{Asked, Written, Known, Reading, question_at, record_at, list_at, reads, questions_of, answer_of, authority_of, additional_of}
-use Rattle.dns_base.specs.Draft.{Draft, fresh, with_header, pushed_question, pushed_record, cleared, finished, counts_in, question_spelling, question_size, record_spelling, record_size}
+use Rattle.dns_base.specs.Draft.{Draft, fresh, with_header, pushed_question, pushed_record, cleared, finished, size, counts_in, question_spelling, question_size, record_spelling, record_size}
 use Rattle.dns_base.specs.Holding.{Contents, no_contents, with_question, with_record, IsAskable, IsWritable, AskedReadsAs, ReadsAs, Entries, entries_at, Agree, EntriesAre, Holds, header_in, IsReadingOf}
 use Rattle.dns_base.specs.DraftLaws.{FinishedReads, DraftLaws}
 use Rattle.dns_base.proofs.Lists.{list_snoc}
@@ -338,8 +338,13 @@ finished_reads d c h =
       is = record { header_is = head; counts_are = refl; agree = all.agree };
     }
 
+holds_long : (d : Draft) (c : Contents) → Holds d c → 12 ≤ size d
+unfolding size
+holds_long d c h = h.long
+
 pub draft_laws : DraftLaws
 draft_laws = record {
+  holds_long = holds_long;
   holds_nothing = holds_nothing;
   header_holds = header_holds;
   question_holds = question_holds;

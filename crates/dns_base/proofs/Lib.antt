@@ -2,9 +2,11 @@ pub mod Aliases
 pub mod Holding
 pub mod Lists
 pub mod ReadData
+pub mod Readings
 pub mod Sizes
 pub mod SpelledData
 pub mod SpelledEntries
 pub mod Stands
+pub mod Steps
 pub mod Whole
 pub mod Worked

@@ -1,7 +1,6 @@
 -- Lists of questions or records, one by one.
-use Rattle.std.proofs.Common.{◌≡◌, ℕ, zero, suc, ◌+◌, List, [], ◌∷◌, ◌++◌, refl, ap, sym, ◌∙◌, subst, length, get_or, arith, add-zero, ◌≤◌}
-use Rattle.std.specs.Prelude.{Option, Some, None, option_map, slice_range}
-use Rattle.std.proofs.lemmas.List.Edits.{between_more, between_none}
+use Rattle.std.proofs.Common.{◌≡◌, ℕ, zero, suc, ◌+◌, List, [], ◌∷◌, ◌++◌, refl, ap, sym, ◌∙◌, subst, length, arith, ◌≤◌}
+use Rattle.std.specs.Prelude.{Option, Some, None, option_map}
 use Rattle.std.proofs.lemmas.Option.{some_pair_parts}
 use Rattle.dns_base.specs.Message.{list_at, items_at, item_then, all_read}
 use Rattle.dns_base.specs.Numbers.{◌>>=◌}
@@ -25,31 +24,7 @@ module _ {A : Type 0} where
   unfolding list_at
   list_end_zero one n at s = rw s refl
 
--- four octets, one by one
-pub four : (xs : List ℕ) (at end : ℕ) → at + 4 ≡ end → end ≤ length xs
-    → slice_range xs at end ≡ get_or xs at 0 ∷ get_or xs (at + 1) 0 ∷ get_or xs (at + 2) 0 ∷ get_or xs (at + 3) 0 ∷ []
-four xs at end e h =
-    let none : slice_range xs at (at + 0) ≡ [] = rw add-zero (between_none xs at) in
-    let one = between_more xs at at 0 (omega arith) (omega arith) in
-    let two = between_more xs at (at + 1) 0 (omega arith) (omega arith) in
-    let three = between_more xs at (at + 2) 0 (omega arith) (omega arith) in
-    let all = between_more xs at (at + 3) 0 (omega arith) (omega arith) in
-    let a : at + 1 + 1 ≡ at + 2 = omega arith in
-    let b : at + 2 + 1 ≡ at + 3 = omega arith in
-    let c : at + 3 + 1 ≡ end = omega arith in
-    rw (← c, all, ← b, three, ← a, two, one, between_none xs at) refl
-
--- more octets behind
 module _ {A : Type 0} where
-  pub list_more : (one two : ℕ → Option (A × ℕ)) → ((at : ℕ) (x : A × ℕ) → one at ≡ Some x → two at ≡ Some x)
-      → (n at : ℕ) (y : List A × ℕ) → list_at one n at ≡ Some y → list_at two n at ≡ Some y
-  unfolding list_at
-  list_more one two more zero at y e = e
-  list_more one two more (suc n) at y e =
-      let first = then_ok (one at) _ y e in
-      let others = then_ok (list_at one n first.0.1) _ y first.2 in
-      rw (more at first.0 first.1, list_more one two more n first.0.1 others.0 others.1) others.2
-
   pub list_step : (one : ℕ → Option (A × ℕ)) (n at mid end : ℕ) (x : A) (xs : List A) → one at ≡ Some (x, mid) → list_at one n mid ≡ Some (xs, end)
       → list_at one (suc n) at ≡ Some (x ∷ xs, end)
   unfolding list_at

@@ -9,7 +9,8 @@ use Rattle.dns_base.specs.Numbers.{u16_at, u32_at, ◌>>=◌}
 use Rattle.dns_base.specs.Data.{Data, A, Aaaa, One, Minfo, Mx, StartOfAuthority, Service, Txt, Opt, Other, Soa, Srv, is_one_name, is_of_type, name_to, octets_to, minfo_to, mx_to, soa_to, srv_to, data_at, data_spelling}
 use Rattle.dns_base.specs.Message.{Known}
 use Rattle.dns_base.specs.Knowing.{lowered_data}
-use Rattle.dns_base.specs.Holding.{IsWritableData, DataReadsAs}
+use Rattle.dns_base.specs.Holding.{IsWritableData}
+use Rattle.dns_base.specs.DataReading.{DataReadsAs}
 use Rattle.dns_base.proofs.Stands.{Stands, first_stands, second_stands, range_stands, stands_within, number_stands, wide_stands, name_stands}
 
 name_fills : (octets : List ℕ) (labels : Labels) (at end : ℕ) → Stands octets at (spelling labels) → IsLegal labels → at + length (spelling labels) ≡ end → name_to octets at end ≡ Some labels

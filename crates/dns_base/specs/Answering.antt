@@ -3,7 +3,7 @@ use Rattle.std.specs.Prelude.{ℕ, List, [], ◌∷◌, Result, Ok, Err, ◌==�
 use Rattle.dns_values.specs.declared.error.ParseError.{ParseError}
 use Rattle.dns_names.specs.Name.{same_name}
 use Rattle.dns_base.specs.Numbers.{u16_at}
-use Rattle.dns_base.specs.Header.{id_of, qr_of, rcode_of}
+use Rattle.dns_base.specs.Header.{id_of, qr_of, tc_of, rcode_of}
 use Rattle.dns_base.specs.Message.{Asked, question_at, items_at}
 
 -- without case
@@ -32,3 +32,7 @@ is_answer id base octets =
     qr_of octets && (id_of octets == id
     && ((not (rcode_of octets == 0) && is_bare octets)
     || (u16_at octets 4 == u16_at base 4 && same_items (question_items octets) (question_items base))))
+
+-- what doesn't fit was left out
+abbrev pub truncated : List ℕ → Bool
+truncated octets = tc_of octets

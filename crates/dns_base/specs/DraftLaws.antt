@@ -13,6 +13,7 @@ pub record FinishedReads (d : Draft) (c : Contents) : Type 0 where
   pub is : IsReadingOf reading (header_in d) (counts_in d) c
 
 pub record DraftLaws : Type 0 where
+  pub holds_long : (d : Draft) (c : Contents) → Holds d c → 12 ≤ size d
   pub holds_nothing : (limit : Option ℕ) → Holds (fresh limit) no_contents
   pub header_holds : (header : List ℕ) (d : Draft) (c : Contents) → length header ≡ 4 → Holds d c → Holds (with_header header d) c
   pub question_holds : (q : Asked) (d : Draft) (c : Contents) → IsAskable q → HasNoRecords (counts_in d) → (counts_in d).questions ≢ 65535 → Holds d c

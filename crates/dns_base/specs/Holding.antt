@@ -8,7 +8,8 @@ use Rattle.dns_base.specs.Numbers.{◌>>=◌}
 use Rattle.dns_base.specs.Header.{Counts}
 use Rattle.dns_base.specs.Data.{Data, A, Aaaa, One, Minfo, Mx, StartOfAuthority, Service, Txt, Opt, Other, data_spelling, is_of_type}
 use Rattle.dns_base.specs.Message.{Asked, Written, Known, Reading, question_at, record_at, list_at}
-use Rattle.dns_base.specs.Knowing.{lowered_asked, lowered_data}
+use Rattle.dns_base.specs.Knowing.{lowered_asked}
+use Rattle.dns_base.specs.DataReading.{DataReadsAs}
 use Rattle.dns_base.specs.Draft.{Draft}
 
 -- what was pushed
@@ -59,13 +60,6 @@ pub record IsWritable (w : Written) : Type 0 where
   pub typed : IsTrue (is_of_type w.rtype w.content)
   pub short : length (data_spelling w.content) < 2 ^ 16
   pub content : IsWritableData w.content
-
--- The data says the same by its type but for the case of names, or is the same octet for octet.
-abbrev pub DataReadsAs : Known → Data → Type 0
-DataReadsAs known (Txt octets) = known.entry.octets ≡ octets
-DataReadsAs known (Opt octets) = known.entry.octets ≡ octets
-DataReadsAs known (Other octets) = known.entry.octets ≡ octets
-DataReadsAs known content = option_map lowered_data known.says ≡ Some (lowered_data content)
 
 -- a question is read as it was written, but for case
 abbrev pub AskedReadsAs : Asked → Asked → Type 0

@@ -4,10 +4,13 @@ pub mod Sections
 pub mod Data
 pub mod Message
 pub mod Answering
+pub mod ReadingLaws
 pub mod OptRecord
 pub mod Canonical
 pub mod RecordData
 pub mod Knowing
+pub mod DataReading
 pub mod Draft
 pub mod Holding
 pub mod DraftLaws
+pub mod DraftSteps

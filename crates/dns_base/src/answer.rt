@@ -46,7 +46,8 @@ fn is_bare(octets: &[u8]) -> bool
         && u16_at(octets, 10) == 0
 }
 
-/// Whether a message answers a request with an id, made from a base message.
+/// Whether a message answers a request with an id, made from a base message: it is a response with that id, and either
+/// its response code isn't 0 and it has no entries, or it has the questions of the base, item by item and all read.
 #[tactic(auto, unfolding(crate::specs::Answering::is_answer))]
 pub fn is_answer(id: u16, base: &Message, answer: &Message) -> bool
     ensures { result ≡ is_answer id base.now answer.now }

@@ -37,6 +37,7 @@ impl Header {
         Header { octets }
     }
 
+    /// Its four octets.
     pub fn to_octets(&self) -> [u8; 4]
         ensures all { result ≡ self.now }
         ensures four { length self.now ≡ 4 }
@@ -68,6 +69,7 @@ impl Header {
         u16_at(&self.octets, 0)
     }
 
+    /// Sets the id.
     pub fn set_id(&mut self, value: u16)
         ensures { self.new ≡ spec.with_id value self.old }
     {
@@ -109,6 +111,7 @@ impl Header {
         self.octets[2] & 0x80 != 0
     }
 
+    /// Says whether the message is a response.
     pub fn set_qr(&mut self, value: bool)
         ensures { self.new ≡ spec.with_qr value self.old }
     {
@@ -122,6 +125,7 @@ impl Header {
         self.octets[2] & 0x04 != 0
     }
 
+    /// Says whether the answer is authoritative.
     pub fn set_aa(&mut self, value: bool)
         ensures { self.new ≡ spec.with_aa value self.old }
     {
@@ -135,6 +139,7 @@ impl Header {
         self.octets[2] & 0x02 != 0
     }
 
+    /// Says whether the message is truncated.
     pub fn set_tc(&mut self, value: bool)
         ensures { self.new ≡ spec.with_tc value self.old }
     {
@@ -148,6 +153,7 @@ impl Header {
         self.octets[2] & 0x01 != 0
     }
 
+    /// Says whether recursion is desired.
     pub fn set_rd(&mut self, value: bool)
         ensures { self.new ≡ spec.with_rd value self.old }
     {
@@ -161,6 +167,7 @@ impl Header {
         self.octets[3] & 0x80 != 0
     }
 
+    /// Says whether recursion is available.
     pub fn set_ra(&mut self, value: bool)
         ensures { self.new ≡ spec.with_ra value self.old }
     {
@@ -174,6 +181,7 @@ impl Header {
         self.octets[3] & 0x20 != 0
     }
 
+    /// Says whether the data is authentic.
     pub fn set_ad(&mut self, value: bool)
         ensures { self.new ≡ spec.with_ad value self.old }
     {
@@ -187,6 +195,7 @@ impl Header {
         self.octets[3] & 0x10 != 0
     }
 
+    /// Says whether checking is disabled.
     pub fn set_cd(&mut self, value: bool)
         ensures { self.new ≡ spec.with_cd value self.old }
     {

@@ -28,7 +28,7 @@ pub use dns_values::{
     ParseError, Rcode, Rtype, Section, Serial, ShortMessage, SocketAddr, Status, Ttl, address_laws,
 };
 pub use header::{Header, HeaderCounts};
-pub use laws::draft_laws;
+pub use laws::{draft_laws, draft_steps, reading_laws};
 pub use message::Message;
 pub use opt_record::OptRecord;
 pub use push_error::PushError;

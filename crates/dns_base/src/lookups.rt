@@ -13,10 +13,10 @@ use dns_names::{ParsedName, is_same_name};
 use dns_values::{OptRcode, Rtype};
 
 /// Whether a record is an alias of an owner.
-fn is_alias(record: &Record<'_>, owner: &ParsedName<'_>) -> bool
-    ensures { result ≡ is_alias owner.now record.now }
+fn is_alias(entry: &Record<'_>, owner: &ParsedName<'_>) -> bool
+    ensures { result ≡ is_alias owner.now entry.now }
 {
-    record.rtype() == Rtype::CNAME && is_same_name(&record.owner(), owner)
+    entry.rtype() == Rtype::CNAME && is_same_name(&entry.owner(), owner)
 }
 
 /// The first alias of an owner, where all records are read.

@@ -28,6 +28,7 @@ impl Model for Message {
 }
 
 impl Message {
+    /// The message of these octets. Refused exactly below twelve, which a header has.
     pub fn from_octets(octets: Octets) -> Result<Message, ShortMessage>
         ensures found { IfOk result (λ m. m ≡ octets) }
         ensures short { IsErr result ↔ (length octets < 12) }
@@ -38,6 +39,7 @@ impl Message {
         Ok(Message { octets })
     }
 
+    /// All its octets, those behind the last record too.
     pub fn as_slice(&self) -> &[u8]
         ensures all { result.now ≡ self.now }
         ensures long { 12 ≤ length self.now }
@@ -87,7 +89,7 @@ impl Message {
         Ok(())
     }
 
-    /// The questions, read one by one.
+    /// The questions, read one by one: so many as are counted, or up to the first that can't be read.
     pub fn question(&self) -> QuestionSection<'_>
         ensures all { result ≡ items_at (question_at self.now) (u16_at self.now 4) 12 }
         ensures few { length result < 65536 }
@@ -109,7 +111,7 @@ impl Message {
         Some(question)
     }
 
-    /// The only question.
+    /// The only question. Refused exactly where there is not just one, or it can't be read.
     #[tactic(auto, unfolding(crate::specs::Message::sole_question))]
     pub fn sole_question(&self) -> Result<Question<'_>, ParseError>
         ensures { MatchResult result (λ q. sole_question self.now ≡ Some q) (λ _. sole_question self.now ≡ None) }

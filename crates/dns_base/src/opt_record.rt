@@ -74,19 +74,19 @@ impl<'a> OptRecord<'a> {
     }
 
     /// The OPT record that a record is, if it is one by its type and its data is read.
-    pub(crate) fn of(record: &Record<'a>) -> Option<OptRecord<'a>>
-        ensures { result ≡ opt_in record.now }
+    pub(crate) fn of(entry: &Record<'a>) -> Option<OptRecord<'a>>
+        ensures { result ≡ opt_in entry.now }
     {
-        if record.rtype() != Rtype::OPT || record.data().is_err() {
+        if entry.rtype() != Rtype::OPT || entry.data().is_err() {
             return None;
         }
-        let ttl = record.ttl().0;
+        let ttl = entry.ttl().0;
         Some(OptRecord {
-            udp_payload_size: record.class().0,
+            udp_payload_size: entry.class().0,
             ext_rcode: (ttl >> 24) as u8,
             version: ((ttl >> 16) % 0x100) as u8,
             flags: (ttl % 0x1_0000) as u16,
-            options: record.raw_data(),
+            options: entry.raw_data(),
         })
     }
 
@@ -125,6 +125,7 @@ impl<'a> OptRecord<'a> {
         self.flags
     }
 
+    /// The version of the extension, 0 as yet.
     pub fn version(&self) -> u8
         ensures { result ≡ self.now.version }
     {

@@ -25,18 +25,21 @@ impl<'a> Model for Question<'a> {
 }
 
 impl<'a> Question<'a> {
+    /// The name that is asked for.
     pub fn qname(&self) -> ParsedName<'a>
         ensures { result ≡ self.now.name }
     {
         self.qname.again()
     }
 
+    /// The type of the records that are asked for.
     pub fn qtype(&self) -> Rtype
         ensures { result.0 ≡ self.now.rtype }
     {
         self.qtype
     }
 
+    /// Their class.
     pub fn qclass(&self) -> Class
         ensures { result.0 ≡ self.now.class }
     {

@@ -6,6 +6,7 @@ ghost use Rattle.dns_values.specs.declared.error.ParseError.{ParseError};
 ghost use Rattle.dns_base.specs.Data.{data_at, data_spelling, is_of_type, whole, are_options, Opt};
 ghost use Rattle.dns_base.specs.Message.{Known, record_at, items_at};
 ghost use Rattle.dns_base.specs.RecordData.{data_view};
+ghost use Rattle.dns_base.specs.DataReading.{DataReadsAs};
 
 use crate::numbers::{u16_at, u32_at};
 use crate::record_data::{RecordData, data_at};
@@ -43,18 +44,21 @@ impl<'a> Model for Record<'a> {
 }
 
 impl<'a> Record<'a> {
+    /// The name that the record belongs to.
     pub fn owner(&self) -> ParsedName<'a>
         ensures { result ≡ self.now.entry.owner }
     {
         self.owner.again()
     }
 
+    /// The type, which says how the data is read.
     pub fn rtype(&self) -> Rtype
         ensures { result.0 ≡ self.now.entry.rtype }
     {
         self.rtype
     }
 
+    /// The class; that of an OPT record is a size.
     pub fn class(&self) -> Class
         ensures { result.0 ≡ self.now.entry.class }
     {
@@ -80,6 +84,7 @@ impl<'a> Record<'a> {
     #[tactic(auto, unfolding(crate::specs::Data::data_at))]
     pub fn data(&self) -> Result<RecordData<'a>, ParseError>
         ensures says { MatchResult result (λ d. self.now.says ≡ Some (data_view d)) (λ _. self.now.says ≡ None) }
+        ensures itself { IfOk result (λ d. DataReadsAs self.now (data_view d)) }
         ensures typed { IfOk result (λ d. IsTrue (is_of_type self.now.entry.rtype (data_view d))) }
         ensures short { IfOk result (λ d. length (data_spelling (data_view d)) < 65536) }
         ensures options { self.now.entry.rtype ≡ 41 → self.now.says ≡ whole are_options Opt self.now.entry.octets }

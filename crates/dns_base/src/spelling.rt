@@ -189,6 +189,17 @@ fn put_data(octets: &mut Vec<u8>, rdata: &RecordData<'_>) -> Result<(), NoMemory
     }
 }
 
+impl<'a> RecordData<'a> {
+    /// The octets of the data, with its names spelled out.
+    pub fn to_octets(&self, alloc: Global) -> Result<Vec<u8>, NoMemory>
+        ensures { IfOk result (λ v. v.items ≡ data_spelling (data_view self.now)) }
+    {
+        let mut octets = Vec::new(alloc);
+        put_data(&mut octets, self)?;
+        Ok(octets)
+    }
+}
+
 /// The octets of a record, whose data has at most 65535 octets.
 #[tactic(auto, unfolding(crate::specs::Draft::record_spelling))]
 pub(crate) fn record_octets(

@@ -1,5 +1,6 @@
 pub mod Chains
 pub mod Drafts
+pub mod Grammars
 pub mod Heads
 pub mod NameLaws
 pub mod Names
@@ -10,3 +11,4 @@ pub mod Reversed
 pub mod Shown
 pub mod Texts
 pub mod Walks
+pub mod Worked

@@ -1,11 +1,11 @@
 -- What a name prints is read as that name.
-use Rattle.std.proofs.Common.{◌≡◌, ◌≤◌, ◌<◌, ◌+◌, ◌*◌, ◌-◌, ◌/◌, ◌%◌, ◌^◌, ℕ, zero, suc, List, [], ◌∷◌, ◌++◌, length, get_or, refl, sym, ◌∙◌, ap, subst, arith, Bool, true, false, append_assoc, append-nil, decimal, inl, inr, ◌⊎◌}
-use Rattle.std.specs.Prelude.{Option, Some, None, option_map, option_and_then, Ok, Err, Result, ◌==◌, ◌&&◌, ◌||◌, nat_le, nat_lt, if◌then◌else◌}
-use Rattle.std.specs.List.{AllByRecursion, flat_map, join_by}
-use Rattle.std.proofs.lemmas.Bool.{eqb-true, leb-true, le-leb, lt-leb, lt-ltb}
+use Rattle.std.proofs.Common.{◌≡◌, ◌≤◌, ◌<◌, ◌+◌, ◌/◌, ◌%◌, ◌^◌, ℕ, suc, List, [], ◌∷◌, ◌++◌, length, get_or, refl, sym, ◌∙◌, ap, subst, arith, Bool, true, false, append_assoc, append-nil, decimal, inl, inr, ◌⊎◌}
+use Rattle.std.specs.Prelude.{Option, Some, None, option_map, Ok, ◌==◌, ◌&&◌, ◌||◌, nat_le}
+use Rattle.std.specs.List.{AllByRecursion, flat_map}
+use Rattle.std.proofs.lemmas.Bool.{eqb-true, leb-true, le-leb, lt-ltb}
 use Rattle.std.proofs.lemmas.Fmt.{decimal_digit}
 use Rattle.dns_names.specs.Name.{Labels, octet_count, spelling, IsLabel, IsLegal, AreOctets}
-use Rattle.dns_names.specs.Text.{cut_text, escaped, numbered, onto, dot, backslash, is_dot, is_digit, is_printable, three_digits, undotted, are_full, are_short, full, fit, judged, name_labels, relative_labels, name_of_text, relative_of_text, octet_text, label_text, relative_text, name_text}
+use Rattle.dns_names.specs.Text.{cut_text, escaped, numbered, onto, dot, backslash, is_dot, is_digit, three_digits, undotted, are_full, are_short, full, judged, name_labels, relative_labels, name_of_text, relative_of_text, octet_text, label_text, relative_text, name_text}
 use Rattle.dns_names.proofs.Texts.{onto_none}
 
 -- the octets behind a backslash, by their digits
@@ -78,12 +78,12 @@ octet_read n rest h = go ((n == dot) || (n == backslash)) (nat_le 33 n && nat_le
     go false true e f = rw (e, f) (plain n rest e f)
     go false false e f = rw (e, f) (by_digits n rest h)
 
-onto_onto : (n : ℕ) (label : List ℕ) (o : Option Labels) → option_map (onto (n ∷ [])) (option_map (onto label) o) ≡ option_map (onto (n ∷ label)) o
+pub onto_onto : (n : ℕ) (label : List ℕ) (o : Option Labels) → option_map (onto (n ∷ [])) (option_map (onto label) o) ≡ option_map (onto (n ∷ label)) o
 onto_onto n label None = refl
 onto_onto n label (Some []) = refl
 onto_onto n label (Some (l ∷ ls)) = refl
 
-onto_nothing : (o : Option Labels) → o ≡ option_map (onto []) o
+pub onto_nothing : (o : Option Labels) → o ≡ option_map (onto []) o
 onto_nothing None = refl
 onto_nothing (Some ls) = ap Some (sym (onto_none ls))
 
@@ -93,11 +93,11 @@ label_read (n ∷ label) rest h =
     ap cut_text (append_assoc (octet_text n) (label_text label) rest) ∙ octet_read n (label_text label ++ rest) h.0
     ∙ ap (option_map (onto (n ∷ []))) (label_read label rest h.1) ∙ onto_onto n label (cut_text rest)
 
-cut_end : (label : List ℕ) → option_map (onto label) (cut_text []) ≡ Some (label ∷ [])
+pub cut_end : (label : List ℕ) → option_map (onto label) (cut_text []) ≡ Some (label ∷ [])
 unfolding cut_text
 cut_end label = ap (λ l. Some (l ∷ [])) (append-nil label)
 
-cut_dot : (label text : List ℕ) → option_map (onto label) (cut_text (dot ∷ text)) ≡ option_map (λ labels. label ∷ labels) (cut_text text)
+pub cut_dot : (label text : List ℕ) → option_map (onto label) (cut_text (dot ∷ text)) ≡ option_map (λ labels. label ∷ labels) (cut_text text)
 unfolding cut_text
 cut_dot label text = go (cut_text text)
   where

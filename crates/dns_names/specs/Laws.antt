@@ -9,6 +9,7 @@ pub record NameLaws : Type 0 where
       → IsName octets at f.labels f.end f.pointers × (f.pointers ≤ 255) × (octet_count f.labels ≤ 255)
   pub name_is_read : (octets : List ℕ) (at : ℕ) (labels : Labels) (end pointers : ℕ) → IsName octets at labels end pointers
       → pointers ≤ 255 → octet_count labels ≤ 255 → name_at octets at ≡ Some (record { labels = labels; end = end; pointers = pointers })
+  pub legal : (octets : List ℕ) (at : ℕ) (f : Found) → name_at octets at ≡ Some f → IsLegal f.labels
   -- whatever follows
   pub stays : (octets more : List ℕ) (at : ℕ) (f : Found) → name_at octets at ≡ Some f → name_at (octets ++ more) at ≡ Some f
   pub spelled : (labels : Labels) (front back : List ℕ) → IsLegal labels

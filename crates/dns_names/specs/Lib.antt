@@ -5,3 +5,4 @@ pub mod Text
 pub mod Draft
 pub mod Chain
 pub mod Reverse
+pub mod Grammar

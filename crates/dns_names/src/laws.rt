@@ -2,6 +2,7 @@
 
 ghost use Rattle.std.specs.Prelude.{◌≡◌, ◌<◌, ◌^◌, ℕ, slice_index, Ok};
 ghost use Rattle.dns_names.specs.Laws.{NameLaws, TextLaws};
+ghost use Rattle.dns_names.specs.Grammar.{GrammarLaws};
 ghost use Rattle.dns_names.specs.Text.{name_of_text, relative_of_text, name_text, relative_text};
 
 use crate::owned::Name;
@@ -15,6 +16,11 @@ pub fn name_laws()
 /// The laws of the texts of names.
 pub fn text_laws()
     ensures { TextLaws }
+{}
+
+/// A text is read as labels exactly where the grammar writes them so.
+pub fn grammar_laws()
+    ensures { GrammarLaws }
 {}
 
 /// What a name prints is read as that name.

@@ -42,30 +42,28 @@ const REFUSED: [&str; 19] = [
 
 #[test]
 fn texts_of_names_are_read_and_printed(rt: HostRuntime) -> Result<(), Fail> {
-    name_laws();
-    text_laws();
     let alloc = rt.alloc();
     for (text, printed) in NAMES {
         let name = Name::from_text(alloc, text)?;
-        assert_eq!(rt; format!(in alloc; "{name}")?.as_str(), printed, "of {text}");
-        assert!(rt; Name::from_text(alloc, printed)? == name, "of {text}");
-        name_is_read_back(&name);
+        assert_eq!(rt; name.to_string(alloc)?.as_str(), printed);
     }
     for text in REFUSED {
-        assert_eq!(rt; fault_of(alloc, text), Some(NameFault::Parse), "of {text}");
+        assert!(rt; fault_of(alloc, text) == Some(NameFault::Parse));
     }
-    let long = format!(in alloc; "{LABEL}.{LABEL}.{LABEL}.{}", LABEL_61)?;
+    Ok(())
+}
+
+#[test]
+fn long_names_are_refused_after_the_grammar(rt: HostRuntime) -> Result<(), Fail> {
+    let alloc = rt.alloc();
+    let long = format!(in alloc; "{LABEL}.{LABEL}.{LABEL}.{LABEL_61}")?;
     assert!(rt; fault_of(alloc, long.as_str()).is_none());
-    for text in [
-        format!(in alloc; "a{LABEL}")?,
-        format!(in alloc; "a{LABEL}.")?,
-        format!(in alloc; "{LABEL}.{LABEL}.{LABEL}.{}", LABEL_62)?,
-        format!(in alloc; "{LABEL}.{LABEL}.{LABEL}.{LABEL}.{LABEL}")?,
-    ] {
-        assert_eq!(rt; fault_of(alloc, text.as_str()), Some(NameFault::Long));
-    }
+    let longer = format!(in alloc; "{LABEL}.{LABEL}.{LABEL}.{LABEL_62}")?;
+    assert!(rt; fault_of(alloc, longer.as_str()) == Some(NameFault::Long));
+    let label = format!(in alloc; "a{LABEL}")?;
+    assert!(rt; fault_of(alloc, label.as_str()) == Some(NameFault::Long));
     let both = format!(in alloc; "a{LABEL}..")?;
-    assert_eq!(rt; fault_of(alloc, both.as_str()), Some(NameFault::Parse));
+    assert!(rt; fault_of(alloc, both.as_str()) == Some(NameFault::Parse));
     Ok(())
 }
 
@@ -77,36 +75,33 @@ fn fault_of(alloc: Global, text: &str) -> Option<NameFault> {
 fn relative_names_are_chained(rt: HostRuntime) -> Result<(), Fail> {
     let alloc = rt.alloc();
     let suffix = Name::from_text(alloc, "b.c")?;
-    for (text, chained, rooted) in [
-        ("", "b.c", "."),
-        ("a", "a.b.c", "a"),
-        ("x.\\.", "x.\\..b.c", "x.\\."),
-    ] {
-        let name = RelativeName::from_text(alloc, text)?.try_clone(alloc)?;
-        relative_name_is_read_back(&name);
-        assert_eq!(rt; format!(in alloc; "{name}")?.as_str(), text);
-        assert_eq!(rt;
-            format!(in alloc; "{}", name.chain(alloc, &suffix)?)?.as_str(),
-            chained
-        );
-        assert_eq!(rt;
-            format!(in alloc; "{}", name.chain_root(alloc)?)?.as_str(),
-            rooted
-        );
-    }
+    let name = RelativeName::from_text(alloc, "x.\\.")?.try_clone(alloc)?;
+    assert_eq!(rt; name.to_string(alloc)?.as_str(), "x.\\.");
+    assert_eq!(rt;
+        name.chain(alloc, &suffix)?.to_string(alloc)?.as_str(),
+        "x.\\..b.c"
+    );
+    assert_eq!(rt; name.chain_root(alloc)?.to_string(alloc)?.as_str(), "x.\\.");
+    assert!(rt; RelativeName::empty(alloc).chain(alloc, &suffix)? == suffix);
+    name_is_read_back(&suffix);
+    relative_name_is_read_back(&name);
     for text in [".", "a.", ".a", "a..b", "\\"] {
-        let fault = RelativeName::from_text(alloc, text).err();
-        assert_eq!(rt; fault, Some(NameFault::Parse), "of {text}");
+        assert!(rt; RelativeName::from_text(alloc, text).err() == Some(NameFault::Parse));
     }
-    let long = format!(in alloc; "{LABEL}.{LABEL}.{LABEL}.{}", LABEL_61)?;
+    Ok(())
+}
+
+#[test]
+fn a_chain_past_255_octets_is_long(rt: HostRuntime) -> Result<(), Fail> {
+    let alloc = rt.alloc();
+    let long = format!(in alloc; "{LABEL}.{LABEL}.{LABEL}.{LABEL_61}")?;
     let front = RelativeName::from_text(alloc, long.as_str())?;
     assert!(rt; front.chain(alloc, &Name::root(alloc))? == front.chain_root(alloc)?);
     let one = Name::from_text(alloc, "b")?;
-    assert_eq!(rt; front.chain(alloc, &one).err(), Some(ChainFault::Long));
-    assert!(rt; RelativeName::empty(alloc).chain(alloc, &one)? == one);
-    let longer = format!(in alloc; "{LABEL}.{LABEL}.{LABEL}.{}", LABEL_62)?;
+    assert!(rt; front.chain(alloc, &one).err() == Some(ChainFault::Long));
+    let longer = format!(in alloc; "{LABEL}.{LABEL}.{LABEL}.{LABEL_62}")?;
     let fault = RelativeName::from_text(alloc, longer.as_str()).err();
-    assert_eq!(rt; fault, Some(NameFault::Long));
+    assert!(rt; fault == Some(NameFault::Long));
     Ok(())
 }
 
@@ -114,42 +109,44 @@ fn relative_names_are_chained(rt: HostRuntime) -> Result<(), Fail> {
 fn addresses_have_reverse_names(rt: HostRuntime) -> Result<(), Fail> {
     let alloc = rt.alloc();
     let v4 = Name::reverse_from_addr(alloc, IpAddr::V4([192, 0, 2, 1]))?;
-    assert_eq!(rt;
-        format!(in alloc; "{v4}")?.as_str(),
-        "1.2.0.192.in-addr.arpa"
-    );
+    assert_eq!(rt; v4.to_string(alloc)?.as_str(), "1.2.0.192.in-addr.arpa");
     let groups = [0x4321, 0, 1, 2, 3, 4, 0x567, 0x89ab];
     let v6 = Name::reverse_from_addr(alloc, IpAddr::V6(groups))?;
     assert_eq!(rt;
-        format!(in alloc; "{v6}")?.as_str(),
+        v6.to_string(alloc)?.as_str(),
         "b.a.9.8.7.6.5.0.4.0.0.0.3.0.0.0.2.0.0.0.1.0.0.0.0.0.0.0.1.2.3.4.ip6.arpa"
     );
     Ok(())
 }
 
-/// Octets, a place in them, and the name and the end that are read there.
-const READ: [(&[u8], usize, &str, usize); 9] = [
-    (&[0], 0, ".", 1),
-    (&[1, b'a', 0], 0, "a", 3),
-    (&[1, b'a', 0, 9], 2, ".", 3),
-    (&[2, 0, 255, 0], 0, "\\000\\255", 4),
+/// Octets, a place in them, the name that is read there, uncompressed, and its end.
+const READ: [(&[u8], usize, &[u8], usize); 9] = [
+    (&[0], 0, &[0], 1),
+    (&[1, b'a', 0], 0, &[1, b'a', 0], 3),
+    (&[1, b'a', 0, 9], 2, &[0], 3),
+    (&[2, 0, 255, 0], 0, &[2, 0, 255, 0], 4),
     // a pointer to the place before it, and one into the middle of a label
-    (&[0, 0xc0, 0], 1, ".", 3),
-    (&[2, 1, b'a', 0, 0xc0, 1], 4, "a", 6),
+    (&[0, 0xc0, 0], 1, &[0], 3),
+    (&[2, 1, b'a', 0, 0xc0, 1], 4, &[1, b'a', 0], 6),
     // a name that goes on behind its end
     (
         &[3, 5, b'b', b'c', 0xc0, 1, b'd', 0],
         0,
-        "\\005bc.bc\\192\\001d",
+        &[3, 5, b'b', b'c', 5, b'b', b'c', 0xc0, 1, b'd', 0],
         6,
     ),
     // labels and then a pointer
-    (&[1, b'c', 0, 1, b'a', 1, b'b', 0xc0, 0], 3, "a.b.c", 9),
+    (
+        &[1, b'c', 0, 1, b'a', 1, b'b', 0xc0, 0],
+        3,
+        &[1, b'a', 1, b'b', 1, b'c', 0],
+        9,
+    ),
     // out of the header of a message
     (
         &[1, b'i', 0, 0, 0, 0, 0, 0, 0, 0, 0, 0, 0xc0, 0],
         12,
-        "i",
+        &[1, b'i', 0],
         14,
     ),
 ];
@@ -176,20 +173,14 @@ const UNREAD: [(&[u8], usize); 15] = [
 
 #[test]
 fn names_are_read_in_octets(rt: HostRuntime) -> Result<(), Fail> {
-    let alloc = rt.alloc();
-    for (octets, place, text, end) in READ {
+    for (octets, place, spelling, end) in READ {
         let (parsed, after) = ParsedName::parse(octets, place).ok_or("a name")?;
-        let name = parsed.to_name(alloc)?;
-        assert_eq!(rt; format!(in alloc; "{name}")?.as_str(), text);
-        assert_eq!(rt; after, end, "of {text}");
-        assert!(rt; is_same_name(&parsed, &name.try_clone(alloc)?.parsed()));
-        assert_eq!(rt; name.is_root(), text == ".");
+        let name = parsed.to_name(rt.alloc())?;
+        assert!(rt; name.as_octets() == spelling);
+        assert!(rt; after == end);
     }
     for (octets, place) in UNREAD {
-        assert!(rt;
-            ParsedName::parse(octets, place).is_none(),
-            "{octets:?} at {place}"
-        );
+        assert!(rt; ParsedName::parse(octets, place).is_none());
     }
     Ok(())
 }
@@ -205,6 +196,9 @@ fn pointers_and_octets_are_counted(rt: HostRuntime) -> Result<(), Fail> {
     }
     assert!(rt; ParsedName::parse(&chain, 1 + 2 * 254).is_some());
     assert!(rt; ParsedName::parse(&chain, 1 + 2 * 255).is_none());
+    name_laws();
+    text_laws();
+    grammar_laws();
     // 127 labels of one octet, and then 128
     let mut labels = Vec::new(alloc);
     for _ in 0..128 {
@@ -225,5 +219,7 @@ fn case_is_no_difference(rt: HostRuntime) -> Result<(), Fail> {
     assert!(rt; lower != Name::from_text(alloc, "www.example")?);
     assert!(rt; lower != Name::from_text(alloc, "wwx.example.com")?);
     assert!(rt; Name::from_text(alloc, "@")? != Name::from_text(alloc, "`")?);
+    assert!(rt; lower.to_name(alloc)? == lower && !lower.is_root());
+    assert!(rt; is_same_name(&lower.parsed(), &upper.parsed()));
     Ok(())
 }

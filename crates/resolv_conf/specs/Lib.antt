@@ -1,3 +1,15 @@
 pub mod Conf
+pub mod Error
+pub mod Fault
+pub mod Files
+pub mod Final
+pub mod Line
+pub mod MemFiles
 pub mod Number
+pub mod OptionWord
+pub mod Options
+pub mod Parse
 pub mod Script
+pub mod Server
+pub mod Show
+pub mod Words

@@ -1,10 +1,12 @@
 //! The configuration of a resolver.
 
-ghost use Rattle.std.specs.Prelude.{◌≡◌, []};
+ghost use Rattle.std.specs.Prelude.{◌≡◌, [], IfOk, MatchResult};
+ghost use Rattle.resolv_conf.specs.Final.{finalized, FinalLaws};
 ghost use Rattle.resolv_conf.specs.Conf.{default_options};
 
 use crate::options::ResolvOptions;
 use crate::server::Servers;
+use dns_values::NoMemory;
 use std::alloc::Global;
 
 /// The servers that a resolver asks, and its options.
@@ -24,4 +26,39 @@ impl ResolvConf {
             options: ResolvOptions::new(alloc),
         }
     }
+
+    /// Makes the configuration ready for use: with no server `127.0.0.1` is asked, with an empty
+    /// search list the root is searched, and each server has the options' timeout for a request.
+    /// `NoMemory` changes nothing.
+    pub fn finalize(&mut self, alloc: Global) -> Result<(), NoMemory>
+        ensures { MatchResult result (λ _. self.new ≡ finalized self.old) (λ _. self.new ≡ self.old) }
+    {
+        let servers = if self.servers.len() == 0 {
+            Some(Servers::this_host(alloc)?)
+        } else {
+            None
+        };
+        if self.options.search.is_empty() {
+            self.options.search.push_root(alloc)?;
+        }
+        if let Some(servers) = servers {
+            self.servers = servers;
+        }
+        self.servers.set_request_timeout(self.options.timeout);
+        Ok(())
+    }
+
+    /// The same servers and options.
+    pub fn try_clone(&self, alloc: Global) -> Result<ResolvConf, NoMemory>
+        ensures { IfOk result (λ c. c ≡ self.now) }
+    {
+        let servers = self.servers.try_clone(alloc)?;
+        let options = self.options.try_clone(alloc)?;
+        Ok(ResolvConf { servers, options })
+    }
 }
+
+/// The laws of `ResolvConf::finalize`: twice is once, and there are then a server and a suffix.
+pub fn finalize_laws()
+    ensures { FinalLaws }
+{}

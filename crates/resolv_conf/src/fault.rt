@@ -2,6 +2,7 @@
 
 ghost use Rattle.std.specs.Prelude.{◌≡◌};
 
+use dns_names::NameFault;
 use dns_values::NoMemory;
 
 /// Why a line was not taken.
@@ -19,5 +20,18 @@ impl From<NoMemory> for LineFault {
 
     fn from(_e: NoMemory) -> LineFault {
         LineFault::NoMemory
+    }
+}
+
+impl From<NameFault> for LineFault {
+    ghost use Rattle.resolv_conf.specs.Fault.{line_fault};
+
+    ghost from_gives = { λ fault e. e ≡ line_fault fault };
+
+    fn from(fault: NameFault) -> LineFault {
+        match fault {
+            NameFault::Parse | NameFault::Long => LineFault::Parse,
+            NameFault::NoMemory => LineFault::NoMemory,
+        }
     }
 }

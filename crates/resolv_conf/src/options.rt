@@ -1,10 +1,10 @@
 //! How a resolver goes about its questions.
 
-ghost use Rattle.std.specs.Prelude.{◌≡◌};
+ghost use Rattle.std.specs.Prelude.{◌≡◌, IfOk};
 ghost use Rattle.resolv_conf.specs.Conf.{default_options};
 
 use crate::search::SearchList;
-use dns_values::Duration;
+use dns_values::{Duration, NoMemory};
 use std::alloc::Global;
 
 /// The options of a resolver; some are kept and printed alone, and change nothing else.
@@ -68,5 +68,13 @@ impl ResolvOptions {
             single_request_reopen: false,
             no_tld_query: false,
         }
+    }
+
+    /// The same options.
+    pub fn try_clone(&self, alloc: Global) -> Result<ResolvOptions, NoMemory>
+        ensures { IfOk result (λ o. o ≡ self.now) }
+    {
+        let search = self.search.try_clone(alloc)?;
+        Ok(ResolvOptions { search, ..*self })
     }
 }

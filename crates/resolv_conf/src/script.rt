@@ -8,11 +8,8 @@ ghost use Rattle.resolv_conf.specs.Script.{behind, TakesScriptLine};
 use crate::conf::ResolvConf;
 use crate::fault::LineFault;
 use crate::number::number;
-use crate::server::{ServerConf, Transport};
+use crate::server::{DNS_PORT, ServerConf, Transport};
 use dns_values::{Duration, IpAddr, SocketAddr, address_laws};
-
-/// The port of the DNS (RFC 1035 4.2).
-const DNS_PORT: u16 = 53;
 
 impl ResolvConf {
     /// Takes `nameserver` and an IPv4 address where there is no server yet, or `options timeout:`

@@ -50,6 +50,13 @@ impl SearchList {
         Ok(())
     }
 
+    /// Adds the root at the end.
+    pub fn push_root(&mut self, alloc: Global) -> Result<(), NoMemory>
+        ensures { MatchResult result (λ _. self.new ≡ self.old ++ [] ∷ []) (λ _. self.new ≡ self.old) }
+    {
+        self.push(Name::root(alloc))
+    }
+
     pub fn len(&self) -> usize
         ensures { result ≡ length self.now }
     {
@@ -73,5 +80,16 @@ impl SearchList {
         ensures { result.now ≡ self.now }
     {
         self.suffixes.as_slice()
+    }
+
+    /// The same suffixes.
+    pub fn try_clone(&self, alloc: Global) -> Result<SearchList, NoMemory>
+        ensures { IfOk result (λ s. s ≡ self.now) }
+    {
+        let mut list = SearchList::new(alloc);
+        for suffix in self.as_slice() {
+            list.push(suffix.try_clone(alloc)?)?;
+        }
+        Ok(list)
     }
 }

@@ -1,11 +1,15 @@
 //! Servers, and how they are asked.
 
-ghost use Rattle.std.specs.Prelude.{◌≡◌, ◌*◌, List, [], ◌∷◌, ◌++◌, length, MatchResult};
+ghost use Rattle.std.specs.Prelude.{◌≡◌, ◌*◌, List, [], ◌∷◌, ◌++◌, length, map, IfOk, MatchResult};
+ghost use Rattle.resolv_conf.specs.Server.{or_this_host, with_timeout};
 ghost use Rattle.resolv_conf.specs.declared.server.ServerConf.{ServerConf};
 
-use dns_values::{Duration, NoMemory, SocketAddr};
+use dns_values::{Duration, IpAddr, NoMemory, SocketAddr};
 use std::alloc::Global;
 use std::marker::Model;
+
+/// The port of the DNS (RFC 1035 4.2).
+pub(crate) const DNS_PORT: u16 = 53;
 
 /// The greatest datagram that a server is asked for, in octets.
 const DATAGRAM_SIZE: u16 = 1232;
@@ -69,6 +73,17 @@ impl Servers {
         }
     }
 
+    /// This host alone, at the port of the DNS.
+    pub(crate) fn this_host(alloc: Global) -> Result<Servers, NoMemory>
+        ensures { IfOk result (λ s. s ≡ or_this_host []) }
+    {
+        let ip = IpAddr::V4([127, 0, 0, 1]);
+        let addr = SocketAddr { ip, port: DNS_PORT };
+        let mut servers = Servers::new(alloc);
+        servers.push(ServerConf::new(addr, Transport::UdpTcp))?;
+        Ok(servers)
+    }
+
     /// Adds a server at the end.
     pub fn push(&mut self, item: ServerConf) -> Result<(), NoMemory>
         ensures { MatchResult result (λ _. self.new ≡ self.old ++ item ∷ []) (λ _. self.new ≡ self.old) }
@@ -87,5 +102,22 @@ impl Servers {
         ensures { result.now ≡ self.now }
     {
         self.items.as_slice()
+    }
+
+    /// Gives each server this time for a request.
+    pub(crate) fn set_request_timeout(&mut self, timeout: Duration)
+        ensures { self.new ≡ map (with_timeout timeout) self.old }
+    {
+        for server in self.items.iter_mut() {
+            server.request_timeout = timeout;
+        }
+    }
+
+    /// The same servers.
+    pub fn try_clone(&self, alloc: Global) -> Result<Servers, NoMemory>
+        ensures { IfOk result (λ s. s ≡ self.now) }
+    {
+        let items = Vec::from_slice(alloc, self.as_slice())?;
+        Ok(Servers { items })
     }
 }

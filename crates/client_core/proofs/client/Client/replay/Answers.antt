@@ -1,0 +1,31 @@
+use Rattle.std.proofs.Common.{◌≡◌, ◌+◌, List, ◌++◌, drop, rules, sym, subst, ap, ◌∙◌, Some, arith}
+use Rattle.std.specs.Prelude.{option_map}
+use Rattle.client_request.specs.declared.event.Event.{Event}
+use Rattle.client_request.specs.declared.event.Row.{Row}
+use Rattle.client_core.specs.Client.{plain_rows, row_step}
+use Rattle.client_core.specs.Whole.{machine, client_with}
+use Rattle.client_core.proofs.Replaying.{drop_next, events_more, next_row, row_event}
+use Rattle.client_core.proofs.client.Client.replay.Goals as goal
+
+pub loop-event-preserved : goal.loop-event-preserved
+loop-event-preserved g c =
+    let i = c.loop-event.event-index in
+    let events = c.args.events.now in
+    let event = c.in_ok-event.event in
+    let timeout = c.args.conf.now.options.timeout in
+    let before = client_with (g.W.Words.stream c.loop-event.words) c.loop-event.client in
+    let after = client_with (g.W.Words.stream c.step.new.words) c.step.new.self in
+    let rows = c.loop-event.rows in
+    let row = c.in_ok-row.row in
+    let stepped = subst (λ t. row_step machine t event before ≡ Some (row, after)) c.loop-event.invariant.timeout c.in_ok-row.ensures.row in
+    let next = drop_next events i event c.loop-event-test.true (search rules) in
+    record {
+      same =
+          c.loop-event.invariant.same
+          ∙ ap (λ (es : List Event). option_map (λ xs. rows ++ xs) (plain_rows machine timeout es before)) next
+          ∙ next_row machine timeout rows row event (drop (i + 1) events) before after stepped
+          ∙ ap (λ (rs : List Row). option_map (λ xs. rs ++ xs) (plain_rows machine timeout (drop (i + 1) events) after)) (sym c.in_ok-push.ensures.ok);
+      timeout = search rules;
+      lasts = search rules;
+      events = rw c.in_ok-push.ensures.ok (events_more rows row events i event c.loop-event-test.true (search rules) (row_event machine timeout row event before after stepped) c.loop-event.invariant.events);
+    }

@@ -1,0 +1,16 @@
+-- An edge in memory.
+use Rattle.std.specs.Prelude.{ℕ, Bool, false, List, Option}
+use Rattle.std.specs.Option.{option_map_or}
+use Rattle.client_request.specs.declared.event.What.{What}
+use Rattle.client_core.specs.Edge.{is_fault}
+use Rattle.client_core.specs.declared.deed.Deed.{Deed}
+
+-- the events that are left, what was done, and the counts of polls and of faults
+pub record Kept : Type 0 where
+  pub events : List (Option What)
+  pub deeds : List Deed
+  pub polls : ℕ
+  pub faults : ℕ
+
+abbrev pub is_fault_event : Option What → Bool
+is_fault_event what = option_map_or is_fault what false

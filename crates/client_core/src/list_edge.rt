@@ -1,0 +1,118 @@
+//! An edge in memory.
+
+ghost use Rattle.std.specs.Prelude.{◌≡◌, [], ◌∷◌, ◌++◌, Some, OnOk, OnErr, IfOk};
+ghost use Rattle.client_core.specs.ListEdge.{is_fault_event};
+
+use crate::deed::Deed;
+use crate::edge::Edge;
+use client_request::{Out, What};
+use dns_base::NoMemory;
+use resolv_conf::ServerConf;
+use std::alloc::Global;
+use std::collections::VecDeque;
+use std::marker::Model;
+
+/// An edge that gives the events of a list, and none past its end, and keeps what was done with it.
+#[derive(Drop)]
+pub struct ListEdge {
+    alloc: Global,
+    events: VecDeque<Option<What>>,
+    deeds: Vec<Deed>,
+    polls: u64,
+    faults: u64,
+}
+
+impl Model for ListEdge {
+    ghost use Rattle.client_core.specs.ListEdge.{Kept};
+
+    ghost Value = { Kept };
+
+    ghost view = { λ e. record { events = e.events.items; deeds = e.deeds.items; polls = e.polls; faults = e.faults } };
+}
+
+/// Whether an event tells of a fault.
+fn is_fault(what: &Option<What>) -> bool
+    ensures { result ≡ is_fault_event what.now }
+{
+    match what {
+        Some(
+            What::OpenFailed { .. }
+            | What::SendFailed { .. }
+            | What::ShortSend { .. }
+            | What::RecvFailed { .. }
+            | What::WriteFailed { .. }
+            | What::ReadFailed { .. }
+            | What::Ended { .. },
+        ) => true,
+        _ => false,
+    }
+}
+
+/// The same once more.
+fn copy_of(alloc: Global, what: &Option<What>) -> Result<Option<What>, NoMemory>
+    ensures { IfOk result (λ copy. copy ≡ what.now) }
+{
+    match what {
+        None => Ok(None),
+        Some(what) => Ok(Some(what.try_clone(alloc)?)),
+    }
+}
+
+impl ListEdge {
+    pub fn new(alloc: Global, events: VecDeque<Option<What>>) -> ListEdge
+        ensures { result ≡ record { events = events.items; deeds = []; polls = 0; faults = 0 } }
+    {
+        ListEdge {
+            alloc,
+            events,
+            deeds: Vec::new(alloc),
+            polls: 0,
+            faults: 0,
+        }
+    }
+
+    /// What was done with it, in order.
+    pub fn deeds(&self) -> &[Deed]
+        ensures { result.now ≡ self.now.deeds }
+    {
+        self.deeds.as_slice()
+    }
+
+    fn keep(&mut self, deed: Deed) -> Result<(), NoMemory>
+        ensures ok { OnOk result (self.new ≡ record self.old { deeds = self.old.deeds ++ deed ∷ [] }) }
+        ensures err { OnErr result (self.new ≡ self.old) }
+    {
+        match self.deeds.push(deed) {
+            Ok(()) => Ok(()),
+            Err(_) => Err(NoMemory),
+        }
+    }
+}
+
+impl Edge for ListEdge {
+    ghost deeds = { λ e. Some e.deeds };
+
+    ghost polls = { λ e. e.polls };
+
+    ghost faults = { λ e. e.faults };
+
+    fn learn_server(&mut self, server: &ServerConf) -> Result<(), NoMemory> {
+        self.keep(Deed::Learned(*server))
+    }
+
+    fn act(&mut self, out: &Out) -> Result<(), NoMemory> {
+        let out = out.try_clone()?;
+        self.keep(Deed::Acted(out))
+    }
+
+    fn poll(&mut self) -> Result<Option<What>, NoMemory> {
+        let what = self.events.pop_front().unwrap_or(None);
+        let copy = copy_of(self.alloc, &what)?;
+        self.keep(Deed::Polled(copy))?;
+        self.polls = self.polls.saturating_add(1);
+        if is_fault(&what) {
+            self.faults = self.faults.saturating_add(1);
+        }
+        Ok(what)
+    }
+}

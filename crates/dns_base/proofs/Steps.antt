@@ -1,0 +1,68 @@
+-- What each step of writing changes.
+use Rattle.std.proofs.Common.{◌≡◌, ℕ, ◌+◌, ◌≤◌, List, ◌++◌, length, take, drop, refl, ap, sym, ◌∙◌, arith, length-append}
+use Rattle.std.specs.Int.{w16, to_be_bytes}
+use Rattle.std.proofs.lemmas.List.{length-drop, length-take-le, take_at, take-append-le, take-append-drop}
+use Rattle.dns_base.specs.Header.{Counts}
+use Rattle.dns_base.specs.Sections.{counts_spelling}
+use Rattle.dns_base.specs.Draft.{Draft, fresh, with_header, pushed_question, pushed_record, cleared, finished, size, limit_of, counts_in, question_spelling, record_spelling}
+use Rattle.dns_base.specs.Holding.{header_in}
+use Rattle.dns_base.specs.DraftSteps.{CountSteps, LimitSteps, SizeSteps, HeaderSteps, DraftSteps}
+use Rattle.dns_base.proofs.Sizes.{question_long, record_long}
+
+count_steps : CountSteps
+unfolding fresh with_header pushed_question pushed_record cleared counts_in
+count_steps = record {
+  fresh = λ limit. refl;
+  header = λ header d. refl;
+  question = λ q d. refl;
+  any_record = λ section w d. refl;
+  cleared = λ d. refl;
+}
+
+limit_steps : LimitSteps
+unfolding fresh with_header pushed_question pushed_record cleared limit_of
+limit_steps = record {
+  fresh = λ limit. refl;
+  header = λ header d. refl;
+  question = λ q d. refl;
+  any_record = λ section w d. refl;
+  cleared = λ d. refl;
+}
+
+eight : (counts : Counts) → length (counts_spelling counts) ≡ 8
+unfolding counts_spelling
+eight counts = refl
+
+finished_size : (octets counts : List ℕ) → 12 ≤ length octets → length counts ≡ 8 → length (take 4 octets ++ counts ++ drop 12 octets) ≡ length octets
+finished_size octets counts h e =
+    omega (arith, length-append (take 4 octets ++ counts) (drop 12 octets), length-append (take 4 octets) counts, length-take-le 4 octets (omega arith), length-drop 12 octets)
+
+size_steps : SizeSteps
+unfolding fresh with_header pushed_question pushed_record cleared finished size
+size_steps = record {
+  fresh = λ limit. refl;
+  header = λ header d e h. omega (arith, length-append header (drop 4 d.octets), length-drop 4 d.octets);
+  question = λ q d. omega (arith, length-append d.octets (question_spelling q));
+  question_at_most = λ q d. omega (arith, length-append d.octets (question_spelling q), question_long q);
+  any_record = λ section w d. omega (arith, length-append d.octets (record_spelling w));
+  record_at_most = λ section w d. omega (arith, length-append d.octets (record_spelling w), record_long w);
+  cleared = λ d h. length-take-le 12 d.octets h;
+  finished = λ d h. finished_size d.octets (counts_spelling d.counts) h (eight d.counts);
+}
+
+-- the head of a longer list
+head_stays : (octets more : List ℕ) → 12 ≤ length octets → take 4 (octets ++ more) ≡ take 4 octets
+head_stays octets more h = take-append-le 4 octets more (omega arith)
+
+header_steps : HeaderSteps
+unfolding fresh with_header pushed_question pushed_record cleared size header_in
+header_steps = record {
+  fresh = λ limit. refl;
+  header = λ header d e. take_at header (drop 4 d.octets) 4 e;
+  question = λ q d h. head_stays d.octets (question_spelling q) h;
+  any_record = λ section w d h. head_stays d.octets (record_spelling w) h;
+  cleared = λ d h. sym (take-append-le 4 (take 12 d.octets) (drop 12 d.octets) (omega (arith, length-take-le 12 d.octets h))) ∙ ap (take 4) (take-append-drop 12 d.octets);
+}
+
+pub draft_steps : DraftSteps
+draft_steps = record { counts = count_steps; limits = limit_steps; sizes = size_steps; headers = header_steps }

@@ -1,0 +1,66 @@
+//! Why a configuration was not read.
+
+ghost use Rattle.std.specs.Prelude.{◌≡◌, Some, codes};
+
+use dns_values::{NoMemory, ReadFault};
+use std::fmt::{self, Display};
+
+/// Why octets were not read as lines.
+#[derive(Clone, Copy, Debug, PartialEq, Eq)]
+pub enum IoFault {
+    /// Reading or opening failed.
+    Read,
+    /// This line, counted from 1, isn't UTF-8.
+    NotUtf8(u64),
+}
+
+/// Why a configuration was not read.
+#[derive(Clone, Copy, Debug, PartialEq, Eq)]
+pub enum Error {
+    /// This line, counted from 1, is outside the grammar.
+    ParseError(u64),
+    Io(IoFault),
+    /// There are more than 16777216 octets.
+    TooLong,
+    NoMemory,
+}
+
+impl Display for Error {
+    ghost use Rattle.resolv_conf.specs.Error.{error_text};
+
+    ghost output = { λ e. Some (error_text e) };
+
+    fn fmt<W: fmt::Write>(&self, f: &mut fmt::Formatter<W>) -> fmt::Result {
+        match self {
+            Error::ParseError(_) => write!(f, "error parsing configuration"),
+            Error::Io(IoFault::Read) => write!(f, "read failed"),
+            Error::Io(IoFault::NotUtf8(_)) => write!(f, "line is not UTF-8"),
+            Error::TooLong => write!(f, "input too long"),
+            Error::NoMemory => write!(f, "out of memory"),
+        }
+    }
+}
+
+impl From<ReadFault> for Error {
+    ghost use Rattle.resolv_conf.specs.Error.{read_error};
+
+    ghost from_gives = { λ fault e. e ≡ read_error fault };
+
+    fn from(fault: ReadFault) -> Error {
+        match fault {
+            ReadFault::Failed => Error::Io(IoFault::Read),
+            ReadFault::TooLong => Error::TooLong,
+            ReadFault::NoMemory => Error::NoMemory,
+        }
+    }
+}
+
+impl From<NoMemory> for Error {
+    ghost use Rattle.resolv_conf.specs.declared.error.Error.TheVariants as Error;
+
+    ghost from_gives = { λ _ e. e ≡ Error.NoMemory };
+
+    fn from(_e: NoMemory) -> Error {
+        Error::NoMemory
+    }
+}
