@@ -1,6 +1,7 @@
 //! The settings of the cache.
 
-ghost use Rattle.std.specs.Prelude.{◌≡◌, false};
+ghost use Rattle.std.specs.Prelude.{◌≡◌};
+ghost use Rattle.client_core.specs.Defaults.{default_cache};
 
 use dns_base::Duration;
 
@@ -21,16 +22,7 @@ impl Config {
     /// 1000 answers, a week at most; failures for half a minute, names and data that are not there for
     /// an hour, delegations for 1000000 seconds; truncated answers not at all.
     pub fn new() -> Config
-        ensures { result ≡ record {
-          max_cache_entries = 1000;
-          max_validity = 604800000000;
-          transport_failure_duration = 30000000;
-          misc_error_duration = 30000000;
-          max_nxdomain_validity = 3600000000;
-          max_nodata_validity = 3600000000;
-          max_delegation_validity = 1000000000000;
-          cache_truncated = false;
-        } }
+        ensures { result ≡ default_cache }
     {
         Config {
             max_cache_entries: 1000,

@@ -13,7 +13,7 @@ use Rattle.dns_base.specs.Numbers.{u16_at, u32_at, ◌>>=◌}
 use Rattle.dns_base.specs.Data.{Data, A, Aaaa, One, Minfo, Mx, StartOfAuthority, Service, Txt, Opt, Other, is_one_name, is_of_type, are_strings, are_options, octets_to, name_to, minfo_to, mx_to, soa_to, srv_to, srv_with, whole, data_at, data_spelling}
 use Rattle.dns_base.specs.Message.{Asked, Entry, Known, Written, question_at, record_at}
 use Rattle.dns_base.specs.Holding.{IsAskable, IsWritable, IsWritableData}
-use Rattle.dns_base.proofs.ReadData.{Fits, data_fits}
+use Rattle.dns_base.proofs.ReadData.{data_fits}
 use Rattle.client_request.specs.Composed.{content_of, written_from}
 
 abbrev pub AreOctets : List ℕ → Type 0
@@ -117,15 +117,21 @@ question_askable octets at end q h e =
       | inr p ↦ none_some p.1
     ]
 
+-- data of a type that a record has room for
+record IsFitting (rtype : ℕ) (content : Data) : Type 0 where
+  pub typed : is_of_type rtype content ≡ true
+  pub short : length (data_spelling content) < 65536
+
 -- the content of a record that is read
 content_fits : (rtype : ℕ) (octets : List ℕ) (at end : ℕ) (entry : Entry) (o : Option Data) → AreOctets octets → end ≤ length octets → end < at + 65536
-    → entry.octets ≡ slice_range octets at end → data_at rtype octets at end ≡ o → Fits rtype (content_of entry o) × IsWritableData (content_of entry o)
+    → entry.octets ≡ slice_range octets at end → data_at rtype octets at end ≡ o → IsFitting rtype (content_of entry o) × IsWritableData (content_of entry o)
 unfolding data_spelling
 content_fits rtype octets at end entry None h within few e is =
     (record { typed = refl; short = rw e (omega (arith, length-between octets at end within)) }, tt)
 content_fits rtype octets at end entry (Some d) h within few e is =
     let sound = rw is at (data_writable rtype octets at end h within) in
-    (data_fits rtype octets at end d few is, sound)
+    let fits = data_fits rtype octets at end d few is in
+    (record { typed = fits.typed; short = fits.short }, sound)
 
 pub record_writable : (octets : List ℕ) (at end : ℕ) (known : Known) → AreOctets octets → record_at octets at ≡ Some (known, end) → IsWritable (written_from known)
 unfolding record_at

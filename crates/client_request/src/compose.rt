@@ -1,6 +1,8 @@
 //! The trait of a request that a transport can compose and match.
 
 ghost use Rattle.std.specs.Prelude.{◌≡◌, ◌↔◌, ◌⊎◌, ℕ, Bool, List, Result, Ok, Err, IsTrue, IfOk, IfErr, OnOk, OnErr, MatchResult, IsErrOf, length};
+ghost use Rattle.std.specs.Borrow.{Lends, sem};
+ghost use Rattle.dns_base.specs.contracts.header.Header.{the_row as header_row};
 ghost use Rattle.dns_base.specs.Draft.{Draft};
 ghost use Rattle.client_request.specs.declared.error.Error.{Error};
 ghost use Rattle.client_request.specs.declared.error.Error.TheVariants as errors;
@@ -74,9 +76,10 @@ pub trait ComposeRequest: Drop {
     fn header(&self) -> &Header
         ensures { result.now ≡ header_of self.now };
 
-    /// Records a header.
-    fn set_header(&mut self, header: Header)
-        ensures { self.new ≡ with_header header self.old };
+    /// The recorded header, to be changed.
+    fn header_mut(&mut self) -> &mut Header
+        ensures* writes_back { sem 𝓛 (Lends Self.row header_row self.entry result (λ header. with_header header self.old)) }
+        ensures value { result.now ≡ header_of self.old };
 
     /// Whether the recorded OPT record says that DNSSEC records are taken (RFC 3225 3).
     fn dnssec_ok(&self) -> bool

@@ -221,8 +221,8 @@ impl ComposeRequest for RequestMessage {
         &self.header
     }
 
-    fn set_header(&mut self, header: Header) {
-        self.header = header;
+    fn header_mut(&mut self) -> &mut Header {
+        &mut self.header
     }
 
     fn dnssec_ok(&self) -> bool {

@@ -121,8 +121,8 @@ impl ComposeRequestMulti for RequestMessageMulti {
         self.request.header()
     }
 
-    fn set_header(&mut self, header: Header) {
-        self.request.set_header(header);
+    fn header_mut(&mut self) -> &mut Header {
+        self.request.header_mut()
     }
 
     fn dnssec_ok(&self) -> bool {

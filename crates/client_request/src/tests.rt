@@ -59,7 +59,7 @@ fn a_request_is_recorded_and_copied(rt: HostRuntime) -> Result<(), Fail> {
     let request = query(alloc)?.with_recorded(header, Some(opt))?;
     let mut copy = request.try_clone(alloc)?;
     copy.add_opt(10, &[1, 2])?;
-    copy.set_header(Header::from_octets([0, 8, 1, 0]));
+    copy.header_mut().set_id(8);
     let recorded = copy.recorded_opt().ok_or("an OPT record")?;
     assert_eq!(rt; recorded.data(), [0, 3, 0, 0, 0, 10, 0, 2, 1, 2].as_slice());
     assert_eq!(rt; recorded.udp_payload_size(), 512);

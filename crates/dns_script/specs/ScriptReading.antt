@@ -19,6 +19,7 @@ use Rattle.dns_script.specs.Grammar.{event_at, whole}
 use Rattle.dns_script.specs.Names.{script_names}
 use Rattle.dns_script.specs.Reading.{◌>>=◌, cut, named, numbers_of, words_of}
 use Rattle.dns_script.specs.Stage.{takes_conf, takes_what}
+use Rattle.client_core.specs.Defaults.{default_redundant, default_cache}
 
 -- what stands behind `conf `, before any event
 pub record TakesConf (text : List ℕ) (s t : ScriptReader) : Type 0 where
@@ -103,7 +104,7 @@ pub record IsScript (many : Bool) (text : List ℕ) (script : Script) : Type 0 w
   pub lines_taken : TakesLines (lines text) (begun_with many) reader
   pub lane : List Event
   pub last_lane : reader.lane ≡ Some lane
-  pub says : script ≡ record { conf = reader.conf; words = reader.words; lanes = reader.lanes ++ lane ∷ [] }
+  pub says : script ≡ record { conf = reader.conf; redundant = default_redundant; cache = default_cache; words = reader.words; lanes = reader.lanes ++ lane ∷ [] }
 
 -- Line n of the text is refused, counted from 1: the lines before it are taken, and it is not; or there is no lane at the end.
 pub data RefusesLine (many : Bool) (text : List ℕ) (n : ℕ) : Type 0 where

@@ -2,6 +2,7 @@
 
 ghost use Rattle.std.specs.Prelude.{◌≡◌, ◌++◌, [], ◌∷◌, length, OnOk, OnErr};
 
+use client_core::{cache, redundant};
 use client_request::{Events, WordList};
 use dns_base::NoMemory;
 use resolv_conf::ResolvConf;
@@ -66,10 +67,13 @@ pub enum ScriptFault {
     NoMemory,
 }
 
-/// What a script says: the configuration, the words to draw, and the events of each lane.
+/// What a script says: the configuration, the settings of the choice among servers and of the cache, the
+/// words to draw, and the events of each lane.
 #[derive(Drop)]
 pub struct Script {
     pub conf: ResolvConf,
+    pub redundant: redundant::Config,
+    pub cache: cache::Config,
     pub words: WordList,
     pub lanes: Lanes,
 }

@@ -11,6 +11,7 @@ use crate::names::{ScriptName, script_named};
 use crate::reading::event;
 use crate::script::{Lanes, Script, ScriptFault};
 use crate::stage::{check_what, takes_conf};
+use client_core::{cache, redundant};
 use client_request::{Events, What, WordList};
 use resolv_conf::ResolvConf;
 use std::alloc::Global;
@@ -181,7 +182,13 @@ pub fn read_script(alloc: Global, text: &[u8], lanes: bool) -> Result<Script, Sc
     match lane {
         None => Err(ScriptFault::Line(count + 1)),
         Some(lane) => match lanes.push(lane) {
-            Ok(()) => Ok(Script { conf, words, lanes }),
+            Ok(()) => Ok(Script {
+                conf,
+                redundant: redundant::Config::new(),
+                cache: cache::Config::new(),
+                words,
+                lanes,
+            }),
             Err(_) => Err(ScriptFault::NoMemory),
         },
     }

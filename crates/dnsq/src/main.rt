@@ -1,7 +1,9 @@
 //! The program `dnsq`: it replays scripts of events.
 #![tactic(auto)]
 
+mod ending;
 mod run;
+mod statuses;
 #[cfg(test)]
 mod tests;
 mod usage;

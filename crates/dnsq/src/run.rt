@@ -1,9 +1,20 @@
 //! What the program does, over a source, a sink and the rest of its world.
 
+ghost use Rattle.std.specs.Prelude.{◌≡◌, ◌≢◌, ◌↔◌, ◌++◌, ◌⊎◌, ◌≤◌, [], ℕ, List, false, length, codes, Some, None, IfSome, IfOk, IfErr};
+ghost use Rattle.std.specs.Fmt.{decimal};
+ghost use Rattle.dns_values.specs.Source.{Rose};
+ghost use Rattle.dns_values.specs.Sink.{with_octets};
+ghost use Rattle.dns_script.specs.ScriptReading.{ReadsScript, IsScript, RefusesLine};
+ghost use Rattle.dns_script.specs.TraceText.{trace_text_of};
+ghost use Rattle.dnsq.specs.Program.{rows_of, IsReplayed, IsRefused, StopsForNumbers, IsDelivered, IsBegun, IsEarly, status_of, line_of};
+ghost use Rattle.dnsq.specs.Words.{command_of};
+
+use crate::ending::Ending;
+use crate::statuses::{DONE, NO_MEMORY, NUMBERS_USED, REFUSED, SINK_FAULT, SOURCE_FAULT, USAGE};
 use crate::usage::{Command, USAGE_LINE, command_of};
 use client_core::{Client, Clock, Edge};
 use client_request::{Error, ListWords, Trace, Words};
-use dns_base::{NoMemory, Status};
+use dns_base::Status;
 use dns_script::{Script, ScriptFault, read_script, trace_text};
 use dns_values::{ReadFault, Sink, SinkFault, Source, read_to_end, write_all};
 use std::alloc::{AllocError, Global};
@@ -11,49 +22,10 @@ use std::alloc::{AllocError, Global};
 /// The most octets that an input may have.
 pub const MOST_OCTETS: usize = 16_777_216;
 
-/// The output was written whole.
-pub const DONE: Status = Status(0);
-
-/// A line of the input is refused, or the input is too long.
-pub const REFUSED: Status = Status(1);
-
-/// The words are no command.
-pub const USAGE: Status = Status(2);
-
-/// The source failed.
-pub const SOURCE_FAULT: Status = Status(3);
-
-/// The sink failed.
-pub const SINK_FAULT: Status = Status(4);
-
-/// Memory ran out.
-pub const NO_MEMORY: Status = Status(6);
-
-/// Numbers are used up.
-pub const NUMBERS_USED: Status = Status(7);
-
-/// Why a command ends before its output is written: a line is written and the status stands whatever
-/// becomes of it, or nothing is written.
-#[derive(Drop)]
-pub enum Ending {
-    Says(Status, Vec<u8>),
-    Silent(Status),
-}
-
-impl From<AllocError> for Ending {
-    fn from(_error: AllocError) -> Ending {
-        Ending::Silent(NO_MEMORY)
-    }
-}
-
-impl From<NoMemory> for Ending {
-    fn from(_error: NoMemory) -> Ending {
-        Ending::Silent(NO_MEMORY)
-    }
-}
-
 /// A line that tells why the input or the words are refused.
-fn says(alloc: Global, status: Status, line: &str) -> Ending {
+fn says(alloc: Global, status: Status, line: &str) -> Ending
+    ensures { (status_of result ≡ 6) ⊎ ((status_of result ≡ status.0) × (line_of result ≡ line.now)) }
+{
     match Vec::from_slice(alloc, line.as_bytes()) {
         Ok(line) => Ending::Says(status, line),
         Err(_) => Ending::Silent(NO_MEMORY),
@@ -61,7 +33,13 @@ fn says(alloc: Global, status: Status, line: &str) -> Ending {
 }
 
 /// The octets of an input, to its end.
-fn input<S: Source>(alloc: Global, source: &mut S) -> Result<Vec<u8>, Ending> {
+fn input<S: Source>(alloc: Global, source: &mut S) -> Result<Vec<u8>, Ending>
+    ensures whole { IfOk result (λ v. IfSome (S.left source.old) (λ text. (v.items ≡ text) × (S.left source.new ≡ Some []))) }
+    ensures early { IfErr result IsEarly }
+    ensures source_fault { IfErr result (λ e. status_of e ≡ 3 → Rose (S.faults source.old) (S.faults source.new)) }
+    ensures too_long { IfErr result (λ e. status_of e ≡ 1 → IfSome (S.left source.old) (λ text. IsRefused text (line_of e))) }
+    ensures no_numbers { IfErr result (λ e. status_of e ≢ 7) }
+{
     match read_to_end(alloc, source, MOST_OCTETS) {
         Ok(octets) => Ok(octets),
         Err(ReadFault::Failed) => Err(Ending::Silent(SOURCE_FAULT)),
@@ -70,13 +48,20 @@ fn input<S: Source>(alloc: Global, source: &mut S) -> Result<Vec<u8>, Ending> {
     }
 }
 
-fn refused_line(alloc: Global, line: u64) -> Result<Vec<u8>, AllocError> {
+fn refused_line(alloc: Global, line: u64) -> Result<Vec<u8>, AllocError>
+    ensures { IfOk result (λ v. v.items ≡ codes "line " ++ decimal line ++ codes " refused\n") }
+{
     let text = format!(in alloc; "line {line} refused\n")?;
     Vec::from_slice(alloc, text.as_bytes())
 }
 
 /// The script that a text is.
-fn script_of(alloc: Global, text: &[u8]) -> Result<Script, Ending> {
+fn script_of(alloc: Global, text: &[u8]) -> Result<Script, Ending>
+    ensures script { IfOk result (λ script. IsScript false text.now script) }
+    ensures early { IfErr result IsEarly }
+    ensures refused { IfErr result (λ e. status_of e ≡ 1 → IsRefused text.now (line_of e)) }
+    ensures no_fault { IfErr result (λ e. (status_of e ≢ 3) × (status_of e ≢ 7)) }
+{
     match read_script(alloc, text, false) {
         Ok(script) => Ok(script),
         Err(ScriptFault::Line(line)) => Err(Ending::Says(REFUSED, refused_line(alloc, line)?)),
@@ -85,7 +70,12 @@ fn script_of(alloc: Global, text: &[u8]) -> Result<Script, Ending> {
 }
 
 /// The trace of a script with one lane.
-fn trace_of(alloc: Global, script: Script) -> Result<Trace, Ending> {
+fn trace_of(alloc: Global, script: Script) -> Result<Trace, Ending>
+    ensures plain { IfOk result (λ t. rows_of script ≡ Some t.rows) }
+    ensures early { IfErr result IsEarly }
+    ensures numbers { IfErr result (λ e. status_of e ≡ 7 → (rows_of script ≡ None) × (line_of e ≡ codes "numbers used\n")) }
+    ensures no_fault { IfErr result (λ e. (status_of e ≢ 3) × (status_of e ≢ 1)) }
+{
     let Script {
         conf,
         redundant,
@@ -106,7 +96,13 @@ fn trace_of(alloc: Global, script: Script) -> Result<Trace, Ending> {
 }
 
 /// The text of the trace of the script that a source gives.
-fn replay<S: Source>(alloc: Global, source: &mut S) -> Result<Vec<u8>, Ending> {
+fn replay<S: Source>(alloc: Global, source: &mut S) -> Result<Vec<u8>, Ending>
+    ensures done { IfOk result (λ v. IfSome (S.left source.old) (λ text. IsReplayed text v.items × (S.left source.new ≡ Some []))) }
+    ensures early { IfErr result IsEarly }
+    ensures source_fault { IfErr result (λ e. status_of e ≡ 3 → Rose (S.faults source.old) (S.faults source.new)) }
+    ensures refused { IfErr result (λ e. status_of e ≡ 1 → IfSome (S.left source.old) (λ text. IsRefused text (line_of e))) }
+    ensures numbers { IfErr result (λ e. status_of e ≡ 7 → IfSome (S.left source.old) (λ text. StopsForNumbers text × (line_of e ≡ codes "numbers used\n"))) }
+{
     let text = input(alloc, source)?;
     let script = script_of(alloc, &text)?;
     let trace = trace_of(alloc, script)?;
@@ -114,7 +110,11 @@ fn replay<S: Source>(alloc: Global, source: &mut S) -> Result<Vec<u8>, Ending> {
 }
 
 /// Writes an output whole.
-fn deliver<K: Sink>(sink: &mut K, text: &[u8]) -> Status {
+fn deliver<K: Sink>(sink: &mut K, text: &[u8]) -> Status
+    ensures done { result.0 ≡ 0 → K.held sink.new ≡ with_octets text.now (K.held sink.old) }
+    ensures sink_fault { result.0 ≡ 4 → Rose (K.faults sink.old) (K.faults sink.new) }
+    ensures others { (result.0 ≡ 0) ⊎ ((result.0 ≡ 4) ⊎ (result.0 ≡ 6)) }
+{
     match write_all(sink, text) {
         Ok(()) => match sink.flush() {
             Ok(()) => DONE,
@@ -136,7 +136,14 @@ pub fn run_alone<S: Source, K: Sink, E: Edge, C: Clock, W: Words>(
     _edge: &mut E,
     _clock: &mut C,
     _random: &mut W,
-) -> Status {
+) -> Status
+    ensures usage { (result.0 ≡ 2) ↔ (command_of words.now ≡ None) }
+    ensures done { result.0 ≡ 0 → IfSome (S.left source.old) (λ text. IsDelivered text (K.held sink.old) (K.held sink.new) × (S.left source.new ≡ Some [])) }
+    ensures refused { result.0 ≡ 1 → IfSome (S.left source.old) (λ text. (line : List ℕ) × IsRefused text line × IsBegun line (K.held sink.old) (K.held sink.new)) }
+    ensures source_fault { result.0 ≡ 3 → Rose (S.faults source.old) (S.faults source.new) }
+    ensures sink_fault { result.0 ≡ 4 → Rose (K.faults sink.old) (K.faults sink.new) }
+    ensures numbers { result.0 ≡ 7 → IfSome (S.left source.old) (λ text. StopsForNumbers text × IsBegun (codes "numbers used\n") (K.held sink.old) (K.held sink.new)) }
+{
     let Some(command) = command_of(words) else {
         let _ = write_all(sink, USAGE_LINE.as_bytes());
         return USAGE;

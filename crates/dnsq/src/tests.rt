@@ -1,0 +1,138 @@
+use crate::run::run_alone;
+use client_core::{ListClock, ListEdge};
+use client_request::{ListWords, WordList};
+use dns_base::Octets;
+use dns_values::{MemSink, MemSource};
+use std::alloc::Global;
+use std::collections::VecDeque;
+use std::test::Fail;
+
+const QUESTION: &str = "076578616d706c6503636f6d0000010001";
+
+/// What the program writes and its status, on an input, where calls of the source and of the sink fail.
+fn run_on(
+    alloc: Global,
+    word: &str,
+    input: &str,
+    source_fails: &[u64],
+    sink_fails: &[u64],
+) -> Result<(u8, String), Fail> {
+    let mut words = Vec::new(alloc);
+    words.push(String::from_str(alloc, word)?)?;
+    let octets = Octets::from_slice(alloc, input.as_bytes())?;
+    let mut source = MemSource::new(octets, Vec::from_slice(alloc, source_fails)?);
+    let mut sink = MemSink::new(alloc, Vec::from_slice(alloc, sink_fails)?, Vec::new(alloc));
+    let mut edge = ListEdge::new(alloc, VecDeque::new(alloc));
+    let mut clock = ListClock::new(Vec::new(alloc));
+    let mut random = ListWords::new(WordList::new(alloc));
+    let status = run_alone(
+        alloc,
+        &words,
+        &mut source,
+        &mut sink,
+        &mut edge,
+        &mut clock,
+        &mut random,
+    );
+    match std::str::from_utf8(sink.as_slice()) {
+        Ok(text) => Ok((status.0, String::from_str(alloc, text)?)),
+        Err(_) => Err("written text is UTF-8".into()),
+    }
+}
+
+/// A script that asks for the address of example.com, and what its trace has of the asking.
+fn asked(alloc: Global, rest: &str) -> Result<String, Fail> {
+    Ok(format!(in alloc;
+        "conf nameserver 192.0.2.53\nwords 4660\nat 0 ask 000001000001000000000000{QUESTION} 00000100 -\n{rest}"
+    )?)
+}
+
+fn trace(alloc: Global, rest: &str) -> Result<String, Fail> {
+    Ok(format!(in alloc;
+        "trace 1\nat 0 ask 000001000001000000000000{QUESTION} 00000100 -\n> start 0 0 dgram\n> open-dgram 0 0\n{rest}end\n"
+    )?)
+}
+
+#[test]
+fn a_question_has_its_answer(rt: HostRuntime) -> Result<(), Fail> {
+    let alloc = rt.alloc();
+    let answer = format!(in alloc;
+        "81800001000100000000{QUESTION}c00c00010001000000640004c0000201"
+    )?;
+    let sent = format!(in alloc;
+        "> send 0 0 4660 123401000001000000000001{QUESTION}00002904d0000000000000"
+    )?;
+    let script = asked(
+        alloc,
+        format!(in alloc;
+            "at 10 opened 0\nat 15000 datagram 0 1235{answer}\nat 20000 datagram 0 1234{answer}\n"
+        )?.as_str(),
+    )?;
+    let wanted = trace(
+        alloc,
+        format!(in alloc;
+            "at 10 opened 0\n{sent}\nat 15000 datagram 0 1235{answer}\nat 20000 datagram 0 1234{answer}\n> close 0\n> reply 0 ok 1234{answer}\n"
+        )?.as_str(),
+    )?;
+    let (status, written) = run_on(alloc, "replay", script.as_str(), &[], &[])?;
+    assert_eq!(rt; status, 0);
+    assert_eq!(rt; written.as_str(), wanted.as_str());
+    Ok(())
+}
+
+#[test]
+fn a_bare_error_answers_and_the_deadline_ends(rt: HostRuntime) -> Result<(), Fail> {
+    let alloc = rt.alloc();
+    let sent = format!(in alloc;
+        "at 0 opened 0\n> send 0 0 4660 123401000001000000000001{QUESTION}00002904d0000000000000\n"
+    )?;
+    for (event, outs) in [
+        (
+            "at 20000 datagram 0 123481820000000000000000\n",
+            "> close 0\n> reply 0 ok 123481820000000000000000\n",
+        ),
+        ("at 20000 datagram 0 123481820000000000000001\n", ""),
+        ("at 5000000 tick\n", "> reply 0 err TimedOut\n> close 0\n"),
+    ] {
+        let script = asked(alloc, format!(in alloc; "at 0 opened 0\n{event}")?.as_str())?;
+        let wanted = trace(alloc, format!(in alloc; "{sent}{event}{outs}")?.as_str())?;
+        let (status, written) = run_on(alloc, "replay", script.as_str(), &[], &[])?;
+        assert_eq!(rt; status, 0, "at {event}");
+        assert_eq!(rt; written.as_str(), wanted.as_str(), "at {event}");
+    }
+    Ok(())
+}
+
+#[test]
+fn what_is_refused_or_fails_has_its_status(rt: HostRuntime) -> Result<(), Fail> {
+    let alloc = rt.alloc();
+    let usage = "usage: dnsq replay|conf|gen N|many|query NAME TYPE [--port P]\n";
+    for (word, input, source_fails, sink_fails, status, written) in [
+        ("replay", "", [9], [9], 0, "trace 1\nend\n"),
+        (
+            "replay",
+            "conf nameserver 192.0.2.53\nat x tick\n",
+            [9],
+            [9],
+            1,
+            "line 2 refused\n",
+        ),
+        (
+            "replay",
+            "conf nameserver 192.0.2.53\nat 0 bytes 0 00\n",
+            [9],
+            [9],
+            1,
+            "line 2 refused\n",
+        ),
+        ("help", "", [9], [9], 2, usage),
+        ("replay", "", [0], [9], 3, ""),
+        ("replay", "", [9], [0], 4, ""),
+        ("replay", "", [9], [1], 4, "trace 1\nend\n"),
+    ] {
+        let (got, text) = run_on(alloc, word, input, &source_fails, &sink_fails)?;
+        assert_eq!(rt; got, status, "at {word} {input}");
+        assert_eq!(rt; text.as_str(), written, "at {word} {input}");
+    }
+    Ok(())
+}
