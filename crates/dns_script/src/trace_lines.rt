@@ -1,6 +1,7 @@
 //! Traces, read line by line.
 
-ghost use Rattle.std.specs.Prelude.{◌≡◌};
+ghost use Rattle.std.specs.Prelude.{◌≡◌, ◌↔◌, IsTrue};
+ghost use Rattle.dns_script.specs.declared.trace_lines.TraceStage.TheVariants as stages;
 ghost use Rattle.dns_script.specs.Reading.{Gives, Makes, Reads};
 ghost use Rattle.dns_script.specs.TraceReading.{ReadsTrace, entry_behind, entry_of, line_at, nothing_read, with_entry, with_line};
 
@@ -73,6 +74,16 @@ impl TraceReader {
         }
     }
 
+    fn has_ended(&self) -> bool
+        ensures { IsTrue result ↔ (self.now.stage ≡ stages.Ended) }
+    {
+        match self.stage {
+            TraceStage::Begin => false,
+            TraceStage::Inside => false,
+            TraceStage::Ended => true,
+        }
+    }
+
     fn entry(&mut self, alloc: Global, entry: TraceEntry) -> Result<(), LineFault>
         ensures { Makes result self.new (with_entry entry self.old) }
     {
@@ -141,7 +152,7 @@ pub fn read_trace(alloc: Global, text: &[u8]) -> Result<Trace, ScriptFault>
         }
         rest = behind;
     }
-    if reader.stage != TraceStage::Ended {
+    if !reader.has_ended() {
         return Err(ScriptFault::Line(count + 1));
     }
     if rest.len() != 0 {
