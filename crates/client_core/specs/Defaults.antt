@@ -10,6 +10,12 @@ default_redundant = record { defer_transport_error = false; defer_refused = fals
 -- 1000 answers; times in microseconds
 abbrev pub default_cache : Cache
 default_cache = record {
-  max_cache_entries = 1000; max_validity = 604800000000; transport_failure_duration = 30000000; misc_error_duration = 30000000;
-  max_nxdomain_validity = 3600000000; max_nodata_validity = 3600000000; max_delegation_validity = 1000000000000; cache_truncated = false;
+  max_cache_entries = 1000;
+  max_validity = 604800000000;
+  transport_failure_duration = 30000000;
+  misc_error_duration = 30000000;
+  max_nxdomain_validity = 3600000000;
+  max_nodata_validity = 3600000000;
+  max_delegation_validity = 1000000000000;
+  cache_truncated = false;
 }

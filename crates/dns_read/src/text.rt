@@ -43,7 +43,9 @@ fn head_text(alloc: Global, message: &Message) -> Result<String, ReadFault> {
     let answers = counts.ancount();
     let authorities = counts.nscount();
     let additionals = counts.arcount();
-    Ok(format!(in alloc; "message {id} {flags} {questions} {answers} {authorities} {additionals}\n")?)
+    Ok(format!(in alloc;
+        "message {id} {flags} {questions} {answers} {authorities} {additionals}\n"
+    )?)
 }
 
 /// A line for each question.

@@ -54,10 +54,10 @@ number_is greatest word n limit e =
           let some : 0 < length word = let k = eqb-false _ _ form.0 in omega arith in
           let value : read_on 0 word ≡ n = say.value in
           let first : get_or word 0 0 ≡ 48 → length word ≡ 1 =
-            λ zero. elim (and_cases _ _ form.1) [
-              | inl short ↦ let s = ltb-false _ _ short in omega arith
-              | inr other ↦ absurd (both_ways _ other (eq-eqb _ _ zero))
-            ] in
+          λ zero. elim (and_cases _ _ form.1) [
+            | inl short ↦ let s = ltb-false _ _ short in omega arith
+            | inr other ↦ absurd (both_ways _ other (eq-eqb _ _ zero))
+          ] in
           let below = say.below in
           sym (ap decimal (sym value) ∙ decimal-digits_value own word say.digits some first (omega arith))
     ]

@@ -4,9 +4,8 @@
 
 use dns_script::{ScriptFault, read_script, read_trace};
 use std::alloc::Global;
-use std::env;
-use std::io;
 use std::io::Read;
+use std::{env, io};
 
 /// Whether the first word of the command line is `script`.
 fn wants_script(rt: &HostRuntime) -> bool {
