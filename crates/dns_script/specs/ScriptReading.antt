@@ -4,8 +4,6 @@ use Rattle.std.specs.Str.Lines.{lines}
 use Rattle.std.specs.Option.{option_to_list}
 use Rattle.std.specs.Str.{IsUtf8}
 use Rattle.client_request.specs.declared.event.Event.{Event}
-use Rattle.client_request.specs.declared.event.What.{What}
-use Rattle.client_request.specs.declared.event.What.TheVariants as what
 use Rattle.resolv_conf.specs.declared.conf.ResolvConf.{ResolvConf}
 use Rattle.resolv_conf.specs.Conf.{default_options}
 use Rattle.resolv_conf.specs.Script.{TakesScriptLine}
@@ -18,13 +16,12 @@ use Rattle.dns_script.specs.declared.script_lines.ScriptReader.{ScriptReader}
 use Rattle.dns_script.specs.Grammar.{event_at, whole}
 use Rattle.dns_script.specs.Names.{script_names}
 use Rattle.dns_script.specs.Reading.{◌>>=◌, cut, named, numbers_of, words_of}
-use Rattle.dns_script.specs.Stage.{takes_conf, takes_what}
+use Rattle.dns_script.specs.Stage.{takes_what}
 use Rattle.client_core.specs.Defaults.{default_redundant, default_cache}
 
 -- what stands behind `conf `, before any event
 pub record TakesConf (text : List ℕ) (s t : ScriptReader) : Type 0 where
   pub early : s.begun ≡ false
-  pub form : takes_conf text ≡ true
   pub conf : ResolvConf
   pub taken : TakesScriptLine text s.conf conf
   pub after : t ≡ record s { conf = conf }
@@ -36,19 +33,14 @@ pub record TakesWords (text : List ℕ) (s t : ScriptReader) : Type 0 where
   pub read : numbers_of (words_of text) ≡ Some numbers
   pub after : t ≡ record s { words = s.words ++ numbers }
 
--- one more where a request is asked
-abbrev pub asks_after : ℕ → What → ℕ
-asks_after asks (what.Ask request) = asks + 1
-asks_after asks _ = asks
-
 -- the moment and the event behind `at `, in a lane
 pub record TakesEvent (text : List ℕ) (s t : ScriptReader) : Type 0 where
   pub event : Event
   pub read : event_at (words_of text) >>= whole ≡ Some event
-  pub form : takes_what s.asks s.conf event.what ≡ true
+  pub form : takes_what event.what ≡ true
   pub events : List Event
   pub lane : s.lane ≡ Some events
-  pub after : t ≡ record s { lane = Some (events ++ event ∷ []); begun = true; asks = asks_after s.asks event.what }
+  pub after : t ≡ record s { lane = Some (events ++ event ∷ []); begun = true }
 
 -- the next lane, of 64 at most
 pub record TakesLane (s t : ScriptReader) : Type 0 where
@@ -91,7 +83,6 @@ abbrev pub begun_with : Bool → ScriptReader
 begun_with many = record {
   many = many;
   begun = false;
-  asks = 0;
   conf = record { servers = []; options = default_options };
   words = [];
   lanes = [];

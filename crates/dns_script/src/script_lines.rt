@@ -10,9 +10,9 @@ use crate::line::{LineFault, Lines, Words, split_first};
 use crate::names::{ScriptName, script_named};
 use crate::reading::event;
 use crate::script::{Lanes, Script, ScriptFault};
-use crate::stage::{check_what, takes_conf};
+use crate::stage::check_what;
 use client_core::{cache, redundant};
-use client_request::{Events, What, WordList};
+use client_request::{Events, WordList};
 use resolv_conf::ResolvConf;
 use std::alloc::Global;
 use std::str;
@@ -24,8 +24,6 @@ pub(crate) struct ScriptReader {
     pub many: bool,
     /// An event or a lane came.
     pub begun: bool,
-    /// How many requests were asked.
-    pub asks: u64,
     pub conf: ResolvConf,
     pub words: WordList,
     /// The lanes that are whole.
@@ -52,7 +50,6 @@ impl ScriptReader {
         ScriptReader {
             many,
             begun: false,
-            asks: 0,
             conf: ResolvConf::new(alloc),
             words: WordList::new(alloc),
             lanes: Lanes::new(alloc),
@@ -63,7 +60,7 @@ impl ScriptReader {
     fn conf_line(&mut self, text: &str) -> Result<(), LineFault>
         ensures { MakesBy result self.new (TakesConf text.now self.old) }
     {
-        if self.begun || !takes_conf(text) {
+        if self.begun {
             return Err(LineFault::Refused);
         }
         match self.conf.script_conf_line(text) {
@@ -88,15 +85,11 @@ impl ScriptReader {
         let mut words = Words::of(text);
         let event = event(alloc, &mut words)?;
         words.end()?;
-        check_what(self.asks, &self.conf, &event.what)?;
+        check_what(&event.what)?;
         let Some(lane) = &mut self.lane else {
             return Err(LineFault::Refused);
         };
-        let asked = matches!(event.what, What::Ask { .. });
         lane.push(event)?;
-        if asked {
-            self.asks += 1;
-        }
         self.begun = true;
         Ok(())
     }
