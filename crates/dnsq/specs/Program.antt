@@ -1,5 +1,5 @@
 -- What the program writes for an input.
-use Rattle.std.specs.Prelude.{◌≡◌, ◌≢◌, ◌<◌, ℕ, List, [], ◌∷◌, ◌++◌, length, take, Option, Some, None, false, codes}
+use Rattle.std.specs.Prelude.{◌≡◌, ◌≢◌, ◌<◌, ℕ, List, [], ◌∷◌, ◌++◌, length, take, Option, Some, None, Ok, Err, false, codes}
 use Rattle.std.specs.Fmt.{decimal}
 use Rattle.dns_values.specs.Sink.{with_octets}
 use Rattle.client_request.specs.Words.{listed}
@@ -9,6 +9,14 @@ use Rattle.client_core.specs.Whole.{plain_trace}
 use Rattle.dns_script.specs.ScriptReading.{IsScript, RefusesLine}
 use Rattle.dns_script.specs.TraceText.{trace_text_of}
 use Rattle.dns_script.specs.declared.script.Script.{Script}
+use Rattle.resolv_conf.specs.Conf.{default_options, finalized}
+use Rattle.resolv_conf.specs.Parse.{ParseAnswers}
+use Rattle.resolv_conf.specs.Show.{conf_text}
+use Rattle.resolv_conf.specs.declared.conf.ResolvConf.{ResolvConf}
+use Rattle.resolv_conf.specs.declared.error.Error.TheVariants as conf_errors
+use Rattle.resolv_conf.specs.declared.error.IoFault.TheVariants as io_faults
+use Rattle.dnsq.specs.declared.usage.Command.{Command}
+use Rattle.dnsq.specs.declared.usage.Command.TheVariants.{Replay, Conf}
 use Rattle.dnsq.specs.declared.ending.Ending.{Ending}
 use Rattle.dnsq.specs.declared.ending.Ending.TheVariants.{Says, Silent}
 
@@ -29,21 +37,45 @@ pub record IsReplayed (text out : List ℕ) : Type 0 where
   pub plain : rows_of script ≡ Some rows
   pub says : out ≡ trace_text_of rows
 
--- The text is no script that is taken, and this line says why.
-pub data IsRefused (text : List ℕ) (line : List ℕ) : Type 0 where
-  is_too_long : 16777216 < length text → line ≡ codes "input too long\n" → IsRefused text line
-  has_bad_line : (n : ℕ) → RefusesLine false text n → line ≡ codes "line " ++ decimal n ++ codes " refused\n" → IsRefused text line
+-- before the first line of a configuration
+abbrev pub no_conf : ResolvConf
+no_conf = record { servers = []; options = default_options }
+
+-- The text is a configuration, and these octets are the printing of what it says, finalized.
+pub record IsConfigured (text out : List ℕ) : Type 0 where
+  pub conf : ResolvConf
+  pub parses : ParseAnswers text no_conf (Ok tt) conf
+  pub says : out ≡ conf_text (finalized conf)
+
+abbrev pub IsOutput : Command → (text out : List ℕ) → Type 0
+IsOutput Replay text out = IsReplayed text out
+IsOutput Conf text out = IsConfigured text out
+
+-- Line n of a configuration is the first that is outside the grammar, or isn't UTF-8.
+pub data RefusesConfLine (text : List ℕ) (n : ℕ) : Type 0 where
+  outside_the_grammar : (conf : ResolvConf) → ParseAnswers text no_conf (Err (conf_errors.ParseError n)) conf → RefusesConfLine text n
+  not_utf8 : (conf : ResolvConf) → ParseAnswers text no_conf (Err (conf_errors.Io (io_faults.NotUtf8 n))) conf → RefusesConfLine text n
+
+abbrev pub RefusesLineOf : Command → (text : List ℕ) → ℕ → Type 0
+RefusesLineOf Replay text n = RefusesLine false text n
+RefusesLineOf Conf text n = RefusesConfLine text n
+
+-- The text is not taken, and this line says why.
+pub data IsRefused (command : Command) (text : List ℕ) (line : List ℕ) : Type 0 where
+  is_too_long : 16777216 < length text → line ≡ codes "input too long\n" → IsRefused command text line
+  has_bad_line : (n : ℕ) → RefusesLineOf command text n → line ≡ codes "line " ++ decimal n ++ codes " refused\n" → IsRefused command text line
 
 -- The text is a script in whose replay a number would pass 64 bits.
-pub record StopsForNumbers (text : List ℕ) : Type 0 where
+pub record StopsForNumbers (command : Command) (text : List ℕ) : Type 0 where
+  pub replays : command ≡ Replay
   pub script : Script
   pub is_script : IsScript false text script
   pub stops : rows_of script ≡ None
 
 -- The output of the text is written whole.
-pub record IsDelivered (text : List ℕ) (before after : Option (List ℕ)) : Type 0 where
+pub record IsDelivered (command : Command) (text : List ℕ) (before after : Option (List ℕ)) : Type 0 where
   pub out : List ℕ
-  pub replayed : IsReplayed text out
+  pub output : IsOutput command text out
   pub written : after ≡ with_octets out before
 
 -- These octets are written, or the first of them.

@@ -3,7 +3,7 @@ use Rattle.std.specs.Prelude.{ℕ, ◌==◌, Bool, if◌then◌else◌, List, []
 use Rattle.std.specs.Cmp.Lexicographic.{pointwise}
 use Rattle.std.specs.String.{String, string_bytes}
 use Rattle.dnsq.specs.declared.usage.Command.{Command}
-use Rattle.dnsq.specs.declared.usage.Command.TheVariants.{Replay}
+use Rattle.dnsq.specs.declared.usage.Command.TheVariants.{Replay, Conf}
 
 -- a word is this text
 abbrev pub is_word : List ℕ → String → Bool
@@ -12,5 +12,5 @@ is_word text word = pointwise ◌==◌ (string_bytes word) text
 -- the command of the words
 abbrev pub command_of : List String → Option Command
 command_of [] = None
-command_of (word ∷ []) = if is_word (codes "replay") word then Some Replay else None
+command_of (word ∷ []) = if is_word (codes "replay") word then Some Replay else if is_word (codes "conf") word then Some Conf else None
 command_of (word ∷ next ∷ words) = None

@@ -1,7 +1,10 @@
 //! The program `dnsq`: it replays scripts of events.
 #![tactic(auto)]
 
+mod configure;
 mod ending;
+mod lines;
+mod replay;
 mod run;
 mod statuses;
 #[cfg(test)]

@@ -6,7 +6,10 @@ ghost use Rattle.dnsq.specs.Words.{command_of};
 /// What the words ask for.
 #[derive(Clone, Copy, Debug, PartialEq, Eq)]
 pub enum Command {
+    /// Replays a script.
     Replay,
+    /// Reads a configuration, finalizes it and prints it.
+    Conf,
 }
 
 /// What is written where the words are no command.
@@ -18,6 +21,7 @@ pub fn command_of(words: &[String]) -> Option<Command>
 {
     match words {
         [word] if word.as_bytes() == b"replay".as_slice() => Some(Command::Replay),
+        [word] if word.as_bytes() == b"conf".as_slice() => Some(Command::Conf),
         _ => None,
     }
 }
