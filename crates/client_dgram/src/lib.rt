@@ -13,10 +13,16 @@
 mod config;
 mod connection;
 mod job;
+mod list_sockets;
+mod sockets;
 mod tables;
+#[cfg(test)]
+mod tests;
 
 pub use client_request::{QueryError, QueryErrorKind};
 pub use config::Config;
 pub use connection::{Connection, Request};
 pub use job::{Job, Stage};
+pub use list_sockets::{ListConnect, ListDgram};
+pub use sockets::{Connect, DgramRecv, DgramSend};
 pub use tables::Tables;

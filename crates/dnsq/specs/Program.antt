@@ -9,7 +9,8 @@ use Rattle.client_core.specs.Whole.{plain_trace}
 use Rattle.dns_script.specs.ScriptReading.{IsScript, RefusesLine}
 use Rattle.dns_script.specs.TraceText.{trace_text_of}
 use Rattle.dns_script.specs.declared.script.Script.{Script}
-use Rattle.resolv_conf.specs.Conf.{default_options, finalized}
+use Rattle.resolv_conf.specs.Conf.{default_options}
+use Rattle.resolv_conf.specs.Final.{finalized}
 use Rattle.resolv_conf.specs.Parse.{ParseAnswers}
 use Rattle.resolv_conf.specs.Show.{conf_text}
 use Rattle.resolv_conf.specs.declared.conf.ResolvConf.{ResolvConf}
