@@ -24,10 +24,10 @@ pub fn configure<S: Source>(alloc: Global, source: &mut S) -> Result<Vec<u8>, En
     match conf.parse(alloc, source) {
         Ok(()) => {}
         Err(Error::ParseError(line)) => {
-            return Err(Ending::Says(REFUSED, refused_line(alloc, line)?));
+            return Err(refused_line(alloc, line));
         }
         Err(Error::Io(IoFault::NotUtf8(line))) => {
-            return Err(Ending::Says(REFUSED, refused_line(alloc, line)?));
+            return Err(refused_line(alloc, line));
         }
         Err(Error::Io(IoFault::Read)) => return Err(Ending::Silent(SOURCE_FAULT)),
         Err(Error::TooLong) => return Err(says(alloc, REFUSED, "input too long\n")),

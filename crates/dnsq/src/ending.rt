@@ -1,5 +1,7 @@
 //! How a command ends before its output is written.
 
+ghost use Rattle.std.specs.Prelude.{◌≡◌};
+
 use crate::statuses::NO_MEMORY;
 use dns_base::{NoMemory, Status};
 use std::alloc::AllocError;
@@ -13,12 +15,20 @@ pub enum Ending {
 }
 
 impl From<AllocError> for Ending {
+    ghost use Rattle.dnsq.specs.declared.ending.Ending.{Ending};
+
+    ghost from_gives = { λ _ e. e ≡ Ending.Silent (record { 0 = 6 }) };
+
     fn from(_error: AllocError) -> Ending {
         Ending::Silent(NO_MEMORY)
     }
 }
 
 impl From<NoMemory> for Ending {
+    ghost use Rattle.dnsq.specs.declared.ending.Ending.{Ending};
+
+    ghost from_gives = { λ _ e. e ≡ Ending.Silent (record { 0 = 6 }) };
+
     fn from(_error: NoMemory) -> Ending {
         Ending::Silent(NO_MEMORY)
     }

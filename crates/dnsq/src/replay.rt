@@ -3,15 +3,15 @@
 ghost use Rattle.std.specs.Prelude.{◌≡◌, ◌≢◌, [], false, codes, Some, None, IfSome, IfOk, IfErr};
 ghost use Rattle.dns_values.specs.Source.{Rose};
 ghost use Rattle.dns_script.specs.ScriptReading.{IsScript};
-ghost use Rattle.dnsq.specs.Program.{rows_of, IsReplayed, IsRefused, StopsForNumbers, IsEarly, status_of, line_of};
+ghost use Rattle.dnsq.specs.Program.{first_lane, rows_of, IsReplayed, IsRefused, StopsForNumbers, IsEarly, status_of, line_of};
 
 use crate::ending::Ending;
 use crate::lines::{refused_line, says};
 use crate::statuses::{NO_MEMORY, NUMBERS_USED, REFUSED, SOURCE_FAULT};
 use crate::usage::Command;
 use client_core::Client;
-use client_request::{Error, ListWords, Trace};
-use dns_script::{Script, ScriptFault, read_script, trace_text};
+use client_request::{Error, Event, ListWords, Trace};
+use dns_script::{Lanes, Script, ScriptFault, read_script, trace_text};
 use dns_values::{ReadFault, Source, read_to_end};
 use std::alloc::Global;
 
@@ -19,6 +19,7 @@ use std::alloc::Global;
 pub const MOST_OCTETS: usize = 16_777_216;
 
 /// The octets of an input, to its end.
+#[tactic(auto, using(crate::proofs::Refusals::too_long_line))]
 fn input<S: Source>(alloc: Global, source: &mut S) -> Result<Vec<u8>, Ending>
     ensures whole { IfOk result (λ v. IfSome (S.left source.old) (λ text. (v.items ≡ text) × (S.left source.new ≡ Some []))) }
     ensures early { IfErr result IsEarly }
@@ -43,8 +44,18 @@ fn script_of(alloc: Global, text: &[u8]) -> Result<Script, Ending>
 {
     match read_script(alloc, text, false) {
         Ok(script) => Ok(script),
-        Err(ScriptFault::Line(line)) => Err(Ending::Says(REFUSED, refused_line(alloc, line)?)),
+        Err(ScriptFault::Line(line)) => Err(refused_line(alloc, line)),
         Err(ScriptFault::NoMemory) => Err(Ending::Silent(NO_MEMORY)),
+    }
+}
+
+/// The events of the first lane.
+fn first_lane(lanes: &Lanes) -> &[Event]
+    ensures { result.now ≡ first_lane lanes.now }
+{
+    match lanes.as_slice() {
+        [] => &[],
+        [events, ..] => events.as_slice(),
     }
 }
 
@@ -63,11 +74,14 @@ fn trace_of(alloc: Global, script: Script) -> Result<Trace, Ending>
         lanes,
     } = script;
     let mut words = ListWords::new(words);
-    let events = match lanes.as_slice() {
-        [events, ..] => events.as_slice(),
-        [] => [].as_slice(),
-    };
-    match Client::replay(alloc, &conf, redundant, cache, &mut words, events) {
+    match Client::replay(
+        alloc,
+        &conf,
+        redundant,
+        cache,
+        &mut words,
+        first_lane(&lanes),
+    ) {
         Ok(trace) => Ok(trace),
         Err(Error::NumbersUsed) => Err(says(alloc, NUMBERS_USED, "numbers used\n")),
         Err(_) => Err(Ending::Silent(NO_MEMORY)),
