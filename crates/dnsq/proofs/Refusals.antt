@@ -1,5 +1,5 @@
 -- Why an input is refused.
-use Rattle.std.proofs.Common.{◌≡◌, ℕ, ◌<◌, List, ◌++◌, length, false, Option, None, Some, Err, subst}
+use Rattle.std.proofs.Common.{◌≡◌, ℕ, ◌<◌, List, ◌++◌, length, [], false, Option, None, Some, Err, subst}
 use Rattle.std.specs.Prelude.{IfSome, codes}
 use Rattle.std.specs.Fmt.{decimal}
 use Rattle.dns_script.specs.ScriptReading.{RefusesLine}
@@ -7,7 +7,7 @@ use Rattle.resolv_conf.specs.Parse.{ParseAnswers}
 use Rattle.resolv_conf.specs.declared.conf.ResolvConf.{ResolvConf}
 use Rattle.resolv_conf.specs.declared.error.Error.TheVariants as errors
 use Rattle.resolv_conf.specs.declared.error.IoFault.TheVariants as faults
-use Rattle.dnsq.specs.Program.{IsRefused, is_too_long, has_bad_line, outside_the_grammar, not_utf8, no_conf, line_of}
+use Rattle.dnsq.specs.Program.{IsRefused, is_too_long, has_bad_line, outside_the_grammar, not_utf8, no_conf, line_of, status_of}
 use Rattle.dnsq.specs.declared.ending.Ending.{Ending}
 use Rattle.dnsq.specs.declared.usage.Command.{Command}
 use Rattle.dnsq.specs.declared.usage.Command.TheVariants.{Replay, Conf}
@@ -33,3 +33,12 @@ pub bad_conf_text : (told : Option (List ℕ)) (old conf : ResolvConf) (e : Endi
 bad_conf_text None old conf e n begins h is = h
 bad_conf_text (Some text) old conf e n begins h is =
     has_bad_line n (not_utf8 conf (subst (λ (c : ResolvConf). ParseAnswers text c (Err (errors.Io (faults.NotUtf8 n))) conf) begins h)) is
+
+-- the octets read are what the source had
+pub told_refusal : (told after : Option (List ℕ)) (octets : List ℕ) (e : Ending)
+    → IfSome told (λ text. (octets ≡ text) × (after ≡ Some []))
+    → (status_of e ≡ 1 → IsRefused Replay octets (line_of e))
+    → status_of e ≡ 1 → IfSome told (λ text. IsRefused Replay text (line_of e))
+told_refusal None after octets e whole h is_one = whole
+told_refusal (Some text) after octets e whole h is_one =
+    subst (λ (xs : List ℕ). IsRefused Replay xs (line_of e)) whole.0 (h is_one)

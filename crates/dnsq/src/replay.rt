@@ -89,6 +89,7 @@ fn trace_of(alloc: Global, script: Script) -> Result<Trace, Ending>
 }
 
 /// The text of the trace of the script that a source gives.
+#[tactic(auto, using(crate::proofs::Refusals::told_refusal))]
 pub fn replay<S: Source>(alloc: Global, source: &mut S) -> Result<Vec<u8>, Ending>
     ensures done { IfOk result (λ v. IfSome (S.left source.old) (λ text. IsReplayed text v.items × (S.left source.new ≡ Some []))) }
     ensures early { IfErr result IsEarly }
@@ -97,7 +98,10 @@ pub fn replay<S: Source>(alloc: Global, source: &mut S) -> Result<Vec<u8>, Endin
     ensures numbers { IfErr result (λ e. status_of e ≡ 7 → IfSome (S.left source.old) (λ text. StopsForNumbers Command.Replay text × (line_of e ≡ codes "numbers used\n"))) }
 {
     let text = input(alloc, source)?;
-    let script = script_of(alloc, &text)?;
+    let script = match script_of(alloc, &text) {
+        Ok(script) => script,
+        Err(ending) => return Err(ending),
+    };
     let trace = trace_of(alloc, script)?;
     Ok(trace_text(alloc, &trace)?)
 }

@@ -33,6 +33,14 @@ fn deliver<K: Sink>(sink: &mut K, text: &[u8]) -> Status
     }
 }
 
+/// Writes a line, as far as the sink takes it.
+#[tactic(auto, using(crate::proofs::Delivery::begun))]
+fn begin<K: Sink>(sink: &mut K, line: &[u8])
+    ensures begun { IsBegun line.now (K.held sink.old) (K.held sink.new) }
+{
+    let _ = write_all(sink, line);
+}
+
 /// What a command makes of its input.
 fn output<S: Source>(alloc: Global, command: Command, source: &mut S) -> Result<Vec<u8>, Ending>
     ensures done { IfOk result (λ v. IfSome (S.left source.old) (λ text. IsOutput command text v.items × (S.left source.new ≡ Some []))) }
@@ -50,6 +58,7 @@ fn output<S: Source>(alloc: Global, command: Command, source: &mut S) -> Result<
 /// Does what the words ask for, on a source and a sink, and answers the exit status.
 ///
 /// `edge`, `clock` and `random` serve the commands that ask real servers.
+#[tactic(auto, using(crate::proofs::Delivery::begun_refusal))]
 pub fn run_alone<S: Source, K: Sink, E: Edge, C: Clock, W: Words>(
     alloc: Global,
     words: &[String],
@@ -74,7 +83,7 @@ pub fn run_alone<S: Source, K: Sink, E: Edge, C: Clock, W: Words>(
         Ok(text) => deliver(sink, &text),
         Err(Ending::Silent(status)) => status,
         Err(Ending::Says(status, line)) => {
-            let _ = write_all(sink, &line);
+            begin(sink, &line);
             status
         }
     }
