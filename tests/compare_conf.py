@@ -1,12 +1,11 @@
 #!/usr/bin/env python3
 """Compares `dnsq conf` with a reference client on random and mangled configurations.
 
-    tests/compare_conf.py REFERENCE_FOLDER [COUNT [SEED]]
+    python3 tests/compare_conf.py REFERENCE_FOLDER PROGRAM [COUNT [SEED]]
 
-The reference is run as `python3 -m plain.dnsq conf` in REFERENCE_FOLDER, the program as
-`./run conf` at the top of this repository. Both are given the same octets, and have to write the
-same and end with the same status. The first difference is printed with its input, and ends the
-comparison with status 1.
+REFERENCE_FOLDER holds the package `plain`; PROGRAM is the built dnsq. Without the folder nothing is
+compared, and that is said. Both are given the same octets, and have to write the same and end with the
+same status. The first difference is printed with its input, and ends the comparison with status 1.
 """
 
 import random
@@ -104,16 +103,19 @@ def answer(command, folder, octets):
 
 
 def main():
-    if len(sys.argv) < 2:
+    if len(sys.argv) < 3:
         sys.exit(__doc__)
-    reference = sys.argv[1]
-    count = int(sys.argv[2]) if len(sys.argv) > 2 else 300
-    seed = int(sys.argv[3]) if len(sys.argv) > 3 else 1
+    reference, program = sys.argv[1], Path(sys.argv[2]).resolve()
+    count = int(sys.argv[3]) if len(sys.argv) > 3 else 2000
+    seed = int(sys.argv[4]) if len(sys.argv) > 4 else 1
+    if not (Path(reference) / "plain").is_dir():
+        print("skipped: there is no reference client")
+        return 0
     taken = 0
     for i in range(count):
         octets = configuration(random.Random(seed * 1000003 + i))
         want = answer([sys.executable, "-m", "plain.dnsq", "conf"], reference, octets)
-        have = answer([str(ROOT / "run"), "conf"], ROOT, octets)
+        have = answer([str(program), "conf"], ROOT, octets)
         if have != want:
             print(f"configuration {i} of seed {seed}: {octets!r}\nreference: {want!r}\nprogram:   {have!r}")
             return 1

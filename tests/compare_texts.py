@@ -8,6 +8,7 @@ COUNT texts (20000 if it is left out) with one octet changed, left out or put in
 trace are compared as a script.
 """
 
+import os
 import random
 import subprocess
 import sys
@@ -52,7 +53,12 @@ def main():
     if "--" in words:
         count = int(words[words.index("--") + 1])
         words = words[:words.index("--")]
+    if len(words) < 3:
+        sys.exit(__doc__)
     folder, program, names = words[0], words[1], words[2:]
+    if not os.path.isdir(os.path.join(folder, "plain")):
+        print("skipped: there is no reference client")
+        return
     sys.path.insert(0, folder)
     from plain import script as module
     texts = []
