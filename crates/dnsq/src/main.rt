@@ -18,13 +18,20 @@ use run::run_alone;
 use std::alloc::{AllocError, Global};
 use std::collections::VecDeque;
 use std::env;
+use std::io::ErrorKind;
 use std::process::ExitCode;
 
-/// The words of the command line, without the program's own name.
+/// The words of the command line, without the program's own name; none where one of them is not UTF-8.
 fn words_of(rt: &HostRuntime) -> Result<Vec<String>, AllocError> {
     let mut words = Vec::new(rt.alloc());
-    let Ok(args) = env::args(rt) else {
-        return Ok(words);
+    let args = match env::args(rt) {
+        Ok(args) => args,
+        Err(error) => {
+            return match error.kind() {
+                ErrorKind::OutOfMemory => Err(AllocError),
+                _ => Ok(words),
+            };
+        }
     };
     for word in args.skip(1) {
         words.push(word)?;
