@@ -78,7 +78,7 @@ def main():
             cases.append((changed(rng, script_of(text)), True))
     wrong = 0
     for text, script in cases:
-        want = expected(module, text, script, 1)
+        want = expected(module, text, script, 3)
         got = answer(program, text, script)
         if want != got:
             wrong += 1
