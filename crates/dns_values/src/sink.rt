@@ -1,6 +1,6 @@
 //! Where octets are written to.
 
-ghost use Rattle.std.specs.Prelude.{◌≡◌, ℕ, ◌<◌, ◌≤◌, List, [], ◌++◌, take, length, Option, Some, true, false, IfOk, IfErr, OnOk, OnErr, MatchResult, IsOk, if◌then◌else◌};
+ghost use Rattle.std.specs.Prelude.{◌≡◌, ℕ, ◌<◌, ◌≤◌, List, [], ◌++◌, take, length, Option, Some, true, false, IfOk, IfErr, OnOk, OnErr, MatchResult, IsOk, if◌then◌else◌, ◌||◌};
 ghost use Rattle.dns_values.specs.Source.{Rose, one_more, is_listed};
 ghost use Rattle.dns_values.specs.Sink.{with_octets, SinkInMemory};
 
@@ -117,6 +117,7 @@ impl Sink for MemSink {
         ensures fails { MatchResult result (λ _. is_listed self.old.calls self.old.fails ≡ false)
             (λ e. e ≡ SinkFault.Failed → is_listed self.old.calls self.old.fails ≡ true) }
         ensures whole { IfOk result (λ n. n ≡ (if is_listed self.old.calls self.old.takes_nothing then 0 else length buf.now)) }
+        ensures counted { self.new.faults ≡ (if is_listed self.old.calls self.old.fails || is_listed self.old.calls self.old.takes_nothing then one_more self.old.faults else self.old.faults) }
         ensures calls { self.new.calls ≡ one_more self.old.calls }
         ensures same_fails { self.new.fails ≡ self.old.fails }
         ensures same_takes_nothing { self.new.takes_nothing ≡ self.old.takes_nothing }
@@ -141,6 +142,7 @@ impl Sink for MemSink {
         ensures failed { OnErr result (Rose self.old.faults self.new.faults) }
         ensures fails { MatchResult result (λ _. is_listed self.old.calls self.old.fails ≡ false)
             (λ _. is_listed self.old.calls self.old.fails ≡ true) }
+        ensures counted { self.new.faults ≡ (if is_listed self.old.calls self.old.fails then one_more self.old.faults else self.old.faults) }
         ensures calls { self.new.calls ≡ one_more self.old.calls }
         ensures same_fails { self.new.fails ≡ self.old.fails }
         ensures same_takes_nothing { self.new.takes_nothing ≡ self.old.takes_nothing }

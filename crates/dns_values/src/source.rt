@@ -1,6 +1,6 @@
 //! Where octets are read from.
 
-ghost use Rattle.std.specs.Prelude.{◌≡◌, ℕ, ◌+◌, ◌-◌, ◌<◌, ◌≤◌, min, List, [], ◌++◌, take, drop, length, Option, Some, None, true, false, IsOk, IfOk, IfErr, OnOk, OnErr, IfSome, MatchResult};
+ghost use Rattle.std.specs.Prelude.{◌≡◌, ℕ, ◌+◌, ◌-◌, ◌<◌, ◌≤◌, min, List, [], ◌++◌, take, drop, length, Option, Some, None, true, false, IsOk, IfOk, IfErr, OnOk, OnErr, IfSome, MatchResult, if◌then◌else◌};
 ghost use Rattle.dns_values.specs.Source.{Rose, one_more, is_listed, after_octets, SourceInMemory};
 
 use crate::error::{Failed, NoMemory};
@@ -77,6 +77,7 @@ impl Source for MemSource {
         ensures fails { MatchResult result (λ _. is_listed self.old.calls self.old.fails ≡ false)
             (λ _. is_listed self.old.calls self.old.fails ≡ true) }
         ensures full { IfOk result (λ n. n ≡ min (length buf.old) (length self.old.rest)) }
+        ensures counted { self.new.faults ≡ (if is_listed self.old.calls self.old.fails then one_more self.old.faults else self.old.faults) }
         ensures calls { self.new.calls ≡ one_more self.old.calls }
         ensures same { self.new.fails ≡ self.old.fails }
     {

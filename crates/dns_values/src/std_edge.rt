@@ -1,7 +1,10 @@
 //! The standard library's readers and writers as sources and sinks.
 
-ghost use Rattle.std.specs.Prelude.{◌≡◌, ℕ, None};
-ghost use Rattle.dns_values.specs.Source.{one_more};
+ghost use Rattle.std.specs.Prelude.{◌≡◌, ◌≤◌, ◌<◌, None, length, IfOk, IfErr, OnErr, MatchResult, if◌then◌else◌, ◌&&◌, ◌==◌, nat_lt};
+ghost use Rattle.std.specs.Io.KnownBytes.{ReadConsumes, WriteAppends, Keeps};
+ghost use Rattle.dns_values.specs.Source.{Rose, one_more};
+ghost use Rattle.dns_values.specs.declared.sink.SinkFault.{SinkFault};
+ghost use Rattle.dns_values.specs.StdEdge.{Counted};
 
 use crate::error::Failed;
 use crate::sink::{Sink, SinkFault};
@@ -9,7 +12,8 @@ use crate::source::Source;
 use std::io::{Read, Write};
 use std::marker::Model;
 
-/// A reader as a source. It counts its faults and tells nothing of its octets.
+/// A reader as a source. It hands on what the reader gives, counts the faults, and as a source tells nothing of its
+/// octets.
 #[derive(Drop)]
 pub struct StdSource<R: Read> {
     reader: R,
@@ -17,14 +21,14 @@ pub struct StdSource<R: Read> {
 }
 
 impl<R: Read> Model for StdSource<R> {
-    ghost Value = { ℕ };
+    ghost Value = { Counted R };
 
-    ghost view = { λ s. s.faults };
+    ghost view = { λ s. record { inner = s.reader; faults = s.faults } };
 }
 
 impl<R: Read> StdSource<R> {
     pub fn new(reader: R) -> StdSource<R>
-        ensures { result ≡ 0 }
+        ensures { result ≡ record { inner = reader; faults = 0 } }
     {
         StdSource { reader, faults: 0 }
     }
@@ -33,9 +37,15 @@ impl<R: Read> StdSource<R> {
 impl<R: Read> Source for StdSource<R> {
     ghost left = { λ _. None };
 
-    ghost faults = { λ s. s };
+    ghost faults = { λ s. s.faults };
 
-    fn read(&mut self, buf: &mut [u8]) -> Result<usize, Failed> {
+    fn read(&mut self, buf: &mut [u8]) -> Result<usize, Failed>
+        ensures within { IfOk result (λ n. n ≤ length buf.old) }
+        ensures bytes { ReadConsumes (R.remaining self.old.inner) (R.remaining self.new.inner) result buf.new }
+        ensures count { self.old.faults ≤ self.new.faults }
+        ensures failed { OnErr result (Rose self.old.faults self.new.faults) }
+        ensures counted { MatchResult result (λ _. self.new.faults ≡ self.old.faults) (λ _. self.new.faults ≡ one_more self.old.faults) }
+    {
         match self.reader.read(buf) {
             Ok(n) => Ok(n),
             Err(_) => {
@@ -46,7 +56,7 @@ impl<R: Read> Source for StdSource<R> {
     }
 }
 
-/// A writer as a sink. It counts its faults and tells nothing of its octets.
+/// A writer as a sink. It hands on to the writer, counts the faults, and as a sink tells nothing of its octets.
 #[derive(Drop)]
 pub struct StdSink<W: Write> {
     writer: W,
@@ -54,14 +64,14 @@ pub struct StdSink<W: Write> {
 }
 
 impl<W: Write> Model for StdSink<W> {
-    ghost Value = { ℕ };
+    ghost Value = { Counted W };
 
-    ghost view = { λ s. s.faults };
+    ghost view = { λ s. record { inner = s.writer; faults = s.faults } };
 }
 
 impl<W: Write> StdSink<W> {
     pub fn new(writer: W) -> StdSink<W>
-        ensures { result ≡ 0 }
+        ensures { result ≡ record { inner = writer; faults = 0 } }
     {
         StdSink { writer, faults: 0 }
     }
@@ -70,9 +80,18 @@ impl<W: Write> StdSink<W> {
 impl<W: Write> Sink for StdSink<W> {
     ghost held = { λ _. None };
 
-    ghost faults = { λ s. s };
+    ghost faults = { λ s. s.faults };
 
-    fn write(&mut self, buf: &[u8]) -> Result<usize, SinkFault> {
+    fn write(&mut self, buf: &[u8]) -> Result<usize, SinkFault>
+        ensures within { IfOk result (λ n. n ≤ length buf.now) }
+        ensures bytes { WriteAppends (W.contents self.old.inner) (W.contents self.new.inner) result buf.now }
+        ensures count { self.old.faults ≤ self.new.faults }
+        ensures failed { OnErr result (Rose self.old.faults self.new.faults) }
+        ensures needs_no_memory { IfErr result (λ e. e ≡ SinkFault.Failed) }
+        ensures nothing_taken { IfOk result (λ n. n ≡ 0 → 0 < length buf.now → Rose self.old.faults self.new.faults) }
+        ensures counted { MatchResult result (λ n. self.new.faults ≡ (if n == 0 && nat_lt 0 (length buf.now) then one_more self.old.faults else self.old.faults))
+            (λ _. self.new.faults ≡ one_more self.old.faults) }
+    {
         match self.writer.write(buf) {
             Ok(n) => {
                 if n == 0 && !buf.is_empty() {
@@ -87,7 +106,12 @@ impl<W: Write> Sink for StdSink<W> {
         }
     }
 
-    fn flush(&mut self) -> Result<(), Failed> {
+    fn flush(&mut self) -> Result<(), Failed>
+        ensures bytes { Keeps (W.contents self.old.inner) (W.contents self.new.inner) }
+        ensures count { self.old.faults ≤ self.new.faults }
+        ensures failed { OnErr result (Rose self.old.faults self.new.faults) }
+        ensures counted { MatchResult result (λ _. self.new.faults ≡ self.old.faults) (λ _. self.new.faults ≡ one_more self.old.faults) }
+    {
         match self.writer.flush() {
             Ok(()) => Ok(()),
             Err(_) => {

@@ -99,7 +99,22 @@ mod tests {
     use crate::sink::{MemSink, SureSink};
     use crate::source::{MemSource, SureSource};
     use crate::std_edge::{StdSink, StdSource};
+    use std::io;
     use std::test::Fail;
+
+    /// A writer that keeps what it takes and fails to hand it on.
+    #[derive(Drop)]
+    struct Stuck;
+
+    impl io::Write for Stuck {
+        fn write(&mut self, buf: &[u8]) -> io::Result<usize> {
+            Ok(buf.len())
+        }
+
+        fn flush(&mut self) -> io::Result<()> {
+            Err(io::ErrorKind::Other.into())
+        }
+    }
 
     fn calls(alloc: Global, numbers: &[u64]) -> Result<Vec<u64>, AllocError> {
         Vec::from_slice(alloc, numbers)
@@ -161,6 +176,14 @@ mod tests {
         assert!(rt; write_all(&mut sink, &read).is_ok() && sink.flush().is_ok());
         // Two octets more than there is room for: one is taken, and then none.
         assert_eq!(rt; write_all(&mut sink, b"xy"), Err(SinkFault::Failed));
+        Ok(())
+    }
+
+    #[test]
+    fn a_writer_that_is_not_flushed_is_told(rt: HostRuntime) -> Result<(), Fail> {
+        let mut sink = StdSink::new(Stuck);
+        assert_eq!(rt; write_all(&mut sink, b"dns"), Ok(()));
+        assert_eq!(rt; sink.flush(), Err(Failed));
         Ok(())
     }
 }
