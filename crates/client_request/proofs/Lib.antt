@@ -1,3 +1,4 @@
 pub mod Options
 pub mod Writable
 pub mod Carrying
+pub mod Limiting

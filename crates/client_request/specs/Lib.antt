@@ -11,3 +11,4 @@ pub mod Cx
 pub mod Response
 pub mod Composing
 pub mod Limits
+pub mod Copies

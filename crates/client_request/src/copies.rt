@@ -1,6 +1,7 @@
 //! Copies of events and outs.
 
-ghost use Rattle.std.specs.Prelude.{◌≡◌, IfOk};
+ghost use Rattle.std.specs.Prelude.{◌≡◌, false, IfOk, IsOk};
+ghost use Rattle.client_request.specs.Copies.{came_with_octets, has_octets};
 
 use crate::compose::ComposeRequest;
 use crate::event::{Event, Out, What};
@@ -8,9 +9,10 @@ use dns_base::NoMemory;
 use std::alloc::Global;
 
 impl What {
-    /// The same once more.
+    /// The same once more. Where it has no octets, that takes no memory.
     pub fn try_clone(&self, alloc: Global) -> Result<What, NoMemory>
-        ensures { IfOk result (λ copy. copy ≡ self.now) }
+        ensures same { IfOk result (λ copy. copy ≡ self.now) }
+        ensures plain { came_with_octets self.now ≡ false → IsOk result }
     {
         match self {
             What::Ask { request } => {
@@ -64,9 +66,10 @@ impl What {
 }
 
 impl Event {
-    /// The same once more.
+    /// The same once more. Where it has no octets, that takes no memory.
     pub fn try_clone(&self, alloc: Global) -> Result<Event, NoMemory>
-        ensures { IfOk result (λ copy. copy ≡ self.now) }
+        ensures same { IfOk result (λ copy. copy ≡ self.now) }
+        ensures plain { came_with_octets self.now.what ≡ false → IsOk result }
     {
         let what = self.what.try_clone(alloc)?;
         Ok(Event {
@@ -77,9 +80,10 @@ impl Event {
 }
 
 impl Out {
-    /// The same once more.
+    /// The same once more. Where it has no octets, that takes no memory.
     pub fn try_clone(&self) -> Result<Out, NoMemory>
-        ensures { IfOk result (λ copy. copy ≡ self.now) }
+        ensures same { IfOk result (λ copy. copy ≡ self.now) }
+        ensures plain { has_octets self.now ≡ false → IsOk result }
     {
         match self {
             Out::Start {

@@ -1,44 +1,34 @@
-//! Requests: a base message with the header and the OPT record that are recorded beside it.
+//! Requests that one message answers.
 
-ghost use Rattle.std.specs.Prelude.{◌≡◌, ◌<◌, ◌↔◌, ◌⊎◌, ℕ, slice_index, IfOk, IfErr, IsErrOf, OnErr, IsTrue, Some, None, option_map};
-ghost use Rattle.dns_base.specs.Draft.{fresh};
-ghost use Rattle.dns_base.specs.OptRecord.{OptFields};
+ghost use Rattle.std.specs.Prelude.{◌≡◌, ◌↔◌, IfOk, IfErr, IsErrOf, IsOk, IsTrue, None, false};
 ghost use Rattle.client_request.specs.Request as spec;
 ghost use Rattle.client_request.specs.Carries.{IsOfOctets};
-ghost use Rattle.client_request.specs.Composed.{composed, appended, HoldsNothing};
+ghost use Rattle.client_request.specs.Composed.{composed, appended};
 ghost use Rattle.client_request.specs.declared.error.Error.TheVariants as errors;
 
-use crate::append::append;
 use crate::compose::ComposeRequest;
 use crate::error::{CopyRecordsError, Error};
-use crate::recorded_opt::RecordedOpt;
-use dns_base::{Builder, Header, Message, NoMemory, Opcode, OptRecord, Rtype, is_answer};
+use crate::recorded::Recorded;
+use dns_base::{Builder, Header, Message, NoMemory, Opcode, OptRecord, Rtype};
 use std::alloc::Global;
 use std::marker::Model;
 
-/// A request for one message. What is sent is the base message under the recorded header, with the
-/// recorded OPT record in place of those of its additional section.
+/// A request for one message: no query without a first question that can be read, and none for a whole
+/// zone.
 #[derive(Drop)]
 pub struct RequestMessage {
-    alloc: Global,
-    base: Message,
-    header: Header,
-    opt: Option<RecordedOpt>,
+    recorded: Recorded,
 }
 
 impl Model for RequestMessage {
-    ghost use Rattle.client_request.specs.Request.{Request};
+    ghost use Rattle.std.specs.Prelude.{◌≡◌, false};
+    ghost use Rattle.client_request.specs.Request.{Request, is_misformed};
 
     ghost Value = { Request };
 
-    ghost view = { λ r. record { base = r.base; header = r.header; opt = r.opt } };
-}
+    ghost view = { λ r. r.recorded };
 
-/// Each octet is one.
-fn base_is_of_octets(octets: &[u8])
-    ensures { (i : ℕ) → slice_index octets.now i < 256 }
-{
-    let _octets = octets;
+    ghost invariant = { λ r. is_misformed r.recorded.base ≡ false };
 }
 
 /// Whether the first question is missing, can't be read, or asks for a whole zone.
@@ -65,93 +55,50 @@ impl RequestMessage {
         if is_misformed(&msg) {
             return Err(Error::FormError);
         }
-        Ok(RequestMessage::recorded_from(alloc, msg))
+        Ok(RequestMessage {
+            recorded: Recorded::from_base(alloc, msg),
+        })
     }
 
-    /// A request with the base's own header and no OPT record.
-    pub(crate) fn recorded_from(alloc: Global, base: Message) -> RequestMessage
-        ensures { result ≡ spec.recorded_from base }
-    {
-        let header = base.header();
-        RequestMessage {
-            alloc,
-            base,
-            header,
-            opt: None,
-        }
-    }
-
-    /// The request with another header and another OPT record, or none.
+    /// The request with another header and another OPT record, or none, which takes no memory.
     pub fn with_recorded(
         self,
         header: Header,
         opt: Option<OptRecord<'_>>,
     ) -> Result<RequestMessage, NoMemory>
-        ensures { IfOk result (λ r. r ≡ record { base = self.base; header = header; opt = opt.entry }) }
+        ensures recorded { IfOk result (λ r. r ≡ record { base = self.base; header = header; opt = opt.entry }) }
+        ensures plain { opt.entry ≡ None → IsOk result }
     {
-        let RequestMessage {
-            alloc,
-            base,
-            header: _,
-            opt: _,
-        } = self;
-        let opt = match opt {
-            None => None,
-            Some(opt) => Some(RecordedOpt::of(alloc, &opt)?),
-        };
-        Ok(RequestMessage {
-            alloc,
-            base,
-            header,
-            opt,
-        })
+        let RequestMessage { recorded } = self;
+        let recorded = recorded.with_recorded(header, opt)?;
+        Ok(RequestMessage { recorded })
     }
 
     pub fn base(&self) -> &Message
         ensures { result.now ≡ self.now.base }
     {
-        &self.base
+        self.recorded.base()
     }
 
     /// The parts of a request have the ranges of what they are made of.
     pub fn is_of_octets(&self)
         ensures { IsOfOctets self.now }
     {
-        base_is_of_octets(self.base.as_slice());
-        let _header = self.header.to_octets();
-        match &self.opt {
-            None => {}
-            Some(opt) => opt.is_opt(),
-        }
+        self.recorded.is_of_octets();
+    }
+
+    /// The base is no query that `new` refuses.
+    pub fn may_be_asked(&self)
+        ensures { spec.is_misformed self.now.base ≡ false }
+    {
+        let _recorded = &self.recorded;
     }
 
     pub fn recorded_opt(&self) -> Option<OptRecord<'_>>
         ensures { result ≡ self.now.opt }
     {
-        match &self.opt {
-            None => None,
-            Some(opt) => Some(opt.as_record()),
-        }
+        self.recorded.recorded_opt()
     }
-}
-
-/// The recorded OPT record, which is added where there is none.
-fn opt_or_empty(alloc: Global, opt: Option<RecordedOpt>) -> RecordedOpt
-    ensures { result ≡ spec.opt_or_empty opt }
-{
-    match opt {
-        Some(opt) => opt,
-        None => RecordedOpt::empty(alloc),
-    }
-}
-
-/// A message without entries, which may grow as long as it needs to.
-#[tactic(auto, unfolding(dns_base::specs::Draft::fresh, dns_base::specs::Draft::cleared))]
-fn empty_message(alloc: Global) -> Result<Builder, NoMemory>
-    ensures fresh { IfOk result (λ b. b ≡ fresh None) }
-    ensures empty { IfOk result HoldsNothing }
-{
-    Builder::new(alloc, None)
 }
 
 impl ComposeRequest for RequestMessage {
@@ -178,89 +125,51 @@ impl ComposeRequest for RequestMessage {
     ghost is_full_for = { spec.is_full_for };
 
     fn append_message(&self, target: &mut Builder) -> Result<(), CopyRecordsError> {
-        append(
-            self.alloc,
-            &self.base,
-            self.header,
-            self.recorded_opt(),
-            target,
-        )
+        self.recorded.append_message(target)
     }
 
-    #[tactic(auto, unfolding(crate::specs::Composed::composed))]
     fn to_message(&self) -> Result<Message, Error> {
-        let mut target = empty_message(self.alloc)?;
-        self.append_message(&mut target)?;
-        let message = target.finish()?;
-        Ok(message)
+        self.recorded.to_message()
     }
 
     fn set_id(&mut self, id: u16) {
-        self.header.set_id(id);
+        self.recorded.set_id(id);
     }
 
     fn set_udp_payload_size(&mut self, value: u16) {
-        let mut opt = opt_or_empty(self.alloc, self.opt.take());
-        opt.set_udp_payload_size(value);
-        self.opt = Some(opt);
+        self.recorded.set_udp_payload_size(value);
     }
 
     fn is_answer(&self, answer: &Message) -> bool {
-        is_answer(self.header.id(), &self.base, answer)
+        self.recorded.is_answer(answer)
     }
 
     fn to_vec(&self) -> Result<Vec<u8>, Error> {
-        let message = self.to_message()?;
-        match Vec::from_slice(self.alloc, message.as_slice()) {
-            Ok(octets) => Ok(octets),
-            Err(_) => Err(Error::NoMemory),
-        }
+        self.recorded.to_vec()
     }
 
     fn header(&self) -> &Header {
-        &self.header
+        self.recorded.header()
     }
 
     fn header_mut(&mut self) -> &mut Header {
-        &mut self.header
+        self.recorded.header_mut()
     }
 
     fn dnssec_ok(&self) -> bool {
-        match &self.opt {
-            None => false,
-            Some(opt) => opt.dnssec_ok(),
-        }
+        self.recorded.dnssec_ok()
     }
 
     fn set_dnssec_ok(&mut self, value: bool) {
-        let mut opt = opt_or_empty(self.alloc, self.opt.take());
-        opt.set_dnssec_ok(value);
-        self.opt = Some(opt);
+        self.recorded.set_dnssec_ok(value);
     }
 
     fn add_opt(&mut self, code: u16, octets: &[u8]) -> Result<(), Error> {
-        match &mut self.opt {
-            Some(opt) => opt.add_option(code, octets),
-            None => {
-                let mut opt = RecordedOpt::empty(self.alloc);
-                opt.add_option(code, octets)?;
-                self.opt = Some(opt);
-                Ok(())
-            }
-        }
+        self.recorded.add_opt(code, octets)
     }
 
     fn try_clone(&self, alloc: Global) -> Result<RequestMessage, NoMemory> {
-        let base = self.base.try_clone()?;
-        let opt = match &self.opt {
-            None => None,
-            Some(opt) => Some(opt.try_clone(alloc)?),
-        };
-        Ok(RequestMessage {
-            alloc,
-            base,
-            header: self.header,
-            opt,
-        })
+        let recorded = self.recorded.try_clone(alloc)?;
+        Ok(RequestMessage { recorded })
     }
 }

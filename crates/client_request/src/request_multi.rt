@@ -9,7 +9,7 @@ ghost use Rattle.client_request.specs.declared.error.Error.TheVariants as errors
 use crate::compose::ComposeRequest;
 use crate::compose_multi::ComposeRequestMulti;
 use crate::error::{CopyRecordsError, Error};
-use crate::request::RequestMessage;
+use crate::recorded::Recorded;
 use dns_base::{Builder, Header, Message, NoMemory, OptRecord, Rtype};
 use std::alloc::Global;
 use std::marker::Model;
@@ -17,7 +17,7 @@ use std::marker::Model;
 /// A request for a zone, or for its changes (RFC 5936, RFC 1995).
 #[derive(Drop)]
 pub struct RequestMessageMulti {
-    request: RequestMessage,
+    recorded: Recorded,
 }
 
 impl Model for RequestMessageMulti {
@@ -25,7 +25,7 @@ impl Model for RequestMessageMulti {
 
     ghost Value = { Request };
 
-    ghost view = { λ r. r.request };
+    ghost view = { λ r. r.recorded };
 }
 
 /// Whether the first question asks for a whole zone.
@@ -50,20 +50,20 @@ impl RequestMessageMulti {
             return Err(Error::FormError);
         }
         Ok(RequestMessageMulti {
-            request: RequestMessage::recorded_from(alloc, msg),
+            recorded: Recorded::from_base(alloc, msg),
         })
     }
 
     pub fn base(&self) -> &Message
         ensures { result.now ≡ self.now.base }
     {
-        self.request.base()
+        self.recorded.base()
     }
 
     pub fn recorded_opt(&self) -> Option<OptRecord<'_>>
         ensures { result ≡ self.now.opt }
     {
-        self.request.recorded_opt()
+        self.recorded.recorded_opt()
     }
 }
 
@@ -91,54 +91,54 @@ impl ComposeRequestMulti for RequestMessageMulti {
     ghost is_full_for = { spec.is_full_for };
 
     fn to_message(&self) -> Result<Message, Error> {
-        self.request.to_message()
+        self.recorded.to_message()
     }
 
     fn set_id(&mut self, id: u16) {
-        self.request.set_id(id);
+        self.recorded.set_id(id);
     }
 
     fn set_udp_payload_size(&mut self, value: u16) {
-        self.request.set_udp_payload_size(value);
+        self.recorded.set_udp_payload_size(value);
     }
 
     fn is_answer(&self, answer: &Message) -> bool {
-        if self.request.is_answer(answer) {
+        if self.recorded.is_answer(answer) {
             return true;
         }
         let header = answer.header();
-        is_axfr(self.request.base())
+        is_axfr(self.recorded.base())
             && header.qr()
-            && header.id() == self.request.header().id()
+            && header.id() == self.recorded.header().id()
             && answer.header_counts().qdcount() == 0
     }
 
     fn append_message(&self, target: &mut Builder) -> Result<(), CopyRecordsError> {
-        self.request.append_message(target)
+        self.recorded.append_message(target)
     }
 
     fn header(&self) -> &Header {
-        self.request.header()
+        self.recorded.header()
     }
 
     fn header_mut(&mut self) -> &mut Header {
-        self.request.header_mut()
+        self.recorded.header_mut()
     }
 
     fn dnssec_ok(&self) -> bool {
-        self.request.dnssec_ok()
+        self.recorded.dnssec_ok()
     }
 
     fn set_dnssec_ok(&mut self, value: bool) {
-        self.request.set_dnssec_ok(value);
+        self.recorded.set_dnssec_ok(value);
     }
 
     fn add_opt(&mut self, code: u16, octets: &[u8]) -> Result<(), Error> {
-        self.request.add_opt(code, octets)
+        self.recorded.add_opt(code, octets)
     }
 
     fn try_clone(&self, alloc: Global) -> Result<RequestMessageMulti, NoMemory> {
-        let request = self.request.try_clone(alloc)?;
-        Ok(RequestMessageMulti { request })
+        let recorded = self.recorded.try_clone(alloc)?;
+        Ok(RequestMessageMulti { recorded })
     }
 }
