@@ -18,6 +18,8 @@ mod sockets;
 mod tables;
 #[cfg(test)]
 mod tests;
+#[cfg(test)]
+mod tests_faults;
 
 pub use client_request::{QueryError, QueryErrorKind};
 pub use config::Config;
