@@ -1,0 +1,17 @@
+-- Each trace lacks what it owes at one point.
+use Rattle.std.specs.Prelude.{[]}
+use Rattle.headline.proofs.Wrong.{twice, idles, not_an_answer, too_late, not_when_closed, early, seventh, passes_over, late}
+use Rattle.headline.proofs.refusals.wrong_traces_are_refused.Goals as goal
+
+pub returns : goal.returns
+returns c = record {
+  two_replies = twice;
+  nothing_sent = idles;
+  no_answer = not_an_answer;
+  past_5_seconds = too_late;
+  closed_place = not_when_closed;
+  early_timeout = λ c r o. early c r o [];
+  seventh_send = seventh;
+  passed_over = passes_over;
+  late = λ c r o. late c r o [];
+}

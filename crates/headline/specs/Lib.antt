@@ -1,0 +1,14 @@
+pub mod Trace
+pub mod Time
+pub mod Messages
+pub mod Requests
+pub mod Places
+pub mod Exchanges
+pub mod Replies
+pub mod Causes
+pub mod Orderly
+pub mod Busy
+pub mod Right
+pub mod Machine
+pub mod Examples
+pub mod Theorem
