@@ -1,13 +1,12 @@
 -- The plain client over any transport: deadlines, replies, and one step for each event.
-use Rattle.std.specs.Prelude.{ℕ, zero, suc, ◌+◌, max, Bool, false, List, [], ◌∷◌, ◌++◌, length, if◌then◌else◌, Option, Some, None, option_and_then, option_map, Result, Ok, Err}
+use Rattle.std.specs.Prelude.{ℕ, zero, suc, ◌+◌, max, false, List, [], ◌∷◌, length, if◌then◌else◌, Option, Some, None, option_and_then, option_map, Result, Ok, Err}
 use Rattle.std.specs.Ordering.{nat_cmp}
 use Rattle.std.specs.BTreeMap.{insert_entry, is_at}
 use Rattle.std.specs.Map.{lookup, remove_entry}
 use Rattle.client_request.specs.Board.{Part, part_of, without_part, oldest}
 use Rattle.client_request.specs.Request.{Request}
-use Rattle.client_request.specs.Timers.{TimerList, can_draw, due_now, fired}
+use Rattle.client_request.specs.Timers.{can_draw, due_now, fired}
 use Rattle.client_request.specs.View.{View, Heard, Step, told, due_timer, asks, sets_timer, drops_timer}
-use Rattle.client_request.specs.declared.board.Posted.{Posted}
 use Rattle.client_request.specs.declared.error.Error.{Error}
 use Rattle.client_request.specs.declared.error.Error.TheVariants.{TimedOut, ConnectionClosed}
 use Rattle.client_request.specs.declared.event.Event.{Event}

@@ -1,6 +1,5 @@
 -- What is done with an edge.
 use Rattle.std.specs.Prelude.{ℕ, Bool, true, false, if◌then◌else◌, List, [], ◌∷◌, ◌++◌, Option, None, Some, option_map}
-use Rattle.std.specs.Option.{option_map_or}
 use Rattle.dns_values.specs.Source.{one_more}
 use Rattle.client_request.specs.declared.event.What.{What}
 use Rattle.client_request.specs.declared.event.What.TheVariants.{OpenFailed, SendFailed, ShortSend, RecvFailed, WriteFailed, ReadFailed, Ended}

@@ -1,7 +1,6 @@
 -- The plain machine that asks the first server, over any transport.
-use Rattle.std.specs.Prelude.{ℕ, Bool, true, false, ◌||◌, List, Option, Some, None, option_and_then, option_map, is_some, Result, Ok, Err}
-use Rattle.client_request.specs.Timers.{can_draw}
-use Rattle.client_request.specs.View.{View, Heard, Step, answers, draws_ticket}
+use Rattle.std.specs.Prelude.{ℕ, Bool, true, false, ◌||◌, List, Option, Some, None, option_map, is_some, Result, Ok, Err}
+use Rattle.client_request.specs.View.{View, Step, answers, draws_ticket}
 use Rattle.client_request.specs.declared.error.Error.{Error}
 use Rattle.client_request.specs.declared.error.Error.TheVariants.{NoTransportAvailable}
 use Rattle.client_core.specs.declared.first.Passed.{Passed}

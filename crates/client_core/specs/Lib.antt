@@ -7,3 +7,4 @@ pub mod Clock
 pub mod Edge
 pub mod ListEdge
 pub mod Defaults
+pub mod Headline

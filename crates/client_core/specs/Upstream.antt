@@ -1,5 +1,5 @@
 -- The plain machine of one server, by the transport that is used for it.
-use Rattle.std.specs.Prelude.{ℕ, Bool, Option, Some, None, option_and_then}
+use Rattle.std.specs.Prelude.{ℕ, Bool, Option, Some, option_and_then}
 use Rattle.client_request.specs.View.{View, Heard, asks}
 use Rattle.client_request.specs.declared.event.Out.TheVariants.{Start}
 use Rattle.client_request.specs.declared.event.Via.TheVariants as via

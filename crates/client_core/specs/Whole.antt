@@ -1,9 +1,8 @@
 -- The whole plain client: the first server of a configuration, by datagrams.
-use Rattle.std.specs.Prelude.{◌≡◌, ℕ, Bool, false, List, [], ◌∷◌, Option, Some, None, option_map}
+use Rattle.std.specs.Prelude.{ℕ, Bool, false, List, [], ◌∷◌, Option, Some, None}
 use Rattle.client_request.specs.Composed.{composed}
 use Rattle.client_request.specs.Request.{Request, with_id, with_payload_size, is_answered}
 use Rattle.client_request.specs.Timers.{TimerList}
-use Rattle.client_request.specs.View.{View}
 use Rattle.client_request.specs.declared.board.Posted.{Posted}
 use Rattle.client_request.specs.declared.event.Event.{Event}
 use Rattle.client_request.specs.declared.event.Row.{Row}

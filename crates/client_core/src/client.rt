@@ -7,12 +7,16 @@ ghost use Rattle.client_request.specs.Timers.{IsWant};
 ghost use Rattle.client_core.specs.Client as plain;
 ghost use Rattle.client_core.specs.Client.{client_of};
 ghost use Rattle.client_core.specs.First.{holds_failed};
+ghost use Rattle.client_core.specs.Headline.{conf_of};
 ghost use Rattle.client_core.specs.Upstream as upstream;
 ghost use Rattle.client_core.specs.Whole.{machine, started, first_upstream, plain_step, plain_trace, client_with};
+ghost use Rattle.headline.specs.Right.{Right, Timely, NoneIsTruncated};
 
 use crate::asked::Asked;
 use crate::calls::take_in;
 use crate::first::{FirstServer, Passed};
+use crate::laws::every_plain_trace_is_right;
+use crate::octets::all_asked_in_octets;
 use crate::upstream::Upstream;
 use crate::{cache, redundant};
 use client_dgram::{Connection, Request};
@@ -186,6 +190,8 @@ impl Client {
     ) -> Result<Trace, Error>
         ensures plain { IfOk result (λ t. plain_trace conf.now (W.stream words.old) events.now ≡ Some t.rows) }
         ensures events { IfOk result (λ t. map (λ row. row.event) t.rows ≡ events.now) }
+        ensures right { IfOk result (λ t. NoneIsTruncated events.now → Right (conf_of conf.now) t.rows) }
+        ensures timely { IfOk result (λ t. NoneIsTruncated events.now → Timely (conf_of conf.now) t.rows) }
         ensures numbers { IsErrOf result Error.NumbersUsed → plain_trace conf.now (W.stream words.old) events.now ≡ None }
         ensures refused { IfErr result IsWant }
     {
@@ -196,6 +202,8 @@ impl Client {
             let row = client.step(words, event)?;
             rows.push(row)?;
         }
+        all_asked_in_octets(events);
+        every_plain_trace_is_right();
         Ok(Trace { rows })
     }
 }

@@ -11,7 +11,9 @@ mod clock;
 mod deed;
 mod edge;
 mod first;
+mod laws;
 mod list_edge;
+mod octets;
 pub mod redundant;
 mod upstream;
 
@@ -22,5 +24,6 @@ pub use clock::{Clock, ListClock};
 pub use deed::Deed;
 pub use edge::Edge;
 pub use first::{FirstServer, Passed};
+pub use laws::{every_plain_trace_is_right, plain_traces_are_runs};
 pub use list_edge::ListEdge;
 pub use upstream::Upstream;

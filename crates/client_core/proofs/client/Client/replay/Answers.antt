@@ -1,10 +1,11 @@
-use Rattle.std.proofs.Common.{◌≡◌, ◌+◌, List, ◌++◌, drop, rules, sym, subst, ap, ◌∙◌, Some, arith}
+use Rattle.std.proofs.Common.{◌≡◌, ◌+◌, List, ◌++◌, drop, rules, sym, subst, ap, ◌∙◌, Some}
 use Rattle.std.specs.Prelude.{option_map}
 use Rattle.client_request.specs.declared.event.Event.{Event}
 use Rattle.client_request.specs.declared.event.Row.{Row}
 use Rattle.client_core.specs.Client.{plain_rows, row_step}
 use Rattle.client_core.specs.Whole.{machine, client_with}
 use Rattle.client_core.proofs.Replaying.{drop_next, events_more, next_row, row_event}
+use Rattle.client_core.proofs.Rightness.{right_at_the_end}
 use Rattle.client_core.proofs.client.Client.replay.Goals as goal
 
 pub loop-event-preserved : goal.loop-event-preserved
@@ -29,3 +30,9 @@ loop-event-preserved g c =
       lasts = search rules;
       events = rw c.in_ok-push.ensures.ok (events_more rows row events i event c.loop-event-test.true (search rules) (row_event machine timeout row event before after stepped) c.loop-event.invariant.events);
     }
+
+pub returns-clause-right : goal.returns-clause-right
+returns-clause-right g c = λ uncut. (right_at_the_end c.every_plain_trace_is_right.ensures c.args.conf.now (g.W.Words.stream c.args.words.now) c.args.events.now c.loop-event.rows c.loop-event.event-index c.args.conf.now.options.timeout (client_with (g.W.Words.stream c.loop-event.words) c.loop-event.client) c.loop-event.invariant.same c.loop-event-test.false c.all_asked_in_octets.ensures uncut).0
+
+pub returns-clause-timely : goal.returns-clause-timely
+returns-clause-timely g c = λ uncut. (right_at_the_end c.every_plain_trace_is_right.ensures c.args.conf.now (g.W.Words.stream c.args.words.now) c.args.events.now c.loop-event.rows c.loop-event.event-index c.args.conf.now.options.timeout (client_with (g.W.Words.stream c.loop-event.words) c.loop-event.client) c.loop-event.invariant.same c.loop-event-test.false c.all_asked_in_octets.ensures uncut).1

@@ -1,0 +1,84 @@
+-- Results are taken off the board as replies.
+use Rattle.std.proofs.Common.{◌≡◌, ℕ, ◌+◌, ◌≤◌, Bool, true, cond, not, ltb, ◌==◌, List, [], ◌∷◌, ◌++◌, length, Option, Some, None, refl, sym, ap, subst, ◌∙◌, arith, append_assoc, le_trans}
+use Rattle.std.proofs.lemmas.Bool.Decides.{nat_tests}
+use Rattle.std.specs.Prelude.{option_and_then, option_map}
+use Rattle.std.specs.List.{slice_get}
+use Rattle.client_request.specs.Board.{Part, part_of, without_part, oldest, removed_at}
+use Rattle.client_request.specs.Request.{Request}
+use Rattle.client_request.specs.View.{View, asks, drops_timer}
+use Rattle.client_request.specs.declared.board.Posted.{Posted}
+use Rattle.client_request.specs.declared.event.Out.{Out}
+use Rattle.client_request.specs.declared.event.Out.TheVariants.{Reply}
+use Rattle.client_dgram.specs.Plain.{Tables, entry_at}
+use Rattle.headline.specs.Machine.{Done}
+use Rattle.client_core.specs.Client.{Asked, result_of, off_board, replies, replies_many, replies_one, replies_part, replies_to, without_request}
+use Rattle.client_core.specs.Whole.{Response}
+use Rattle.client_core.specs.declared.asked.Waiting.{Waiting}
+use Rattle.client_core.proofs.TimerLaws.{no_more_without}
+use Rattle.client_core.proofs.Tied.{waiting_of, Ties}
+use Rattle.client_core.proofs.Pictures.{picture, Orderly, orderly_forgotten, goes}
+use Rattle.client_core.proofs.Arms.{Heeds, Silent, Posts}
+
+-- a board with one result
+abbrev pub only : ℕ → Part → List Posted
+only k part = record { ticket = k; part = part } ∷ []
+
+found : (k : ℕ) (part : Part) → (part_of k (only k part) ≡ Some part) × (without_part k (only k part) ≡ [])
+found k part = subst (λ b. (part_at b ≡ Some part) × (left_at b ≡ [])) (sym (same k)) (refl, refl)
+  where
+    same : (k : ℕ) → (k == k) ≡ true
+    same k = grind (arith, nat_tests)
+
+    at_first : Bool → Option ℕ
+    at_first b = cond (ltb (cond (not b) (1 + 0) 0) 1) (Some (cond (not b) (1 + 0) 0)) None
+
+    part_at : Bool → Option Part
+    part_at b = option_and_then (λ i. option_map (λ (p : Posted). p.part) (slice_get (only k part) i)) (at_first b)
+
+    left_at : Bool → List Posted
+    left_at b = removed_at (only k part) (at_first b)
+
+-- nothing to reply
+pub replies_none : (a : Asked Response) (v : View) → v.board ≡ [] → replies (a, v) ≡ (a, v)
+replies_none a v e = ap (λ (b : List Posted). replies_many (length b) (a, v)) e
+
+abbrev pub replied : (k : ℕ) → Part → Waiting Response → Asked Response → View → Asked Response × View
+replied k part w a v = (without_request k (Some w) a, asks (Reply w.number (result_of part)) (drops_timer w.timer (record v { board = [] })))
+
+-- one reply
+pub replies_once : (k : ℕ) (part : Part) (w : Waiting Response) (a : Asked Response) (v : View) → v.board ≡ only k part → entry_at k a.waiting ≡ Some w → replies (a, v) ≡ replied k part w a v
+replies_once k part w a v e waits =
+    ap (λ (b : List Posted). replies_many (length b) (a, v)) e
+    ∙ (ap (λ (b : List Posted). replies_one a v (oldest b)) e
+    ∙ (ap (λ (b : List Posted). replies_part k a v (part_of k b)) e
+    ∙ (ap (replies_part k a v) (found k part).0
+    ∙ (ap (λ (x : Option (Waiting Response)). replies_to k part a (off_board k v) x) waits
+    ∙ ap (λ (b : List Posted). (without_request k (Some w) a, asks (Reply w.number (result_of part)) (drops_timer w.timer (record v { board = b })))) (ap (without_part k) e ∙ (found k part).1)))))
+
+-- What the client is once the results of a step are replies.
+pub record Settled (timeout wait : ℕ) (outs : List Out) (ticket next count : ℕ) (d : Done) (t : Tables Request) (a : Asked Response) (v : View) : Type 0 where
+  pub orderly : Orderly t a v.ticket v.place v.timers
+  pub ties : Ties timeout wait 0 (picture t a v) d.state
+  pub put : v.outs ≡ outs ++ d.outs
+  pub board : v.board ≡ []
+  pub ticket_same : v.ticket ≡ ticket
+  pub next_same : a.next ≡ next
+  pub fewer : length v.timers.set ≤ count
+
+pub settles_all : (timeout wait : ℕ) (a : Asked Response) (outs : List Out) (ticket count : ℕ) (d : Done) (t : Tables Request) (v : View)
+    → Heeds timeout wait a outs ticket count d t v → Settled timeout wait outs ticket a.next count d t (replies (a, v)).0 (replies (a, v)).1
+settles_all timeout wait a outs ticket count d t v (Silent f) =
+    subst (λ (x : Asked Response × View). Settled timeout wait outs ticket a.next count d t x.0 x.1) (sym (replies_none a v f.posted))
+    (record { orderly = f.orderly; ties = f.ties; put = f.put; board = f.posted; ticket_same = f.ticket_same; next_same = refl; fewer = f.fewer })
+settles_all timeout wait a outs ticket count d t v (Posts k timer part e f waits dl is) =
+    subst (λ (x : Asked Response × View). Settled timeout wait outs ticket a.next count d t x.0 x.1) (sym (replies_once k part (waiting_of k timer) a v f.posted waits))
+    (subst (λ d. Settled timeout wait outs ticket a.next count d t (replied k part (waiting_of k timer) a v).0 (replied k part (waiting_of k timer) a v).1) (sym is)
+    (record {
+      orderly = orderly_forgotten t a v f.orderly k timer;
+      ties = goes timeout wait t a v e.state f.orderly 0 k timer f.ties (f.gone k refl) waits dl;
+      put = ap (λ (xs : List Out). xs ++ Reply k (result_of part) ∷ []) f.put ∙ append_assoc outs e.outs (Reply k (result_of part) ∷ []);
+      board = refl;
+      ticket_same = f.ticket_same;
+      next_same = refl;
+      fewer = le_trans (no_more_without timer v.timers.set) f.fewer;
+    }))

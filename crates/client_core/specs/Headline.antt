@@ -1,0 +1,19 @@
+-- What the headline says of the plain client.
+use Rattle.std.specs.Prelude.{◌≡◌, ℕ, List, map, Some}
+use Rattle.client_request.specs.declared.event.Event.{Event}
+use Rattle.client_request.specs.declared.event.Row.{Row}
+use Rattle.headline.specs.Trace.{Conf, ByDatagrams}
+use Rattle.headline.specs.Right.{Right, Timely, NoneIsTruncated, AllAskedInOctets}
+use Rattle.client_core.specs.Whole.{plain_trace}
+use Rattle.resolv_conf.specs.declared.conf.ResolvConf.{ResolvConf}
+
+-- the configuration as the headline speaks of it
+abbrev pub conf_of : ResolvConf → Conf
+conf_of conf = record { servers = map (λ s. ByDatagrams) conf.servers; timeout = conf.options.timeout }
+
+-- Every plain trace of events none of which brings a truncated datagram is right, and timely.
+abbrev pub EveryPlainTraceIsRight : Type 0
+EveryPlainTraceIsRight =
+    (conf : ResolvConf) (words : ℕ → ℕ) (events : List Event) (rows : List Row)
+    → plain_trace conf words events ≡ Some rows → AllAskedInOctets events → NoneIsTruncated events
+    → Right (conf_of conf) rows × Timely (conf_of conf) rows
