@@ -4,6 +4,7 @@ pub mod Names
 pub mod Reading
 pub mod ScriptReading
 pub mod Stage
+pub mod TextLaws
 pub mod TraceReading
 pub mod TraceText
 pub mod Words

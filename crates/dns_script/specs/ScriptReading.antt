@@ -33,10 +33,14 @@ pub record TakesWords (text : List ℕ) (s t : ScriptReader) : Type 0 where
   pub read : numbers_of (words_of text) ≡ Some numbers
   pub after : t ≡ record s { words = s.words ++ numbers }
 
+-- the event that a text says
+abbrev pub event_of : List ℕ → Option Event
+event_of text = event_at (words_of text) >>= whole
+
 -- the moment and the event behind `at `, in a lane
 pub record TakesEvent (text : List ℕ) (s t : ScriptReader) : Type 0 where
   pub event : Event
-  pub read : event_at (words_of text) >>= whole ≡ Some event
+  pub read : event_of text ≡ Some event
   pub form : takes_what event.what ≡ true
   pub events : List Event
   pub lane : s.lane ≡ Some events

@@ -3,6 +3,8 @@
 //! A trace is printed as a text that is read back as that trace, and no other text is read.
 #![tactic(auto)]
 
+mod bounds;
+mod laws;
 mod line;
 mod names;
 mod printing;
@@ -15,6 +17,7 @@ mod tests;
 mod trace_lines;
 mod words;
 
+pub use laws::{script_laws, text_laws};
 pub use printing::trace_text;
 pub use script::{Lanes, Script, ScriptFault};
 pub use script_lines::read_script;

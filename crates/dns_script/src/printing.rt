@@ -6,8 +6,10 @@ ghost use Rattle.std.specs.Fmt.{decimal};
 ghost use Rattle.std.specs.List.{join_with_byte};
 ghost use Rattle.dns_script.specs.Words.{error_words, fault_word, hex_word, query_error_words};
 ghost use Rattle.dns_script.specs.Lines.{event_line, opt_octets, out_line, request_words, result_words, what_words};
+ghost use Rattle.dns_script.specs.TraceReading.{IsTrace};
 ghost use Rattle.dns_script.specs.TraceText.{row_text, trace_text_of};
 
+use crate::bounds::trace_is_in_range;
 use crate::words::{error_name, fault_word, push_digits, push_hex, via_word};
 use client_request::{
     ComposeRequest, Error, Event, Fault, Out, QueryError, RequestMessage, Row, Trace, What,
@@ -235,10 +237,12 @@ fn push_row(text: &mut String, row: &Row) -> Result<(), NoMemory>
     Ok(())
 }
 
-/// The text of a trace. It is read back as that trace.
+/// The text of a trace, which is read back as that trace.
 pub fn trace_text(alloc: Global, t: &Trace) -> Result<Vec<u8>, NoMemory>
-    ensures { IfOk result (λ v. v.items ≡ trace_text_of t.now.rows) }
+    ensures text { IfOk result (λ v. v.items ≡ trace_text_of t.now.rows) }
+    ensures back { IfOk result (λ v. IsTrace v.items t.now.rows) }
 {
+    trace_is_in_range(t);
     let mut text = String::new(alloc);
     text.push_str("trace 1\n")?;
     for row in t.rows.as_slice() {

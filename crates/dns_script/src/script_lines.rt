@@ -1,10 +1,10 @@
 //! Scripts, read line by line.
 
 ghost use Rattle.std.specs.Prelude.{◌≡◌, ◌++◌, Some, option_map};
-ghost use Rattle.dns_script.specs.Reading.{Makes, MakesBy, named, numbers_of};
+ghost use Rattle.dns_script.specs.Reading.{Makes, MakesBy, Reads, named, numbers_of};
 ghost use Rattle.dns_script.specs.Names.{script_names};
 ghost use Rattle.std.specs.Str.{IsUtf8};
-ghost use Rattle.dns_script.specs.ScriptReading.{ReadsScript, begun_with, TakesConf, TakesEvent, TakesLane, TakesLine, TakesNamed, TakesWords};
+ghost use Rattle.dns_script.specs.ScriptReading.{ReadsScript, begun_with, event_of, TakesConf, TakesEvent, TakesLane, TakesLine, TakesNamed, TakesWords};
 
 use crate::line::{LineFault, Lines, Words, split_first};
 use crate::names::{ScriptName, script_named};
@@ -12,7 +12,7 @@ use crate::reading::event;
 use crate::script::{Lanes, Script, ScriptFault};
 use crate::stage::check_what;
 use client_core::{cache, redundant};
-use client_request::{Events, WordList};
+use client_request::{Event, Events, WordList};
 use resolv_conf::ResolvConf;
 use std::alloc::Global;
 use std::str;
@@ -40,6 +40,16 @@ fn add_numbers(numbers: &mut WordList, words: &mut Words<'_>) -> Result<(), Line
         numbers.push(words.u64()?)?;
     }
     Ok(())
+}
+
+/// The event that a text says.
+fn event_of(alloc: Global, text: &[u8]) -> Result<Event, LineFault>
+    ensures { Reads (λ e. e) result (event_of text.now) }
+{
+    let mut words = Words::of(text);
+    let event = event(alloc, &mut words)?;
+    words.end()?;
+    Ok(event)
 }
 
 impl ScriptReader {
@@ -82,9 +92,7 @@ impl ScriptReader {
     fn event_line(&mut self, alloc: Global, text: &[u8]) -> Result<(), LineFault>
         ensures { MakesBy result self.new (TakesEvent text.now self.old) }
     {
-        let mut words = Words::of(text);
-        let event = event(alloc, &mut words)?;
-        words.end()?;
+        let event = event_of(alloc, text)?;
         check_what(&event.what)?;
         let Some(lane) = &mut self.lane else {
             return Err(LineFault::Refused);

@@ -1,6 +1,7 @@
 //! Traces and scripts as texts, by tables.
 
 use super::*;
+use client_request::{Error, Event, Fault, Moment, Out, Outs, QueryError, Row, Rows, Trace, What};
 use dns_base::NoMemory;
 use std::alloc::Global;
 use std::test::*;
@@ -124,5 +125,178 @@ fn a_script_is_read(rt: HostRuntime) -> Result<(), Fail> {
     assert_eq!(rt; script.words.len(), 3);
     assert_eq!(rt; script.lanes.len(), 1);
     assert_eq!(rt; script.conf.servers.len(), 1);
+    Ok(())
+}
+
+/// Each error and its words in a trace, those that hold a fault with several.
+const ERRORS: [(Error, &str); 35] = [
+    (Error::ConnectionClosed, "ConnectionClosed"),
+    (Error::OptTooLong, "OptTooLong"),
+    (Error::MessageBuilderPushError, "MessageBuilderPushError"),
+    (Error::MessageParseError, "MessageParseError"),
+    (
+        Error::RedundantTransportNotFound,
+        "RedundantTransportNotFound",
+    ),
+    (Error::FormError, "FormError"),
+    (Error::ShortMessage, "ShortMessage"),
+    (Error::StreamLongMessage, "StreamLongMessage"),
+    (Error::StreamIdleTimeout, "StreamIdleTimeout"),
+    (Error::StreamReceiveError, "StreamReceiveError"),
+    (
+        Error::StreamReadError(Fault::Reset),
+        "StreamReadError reset",
+    ),
+    (
+        Error::StreamReadError(Fault::EndOfData),
+        "StreamReadError end-of-data",
+    ),
+    (Error::StreamReadTimeout, "StreamReadTimeout"),
+    (
+        Error::StreamTooManyOutstandingQueries,
+        "StreamTooManyOutstandingQueries",
+    ),
+    (
+        Error::StreamWriteError(Fault::Broken),
+        "StreamWriteError broken",
+    ),
+    (
+        Error::StreamWriteError(Fault::NothingTaken),
+        "StreamWriteError nothing-taken",
+    ),
+    (
+        Error::StreamUnexpectedEndOfData,
+        "StreamUnexpectedEndOfData",
+    ),
+    (Error::WrongReplyForQuery, "WrongReplyForQuery"),
+    (Error::NoTransportAvailable, "NoTransportAvailable"),
+    (
+        Error::Dgram(QueryError::Connect(Fault::Refused)),
+        "Dgram Connect refused",
+    ),
+    (
+        Error::Dgram(QueryError::Connect(Fault::InUse)),
+        "Dgram Connect in-use",
+    ),
+    (
+        Error::Dgram(QueryError::Connect(Fault::NothingTaken)),
+        "Dgram Connect nothing-taken",
+    ),
+    (
+        Error::Dgram(QueryError::Send(Fault::ShortSend)),
+        "Dgram Send short-send",
+    ),
+    (
+        Error::Dgram(QueryError::Send(Fault::Unreachable)),
+        "Dgram Send unreachable",
+    ),
+    (
+        Error::Dgram(QueryError::Receive(Fault::Other)),
+        "Dgram Receive other",
+    ),
+    (
+        Error::Dgram(QueryError::Receive(Fault::Reset)),
+        "Dgram Receive reset",
+    ),
+    (
+        Error::Dgram(QueryError::Receive(Fault::Broken)),
+        "Dgram Receive broken",
+    ),
+    (
+        Error::Dgram(QueryError::Receive(Fault::Expired)),
+        "Dgram Receive expired",
+    ),
+    (
+        Error::Dgram(QueryError::Receive(Fault::EndOfData)),
+        "Dgram Receive end-of-data",
+    ),
+    (Error::Dgram(QueryError::Timeout), "Dgram Timeout expired"),
+    (Error::NoMemory, "NoMemory"),
+    (Error::NumbersUsed, "NumbersUsed"),
+    (Error::TimedOut, "TimedOut"),
+    (Error::AlreadyDone, "AlreadyDone"),
+    (Error::Failed, "Failed"),
+];
+
+/// A trace of one row, whose out is a reply with an error.
+fn trace_of(alloc: Global, error: Error) -> Result<Trace, NoMemory> {
+    let mut outs = Outs::new(alloc);
+    outs.push(Out::Reply {
+        request: 7,
+        result: Err(error),
+    })?;
+    let mut rows = Rows::new(alloc);
+    rows.push(Row {
+        event: Event {
+            moment: Moment(1),
+            what: What::Tick,
+        },
+        outs,
+    })?;
+    Ok(Trace { rows })
+}
+
+/// The error of the first reply that is put out in the first row.
+fn error_in(trace: &Trace) -> Option<Error> {
+    let row = trace.rows.as_slice().first()?;
+    match row.outs.as_slice().first()? {
+        Out::Reply {
+            request: 7,
+            result: Err(error),
+        } => Some(*error),
+        _ => None,
+    }
+}
+
+#[test]
+fn an_error_is_printed_and_read_as_its_words(rt: HostRuntime) -> Result<(), Fail> {
+    let alloc = rt.alloc();
+    for (error, words) in ERRORS {
+        let wanted = text_of(
+            alloc,
+            &["trace 1\nat 1 tick\n> reply 7 err ", words, "\nend\n"],
+        )?;
+        let printed = trace_text(alloc, &trace_of(alloc, error)?)?;
+        assert_eq!(rt; printed.as_slice(), wanted.as_slice(), "of {words}");
+        let Ok(read) = read_trace(alloc, wanted.as_slice()) else {
+            return Err("a trace that is read".into());
+        };
+        assert_eq!(rt; error_in(&read), Some(error), "of {words}");
+    }
+    Ok(())
+}
+
+/// The header of a query with one question.
+const HEAD: &str = "000001000001000000000000";
+
+/// The name example.com.
+const EXAMPLE: &str = "076578616d706c6503636f6d00";
+
+/// Bases of requests, in parts, and whether a request is made of them: for type A, IXFR (251) and AXFR (252), and
+/// without a question.
+const BASES: [([&str; 3], bool); 5] = [
+    ([HEAD, EXAMPLE, "00010001"], true),
+    ([HEAD, EXAMPLE, "00fb0001"], true),
+    ([HEAD, EXAMPLE, "00fc0001"], false),
+    ([HEAD, "", ""], false),
+    (["000001000000000000000000", "", ""], false),
+];
+
+#[test]
+fn a_whole_zone_and_no_question_are_refused(rt: HostRuntime) -> Result<(), Fail> {
+    let alloc = rt.alloc();
+    for ([head, name, kind], is_taken) in BASES {
+        let text = text_of(
+            alloc,
+            &["words 1\nat 0 ask ", head, name, kind, " 00000100 -\n"],
+        )?;
+        let fault = read_script(alloc, text.as_slice(), false).err();
+        let wanted = if is_taken {
+            None
+        } else {
+            Some(ScriptFault::Line(2))
+        };
+        assert_eq!(rt; fault, wanted, "of {head}{name}{kind}");
+    }
     Ok(())
 }

@@ -1,8 +1,11 @@
 //! Traces, read line by line.
 
-ghost use Rattle.std.specs.Prelude.{◌≡◌, ◌↔◌, IsTrue};
+ghost use Rattle.std.specs.Prelude.{◌≡◌, ◌↔◌, IsTrue, IfOk, List};
+ghost use Rattle.client_request.specs.declared.event.Row.{Row};
 ghost use Rattle.dns_script.specs.declared.trace_lines.TraceStage.TheVariants as stages;
 ghost use Rattle.dns_script.specs.Reading.{Gives, Makes, Reads};
+ghost use Rattle.dns_script.specs.TextLaws.{AreRows, ReadsBack};
+ghost use Rattle.dns_script.specs.TraceText.{trace_text_of};
 ghost use Rattle.dns_script.specs.TraceReading.{ReadsTrace, entry_behind, entry_of, line_at, nothing_read, with_entry, with_line};
 
 use crate::line::{LineFault, Words, split_first};
@@ -138,7 +141,10 @@ impl TraceReader {
 /// last whole one where the text ends early.
 #[tactic(auto, using(crate::proofs::TraceLoop::trace_begins, crate::proofs::TraceLoop::trace_line_read, crate::proofs::TraceLoop::trace_line_refused, crate::proofs::TraceLoop::trace_not_ended, crate::proofs::TraceLoop::trace_has_tail, crate::proofs::TraceLoop::trace_read))]
 pub fn read_trace(alloc: Global, text: &[u8]) -> Result<Trace, ScriptFault>
-    ensures { ReadsTrace text.now result }
+    ensures reads { ReadsTrace text.now result }
+    ensures text { IfOk result (λ t. text.now ≡ trace_text_of t.rows) }
+    ensures in_range { IfOk result (λ t. AreRows t.rows) }
+    ensures back { (rows : List Row) → AreRows rows → text.now ≡ trace_text_of rows → ReadsBack rows result }
 {
     let mut reader = TraceReader::new(alloc);
     let mut rest = text;
