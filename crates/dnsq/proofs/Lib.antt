@@ -1,2 +1,5 @@
 pub mod Delivery
+pub mod Inputs
+pub mod Outcomes
 pub mod Refusals
+pub mod Replays

@@ -1,11 +1,13 @@
 -- What the program writes for an input.
-use Rattle.std.specs.Prelude.{◌≡◌, ◌≢◌, ◌<◌, ℕ, List, [], ◌∷◌, ◌++◌, length, take, Option, Some, None, Ok, Err, false, codes}
+use Rattle.std.specs.Prelude.{◌≡◌, ◌≢◌, ◌<◌, ◌≤◌, ℕ, List, [], ◌∷◌, ◌++◌, length, take, Option, Some, None, Ok, Err, false, codes}
 use Rattle.std.specs.Fmt.{decimal}
 use Rattle.dns_values.specs.Sink.{with_octets}
 use Rattle.client_request.specs.Words.{listed}
 use Rattle.client_request.specs.declared.event.Event.{Event}
 use Rattle.client_request.specs.declared.event.Row.{Row}
+use Rattle.client_core.specs.Headline.{conf_of}
 use Rattle.client_core.specs.Whole.{plain_trace}
+use Rattle.headline.specs.Right.{Right, Timely}
 use Rattle.dns_script.specs.ScriptReading.{IsScript, RefusesLine}
 use Rattle.dns_script.specs.TraceText.{trace_text_of}
 use Rattle.dns_script.specs.declared.script.Script.{Script}
@@ -30,12 +32,14 @@ first_lane (events ∷ lanes) = events
 abbrev pub rows_of : Script → Option (List Row)
 rows_of script = plain_trace script.conf (listed script.words) (first_lane script.lanes)
 
--- The text is a script, and these octets are the text of its plain trace.
+-- The text is a script, and these octets are the text of its plain trace, which is right and timely.
 pub record IsReplayed (text out : List ℕ) : Type 0 where
   pub script : Script
   pub is_script : IsScript false text script
   pub rows : List Row
   pub plain : rows_of script ≡ Some rows
+  pub right : Right (conf_of script.conf) rows
+  pub timely : Timely (conf_of script.conf) rows
   pub says : out ≡ trace_text_of rows
 
 -- before the first line of a configuration
@@ -48,9 +52,20 @@ pub record IsConfigured (text out : List ℕ) : Type 0 where
   pub parses : ParseAnswers text no_conf (Ok tt) conf
   pub says : out ≡ conf_text (finalized conf)
 
+-- what a command makes of its input
 abbrev pub IsOutput : Command → (text out : List ℕ) → Type 0
 IsOutput Replay text out = IsReplayed text out
 IsOutput Conf text out = IsConfigured text out
+
+-- the text is a script, or a configuration
+abbrev pub IsInput : Command → (text : List ℕ) → Type 0
+IsInput Replay text = (script : Script) × IsScript false text script
+IsInput Conf text = (conf : ResolvConf) × ParseAnswers text no_conf (Ok tt) conf
+
+-- The text is an input of the command, and not too long.
+pub record IsTaken (command : Command) (text : List ℕ) : Type 0 where
+  pub reads : IsInput command text
+  pub fits : length text ≤ 16777216
 
 -- Line n of a configuration is the first that is outside the grammar, or isn't UTF-8.
 pub data RefusesConfLine (text : List ℕ) (n : ℕ) : Type 0 where
@@ -64,7 +79,7 @@ RefusesLineOf Conf text n = RefusesConfLine text n
 -- The text is not taken, and this line says why.
 pub data IsRefused (command : Command) (text : List ℕ) (line : List ℕ) : Type 0 where
   is_too_long : 16777216 < length text → line ≡ codes "input too long\n" → IsRefused command text line
-  has_bad_line : (n : ℕ) → RefusesLineOf command text n → line ≡ codes "line " ++ decimal n ++ codes " refused\n" → IsRefused command text line
+  has_bad_line : (n : ℕ) → length text ≤ 16777216 → RefusesLineOf command text n → line ≡ codes "line " ++ decimal n ++ codes " refused\n" → IsRefused command text line
 
 -- The text is a script in whose replay a number would pass 64 bits.
 pub record StopsForNumbers (command : Command) (text : List ℕ) : Type 0 where
@@ -93,6 +108,10 @@ abbrev pub line_of : Ending → List ℕ
 line_of (Says status line) = line.items
 line_of (Silent status) = []
 
+-- a status is one of 0, 1, 2, 3, 4, 6 and 7
+abbrev pub IsStatus : ℕ → Type 0
+IsStatus n = (n < 8) × (n ≢ 5)
+
 -- an ending of a run that is a refusal, a fault of the source, want of memory or of numbers
 abbrev pub IsEarly : Ending → Type 0
-IsEarly e = (status_of e ≢ 0) × (status_of e ≢ 2) × (status_of e ≢ 4)
+IsEarly e = IsStatus (status_of e) × (status_of e ≢ 0) × (status_of e ≢ 2) × (status_of e ≢ 4)

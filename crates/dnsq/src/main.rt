@@ -3,6 +3,7 @@
 
 mod configure;
 mod ending;
+mod laws;
 mod lines;
 mod replay;
 mod run;

@@ -1,7 +1,9 @@
 //! The command that replays a script.
 
-ghost use Rattle.std.specs.Prelude.{◌≡◌, ◌≢◌, [], false, codes, Some, None, IfSome, IfOk, IfErr};
+ghost use Rattle.std.specs.Prelude.{◌≡◌, ◌≢◌, ◌≤◌, [], length, false, codes, Some, None, IfSome, IfOk, IfErr};
 ghost use Rattle.dns_values.specs.Source.{Rose};
+ghost use Rattle.client_core.specs.Headline.{conf_of};
+ghost use Rattle.headline.specs.Right.{Right, Timely, NoneIsTruncated};
 ghost use Rattle.dns_script.specs.ScriptReading.{IsScript};
 ghost use Rattle.dnsq.specs.Program.{first_lane, rows_of, IsReplayed, IsRefused, StopsForNumbers, IsEarly, status_of, line_of};
 
@@ -11,7 +13,7 @@ use crate::statuses::{NO_MEMORY, NUMBERS_USED, REFUSED, SOURCE_FAULT};
 use crate::usage::Command;
 use client_core::Client;
 use client_request::{Error, Event, ListWords, Trace};
-use dns_script::{Lanes, Script, ScriptFault, read_script, trace_text};
+use dns_script::{Lanes, Script, ScriptFault, read_script, script_laws, trace_text};
 use dns_values::{ReadFault, Source, read_to_end};
 use std::alloc::Global;
 
@@ -22,6 +24,7 @@ pub const MOST_OCTETS: usize = 16_777_216;
 #[tactic(auto, using(crate::proofs::Refusals::too_long_line))]
 fn input<S: Source>(alloc: Global, source: &mut S) -> Result<Vec<u8>, Ending>
     ensures whole { IfOk result (λ v. IfSome (S.left source.old) (λ text. (v.items ≡ text) × (S.left source.new ≡ Some []))) }
+    ensures fits { IfOk result (λ v. length v.items ≤ 16777216) }
     ensures early { IfErr result IsEarly }
     ensures source_fault { IfErr result (λ e. status_of e ≡ 3 → Rose (S.faults source.old) (S.faults source.new)) }
     ensures too_long { IfErr result (λ e. status_of e ≡ 1 → IfSome (S.left source.old) (λ text. IsRefused Command.Replay text (line_of e))) }
@@ -38,10 +41,12 @@ fn input<S: Source>(alloc: Global, source: &mut S) -> Result<Vec<u8>, Ending>
 /// The script that a text is.
 fn script_of(alloc: Global, text: &[u8]) -> Result<Script, Ending>
     ensures script { IfOk result (λ script. IsScript false text.now script) }
+    ensures uncut { IfOk result (λ script. NoneIsTruncated (first_lane script.lanes)) }
     ensures early { IfErr result IsEarly }
-    ensures refused { IfErr result (λ e. status_of e ≡ 1 → IsRefused Command.Replay text.now (line_of e)) }
+    ensures refused { IfErr result (λ e. length text.now ≤ 16777216 → status_of e ≡ 1 → IsRefused Command.Replay text.now (line_of e)) }
     ensures no_fault { IfErr result (λ e. (status_of e ≢ 3) × (status_of e ≢ 7)) }
 {
+    script_laws();
     match read_script(alloc, text, false) {
         Ok(script) => Ok(script),
         Err(ScriptFault::Line(line)) => Err(refused_line(alloc, line)),
@@ -62,6 +67,8 @@ fn first_lane(lanes: &Lanes) -> &[Event]
 /// The trace of a script with one lane.
 fn trace_of(alloc: Global, script: Script) -> Result<Trace, Ending>
     ensures plain { IfOk result (λ t. rows_of script ≡ Some t.rows) }
+    ensures right { IfOk result (λ t. NoneIsTruncated (first_lane script.lanes) → Right (conf_of script.conf) t.rows) }
+    ensures timely { IfOk result (λ t. NoneIsTruncated (first_lane script.lanes) → Timely (conf_of script.conf) t.rows) }
     ensures early { IfErr result IsEarly }
     ensures numbers { IfErr result (λ e. status_of e ≡ 7 → (rows_of script ≡ None) × (line_of e ≡ codes "numbers used\n")) }
     ensures no_fault { IfErr result (λ e. (status_of e ≢ 3) × (status_of e ≢ 1)) }

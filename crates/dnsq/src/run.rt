@@ -1,13 +1,14 @@
 //! What the program does, over a source, a sink and the rest of its world.
 
-ghost use Rattle.std.specs.Prelude.{◌≡◌, ◌↔◌, ◌⊎◌, [], ℕ, List, codes, Some, None, IfSome, IfOk, IfErr};
+ghost use Rattle.std.specs.Prelude.{◌≡◌, ◌≢◌, ◌↔◌, ◌⊎◌, [], ℕ, List, codes, Some, None, IfSome, IfOk, IfErr};
 ghost use Rattle.dns_values.specs.Source.{Rose};
 ghost use Rattle.dns_values.specs.Sink.{with_octets};
-ghost use Rattle.dnsq.specs.Program.{IsOutput, IsRefused, StopsForNumbers, IsDelivered, IsBegun, IsEarly, status_of, line_of};
+ghost use Rattle.dnsq.specs.Program.{IsOutput, IsRefused, IsTaken, StopsForNumbers, IsDelivered, IsBegun, IsStatus, IsEarly, status_of, line_of};
 ghost use Rattle.dnsq.specs.Words.{command_of};
 
 use crate::configure::configure;
 use crate::ending::Ending;
+use crate::laws::input_laws;
 use crate::replay::replay;
 use crate::statuses::{DONE, NO_MEMORY, SINK_FAULT, USAGE};
 use crate::usage::{Command, USAGE_LINE, command_of};
@@ -68,17 +69,21 @@ pub fn run_alone<S: Source, K: Sink, E: Edge, C: Clock, W: Words>(
     _clock: &mut C,
     _random: &mut W,
 ) -> Status
+    ensures statuses { IsStatus result.0 }
     ensures usage { (result.0 ≡ 2) ↔ (command_of words.now ≡ None) }
     ensures done { result.0 ≡ 0 → IfSome (command_of words.now) (λ command. IfSome (S.left source.old) (λ text. IsDelivered command text (K.held sink.old) (K.held sink.new) × (S.left source.new ≡ Some []))) }
     ensures refused { result.0 ≡ 1 → IfSome (command_of words.now) (λ command. IfSome (S.left source.old) (λ text. (line : List ℕ) × IsRefused command text line × IsBegun line (K.held sink.old) (K.held sink.new))) }
+    ensures complete { IfSome (command_of words.now) (λ command. IfSome (S.left source.old) (λ text. IsTaken command text → result.0 ≢ 1)) }
     ensures source_fault { result.0 ≡ 3 → Rose (S.faults source.old) (S.faults source.new) }
     ensures sink_fault { result.0 ≡ 4 → Rose (K.faults sink.old) (K.faults sink.new) }
     ensures numbers { result.0 ≡ 7 → IfSome (command_of words.now) (λ command. IfSome (S.left source.old) (λ text. StopsForNumbers command text × IsBegun (codes "numbers used\n") (K.held sink.old) (K.held sink.new))) }
+    ensures stops { IfSome (command_of words.now) (λ command. IfSome (S.left source.old) (λ text. StopsForNumbers command text → result.0 ≢ 0)) }
 {
     let Some(command) = command_of(words) else {
         let _ = write_all(sink, USAGE_LINE.as_bytes());
         return USAGE;
     };
+    input_laws();
     match output(alloc, command, source) {
         Ok(text) => deliver(sink, &text),
         Err(Ending::Silent(status)) => status,

@@ -1,13 +1,71 @@
+//! Runs of the program, over sources and sinks in memory.
+
+ghost use Rattle.std.specs.Prelude.{Some};
+
 use crate::run::run_alone;
 use client_core::{ListClock, ListEdge};
 use client_request::{ListWords, WordList};
 use dns_base::Octets;
-use dns_values::{MemSink, MemSource};
+use dns_values::{Failed, MemSink, MemSource, Sink, SinkFault};
 use std::alloc::Global;
 use std::collections::VecDeque;
 use std::test::Fail;
 
 const QUESTION: &str = "076578616d706c6503636f6d0000010001";
+
+/// A sink that takes three octets a call at most.
+#[derive(Drop)]
+struct Slow {
+    sink: MemSink,
+}
+
+impl Sink for Slow {
+    ghost held = { λ s. Some s.sink.octets };
+
+    ghost faults = { λ s. s.sink.faults };
+
+    fn write(&mut self, buf: &[u8]) -> Result<usize, SinkFault> {
+        self.sink.write(&buf[..buf.len().min(3)])
+    }
+
+    fn flush(&mut self) -> Result<(), Failed> {
+        self.sink.flush()
+    }
+}
+
+/// The status of the program, which writes to a sink, on an input, where calls of the source fail.
+fn run_to<K: Sink>(
+    alloc: Global,
+    word: &str,
+    input: &str,
+    source_fails: &[u64],
+    sink: &mut K,
+) -> Result<u8, Fail> {
+    let mut words = Vec::new(alloc);
+    words.push(String::from_str(alloc, word)?)?;
+    let octets = Octets::from_slice(alloc, input.as_bytes())?;
+    let mut source = MemSource::new(octets, Vec::from_slice(alloc, source_fails)?);
+    let mut edge = ListEdge::new(alloc, VecDeque::new(alloc));
+    let mut clock = ListClock::new(Vec::new(alloc));
+    let mut random = ListWords::new(WordList::new(alloc));
+    let status = run_alone(
+        alloc,
+        &words,
+        &mut source,
+        sink,
+        &mut edge,
+        &mut clock,
+        &mut random,
+    );
+    Ok(status.0)
+}
+
+fn text_of(alloc: Global, sink: &MemSink) -> Result<String, Fail> {
+    match std::str::from_utf8(sink.as_slice()) {
+        Ok(text) => Ok(String::from_str(alloc, text)?),
+        Err(_) => Err("written text is UTF-8".into()),
+    }
+}
 
 /// What the program writes and its status, on an input, where calls of the source and of the sink fail.
 fn run_on(
@@ -17,27 +75,9 @@ fn run_on(
     source_fails: &[u64],
     sink_fails: &[u64],
 ) -> Result<(u8, String), Fail> {
-    let mut words = Vec::new(alloc);
-    words.push(String::from_str(alloc, word)?)?;
-    let octets = Octets::from_slice(alloc, input.as_bytes())?;
-    let mut source = MemSource::new(octets, Vec::from_slice(alloc, source_fails)?);
     let mut sink = MemSink::new(alloc, Vec::from_slice(alloc, sink_fails)?, Vec::new(alloc));
-    let mut edge = ListEdge::new(alloc, VecDeque::new(alloc));
-    let mut clock = ListClock::new(Vec::new(alloc));
-    let mut random = ListWords::new(WordList::new(alloc));
-    let status = run_alone(
-        alloc,
-        &words,
-        &mut source,
-        &mut sink,
-        &mut edge,
-        &mut clock,
-        &mut random,
-    );
-    match std::str::from_utf8(sink.as_slice()) {
-        Ok(text) => Ok((status.0, String::from_str(alloc, text)?)),
-        Err(_) => Err("written text is UTF-8".into()),
-    }
+    let status = run_to(alloc, word, input, source_fails, &mut sink)?;
+    Ok((status, text_of(alloc, &sink)?))
 }
 
 /// A script that asks for the address of example.com, and what its trace has of the asking.
@@ -149,6 +189,78 @@ fn what_is_refused_or_fails_has_its_status(rt: HostRuntime) -> Result<(), Fail> 
         let (got, text) = run_on(alloc, word, input, &source_fails, &sink_fails)?;
         assert_eq!(rt; got, status, "at {word} {input}");
         assert_eq!(rt; text.as_str(), written, "at {word} {input}");
+    }
+    Ok(())
+}
+
+#[test]
+fn each_fault_of_the_source_is_told(rt: HostRuntime) -> Result<(), Fail> {
+    let alloc = rt.alloc();
+    // Three reads of 8192 octets, one of 4424, and one that finds the end.
+    let mut input = String::new(alloc);
+    for _ in 0..1000 {
+        input.push_str("# a line that is passed over\n")?;
+    }
+    let replayed = "trace 1\nend\n";
+    let printed = "nameserver 127.0.0.1\ndomain .\n";
+    for (call, status) in [(0, 3), (1, 3), (2, 3), (3, 3), (4, 3), (5, 0)] {
+        for (word, output) in [("replay", replayed), ("conf", printed)] {
+            let (got, text) = run_on(alloc, word, input.as_str(), &[call], &[])?;
+            assert_eq!(rt; got, status, "at {word} {call}");
+            assert_eq!(rt;
+                text.as_str(),
+                if status == 0 { output } else { "" },
+                "at {word} {call}"
+            );
+        }
+    }
+    Ok(())
+}
+
+#[test]
+fn each_fault_of_the_sink_is_told(rt: HostRuntime) -> Result<(), Fail> {
+    let alloc = rt.alloc();
+    let conf = "nameserver 192.0.2.53\n";
+    for (word, input, call, status, written) in [
+        ("replay", "", 0, 4, ""),
+        ("replay", "", 1, 4, "tra"),
+        ("replay", "", 2, 4, "trace "),
+        ("replay", "", 3, 4, "trace 1\ne"),
+        ("replay", "", 4, 4, "trace 1\nend\n"),
+        ("replay", "", 5, 0, "trace 1\nend\n"),
+        ("conf", conf, 0, 4, ""),
+        ("conf", conf, 1, 4, "nam"),
+        ("conf", conf, 2, 4, "namese"),
+        ("conf", conf, 3, 4, "nameserve"),
+        ("conf", conf, 99, 0, "nameserver 192.0.2.53\ndomain .\n"),
+        ("replay", "x\n", 2, 1, "line 1"),
+        ("conf", "x\n", 2, 1, "line 1"),
+    ] {
+        let mut sink = Slow {
+            sink: MemSink::new(alloc, Vec::from_slice(alloc, &[call])?, Vec::new(alloc)),
+        };
+        let got = run_to(alloc, word, input, &[], &mut sink)?;
+        let text = text_of(alloc, &sink.sink)?;
+        assert_eq!(rt; got, status, "at {word} {call}");
+        assert_eq!(rt; text.as_str(), written, "at {word} {call}");
+    }
+    Ok(())
+}
+
+#[test]
+fn a_sink_that_takes_nothing_has_failed(rt: HostRuntime) -> Result<(), Fail> {
+    let alloc = rt.alloc();
+    for (word, input, status) in [
+        ("replay", "", 4),
+        ("conf", "nameserver 192.0.2.53\n", 4),
+        ("replay", "x\n", 1),
+        ("help", "", 2),
+    ] {
+        let nothing = Vec::from_slice(alloc, &[0, 1, 2, 3])?;
+        let mut sink = MemSink::new(alloc, Vec::new(alloc), nothing);
+        let got = run_to(alloc, word, input, &[], &mut sink)?;
+        assert_eq!(rt; got, status, "at {word} {input}");
+        assert!(rt; sink.as_slice().is_empty(), "at {word} {input}");
     }
     Ok(())
 }
