@@ -11,7 +11,8 @@ use Rattle.client_request.specs.declared.event.Out.TheVariants.{OpenDgram, Start
 use Rattle.client_request.specs.declared.event.Via.TheVariants as via
 use Rattle.client_dgram.specs.declared.job.Job.{Job}
 use Rattle.client_dgram.specs.declared.job.Stage.TheVariants as at
-use Rattle.client_dgram.specs.Plain.{Tables, After, puts, frees, entry_at}
+use Rattle.client_dgram.specs.Plain.{Tables, After}
+use Rattle.client_request.specs.Numbered.{puts, entry_at}
 use Rattle.client_dgram.specs.Plain as dgram
 use Rattle.headline.specs.Machine.{State, Done, with_at, try, admit, enter, newcomer, line_up}
 use Rattle.client_core.specs.Client.{Asked, without_request}

@@ -6,7 +6,8 @@ use Rattle.client_request.specs.Timers.{due_now, cancelled, fired_at, without_ti
 use Rattle.client_request.specs.View.{View, Heard, due_timer}
 use Rattle.client_request.specs.declared.event.Out.{Out}
 use Rattle.client_request.specs.declared.timers.Timer.{Timer}
-use Rattle.client_dgram.specs.Plain.{Tables, After, entry_at}
+use Rattle.client_dgram.specs.Plain.{Tables, After}
+use Rattle.client_request.specs.Numbered.{entry_at}
 use Rattle.client_dgram.specs.Plain as dgram
 use Rattle.client_dgram.specs.Settings.{default_settings}
 use Rattle.headline.specs.Time.{read_timeout}

@@ -13,7 +13,8 @@ use Rattle.client_request.specs.declared.event.Out.{Out}
 use Rattle.client_request.specs.declared.event.Out.TheVariants.{OpenDgram, Close, Reply}
 use Rattle.client_dgram.specs.declared.job.Job.{Job}
 use Rattle.client_dgram.specs.declared.job.Stage.TheVariants as at
-use Rattle.client_dgram.specs.Plain.{Tables, After, puts, frees, entry_at, leaves, closes}
+use Rattle.client_dgram.specs.Plain.{Tables, After, leaves, closes}
+use Rattle.client_request.specs.Numbered.{frees, entry_at}
 use Rattle.client_dgram.specs.Plain as dgram
 use Rattle.headline.specs.Time.{read_timeout}
 use Rattle.headline.specs.Machine.{Loose, Trying, Held, State, Done, nothing, then_do, with_at, staged, loosen, lose, try, forget, put_back, give, finish, retry, expire, act_at, act, remove, Pick, IsDue}

@@ -13,7 +13,8 @@ use Rattle.client_request.specs.declared.fault.Fault.TheVariants as fault
 use Rattle.client_request.specs.declared.event.Out.TheVariants.{Reply}
 use Rattle.client_request.specs.declared.event.What.{What}
 use Rattle.client_request.specs.declared.event.What.TheVariants.{Ask, Opened, OpenFailed, SendFailed, ShortSend, Datagram, RecvFailed, Wrote, WriteFailed, Bytes, ReadFailed, Ended, Tick}
-use Rattle.client_dgram.specs.Plain.{Tables, After, entry_at, puts}
+use Rattle.client_dgram.specs.Plain.{Tables, After}
+use Rattle.client_request.specs.Numbered.{entry_at}
 use Rattle.client_dgram.specs.Plain as dgram
 use Rattle.client_dgram.specs.Settings.{default_settings}
 use Rattle.headline.specs.Machine.{Held, State, Done, nothing, content, with_owner, enter, refuse, enter_or_refuse, refusal_of, opened_at, failed_at, broken_at, message_at}

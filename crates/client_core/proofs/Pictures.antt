@@ -7,7 +7,8 @@ use Rattle.client_request.specs.View.{View}
 use Rattle.client_request.specs.declared.timers.Timer.{Timer}
 use Rattle.client_dgram.specs.declared.job.Job.{Job}
 use Rattle.client_dgram.specs.declared.job.Stage.TheVariants as at
-use Rattle.client_dgram.specs.Plain.{Tables, puts, frees, entry_at, leaves}
+use Rattle.client_dgram.specs.Plain.{Tables, leaves}
+use Rattle.client_request.specs.Numbered.{puts, frees, entry_at}
 use Rattle.headline.specs.Messages.{under}
 use Rattle.headline.specs.Machine.{Held, State, with_at, loosen, try, forget, dispatch, remove}
 use Rattle.client_core.specs.Client.{Asked, waits}

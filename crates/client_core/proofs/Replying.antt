@@ -9,7 +9,8 @@ use Rattle.client_request.specs.View.{View, asks, drops_timer}
 use Rattle.client_request.specs.declared.board.Posted.{Posted}
 use Rattle.client_request.specs.declared.event.Out.{Out}
 use Rattle.client_request.specs.declared.event.Out.TheVariants.{Reply}
-use Rattle.client_dgram.specs.Plain.{Tables, entry_at}
+use Rattle.client_dgram.specs.Plain.{Tables}
+use Rattle.client_request.specs.Numbered.{entry_at}
 use Rattle.headline.specs.Machine.{Done}
 use Rattle.client_core.specs.Client.{Asked, result_of, off_board, replies, replies_many, replies_one, replies_part, replies_to, without_request}
 use Rattle.client_core.specs.Whole.{Response}

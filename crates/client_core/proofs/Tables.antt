@@ -4,7 +4,7 @@ use Rattle.std.proofs.lemmas.Bool.Decides.{nat_tests}
 use Rattle.std.specs.Ordering.{match_ordering}
 use mathlib.Core.Path.{fun_ext}
 use Rattle.headline.specs.Machine.{with_at}
-use Rattle.client_dgram.specs.Plain.{puts, frees, entry_at}
+use Rattle.client_request.specs.Numbered.{puts, frees, entry_at}
 
 -- keys that rise, from lo on and below hi
 abbrev pub Rising : {A : Type 0} → (A → ℕ) → (lo hi : ℕ) → List A → Type 0

@@ -1,9 +1,7 @@
 -- The plain client over any transport: deadlines, replies, and one step for each event.
 use Rattle.std.specs.Prelude.{ℕ, zero, suc, ◌+◌, max, false, List, [], ◌∷◌, length, if◌then◌else◌, Option, Some, None, option_and_then, option_map, Result, Ok, Err}
-use Rattle.std.specs.Ordering.{nat_cmp}
-use Rattle.std.specs.BTreeMap.{insert_entry, is_at}
-use Rattle.std.specs.Map.{lookup, remove_entry}
 use Rattle.client_request.specs.Board.{Part, part_of, without_part, oldest}
+use Rattle.client_request.specs.Numbered.{puts, frees, entry_at}
 use Rattle.client_request.specs.Request.{Request}
 use Rattle.client_request.specs.Timers.{can_draw, due_now, fired}
 use Rattle.client_request.specs.View.{View, Heard, Step, told, due_timer, asks, sets_timer, drops_timer}
@@ -30,15 +28,6 @@ pub record Machine (U P : Type 0) : Type 0 where
   pub cancel : P → Step U
   pub response : Request → U → View → P
   pub ticket : P → ℕ
-
-abbrev pub puts : {A : Type 0} → ℕ → A → List (ℕ × A) → List (ℕ × A)
-puts key value table = insert_entry nat_cmp table key value
-
-abbrev pub frees : {A : Type 0} → ℕ → List (ℕ × A) → List (ℕ × A)
-frees key table = remove_entry (is_at (nat_cmp key)) table
-
-abbrev pub entry_at : {A : Type 0} → ℕ → List (ℕ × A) → Option A
-entry_at key table = lookup (is_at (nat_cmp key)) table
 
 -- a result of one message
 abbrev pub result_of : Part → Result (List ℕ) Error

@@ -4,7 +4,7 @@ ghost use Rattle.std.specs.Prelude.{◌≡◌, ◌<◌, ◌-◌, zero, length, S
 ghost use Rattle.client_request.specs.Cx.{view_of, LendsTheSame};
 ghost use Rattle.client_request.specs.Board.{oldest, part_of};
 ghost use Rattle.client_core.specs.Client as plain;
-ghost use Rattle.client_core.specs.Client.{entry_at};
+ghost use Rattle.client_request.specs.Numbered.{entry_at};
 
 use client_request::{Cx, Error, Out, TimerId, Words};
 use dns_base::{Message, NoMemory};

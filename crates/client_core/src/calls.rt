@@ -5,7 +5,8 @@ ghost use Rattle.client_request.specs.Cx.{view_of, heard, LendsTheSame};
 ghost use Rattle.client_request.specs.Response.{IsRefusal};
 ghost use Rattle.client_request.specs.View.{told, due_timer};
 ghost use Rattle.client_core.specs.Client as plain;
-ghost use Rattle.client_core.specs.Client.{client_of, entry_at};
+ghost use Rattle.client_core.specs.Client.{client_of};
+ghost use Rattle.client_request.specs.Numbered.{entry_at};
 ghost use Rattle.client_core.specs.Machines.{machine_of};
 
 use crate::asked::{Asked, Waiting, reply_all};

@@ -3,14 +3,13 @@
 --   take ──► Queued ──slot──► Opening ──Opened──► Sent ──answer or fault──► result, slot given on
 --                               ▲                  │
 --                               └── next try ── read timer ── last try ──► result, slot given on
-use Rattle.std.specs.Prelude.{ℕ, zero, suc, ◌+◌, ◌-◌, ◌%◌, ◌^◌, ◌==◌, ◌&&◌, nat_lt, nat_le, Bool, true, false, if◌then◌else◌, List, [], ◌∷◌, length, take, Option, None, Some, option_and_then, Result, Ok, Err}
+use Rattle.std.specs.Prelude.{ℕ, zero, suc, ◌+◌, ◌-◌, ◌%◌, ◌&&◌, nat_lt, nat_le, Bool, true, false, if◌then◌else◌, List, [], ◌∷◌, length, take, Option, None, Some, option_and_then, Result, Ok, Err}
 use Rattle.std.specs.Ordering.{nat_cmp}
-use Rattle.std.specs.BTreeMap.{insert_entry, is_at}
+use Rattle.std.specs.BTreeMap.{is_at}
 use Rattle.std.specs.BTreeSet.{insert_key}
 use Rattle.std.specs.Set.{remove_key}
-use Rattle.std.specs.Map.{lookup, remove_entry}
 use Rattle.client_request.specs.Board.{Part}
-use Rattle.client_request.specs.Timers.{can_draw}
+use Rattle.client_request.specs.Numbered.{puts, frees, entry_at}
 use Rattle.client_request.specs.View.{View, Heard, told, more_at, due_timer, word, drawn, asks, answers, sets_timer, drops_timer, draws_ticket, draws_place}
 use Rattle.client_request.specs.declared.error.Error.{Error}
 use Rattle.client_request.specs.declared.error.Error.TheVariants as errors
@@ -38,16 +37,6 @@ pub record Tables (R : Type 0) : Type 0 where
   pub timers : List (ℕ × ℕ)
   pub queue : List ℕ
   pub used : ℕ
-
--- a table with an entry more, without one, and its entry
-abbrev pub puts : {A : Type 0} → ℕ → A → List (ℕ × A) → List (ℕ × A)
-puts key value table = insert_entry nat_cmp table key value
-
-abbrev pub frees : {A : Type 0} → ℕ → List (ℕ × A) → List (ℕ × A)
-frees key table = remove_entry (is_at (nat_cmp key)) table
-
-abbrev pub entry_at : {A : Type 0} → ℕ → List (ℕ × A) → Option A
-entry_at key table = lookup (is_at (nat_cmp key)) table
 
 abbrev pub has_minimum : List ℕ → Bool
 has_minimum octets = nat_le 12 (length octets)

@@ -5,7 +5,7 @@ ghost use Rattle.client_request.specs.Cx.{view_of, heard, LendsTheSame};
 ghost use Rattle.client_request.specs.View.{drawn};
 ghost use Rattle.client_request.specs.Timers.{IsWant};
 ghost use Rattle.client_dgram.specs.Plain as plain;
-ghost use Rattle.client_dgram.specs.Plain.{entry_at};
+ghost use Rattle.client_request.specs.Numbered.{entry_at};
 ghost use Rattle.client_dgram.specs.Requests.{requests_of};
 
 use crate::config::Config;

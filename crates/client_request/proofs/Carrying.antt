@@ -1,25 +1,23 @@
 -- What is composed says what the request says.
-use Rattle.std.proofs.Common.{◌≡◌, ◌≢◌, ℕ, zero, suc, ◌+◌, ◌*◌, ◌^◌, ◌<◌, ◌≤◌, inl, inr, List, [], ◌∷◌, ◌++◌, length, take, drop, refl, ap, sym, subst, ◌∙◌, arith, Bool, true, false, append_assoc, append-nil, length-drop}
-use Rattle.std.specs.Prelude.{Option, Some, None, IfSome, Result, Ok, Err, map, not, option_map, option_and_then, ◌==◌, if◌then◌else◌}
+use Rattle.std.proofs.Common.{◌≡◌, ◌≢◌, ℕ, zero, suc, inl, inr, List, [], ◌∷◌, ◌++◌, length, take, drop, refl, ap, sym, subst, ◌∙◌, arith, true, false, append_assoc, append-nil, length-drop}
+use Rattle.std.specs.Prelude.{Option, Some, None, IfSome, Result, Ok, Err, map, not, if◌then◌else◌}
 use Rattle.std.specs.List.{filter}
-use Rattle.std.proofs.lemmas.Bool.{eqb-true, eq-eqb}
+use Rattle.std.proofs.lemmas.Bool.{eq-eqb}
 use Rattle.std.proofs.Math.Seq.{take-append_seam}
 use Rattle.dns_names.proofs.Heads.{chosen, none_some}
 use Rattle.dns_values.specs.declared.error.ParseError.{ParseError}
 use Rattle.dns_values.specs.declared.numbers.Section.{Section}
 use Rattle.dns_values.specs.declared.numbers.Section.TheVariants.{Answer, Authority, Additional}
 use Rattle.dns_base.specs.declared.push_error.PushError.{PushError}
-use Rattle.dns_base.specs.Numbers.{u16_at, ◌>>=◌}
-use Rattle.dns_base.specs.Data.{Opt, data_spelling}
-use Rattle.dns_base.specs.Message.{Asked, Known, Written, Reading, reads, item_then, items_at, items_behind, all_read, question_at, record_at, questions_of, answer_of, authority_of, answer_items, authority_items, additional_items}
+use Rattle.dns_base.specs.Numbers.{u16_at}
+use Rattle.dns_base.specs.Data.{data_spelling}
+use Rattle.dns_base.specs.Message.{Asked, Known, Written, reads, item_then, items_at, items_behind, all_read, question_at, record_at, questions_of, answer_of, authority_of, answer_items, authority_items, additional_items}
 use Rattle.dns_base.specs.Answering.{question_items}
 use Rattle.dns_base.specs.Sections.{HasNoRecords, HasNoneAfter, entries_in}
 use Rattle.dns_base.specs.OptRecord.{OptFields}
-use Rattle.dns_base.specs.Draft.{Draft, counts_in, refusal, fresh, with_header, pushed_question, pushed_record, finished, question_size, record_size}
+use Rattle.dns_base.specs.Draft.{Draft, counts_in, refusal, fresh, with_header, pushed_question, pushed_record, finished}
 use Rattle.dns_base.specs.Holding.{Contents, no_contents, with_question, with_record, IsAskable, IsWritable, Holds, header_in}
-use Rattle.dns_base.specs.DraftLaws.{FinishedReads}
 use Rattle.dns_base.proofs.Holding.{draft_laws}
-use Rattle.client_request.specs.declared.error.CopyRecordsError.{CopyRecordsError}
 use Rattle.client_request.specs.Request.{Request, opt_written, opt_or_empty, with_id, with_payload_size}
 use Rattle.client_request.specs.Composed.{Copied, ◌>>◌, unless, asks, adds, copies, each, each_found, copies_section, section_items, adds_opt, copies_all, written_from, is_replaced, appended, message_of, composed}
 use Rattle.client_request.specs.Carries.{sent_from, records_of, opt_records, contents_of, SaysRequest, Carries, IsOpt, IsOfOctets}

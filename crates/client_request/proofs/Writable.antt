@@ -1,17 +1,17 @@
 -- What is read from octets can be written.
-use Rattle.std.proofs.Common.{◌≡◌, ℕ, zero, suc, ◌+◌, ◌-◌, ◌*◌, ◌^◌, ◌<◌, ◌≤◌, inl, inr, List, [], ◌∷◌, length, take, drop, get_or, refl, ap, subst, sym, arith, Bool, true, false}
-use Rattle.std.specs.Prelude.{Option, Some, None, IfSome, option_map, option_and_then, slice_range, slice_index, nat_le, ◌==◌, if◌then◌else◌}
+use Rattle.std.proofs.Common.{◌≡◌, ℕ, zero, suc, ◌+◌, ◌-◌, ◌^◌, ◌<◌, ◌≤◌, inl, inr, List, [], ◌∷◌, length, take, drop, refl, subst, arith, Bool, true, false}
+use Rattle.std.specs.Prelude.{Option, Some, None, IfSome, option_map, slice_range, slice_index, nat_le, ◌==◌, if◌then◌else◌}
 use Rattle.std.specs.Int.{w16, w32, from_be_bytes}
 use Rattle.std.proofs.lemmas.Bool.{eqb-true, leb-true}
 use Rattle.std.proofs.lemmas.List.{get_or-drop}
 use Rattle.std.proofs.lemmas.Option.{some_pair_parts}
 use Rattle.std.proofs.lemmas.List.Edits.{length-between}
-use Rattle.dns_names.specs.Name.{Labels, Found, name_at, IsLegal}
+use Rattle.dns_names.specs.Name.{Labels, name_at, IsLegal}
 use Rattle.dns_names.proofs.Heads.{then_ok, chosen, none_some}
-use Rattle.dns_names.proofs.NameLaws.{read_legal, read_within}
+use Rattle.dns_names.proofs.NameLaws.{read_legal}
 use Rattle.dns_base.specs.Numbers.{u16_at, u32_at, ◌>>=◌}
-use Rattle.dns_base.specs.Data.{Data, A, Aaaa, One, Minfo, Mx, StartOfAuthority, Service, Txt, Opt, Other, is_one_name, is_of_type, are_strings, are_options, octets_to, name_to, minfo_to, mx_to, soa_to, srv_to, srv_with, whole, data_at, data_spelling}
-use Rattle.dns_base.specs.Message.{Asked, Entry, Known, Written, question_at, record_at}
+use Rattle.dns_base.specs.Data.{Data, A, Aaaa, One, is_one_name, is_of_type, are_strings, are_options, octets_to, name_to, srv_with, data_at, data_spelling}
+use Rattle.dns_base.specs.Message.{Asked, Entry, Known, question_at, record_at}
 use Rattle.dns_base.specs.Holding.{IsAskable, IsWritable, IsWritableData}
 use Rattle.dns_base.proofs.ReadData.{data_fits}
 use Rattle.client_request.specs.Composed.{content_of, written_from}

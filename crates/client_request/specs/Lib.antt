@@ -4,6 +4,7 @@ pub mod Request
 pub mod Composed
 pub mod Carries
 pub mod Words
+pub mod Numbered
 pub mod Timers
 pub mod Board
 pub mod View

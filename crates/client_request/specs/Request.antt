@@ -1,11 +1,11 @@
 -- A request: the base message, the recorded header, and the recorded OPT record.
-use Rattle.std.specs.Prelude.{ℕ, ◌+◌, ◌*◌, ◌^◌, ◌==◌, ◌||◌, ◌&&◌, nat_le, List, [], ◌∷◌, ◌++◌, length, Option, Some, None, Bool, true, false, not, bit_and, bit_or, if◌then◌else◌}
+use Rattle.std.specs.Prelude.{ℕ, ◌+◌, ◌*◌, ◌^◌, ◌==◌, ◌||◌, ◌&&◌, nat_le, List, [], ◌++◌, length, Option, Some, None, Bool, true, false, bit_and, bit_or, if◌then◌else◌}
 use Rattle.std.specs.Option.{option_map_or}
 use Rattle.std.specs.Int.{w16, to_be_bytes}
 use Rattle.dns_base.specs.Header as head
 use Rattle.dns_base.specs.Answering.{is_answer}
 use Rattle.dns_base.specs.Data.{Opt}
-use Rattle.dns_base.specs.Message.{Asked, Written, header_of, first_question}
+use Rattle.dns_base.specs.Message.{Written, header_of, first_question}
 use Rattle.dns_base.specs.Draft.{record_spelling}
 use Rattle.dns_base.specs.OptRecord.{OptFields, dnssec_ok}
 

@@ -8,7 +8,7 @@ pub fn carrying_laws()
     ensures { CarryingLaws }
 {}
 
-/// What is cut into limits lies between them, and is the same when it is cut again.
+/// What is cut into limits lies between them. Where limits that tie are the same value, it is the same when it is cut again.
 pub fn limit_laws<T: Ord>()
     ensures { LimitLaws T.cmp }
 {}

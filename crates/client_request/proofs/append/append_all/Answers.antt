@@ -1,4 +1,4 @@
-use Rattle.std.proofs.Common.{◌≡◌, refl, subst}
+use Rattle.std.proofs.Common.{refl, subst}
 use Rattle.dns_base.specs.Sections.{HasNoRecords}
 use Rattle.dns_base.specs.Draft.{Draft, counts_in, cleared}
 use Rattle.client_request.proofs.append.append_all.Goals as goal
