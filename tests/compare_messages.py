@@ -1,16 +1,15 @@
 #!/usr/bin/env python3
 """Compares `dns_read` with another reader of messages, on random and mangled messages.
 
-usage: compare_messages.py REFERENCE_FOLDER [COUNT [SEED]]
+    python3 tests/compare_messages.py REFERENCE_FOLDER PROGRAM [COUNT [SEED]]
 
-REFERENCE_FOLDER has the package `plain` with the module `wire`. It builds and
-runs the program by `rt run` in crates/dns_read,
-or by the command in the variable DNS_READ. Prints the first line that differs, or how many messages were the same.
+REFERENCE_FOLDER has the package `plain` with the module `wire`; without it nothing is compared, and that is
+said. PROGRAM is the built `dns_read`, and COUNT the number of messages, 2000 if it is left out. Prints the first
+message that differs, or how many were the same.
 """
 
 import os
 import random
-import shlex
 import subprocess
 import sys
 
@@ -163,17 +162,19 @@ def blocks(lines):
 
 
 def main():
-    if not 2 <= len(sys.argv) <= 4:
+    if not 3 <= len(sys.argv) <= 5:
         sys.exit(__doc__)
-    sys.path.insert(0, sys.argv[1])
+    reference, program = sys.argv[1:3]
+    if not os.path.isdir(os.path.join(reference, "plain")):
+        print("skipped: there is no reference client")
+        return
+    sys.path.insert(0, reference)
     from plain import wire
 
-    count = int(sys.argv[2]) if len(sys.argv) > 2 else 2000
-    rng = random.Random(int(sys.argv[3]) if len(sys.argv) > 3 else 1)
+    count = int(sys.argv[3]) if len(sys.argv) > 3 else 2000
+    rng = random.Random(int(sys.argv[4]) if len(sys.argv) > 4 else 1)
     lines = [line_of(rng) for _ in range(count)]
-    folder = os.path.join(os.path.dirname(os.path.abspath(__file__)), "..", "crates", "dns_read")
-    command = shlex.split(os.environ.get("DNS_READ", "rt run"))
-    ran = subprocess.run(command, cwd=folder, input="".join(line + "\n" for line in lines), capture_output=True, text=True)
+    ran = subprocess.run([program], input="".join(line + "\n" for line in lines), capture_output=True, text=True)
     found = blocks(ran.stdout.splitlines())
     refused = 0
     for at, line in enumerate(lines):

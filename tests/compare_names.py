@@ -1,11 +1,12 @@
 """Compares how texts of names and addresses are read and printed with another client.
 
-    python3 tests/compare_names.py FOLDER PROGRAM [COUNT]
+    python3 tests/compare_names.py REFERENCE_FOLDER PROGRAM [COUNT [SEED]]
 
-FOLDER has the other client, as a Python package `plain` with a module `wire`. PROGRAM is the
-built `name_read`, and COUNT the number of texts, 20000 if it is left out.
+REFERENCE_FOLDER has the package `plain` with the module `wire`; without it nothing is compared, and that is
+said. PROGRAM is the built `name_read`, and COUNT the number of texts, 20000 if it is left out.
 """
 
+import os
 import random
 import subprocess
 import sys
@@ -76,12 +77,17 @@ def expected(wire, kind, text):
 
 
 def main():
-    folder, program = sys.argv[1:3]
+    if not 3 <= len(sys.argv) <= 5:
+        sys.exit(__doc__)
+    reference, program = sys.argv[1:3]
+    if not os.path.isdir(os.path.join(reference, "plain")):
+        print("skipped: there is no reference client")
+        return
     count = int(sys.argv[3]) if len(sys.argv) > 3 else 20000
-    sys.path.insert(0, folder)
+    sys.path.insert(0, reference)
     from plain import wire
 
-    rng = random.Random(1035)
+    rng = random.Random(int(sys.argv[4]) if len(sys.argv) > 4 else 1035)
     rows = []
     for _ in range(count):
         kind = rng.choice(("name", "relative", "address"))
