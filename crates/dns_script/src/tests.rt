@@ -1,7 +1,9 @@
 //! Traces and scripts as texts, by tables.
 
 use super::*;
-use client_request::{Error, Event, Fault, Moment, Out, Outs, QueryError, Row, Rows, Trace, What};
+use client_request::{
+    Error, Event, Events, Fault, Moment, Out, Outs, QueryError, Row, Rows, Trace, What,
+};
 use dns_base::NoMemory;
 use std::alloc::Global;
 use std::test::*;
@@ -297,6 +299,27 @@ fn a_whole_zone_and_no_question_are_refused(rt: HostRuntime) -> Result<(), Fail>
             Some(ScriptFault::Line(2))
         };
         assert_eq!(rt; fault, wanted, "of {head}{name}{kind}");
+    }
+    Ok(())
+}
+
+#[test]
+fn lanes_keep_their_order(rt: HostRuntime) -> Result<(), Fail> {
+    let alloc = rt.alloc();
+    let mut lanes = Lanes::new(alloc);
+    for ticks in 0..3 {
+        let mut events = Events::new(alloc);
+        for _ in 0..ticks {
+            events.push(Event {
+                moment: Moment(1),
+                what: What::Tick,
+            })?;
+        }
+        lanes.push(events)?;
+    }
+    assert_eq!(rt; lanes.len(), 3);
+    for (ticks, events) in lanes.as_slice().iter().enumerate() {
+        assert_eq!(rt; events.len(), ticks);
     }
     Ok(())
 }

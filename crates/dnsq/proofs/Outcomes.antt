@@ -1,15 +1,16 @@
 -- What the status says of an input that is taken, or whose replay stops.
 use Rattle.std.proofs.Common.{◌≡◌, ◌≢◌, ◌⊎◌, inl, inr, ℕ, List, [], Option, Some, None, sym, subst, arith}
 use Rattle.std.specs.Prelude.{IfSome}
+use Rattle.dns_values.specs.Sink.{with_octets}
 use Rattle.dnsq.specs.InputLaws.{InputLaws}
-use Rattle.dnsq.specs.Program.{IsOutput, IsRefused, IsTaken, StopsForNumbers}
+use Rattle.dnsq.specs.Program.{IsOutput, IsRefused, IsTaken, IsDelivered, StopsForNumbers}
 use Rattle.dnsq.specs.declared.usage.Command.{Command}
 
 all_told : (told : Option (List ℕ)) (P : List ℕ → Type 0) → ((text : List ℕ) → P text) → IfSome told P
 all_told None P h = tt
 all_told (Some text) P h = h text
 
-asked_for : (asked : Option Command) (command : Command) (P : Command → Type 0) → asked ≡ Some command → P command → IfSome asked P
+pub asked_for : (asked : Option Command) (command : Command) (P : Command → Type 0) → asked ≡ Some command → P command → IfSome asked P
 asked_for asked command P is h = subst (λ (o : Option Command). IfSome o P) (sym is) h
 
 -- where a text that is taken is not refused, and where one whose replay stops is not done
@@ -47,3 +48,17 @@ pub delivered : (n : ℕ) → (n ≡ 0) ⊎ ((n ≡ 4) ⊎ (n ≡ 6)) → n ≢ 
 delivered n (inl e) is_one = absurd (omega arith)
 delivered n (inr (inl e)) is_one = absurd (omega arith)
 delivered n (inr (inr e)) is_one = absurd (omega arith)
+
+abbrev pub Done : Option (List ℕ) → (after before held : Option (List ℕ)) → Command → Type 0
+Done told after before held command = IfSome told (λ text. IsDelivered command text before held × (after ≡ Some []))
+
+done_told : (told after before held : Option (List ℕ)) (command : Command) (out : List ℕ)
+    → IfSome told (λ text. IsOutput command text out × (after ≡ Some [])) → held ≡ with_octets out before → Done told after before held command
+done_told None after before held command out h written = tt
+done_told (Some text) after before held command out h written = (record { out = out; output = h.0; written = written }, h.1)
+
+pub all_delivered : (asked : Option Command) (command : Command) (told after before held : Option (List ℕ)) (out : List ℕ) (n : ℕ) → asked ≡ Some command
+    → IfSome told (λ text. IsOutput command text out × (after ≡ Some [])) → (n ≡ 0 → held ≡ with_octets out before)
+    → n ≡ 0 → IfSome asked (Done told after before held)
+all_delivered asked command told after before held out n is h written is_done =
+    asked_for asked command (Done told after before held) is (done_told told after before held command out h (written is_done))

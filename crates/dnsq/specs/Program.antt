@@ -1,7 +1,8 @@
 -- What the program writes for an input.
-use Rattle.std.specs.Prelude.{◌≡◌, ◌≢◌, ◌<◌, ◌≤◌, ℕ, List, [], ◌∷◌, ◌++◌, length, take, Option, Some, None, Ok, Err, false, codes}
+use Rattle.std.specs.Prelude.{◌≡◌, ◌≢◌, ◌⊎◌, ◌<◌, ◌≤◌, ℕ, List, [], ◌∷◌, ◌++◌, length, take, Option, Some, None, Ok, Err, false, codes}
 use Rattle.std.specs.Fmt.{decimal}
 use Rattle.dns_values.specs.Sink.{with_octets}
+use Rattle.dns_values.specs.Source.{Rose}
 use Rattle.client_request.specs.Words.{listed}
 use Rattle.client_request.specs.declared.event.Event.{Event}
 use Rattle.client_request.specs.declared.event.Row.{Row}
@@ -99,6 +100,32 @@ pub record IsBegun (line : List ℕ) (before after : Option (List ℕ)) : Type 0
   pub count : ℕ
   pub written : after ≡ with_octets (take count line) before
 
+-- This line is written whole, or the first of it, and then the sink's count of faults rose.
+pub record IsSaid (line : List ℕ) (before after : Option (List ℕ)) (faults faults_after : ℕ) : Type 0 where
+  pub begun : IsBegun line before after
+  pub whole_or_fault : (after ≡ with_octets line before) ⊎ Rose faults faults_after
+
+abbrev pub usage_line : List ℕ
+usage_line = codes "usage: dnsq replay|conf|gen N|many|query NAME TYPE [--port P]\n"
+
+-- what is written for a text: its output, or the line that tells why there is none
+pub data IsSayable (command : Command) (text out : List ℕ) : Type 0 where
+  is_output : IsOutput command text out → IsSayable command text out
+  is_refusal : IsRefused command text out → IsSayable command text out
+  stops : StopsForNumbers command text → out ≡ codes "numbers used\n" → IsSayable command text out
+
+-- The output of the text is written, or the first of it.
+pub record IsCut (command : Command) (text : List ℕ) (before after : Option (List ℕ)) : Type 0 where
+  pub out : List ℕ
+  pub output : IsOutput command text out
+  pub begun : IsBegun out before after
+
+-- What is written for the text is written, or the first of it.
+pub record IsLeft (command : Command) (text : List ℕ) (before after : Option (List ℕ)) : Type 0 where
+  pub out : List ℕ
+  pub sayable : IsSayable command text out
+  pub begun : IsBegun out before after
+
 -- the status and the line of an ending
 abbrev pub status_of : Ending → ℕ
 status_of (Says status line) = status.0
@@ -112,6 +139,7 @@ line_of (Silent status) = []
 abbrev pub IsStatus : ℕ → Type 0
 IsStatus n = (n < 8) × (n ≢ 5)
 
--- an ending of a run that is a refusal, a fault of the source, want of memory or of numbers
+-- a line is told at a refusal and where numbers are used up; nothing is at a fault of the source and at want of memory
 abbrev pub IsEarly : Ending → Type 0
-IsEarly e = IsStatus (status_of e) × (status_of e ≢ 0) × (status_of e ≢ 2) × (status_of e ≢ 4)
+IsEarly (Says status line) = (status.0 ≡ 1) ⊎ (status.0 ≡ 7)
+IsEarly (Silent status) = (status.0 ≡ 3) ⊎ (status.0 ≡ 6)

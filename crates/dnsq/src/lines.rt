@@ -2,7 +2,7 @@
 
 ghost use Rattle.std.specs.Prelude.{◌≡◌, ◌≢◌, ◌⊎◌, ◌++◌, IfOk, codes};
 ghost use Rattle.std.specs.Fmt.{decimal};
-ghost use Rattle.dnsq.specs.Program.{status_of, line_of};
+ghost use Rattle.dnsq.specs.Program.{IsEarly, status_of, line_of};
 
 use crate::ending::Ending;
 use crate::statuses::{NO_MEMORY, REFUSED};
@@ -12,6 +12,7 @@ use std::alloc::{AllocError, Global};
 /// An ending by a line, unless memory ran out.
 pub fn says(alloc: Global, status: Status, line: &str) -> Ending
     ensures status { (status_of result ≡ 6) ⊎ (status_of result ≡ status.0) }
+    ensures early { (status.0 ≡ 1) ⊎ (status.0 ≡ 7) → IsEarly result }
     ensures line { status_of result ≢ 6 → line_of result ≡ line.now }
 {
     match Vec::from_slice(alloc, line.as_bytes()) {
@@ -30,6 +31,7 @@ fn line_text(alloc: Global, line: u64) -> Result<Vec<u8>, AllocError>
 /// The ending that names a line that is refused, counted from 1, unless memory ran out.
 pub fn refused_line(alloc: Global, line: u64) -> Ending
     ensures status { (status_of result ≡ 6) ⊎ (status_of result ≡ 1) }
+    ensures early { IsEarly result }
     ensures line { status_of result ≡ 1 → line_of result ≡ codes "line " ++ decimal line ++ codes " refused\n" }
 {
     match line_text(alloc, line) {
