@@ -3,10 +3,11 @@
 ghost use Rattle.std.specs.Prelude.{Some};
 
 use crate::run::run_alone;
-use client_core::{ListClock, ListEdge};
-use client_request::{ListWords, WordList};
+use client_core::{Clock, Deed, Edge, ListClock, ListEdge};
+use client_request::{ListWords, Moment, Out, What, WordList};
 use dns_base::Octets;
-use dns_values::{Failed, MemSink, MemSource, Sink, SinkFault};
+use dns_values::{Failed, IpAddr, MemSink, MemSource, Sink, SinkFault, SocketAddr};
+use resolv_conf::{ServerConf, Transport};
 use std::alloc::Global;
 use std::collections::VecDeque;
 use std::test::Fail;
@@ -262,5 +263,49 @@ fn a_sink_that_takes_nothing_has_failed(rt: HostRuntime) -> Result<(), Fail> {
         assert_eq!(rt; got, status, "at {word} {input}");
         assert!(rt; sink.as_slice().is_empty(), "at {word} {input}");
     }
+    Ok(())
+}
+
+/// The next two moments of a clock.
+fn two_moments<C: Clock>(clock: &mut C) -> [u64; 2] {
+    let first = clock.now();
+    [first.0, clock.now().0]
+}
+
+/// Lets an edge learn a server and close a place, and answers whether its two polls give an opened place and none.
+fn is_served<E: Edge>(edge: &mut E, server: &ServerConf) -> Result<bool, Fail> {
+    edge.learn_server(server)?;
+    edge.act(&Out::Close { place: 3 })?;
+    let first = edge.poll()?;
+    let second = edge.poll()?;
+    Ok(matches!(first, Some(What::Opened { place: 3 })) && second.is_none())
+}
+
+#[test]
+fn an_edge_and_a_clock_of_lists_give_their_lists(rt: HostRuntime) -> Result<(), Fail> {
+    let alloc = rt.alloc();
+    let mut events = VecDeque::new(alloc);
+    events.push_back(Some(What::Opened { place: 3 }))?;
+    let mut edge = ListEdge::new(alloc, events);
+    let address = SocketAddr {
+        ip: IpAddr::from_text("192.0.2.53")?,
+        port: 53,
+    };
+    let server = ServerConf::new(address, Transport::UdpTcp);
+    assert!(rt; is_served(&mut edge, &server)?);
+    assert!(rt;
+        matches!(
+            edge.deeds(),
+            [
+                Deed::Learned(_),
+                Deed::Acted(Out::Close { place: 3 }),
+                Deed::Polled(Some(What::Opened { place: 3 })),
+                Deed::Polled(None),
+            ]
+        )
+    );
+    let moments = vec![in alloc; Moment(5), Moment(4)]?;
+    assert_eq!(rt; two_moments(&mut ListClock::new(moments)), [5, 4]);
+    assert_eq!(rt; two_moments(&mut ListClock::new(Vec::new(alloc))), [0, 0]);
     Ok(())
 }
