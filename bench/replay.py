@@ -3,9 +3,9 @@
 usage: python3 bench/replay.py PROGRAM [REFERENCE_FOLDER]
 
 PROGRAM is the built dnsq. Up to 100 short questions are asked at a time, and each is answered. The replay
-of 100,000 events and of 200,000 is timed, the least of three runs, and the ratio of the two told. With a
-folder that holds the package `plain`, the reference client replays 100,000 events in the same run, the least
-of three too, and both ratios are told.
+of 100,000 events and of 200,000 is timed, and the ratio of the two told. With a folder that holds the package
+`plain`, the reference client replays the 100,000 events too, and that ratio is told. All run in turn, five times;
+the least time of each counts.
 """
 
 import subprocess
@@ -14,6 +14,7 @@ import tempfile
 import time
 
 AT_A_TIME = 100
+RUNS = 5
 QUESTION = "0000010001"
 
 
@@ -46,19 +47,22 @@ def main():
     if len(sys.argv) < 2:
         sys.exit(__doc__)
     program = [sys.argv[1], "replay"]
+    reference = [sys.executable, "-m", "plain.dnsq", "replay"]
     took = {}
     with tempfile.TemporaryDirectory() as room:
         for events in (100_000, 200_000):
-            path = "%s/%d" % (room, events)
-            with open(path, "w") as file:
+            with open("%s/%d" % (room, events), "w") as file:
                 file.write(script(events))
-            took[events] = min(seconds(program, path) for _ in range(3))
-            print("%d events: %.2f s" % (events, took[events]))
-        print("twice as many events take %.2f times as long" % (took[200_000] / took[100_000]))
-        if len(sys.argv) > 2:
-            reference = [sys.executable, "-m", "plain.dnsq", "replay"]
-            other = min(seconds(reference, room + "/100000", sys.argv[2]) for _ in range(3))
-            print("the reference client: %.2f s, %.1f times as long" % (other, other / took[100_000]))
+        for _ in range(RUNS):
+            for events in (100_000, 200_000):
+                took.setdefault(events, []).append(seconds(program, "%s/%d" % (room, events)))
+            if len(sys.argv) > 2:
+                took.setdefault("reference", []).append(seconds(reference, room + "/100000", sys.argv[2]))
+    least = {key: min(times) for key, times in took.items()}
+    print("100000 events: %.2f s; 200000 events: %.2f s" % (least[100_000], least[200_000]))
+    print("twice as many events take %.2f times as long" % (least[200_000] / least[100_000]))
+    if "reference" in least:
+        print("the reference client: %.2f s, %.1f times as long" % (least["reference"], least["reference"] / least[100_000]))
 
 
 if __name__ == "__main__":
