@@ -8,10 +8,11 @@ said. PROGRAM is the built `dns_read`, and COUNT the number of messages, 2000 if
 message that differs, or how many were the same.
 """
 
-import os
 import random
 import subprocess
 import sys
+
+from reference import wire_of
 
 TYPES = [1, 2, 3, 4, 5, 6, 7, 8, 9, 12, 14, 15, 16, 28, 33, 39, 41, 46, 99]
 
@@ -165,12 +166,7 @@ def main():
     if not 3 <= len(sys.argv) <= 5:
         sys.exit(__doc__)
     reference, program = sys.argv[1:3]
-    if not os.path.isdir(os.path.join(reference, "plain")):
-        print("skipped: there is no reference client")
-        return
-    sys.path.insert(0, reference)
-    from plain import wire
-
+    wire = wire_of(reference)
     count = int(sys.argv[3]) if len(sys.argv) > 3 else 2000
     rng = random.Random(int(sys.argv[4]) if len(sys.argv) > 4 else 1)
     lines = [line_of(rng) for _ in range(count)]

@@ -6,10 +6,11 @@ REFERENCE_FOLDER has the package `plain` with the module `wire`; without it noth
 said. PROGRAM is the built `name_read`, and COUNT the number of texts, 20000 if it is left out.
 """
 
-import os
 import random
 import subprocess
 import sys
+
+from reference import wire_of
 
 ALPHABET = "abcXYZ019.\\ -_*~!\t\x7f\u00e9"
 ADDRESS = "0123456789abcdefABF:.%g"
@@ -80,13 +81,8 @@ def main():
     if not 3 <= len(sys.argv) <= 5:
         sys.exit(__doc__)
     reference, program = sys.argv[1:3]
-    if not os.path.isdir(os.path.join(reference, "plain")):
-        print("skipped: there is no reference client")
-        return
+    wire = wire_of(reference)
     count = int(sys.argv[3]) if len(sys.argv) > 3 else 20000
-    sys.path.insert(0, reference)
-    from plain import wire
-
     rng = random.Random(int(sys.argv[4]) if len(sys.argv) > 4 else 1035)
     rows = []
     for _ in range(count):
