@@ -6,5 +6,4 @@ pub mod Whole
 pub mod Clock
 pub mod Edge
 pub mod ListEdge
-pub mod Defaults
 pub mod Headline

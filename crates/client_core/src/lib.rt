@@ -4,7 +4,6 @@
 #![tactic(auto)]
 
 mod asked;
-pub mod cache;
 mod calls;
 mod client;
 mod clock;
@@ -14,12 +13,12 @@ mod first;
 mod laws;
 mod list_edge;
 mod octets;
-pub mod redundant;
 mod upstream;
 
 pub use asked::{Asked, Waiting};
 pub use client::Client;
 pub use client_request::{Event, Moment, Out, Row, Rows, Trace, Via, What};
+pub use client_settings::{cache, redundant};
 pub use clock::{Clock, ListClock};
 pub use deed::Deed;
 pub use edge::Edge;

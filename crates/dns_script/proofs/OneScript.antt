@@ -12,7 +12,7 @@ use Rattle.resolv_conf.specs.Conf.{default_options, name_server}
 use Rattle.resolv_conf.specs.Script.{script_address, script_seconds, TakesScriptLine, takes_server, takes_timeout}
 use Rattle.resolv_conf.proofs.Scripts.{server_refused}
 use Rattle.client_request.specs.declared.event.Event.{Event}
-use Rattle.client_core.specs.Defaults.{default_cache, default_redundant}
+use Rattle.client_settings.specs.Settings.{default_cache, default_redundant}
 use Rattle.dns_script.specs.declared.names.ScriptName.{ScriptName}
 use Rattle.dns_script.specs.declared.names.ScriptName.TheVariants as name
 use Rattle.dns_script.specs.declared.script.Script.{Script}

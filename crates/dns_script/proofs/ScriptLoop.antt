@@ -5,7 +5,7 @@ use Rattle.client_request.specs.declared.event.Event.{Event}
 use Rattle.dns_script.specs.declared.script.Script.{Script}
 use Rattle.dns_script.specs.declared.script_lines.ScriptReader.{ScriptReader}
 use Rattle.dns_script.specs.ScriptReading.{TakesLine, TakesLines, begun_with, IsScript, RefusesLine, refuses_line, misses_lane}
-use Rattle.client_core.specs.Defaults.{default_redundant, default_cache}
+use Rattle.client_settings.specs.Settings.{default_redundant, default_cache}
 
 -- The lines before the rest were taken, and counted.
 pub record HasRead (many : Bool) (text rest : List ℕ) (count : ℕ) (reader : ScriptReader) : Type 0 where

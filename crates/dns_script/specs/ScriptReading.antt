@@ -17,7 +17,7 @@ use Rattle.dns_script.specs.Grammar.{event_at, whole}
 use Rattle.dns_script.specs.Names.{script_names}
 use Rattle.dns_script.specs.Reading.{◌>>=◌, cut, named, numbers_of, words_of}
 use Rattle.dns_script.specs.Stage.{takes_what}
-use Rattle.client_core.specs.Defaults.{default_redundant, default_cache}
+use Rattle.client_settings.specs.Settings.{default_redundant, default_cache}
 
 -- what stands behind `conf `, before any event
 pub record TakesConf (text : List ℕ) (s t : ScriptReader) : Type 0 where

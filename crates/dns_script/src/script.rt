@@ -2,8 +2,8 @@
 
 ghost use Rattle.std.specs.Prelude.{◌≡◌, ◌++◌, [], ◌∷◌, length, OnOk, OnErr};
 
-use client_core::{cache, redundant};
 use client_request::{Events, WordList};
+use client_settings::{cache, redundant};
 use dns_base::NoMemory;
 use resolv_conf::ResolvConf;
 use std::alloc::Global;
