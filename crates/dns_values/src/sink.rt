@@ -1,8 +1,8 @@
 //! Where octets are written to.
 
-ghost use Rattle.std.specs.Prelude.{◌≡◌, ℕ, ◌<◌, ◌≤◌, List, [], ◌++◌, take, length, Option, Some, true, false, IfOk, IfErr, OnOk, OnErr, MatchResult, IsOk, if◌then◌else◌, ◌||◌};
+ghost use Rattle.std.specs.Prelude.{◌≡◌, ℕ, ◌<◌, ◌≤◌, List, [], ◌++◌, take, length, Option, None, Some, true, false, IfOk, IfErr, OnOk, OnErr, MatchResult, IsOk, if◌then◌else◌, ◌||◌};
 ghost use Rattle.dns_values.specs.Source.{Rose, one_more, is_listed};
-ghost use Rattle.dns_values.specs.Sink.{with_octets, SinkInMemory};
+ghost use Rattle.dns_values.specs.Sink.{with_octets, IsFlushed, SinkInMemory};
 
 use crate::error::{Failed, NoMemory};
 use std::alloc::{AllocError, Global};
@@ -39,10 +39,13 @@ impl From<AllocError> for SinkFault {
 
 /// A stream of octets that is written in pieces.
 ///
-/// Where a sink knows what it holds it tells it. Its count of faults never falls, so whoever
-/// hands a sink in sees from the count that a fault was the sink's own.
+/// Where a sink knows what it holds it tells it, and where it knows what it handed on it tells that.
+/// Its count of faults never falls, so whoever hands a sink in sees from the count that a fault was
+/// the sink's own.
 pub trait Sink {
     ghost held: { Self → Option (List ℕ) };
+
+    ghost flushed: { Self → Option (List ℕ) } = { λ _. None };
 
     ghost faults: { Self → ℕ };
 
@@ -59,6 +62,7 @@ pub trait Sink {
     /// Hands on what was written. `Failed` is a fault of the sink: the count rose.
     fn flush(&mut self) -> Result<(), Failed>
         ensures held { held self.new ≡ held self.old }
+        ensures flushed { OnOk result (IsFlushed (held self.new) (flushed self.new)) }
         ensures count { faults self.old ≤ faults self.new }
         ensures failed { OnErr result (Rose (faults self.old) (faults self.new)) };
 }
@@ -67,6 +71,8 @@ pub trait Sink {
 #[derive(Drop)]
 pub struct MemSink {
     octets: Vec<u8>,
+    /// How many of them were handed on.
+    flushed: usize,
     fails: Vec<u64>,
     takes_nothing: Vec<u64>,
     calls: u64,
@@ -76,17 +82,18 @@ pub struct MemSink {
 impl Model for MemSink {
     ghost Value = { SinkInMemory };
 
-    ghost view = { λ s. record { octets = s.octets.items; fails = s.fails.items; takes_nothing = s.takes_nothing.items; calls = s.calls; faults = s.faults } };
+    ghost view = { λ s. record { octets = s.octets.items; flushed = s.flushed; fails = s.fails.items; takes_nothing = s.takes_nothing.items; calls = s.calls; faults = s.faults } };
 }
 
 impl MemSink {
     /// An empty sink. Its calls, `write` and `flush` together, are numbered from 0: those in
     /// `fails` fail, and a `write` in `takes_nothing` alone takes no octet.
     pub fn new(alloc: Global, fails: Vec<u64>, takes_nothing: Vec<u64>) -> MemSink
-        ensures { result ≡ record { octets = []; fails = fails.items; takes_nothing = takes_nothing.items; calls = 0; faults = 0 } }
+        ensures { result ≡ record { octets = []; flushed = 0; fails = fails.items; takes_nothing = takes_nothing.items; calls = 0; faults = 0 } }
     {
         MemSink {
             octets: Vec::new(alloc),
+            flushed: 0,
             fails,
             takes_nothing,
             calls: 0,
@@ -105,12 +112,15 @@ impl MemSink {
 impl Sink for MemSink {
     ghost held = { λ s. Some s.octets };
 
+    ghost flushed = { λ s. Some (take s.flushed s.octets) };
+
     ghost faults = { λ s. s.faults };
 
     fn write(&mut self, buf: &[u8]) -> Result<usize, SinkFault>
         ensures within { IfOk result (λ n. n ≤ length buf.now) }
         ensures held { MatchResult result (λ n. self.new.octets ≡ self.old.octets ++ take n buf.now)
             (λ _. self.new.octets ≡ self.old.octets) }
+        ensures flushed { self.new.flushed ≡ self.old.flushed }
         ensures count { self.old.faults ≤ self.new.faults }
         ensures failed { IfErr result (λ e. e ≡ SinkFault.Failed → Rose self.old.faults self.new.faults) }
         ensures nothing_taken { IfOk result (λ n. n ≡ 0 → 0 < length buf.now → Rose self.old.faults self.new.faults) }
@@ -138,6 +148,7 @@ impl Sink for MemSink {
 
     fn flush(&mut self) -> Result<(), Failed>
         ensures held { self.new.octets ≡ self.old.octets }
+        ensures flushed { MatchResult result (λ _. self.new.flushed ≡ length self.old.octets) (λ _. self.new.flushed ≡ self.old.flushed) }
         ensures count { self.old.faults ≤ self.new.faults }
         ensures failed { OnErr result (Rose self.old.faults self.new.faults) }
         ensures fails { MatchResult result (λ _. is_listed self.old.calls self.old.fails ≡ false)
@@ -153,6 +164,7 @@ impl Sink for MemSink {
             self.faults = self.faults.saturating_add(1);
             return Err(Failed);
         }
+        self.flushed = self.octets.len();
         Ok(())
     }
 }
@@ -189,6 +201,8 @@ impl SureSink {
 
 impl Sink for SureSink {
     ghost held = { λ s. Some s };
+
+    ghost flushed = { λ s. Some s };
 
     ghost faults = { λ _. 0 };
 
