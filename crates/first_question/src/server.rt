@@ -1,0 +1,42 @@
+//! The server's side: the answer to a query, and the address in an answer.
+
+use crate::trouble::Trouble;
+use dns_base::{Builder, Class, Message, Octets, RecordData, Rtype, Section, Ttl};
+use std::alloc::Global;
+
+/// The answer to a query: its id and question, and 192.0.2.1 for five minutes.
+pub(crate) fn answer_to(alloc: Global, query: &Octets) -> Result<Octets, Trouble> {
+    let query = Message::from_octets(query.try_clone()?)?;
+    let question = query.sole_question()?;
+    let mut header = query.header();
+    header.set_qr(true);
+    header.set_ra(true);
+    let mut builder = Builder::new(alloc, None)?;
+    builder.set_header(header);
+    builder.push_question(&question.qname(), question.qtype(), question.qclass())?;
+    builder.push_record(
+        Section::Answer,
+        &question.qname(),
+        Class::IN,
+        Ttl(300),
+        Rtype::A,
+        &RecordData::A([192, 0, 2, 1]),
+    )?;
+    Ok(builder.finish()?.into_octets())
+}
+
+/// The first address in an answer, or 0.0.0.0 where there is none.
+pub(crate) fn address_in(answer: &Message) -> [u8; 4] {
+    let Ok(records) = answer.answer() else {
+        return [0; 4];
+    };
+    for record in records {
+        let Ok(record) = record else {
+            return [0; 4];
+        };
+        if let Ok(RecordData::A(address)) = record.data() {
+            return address;
+        }
+    }
+    [0; 4]
+}

@@ -1,0 +1,58 @@
+//! What can go wrong in this program.
+
+use client_request::Error;
+use dns_base::{NameFault, NoMemory, ParseError, PushError, ShortMessage};
+use std::io;
+
+/// Why the program stops early.
+#[derive(Debug, Drop)]
+pub(crate) enum Trouble {
+    Name(NameFault),
+    Message(PushError),
+    Client(Error),
+    Print(io::Error),
+    /// The client sent nothing when its place opened.
+    NothingSent,
+}
+
+impl From<NameFault> for Trouble {
+    fn from(fault: NameFault) -> Trouble {
+        Trouble::Name(fault)
+    }
+}
+
+impl From<PushError> for Trouble {
+    fn from(error: PushError) -> Trouble {
+        Trouble::Message(error)
+    }
+}
+
+impl From<Error> for Trouble {
+    fn from(error: Error) -> Trouble {
+        Trouble::Client(error)
+    }
+}
+
+impl From<NoMemory> for Trouble {
+    fn from(error: NoMemory) -> Trouble {
+        Trouble::Client(error.into())
+    }
+}
+
+impl From<ParseError> for Trouble {
+    fn from(error: ParseError) -> Trouble {
+        Trouble::Client(error.into())
+    }
+}
+
+impl From<ShortMessage> for Trouble {
+    fn from(error: ShortMessage) -> Trouble {
+        Trouble::Client(error.into())
+    }
+}
+
+impl From<io::Error> for Trouble {
+    fn from(error: io::Error) -> Trouble {
+        Trouble::Print(error)
+    }
+}
