@@ -21,6 +21,6 @@ pub use laws::address_laws;
 pub use numbers::{Class, Opcode, OptRcode, Rcode, Rtype, Section, Serial, Status, Ttl};
 pub use octets::Octets;
 pub use sink::{MemSink, Sink, SinkFault, SureSink};
-pub use source::{MemSource, Source, SureSource};
+pub use source::{MemSource, Source, SureSource, copy_front};
 pub use std_edge::{StdSink, StdSource};
 pub use streams::{ReadFault, read_to_end, write_all};
