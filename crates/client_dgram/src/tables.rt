@@ -6,7 +6,6 @@ ghost use Rattle.client_request.specs.View.{drawn};
 ghost use Rattle.client_request.specs.Timers.{IsWant};
 ghost use Rattle.client_dgram.specs.Plain as plain;
 ghost use Rattle.client_request.specs.Numbered.{entry_at};
-ghost use Rattle.client_dgram.specs.Requests.{requests_of};
 
 use crate::config::Config;
 use crate::job::{Job, Stage};
@@ -140,9 +139,9 @@ pub(crate) fn take_on<Req: ComposeRequest, W: Words>(
     request: Req,
 ) -> Result<u64, Error>
     ensures lends { LendsTheSame cx.old cx.new }
-    ensures ok { OnOk result (plain.takes (requests_of Req.with_id Req.with_payload_size Req.composed Req.is_answered) server config.now request tables.old (view_of W.stream cx.old) ≡ Some (tables.new, view_of W.stream cx.new)) }
+    ensures ok { OnOk result (plain.takes Req.requests server config.now request tables.old (view_of W.stream cx.old) ≡ Some (tables.new, view_of W.stream cx.new)) }
     ensures ticket { IfOk result (λ ticket. ticket ≡ cx.old.ticket) }
-    ensures numbers { IsErrOf result Error.NumbersUsed → plain.takes (requests_of Req.with_id Req.with_payload_size Req.composed Req.is_answered) server config.now request tables.old (view_of W.stream cx.old) ≡ None }
+    ensures numbers { IsErrOf result Error.NumbersUsed → plain.takes Req.requests server config.now request tables.old (view_of W.stream cx.old) ≡ None }
     ensures want { IfErr result IsWant }
 {
     let ticket = cx.ticket;
@@ -197,8 +196,8 @@ fn send<Req: ComposeRequest, W: Words>(
     job: Job<Req>,
 ) -> Result<(), Error>
     ensures lends { LendsTheSame cx.old cx.new }
-    ensures ok { OnOk result (plain.sends (requests_of Req.with_id Req.with_payload_size Req.composed Req.is_answered) server config.now place ticket id job job.request tables.old (view_of W.stream cx.old) ≡ Some (tables.new, view_of W.stream cx.new)) }
-    ensures numbers { IsErrOf result Error.NumbersUsed → plain.sends (requests_of Req.with_id Req.with_payload_size Req.composed Req.is_answered) server config.now place ticket id job job.request tables.old (view_of W.stream cx.old) ≡ None }
+    ensures ok { OnOk result (plain.sends Req.requests server config.now place ticket id job job.request tables.old (view_of W.stream cx.old) ≡ Some (tables.new, view_of W.stream cx.new)) }
+    ensures numbers { IsErrOf result Error.NumbersUsed → plain.sends Req.requests server config.now place ticket id job job.request tables.old (view_of W.stream cx.old) ≡ None }
     ensures want { IfErr result IsWant }
 {
     let message = match job.request.to_message() {
@@ -252,8 +251,8 @@ fn opened<Req: ComposeRequest, W: Words>(
     place: u64,
 ) -> Result<(), Error>
     ensures lends { LendsTheSame cx.old cx.new }
-    ensures ok { OnOk result (plain.opens (requests_of Req.with_id Req.with_payload_size Req.composed Req.is_answered) server config.now place tables.old (view_of W.stream cx.old) ≡ Some (tables.new, view_of W.stream cx.new)) }
-    ensures numbers { IsErrOf result Error.NumbersUsed → plain.opens (requests_of Req.with_id Req.with_payload_size Req.composed Req.is_answered) server config.now place tables.old (view_of W.stream cx.old) ≡ None }
+    ensures ok { OnOk result (plain.opens Req.requests server config.now place tables.old (view_of W.stream cx.old) ≡ Some (tables.new, view_of W.stream cx.new)) }
+    ensures numbers { IsErrOf result Error.NumbersUsed → plain.opens Req.requests server config.now place tables.old (view_of W.stream cx.old) ≡ None }
     ensures want { IfErr result IsWant }
 {
     let Some(ticket) = number_at(&tables.places, place) else {
@@ -355,7 +354,7 @@ fn answer_in<Req: ComposeRequest>(
     ticket: u64,
     octets: Octets,
 ) -> Option<Message>
-    ensures { result ≡ plain.answer_in (requests_of Req.with_id Req.with_payload_size Req.composed Req.is_answered) octets (entry_at ticket jobs.now.entries) }
+    ensures { result ≡ plain.answer_in Req.requests octets (entry_at ticket jobs.now.entries) }
 {
     let job = jobs.get(&ticket)?;
     let Ok(message) = Message::from_octets(octets) else {
@@ -378,8 +377,8 @@ fn received<Req: ComposeRequest, W: Words>(
     octets: &Octets,
 ) -> Result<(), Error>
     ensures lends { LendsTheSame cx.old cx.new }
-    ensures ok { OnOk result (plain.comes (requests_of Req.with_id Req.with_payload_size Req.composed Req.is_answered) server config.now octets.now place tables.old (view_of W.stream cx.old) ≡ Some (tables.new, view_of W.stream cx.new)) }
-    ensures numbers { IsErrOf result Error.NumbersUsed → plain.comes (requests_of Req.with_id Req.with_payload_size Req.composed Req.is_answered) server config.now octets.now place tables.old (view_of W.stream cx.old) ≡ None }
+    ensures ok { OnOk result (plain.comes Req.requests server config.now octets.now place tables.old (view_of W.stream cx.old) ≡ Some (tables.new, view_of W.stream cx.new)) }
+    ensures numbers { IsErrOf result Error.NumbersUsed → plain.comes Req.requests server config.now octets.now place tables.old (view_of W.stream cx.old) ≡ None }
     ensures want { IfErr result IsWant }
 {
     let Some(ticket) = number_at(&tables.places, place) else {
@@ -441,8 +440,8 @@ pub(crate) fn hear<Req: ComposeRequest, W: Words>(
     signal: Signal<'_>,
 ) -> Result<(), Error>
     ensures lends { LendsTheSame cx.old cx.new }
-    ensures ok { OnOk result (plain.hears (requests_of Req.with_id Req.with_payload_size Req.composed Req.is_answered) server config.now (heard signal.entry) tables.old (view_of W.stream cx.old) ≡ Some (tables.new, view_of W.stream cx.new)) }
-    ensures numbers { IsErrOf result Error.NumbersUsed → plain.hears (requests_of Req.with_id Req.with_payload_size Req.composed Req.is_answered) server config.now (heard signal.entry) tables.old (view_of W.stream cx.old) ≡ None }
+    ensures ok { OnOk result (plain.hears Req.requests server config.now (heard signal.entry) tables.old (view_of W.stream cx.old) ≡ Some (tables.new, view_of W.stream cx.new)) }
+    ensures numbers { IsErrOf result Error.NumbersUsed → plain.hears Req.requests server config.now (heard signal.entry) tables.old (view_of W.stream cx.old) ≡ None }
     ensures want { IfErr result IsWant }
 {
     match signal {
@@ -461,8 +460,8 @@ fn told<Req: ComposeRequest, W: Words>(
     what: &What,
 ) -> Result<(), Error>
     ensures lends { LendsTheSame cx.old cx.new }
-    ensures ok { OnOk result (plain.tells (requests_of Req.with_id Req.with_payload_size Req.composed Req.is_answered) server config.now what.now tables.old (view_of W.stream cx.old) ≡ Some (tables.new, view_of W.stream cx.new)) }
-    ensures numbers { IsErrOf result Error.NumbersUsed → plain.tells (requests_of Req.with_id Req.with_payload_size Req.composed Req.is_answered) server config.now what.now tables.old (view_of W.stream cx.old) ≡ None }
+    ensures ok { OnOk result (plain.tells Req.requests server config.now what.now tables.old (view_of W.stream cx.old) ≡ Some (tables.new, view_of W.stream cx.new)) }
+    ensures numbers { IsErrOf result Error.NumbersUsed → plain.tells Req.requests server config.now what.now tables.old (view_of W.stream cx.old) ≡ None }
     ensures want { IfErr result IsWant }
 {
     match what {

@@ -11,5 +11,6 @@ pub mod View
 pub mod Cx
 pub mod Response
 pub mod Composing
+pub mod Requests
 pub mod Limits
 pub mod Copies

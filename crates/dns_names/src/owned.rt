@@ -18,7 +18,7 @@ use std::marker::Model;
 static ROOT: [u8; 1] = [0];
 
 /// A name that owns its octets, uncompressed; none for the root.
-#[derive(Drop)]
+#[derive(Debug, Drop)]
 pub struct Name {
     octets: Vec<u8>,
 }

@@ -10,7 +10,7 @@ use dns_values::NoMemory;
 use std::alloc::Global;
 
 /// The servers that a resolver asks, and its options.
-#[derive(Drop)]
+#[derive(Debug, Drop)]
 pub struct ResolvConf {
     pub servers: Servers,
     pub options: ResolvOptions,

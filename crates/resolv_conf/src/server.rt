@@ -52,7 +52,7 @@ impl ServerConf {
 }
 
 /// A list of servers.
-#[derive(Drop)]
+#[derive(Debug, Drop)]
 pub struct Servers {
     items: Vec<ServerConf>,
 }
