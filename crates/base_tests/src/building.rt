@@ -11,9 +11,14 @@ fn header() -> Header {
     header
 }
 
-fn written(alloc: Global, name: &Name) -> Result<Message, Fail> {
+fn asked(alloc: Global, name: &Name) -> Result<Builder, Fail> {
     let mut builder = Builder::new(alloc, Some(512))?;
     builder.push_question(name, Rtype::A, Class::IN)?;
+    Ok(builder)
+}
+
+fn written(alloc: Global, name: &Name) -> Result<Message, Fail> {
+    let mut builder = asked(alloc, name)?;
     builder.set_header(header());
     Ok(builder.finish()?)
 }
