@@ -2,7 +2,7 @@
 
 use crate::datagram_rows::{Cell, DONE, Deed, Found, STAGES, Told};
 use crate::datagrams::{
-    Lent, are_put_out, ask, asked, connection, cx_of, found, lent, tell, tell_all, tell_row,
+    are_put_out, ask, asked, connection, cx_of, found, lend, tell, tell_all, tell_row,
 };
 use crate::queries::{request, short_of_a_question};
 use client_dgram::{Connection, Request};
@@ -19,7 +19,7 @@ struct Pair {
 }
 
 /// A pair of two requests like one another.
-fn pair(alloc: Global, cx: &mut Cx<'_, ListWords>) -> Result<Pair, Error> {
+fn pair_of(alloc: Global, cx: &mut Cx<'_, ListWords>) -> Result<Pair, Error> {
     let mut connection = connection(alloc, 1)?;
     let first = asked(alloc, &mut connection, cx)?;
     let second = asked(alloc, &mut connection, cx)?;
@@ -30,10 +30,10 @@ fn pair(alloc: Global, cx: &mut Cx<'_, ListWords>) -> Result<Pair, Error> {
     })
 }
 
-/// Whether the first request's result is this one, and is given once, and the second's is to come.
-fn has_result(pair: &mut Pair, cx: &mut Cx<'_, ListWords>, result: Found) -> bool {
-    let again = if result.is_some() { DONE } else { None };
-    found(&mut pair.first, cx.board) == result
+/// Whether the first request's result is the one that is due, and is given once, and the second's is to come.
+fn has_result(pair: &mut Pair, cx: &mut Cx<'_, ListWords>, due: Found) -> bool {
+    let again = if due.is_some() { DONE } else { None };
+    found(&mut pair.first, cx.board) == due
         && found(&mut pair.first, cx.board) == again
         && found(&mut pair.second, cx.board).is_none()
 }
@@ -46,9 +46,9 @@ fn does(
     moment: u64,
     cell: &Cell,
 ) -> Result<bool, Error> {
-    let (heard, place, deeds, result) = *cell;
+    let (heard, place, deeds, due) = *cell;
     tell_row(alloc, &mut pair.connection, cx, (moment, heard, place))?;
-    Ok(are_put_out(cx.outs, deeds) && has_result(pair, cx, result))
+    Ok(are_put_out(cx.outs, deeds) && has_result(pair, cx, due))
 }
 
 /// Whether a run to a stage has come to its result there.
@@ -67,9 +67,9 @@ fn comes(
 type Stage = (&'static [Told], Found, u64, &'static [Cell]);
 
 fn holds(alloc: Global, stage: &Stage, cell: &Cell) -> Result<bool, Error> {
-    let mut lent: Lent = lent(alloc)?;
+    let mut lent = lend(alloc)?;
     let mut cx = cx_of(&mut lent);
-    let mut pair = pair(alloc, &mut cx)?;
+    let mut pair = pair_of(alloc, &mut cx)?;
     if !comes(alloc, &mut pair, &mut cx, stage.0, stage.1)? {
         return Ok(false);
     }
@@ -121,7 +121,7 @@ const UNEVEN: [Deed; 4] = [
 ];
 
 fn draws(alloc: Global) -> Result<bool, Error> {
-    let mut lent = lent(alloc)?;
+    let mut lent = lend(alloc)?;
     let mut cx = cx_of(&mut lent);
     let mut pair = uneven_pair(alloc, &mut cx)?;
     opens(&mut pair, &mut cx, 0)?;

@@ -101,7 +101,7 @@ pub struct Lent {
     timers: Timers,
 }
 
-pub fn lent(alloc: Global) -> Result<Lent, NoMemory> {
+pub fn lend(alloc: Global) -> Result<Lent, NoMemory> {
     Ok(Lent {
         words: words(alloc)?,
         outs: Outs::new(alloc),

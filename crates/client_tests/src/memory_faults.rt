@@ -5,7 +5,7 @@
 use crate::datagram_rows::Deed::*;
 use crate::datagram_rows::Heard::*;
 use crate::datagram_rows::{BROKEN, Deed, Found, REFUSED, Told};
-use crate::datagrams::{Lent, are_put_out, ask, connection, cx_of, found, lent, tell, what};
+use crate::datagrams::{Lent, are_put_out, ask, connection, cx_of, found, lend, tell, what};
 use crate::queries::{QUERY, request};
 use client_dgram::{Connection, Request};
 use client_request::{
@@ -75,7 +75,7 @@ fn supplied(alloc: Global) -> Result<Supplies, Error> {
     let requests = requests(alloc)?;
     Ok(Supplies {
         events,
-        lent: lent(alloc)?,
+        lent: lend(alloc)?,
         requests,
     })
 }
