@@ -25,8 +25,6 @@ mod request;
 mod request_multi;
 mod response;
 mod send;
-#[cfg(test)]
-mod tests;
 mod timers;
 mod words;
 

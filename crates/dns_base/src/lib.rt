@@ -14,8 +14,6 @@ mod question;
 mod record;
 mod record_data;
 mod spelling;
-#[cfg(test)]
-mod tests;
 
 pub use answer::is_answer;
 pub use builder::Builder;

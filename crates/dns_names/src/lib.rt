@@ -9,8 +9,6 @@ mod owned;
 mod relative;
 mod reverse;
 mod show;
-#[cfg(test)]
-mod tests;
 mod text;
 
 pub use fault::{ChainFault, NameFault};

@@ -12,8 +12,6 @@ mod reading;
 mod script;
 mod script_lines;
 mod stage;
-#[cfg(test)]
-mod tests;
 mod trace_lines;
 mod words;
 

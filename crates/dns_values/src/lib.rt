@@ -11,8 +11,6 @@ mod sink;
 mod source;
 mod std_edge;
 mod streams;
-#[cfg(test)]
-mod tests;
 
 pub use address::{IpAddr, SocketAddr};
 pub use duration::Duration;

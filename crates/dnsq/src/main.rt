@@ -1,21 +1,10 @@
 //! The program `dnsq`: it replays scripts of events.
 #![tactic(auto)]
 
-mod configure;
-mod ending;
-mod laws;
-mod lines;
-mod replay;
-mod run;
-mod statuses;
-#[cfg(test)]
-mod tests;
-mod usage;
-
 use client_core::{ListClock, ListEdge};
 use client_request::{ListWords, WordList};
 use dns_values::{StdSink, StdSource};
-use run::run_alone;
+use dnsq_run::run_alone;
 use std::alloc::{AllocError, Global};
 use std::collections::VecDeque;
 use std::env;
