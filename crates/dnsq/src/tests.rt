@@ -9,7 +9,6 @@ use dns_base::Octets;
 use dns_values::{Failed, IpAddr, MemSink, MemSource, Sink, SinkFault, SocketAddr};
 use resolv_conf::{ServerConf, Transport};
 use std::alloc::Global;
-use std::collections::VecDeque;
 use std::test::Fail;
 
 const QUESTION: &str = "076578616d706c6503636f6d0000010001";
@@ -46,7 +45,7 @@ fn run_to<K: Sink>(
     words.push(String::from_str(alloc, word)?)?;
     let octets = Octets::from_slice(alloc, input.as_bytes())?;
     let mut source = MemSource::new(octets, Vec::from_slice(alloc, source_fails)?);
-    let mut edge = ListEdge::new(alloc, VecDeque::new(alloc));
+    let mut edge = ListEdge::new(alloc, Vec::new(alloc));
     let mut clock = ListClock::new(Vec::new(alloc));
     let mut random = ListWords::new(WordList::new(alloc));
     let status = run_alone(
@@ -284,8 +283,8 @@ fn is_served<E: Edge>(edge: &mut E, server: &ServerConf) -> Result<bool, Fail> {
 #[test]
 fn an_edge_and_a_clock_of_lists_give_their_lists(rt: HostRuntime) -> Result<(), Fail> {
     let alloc = rt.alloc();
-    let mut events = VecDeque::new(alloc);
-    events.push_back(Some(What::Opened { place: 3 }))?;
+    let mut events = Vec::new(alloc);
+    events.push(Some(What::Opened { place: 3 }))?;
     let mut edge = ListEdge::new(alloc, events);
     let address = SocketAddr {
         ip: IpAddr::from_text("192.0.2.53")?,
