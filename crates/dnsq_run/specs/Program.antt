@@ -1,5 +1,5 @@
 -- What the program writes for an input.
-use Rattle.std.specs.Prelude.{◌≡◌, ◌≢◌, ◌⊎◌, ◌<◌, ◌≤◌, ℕ, List, [], ◌∷◌, ◌++◌, length, take, Option, Some, None, Ok, Err, false, codes}
+use Rattle.std.specs.Prelude.{◌≡◌, ◌≢◌, ◌⊎◌, ◌<◌, ◌≤◌, ℕ, List, [], ◌∷◌, ◌++◌, length, take, Option, Some, None, IfSome, Ok, Err, false, codes}
 use Rattle.std.specs.Fmt.{decimal}
 use Rattle.dns_values.specs.Sink.{with_octets}
 use Rattle.dns_values.specs.Source.{Rose}
@@ -33,8 +33,9 @@ first_lane (events ∷ lanes) = events
 abbrev pub rows_of : Script → Option (List Row)
 rows_of script = plain_trace script.conf (listed script.words) (first_lane script.lanes)
 
--- The text is a script, and these octets are the text of its plain trace, which is right and timely.
+-- The text is a script, not too long, and these octets are the text of its plain trace, which is right and timely.
 pub record IsReplayed (text out : List ℕ) : Type 0 where
+  pub fits : length text ≤ 16777216
   pub script : Script
   pub is_script : IsScript false text script
   pub rows : List Row
@@ -82,9 +83,10 @@ pub data IsRefused (command : Command) (text : List ℕ) (line : List ℕ) : Typ
   is_too_long : 16777216 < length text → line ≡ codes "input too long\n" → IsRefused command text line
   has_bad_line : (n : ℕ) → length text ≤ 16777216 → RefusesLineOf command text n → line ≡ codes "line " ++ decimal n ++ codes " refused\n" → IsRefused command text line
 
--- The text is a script in whose replay a number would pass 64 bits.
+-- The text is a script, not too long, in whose replay a number would pass 64 bits.
 pub record StopsForNumbers (command : Command) (text : List ℕ) : Type 0 where
   pub replays : command ≡ Replay
+  pub fits : length text ≤ 16777216
   pub script : Script
   pub is_script : IsScript false text script
   pub stops : rows_of script ≡ None
@@ -105,14 +107,23 @@ pub record IsSaid (line : List ℕ) (before after : Option (List ℕ)) (faults f
   pub begun : IsBegun line before after
   pub whole_or_fault : (after ≡ with_octets line before) ⊎ Rose faults faults_after
 
+-- This line says why the text is refused, and it is written whole, or the first of it, and then the sink's count of faults rose.
+pub record RefusalIsSaid (command : Command) (text : List ℕ) (before after : Option (List ℕ)) (faults faults_after : ℕ) : Type 0 where
+  pub line : List ℕ
+  pub refusal : IsRefused command text line
+  pub said : IsSaid line before after faults faults_after
+
 abbrev pub usage_line : List ℕ
 usage_line = codes "usage: dnsq replay|conf|gen N|many|query NAME TYPE [--port P]\n"
+
+abbrev pub numbers_line : List ℕ
+numbers_line = codes "numbers used\n"
 
 -- what is written for a text: its output, or the line that tells why there is none
 pub data IsSayable (command : Command) (text out : List ℕ) : Type 0 where
   is_output : IsOutput command text out → IsSayable command text out
   is_refusal : IsRefused command text out → IsSayable command text out
-  stops : StopsForNumbers command text → out ≡ codes "numbers used\n" → IsSayable command text out
+  stops : StopsForNumbers command text → out ≡ numbers_line → IsSayable command text out
 
 -- The output of the text is written, or the first of it.
 pub record IsCut (command : Command) (text : List ℕ) (before after : Option (List ℕ)) : Type 0 where
@@ -125,6 +136,20 @@ pub record IsLeft (command : Command) (text : List ℕ) (before after : Option (
   pub out : List ℕ
   pub sayable : IsSayable command text out
   pub begun : IsBegun out before after
+
+-- What memory runs out of: of the words' line, where they are no command, the first is written; of what is due for the text,
+-- nothing or the first.
+abbrev pub RanOut : Option Command → (told before after : Option (List ℕ)) → Type 0
+RanOut None told before after = IsBegun usage_line before after
+RanOut (Some command) told before after = (after ≡ before) ⊎ IfSome told (λ text. IsLeft command text before after)
+
+-- a fact of the command and of the octets that the source tells
+abbrev pub IfInput : Option Command → Option (List ℕ) → (Command → List ℕ → Type 0) → Type 0
+IfInput asked told P = IfSome asked (λ command. IfSome told (P command))
+
+-- the statuses at which a line tells why nothing else is written
+abbrev pub EndsByLine : ℕ → Type 0
+EndsByLine n = (n ≡ 1) ⊎ ((n ≡ 2) ⊎ (n ≡ 7))
 
 -- the status and the line of an ending
 abbrev pub status_of : Ending → ℕ

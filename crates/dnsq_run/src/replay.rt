@@ -1,11 +1,11 @@
 //! The command that replays a script.
 
-ghost use Rattle.std.specs.Prelude.{◌≡◌, ◌≢◌, ◌≤◌, [], length, false, codes, Some, None, IfSome, IfOk, IfErr};
+ghost use Rattle.std.specs.Prelude.{◌≡◌, ◌≢◌, ◌≤◌, [], length, false, Some, None, IfSome, IfOk, IfErr};
 ghost use Rattle.dns_values.specs.Source.{Rose};
 ghost use Rattle.client_core.specs.Headline.{conf_of};
 ghost use Rattle.headline.specs.Right.{Right, Timely, NoneIsTruncated};
 ghost use Rattle.dns_script.specs.ScriptReading.{IsScript};
-ghost use Rattle.dnsq_run.specs.Program.{first_lane, rows_of, IsReplayed, IsRefused, StopsForNumbers, IsEarly, status_of, line_of};
+ghost use Rattle.dnsq_run.specs.Program.{first_lane, rows_of, IsReplayed, IsRefused, StopsForNumbers, IsEarly, status_of, line_of, numbers_line};
 
 use crate::ending::Ending;
 use crate::lines::{refused_line, says};
@@ -70,7 +70,8 @@ fn trace_of(alloc: Global, script: Script) -> Result<Trace, Ending>
     ensures right { IfOk result (λ t. NoneIsTruncated (first_lane script.lanes) → Right (conf_of script.conf) t.rows) }
     ensures timely { IfOk result (λ t. NoneIsTruncated (first_lane script.lanes) → Timely (conf_of script.conf) t.rows) }
     ensures early { IfErr result IsEarly }
-    ensures numbers { IfErr result (λ e. status_of e ≡ 7 → (rows_of script ≡ None) × (line_of e ≡ codes "numbers used\n")) }
+    ensures numbers { IfErr result (λ e. status_of e ≡ 7 → rows_of script ≡ None) }
+    ensures numbers_line { IfErr result (λ e. status_of e ≡ 7 → line_of e ≡ numbers_line) }
     ensures no_fault { IfErr result (λ e. (status_of e ≢ 3) × (status_of e ≢ 1)) }
 {
     let Script {
@@ -102,7 +103,8 @@ pub fn replay<S: Source>(alloc: Global, source: &mut S) -> Result<Vec<u8>, Endin
     ensures early { IfErr result IsEarly }
     ensures source_fault { IfErr result (λ e. status_of e ≡ 3 → Rose (S.faults source.old) (S.faults source.new)) }
     ensures refused { IfErr result (λ e. status_of e ≡ 1 → IfSome (S.left source.old) (λ text. IsRefused Command.Replay text (line_of e))) }
-    ensures numbers { IfErr result (λ e. status_of e ≡ 7 → IfSome (S.left source.old) (λ text. StopsForNumbers Command.Replay text × (line_of e ≡ codes "numbers used\n"))) }
+    ensures numbers { IfErr result (λ e. status_of e ≡ 7 → IfSome (S.left source.old) (λ text. StopsForNumbers Command.Replay text)) }
+    ensures numbers_line { IfErr result (λ e. status_of e ≡ 7 → line_of e ≡ numbers_line) }
 {
     let text = input(alloc, source)?;
     let script = match script_of(alloc, &text) {

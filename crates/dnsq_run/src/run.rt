@@ -1,9 +1,9 @@
 //! What the program does, over a source, a sink and the rest of its world.
 
-ghost use Rattle.std.specs.Prelude.{◌≡◌, ◌≢◌, ◌↔◌, ◌⊎◌, [], ℕ, List, codes, Some, None, IfSome, IfOk, IfErr, OnOk};
+ghost use Rattle.std.specs.Prelude.{◌≡◌, ◌≢◌, ◌⊎◌, [], Some, None, IfSome, IfOk, IfErr, OnOk};
 ghost use Rattle.dns_values.specs.Source.{Rose};
-ghost use Rattle.dns_values.specs.Sink.{with_octets};
-ghost use Rattle.dnsq_run.specs.Program.{IsOutput, IsRefused, IsTaken, StopsForNumbers, IsDelivered, IsBegun, IsSaid, IsCut, IsLeft, IsStatus, IsEarly, status_of, line_of, usage_line};
+ghost use Rattle.dns_values.specs.Sink.{IsFlushed, with_octets};
+ghost use Rattle.dnsq_run.specs.Program.{EndsByLine, IfInput, IsOutput, IsRefused, IsTaken, RanOut, RefusalIsSaid, StopsForNumbers, IsDelivered, IsBegun, IsSaid, IsCut, IsStatus, IsEarly, status_of, line_of, numbers_line, usage_line};
 ghost use Rattle.dnsq_run.specs.Words.{command_of};
 
 use crate::configure::configure;
@@ -18,10 +18,11 @@ use dns_base::{NoMemory, Status};
 use dns_values::{Sink, SinkFault, Source, write_all};
 use std::alloc::Global;
 
-/// Writes an output whole.
+/// Writes an output whole, and hands it on.
 #[tactic(auto, using(crate::proofs::Delivery::begun_whole, crate::proofs::Delivery::begun_front))]
 fn deliver<K: Sink>(sink: &mut K, text: &[u8]) -> Status
     ensures done { result.0 ≡ 0 → K.held sink.new ≡ with_octets text.now (K.held sink.old) }
+    ensures flushed { result.0 ≡ 0 → IsFlushed (K.held sink.new) (K.flushed sink.new) }
     ensures begun { IsBegun text.now (K.held sink.old) (K.held sink.new) }
     ensures sink_fault { result.0 ≡ 4 → Rose (K.faults sink.old) (K.faults sink.new) }
     ensures others { (result.0 ≡ 0) ⊎ ((result.0 ≡ 4) ⊎ (result.0 ≡ 6)) }
@@ -36,14 +37,19 @@ fn deliver<K: Sink>(sink: &mut K, text: &[u8]) -> Status
     }
 }
 
-/// Writes a line, as far as the sink takes it. `NoMemory` where the sink found none.
+/// Writes a line and hands it on, as far as the sink takes it. `NoMemory` where the sink found none.
 #[tactic(auto, using(crate::proofs::Delivery::begun_whole, crate::proofs::Delivery::begun_front, crate::proofs::Delivery::said_whole, crate::proofs::Delivery::said_front))]
 fn say<K: Sink>(sink: &mut K, line: &[u8]) -> Result<(), NoMemory>
     ensures begun { IsBegun line.now (K.held sink.old) (K.held sink.new) }
     ensures said { OnOk result (IsSaid line.now (K.held sink.old) (K.held sink.new) (K.faults sink.old) (K.faults sink.new)) }
+    ensures flushed { OnOk result (IsFlushed (K.held sink.new) (K.flushed sink.new) ⊎ Rose (K.faults sink.old) (K.faults sink.new)) }
 {
     match write_all(sink, line) {
-        Ok(()) => Ok(()),
+        Ok(()) => {
+            // A fault of the sink is told by its count alone.
+            let _ = sink.flush();
+            Ok(())
+        }
         Err(SinkFault::Failed) => Ok(()),
         Err(SinkFault::NoMemory) => Err(NoMemory),
     }
@@ -55,7 +61,8 @@ fn output<S: Source>(alloc: Global, command: Command, source: &mut S) -> Result<
     ensures early { IfErr result IsEarly }
     ensures source_fault { IfErr result (λ e. status_of e ≡ 3 → Rose (S.faults source.old) (S.faults source.new)) }
     ensures refused { IfErr result (λ e. status_of e ≡ 1 → IfSome (S.left source.old) (λ text. IsRefused command text (line_of e))) }
-    ensures numbers { IfErr result (λ e. status_of e ≡ 7 → IfSome (S.left source.old) (λ text. StopsForNumbers command text × (line_of e ≡ codes "numbers used\n"))) }
+    ensures numbers { IfErr result (λ e. status_of e ≡ 7 → IfSome (S.left source.old) (λ text. StopsForNumbers command text)) }
+    ensures numbers_line { IfErr result (λ e. status_of e ≡ 7 → line_of e ≡ numbers_line) }
 {
     match command {
         Command::Replay => replay(alloc, source),
@@ -76,22 +83,41 @@ pub fn run_alone<S: Source, K: Sink, E: Edge, C: Clock, W: Words>(
     _random: &mut W,
 ) -> Status
     ensures statuses { IsStatus result.0 }
-    ensures usage { (result.0 ≡ 2) ↔ (command_of words.now ≡ None) }
-    ensures usage_line { result.0 ≡ 2 → IsBegun usage_line (K.held sink.old) (K.held sink.new) }
-    ensures done { result.0 ≡ 0 → IfSome (command_of words.now) (λ command. IfSome (S.left source.old) (λ text. IsDelivered command text (K.held sink.old) (K.held sink.new) × (S.left source.new ≡ Some []))) }
-    ensures refused { result.0 ≡ 1 → IfSome (command_of words.now) (λ command. IfSome (S.left source.old) (λ text. (line : List ℕ) × IsRefused command text line × IsSaid line (K.held sink.old) (K.held sink.new) (K.faults sink.old) (K.faults sink.new))) }
-    ensures complete { IfSome (command_of words.now) (λ command. IfSome (S.left source.old) (λ text. IsTaken command text → result.0 ≢ 1)) }
+    ensures usage { result.0 ≡ 2 → command_of words.now ≡ None }
+    ensures no_command { command_of words.now ≡ None → (result.0 ≡ 2) ⊎ (result.0 ≡ 6) }
+    ensures usage_line { result.0 ≡ 2 → IsSaid usage_line (K.held sink.old) (K.held sink.new) (K.faults sink.old) (K.faults sink.new) }
+
+    // The output.
+    ensures done { result.0 ≡ 0 → IfInput (command_of words.now) (S.left source.old) (λ command text.
+        IsDelivered command text (K.held sink.old) (K.held sink.new) × (S.left source.new ≡ Some [])) }
+    ensures flushed { result.0 ≡ 0 → IsFlushed (K.held sink.new) (K.flushed sink.new) }
+
+    // A refusal.
+    ensures refused { result.0 ≡ 1 → IfInput (command_of words.now) (S.left source.old) (λ command text.
+        RefusalIsSaid command text (K.held sink.old) (K.held sink.new) (K.faults sink.old) (K.faults sink.new)) }
+    ensures complete { IfInput (command_of words.now) (S.left source.old) (λ command text. IsTaken command text → result.0 ≢ 1) }
+
+    // Faults.
     ensures source_fault { result.0 ≡ 3 → Rose (S.faults source.old) (S.faults source.new) }
     ensures silent { result.0 ≡ 3 → K.held sink.new ≡ K.held sink.old }
     ensures sink_fault { result.0 ≡ 4 → Rose (K.faults sink.old) (K.faults sink.new) }
-    ensures cut { result.0 ≡ 4 → IfSome (command_of words.now) (λ command. IfSome (S.left source.old) (λ text. IsCut command text (K.held sink.old) (K.held sink.new))) }
-    ensures memory { result.0 ≡ 6 → (K.held sink.new ≡ K.held sink.old) ⊎ IfSome (command_of words.now) (λ command. IfSome (S.left source.old) (λ text. IsLeft command text (K.held sink.old) (K.held sink.new))) }
-    ensures numbers { result.0 ≡ 7 → IfSome (command_of words.now) (λ command. IfSome (S.left source.old) (λ text. StopsForNumbers command text × IsSaid (codes "numbers used\n") (K.held sink.old) (K.held sink.new) (K.faults sink.old) (K.faults sink.new))) }
-    ensures stops { IfSome (command_of words.now) (λ command. IfSome (S.left source.old) (λ text. StopsForNumbers command text → result.0 ≢ 0)) }
+    ensures cut { result.0 ≡ 4 → IfInput (command_of words.now) (S.left source.old) (λ command text.
+        IsCut command text (K.held sink.old) (K.held sink.new)) }
+
+    // Memory and numbers.
+    ensures memory { result.0 ≡ 6 → RanOut (command_of words.now) (S.left source.old) (K.held sink.old) (K.held sink.new) }
+    ensures numbers { result.0 ≡ 7 → IfInput (command_of words.now) (S.left source.old) (λ command text. StopsForNumbers command text) }
+    ensures numbers_line { result.0 ≡ 7 → IsSaid numbers_line (K.held sink.old) (K.held sink.new) (K.faults sink.old) (K.faults sink.new) }
+    ensures stops { IfInput (command_of words.now) (S.left source.old) (λ command text. StopsForNumbers command text → result.0 ≢ 0) }
+
+    // A line that tells why nothing else is written is handed on too.
+    ensures line_flushed { EndsByLine result.0 → IsFlushed (K.held sink.new) (K.flushed sink.new) ⊎ Rose (K.faults sink.old) (K.faults sink.new) }
 {
     let Some(command) = command_of(words) else {
-        let _ = say(sink, USAGE_LINE.as_bytes());
-        return USAGE;
+        return match say(sink, USAGE_LINE.as_bytes()) {
+            Ok(()) => USAGE,
+            Err(NoMemory) => NO_MEMORY,
+        };
     };
     input_laws();
     match output(alloc, command, source) {
