@@ -6,7 +6,6 @@ use client_request::{Fault, Moment, Out, What};
 use dns_base::{IpAddr, Octets, SocketAddr};
 use resolv_conf::{ServerConf, Transport};
 use std::alloc::Global;
-use std::collections::VecDeque;
 use std::test::Fail;
 
 #[test]
@@ -80,8 +79,8 @@ fn server() -> ServerConf {
 }
 
 fn edge(alloc: Global) -> Result<ListEdge, Fail> {
-    let mut events = VecDeque::new(alloc);
-    events.push_back(Some(What::Opened { place: 3 }))?;
+    let mut events = Vec::new(alloc);
+    events.push(Some(What::Opened { place: 3 }))?;
     Ok(ListEdge::new(alloc, events))
 }
 

@@ -6,7 +6,6 @@ use dns_base::{Octets, Status};
 use dns_values::{MemSink, MemSource, Sink};
 use dnsq_run::run_alone;
 use std::alloc::{AllocError, Global};
-use std::collections::VecDeque;
 use std::test::Fail;
 
 /// Words of a command line with this one alone.
@@ -30,7 +29,7 @@ pub fn sink(alloc: Global, fails: u64) -> Result<MemSink, AllocError> {
 
 /// The program's exit status. It asks no server.
 pub fn run<K: Sink>(alloc: Global, words: &[String], source: &mut MemSource, sink: &mut K) -> u8 {
-    let mut edge = ListEdge::new(alloc, VecDeque::new(alloc));
+    let mut edge = ListEdge::new(alloc, Vec::new(alloc));
     let mut clock = ListClock::new(Vec::new(alloc));
     let mut random = ListWords::new(WordList::new(alloc));
     let status: Status = run_alone(
