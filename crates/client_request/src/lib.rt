@@ -27,6 +27,7 @@ mod response;
 mod send;
 #[cfg(test)]
 mod tests;
+mod timer_heap;
 mod timers;
 mod words;
 

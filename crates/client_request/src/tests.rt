@@ -216,6 +216,23 @@ fn timers_fire_in_their_order(rt: HostRuntime) -> Result<(), Fail> {
 }
 
 #[test]
+fn the_heap_of_timers_shows_the_next_first(rt: HostRuntime) -> Result<(), Fail> {
+    let mut timers = Timers::new(rt.alloc());
+    for due in [5, 3, 3, 9] {
+        let _ = timers.set(due)?;
+    }
+    assert_eq!(rt; timers.heap().len(), 4);
+    assert_eq!(rt; timers.heap().first(), Some(&(3, TimerId(1))));
+    for fired in [Some(TimerId(1)), Some(TimerId(2)), None] {
+        assert_eq!(rt; timers.fire(Moment(4)), fired);
+    }
+    assert!(rt; timers.heap() == [(5, TimerId(0)), (9, TimerId(3))].as_slice());
+    timers.cancel(TimerId(0));
+    assert!(rt; timers.heap() == [(9, TimerId(3))].as_slice());
+    Ok(())
+}
+
+#[test]
 fn a_result_is_given_once(rt: HostRuntime) -> Result<(), Fail> {
     let mut board = Board::new(rt.alloc());
     board.put(2, Err(Error::TimedOut))?;
