@@ -6,6 +6,7 @@ pub mod Carries
 pub mod Words
 pub mod Numbered
 pub mod Timers
+pub mod TimerHeap
 pub mod Board
 pub mod View
 pub mod Cx

@@ -25,6 +25,7 @@ mod request;
 mod request_multi;
 mod response;
 mod send;
+mod timer_heap;
 mod timers;
 mod words;
 

@@ -26,6 +26,21 @@ fn timers_fire_in_their_order(rt: HostRuntime) -> Result<(), Fail> {
     Ok(())
 }
 
+#[test]
+fn the_heap_of_timers_shows_the_next_first(rt: HostRuntime) -> Result<(), Fail> {
+    let mut timers = timers_of(rt.alloc(), &[5, 3, 3, 9])?;
+    assert_eq!(rt; timers.heap().len(), 4);
+    assert_eq!(rt; timers.heap().first(), Some(&(3, TimerId(1))));
+    assert_eq!(rt; timers.fire(Moment(4)), Some(TimerId(1)));
+    assert_eq!(rt; timers.fire(Moment(4)), Some(TimerId(2)));
+    assert_eq!(rt; timers.fire(Moment(4)), None);
+    assert!(rt; timers.heap() == [(5, TimerId(0)), (9, TimerId(3))].as_slice());
+    timers.cancel(TimerId(0));
+    assert_eq!(rt; timers.next_due(), Some((9, TimerId(3))));
+    assert!(rt; timers.heap() == [(9, TimerId(3))].as_slice());
+    Ok(())
+}
+
 fn board(alloc: Global) -> Result<Board, Error> {
     let mut board = Board::new(alloc);
     board.put(2, Err(Error::TimedOut))?;
