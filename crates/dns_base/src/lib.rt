@@ -23,7 +23,7 @@ pub use dns_names::{
 };
 pub use dns_values::{
     Class, Duration, Failed, IpAddr, LongName, LongOptData, NoMemory, Octets, Opcode, OptRcode,
-    ParseError, Rcode, Rtype, Section, Serial, ShortMessage, SocketAddr, Status, Ttl, address_laws,
+    ParseError, Rcode, Rtype, Section, Seq, Serial, ShortMessage, SocketAddr, Status, Ttl, address_laws,
 };
 pub use header::{Header, HeaderCounts};
 pub use laws::{draft_laws, draft_steps, reading_laws};

@@ -7,6 +7,7 @@ mod error;
 mod laws;
 mod numbers;
 mod octets;
+mod seq;
 mod sink;
 mod source;
 mod std_edge;
@@ -18,6 +19,7 @@ pub use error::{Failed, LongName, LongOptData, NoMemory, ParseError, ShortMessag
 pub use laws::address_laws;
 pub use numbers::{Class, Opcode, OptRcode, Rcode, Rtype, Section, Serial, Status, Ttl};
 pub use octets::Octets;
+pub use seq::Seq;
 pub use sink::{MemSink, Sink, SinkFault, SureSink};
 pub use source::{MemSource, Source, SureSource, copy_front};
 pub use std_edge::{StdSink, StdSource};

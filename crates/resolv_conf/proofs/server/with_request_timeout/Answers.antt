@@ -1,6 +1,6 @@
 use Rattle.resolv_conf.specs.Server.{with_timeout}
 use Rattle.resolv_conf.proofs.Changes.{changed}
-use Rattle.resolv_conf.proofs.server.Servers.set_request_timeout.Goals as goal
+use Rattle.resolv_conf.proofs.server.with_request_timeout.Goals as goal
 
 pub loop-server-preserved : goal.loop-server-preserved
 loop-server-preserved c =
