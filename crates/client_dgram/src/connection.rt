@@ -16,7 +16,7 @@ use std::fmt;
 use std::marker::Model;
 
 /// A server that is asked by datagrams. `server` is the number that its outs name.
-#[derive(Drop)]
+#[derive(Debug, Drop)]
 pub struct Connection<Req> {
     server: u32,
     config: Config,

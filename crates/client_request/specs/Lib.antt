@@ -11,6 +11,7 @@ pub mod Board
 pub mod View
 pub mod Cx
 pub mod Response
+pub mod Calls
 pub mod Composing
 pub mod Requests
 pub mod Limits

@@ -2,6 +2,7 @@
 
 ghost use Rattle.std.specs.Prelude.{◌≡◌, ℕ, Bool, true, false, Option, Some, None, OnOk, OnErr, IfOk, IfErr, IsErrOf, Err};
 ghost use Rattle.client_request.specs.View.{Transport};
+ghost use Rattle.client_request.specs.Calls.{Steps, NumbersRunOut, AnswersFailed};
 ghost use Rattle.client_request.specs.Cx.{view_of, heard, LendsTheSame};
 ghost use Rattle.client_request.specs.Response.{IsRefusal};
 
@@ -34,26 +35,26 @@ pub trait SendRequest<CR> {
         request: CR,
     ) -> Result<Self::Response, Error>
         ensures lends { LendsTheSame cx.old cx.new }
-        ensures ok { OnOk result (transport.send request self.old (view_of W.stream cx.old) ≡ Some (self.new, view_of W.stream cx.new)) }
+        ensures ok { Steps result (transport.send request self.old (view_of W.stream cx.old)) (self.new, view_of W.stream cx.new) }
         ensures response { IfOk result (λ r. r ≡ transport.response request self.old (view_of W.stream cx.old)) }
         ensures ticket { IfOk result (λ r. Self.Response.ticket_of r ≡ cx.old.ticket) }
         ensures waits { IfOk result (λ r. Self.Response.has_given r ≡ false) }
-        ensures numbers { IsErrOf result Error.NumbersUsed → transport.send request self.old (view_of W.stream cx.old) ≡ None }
+        ensures numbers { NumbersRunOut result (transport.send request self.old (view_of W.stream cx.old)) }
         ensures keeps { OnOk result (holds_failed self.new ≡ holds_failed self.old) }
         ensures refused { IfErr result IsRefusal }
         ensures err { OnErr result (has_failed self.new ≡ true) }
-        ensures failed { has_failed self.old ≡ true → (result ≡ Err Error.Failed) × (self.new ≡ self.old) × (view_of W.stream cx.new ≡ view_of W.stream cx.old) }
+        ensures failed { has_failed self.old ≡ true → AnswersFailed result (self.old, view_of W.stream cx.old) (self.new, view_of W.stream cx.new) }
         ensures failed_only { IsErrOf result Error.Failed → holds_failed self.old ≡ true };
 
     /// Hears what happened.
     fn step<W: Words>(&mut self, cx: &mut Cx<'_, W>, signal: Signal<'_>) -> Result<(), Error>
         ensures lends { LendsTheSame cx.old cx.new }
-        ensures ok { OnOk result (transport.step (heard signal.entry) self.old (view_of W.stream cx.old) ≡ Some (self.new, view_of W.stream cx.new)) }
-        ensures numbers { IsErrOf result Error.NumbersUsed → transport.step (heard signal.entry) self.old (view_of W.stream cx.old) ≡ None }
+        ensures ok { Steps result (transport.step (heard signal.entry) self.old (view_of W.stream cx.old)) (self.new, view_of W.stream cx.new) }
+        ensures numbers { NumbersRunOut result (transport.step (heard signal.entry) self.old (view_of W.stream cx.old)) }
         ensures keeps { OnOk result (holds_failed self.new ≡ holds_failed self.old) }
         ensures refused { IfErr result IsRefusal }
         ensures err { OnErr result (has_failed self.new ≡ true) }
-        ensures failed { has_failed self.old ≡ true → (result ≡ Err Error.Failed) × (self.new ≡ self.old) × (view_of W.stream cx.new ≡ view_of W.stream cx.old) }
+        ensures failed { has_failed self.old ≡ true → AnswersFailed result (self.old, view_of W.stream cx.old) (self.new, view_of W.stream cx.new) }
         ensures failed_only { IsErrOf result Error.Failed → holds_failed self.old ≡ true };
 
     /// Gives a request up, whose result then never comes.
@@ -63,11 +64,11 @@ pub trait SendRequest<CR> {
         response: Self::Response,
     ) -> Result<(), Error>
         ensures lends { LendsTheSame cx.old cx.new }
-        ensures ok { OnOk result (transport.cancel response self.old (view_of W.stream cx.old) ≡ Some (self.new, view_of W.stream cx.new)) }
-        ensures numbers { IsErrOf result Error.NumbersUsed → transport.cancel response self.old (view_of W.stream cx.old) ≡ None }
+        ensures ok { Steps result (transport.cancel response self.old (view_of W.stream cx.old)) (self.new, view_of W.stream cx.new) }
+        ensures numbers { NumbersRunOut result (transport.cancel response self.old (view_of W.stream cx.old)) }
         ensures keeps { OnOk result (holds_failed self.new ≡ holds_failed self.old) }
         ensures refused { IfErr result IsRefusal }
         ensures err { OnErr result (has_failed self.new ≡ true) }
-        ensures failed { has_failed self.old ≡ true → (result ≡ Err Error.Failed) × (self.new ≡ self.old) × (view_of W.stream cx.new ≡ view_of W.stream cx.old) }
+        ensures failed { has_failed self.old ≡ true → AnswersFailed result (self.old, view_of W.stream cx.old) (self.new, view_of W.stream cx.new) }
         ensures failed_only { IsErrOf result Error.Failed → holds_failed self.old ≡ true };
 }
