@@ -3,6 +3,7 @@
 
 mod answer;
 mod builder;
+mod compressor;
 mod header;
 mod laws;
 mod lookups;
