@@ -58,24 +58,30 @@ with_name labels c = record { octets = c.octets ++ name_octets c labels; places 
 unfoldable pub with_octets : List ℕ → Compressed → Compressed
 with_octets octets c = record c { octets = c.octets ++ octets }
 
-abbrev pub soa_numbers : Soa → List ℕ
-soa_numbers soa =
-    to_be_bytes w32 soa.serial ++ to_be_bytes w32 soa.refresh ++ to_be_bytes w32 soa.retry ++ to_be_bytes w32 soa.expire ++ to_be_bytes w32 soa.minimum
+abbrev pub with_u16 : ℕ → Compressed → Compressed
+with_u16 n c = with_octets (to_be_bytes w16 n) c
+
+abbrev pub with_u32 : ℕ → Compressed → Compressed
+with_u32 n c = with_octets (to_be_bytes w32 n) c
+
+-- the five numbers of an SOA record
+unfoldable pub with_numbers : Soa → Compressed → Compressed
+with_numbers soa c = with_u32 soa.minimum (with_u32 soa.expire (with_u32 soa.retry (with_u32 soa.refresh (with_u32 soa.serial c))))
 
 -- Names are compressed in the data of the types of RFC 1035 alone (RFC 3597 4): not in DNAME's and SRV's.
 unfoldable pub with_data : Data → Compressed → Compressed
 with_data (One rtype name) c = if rtype == 39 then with_octets (spelling name) c else with_name name c
 with_data (Minfo first second) c = with_name second (with_name first c)
-with_data (Mx preference name) c = with_name name (with_octets (to_be_bytes w16 preference) c)
-with_data (StartOfAuthority soa) c = with_octets (soa_numbers soa) (with_name soa.rname (with_name soa.mname c))
+with_data (Mx preference name) c = with_name name (with_u16 preference c)
+with_data (StartOfAuthority soa) c = with_numbers soa (with_name soa.rname (with_name soa.mname c))
 with_data content c = with_octets (data_spelling content) c
 
 unfoldable pub with_question : Asked → Compressed → Compressed
-with_question q c = with_octets (to_be_bytes w16 q.rtype ++ to_be_bytes w16 q.class) (with_name q.name c)
+with_question q c = with_u16 q.class (with_u16 q.rtype (with_name q.name c))
 
 -- the fields before the data's length
 unfoldable pub with_fields : Written → Compressed → Compressed
-with_fields w c = with_octets (to_be_bytes w16 w.rtype ++ to_be_bytes w16 w.class ++ to_be_bytes w32 w.ttl) (with_name w.owner c)
+with_fields w c = with_u32 w.ttl (with_u16 w.class (with_u16 w.rtype (with_name w.owner c)))
 
 -- how many octets stand behind a place and the two octets of a number there
 abbrev pub count_behind : ℕ → List ℕ → ℕ
@@ -85,13 +91,18 @@ count_behind at octets = length octets - (at + 2)
 unfoldable pub counted : ℕ → Compressed → Compressed
 counted at c = record c { octets = take at c.octets ++ (to_be_bytes w16 (count_behind at c.octets) ++ drop (at + 2) c.octets) }
 
--- The data's length is known once the data is written: until then two zero octets stand in its place.
+-- Data behind its length, which is known once the data is written: until then two zero octets stand in its place.
+unfoldable pub with_counted_data : Data → Compressed → Compressed
+with_counted_data content c = counted (length c.octets) (with_data content (with_u16 0 c))
+
 unfoldable pub with_record : Written → Compressed → Compressed
-with_record w c =
-    let fields : Compressed = with_fields w c in
-    counted (length fields.octets) (with_data w.content (with_octets (0 ∷ 0 ∷ []) fields))
+with_record w c = with_counted_data w.content (with_fields w c)
+
+-- The second list begins with the first.
+abbrev pub Begins : List ℕ → List ℕ → Type 0
+Begins a b = take (length a) b ≡ a
 
 -- what was written is still there, and more may stand behind it
 pub record Continues (a b : Compressed) : Type 0 where
-  pub octets : take (length a.octets) b.octets ≡ a.octets
-  pub places : take (length a.places) b.places ≡ a.places
+  pub octets : Begins a.octets b.octets
+  pub places : Begins a.places b.places

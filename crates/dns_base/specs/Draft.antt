@@ -5,7 +5,7 @@ use Rattle.dns_base.specs.declared.push_error.PushError.{PushError}
 use Rattle.dns_base.specs.declared.push_error.PushError.TheVariants.{Count, Limit, NoMemory}
 use Rattle.dns_names.specs.Name.{octet_count}
 use Rattle.dns_base.specs.Header.{Counts}
-use Rattle.dns_base.specs.Sections.{no_entries, entries_in, one_more_in, counts_spelling}
+use Rattle.dns_base.specs.Sections.{no_entries, one_question_more, entries_in, one_more_in, counts_spelling}
 use Rattle.dns_base.specs.Data.{data_spelling}
 use Rattle.dns_base.specs.Message.{Asked, Written}
 use Rattle.dns_base.specs.Compression.{Compressed, with_question, with_record}
@@ -40,7 +40,7 @@ unfoldable pub with_header : List ℕ → Draft → Draft
 with_header header d = record d { target = record d.target { octets = header ++ drop 4 d.target.octets } }
 
 unfoldable pub pushed_question : Asked → Draft → Draft
-pushed_question q d = record d { target = with_question q d.target; counts = record d.counts { questions = d.counts.questions + 1 } }
+pushed_question q d = record d { target = with_question q d.target; counts = one_question_more d.counts }
 
 unfoldable pub pushed_record : Section → Written → Draft → Draft
 pushed_record section w d = record d { target = with_record w d.target; counts = one_more_in section d.counts }
@@ -62,12 +62,22 @@ abbrev pub IsWithin : Option ℕ → ℕ → Type 0
 IsWithin None octets = Unit {0}
 IsWithin (Some limit) octets = octets ≤ limit
 
+-- with so many octets more it would pass its limit
+abbrev pub passes : Draft → ℕ → Bool
+passes d more = is_past (limit_of d) (size d + more)
+
 -- why so many octets more are refused, where so many entries stand: they are counted before any name is compressed
 unfoldable pub refusal : ℕ → Draft → ℕ → Option PushError
 refusal entries d more =
     if entries == 65535 then Some Count
     else if is_past d.limit (length d.target.octets + more) then Some Limit
     else None
+
+abbrev pub question_refusal : Asked → Draft → Option PushError
+question_refusal q d = refusal (counts_in d).questions d (question_size q)
+
+abbrev pub record_refusal : Section → Written → Draft → Option PushError
+record_refusal section w d = refusal (entries_in section (counts_in d)) d (record_size w)
 
 -- A push answers this refusal. With none it is done, unless memory runs out.
 abbrev pub Pushed : Option PushError → Result (Unit {0}) PushError → Type 0

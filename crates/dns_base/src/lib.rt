@@ -17,6 +17,7 @@ mod record_data;
 mod spelling;
 #[cfg(test)]
 mod tests;
+mod writing;
 
 pub use answer::is_answer;
 pub use builder::Builder;
