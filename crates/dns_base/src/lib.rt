@@ -3,6 +3,7 @@
 
 mod answer;
 mod builder;
+mod compressor;
 mod header;
 mod laws;
 mod lookups;
@@ -14,6 +15,7 @@ mod question;
 mod record;
 mod record_data;
 mod spelling;
+mod writing;
 
 pub use answer::is_answer;
 pub use builder::Builder;
