@@ -4,7 +4,8 @@ usage: python3 tests/compare_traces.py REFERENCE_FOLDER PROGRAM [--profile P] [-
 
 REFERENCE_FOLDER holds the package `plain`; PROGRAM is the built dnsq. Without the folder nothing is
 compared, and that is said. Each script is made by the reference's own generator from its number as the
-seed, so a failure can be made again.
+seed, so a failure can be made again. The stage, how much of the client is built, counts for the generator and
+for the judge.
 """
 
 import argparse
@@ -20,7 +21,7 @@ def reference(folder, *words, **how):
 
 def compare(folder, program, seed, options, room):
     made = reference(folder, "plain.fuzz", "--seed", str(seed), "--events", str(options.events),
-                     "--profile", options.profile, check=True).stdout
+                     "--profile", options.profile, "--stage", str(options.stage), check=True).stdout
     script, trace = os.path.join(room, "script"), os.path.join(room, "trace")
     ran = subprocess.run([program, "replay"], input=made, capture_output=True, timeout=120)
     with open(script, "wb") as it:

@@ -5,7 +5,7 @@
 #
 # `example` and `flood` are runs of `dnsq replay`, on the script crates/dnsq/stdin and on one that asks 101 times where
 # 100 may be at work and then opens one place in vain. Status 6 and no output are wanted, and status 0 past the last
-# allocation. `dgram` is the test of client_dgram that runs three requests over two slots: it passes where the want of
+# allocation. `dgram` is the test of client_tests that runs three requests over two slots: it passes where the want of
 # memory was told and each later call answers `Failed`; that other tests of the crate then fail is of no account.
 # Each number builds anew, in half a minute or more. JOBS of them (2) run at a time.
 set -u
@@ -43,7 +43,7 @@ one() { # NUMBER
 case $what in
     example) run=replay && cp dnsq/stdin "$work/script" && cd dnsq ;;
     flood) run=replay && flood > "$work/script" && cd dnsq ;;
-    dgram) run=dgram && cd client_dgram ;;
+    dgram) run=dgram && cd client_tests ;;
     *) false ;;
 esac && [ $# -gt 1 ] || { echo "usage: bash tests/fail_alloc.sh example|flood|dgram N.." >&2; exit 2; }
 shift

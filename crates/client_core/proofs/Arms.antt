@@ -15,7 +15,8 @@ use Rattle.client_dgram.specs.Settings.{Settings}
 use Rattle.client_dgram.specs.declared.job.Job.{Job}
 use Rattle.client_dgram.specs.declared.job.Stage.{Stage}
 use Rattle.client_dgram.specs.declared.job.Stage.TheVariants as at
-use Rattle.client_dgram.specs.Plain.{Tables, Requests, After, leaves, closes, at_place, at_ticket, at_job}
+use Rattle.client_request.specs.Requests.{Requests}
+use Rattle.client_dgram.specs.Plain.{Tables, After, leaves, closes, at_place, at_ticket, at_job}
 use Rattle.client_request.specs.Numbered.{frees, entry_at}
 use Rattle.client_dgram.specs.Plain as dgram
 use Rattle.headline.specs.Messages.{under}

@@ -3,7 +3,7 @@ use Rattle.std.proofs.Common.{◌≡◌, ℕ, ◌+◌, ◌≤◌, Bool, true, co
 use Rattle.std.proofs.lemmas.Bool.Decides.{nat_tests}
 use Rattle.std.specs.Prelude.{option_and_then, option_map}
 use Rattle.std.specs.List.{slice_get}
-use Rattle.client_request.specs.Board.{Part, part_of, without_part, oldest, removed_at}
+use Rattle.client_request.specs.Board.{Part}
 use Rattle.client_request.specs.Request.{Request}
 use Rattle.client_request.specs.View.{View, asks, drops_timer}
 use Rattle.client_request.specs.declared.board.Posted.{Posted}
@@ -12,7 +12,7 @@ use Rattle.client_request.specs.declared.event.Out.TheVariants.{Reply}
 use Rattle.client_dgram.specs.Plain.{Tables}
 use Rattle.client_request.specs.Numbered.{entry_at}
 use Rattle.headline.specs.Machine.{Done}
-use Rattle.client_core.specs.Client.{Asked, result_of, off_board, replies, replies_many, replies_one, replies_part, replies_to, without_request}
+use Rattle.client_core.specs.Client.{Asked, result_of, replies, replies_many, replies_one, replies_to, without_request}
 use Rattle.client_core.specs.Whole.{Response}
 use Rattle.client_core.specs.declared.asked.Waiting.{Waiting}
 use Rattle.client_core.proofs.TimerLaws.{no_more_without}
@@ -23,21 +23,6 @@ use Rattle.client_core.proofs.Arms.{Heeds, Silent, Posts}
 -- a board with one result
 abbrev pub only : ℕ → Part → List Posted
 only k part = record { ticket = k; part = part } ∷ []
-
-found : (k : ℕ) (part : Part) → (part_of k (only k part) ≡ Some part) × (without_part k (only k part) ≡ [])
-found k part = subst (λ b. (part_at b ≡ Some part) × (left_at b ≡ [])) (sym (same k)) (refl, refl)
-  where
-    same : (k : ℕ) → (k == k) ≡ true
-    same k = grind (arith, nat_tests)
-
-    at_first : Bool → Option ℕ
-    at_first b = cond (ltb (cond (not b) (1 + 0) 0) 1) (Some (cond (not b) (1 + 0) 0)) None
-
-    part_at : Bool → Option Part
-    part_at b = option_and_then (λ i. option_map (λ (p : Posted). p.part) (slice_get (only k part) i)) (at_first b)
-
-    left_at : Bool → List Posted
-    left_at b = removed_at (only k part) (at_first b)
 
 -- nothing to reply
 pub replies_none : (a : Asked Response) (v : View) → v.board ≡ [] → replies (a, v) ≡ (a, v)
@@ -50,11 +35,8 @@ replied k part w a v = (without_request k (Some w) a, asks (Reply w.number (resu
 pub replies_once : (k : ℕ) (part : Part) (w : Waiting Response) (a : Asked Response) (v : View) → v.board ≡ only k part → entry_at k a.waiting ≡ Some w → replies (a, v) ≡ replied k part w a v
 replies_once k part w a v e waits =
     ap (λ (b : List Posted). replies_many (length b) (a, v)) e
-    ∙ (ap (λ (b : List Posted). replies_one a v (oldest b)) e
-    ∙ (ap (λ (b : List Posted). replies_part k a v (part_of k b)) e
-    ∙ (ap (replies_part k a v) (found k part).0
-    ∙ (ap (λ (x : Option (Waiting Response)). replies_to k part a (off_board k v) x) waits
-    ∙ ap (λ (b : List Posted). (without_request k (Some w) a, asks (Reply w.number (result_of part)) (drops_timer w.timer (record v { board = b })))) (ap (without_part k) e ∙ (found k part).1)))))
+    ∙ (ap (replies_one a v) e
+    ∙ ap (replies_to k part a (record v { board = [] })) waits)
 
 -- What the client is once the results of a step are replies.
 pub record Settled (timeout wait : ℕ) (outs : List Out) (ticket next count : ℕ) (d : Done) (t : Tables Request) (a : Asked Response) (v : View) : Type 0 where

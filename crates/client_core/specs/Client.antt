@@ -1,10 +1,11 @@
 -- The plain client over any transport: deadlines, replies, and one step for each event.
 use Rattle.std.specs.Prelude.{ℕ, zero, suc, ◌+◌, max, false, List, [], ◌∷◌, length, if◌then◌else◌, Option, Some, None, option_and_then, option_map, Result, Ok, Err}
-use Rattle.client_request.specs.Board.{Part, part_of, without_part, oldest}
+use Rattle.client_request.specs.Board.{Part}
 use Rattle.client_request.specs.Numbered.{puts, frees, entry_at}
 use Rattle.client_request.specs.Request.{Request}
 use Rattle.client_request.specs.Timers.{can_draw, due_now, fired}
 use Rattle.client_request.specs.View.{View, Heard, Step, told, due_timer, asks, sets_timer, drops_timer}
+use Rattle.client_request.specs.declared.board.Posted.{Posted}
 use Rattle.client_request.specs.declared.error.Error.{Error}
 use Rattle.client_request.specs.declared.error.Error.TheVariants.{TimedOut, ConnectionClosed}
 use Rattle.client_request.specs.declared.event.Event.{Event}
@@ -35,9 +36,6 @@ result_of (Ok (Some message)) = Ok message
 result_of (Ok None) = Err ConnectionClosed
 result_of (Err error) = Err error
 
-abbrev pub off_board : ℕ → View → View
-off_board ticket v = record v { board = without_part ticket v.board }
-
 module _ {P : Type 0} where
   abbrev pub nothing_asked : Asked P
   nothing_asked = record { waiting = []; deadlines = []; next = 0 }
@@ -64,17 +62,13 @@ module _ {P : Type 0} where
     asks (Reply w.number (result_of part)) (drops_timer w.timer v),
   )
 
-  abbrev pub replies_part : ℕ → Asked P → View → Option Part → Asked P × View
-  replies_part ticket a v None = (a, v)
-  replies_part ticket a v (Some part) = replies_to ticket part a (off_board ticket v) (entry_at ticket a.waiting)
+  -- the result that was put first, of those on the board
+  abbrev pub replies_one : Asked P → View → List Posted → Asked P × View
+  replies_one a v [] = (a, v)
+  replies_one a v (first ∷ rest) = replies_to first.ticket first.part a (record v { board = rest }) (entry_at first.ticket a.waiting)
 
-  abbrev pub replies_one : Asked P → View → Option ℕ → Asked P × View
-  replies_one a v None = (a, v)
-  replies_one a v (Some ticket) = replies_part ticket a v (part_of ticket v.board)
-
-  -- the result that was put first
   abbrev pub replies_first : Asked P × View → Asked P × View
-  replies_first x = replies_one x.0 x.1 (oldest x.1.board)
+  replies_first x = replies_one x.0 x.1 x.1.board
 
   -- so many results, in the order in which they were put
   abbrev pub replies_many : ℕ → Asked P × View → Asked P × View

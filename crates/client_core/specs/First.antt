@@ -1,6 +1,6 @@
 -- The plain machine that asks the first server, over any transport.
 use Rattle.std.specs.Prelude.{ℕ, Bool, true, false, ◌||◌, List, Option, Some, None, option_map, is_some, Result, Ok, Err}
-use Rattle.client_request.specs.View.{View, Step, answers, draws_ticket}
+use Rattle.client_request.specs.View.{View, Step, Transport, answers, draws_ticket}
 use Rattle.client_request.specs.declared.error.Error.{Error}
 use Rattle.client_request.specs.declared.error.Error.TheVariants.{NoTransportAvailable}
 use Rattle.client_core.specs.declared.first.Passed.{Passed}
@@ -96,3 +96,12 @@ module _ {U : Type 0} where
 
     abbrev pub plain_response : R → First U → View → Passed P
     plain_response request f v = response_of request f.upstream v
+
+  -- the whole machine over the transport of a server
+  abbrev pub transport : {R P : Type 0} → (R → Result (List ℕ) Error) → Transport R U P → Transport R (First U) (Passed P)
+  transport composed below = record {
+    send = plain_send composed below.send;
+    step = λ h. plain_step (below.step h);
+    cancel = plain_cancel below.cancel;
+    response = plain_response composed below.response;
+  }

@@ -1,7 +1,9 @@
 -- What the headline says of the plain client.
-use Rattle.std.specs.Prelude.{◌≡◌, ℕ, List, map, Some}
+use Rattle.std.specs.Prelude.{◌≡◌, ℕ, List, length, map, nat_lt, Some}
+use Rattle.client_request.specs.Composed.{composed}
 use Rattle.client_request.specs.declared.event.Event.{Event}
 use Rattle.client_request.specs.declared.event.Row.{Row}
+use Rattle.headline.specs.Machine.{fresh, IsRun}
 use Rattle.headline.specs.Trace.{Conf, ByDatagrams}
 use Rattle.headline.specs.Right.{Right, Timely, NoneIsTruncated, AllAskedInOctets}
 use Rattle.client_core.specs.Whole.{plain_trace}
@@ -17,3 +19,15 @@ EveryPlainTraceIsRight =
     (conf : ResolvConf) (words : ℕ → ℕ) (events : List Event) (rows : List Row)
     → plain_trace conf words events ≡ Some rows → AllAskedInOctets events → NoneIsTruncated events
     → Right (conf_of conf) rows × Timely (conf_of conf) rows
+
+-- Every plain trace is a run of the machine of small moves.
+abbrev pub PlainTracesAreRuns : Type 0
+PlainTracesAreRuns =
+    (conf : ResolvConf) (words : ℕ → ℕ) (events : List Event) (rows : List Row)
+    → plain_trace conf words events ≡ Some rows → IsRun composed (nat_lt 0 (length conf.servers)) conf.options.timeout fresh rows
+
+-- A plain trace has a row for each event, in order.
+abbrev pub PlainTracesKeepTheirEvents : Type 0
+PlainTracesKeepTheirEvents =
+    (conf : ResolvConf) (words : ℕ → ℕ) (events : List Event) (rows : List Row)
+    → plain_trace conf words events ≡ Some rows → map (λ row. row.event) rows ≡ events

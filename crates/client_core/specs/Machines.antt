@@ -1,8 +1,14 @@
 -- The members of a transport's trait, as the plain client takes them.
 use Rattle.std.specs.Prelude.{ℕ}
 use Rattle.client_request.specs.Request.{Request}
-use Rattle.client_request.specs.View.{View, Heard, Step}
-use Rattle.client_core.specs.Client.{Machine}
+use Rattle.client_request.specs.View.{Transport}
+use Rattle.client_request.specs.Cx.{view_of}
+use Rattle.client_request.specs.declared.cx.Cx.{Cx}
+use Rattle.client_core.specs.Client.{Machine, Client, Asked, client_of}
 
-abbrev pub machine_of : {U P : Type 0} → (Request → Step U) → (Heard → Step U) → (P → Step U) → (Request → U → View → P) → (P → ℕ) → Machine U P
-machine_of send step cancel response ticket = record { send = send; step = step; cancel = cancel; response = response; ticket = ticket }
+abbrev pub machine_of : {U P : Type 0} → Transport Request U P → (P → ℕ) → Machine U P
+machine_of t ticket = record { send = t.send; step = t.step; cancel = t.cancel; response = t.response; ticket = ticket }
+
+-- the client while it is in a context
+abbrev pub client_in : {U P W : Type 0} → U → Asked P → (W → ℕ → ℕ) → Cx W → Client U P
+client_in layer asked stream cx = client_of layer (asked, view_of stream cx)

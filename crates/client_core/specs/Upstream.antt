@@ -1,10 +1,10 @@
 -- The plain machine of one server, by the transport that is used for it.
-use Rattle.std.specs.Prelude.{ℕ, Bool, Option, Some, option_and_then}
-use Rattle.client_request.specs.View.{View, Heard, asks}
+use Rattle.std.specs.Prelude.{ℕ, Bool, false, Option, Some, option_and_then}
+use Rattle.client_request.specs.Requests.{Requests}
+use Rattle.client_request.specs.View.{View, Heard, Transport, asks}
 use Rattle.client_request.specs.declared.event.Out.TheVariants.{Start}
 use Rattle.client_request.specs.declared.event.Via.TheVariants as via
 use Rattle.client_dgram.specs.Plain as dgram
-use Rattle.client_dgram.specs.Plain.{Requests}
 use Rattle.client_core.specs.declared.upstream.Upstream.{Upstream}
 use Rattle.client_core.specs.declared.upstream.Upstream.TheVariants.{Dgram}
 
@@ -28,3 +28,11 @@ module _ {R : Type 0} where
 
     abbrev pub plain_step : Heard → Upstream R → View → Option (Upstream R × View)
     plain_step h (Dgram c) v = by_dgram (dgram.plain_step requests h c v)
+
+    abbrev pub transport : Transport R (Upstream R) dgram.Asked
+    transport = record {
+      send = plain_send;
+      step = plain_step;
+      cancel = λ asked. plain_cancel asked.ticket;
+      response = λ request u v. record { ticket = v.ticket; given = false };
+    }

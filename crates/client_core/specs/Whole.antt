@@ -1,13 +1,13 @@
 -- The whole plain client: the first server of a configuration, by datagrams.
 use Rattle.std.specs.Prelude.{ℕ, Bool, false, List, [], ◌∷◌, Option, Some, None}
 use Rattle.client_request.specs.Composed.{composed}
-use Rattle.client_request.specs.Request.{Request, with_id, with_payload_size, is_answered}
+use Rattle.client_request.specs.Request.{Request}
+use Rattle.client_request.specs.Requests.{Requests, for_one}
 use Rattle.client_request.specs.Timers.{TimerList}
 use Rattle.client_request.specs.declared.board.Posted.{Posted}
 use Rattle.client_request.specs.declared.event.Event.{Event}
 use Rattle.client_request.specs.declared.event.Row.{Row}
 use Rattle.client_dgram.specs.Plain as dgram
-use Rattle.client_dgram.specs.Requests.{requests_of}
 use Rattle.client_dgram.specs.Settings.{default_settings}
 use Rattle.client_core.specs.Client as plain
 use Rattle.client_core.specs.Client.{Machine, Asked, nothing_asked, plain_rows}
@@ -27,16 +27,11 @@ Layer = First (Upstream Request)
 abbrev pub Response : Type 0
 Response = Passed dgram.Asked
 
-abbrev pub requests : dgram.Requests Request
-requests = requests_of with_id with_payload_size composed is_answered
+abbrev pub requests : Requests Request
+requests = for_one
 
 abbrev pub machine : Machine Layer Response
-machine = machine_of
-    (first.plain_send composed (upstream.plain_send requests))
-    (λ h. first.plain_step (upstream.plain_step requests h))
-    (first.plain_cancel (λ r. upstream.plain_cancel r.ticket))
-    (first.plain_response composed (λ request u v. record { ticket = v.ticket; given = false }))
-    (first.ticket_of (λ r. r.ticket))
+machine = machine_of (first.transport composed (upstream.transport for_one)) (first.ticket_of (λ r. r.ticket))
 
 -- the client between two rows: its timeout is in microseconds
 pub record Whole : Type 0 where

@@ -2,11 +2,10 @@
 
 ghost use Rattle.std.specs.Prelude.{◌≡◌, ◌<◌, ◌-◌, zero, length, Some, None, Err, Ok, OnOk, OnErr, IfOk, IfErr, IsErrOf, option_map};
 ghost use Rattle.client_request.specs.Cx.{view_of, LendsTheSame};
-ghost use Rattle.client_request.specs.Board.{oldest, part_of};
 ghost use Rattle.client_core.specs.Client as plain;
 ghost use Rattle.client_request.specs.Numbered.{entry_at};
 
-use client_request::{Cx, Error, Out, TimerId, Words};
+use client_request::{Cx, Error, Out, Posted, TimerId, Words};
 use dns_base::{Message, NoMemory};
 use std::alloc::Global;
 use std::collections::BTreeMap;
@@ -16,8 +15,11 @@ use std::marker::Model;
 /// its result.
 #[derive(Drop)]
 pub struct Waiting<P> {
+    /// The number that its reply will name. Requests are numbered from 0, in the order in which they are asked.
     pub number: u64,
+    /// The number of the timer that fires when its timeout is over.
     pub timer: u64,
+    /// What stands for its result at the transport.
     pub response: P,
 }
 
@@ -50,6 +52,7 @@ fn result_of(part: Result<Option<Message>, Error>) -> Result<Message, Error>
 }
 
 impl<P: Drop> Asked<P> {
+    /// No request waits. It takes no memory.
     pub fn new(alloc: Global) -> Asked<P>
         ensures { result ≡ plain.nothing_asked }
     {
@@ -109,10 +112,7 @@ fn reply_first<P: Drop, W: Words>(asked: &mut Asked<P>, cx: &mut Cx<'_, W>) -> R
     ensures lends { LendsTheSame cx.old cx.new }
     ensures ok { OnOk result ((asked.new, view_of W.stream cx.new) ≡ plain.replies_first (asked.old, view_of W.stream cx.old)) }
 {
-    let Some(ticket) = cx.board.oldest() else {
-        return Ok(());
-    };
-    let Some(part) = cx.board.take(ticket) else {
+    let Some(Posted { ticket, part }) = cx.board.take_first() else {
         return Ok(());
     };
     let Some(waiting) = asked.take(ticket) else {

@@ -1,13 +1,13 @@
 //! Calls of the transport, each with its replies, and the deadlines of requests.
 
 ghost use Rattle.std.specs.Prelude.{◌≡◌, ◌+◌, ◌<◌, true, zero, length, Some, None, Err, Ok, OnOk, OnErr, IfOk, IfErr, IsErrOf};
+ghost use Rattle.client_request.specs.Calls.{Steps, NumbersRunOut};
 ghost use Rattle.client_request.specs.Cx.{view_of, heard, LendsTheSame};
 ghost use Rattle.client_request.specs.Response.{IsRefusal};
 ghost use Rattle.client_request.specs.View.{told, due_timer};
 ghost use Rattle.client_core.specs.Client as plain;
-ghost use Rattle.client_core.specs.Client.{client_of};
 ghost use Rattle.client_request.specs.Numbered.{entry_at};
-ghost use Rattle.client_core.specs.Machines.{machine_of};
+ghost use Rattle.client_core.specs.Machines.{machine_of, client_in};
 
 use crate::asked::{Asked, Waiting, reply_all};
 use client_request::{
@@ -25,8 +25,8 @@ fn hear<L: SendRequest<RequestMessage>, W: Words>(
     signal: Signal<'_>,
 ) -> Result<(), Error>
     ensures lends { LendsTheSame cx.old cx.new }
-    ensures ok { OnOk result (plain.hears (machine_of L.plain_send L.plain_step L.plain_cancel L.plain_response L.Response.ticket_of) (heard signal.entry) (client_of layer.old (asked.old, view_of W.stream cx.old)) ≡ Some (client_of layer.new (asked.new, view_of W.stream cx.new))) }
-    ensures numbers { IsErrOf result Error.NumbersUsed → plain.hears (machine_of L.plain_send L.plain_step L.plain_cancel L.plain_response L.Response.ticket_of) (heard signal.entry) (client_of layer.old (asked.old, view_of W.stream cx.old)) ≡ None }
+    ensures ok { Steps result (plain.hears (machine_of L.transport L.Response.ticket_of) (heard signal.entry) (client_in layer.old asked.old W.stream cx.old)) (client_in layer.new asked.new W.stream cx.new) }
+    ensures numbers { NumbersRunOut result (plain.hears (machine_of L.transport L.Response.ticket_of) (heard signal.entry) (client_in layer.old asked.old W.stream cx.old)) }
     ensures keeps { OnOk result (L.holds_failed layer.new ≡ L.holds_failed layer.old) }
     ensures refused { IfErr result IsRefusal }
     ensures failed_only { IsErrOf result Error.Failed → L.holds_failed layer.old ≡ true }
@@ -44,8 +44,8 @@ fn time_out<L: SendRequest<RequestMessage>, W: Words>(
     waiting: Option<Waiting<L::Response>>,
 ) -> Result<(), Error>
     ensures lends { LendsTheSame cx.old cx.new }
-    ensures ok { OnOk result (plain.times_out (machine_of L.plain_send L.plain_step L.plain_cancel L.plain_response L.Response.ticket_of) (client_of layer.old (asked.old, view_of W.stream cx.old)) waiting ≡ Some (client_of layer.new (asked.new, view_of W.stream cx.new))) }
-    ensures numbers { IsErrOf result Error.NumbersUsed → plain.times_out (machine_of L.plain_send L.plain_step L.plain_cancel L.plain_response L.Response.ticket_of) (client_of layer.old (asked.old, view_of W.stream cx.old)) waiting ≡ None }
+    ensures ok { Steps result (plain.times_out (machine_of L.transport L.Response.ticket_of) (client_in layer.old asked.old W.stream cx.old) waiting) (client_in layer.new asked.new W.stream cx.new) }
+    ensures numbers { NumbersRunOut result (plain.times_out (machine_of L.transport L.Response.ticket_of) (client_in layer.old asked.old W.stream cx.old) waiting) }
     ensures keeps { OnOk result (L.holds_failed layer.new ≡ L.holds_failed layer.old) }
     ensures refused { IfErr result IsRefusal }
     ensures failed_only { IsErrOf result Error.Failed → L.holds_failed layer.old ≡ true }
@@ -73,8 +73,8 @@ fn fire<L: SendRequest<RequestMessage>, W: Words>(
     timer: TimerId,
 ) -> Result<(), Error>
     ensures lends { LendsTheSame cx.old cx.new }
-    ensures ok { OnOk result (plain.fire (machine_of L.plain_send L.plain_step L.plain_cancel L.plain_response L.Response.ticket_of) timer.0 (client_of layer.old (asked.old, view_of W.stream cx.old)) ≡ Some (client_of layer.new (asked.new, view_of W.stream cx.new))) }
-    ensures numbers { IsErrOf result Error.NumbersUsed → plain.fire (machine_of L.plain_send L.plain_step L.plain_cancel L.plain_response L.Response.ticket_of) timer.0 (client_of layer.old (asked.old, view_of W.stream cx.old)) ≡ None }
+    ensures ok { Steps result (plain.fire (machine_of L.transport L.Response.ticket_of) timer.0 (client_in layer.old asked.old W.stream cx.old)) (client_in layer.new asked.new W.stream cx.new) }
+    ensures numbers { NumbersRunOut result (plain.fire (machine_of L.transport L.Response.ticket_of) timer.0 (client_in layer.old asked.old W.stream cx.old)) }
     ensures keeps { OnOk result (L.holds_failed layer.new ≡ L.holds_failed layer.old) }
     ensures refused { IfErr result IsRefusal }
     ensures failed_only { IsErrOf result Error.Failed → L.holds_failed layer.old ≡ true }
@@ -92,8 +92,8 @@ fn fire_all<L: SendRequest<RequestMessage>, W: Words>(
     cx: &mut Cx<'_, W>,
 ) -> Result<(), Error>
     ensures lends { LendsTheSame cx.old cx.new }
-    ensures ok { OnOk result (plain.fires_all (machine_of L.plain_send L.plain_step L.plain_cancel L.plain_response L.Response.ticket_of) (client_of layer.old (asked.old, view_of W.stream cx.old)) ≡ Some (client_of layer.new (asked.new, view_of W.stream cx.new))) }
-    ensures numbers { IsErrOf result Error.NumbersUsed → plain.fires_all (machine_of L.plain_send L.plain_step L.plain_cancel L.plain_response L.Response.ticket_of) (client_of layer.old (asked.old, view_of W.stream cx.old)) ≡ None }
+    ensures ok { Steps result (plain.fires_all (machine_of L.transport L.Response.ticket_of) (client_in layer.old asked.old W.stream cx.old)) (client_in layer.new asked.new W.stream cx.new) }
+    ensures numbers { NumbersRunOut result (plain.fires_all (machine_of L.transport L.Response.ticket_of) (client_in layer.old asked.old W.stream cx.old)) }
     ensures keeps { OnOk result (L.holds_failed layer.new ≡ L.holds_failed layer.old) }
     ensures refused { IfErr result IsRefusal }
     ensures failed_only { IsErrOf result Error.Failed → L.holds_failed layer.old ≡ true }
@@ -118,8 +118,8 @@ fn ask<L: SendRequest<RequestMessage>, W: Words>(
     request: RequestMessage,
 ) -> Result<(), Error>
     ensures lends { LendsTheSame cx.old cx.new }
-    ensures ok { OnOk result (plain.asks_request (machine_of L.plain_send L.plain_step L.plain_cancel L.plain_response L.Response.ticket_of) timeout request (client_of layer.old (asked.old, view_of W.stream cx.old)) ≡ Some (client_of layer.new (asked.new, view_of W.stream cx.new))) }
-    ensures numbers { IsErrOf result Error.NumbersUsed → plain.asks_request (machine_of L.plain_send L.plain_step L.plain_cancel L.plain_response L.Response.ticket_of) timeout request (client_of layer.old (asked.old, view_of W.stream cx.old)) ≡ None }
+    ensures ok { Steps result (plain.asks_request (machine_of L.transport L.Response.ticket_of) timeout request (client_in layer.old asked.old W.stream cx.old)) (client_in layer.new asked.new W.stream cx.new) }
+    ensures numbers { NumbersRunOut result (plain.asks_request (machine_of L.transport L.Response.ticket_of) timeout request (client_in layer.old asked.old W.stream cx.old)) }
     ensures keeps { OnOk result (L.holds_failed layer.new ≡ L.holds_failed layer.old) }
     ensures refused { IfErr result IsRefusal }
     ensures failed_only { IsErrOf result Error.Failed → L.holds_failed layer.old ≡ true }
@@ -159,8 +159,8 @@ fn happen<L: SendRequest<RequestMessage>, W: Words>(
     what: &What,
 ) -> Result<(), Error>
     ensures lends { LendsTheSame cx.old cx.new }
-    ensures ok { OnOk result (plain.happens (machine_of L.plain_send L.plain_step L.plain_cancel L.plain_response L.Response.ticket_of) timeout what.now (client_of layer.old (asked.old, view_of W.stream cx.old)) ≡ Some (client_of layer.new (asked.new, view_of W.stream cx.new))) }
-    ensures numbers { IsErrOf result Error.NumbersUsed → plain.happens (machine_of L.plain_send L.plain_step L.plain_cancel L.plain_response L.Response.ticket_of) timeout what.now (client_of layer.old (asked.old, view_of W.stream cx.old)) ≡ None }
+    ensures ok { Steps result (plain.happens (machine_of L.transport L.Response.ticket_of) timeout what.now (client_in layer.old asked.old W.stream cx.old)) (client_in layer.new asked.new W.stream cx.new) }
+    ensures numbers { NumbersRunOut result (plain.happens (machine_of L.transport L.Response.ticket_of) timeout what.now (client_in layer.old asked.old W.stream cx.old)) }
     ensures keeps { OnOk result (L.holds_failed layer.new ≡ L.holds_failed layer.old) }
     ensures refused { IfErr result IsRefusal }
     ensures failed_only { IsErrOf result Error.Failed → L.holds_failed layer.old ≡ true }
@@ -185,8 +185,8 @@ pub(crate) fn take_in<L: SendRequest<RequestMessage>, W: Words>(
     event: &Event,
 ) -> Result<(), Error>
     ensures lends { LendsTheSame cx.old cx.new }
-    ensures ok { OnOk result (plain.client_step (machine_of L.plain_send L.plain_step L.plain_cancel L.plain_response L.Response.ticket_of) timeout event.now (client_of layer.old (asked.old, view_of W.stream cx.old)) ≡ Some (client_of layer.new (asked.new, view_of W.stream cx.new))) }
-    ensures numbers { IsErrOf result Error.NumbersUsed → plain.client_step (machine_of L.plain_send L.plain_step L.plain_cancel L.plain_response L.Response.ticket_of) timeout event.now (client_of layer.old (asked.old, view_of W.stream cx.old)) ≡ None }
+    ensures ok { Steps result (plain.client_step (machine_of L.transport L.Response.ticket_of) timeout event.now (client_in layer.old asked.old W.stream cx.old)) (client_in layer.new asked.new W.stream cx.new) }
+    ensures numbers { NumbersRunOut result (plain.client_step (machine_of L.transport L.Response.ticket_of) timeout event.now (client_in layer.old asked.old W.stream cx.old)) }
     ensures keeps { OnOk result (L.holds_failed layer.new ≡ L.holds_failed layer.old) }
     ensures refused { IfErr result IsRefusal }
     ensures failed_only { IsErrOf result Error.Failed → L.holds_failed layer.old ≡ true }

@@ -1,11 +1,12 @@
 //! The client: one step for each event, and the replay of a list of events.
 
-ghost use Rattle.std.specs.Prelude.{◌≡◌, true, false, Some, None, Ok, Err, OnOk, OnErr, IfOk, IfErr, IsErrOf, IsOkAnd, map};
+ghost use Rattle.std.specs.Prelude.{◌≡◌, true, false, Some, None, Ok, Err, OnOk, OnErr, IfOk, IfErr, IsErrOf, IsOkAnd, map, option_map};
+ghost use Rattle.client_request.specs.Calls.{Steps, NumbersRunOut, AnswersFailed};
 ghost use Rattle.client_request.specs.Cx.{view_of, LendsTheSame};
 ghost use Rattle.client_request.specs.Response.{IsRefusal};
-ghost use Rattle.client_request.specs.Timers.{IsWant};
+ghost use Rattle.client_request.specs.Timers.{IsWant, next_due};
 ghost use Rattle.client_core.specs.Client as plain;
-ghost use Rattle.client_core.specs.Client.{client_of};
+ghost use Rattle.client_core.specs.Machines.{client_in};
 ghost use Rattle.client_core.specs.First.{holds_failed};
 ghost use Rattle.client_core.specs.Headline.{conf_of};
 ghost use Rattle.client_core.specs.Upstream as upstream;
@@ -91,8 +92,8 @@ fn turn<W: Words>(
     event: &Event,
 ) -> Result<(), Error>
     ensures lends { LendsTheSame cx.old cx.new }
-    ensures ok { OnOk result (plain.client_step machine timeout event.now (client_of layer.old (asked.old, view_of W.stream cx.old)) ≡ Some (client_of layer.new (asked.new, view_of W.stream cx.new))) }
-    ensures numbers { IsErrOf result Error.NumbersUsed → plain.client_step machine timeout event.now (client_of layer.old (asked.old, view_of W.stream cx.old)) ≡ None }
+    ensures ok { Steps result (plain.client_step machine timeout event.now (client_in layer.old asked.old W.stream cx.old)) (client_in layer.new asked.new W.stream cx.new) }
+    ensures numbers { NumbersRunOut result (plain.client_step machine timeout event.now (client_in layer.old asked.old W.stream cx.old)) }
     ensures keeps { OnOk result (holds_failed upstream.has_failed layer.new ≡ holds_failed upstream.has_failed layer.old) }
     ensures refused { IfErr result IsRefusal }
     ensures failed_only { IsErrOf result Error.Failed → holds_failed upstream.has_failed layer.old ≡ true }
@@ -135,10 +136,10 @@ impl Client {
         ensures row { IfOk result (λ row. plain_step (W.stream words.old) event self.old ≡ Some (row, client_with (W.stream words.new) self.new)) }
         ensures timeout { OnOk result (self.new.timeout ≡ self.old.timeout) }
         ensures lasts { OnOk result (self.new.failed ≡ false) }
-        ensures numbers { IsErrOf result Error.NumbersUsed → plain_step (W.stream words.old) event self.old ≡ None }
+        ensures numbers { NumbersRunOut result (plain_step (W.stream words.old) event self.old) }
         ensures refused { IfErr result IsRefusal }
         ensures err { OnErr result (self.new.failed ≡ true) }
-        ensures failed { self.old.failed ≡ true → (result ≡ Err Error.Failed) × (self.new ≡ self.old) × (W.stream words.new ≡ W.stream words.old) }
+        ensures failed { self.old.failed ≡ true → AnswersFailed result (self.old, W.stream words.old) (self.new, W.stream words.new) }
         ensures failed_only { IsErrOf result Error.Failed → self.old.failed ≡ true }
     {
         if self.failed {
@@ -176,6 +177,15 @@ impl Client {
                 Err(error)
             }
         }
+    }
+
+    /// When the timer that goes first is due, in microseconds; none where no timer is set. Whoever holds
+    /// the client is to tell it of the time then, by a `Tick` if nothing else happens. It takes no memory.
+    pub fn next_due(&self) -> Option<u128>
+        ensures { result ≡ option_map (λ t. t.due) (next_due self.entry.now.timers.set) }
+    {
+        let (due, _) = self.timers.next_due()?;
+        Some(due)
     }
 
     /// The trace of a client that is told these events and draws these words: a row for each event, in

@@ -1,6 +1,7 @@
 //! Where moments come from.
 
 ghost use Rattle.std.specs.Prelude.{◌≡◌, ℕ, List, Option};
+ghost use Rattle.dns_values.specs.Source.{one_more};
 ghost use Rattle.client_request.specs.Words.{IsGivenOn};
 ghost use Rattle.client_core.specs.Clock.{moment_at, told_moments};
 
@@ -13,7 +14,7 @@ pub trait Clock {
 
     /// The moment, in microseconds.
     fn now(&mut self) -> Moment
-        ensures { IsGivenOn (given self.old) (given self.new) result.0 };
+        ensures given { IsGivenOn (given self.old) (given self.new) result.0 };
 }
 
 /// A clock that gives the moments of a list, and after its end the last one again, or 0 where there is
@@ -33,6 +34,7 @@ impl Model for ListClock {
 }
 
 impl ListClock {
+    /// A clock that gives these moments, call by call.
     pub fn new(moments: Vec<Moment>) -> ListClock
         ensures { result ≡ record { moments = moments.items; calls = 0 } }
     {
@@ -56,7 +58,11 @@ fn moment_at(moments: &[Moment], call: u64) -> Moment
 impl Clock for ListClock {
     ghost given = { told_moments };
 
-    fn now(&mut self) -> Moment {
+    fn now(&mut self) -> Moment
+        ensures given { IsGivenOn (told_moments self.old) (told_moments self.new) result.0 }
+        ensures gives { result.0 ≡ moment_at self.old.moments self.old.calls }
+        ensures after { self.new ≡ record self.old { calls = one_more self.old.calls } }
+    {
         let moment = moment_at(&self.moments, self.calls);
         self.calls = self.calls.saturating_add(1);
         moment

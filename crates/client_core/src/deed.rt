@@ -7,7 +7,10 @@ use resolv_conf::ServerConf;
 /// this.
 #[derive(Drop)]
 pub enum Deed {
+    /// It was told of this server, which has the next number, counted from 0.
     Learned(ServerConf),
+    /// It acted on this out.
     Acted(Out),
+    /// It was polled, and gave this event or none.
     Polled(Option<What>),
 }

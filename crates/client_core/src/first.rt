@@ -1,6 +1,7 @@
 //! What stands in for a choice among servers: the first one is asked.
 
 ghost use Rattle.std.specs.Prelude.{◌≡◌, true, false, ◌||◌, OnOk, OnErr, IfOk, IfErr, IsErrOf, Some, None, Err, Ok};
+ghost use Rattle.client_request.specs.Calls.{Steps, NumbersRunOut};
 ghost use Rattle.client_request.specs.Cx.{view_of, heard, LendsTheSame};
 ghost use Rattle.client_request.specs.Response.{IsRefusal};
 ghost use Rattle.client_request.specs.Timers.{IsWant};
@@ -28,6 +29,7 @@ impl<U> Model for FirstServer<U> {
 }
 
 impl<U> FirstServer<U> {
+    /// The first server, or none: then each request has its error at once.
     pub fn new(upstream: Option<U>) -> FirstServer<U>
         ensures { result ≡ record { upstream = upstream; failed = false } }
     {
@@ -41,7 +43,9 @@ impl<U> FirstServer<U> {
 /// What stands for the result of a request: it is given here, or comes from the server.
 #[derive(Drop)]
 pub enum Passed<R> {
+    /// It is given here, under this ticket; `given` says whether it was.
     Here { ticket: u64, given: bool },
+    /// It comes from the server.
     Below(R),
 }
 
@@ -68,9 +72,9 @@ impl<R: GetResponse> GetResponse for Passed<R> {
 /// A request that is not handed on has its error at once.
 fn refuse<W: Words>(cx: &mut Cx<'_, W>, error: Error) -> Result<u64, Error>
     ensures lends { LendsTheSame cx.old cx.new }
-    ensures ok { OnOk result (plain.refused error (view_of W.stream cx.old) ≡ Some (view_of W.stream cx.new)) }
+    ensures ok { Steps result (plain.refused error (view_of W.stream cx.old)) (view_of W.stream cx.new) }
     ensures ticket { IfOk result (λ ticket. ticket ≡ cx.old.ticket) }
-    ensures numbers { IsErrOf result Error.NumbersUsed → plain.refused error (view_of W.stream cx.old) ≡ None }
+    ensures numbers { NumbersRunOut result (plain.refused error (view_of W.stream cx.old)) }
     ensures want { IfErr result IsWant }
 {
     let ticket = cx.ticket;
@@ -84,7 +88,7 @@ fn refuse<W: Words>(cx: &mut Cx<'_, W>, error: Error) -> Result<u64, Error>
 
 /// Why a request can't be sent, if it can't: it does not compose, or there is no server.
 fn fault_of<CR: ComposeRequest>(request: &CR, has_server: bool) -> Result<Option<Error>, Error>
-    ensures fault { IfOk result (λ fault. fault ≡ plain.fault_of has_server (CR.composed request.now)) }
+    ensures fault { IfOk result (λ fault. fault ≡ plain.fault_of has_server (CR.requests.composed request.now)) }
     ensures want { IfErr result (λ e. e ≡ Error.NoMemory) }
 {
     match request.to_message() {
@@ -107,11 +111,11 @@ fn take_on<CR: ComposeRequest, U: SendRequest<CR>, W: Words>(
     request: CR,
 ) -> Result<Passed<U::Response>, Error>
     ensures lends { LendsTheSame cx.old cx.new }
-    ensures ok { OnOk result (plain.takes CR.composed U.plain_send request upstream.old (view_of W.stream cx.old) ≡ Some (upstream.new, view_of W.stream cx.new)) }
-    ensures response { IfOk result (λ r. r ≡ plain.response_of CR.composed U.plain_response request upstream.old (view_of W.stream cx.old)) }
+    ensures ok { Steps result (plain.takes CR.requests.composed U.transport.send request upstream.old (view_of W.stream cx.old)) (upstream.new, view_of W.stream cx.new) }
+    ensures response { IfOk result (λ r. r ≡ plain.response_of CR.requests.composed U.transport.response request upstream.old (view_of W.stream cx.old)) }
     ensures ticket { IfOk result (λ r. plain.ticket_of U.Response.ticket_of r ≡ cx.old.ticket) }
     ensures waits { IfOk result (λ r. plain.has_given U.Response.has_given r ≡ false) }
-    ensures numbers { IsErrOf result Error.NumbersUsed → plain.takes CR.composed U.plain_send request upstream.old (view_of W.stream cx.old) ≡ None }
+    ensures numbers { NumbersRunOut result (plain.takes CR.requests.composed U.transport.send request upstream.old (view_of W.stream cx.old)) }
     ensures keeps { OnOk result (plain.below_failed U.holds_failed upstream.new ≡ plain.below_failed U.holds_failed upstream.old) }
     ensures refused { IfErr result IsRefusal }
     ensures failed_only { IsErrOf result Error.Failed → plain.below_failed U.holds_failed upstream.old ≡ true }
@@ -145,8 +149,8 @@ fn hear<CR: ComposeRequest, U: SendRequest<CR>, W: Words>(
     signal: Signal<'_>,
 ) -> Result<(), Error>
     ensures lends { LendsTheSame cx.old cx.new }
-    ensures ok { OnOk result (plain.hears (U.plain_step (heard signal.entry)) upstream.old (view_of W.stream cx.old) ≡ Some (upstream.new, view_of W.stream cx.new)) }
-    ensures numbers { IsErrOf result Error.NumbersUsed → plain.hears (U.plain_step (heard signal.entry)) upstream.old (view_of W.stream cx.old) ≡ None }
+    ensures ok { Steps result (plain.hears (U.transport.step (heard signal.entry)) upstream.old (view_of W.stream cx.old)) (upstream.new, view_of W.stream cx.new) }
+    ensures numbers { NumbersRunOut result (plain.hears (U.transport.step (heard signal.entry)) upstream.old (view_of W.stream cx.old)) }
     ensures keeps { OnOk result (plain.below_failed U.holds_failed upstream.new ≡ plain.below_failed U.holds_failed upstream.old) }
     ensures refused { IfErr result IsRefusal }
     ensures failed_only { IsErrOf result Error.Failed → plain.below_failed U.holds_failed upstream.old ≡ true }
@@ -164,8 +168,8 @@ fn give_up<CR: ComposeRequest, U: SendRequest<CR>, W: Words>(
     response: Passed<U::Response>,
 ) -> Result<(), Error>
     ensures lends { LendsTheSame cx.old cx.new }
-    ensures ok { OnOk result (plain.drops U.plain_cancel response upstream.old (view_of W.stream cx.old) ≡ Some (upstream.new, view_of W.stream cx.new)) }
-    ensures numbers { IsErrOf result Error.NumbersUsed → plain.drops U.plain_cancel response upstream.old (view_of W.stream cx.old) ≡ None }
+    ensures ok { Steps result (plain.drops U.transport.cancel response upstream.old (view_of W.stream cx.old)) (upstream.new, view_of W.stream cx.new) }
+    ensures numbers { NumbersRunOut result (plain.drops U.transport.cancel response upstream.old (view_of W.stream cx.old)) }
     ensures keeps { OnOk result (plain.below_failed U.holds_failed upstream.new ≡ plain.below_failed U.holds_failed upstream.old) }
     ensures refused { IfErr result IsRefusal }
     ensures failed_only { IsErrOf result Error.Failed → plain.below_failed U.holds_failed upstream.old ≡ true }
@@ -186,13 +190,7 @@ impl<CR: ComposeRequest, U: SendRequest<CR>> SendRequest<CR> for FirstServer<U> 
 
     ghost holds_failed = { plain.holds_failed U.holds_failed };
 
-    ghost plain_send = { plain.plain_send CR.composed U.plain_send };
-
-    ghost plain_response = { plain.plain_response CR.composed U.plain_response };
-
-    ghost plain_step = { λ heard. plain.plain_step (U.plain_step heard) };
-
-    ghost plain_cancel = { plain.plain_cancel U.plain_cancel };
+    ghost transport = { plain.transport CR.requests.composed U.transport };
 
     fn send_request<W: Words>(
         &mut self,

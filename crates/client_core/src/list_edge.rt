@@ -1,7 +1,10 @@
 //! An edge in memory.
 
 ghost use Rattle.std.specs.Prelude.{◌≡◌, [], ◌∷◌, ◌++◌, Some, OnOk, OnErr, IfOk};
-ghost use Rattle.client_core.specs.ListEdge.{is_fault_event};
+ghost use Rattle.dns_values.specs.Source.{one_more};
+ghost use Rattle.client_core.specs.declared.deed.Deed.{Deed};
+ghost use Rattle.client_core.specs.Edge.{after_fault};
+ghost use Rattle.client_core.specs.ListEdge.{is_fault_event, later_events, next_event};
 
 use crate::deed::Deed;
 use crate::edge::Edge;
@@ -12,7 +15,8 @@ use std::alloc::Global;
 use std::collections::VecDeque;
 use std::marker::Model;
 
-/// An edge that gives the events of a list, and none past its end, and keeps what was done with it.
+/// An edge that gives the events of a list, and none past its end, and keeps what was done with it. After want of memory it is
+/// as it was.
 #[derive(Drop)]
 pub struct ListEdge {
     alloc: Global,
@@ -58,13 +62,24 @@ fn copy_of(alloc: Global, what: &Option<What>) -> Result<Option<What>, NoMemory>
     }
 }
 
+/// What the next poll gives, once more.
+fn next_copy(alloc: Global, events: &VecDeque<Option<What>>) -> Result<Option<What>, NoMemory>
+    ensures { IfOk result (λ copy. copy ≡ next_event events.now.items) }
+{
+    match events.front() {
+        Some(what) => copy_of(alloc, what),
+        None => Ok(None),
+    }
+}
+
 impl ListEdge {
-    pub fn new(alloc: Global, events: VecDeque<Option<What>>) -> ListEdge
+    /// An edge that gives these events, poll by poll, with which nothing was done.
+    pub fn new(alloc: Global, events: Vec<Option<What>>) -> ListEdge
         ensures { result ≡ record { events = events.items; deeds = []; polls = 0; faults = 0 } }
     {
         ListEdge {
             alloc,
-            events,
+            events: VecDeque::from(events),
             deeds: Vec::new(alloc),
             polls: 0,
             faults: 0,
@@ -96,19 +111,38 @@ impl Edge for ListEdge {
 
     ghost faults = { λ e. e.faults };
 
-    fn learn_server(&mut self, server: &ServerConf) -> Result<(), NoMemory> {
+    fn learn_server(&mut self, server: &ServerConf) -> Result<(), NoMemory>
+        ensures deeds { OnOk result (self.new.deeds ≡ self.old.deeds ++ Deed.Learned server.now ∷ []) }
+        ensures polls { self.new.polls ≡ self.old.polls }
+        ensures faults { self.new.faults ≡ self.old.faults }
+        ensures events { self.new.events ≡ self.old.events }
+        ensures err { OnErr result (self.new ≡ self.old) }
+    {
         self.keep(Deed::Learned(*server))
     }
 
-    fn act(&mut self, out: &Out) -> Result<(), NoMemory> {
+    fn act(&mut self, out: &Out) -> Result<(), NoMemory>
+        ensures deeds { OnOk result (self.new.deeds ≡ self.old.deeds ++ Deed.Acted out.now ∷ []) }
+        ensures polls { self.new.polls ≡ self.old.polls }
+        ensures faults { self.new.faults ≡ self.old.faults }
+        ensures events { self.new.events ≡ self.old.events }
+        ensures err { OnErr result (self.new ≡ self.old) }
+    {
         let out = out.try_clone()?;
         self.keep(Deed::Acted(out))
     }
 
-    fn poll(&mut self) -> Result<Option<What>, NoMemory> {
-        let what = self.events.pop_front().unwrap_or(None);
-        let copy = copy_of(self.alloc, &what)?;
+    fn poll(&mut self) -> Result<Option<What>, NoMemory>
+        ensures deeds { IfOk result (λ what. self.new.deeds ≡ self.old.deeds ++ Deed.Polled what ∷ []) }
+        ensures polls { OnOk result (self.new.polls ≡ one_more self.old.polls) }
+        ensures faults { IfOk result (λ what. self.new.faults ≡ after_fault what self.old.faults) }
+        ensures gives { IfOk result (λ what. what ≡ next_event self.old.events) }
+        ensures events { OnOk result (self.new.events ≡ later_events self.old.events) }
+        ensures err { OnErr result (self.new ≡ self.old) }
+    {
+        let copy = next_copy(self.alloc, &self.events)?;
         self.keep(Deed::Polled(copy))?;
+        let what = self.events.pop_front().unwrap_or(None);
         self.polls = self.polls.saturating_add(1);
         if is_fault(&what) {
             self.faults = self.faults.saturating_add(1);

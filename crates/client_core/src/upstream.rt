@@ -1,9 +1,9 @@
 //! One server, by the transports that are used for it.
 
 ghost use Rattle.std.specs.Prelude.{◌≡◌, true, false, OnOk, OnErr, IfOk, IfErr, IsErrOf, Some, None, Err};
+ghost use Rattle.client_request.specs.Calls.{Steps, NumbersRunOut, AnswersFailed};
 ghost use Rattle.client_request.specs.Cx.{view_of, heard, LendsTheSame};
 ghost use Rattle.client_request.specs.Response.{IsRefusal};
-ghost use Rattle.client_dgram.specs.Requests.{requests_of};
 ghost use Rattle.client_core.specs.Upstream as plain;
 
 use client_dgram::{Connection, Request};
@@ -23,13 +23,13 @@ fn start<CR: ComposeRequest, W: Words>(
     request: CR,
 ) -> Result<Request, Error>
     ensures lends { LendsTheSame cx.old cx.new }
-    ensures ok { OnOk result (plain.starts (requests_of CR.with_id CR.with_payload_size CR.composed CR.is_answered) request connection.old (view_of W.stream cx.old) ≡ Some (connection.new, view_of W.stream cx.new)) }
+    ensures ok { Steps result (plain.starts CR.requests request connection.old (view_of W.stream cx.old)) (connection.new, view_of W.stream cx.new) }
     ensures response { IfOk result (λ r. r ≡ record { ticket = cx.old.ticket; given = false }) }
-    ensures numbers { IsErrOf result Error.NumbersUsed → plain.starts (requests_of CR.with_id CR.with_payload_size CR.composed CR.is_answered) request connection.old (view_of W.stream cx.old) ≡ None }
+    ensures numbers { NumbersRunOut result (plain.starts CR.requests request connection.old (view_of W.stream cx.old)) }
     ensures keeps { OnOk result (connection.new.failed ≡ connection.old.failed) }
     ensures refused { IfErr result IsRefusal }
     ensures err { OnErr result (connection.new.failed ≡ true) }
-    ensures failed { connection.old.failed ≡ true → (result ≡ Err Error.Failed) × (connection.new ≡ connection.old) × (view_of W.stream cx.new ≡ view_of W.stream cx.old) }
+    ensures failed { connection.old.failed ≡ true → AnswersFailed result (connection.old, view_of W.stream cx.old) (connection.new, view_of W.stream cx.new) }
     ensures failed_only { IsErrOf result Error.Failed → connection.old.failed ≡ true }
 {
     if connection.has_failed() {
@@ -57,13 +57,7 @@ impl<CR: ComposeRequest> SendRequest<CR> for Upstream<CR> {
 
     ghost holds_failed = { plain.has_failed };
 
-    ghost plain_send = { plain.plain_send (requests_of CR.with_id CR.with_payload_size CR.composed CR.is_answered) };
-
-    ghost plain_response = { λ request u v. record { ticket = v.ticket; given = false } };
-
-    ghost plain_step = { plain.plain_step (requests_of CR.with_id CR.with_payload_size CR.composed CR.is_answered) };
-
-    ghost plain_cancel = { λ response. plain.plain_cancel response.ticket };
+    ghost transport = { plain.transport CR.requests };
 
     fn send_request<W: Words>(
         &mut self,

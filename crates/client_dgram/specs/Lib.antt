@@ -1,4 +1,3 @@
 pub mod Settings
 pub mod Plain
-pub mod Requests
 pub mod Sockets

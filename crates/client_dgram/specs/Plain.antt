@@ -10,7 +10,8 @@ use Rattle.std.specs.BTreeSet.{insert_key}
 use Rattle.std.specs.Set.{remove_key}
 use Rattle.client_request.specs.Board.{Part}
 use Rattle.client_request.specs.Numbered.{puts, frees, entry_at}
-use Rattle.client_request.specs.View.{View, Heard, told, more_at, due_timer, word, drawn, asks, answers, sets_timer, drops_timer, draws_ticket, draws_place}
+use Rattle.client_request.specs.Requests.{Requests}
+use Rattle.client_request.specs.View.{View, Heard, Transport, told, more_at, due_timer, word, drawn, asks, answers, sets_timer, drops_timer, draws_ticket, draws_place}
 use Rattle.client_request.specs.declared.error.Error.{Error}
 use Rattle.client_request.specs.declared.error.Error.TheVariants as errors
 use Rattle.client_request.specs.declared.error.QueryError.TheVariants as query
@@ -22,13 +23,6 @@ use Rattle.client_dgram.specs.Settings.{Settings}
 use Rattle.client_dgram.specs.declared.job.Job.{Job}
 use Rattle.client_dgram.specs.declared.job.Stage.{Stage}
 use Rattle.client_dgram.specs.declared.job.Stage.TheVariants.{Queued, Opening, Sent}
-
--- what a transport asks of requests of a type
-pub record Requests (R : Type 0) : Type 0 where
-  pub with_id : ℕ → R → R
-  pub with_payload_size : ℕ → R → R
-  pub composed : R → Result (List ℕ) Error
-  pub is_answered : List ℕ → R → Bool
 
 -- The jobs by ticket, the ticket of each live place and of each read timer, the tickets that wait for a slot in the order in which they came, and how many slots are held.
 pub record Tables (R : Type 0) : Type 0 where
@@ -245,3 +239,11 @@ module _ {R : Type 0} where
 
     abbrev pub plain_step : Heard → Dgram R → View → Option (Dgram R × View)
     plain_step h s v = with_tables s (hears requests s.server s.settings h s.tables v)
+
+    abbrev pub transport : Transport R (Dgram R) Asked
+    transport = record {
+      send = plain_send;
+      step = plain_step;
+      cancel = λ asked. plain_cancel asked.ticket;
+      response = λ request s v. record { ticket = v.ticket; given = false };
+    }

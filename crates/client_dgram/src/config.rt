@@ -1,12 +1,12 @@
 //! The settings of a datagram transport.
 
-ghost use Rattle.std.specs.Prelude.{◌≡◌, ℕ, Option, Some};
+ghost use Rattle.std.specs.Prelude.{◌≡◌, ℕ, Option, Some, IsOkAnd};
 ghost use Rattle.std.specs.Ordering.{nat_cmp};
 ghost use Rattle.client_request.specs.Limits.{limited};
 ghost use Rattle.client_dgram.specs.Settings.{Settings, default_settings};
 
 use client_request::DefMinMax;
-use dns_base::Duration;
+use dns_base::{Duration, NoMemory};
 use std::marker::Model;
 
 /// How many requests may hold a slot at a time.
@@ -66,6 +66,14 @@ impl Model for Config {
     } };
 }
 
+impl Default for Config {
+    ghost is_default = { λ c. c ≡ default_settings };
+
+    fn default() -> Config {
+        Config::new()
+    }
+}
+
 impl Config {
     /// The defaults: 100 requests at a time, 5 seconds, 5 further tries, a payload size of 1232 octets,
     /// and 2000 octets of an answer.
@@ -81,6 +89,13 @@ impl Config {
         }
     }
 
+    /// The same settings. It takes no memory.
+    pub fn try_clone(&self) -> Result<Config, NoMemory>
+        ensures { IsOkAnd result (λ c. c ≡ self.now) }
+    {
+        Ok(*self)
+    }
+
     /// How many requests may be at work at a time: 1 to 1000.
     pub fn set_max_parallel(&mut self, value: usize)
         ensures { self.new ≡ record self.old { max_parallel = limited nat_cmp 1 1000 value } }
@@ -88,6 +103,7 @@ impl Config {
         self.max_parallel = max_parallel_limits().limit(value);
     }
 
+    /// How many requests may be at work at a time.
     pub fn max_parallel(&self) -> usize
         ensures { result ≡ self.now.max_parallel }
     {
@@ -101,6 +117,7 @@ impl Config {
         self.read_timeout = read_timeout_limits().limit(value);
     }
 
+    /// How long a try waits for its answer.
     pub fn read_timeout(&self) -> Duration
         ensures { result ≡ self.now.read_timeout }
     {
@@ -114,6 +131,7 @@ impl Config {
         self.max_retries = max_retries_limits().limit(value);
     }
 
+    /// How many tries may follow the first.
     pub fn max_retries(&self) -> u8
         ensures { result ≡ self.now.max_retries }
     {
@@ -128,6 +146,7 @@ impl Config {
         self.udp_payload_size = value;
     }
 
+    /// The payload size that a request announces, in octets.
     pub fn udp_payload_size(&self) -> Option<u16>
         ensures { result ≡ self.now.udp_payload_size }
     {
@@ -141,6 +160,7 @@ impl Config {
         self.recv_size = value;
     }
 
+    /// How many octets of a datagram are looked at.
     pub fn recv_size(&self) -> usize
         ensures { result ≡ self.now.recv_size }
     {

@@ -4,7 +4,6 @@ ghost use Rattle.std.specs.Prelude.{◌≡◌, true, false, IsOkAnd};
 ghost use Rattle.client_request.specs.Response.{response_of};
 ghost use Rattle.client_dgram.specs.Plain as plain;
 ghost use Rattle.client_dgram.specs.Settings.{default_settings};
-ghost use Rattle.client_dgram.specs.Requests.{requests_of};
 
 use crate::config::Config;
 use crate::tables::{Tables, give_up, hear, take_on};
@@ -17,7 +16,7 @@ use std::fmt;
 use std::marker::Model;
 
 /// A server that is asked by datagrams. `server` is the number that its outs name.
-#[derive(Drop)]
+#[derive(Debug, Drop)]
 pub struct Connection<Req> {
     server: u32,
     config: Config,
@@ -121,13 +120,7 @@ impl<Req: ComposeRequest> SendRequest<Req> for Connection<Req> {
 
     ghost holds_failed = { λ c. c.failed };
 
-    ghost plain_send = { plain.plain_send (requests_of Req.with_id Req.with_payload_size Req.composed Req.is_answered) };
-
-    ghost plain_response = { λ request c v. record { ticket = v.ticket; given = false } };
-
-    ghost plain_step = { plain.plain_step (requests_of Req.with_id Req.with_payload_size Req.composed Req.is_answered) };
-
-    ghost plain_cancel = { λ response. plain.plain_cancel response.ticket };
+    ghost transport = { plain.transport Req.requests };
 
     fn send_request<W: Words>(
         &mut self,

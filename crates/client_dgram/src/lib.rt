@@ -16,10 +16,6 @@ mod job;
 mod list_sockets;
 mod sockets;
 mod tables;
-#[cfg(test)]
-mod tests;
-#[cfg(test)]
-mod tests_faults;
 
 pub use client_request::{QueryError, QueryErrorKind};
 pub use config::Config;

@@ -1,10 +1,13 @@
 //! Sockets in memory.
 
-ghost use Rattle.std.specs.Prelude.{◌≡◌, length, min, take};
+ghost use Rattle.std.specs.Prelude.{◌≡◌, ◌≤◌, length, IfOk, OnErr};
+ghost use Rattle.dns_values.specs.Source.{Rose, one_more};
+ghost use Rattle.client_dgram.specs.Sockets.{Receives, after_answer, fault_at, next_connect_fault, next_received, next_send_fault, or_fault, quiet_socket};
 
 use crate::sockets::{Connect, DgramRecv, DgramSend};
 use client_request::Fault;
 use dns_base::Octets;
+use dns_values::copy_front;
 use std::alloc::Global;
 use std::marker::Model;
 
@@ -47,25 +50,21 @@ impl ListDgram {
     }
 }
 
-/// Puts the front of a datagram over the front of a buffer, as much as has room.
-fn put_front(octets: &[u8], buf: &mut [u8]) -> usize
-    ensures count { result ≡ min (length octets.now) (length buf.old) }
-    ensures front { take result buf.new ≡ take result octets.now }
-{
-    let count = octets.len().min(buf.len());
-    buf[..count].copy_from_slice(&octets[..count]);
-    count
-}
-
 impl DgramRecv for ListDgram {
     ghost recv_faults = { λ s. s.faults };
 
-    fn recv(&mut self, buf: &mut [u8]) -> Result<usize, Fault> {
+    fn recv(&mut self, buf: &mut [u8]) -> Result<usize, Fault>
+        ensures within { IfOk result (λ n. n ≤ length buf.old) }
+        ensures count { self.old.faults ≤ self.new.faults }
+        ensures failed { OnErr result (Rose self.old.faults self.new.faults) }
+        ensures receives { Receives (next_received self.old) buf.old buf.new result }
+        ensures after { self.new ≡ record self.old { recv_calls = one_more self.old.recv_calls; faults = after_answer result self.old.faults } }
+    {
         let call = self.recv_calls;
         self.recv_calls = call.saturating_add(1);
         match self.received.get(call) {
             None => Ok(0),
-            Some(Ok(octets)) => Ok(put_front(octets.as_slice(), buf)),
+            Some(Ok(octets)) => Ok(copy_front(octets.as_slice(), buf)),
             Some(Err(fault)) => {
                 let fault = *fault;
                 self.faults = self.faults.saturating_add(1);
@@ -78,10 +77,16 @@ impl DgramRecv for ListDgram {
 impl DgramSend for ListDgram {
     ghost send_faults = { λ s. s.faults };
 
-    fn send(&mut self, buf: &[u8]) -> Result<usize, Fault> {
+    fn send(&mut self, buf: &[u8]) -> Result<usize, Fault>
+        ensures within { IfOk result (λ n. n ≤ length buf.now) }
+        ensures count { self.old.faults ≤ self.new.faults }
+        ensures failed { OnErr result (Rose self.old.faults self.new.faults) }
+        ensures sends { result ≡ or_fault (length buf.now) (next_send_fault self.old) }
+        ensures after { self.new ≡ record self.old { send_calls = one_more self.old.send_calls; faults = after_answer result self.old.faults } }
+    {
         let call = self.send_calls;
         self.send_calls = call.saturating_add(1);
-        match self.sends.get(call).copied().unwrap_or(None) {
+        match fault_at(&self.sends, call) {
             None => Ok(buf.len()),
             Some(fault) => {
                 self.faults = self.faults.saturating_add(1);
@@ -89,6 +94,13 @@ impl DgramSend for ListDgram {
             }
         }
     }
+}
+
+/// The fault of a call, counted from 0; none past the list's end.
+fn fault_at(faults: &[Option<Fault>], call: usize) -> Option<Fault>
+    ensures { result ≡ fault_at faults.now call }
+{
+    faults.get(call).copied().unwrap_or(None)
 }
 
 /// Connects to sockets that receive nothing and send all, but for the faults of a list, call by call.
@@ -126,10 +138,15 @@ impl Connect for ListConnect {
 
     ghost connect_faults = { λ c. c.faults };
 
-    fn connect(&mut self) -> Result<ListDgram, Fault> {
+    fn connect(&mut self) -> Result<ListDgram, Fault>
+        ensures count { self.old.faults ≤ self.new.faults }
+        ensures failed { OnErr result (Rose self.old.faults self.new.faults) }
+        ensures connects { result ≡ or_fault quiet_socket (next_connect_fault self.old) }
+        ensures after { self.new ≡ record self.old { calls = one_more self.old.calls; faults = after_answer result self.old.faults } }
+    {
         let call = self.calls;
         self.calls = call.saturating_add(1);
-        match self.connects.get(call).copied().unwrap_or(None) {
+        match fault_at(&self.connects, call) {
             None => Ok(ListDgram::new(Vec::new(self.alloc), Vec::new(self.alloc))),
             Some(fault) => {
                 self.faults = self.faults.saturating_add(1);

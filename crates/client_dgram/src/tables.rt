@@ -1,12 +1,12 @@
 //! The requests that a connection works on, and where each is.
 
 ghost use Rattle.std.specs.Prelude.{◌≡◌, ◌+◌, ◌-◌, ◌<◌, ◌^◌, false, [], Option, Some, None, Err, OnOk, OnErr, IsErrOf, IfErr, IfOk, option_map};
+ghost use Rattle.client_request.specs.Calls.{Steps, NumbersRunOut};
 ghost use Rattle.client_request.specs.Cx.{view_of, heard, LendsTheSame};
 ghost use Rattle.client_request.specs.View.{drawn};
 ghost use Rattle.client_request.specs.Timers.{IsWant};
 ghost use Rattle.client_dgram.specs.Plain as plain;
 ghost use Rattle.client_request.specs.Numbered.{entry_at};
-ghost use Rattle.client_dgram.specs.Requests.{requests_of};
 
 use crate::config::Config;
 use crate::job::{Job, Stage};
@@ -20,7 +20,7 @@ use std::marker::Model;
 
 /// The jobs by ticket, the ticket of each live place and of each read timer, the tickets that wait for
 /// a slot, and how many slots are held. Tickets rise, so the least that waits came first.
-#[derive(Drop)]
+#[derive(Debug, Drop)]
 pub struct Tables<Req> {
     jobs: BTreeMap<u64, Job<Req>>,
     places: BTreeMap<u64, u64>,
@@ -44,6 +44,7 @@ impl<Req> Model for Tables<Req> {
 }
 
 impl<Req> Tables<Req> {
+    /// No request is at work. It takes no memory.
     pub fn new(alloc: Global) -> Tables<Req>
         ensures { result ≡ plain.fresh }
     {
@@ -66,8 +67,8 @@ fn open_next<Req: ComposeRequest, W: Words>(
     job: Job<Req>,
 ) -> Result<(), Error>
     ensures lends { LendsTheSame cx.old cx.new }
-    ensures ok { OnOk result (plain.tries server ticket job tables.old (view_of W.stream cx.old) ≡ Some (tables.new, view_of W.stream cx.new)) }
-    ensures numbers { IsErrOf result Error.NumbersUsed → plain.tries server ticket job tables.old (view_of W.stream cx.old) ≡ None }
+    ensures ok { Steps result (plain.tries server ticket job tables.old (view_of W.stream cx.old)) (tables.new, view_of W.stream cx.new) }
+    ensures numbers { NumbersRunOut result (plain.tries server ticket job tables.old (view_of W.stream cx.old)) }
     ensures want { IfErr result IsWant }
 {
     let place = cx.place;
@@ -98,8 +99,8 @@ fn give_on<Req: ComposeRequest, W: Words>(
     cx: &mut Cx<'_, W>,
 ) -> Result<(), Error>
     ensures lends { LendsTheSame cx.old cx.new }
-    ensures ok { OnOk result (plain.gives_on server tables.old (view_of W.stream cx.old) ≡ Some (tables.new, view_of W.stream cx.new)) }
-    ensures numbers { IsErrOf result Error.NumbersUsed → plain.gives_on server tables.old (view_of W.stream cx.old) ≡ None }
+    ensures ok { Steps result (plain.gives_on server tables.old (view_of W.stream cx.old)) (tables.new, view_of W.stream cx.new) }
+    ensures numbers { NumbersRunOut result (plain.gives_on server tables.old (view_of W.stream cx.old)) }
     ensures want { IfErr result IsWant }
 {
     match tables.queue.pop_first() {
@@ -123,8 +124,8 @@ fn finish<Req: ComposeRequest, W: Words>(
     part: Result<Option<Message>, Error>,
 ) -> Result<(), Error>
     ensures lends { LendsTheSame cx.old cx.new }
-    ensures ok { OnOk result (plain.finishes server ticket part tables.old (view_of W.stream cx.old) ≡ Some (tables.new, view_of W.stream cx.new)) }
-    ensures numbers { IsErrOf result Error.NumbersUsed → plain.finishes server ticket part tables.old (view_of W.stream cx.old) ≡ None }
+    ensures ok { Steps result (plain.finishes server ticket part tables.old (view_of W.stream cx.old)) (tables.new, view_of W.stream cx.new) }
+    ensures numbers { NumbersRunOut result (plain.finishes server ticket part tables.old (view_of W.stream cx.old)) }
     ensures want { IfErr result IsWant }
 {
     cx.board.put(ticket, part)?;
@@ -140,9 +141,9 @@ pub(crate) fn take_on<Req: ComposeRequest, W: Words>(
     request: Req,
 ) -> Result<u64, Error>
     ensures lends { LendsTheSame cx.old cx.new }
-    ensures ok { OnOk result (plain.takes (requests_of Req.with_id Req.with_payload_size Req.composed Req.is_answered) server config.now request tables.old (view_of W.stream cx.old) ≡ Some (tables.new, view_of W.stream cx.new)) }
+    ensures ok { Steps result (plain.takes Req.requests server config.now request tables.old (view_of W.stream cx.old)) (tables.new, view_of W.stream cx.new) }
     ensures ticket { IfOk result (λ ticket. ticket ≡ cx.old.ticket) }
-    ensures numbers { IsErrOf result Error.NumbersUsed → plain.takes (requests_of Req.with_id Req.with_payload_size Req.composed Req.is_answered) server config.now request tables.old (view_of W.stream cx.old) ≡ None }
+    ensures numbers { NumbersRunOut result (plain.takes Req.requests server config.now request tables.old (view_of W.stream cx.old)) }
     ensures want { IfErr result IsWant }
 {
     let ticket = cx.ticket;
@@ -197,8 +198,8 @@ fn send<Req: ComposeRequest, W: Words>(
     job: Job<Req>,
 ) -> Result<(), Error>
     ensures lends { LendsTheSame cx.old cx.new }
-    ensures ok { OnOk result (plain.sends (requests_of Req.with_id Req.with_payload_size Req.composed Req.is_answered) server config.now place ticket id job job.request tables.old (view_of W.stream cx.old) ≡ Some (tables.new, view_of W.stream cx.new)) }
-    ensures numbers { IsErrOf result Error.NumbersUsed → plain.sends (requests_of Req.with_id Req.with_payload_size Req.composed Req.is_answered) server config.now place ticket id job job.request tables.old (view_of W.stream cx.old) ≡ None }
+    ensures ok { Steps result (plain.sends Req.requests server config.now place ticket id job job.request tables.old (view_of W.stream cx.old)) (tables.new, view_of W.stream cx.new) }
+    ensures numbers { NumbersRunOut result (plain.sends Req.requests server config.now place ticket id job job.request tables.old (view_of W.stream cx.old)) }
     ensures want { IfErr result IsWant }
 {
     let message = match job.request.to_message() {
@@ -252,8 +253,8 @@ fn opened<Req: ComposeRequest, W: Words>(
     place: u64,
 ) -> Result<(), Error>
     ensures lends { LendsTheSame cx.old cx.new }
-    ensures ok { OnOk result (plain.opens (requests_of Req.with_id Req.with_payload_size Req.composed Req.is_answered) server config.now place tables.old (view_of W.stream cx.old) ≡ Some (tables.new, view_of W.stream cx.new)) }
-    ensures numbers { IsErrOf result Error.NumbersUsed → plain.opens (requests_of Req.with_id Req.with_payload_size Req.composed Req.is_answered) server config.now place tables.old (view_of W.stream cx.old) ≡ None }
+    ensures ok { Steps result (plain.opens Req.requests server config.now place tables.old (view_of W.stream cx.old)) (tables.new, view_of W.stream cx.new) }
+    ensures numbers { NumbersRunOut result (plain.opens Req.requests server config.now place tables.old (view_of W.stream cx.old)) }
     ensures want { IfErr result IsWant }
 {
     let Some(ticket) = number_at(&tables.places, place) else {
@@ -282,8 +283,8 @@ fn open_failed<Req: ComposeRequest, W: Words>(
     error: Error,
 ) -> Result<(), Error>
     ensures lends { LendsTheSame cx.old cx.new }
-    ensures ok { OnOk result (plain.open_fails server error place tables.old (view_of W.stream cx.old) ≡ Some (tables.new, view_of W.stream cx.new)) }
-    ensures numbers { IsErrOf result Error.NumbersUsed → plain.open_fails server error place tables.old (view_of W.stream cx.old) ≡ None }
+    ensures ok { Steps result (plain.open_fails server error place tables.old (view_of W.stream cx.old)) (tables.new, view_of W.stream cx.new) }
+    ensures numbers { NumbersRunOut result (plain.open_fails server error place tables.old (view_of W.stream cx.old)) }
     ensures want { IfErr result IsWant }
 {
     let Some(ticket) = number_at(&tables.places, place) else {
@@ -317,8 +318,8 @@ fn end<Req: ComposeRequest, W: Words>(
     part: Result<Option<Message>, Error>,
 ) -> Result<(), Error>
     ensures lends { LendsTheSame cx.old cx.new }
-    ensures ok { OnOk result (plain.finishes server ticket part (plain.leaves place ticket timer tables.old) (plain.closes place timer (view_of W.stream cx.old)) ≡ Some (tables.new, view_of W.stream cx.new)) }
-    ensures numbers { IsErrOf result Error.NumbersUsed → plain.finishes server ticket part (plain.leaves place ticket timer tables.old) (plain.closes place timer (view_of W.stream cx.old)) ≡ None }
+    ensures ok { Steps result (plain.finishes server ticket part (plain.leaves place ticket timer tables.old) (plain.closes place timer (view_of W.stream cx.old))) (tables.new, view_of W.stream cx.new) }
+    ensures numbers { NumbersRunOut result (plain.finishes server ticket part (plain.leaves place ticket timer tables.old) (plain.closes place timer (view_of W.stream cx.old))) }
     ensures want { IfErr result IsWant }
 {
     leave(tables, place, ticket, timer);
@@ -336,8 +337,8 @@ fn broken<Req: ComposeRequest, W: Words>(
     error: Error,
 ) -> Result<(), Error>
     ensures lends { LendsTheSame cx.old cx.new }
-    ensures ok { OnOk result (plain.breaks server error place tables.old (view_of W.stream cx.old) ≡ Some (tables.new, view_of W.stream cx.new)) }
-    ensures numbers { IsErrOf result Error.NumbersUsed → plain.breaks server error place tables.old (view_of W.stream cx.old) ≡ None }
+    ensures ok { Steps result (plain.breaks server error place tables.old (view_of W.stream cx.old)) (tables.new, view_of W.stream cx.new) }
+    ensures numbers { NumbersRunOut result (plain.breaks server error place tables.old (view_of W.stream cx.old)) }
     ensures want { IfErr result IsWant }
 {
     let Some(ticket) = number_at(&tables.places, place) else {
@@ -355,7 +356,7 @@ fn answer_in<Req: ComposeRequest>(
     ticket: u64,
     octets: Octets,
 ) -> Option<Message>
-    ensures { result ≡ plain.answer_in (requests_of Req.with_id Req.with_payload_size Req.composed Req.is_answered) octets (entry_at ticket jobs.now.entries) }
+    ensures { result ≡ plain.answer_in Req.requests octets (entry_at ticket jobs.now.entries) }
 {
     let job = jobs.get(&ticket)?;
     let Ok(message) = Message::from_octets(octets) else {
@@ -378,8 +379,8 @@ fn received<Req: ComposeRequest, W: Words>(
     octets: &Octets,
 ) -> Result<(), Error>
     ensures lends { LendsTheSame cx.old cx.new }
-    ensures ok { OnOk result (plain.comes (requests_of Req.with_id Req.with_payload_size Req.composed Req.is_answered) server config.now octets.now place tables.old (view_of W.stream cx.old) ≡ Some (tables.new, view_of W.stream cx.new)) }
-    ensures numbers { IsErrOf result Error.NumbersUsed → plain.comes (requests_of Req.with_id Req.with_payload_size Req.composed Req.is_answered) server config.now octets.now place tables.old (view_of W.stream cx.old) ≡ None }
+    ensures ok { Steps result (plain.comes Req.requests server config.now octets.now place tables.old (view_of W.stream cx.old)) (tables.new, view_of W.stream cx.new) }
+    ensures numbers { NumbersRunOut result (plain.comes Req.requests server config.now octets.now place tables.old (view_of W.stream cx.old)) }
     ensures want { IfErr result IsWant }
 {
     let Some(ticket) = number_at(&tables.places, place) else {
@@ -404,8 +405,8 @@ fn late<Req: ComposeRequest, W: Words>(
     timer: u64,
 ) -> Result<(), Error>
     ensures lends { LendsTheSame cx.old cx.new }
-    ensures ok { OnOk result (plain.late server timer tables.old (view_of W.stream cx.old) ≡ Some (tables.new, view_of W.stream cx.new)) }
-    ensures numbers { IsErrOf result Error.NumbersUsed → plain.late server timer tables.old (view_of W.stream cx.old) ≡ None }
+    ensures ok { Steps result (plain.late server timer tables.old (view_of W.stream cx.old)) (tables.new, view_of W.stream cx.new) }
+    ensures numbers { NumbersRunOut result (plain.late server timer tables.old (view_of W.stream cx.old)) }
     ensures want { IfErr result IsWant }
 {
     let Some(ticket) = tables.timers.remove(&timer) else {
@@ -441,8 +442,8 @@ pub(crate) fn hear<Req: ComposeRequest, W: Words>(
     signal: Signal<'_>,
 ) -> Result<(), Error>
     ensures lends { LendsTheSame cx.old cx.new }
-    ensures ok { OnOk result (plain.hears (requests_of Req.with_id Req.with_payload_size Req.composed Req.is_answered) server config.now (heard signal.entry) tables.old (view_of W.stream cx.old) ≡ Some (tables.new, view_of W.stream cx.new)) }
-    ensures numbers { IsErrOf result Error.NumbersUsed → plain.hears (requests_of Req.with_id Req.with_payload_size Req.composed Req.is_answered) server config.now (heard signal.entry) tables.old (view_of W.stream cx.old) ≡ None }
+    ensures ok { Steps result (plain.hears Req.requests server config.now (heard signal.entry) tables.old (view_of W.stream cx.old)) (tables.new, view_of W.stream cx.new) }
+    ensures numbers { NumbersRunOut result (plain.hears Req.requests server config.now (heard signal.entry) tables.old (view_of W.stream cx.old)) }
     ensures want { IfErr result IsWant }
 {
     match signal {
@@ -461,8 +462,8 @@ fn told<Req: ComposeRequest, W: Words>(
     what: &What,
 ) -> Result<(), Error>
     ensures lends { LendsTheSame cx.old cx.new }
-    ensures ok { OnOk result (plain.tells (requests_of Req.with_id Req.with_payload_size Req.composed Req.is_answered) server config.now what.now tables.old (view_of W.stream cx.old) ≡ Some (tables.new, view_of W.stream cx.new)) }
-    ensures numbers { IsErrOf result Error.NumbersUsed → plain.tells (requests_of Req.with_id Req.with_payload_size Req.composed Req.is_answered) server config.now what.now tables.old (view_of W.stream cx.old) ≡ None }
+    ensures ok { Steps result (plain.tells Req.requests server config.now what.now tables.old (view_of W.stream cx.old)) (tables.new, view_of W.stream cx.new) }
+    ensures numbers { NumbersRunOut result (plain.tells Req.requests server config.now what.now tables.old (view_of W.stream cx.old)) }
     ensures want { IfErr result IsWant }
 {
     match what {
@@ -496,8 +497,8 @@ pub(crate) fn give_up<Req: ComposeRequest, W: Words>(
     ticket: u64,
 ) -> Result<(), Error>
     ensures lends { LendsTheSame cx.old cx.new }
-    ensures ok { OnOk result (plain.drops server ticket tables.old (view_of W.stream cx.old) ≡ Some (tables.new, view_of W.stream cx.new)) }
-    ensures numbers { IsErrOf result Error.NumbersUsed → plain.drops server ticket tables.old (view_of W.stream cx.old) ≡ None }
+    ensures ok { Steps result (plain.drops server ticket tables.old (view_of W.stream cx.old)) (tables.new, view_of W.stream cx.new) }
+    ensures numbers { NumbersRunOut result (plain.drops server ticket tables.old (view_of W.stream cx.old)) }
     ensures want { IfErr result IsWant }
 {
     let Some(stage) = stage_at(&tables.jobs, ticket) else {

@@ -2,3 +2,8 @@ pub mod Options
 pub mod Writable
 pub mod Carrying
 pub mod Limiting
+pub mod TimerOrder
+pub mod TimerMoves
+pub mod TimerTable
+pub mod TimerTop
+pub mod TimerKept

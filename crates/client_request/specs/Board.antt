@@ -1,5 +1,5 @@
 -- The board: parts for tickets, in the order in which they were put.
-use Rattle.std.specs.Prelude.{ℕ, ◌==◌, List, [], ◌∷◌, ◌++◌, Option, Some, None, option_map, option_and_then, Result, slice_get}
+use Rattle.std.specs.Prelude.{◌≡◌, ℕ, ◌==◌, List, [], ◌∷◌, ◌++◌, Option, Some, None, option_map, option_and_then, Result, slice_get}
 use Rattle.std.specs.List.{position, remove}
 use Rattle.client_request.specs.declared.error.Error.{Error}
 use Rattle.client_request.specs.declared.board.Posted.{Posted}
@@ -25,6 +25,7 @@ removed_at ps (Some i) = remove ps i
 abbrev pub without_part : ℕ → List Posted → List Posted
 without_part ticket ps = removed_at ps (place_of ticket ps)
 
--- the ticket whose part was put first
-abbrev pub oldest : List Posted → Option ℕ
-oldest ps = option_map (λ p. p.ticket) (slice_get ps 0)
+-- The part that was put first is taken, and the others stay in their order; none where no part stands.
+abbrev pub TakesFirst : Option Posted → (old new : List Posted) → Type 0
+TakesFirst None old new = (old ≡ []) × (new ≡ [])
+TakesFirst (Some first) old new = old ≡ first ∷ new

@@ -1,6 +1,7 @@
 -- What a clause says of a `Cx` and of a `Signal`.
-use Rattle.std.specs.Prelude.{◌≡◌, ℕ}
+use Rattle.std.specs.Prelude.{◌≡◌, ℕ, List}
 use Rattle.client_request.specs.View.{View, Heard, told, more_at, due_timer}
+use Rattle.client_request.specs.declared.board.Posted.{Posted}
 use Rattle.client_request.specs.declared.cx.Cx.{Cx}
 use Rattle.client_request.specs.declared.cx.Signal.{Signal}
 use Rattle.client_request.specs.declared.cx.Signal.TheVariants.{Told, More, Due}
@@ -18,6 +19,10 @@ view_of stream cx = record {
   request = cx.request;
   more = cx.more;
 }
+
+-- what it stands for with another board
+abbrev pub view_below : {W : Type 0} → (W → ℕ → ℕ) → List Posted → Cx W → View
+view_below stream board cx = record (view_of stream cx) { board = board }
 
 -- the context still lends what it lent
 pub record LendsTheSame {W : Type 0} (old new : Cx W) : Type 0 where

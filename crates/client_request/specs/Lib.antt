@@ -6,10 +6,13 @@ pub mod Carries
 pub mod Words
 pub mod Numbered
 pub mod Timers
+pub mod TimerHeap
 pub mod Board
 pub mod View
 pub mod Cx
 pub mod Response
+pub mod Calls
 pub mod Composing
+pub mod Requests
 pub mod Limits
 pub mod Copies

@@ -1,7 +1,8 @@
--- Timers: a list of due moments and numbers.
-use Rattle.std.specs.Prelude.{ℕ, ◌+◌, ◌^◌, ◌==◌, ◌&&◌, ◌||◌, nat_lt, nat_le, Bool, if◌then◌else◌, List, [], ◌∷◌, ◌++◌, fold, Option, Some, None}
+-- Timers: a list of due moments and numbers, and a heap that holds each of them.
+use Rattle.std.specs.Prelude.{◌≡◌, ℕ, ◌+◌, ◌-◌, ◌/◌, ◌^◌, ◌<◌, ◌==◌, ◌&&◌, ◌||◌, nat_lt, nat_le, Bool, false, if◌then◌else◌, List, [], ◌∷◌, ◌++◌, length, map, find, fold, slice_index_or, Option, Some, None, MatchOption}
 use Rattle.std.specs.List.{position, remove}
 use Rattle.client_request.specs.declared.timers.Timer.{Timer}
+use Rattle.client_request.specs.declared.timers.TimerId.{TimerId}
 use Rattle.client_request.specs.declared.error.Error.{Error}
 use Rattle.client_request.specs.declared.error.Error.TheVariants.{NoMemory, NumbersUsed}
 
@@ -62,3 +63,33 @@ abbrev pub IsWant : Error → Type 0
 IsWant NoMemory = Unit {0}
 IsWant NumbersUsed = Unit {0}
 IsWant _ = ⊥
+
+-- ---- the heap
+
+-- an entry: when a timer is due, and its number
+abbrev pub Entry : Type 0
+Entry = ℕ × TimerId
+
+abbrev pub entry_of : Timer → Entry
+entry_of t = (t.due, record { 0 = t.id })
+
+-- the numbers that stand in a heap
+abbrev pub numbers_of : List Entry → List ℕ
+numbers_of heap = map (λ e. e.1.0) heap
+
+-- An entry goes before another as their timers do.
+abbrev pub goes_before : Entry → Entry → Bool
+goes_before a b = nat_lt a.0 b.0 || (a.0 == b.0 && nat_lt a.1.0 b.1.0)
+
+-- the timer of this number that is set
+abbrev pub timer_at : ℕ → List Timer → Option Timer
+timer_at id ts = find (λ t. t.id == id) ts
+
+-- An entry is that of the timer that is set by its number; where none is, the number was drawn, and its timer is cancelled.
+abbrev pub IsSetOrCancelled : TimerList → Entry → Type 0
+IsSetOrCancelled ts e = MatchOption (timer_at e.1.0 ts.set) (e.1.0 < ts.next) (λ t. entry_of t ≡ e)
+
+-- No entry goes before the one at half its place.
+abbrev pub ParentsGoFirst : List Entry → Type 0
+ParentsGoFirst heap =
+    (i : ℕ) (d : Entry) → 0 < i → i < length heap → goes_before (slice_index_or heap i d) (slice_index_or heap ((i - 1) / 2) d) ≡ false

@@ -54,3 +54,10 @@ draws_ticket v = if can_draw v.ticket then Some (record v { ticket = v.ticket + 
 
 abbrev pub draws_place : View → Option View
 draws_place v = if can_draw v.place then Some (record v { place = v.place + 1 }) else None
+
+-- A transport as plain functions: what each call leaves, and what stands for the result of a request that is taken on.
+pub record Transport (CR U P : Type 0) : Type 0 where
+  pub send : CR → Step U
+  pub step : Heard → Step U
+  pub cancel : P → Step U
+  pub response : CR → U → View → P

@@ -1,7 +1,7 @@
 //! Results by ticket.
 
 ghost use Rattle.std.specs.Prelude.{◌≡◌, ◌==◌, ◌<◌, ◌++◌, ◌∷◌, [], length, position, option_map, OnOk, OnErr, IfSome, slice_get};
-ghost use Rattle.client_request.specs.Board.{part_of, without_part, posted, oldest};
+ghost use Rattle.client_request.specs.Board.{part_of, without_part, posted, TakesFirst};
 
 use crate::error::Error;
 use dns_base::{Message, NoMemory};
@@ -15,7 +15,9 @@ pub type Part = Result<Option<Message>, Error>;
 /// A part that stands for a ticket.
 #[derive(Drop)]
 pub struct Posted {
+    /// The ticket of the response that it is for.
     pub ticket: u64,
+    /// The result, or a part of it.
     pub part: Result<Option<Message>, Error>,
 }
 
@@ -42,6 +44,7 @@ fn place_of(posted: &VecDeque<Posted>, ticket: u64) -> Option<usize>
 }
 
 impl Board {
+    /// A board on which no part stands. It takes no memory.
     pub fn new(alloc: Global) -> Board
         ensures { result ≡ [] }
     {
@@ -59,6 +62,13 @@ impl Board {
             Ok(()) => Ok(()),
             Err(_) => Err(NoMemory),
         }
+    }
+
+    /// Takes the part that was put first, of all that stand.
+    pub fn take_first(&mut self) -> Option<Posted>
+        ensures { TakesFirst result self.old self.new }
+    {
+        self.posted.pop_front()
     }
 
     /// Takes the oldest part of a ticket.
@@ -81,13 +91,5 @@ impl Board {
         ensures { result ≡ length self.now }
     {
         self.posted.len()
-    }
-
-    /// The ticket whose part was put first, of all that stand.
-    pub fn oldest(&self) -> Option<u64>
-        ensures { result ≡ oldest self.now }
-    {
-        let posted = self.posted.get(0)?;
-        Some(posted.ticket)
     }
 }

@@ -7,6 +7,7 @@ ghost use Rattle.dns_base.specs.Draft.{Draft};
 ghost use Rattle.client_request.specs.declared.error.Error.{Error};
 ghost use Rattle.client_request.specs.declared.error.Error.TheVariants as errors;
 ghost use Rattle.client_request.specs.Composing.{IsComposed};
+ghost use Rattle.client_request.specs.Requests.{Requests};
 ghost use Rattle.client_request.specs.Composed.{Copied, IsCopied, HoldsNothing};
 
 use crate::error::{CopyRecordsError, Error};
@@ -15,16 +16,11 @@ use std::alloc::Global;
 
 /// A request that a transport sends and whose answer it knows.
 ///
-/// `composed` is the message that is made of it. How its names are compressed is the business of the
-/// writer alone: no clause outside of it looks into these octets.
+/// `requests.composed` is the message that is made of it. How its names are compressed is the business of
+/// the writer alone: no clause outside of it looks into these octets.
 pub trait ComposeRequest: Drop {
-    ghost with_id: { ℕ → Self → Self };
-
-    ghost with_payload_size: { ℕ → Self → Self };
-
-    ghost composed: { Self → Result (List ℕ) Error };
-
-    ghost is_answered: { List ℕ → Self → Bool };
+    /// What a transport asks of it: what is changed of it, what is sent, and what answers it.
+    ghost requests: { Requests Self };
 
     /// A builder with the request's entries under its header, or why not.
     ghost appended: { Self → Draft → Copied };
@@ -37,28 +33,23 @@ pub trait ComposeRequest: Drop {
 
     ghost with_dnssec_ok: { Bool → Self → Self };
 
-    ghost with_option: { ℕ → List ℕ → Self → Self };
-
-    /// So many octets of an option would pass what the OPT record's data may have.
-    ghost is_full_for: { ℕ → Self → Bool };
-
     /// The message: the recorded header, the base's questions and records without the OPT records of
     /// its additional section, and then the recorded OPT record (RFC 1035 4.1, RFC 6891 6.1).
     fn to_message(&self) -> Result<Message, Error>
-        ensures { IsComposed (composed self.now) result };
+        ensures { IsComposed (requests.composed self.now) result };
 
     /// Records an id.
     fn set_id(&mut self, id: u16)
-        ensures { self.new ≡ with_id id self.old };
+        ensures { self.new ≡ requests.with_id id self.old };
 
     /// Records the payload size, in an OPT record that is added where there is none.
     fn set_udp_payload_size(&mut self, value: u16)
-        ensures { self.new ≡ with_payload_size value self.old };
+        ensures { self.new ≡ requests.with_payload_size value self.old };
 
     /// Whether a message answers this request: QR is set, the id is the recorded one, and the questions
     /// are the base's, or an error came without any entry.
     fn is_answer(&self, answer: &Message) -> bool
-        ensures { result ≡ is_answered answer.now self.now };
+        ensures { result ≡ requests.is_answered answer.now self.now };
 
     /// Appends that message to a builder that holds no entry. A refusal leaves the builder as it was:
     /// `Parse` where the base can't be read, `Push` where a section is full, the builder's limit would be
@@ -70,7 +61,7 @@ pub trait ComposeRequest: Drop {
 
     /// The octets of that message.
     fn to_vec(&self) -> Result<Vec<u8>, Error>
-        ensures { MatchResult result (λ v. composed self.now ≡ Ok v.items) (λ e. IsComposed (composed self.now) (Err e)) };
+        ensures { MatchResult result (λ v. requests.composed self.now ≡ Ok v.items) (λ e. IsComposed (requests.composed self.now) (Err e)) };
 
     /// The recorded header.
     fn header(&self) -> &Header
@@ -93,9 +84,9 @@ pub trait ComposeRequest: Drop {
     /// `OptTooLong` exactly where its data would pass 65535 octets, and else `NoMemory`; either leaves
     /// the request as it was.
     fn add_opt(&mut self, code: u16, octets: &[u8]) -> Result<(), Error>
-        ensures ok { OnOk result (self.new ≡ with_option code octets.now self.old) }
+        ensures ok { OnOk result (self.new ≡ requests.with_option code octets.now self.old) }
         ensures err { OnErr result (self.new ≡ self.old) }
-        ensures long { IsErrOf result errors.OptTooLong ↔ IsTrue (is_full_for (length octets.now) self.old) }
+        ensures long { IsErrOf result errors.OptTooLong ↔ IsTrue (requests.is_full_for (length octets.now) self.old) }
         ensures refused { IfErr result (λ e. (e ≡ errors.OptTooLong) ⊎ (e ≡ errors.NoMemory)) };
 
     /// The same request once more.

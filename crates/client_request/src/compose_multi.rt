@@ -7,6 +7,7 @@ ghost use Rattle.dns_base.specs.Draft.{Draft};
 ghost use Rattle.client_request.specs.declared.error.Error.{Error};
 ghost use Rattle.client_request.specs.declared.error.Error.TheVariants as errors;
 ghost use Rattle.client_request.specs.Composing.{IsComposed};
+ghost use Rattle.client_request.specs.Requests.{Requests};
 ghost use Rattle.client_request.specs.Composed.{Copied, IsCopied, HoldsNothing};
 
 use crate::error::{CopyRecordsError, Error};
@@ -15,15 +16,10 @@ use std::alloc::Global;
 
 /// A request that a transport sends and whose answers it knows, of which there may be several.
 ///
-/// `composed` is the message that is made of it, as for a request for one message.
+/// `requests.composed` is the message that is made of it, as for a request for one message.
 pub trait ComposeRequestMulti: Drop {
-    ghost with_id: { ℕ → Self → Self };
-
-    ghost with_payload_size: { ℕ → Self → Self };
-
-    ghost composed: { Self → Result (List ℕ) Error };
-
-    ghost is_answered: { List ℕ → Self → Bool };
+    /// What a transport asks of it: what is changed of it, what is sent, and what answers it.
+    ghost requests: { Requests Self };
 
     /// A builder with the request's entries under its header, or why not.
     ghost appended: { Self → Draft → Copied };
@@ -36,29 +32,24 @@ pub trait ComposeRequestMulti: Drop {
 
     ghost with_dnssec_ok: { Bool → Self → Self };
 
-    ghost with_option: { ℕ → List ℕ → Self → Self };
-
-    /// So many octets of an option would pass what the OPT record's data may have.
-    ghost is_full_for: { ℕ → Self → Bool };
-
     /// The message: the recorded header, the base's questions and records without the OPT records of
     /// its additional section, and then the recorded OPT record (RFC 1035 4.1, RFC 6891 6.1).
     fn to_message(&self) -> Result<Message, Error>
-        ensures { IsComposed (composed self.now) result };
+        ensures { IsComposed (requests.composed self.now) result };
 
     /// Records an id.
     fn set_id(&mut self, id: u16)
-        ensures { self.new ≡ with_id id self.old };
+        ensures { self.new ≡ requests.with_id id self.old };
 
     /// Records the payload size, in an OPT record that is added where there is none.
     fn set_udp_payload_size(&mut self, value: u16)
-        ensures { self.new ≡ with_payload_size value self.old };
+        ensures { self.new ≡ requests.with_payload_size value self.old };
 
     /// Whether a message is one of this request's answers: QR is set, the id is the recorded one, and the
     /// questions are the base's, or an error came without any entry, or the request is for a whole zone
     /// and the message has no question (RFC 5936 2.2.1).
     fn is_answer(&self, answer: &Message) -> bool
-        ensures { result ≡ is_answered answer.now self.now };
+        ensures { result ≡ requests.is_answered answer.now self.now };
 
     /// Appends that message to a builder that holds no entry. A refusal leaves the builder as it was:
     /// `Parse` where the base can't be read, `Push` where a section is full, the builder's limit would be
@@ -89,9 +80,9 @@ pub trait ComposeRequestMulti: Drop {
     /// `OptTooLong` exactly where its data would pass 65535 octets, and else `NoMemory`; either leaves
     /// the request as it was.
     fn add_opt(&mut self, code: u16, octets: &[u8]) -> Result<(), Error>
-        ensures ok { OnOk result (self.new ≡ with_option code octets.now self.old) }
+        ensures ok { OnOk result (self.new ≡ requests.with_option code octets.now self.old) }
         ensures err { OnErr result (self.new ≡ self.old) }
-        ensures long { IsErrOf result errors.OptTooLong ↔ IsTrue (is_full_for (length octets.now) self.old) }
+        ensures long { IsErrOf result errors.OptTooLong ↔ IsTrue (requests.is_full_for (length octets.now) self.old) }
         ensures refused { IfErr result (λ e. (e ≡ errors.OptTooLong) ⊎ (e ≡ errors.NoMemory)) };
 
     /// The same request once more.

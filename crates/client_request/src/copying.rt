@@ -12,7 +12,6 @@ use dns_base::{
     Builder, Question, QuestionSection, Record, RecordData, RecordSection, Rtype, Section,
 };
 
-#[tactic(auto, unfolding(dns_base::specs::Draft::counts_in, dns_base::specs::Draft::pushed_question))]
 fn copy_question(question: &Question<'_>, target: &mut Builder) -> Result<(), CopyRecordsError>
     requires { HasNoRecords (counts_in target.old) }
     ensures copied { IsCopied (asks question.now target.old) result target.new }
@@ -52,7 +51,6 @@ fn copied_data<'a>(source: &Record<'a>) -> RecordData<'a>
     }
 }
 
-#[tactic(auto, unfolding(dns_base::specs::Draft::counts_in, dns_base::specs::Draft::pushed_record))]
 fn push_copy(
     section: Section,
     source: &Record<'_>,

@@ -8,15 +8,25 @@ use std::fmt;
 /// The kind of a fault of a socket.
 #[derive(Clone, Copy, Debug, PartialEq, Eq, Hash)]
 pub enum Fault {
+    /// The other side refused the connection.
     Refused,
+    /// The other side reset the connection.
     Reset,
+    /// The network or the server can't be reached.
     Unreachable,
+    /// The address of this side is in use.
     InUse,
+    /// The connection is broken.
     Broken,
+    /// A fault of another kind.
     Other,
+    /// It took too long. The client finds this one by its own timer.
     Expired,
+    /// Not all octets of a datagram were sent.
     ShortSend,
+    /// A stream took no octet of what was to be written.
     NothingTaken,
+    /// A stream came to its end, and not inside the body of a message.
     EndOfData,
 }
 

@@ -5,6 +5,7 @@
 #![tactic(auto)]
 
 mod append;
+mod below;
 mod board;
 mod compose;
 mod compose_multi;
@@ -25,11 +26,11 @@ mod request;
 mod request_multi;
 mod response;
 mod send;
-#[cfg(test)]
-mod tests;
+mod timer_heap;
 mod timers;
 mod words;
 
+pub use below::{cancel_below, send_below, step_below};
 pub use board::{Board, Posted};
 pub use compose::ComposeRequest;
 pub use compose_multi::ComposeRequestMulti;

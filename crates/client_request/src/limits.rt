@@ -8,12 +8,16 @@ use std::cmp::Ordering;
 /// The default of a setting, and the least and greatest value that it may have.
 #[derive(Clone, Copy, Debug, PartialEq, Eq)]
 pub struct DefMinMax<T> {
+    /// The default.
     pub def: T,
+    /// The least value that it may have.
     pub min: T,
+    /// The greatest value that it may have.
     pub max: T,
 }
 
 impl<T: Ord + Copy> DefMinMax<T> {
+    /// The limits of a setting. That the default lies within them is the caller's business.
     pub const fn new(def: T, min: T, max: T) -> Self
         ensures { result ≡ record { def = def; min = min; max = max } }
     {

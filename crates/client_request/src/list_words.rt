@@ -23,6 +23,7 @@ impl Model for ListWords {
 }
 
 impl ListWords {
+    /// The words of this list, from its first on.
     pub fn new(words: WordList) -> ListWords
         ensures { result ≡ words }
     {

@@ -3,6 +3,7 @@
 ghost use Rattle.std.specs.Prelude.{◌≡◌, ◌<◌, ℕ, slice_index, IfOk, IsOk, Some, None};
 ghost use Rattle.dns_base.specs.Draft.{fresh};
 ghost use Rattle.client_request.specs.Request as spec;
+ghost use Rattle.client_request.specs.Requests.{for_one};
 ghost use Rattle.client_request.specs.Carries.{IsOfOctets};
 ghost use Rattle.client_request.specs.Composed.{composed, appended, HoldsNothing};
 
@@ -16,7 +17,7 @@ use std::marker::Model;
 
 /// What is recorded of a request. What is sent is the base message under the recorded header, with the
 /// recorded OPT record in place of those of its additional section.
-#[derive(Drop)]
+#[derive(Debug, Drop)]
 pub(crate) struct Recorded {
     alloc: Global,
     base: Message,
@@ -128,13 +129,7 @@ fn empty_message(alloc: Global) -> Result<Builder, NoMemory>
 }
 
 impl ComposeRequest for Recorded {
-    ghost with_id = { spec.with_id };
-
-    ghost with_payload_size = { spec.with_payload_size };
-
-    ghost composed = { composed };
-
-    ghost is_answered = { spec.is_answered };
+    ghost requests = { for_one };
 
     ghost appended = { appended };
 
@@ -145,10 +140,6 @@ impl ComposeRequest for Recorded {
     ghost is_dnssec_ok = { spec.is_dnssec_ok };
 
     ghost with_dnssec_ok = { spec.with_dnssec_ok };
-
-    ghost with_option = { spec.with_option };
-
-    ghost is_full_for = { spec.is_full_for };
 
     fn append_message(&self, target: &mut Builder) -> Result<(), CopyRecordsError> {
         append(

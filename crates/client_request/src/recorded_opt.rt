@@ -16,7 +16,7 @@ use std::marker::Model;
 const MAX_OPTIONS: usize = 65535;
 
 /// An OPT record that owns its options (RFC 6891 6.1).
-#[derive(Drop)]
+#[derive(Debug, Drop)]
 pub(crate) struct RecordedOpt {
     udp_payload_size: u16,
     ext_rcode: u8,

@@ -2,6 +2,7 @@
 
 ghost use Rattle.std.specs.Prelude.{◌≡◌, ◌↔◌, IfOk, IfErr, IsErrOf, IsOk, IsTrue, None, false};
 ghost use Rattle.client_request.specs.Request as spec;
+ghost use Rattle.client_request.specs.Requests.{for_one};
 ghost use Rattle.client_request.specs.Carries.{IsOfOctets};
 ghost use Rattle.client_request.specs.Composed.{composed, appended};
 ghost use Rattle.client_request.specs.declared.error.Error.TheVariants as errors;
@@ -15,7 +16,7 @@ use std::marker::Model;
 
 /// A request for one message: no query without a first question that can be read, and none for a whole
 /// zone.
-#[derive(Drop)]
+#[derive(Debug, Drop)]
 pub struct RequestMessage {
     recorded: Recorded,
 }
@@ -102,13 +103,7 @@ impl RequestMessage {
 }
 
 impl ComposeRequest for RequestMessage {
-    ghost with_id = { spec.with_id };
-
-    ghost with_payload_size = { spec.with_payload_size };
-
-    ghost composed = { composed };
-
-    ghost is_answered = { spec.is_answered };
+    ghost requests = { for_one };
 
     ghost appended = { appended };
 
@@ -119,10 +114,6 @@ impl ComposeRequest for RequestMessage {
     ghost is_dnssec_ok = { spec.is_dnssec_ok };
 
     ghost with_dnssec_ok = { spec.with_dnssec_ok };
-
-    ghost with_option = { spec.with_option };
-
-    ghost is_full_for = { spec.is_full_for };
 
     fn append_message(&self, target: &mut Builder) -> Result<(), CopyRecordsError> {
         self.recorded.append_message(target)

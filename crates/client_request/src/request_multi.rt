@@ -3,6 +3,7 @@
 ghost use Rattle.std.specs.Prelude.{◌≡◌, ◌↔◌, IfOk, IfErr, IsErrOf, IsTrue, false};
 ghost use Rattle.dns_base.specs.Message.{is_xfr};
 ghost use Rattle.client_request.specs.Request as spec;
+ghost use Rattle.client_request.specs.Requests.{for_several};
 ghost use Rattle.client_request.specs.Composed.{composed, appended};
 ghost use Rattle.client_request.specs.declared.error.Error.TheVariants as errors;
 
@@ -15,7 +16,7 @@ use std::alloc::Global;
 use std::marker::Model;
 
 /// A request for a zone, or for its changes (RFC 5936, RFC 1995).
-#[derive(Drop)]
+#[derive(Debug, Drop)]
 pub struct RequestMessageMulti {
     recorded: Recorded,
 }
@@ -68,13 +69,7 @@ impl RequestMessageMulti {
 }
 
 impl ComposeRequestMulti for RequestMessageMulti {
-    ghost with_id = { spec.with_id };
-
-    ghost with_payload_size = { spec.with_payload_size };
-
-    ghost composed = { composed };
-
-    ghost is_answered = { spec.is_answered_in_part };
+    ghost requests = { for_several };
 
     ghost appended = { appended };
 
@@ -85,10 +80,6 @@ impl ComposeRequestMulti for RequestMessageMulti {
     ghost is_dnssec_ok = { spec.is_dnssec_ok };
 
     ghost with_dnssec_ok = { spec.with_dnssec_ok };
-
-    ghost with_option = { spec.with_option };
-
-    ghost is_full_for = { spec.is_full_for };
 
     fn to_message(&self) -> Result<Message, Error> {
         self.recorded.to_message()

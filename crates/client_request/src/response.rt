@@ -10,7 +10,9 @@ use dns_base::Message;
 /// Whether a result has come.
 #[derive(Debug, Drop)]
 pub enum Poll<T> {
+    /// It has come: this is it.
     Ready(T),
+    /// It has not come yet.
     Pending,
 }
 

@@ -1,7 +1,8 @@
 //! The trait of a transport.
 
 ghost use Rattle.std.specs.Prelude.{◌≡◌, ℕ, Bool, true, false, Option, Some, None, OnOk, OnErr, IfOk, IfErr, IsErrOf, Err};
-ghost use Rattle.client_request.specs.View.{View, Heard, Step};
+ghost use Rattle.client_request.specs.View.{Transport};
+ghost use Rattle.client_request.specs.Calls.{Steps, NumbersRunOut, AnswersFailed};
 ghost use Rattle.client_request.specs.Cx.{view_of, heard, LendsTheSame};
 ghost use Rattle.client_request.specs.Response.{IsRefusal};
 
@@ -24,14 +25,8 @@ pub trait SendRequest<CR> {
     /// Whether it, or a transport that it holds, gave up: else no call answers `Failed`.
     ghost holds_failed: { Self → Bool };
 
-    ghost plain_send: { CR → Step Self };
-
-    /// What stands for the result of a request that is taken on.
-    ghost plain_response: { CR → Self → View → Self.Response };
-
-    ghost plain_step: { Heard → Step Self };
-
-    ghost plain_cancel: { Self.Response → Step Self };
+    /// What each call leaves, and what stands for the result of a request that is taken on.
+    ghost transport: { Transport CR Self Self.Response };
 
     /// Takes a request on. Its result will stand on the board under the response's ticket.
     fn send_request<W: Words>(
@@ -40,26 +35,26 @@ pub trait SendRequest<CR> {
         request: CR,
     ) -> Result<Self::Response, Error>
         ensures lends { LendsTheSame cx.old cx.new }
-        ensures ok { OnOk result (plain_send request self.old (view_of W.stream cx.old) ≡ Some (self.new, view_of W.stream cx.new)) }
-        ensures response { IfOk result (λ r. r ≡ plain_response request self.old (view_of W.stream cx.old)) }
+        ensures ok { Steps result (transport.send request self.old (view_of W.stream cx.old)) (self.new, view_of W.stream cx.new) }
+        ensures response { IfOk result (λ r. r ≡ transport.response request self.old (view_of W.stream cx.old)) }
         ensures ticket { IfOk result (λ r. Self.Response.ticket_of r ≡ cx.old.ticket) }
         ensures waits { IfOk result (λ r. Self.Response.has_given r ≡ false) }
-        ensures numbers { IsErrOf result Error.NumbersUsed → plain_send request self.old (view_of W.stream cx.old) ≡ None }
+        ensures numbers { NumbersRunOut result (transport.send request self.old (view_of W.stream cx.old)) }
         ensures keeps { OnOk result (holds_failed self.new ≡ holds_failed self.old) }
         ensures refused { IfErr result IsRefusal }
         ensures err { OnErr result (has_failed self.new ≡ true) }
-        ensures failed { has_failed self.old ≡ true → (result ≡ Err Error.Failed) × (self.new ≡ self.old) × (view_of W.stream cx.new ≡ view_of W.stream cx.old) }
+        ensures failed { has_failed self.old ≡ true → AnswersFailed result (self.old, view_of W.stream cx.old) (self.new, view_of W.stream cx.new) }
         ensures failed_only { IsErrOf result Error.Failed → holds_failed self.old ≡ true };
 
     /// Hears what happened.
     fn step<W: Words>(&mut self, cx: &mut Cx<'_, W>, signal: Signal<'_>) -> Result<(), Error>
         ensures lends { LendsTheSame cx.old cx.new }
-        ensures ok { OnOk result (plain_step (heard signal.entry) self.old (view_of W.stream cx.old) ≡ Some (self.new, view_of W.stream cx.new)) }
-        ensures numbers { IsErrOf result Error.NumbersUsed → plain_step (heard signal.entry) self.old (view_of W.stream cx.old) ≡ None }
+        ensures ok { Steps result (transport.step (heard signal.entry) self.old (view_of W.stream cx.old)) (self.new, view_of W.stream cx.new) }
+        ensures numbers { NumbersRunOut result (transport.step (heard signal.entry) self.old (view_of W.stream cx.old)) }
         ensures keeps { OnOk result (holds_failed self.new ≡ holds_failed self.old) }
         ensures refused { IfErr result IsRefusal }
         ensures err { OnErr result (has_failed self.new ≡ true) }
-        ensures failed { has_failed self.old ≡ true → (result ≡ Err Error.Failed) × (self.new ≡ self.old) × (view_of W.stream cx.new ≡ view_of W.stream cx.old) }
+        ensures failed { has_failed self.old ≡ true → AnswersFailed result (self.old, view_of W.stream cx.old) (self.new, view_of W.stream cx.new) }
         ensures failed_only { IsErrOf result Error.Failed → holds_failed self.old ≡ true };
 
     /// Gives a request up, whose result then never comes.
@@ -69,11 +64,11 @@ pub trait SendRequest<CR> {
         response: Self::Response,
     ) -> Result<(), Error>
         ensures lends { LendsTheSame cx.old cx.new }
-        ensures ok { OnOk result (plain_cancel response self.old (view_of W.stream cx.old) ≡ Some (self.new, view_of W.stream cx.new)) }
-        ensures numbers { IsErrOf result Error.NumbersUsed → plain_cancel response self.old (view_of W.stream cx.old) ≡ None }
+        ensures ok { Steps result (transport.cancel response self.old (view_of W.stream cx.old)) (self.new, view_of W.stream cx.new) }
+        ensures numbers { NumbersRunOut result (transport.cancel response self.old (view_of W.stream cx.old)) }
         ensures keeps { OnOk result (holds_failed self.new ≡ holds_failed self.old) }
         ensures refused { IfErr result IsRefusal }
         ensures err { OnErr result (has_failed self.new ≡ true) }
-        ensures failed { has_failed self.old ≡ true → (result ≡ Err Error.Failed) × (self.new ≡ self.old) × (view_of W.stream cx.new ≡ view_of W.stream cx.old) }
+        ensures failed { has_failed self.old ≡ true → AnswersFailed result (self.old, view_of W.stream cx.old) (self.new, view_of W.stream cx.new) }
         ensures failed_only { IsErrOf result Error.Failed → holds_failed self.old ≡ true };
 }

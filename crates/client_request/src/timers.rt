@@ -1,11 +1,15 @@
-//! The timers that are set: a plain list.
+//! The timers that are set: a binary heap, in which those that were cancelled stay until they come to its
+//! top.
 
-ghost use Rattle.std.specs.Prelude.{◌≡◌, ◌==◌, ◌<◌, true, false, [], length, position, option_map, OnOk, OnErr, IfOk, IfErr, IfSome, IsErrOf};
-ghost use Rattle.client_request.specs.Timers.{earlier, next_due, without_timer, with_timer, cancelled, due_now, fired, can_draw, IsWant};
+ghost use Rattle.std.specs.Prelude.{◌≡◌, ◌==◌, ◌<◌, true, false, [], nat_eq, length, slice_get, option_map, OnOk, OnErr, IfOk, IfErr, IsErrOf};
+ghost use Rattle.std.specs.List.{All, Contains, IsDistinct};
+ghost use Rattle.client_request.specs.Timers.{next_due, with_timer, cancelled, due_now, fired, can_draw, IsWant, entry_of, numbers_of, IsSetOrCancelled, ParentsGoFirst};
 
 use crate::error::Error;
 use crate::event::Moment;
+use crate::timer_heap::{add, settle};
 use std::alloc::Global;
+use std::collections::BTreeMap;
 use std::marker::Model;
 
 /// The number of a timer. Numbers rise from 0 in the order in which timers are set.
@@ -19,58 +23,24 @@ pub struct Timer {
     pub id: u64,
 }
 
-/// The timers that are set and neither fired nor cancelled.
+/// The timers that are set and neither fired nor cancelled: the due moment of each by its number, and the
+/// heap, in which cancelled ones may stand too, but not at its top.
 #[derive(Drop)]
 pub struct Timers {
-    kept: Vec<Timer>,
+    heap: Vec<(u128, TimerId)>,
+    table: BTreeMap<u64, u128>,
     next: u64,
 }
 
 impl Model for Timers {
     ghost use Rattle.client_request.specs.Timers.{TimerList};
+    ghost use Rattle.client_request.specs.TimerHeap.{timers_of, IsHeapOf};
 
     ghost Value = { TimerList };
 
-    ghost view = { λ t. record { next = t.next; set = t.kept.items } };
-}
+    ghost view = { λ t. record { next = t.next; set = timers_of t.table.entries } };
 
-/// The one of two that goes first: it is due before, or then and has the lower number.
-fn earlier(best: Option<Timer>, timer: Timer) -> Option<Timer>
-    ensures { result ≡ earlier best timer }
-{
-    match best {
-        None => Some(timer),
-        Some(other) => {
-            if timer.due < other.due || (timer.due == other.due && timer.id < other.id) {
-                Some(timer)
-            } else {
-                Some(other)
-            }
-        }
-    }
-}
-
-/// The place of the timer with a number.
-fn place_of(kept: &[Timer], id: u64) -> Option<usize>
-    ensures value { result ≡ position (λ t. t.id == id) kept.now }
-    ensures within { IfSome result (λ i. i < length kept.now) }
-{
-    kept.iter().position(|t| t.id == id)
-}
-
-fn remove(kept: &mut Vec<Timer>, id: u64)
-    ensures { kept.new.items ≡ without_timer id kept.old.items }
-{
-    if let Some(i) = place_of(kept, id) {
-        let _ = kept.remove(i);
-    }
-}
-
-/// The timer that goes first.
-fn first(kept: &[Timer]) -> Option<Timer>
-    ensures { result ≡ next_due kept.now }
-{
-    kept.iter().fold(None, |best, timer| earlier(best, *timer))
+    ghost invariant = { λ t. IsHeapOf t.next t.table.entries t.heap.items };
 }
 
 impl Timers {
@@ -78,7 +48,8 @@ impl Timers {
         ensures { result ≡ record { next = 0; set = [] } }
     {
         Timers {
-            kept: Vec::new(alloc),
+            heap: Vec::new(alloc),
+            table: BTreeMap::new(alloc),
             next: 0,
         }
     }
@@ -95,35 +66,32 @@ impl Timers {
         let Some(next) = self.next.checked_add(1) else {
             return Err(Error::NumbersUsed);
         };
-        let id = self.next;
-        match self.kept.push(Timer { due, id }) {
-            Ok(()) => {}
-            Err(_) => return Err(Error::NoMemory),
-        }
+        let id = TimerId(self.next);
+        add(&mut self.heap, &mut self.table, due, id)?;
         self.next = next;
-        Ok(TimerId(id))
+        Ok(id)
     }
 
     /// How many timers are set.
     pub fn len(&self) -> usize
         ensures { result ≡ length self.now.set }
     {
-        self.kept.len()
+        self.table.len()
     }
 
     /// Drops a timer, if it is still set.
     pub fn cancel(&mut self, id: TimerId)
         ensures { self.new ≡ cancelled id.0 self.old }
     {
-        remove(&mut self.kept, id.0);
+        let _ = self.table.remove(&id.0);
+        settle(&mut self.heap, &self.table);
     }
 
     /// The least due moment, and the timer that has it: of several the one with the least number.
     pub fn next_due(&self) -> Option<(u128, TimerId)>
         ensures { result ≡ option_map (λ t. (t.due, record { 0 = t.id })) (next_due self.now.set) }
     {
-        let timer = first(&self.kept)?;
-        Some((timer.due, TimerId(timer.id)))
+        self.heap.first().copied()
     }
 
     /// Takes out the timer that goes first, where it is due at `now`.
@@ -131,11 +99,22 @@ impl Timers {
         ensures value { result ≡ option_map (λ t. record { 0 = t.id }) (due_now now.0 self.old.set) }
         ensures after { self.new ≡ fired now.0 self.old }
     {
-        let timer = first(&self.kept)?;
-        if u128::from(now.0) < timer.due {
+        let (due, id) = self.next_due()?;
+        if u128::from(now.0) < due {
             return None;
         }
-        remove(&mut self.kept, timer.id);
-        Some(TimerId(timer.id))
+        self.cancel(id);
+        Some(id)
+    }
+
+    /// The heap: each timer that is set, and cancelled ones.
+    pub fn heap(&self) -> &[(u128, TimerId)]
+        ensures set { All (λ t. Contains result.now (entry_of t)) self.now.set }
+        ensures once { IsDistinct nat_eq (numbers_of result.now) }
+        ensures rest { All (IsSetOrCancelled self.now) result.now }
+        ensures top { slice_get result.now 0 ≡ option_map entry_of (next_due self.now.set) }
+        ensures parents { ParentsGoFirst result.now }
+    {
+        self.heap.as_slice()
     }
 }

@@ -1,12 +1,12 @@
 //! The settings of the cache.
 
-ghost use Rattle.std.specs.Prelude.{◌≡◌};
+ghost use Rattle.std.specs.Prelude.{◌≡◌, Ok};
 ghost use Rattle.std.specs.Ordering.{nat_cmp};
 ghost use Rattle.client_request.specs.Limits.{limited};
 ghost use Rattle.client_settings.specs.Settings.{default_cache, seconds};
 
 use client_request::DefMinMax;
-use dns_base::Duration;
+use dns_base::{Duration, NoMemory};
 use std::marker::Model;
 
 /// A default and its limits, in seconds.
@@ -230,6 +230,13 @@ impl Config {
         ensures { self.new ≡ record self.old { cache_truncated = value } }
     {
         self.cache_truncated = value;
+    }
+
+    /// The same settings. It takes no memory.
+    pub fn try_clone(&self) -> Result<Config, NoMemory>
+        ensures { result ≡ Ok self.now }
+    {
+        Ok(Config { ..*self })
     }
 }
 

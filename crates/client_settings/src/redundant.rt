@@ -1,8 +1,9 @@
 //! The settings of a choice among servers.
 
-ghost use Rattle.std.specs.Prelude.{◌≡◌};
+ghost use Rattle.std.specs.Prelude.{◌≡◌, Ok};
 ghost use Rattle.client_settings.specs.Settings.{default_redundant};
 
+use dns_base::NoMemory;
 use std::marker::Model;
 
 /// Which results of one server are put off while another may still answer.
@@ -80,6 +81,13 @@ impl Config {
         ensures { self.new ≡ record self.old { defer_servfail = value } }
     {
         self.defer_servfail = value;
+    }
+
+    /// The same settings. It takes no memory.
+    pub fn try_clone(&self) -> Result<Config, NoMemory>
+        ensures { result ≡ Ok self.now }
+    {
+        Ok(*self)
     }
 }
 

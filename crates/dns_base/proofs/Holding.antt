@@ -13,16 +13,19 @@ use Rattle.dns_names.specs.Name.{octet_count}
 use Rattle.dns_names.proofs.Heads.{then_ok}
 use Rattle.dns_base.specs.Numbers.{u16_at, ◌>>=◌}
 use Rattle.dns_base.specs.Header.{Counts, counts_of}
-use Rattle.dns_base.specs.Sections.{no_entries, entries_in, one_more_in, HasNoRecords, HasNoneAfter, counts_spelling}
+use Rattle.dns_base.specs.Sections.{no_entries, one_question_more, entries_in, one_more_in, HasNoRecords, HasNoneAfter, counts_spelling}
 use Rattle.dns_base.specs.Data.{data_spelling}
 use Rattle.dns_base.specs.Message.{Asked, Written, Known, Reading, question_at, record_at, list_at, reads, questions_of, answer_of, authority_of, additional_of}
-use Rattle.dns_base.specs.Draft.{Draft, fresh, with_header, pushed_question, pushed_record, cleared, finished, size, counts_in, question_spelling, question_size, record_spelling, record_size}
-use Rattle.dns_base.specs.Holding.{Contents, no_contents, with_question, with_record, IsAskable, IsWritable, AskedReadsAs, ReadsAs, Entries, entries_at, Agree, EntriesAre, Holds, header_in, IsReadingOf}
+use Rattle.dns_base.specs.Compression.{Compressed, Begins}
+use Rattle.dns_base.specs.Compression as writing
+use Rattle.dns_base.specs.Draft.{Draft, fresh, with_header, pushed_question, pushed_record, cleared, finished, size, counts_in}
+use Rattle.dns_base.specs.Holding.{Contents, no_contents, with_question, with_record, IsAskable, IsWritable, AskedReadsAs, ReadsAs, Entries, entries_at, Agree, EntriesAre, IsPlace, ArePlaces, Holds, header_in, IsReadingOf}
 use Rattle.dns_base.specs.DraftLaws.{FinishedReads, DraftLaws}
 use Rattle.dns_base.proofs.Lists.{list_snoc}
-use Rattle.dns_base.proofs.Stands.{Stands, first_stands, second_stands, number_stands, stands_behind}
-use Rattle.dns_base.proofs.Sizes.{question_long, record_long}
-use Rattle.dns_base.proofs.SpelledEntries.{question_read, RecordRead, record_read}
+use Rattle.dns_base.proofs.Stands.{Stands, first_stands, second_stands, number_stands, Shows, grown, shows_before, shows_itself}
+use Rattle.dns_base.proofs.Compressing.{begins_itself}
+use Rattle.dns_base.proofs.Sizes.{begins_long, question_continues, record_continues}
+use Rattle.dns_base.proofs.EntriesBack.{question_back, question_remembered, record_back, record_remembered, places_across}
 
 zip_snoc : {A B : Type 0} → (R : A → B → Type 0) → (xs : List A) (ys : List B) (x : A) (y : B) → AllZip R xs ys → R x y → AllZip R (xs ++ x ∷ []) (ys ++ y ∷ [])
 zip_snoc R [] [] x y h r = (r, tt)
@@ -139,9 +142,9 @@ record_behind Additional o counts e mid end k none p f = record {
   additional = one_longer (record_at o) counts.additional p.authority_end mid end e.additional k p.additional f;
 }
 
-agree_question : (e : Entries) (c : Contents) (q : Asked) → Agree e c → Agree (record e { questions = e.questions ++ q ∷ [] }) (with_question q c)
-agree_question e c q h = record {
-  questions = zip_snoc AskedReadsAs e.questions c.questions q q h.questions refl;
+agree_question : (e : Entries) (c : Contents) (asked q : Asked) → Agree e c → AskedReadsAs asked q → Agree (record e { questions = e.questions ++ asked ∷ [] }) (with_question q c)
+agree_question e c asked q h r = record {
+  questions = zip_snoc AskedReadsAs e.questions c.questions asked q h.questions r;
   answer = h.answer;
   authority = h.authority;
   additional = h.additional;
@@ -168,17 +171,26 @@ agree_record Additional e c k w h r = record {
   additional = zip_snoc ReadsAs e.additional c.additional k w h.additional r;
 }
 
--- what is added stands behind all that was there, whatever the header is and whatever follows
-apart : (header octets new tail : List ℕ) → 12 ≤ length octets → header ++ (drop 12 (octets ++ new) ++ tail) ≡ header ++ (drop 12 octets ++ (new ++ tail))
-apart header octets new tail long = ap (λ d. header ++ (d ++ tail)) (drop-append-le 12 octets new long) ∙ ap (λ d. header ++ d) (append_assoc (drop 12 octets) new tail)
+-- What is added stands behind all that was there, whatever the header is and whatever follows.
+longer : (header octets now tail : List ℕ) → 12 ≤ length octets → Begins octets now
+    → header ++ (drop 12 octets ++ (drop (length octets) now ++ tail)) ≡ header ++ (drop 12 now ++ tail)
+longer header octets now tail long h =
+    let more : List ℕ = drop (length octets) now in
+    let is : drop 12 now ≡ drop 12 octets ++ more = ap (drop 12) (grown octets now h) ∙ drop-append-le 12 octets more long in
+    ap (λ x. header ++ x) (sym (append_assoc (drop 12 octets) more tail)) ∙ ap (λ x. header ++ (x ++ tail)) (sym is)
 
-new_stands : (header octets new tail : List ℕ) → length header ≡ 12 → 12 ≤ length octets → Stands (header ++ (drop 12 octets ++ (new ++ tail))) (length octets) new
-new_stands header octets new tail h long = record {
-  front = header ++ drop 12 octets;
-  back = tail;
-  is = sym (append_assoc header (drop 12 octets) (new ++ tail));
-  long = omega (arith, length-append header (drop 12 octets), length-drop 12 octets);
-}
+shown : (header octets tail : List ℕ) → length header ≡ 12 → Shows 12 octets (header ++ (drop 12 octets ++ tail))
+shown header octets tail e = record { front = header; back = tail; is = refl; long = e }
+
+held_before : (d : Draft) (c : Contents) (now : Compressed) (header tail : List ℕ) → length header ≡ 12 → Holds d c → Begins d.target.octets now.octets
+    → EntriesAre (header ++ (drop 12 now.octets ++ tail)) d.counts c (length d.target.octets)
+held_before d c now header tail e h begins =
+    subst (λ o. EntriesAre o d.counts c (length d.target.octets)) (longer header d.target.octets now.octets tail h.long begins) (h.read header (drop (length d.target.octets) now.octets ++ tail) e)
+
+places_held : (d : Draft) (c : Contents) (now o : List ℕ) → Holds d c → Begins d.target.octets now → Shows 12 now o → ArePlaces d.target.octets o d.target.places
+places_held d c now o h begins s =
+    let mine = shows_before 12 d.target.octets now o h.long begins s in
+    subst (λ o. ArePlaces d.target.octets o d.target.places) (sym mine.is) (h.places mine.front mine.back mine.long)
 
 one_fewer : (n : ℕ) → n < 65536 → n ≢ 65535 → n + 1 < 65536
 one_fewer n h e = grind arith
@@ -192,48 +204,58 @@ few_after Additional counts few e = (few.0, few.1, few.2, one_fewer counts.addit
 question_holds : (q : Asked) (d : Draft) (c : Contents) → IsAskable q → HasNoRecords (counts_in d) → (counts_in d).questions ≢ 65535 → Holds d c → Holds (pushed_question q d) (with_question q c)
 unfolding pushed_question counts_in
 question_holds q d c askable none room h =
-    let new : List ℕ = question_spelling q in
-    let counts : Counts = record d.counts { questions = d.counts.questions + 1 } in
+    let now : Compressed = writing.with_question q d.target in
+    let begins : Begins d.target.octets now.octets = (question_continues q d.target).octets in
+    let counts : Counts = one_question_more d.counts in
+    let end : ℕ = length now.octets in
     record {
-      long = omega (arith, length-append d.octets new, h.long);
+      long = omega (arith, h.long, begins_long d.target.octets now.octets begins);
       few = (one_fewer d.counts.questions h.few.0 room, h.few.1, h.few.2, h.few.3);
       read = λ header tail e.
-          let o : List ℕ = header ++ (drop 12 d.octets ++ (new ++ tail)) in
-          let old = h.read header (new ++ tail) e in
-          let end : length d.octets + octet_count q.name + 4 ≡ length (d.octets ++ new) = omega (arith, length-append d.octets new, question_long q) in
-          let here : question_at o (length d.octets) ≡ Some (q, length (d.octets ++ new)) =
-          question_read q o (length d.octets) askable (new_stands header d.octets new tail e h.long) ∙ ap (λ n. Some (q, n)) end in
-          let parts = question_behind o d.counts old.entries (length d.octets) (length (d.octets ++ new)) q none (found_parts o d.counts old.entries (length d.octets) old.read) here in
-          let entries : Entries = record old.entries { questions = old.entries.questions ++ q ∷ [] } in
+          let o : List ℕ = header ++ (drop 12 now.octets ++ tail) in
+          let old = held_before d c now header tail e h begins in
+          let s = shown header now.octets tail e in
+          let back = question_back q 12 d.target o h.long askable (places_held d c now.octets o h begins s) s in
+          let parts = question_behind o d.counts old.entries (length d.target.octets) end back.asked none (found_parts o d.counts old.entries (length d.target.octets) old.read) back.read in
+          let entries : Entries = record old.entries { questions = old.entries.questions ++ back.asked ∷ [] } in
           record {
             entries = entries;
-            read = ap (λ o. entries_at o counts) (apart header d.octets new tail h.long) ∙ parts_found o counts entries (length (d.octets ++ new)) parts;
-            agree = agree_question old.entries c q old.agree;
+            read = parts_found o counts entries end parts;
+            agree = agree_question old.entries c back.asked q old.agree back.reads_as;
           };
+      places = λ header tail e.
+          let s = shown header now.octets tail e in
+          question_remembered q 12 d.target _ h.long askable (places_held d c now.octets _ h begins s) s;
     }
 
 record_holds : (section : Section) (w : Written) (d : Draft) (c : Contents) → IsWritable w → HasNoneAfter section (counts_in d) → entries_in section (counts_in d) ≢ 65535 → Holds d c
     → Holds (pushed_record section w d) (with_record section w c)
 unfolding pushed_record counts_in
 record_holds section w d c writable none room h =
-    let new : List ℕ = record_spelling w in
+    let now : Compressed = writing.with_record w d.target in
+    let begins : Begins d.target.octets now.octets = (record_continues w d.target).octets in
     let counts : Counts = one_more_in section d.counts in
+    let end : ℕ = length now.octets in
+    let long : 12 ≤ length now.octets = omega (arith, h.long, begins_long d.target.octets now.octets begins) in
     record {
-      long = omega (arith, length-append d.octets new, h.long);
+      long = long;
       few = few_after section d.counts h.few room;
       read = λ header tail e.
-          let o : List ℕ = header ++ (drop 12 d.octets ++ (new ++ tail)) in
-          let old = h.read header (new ++ tail) e in
-          let end : length d.octets + record_size w ≡ length (d.octets ++ new) = omega (arith, length-append d.octets new, record_long w) in
-          let found = record_read w o (length d.octets) writable (new_stands header d.octets new tail e h.long) in
-          let here : record_at o (length d.octets) ≡ Some (found.known, length (d.octets ++ new)) = found.read ∙ ap (λ n. Some (found.known, n)) end in
-          let parts = record_behind section o d.counts old.entries (length d.octets) (length (d.octets ++ new)) found.known none (found_parts o d.counts old.entries (length d.octets) old.read) here in
-          let entries : Entries = with_entry section found.known old.entries in
+          let o : List ℕ = header ++ (drop 12 now.octets ++ tail) in
+          let old = held_before d c now header tail e h begins in
+          let s = shown header now.octets tail e in
+          let back = record_back w 12 d.target o h.long writable (places_held d c now.octets o h begins s) s in
+          let parts = record_behind section o d.counts old.entries (length d.target.octets) end back.known none (found_parts o d.counts old.entries (length d.target.octets) old.read) back.read in
+          let entries : Entries = with_entry section back.known old.entries in
           record {
             entries = entries;
-            read = ap (λ o. entries_at o counts) (apart header d.octets new tail h.long) ∙ parts_found o counts entries (length (d.octets ++ new)) parts;
-            agree = agree_record section old.entries c found.known w old.agree found.reads_as;
+            read = parts_found o counts entries end parts;
+            agree = agree_record section old.entries c back.known w old.agree back.reads_as;
           };
+      places = λ header tail e.
+          let s = shown header now.octets tail e in
+          record_remembered w 12 d.target _ h.long writable (places_held d c now.octets _ h begins s)
+          (places_held d c now.octets now.octets h begins (shows_itself 12 now.octets long)) s;
     }
 
 no_entries_there : Entries
@@ -248,36 +270,48 @@ unfolding no_entries_there
 agree_nothing = record { questions = tt; answer = tt; authority = tt; additional = tt }
 
 -- a draft of twelve octets holds nothing
-bare_holds : (d : Draft) → length d.octets ≡ 12 → d.counts ≡ no_entries → Holds d no_contents
-bare_holds d twelve none =
+bare_holds : (d : Draft) → length d.target.octets ≡ 12 → d.target.places ≡ [] → d.counts ≡ no_entries → Holds d no_contents
+bare_holds d twelve nowhere none =
     let P : Counts → Type 0 = λ n. (n.questions < 65536) × (n.answer < 65536) × (n.authority < 65536) × (n.additional < 65536) in
     let small : P no_entries = (omega arith, omega arith, omega arith, omega arith) in
     record {
       long = omega (arith, twelve);
       few = subst P (sym none) small;
       read = λ header tail e.
-          let o : List ℕ = header ++ (drop 12 d.octets ++ tail) in
+          let o : List ℕ = header ++ (drop 12 d.target.octets ++ tail) in
           record {
             entries = no_entries_there;
             read = ap (λ n. entries_at o n) none ∙ nothing_at o ∙ ap (λ n. Some (no_entries_there, n)) (sym twelve);
             agree = agree_nothing;
           };
+      places = λ header tail e. subst (ArePlaces d.target.octets (header ++ (drop 12 d.target.octets ++ tail))) (sym nowhere) tt;
     }
 
 holds_nothing : (limit : Option ℕ) → Holds (fresh limit) no_contents
 unfolding fresh
-holds_nothing limit = bare_holds (fresh limit) refl refl
+holds_nothing limit = bare_holds (fresh limit) refl refl refl
 
 cleared_holds : (d : Draft) (c : Contents) → Holds d c → Holds (cleared d) no_contents
 unfolding cleared
-cleared_holds d c h = bare_holds (cleared d) (length-take-le 12 d.octets h.long) refl
+cleared_holds d c h = bare_holds (cleared d) (length-take-le 12 d.target.octets h.long) refl refl
+
+-- Another header changes no name that a pointer may name, since none of them reads the header.
+header_places : (header : List ℕ) (d : Draft) (c : Contents) (o : List ℕ) → length header ≡ 4 → Holds d c → Shows 12 (header ++ drop 4 d.target.octets) o
+    → ArePlaces (header ++ drop 4 d.target.octets) o d.target.places
+header_places header d c o four h s =
+    let now : List ℕ = header ++ drop 4 d.target.octets in
+    let same : drop 12 now ≡ drop 12 d.target.octets = drop-append-drop 4 d.target.octets header 12 (omega arith) four in
+    let long : 12 ≤ length now = omega (arith, length-append header (drop 4 d.target.octets), length-drop 4 d.target.octets, h.long) in
+    let mine : Shows 12 d.target.octets o = subst (Stands o 12) same s in
+    let itself : Shows 12 d.target.octets now = subst (Stands now 12) same (shows_itself 12 now long) in
+    places_across d.target.octets now o d.target.places (places_held d c d.target.octets now h (begins_itself d.target.octets) itself) (places_held d c d.target.octets o h (begins_itself d.target.octets) mine)
 
 header_holds : (header : List ℕ) (d : Draft) (c : Contents) → length header ≡ 4 → Holds d c → Holds (with_header header d) c
 unfolding with_header
 header_holds header d c four h =
-    let now : List ℕ = header ++ drop 4 d.octets in
-    let long : length now ≡ length d.octets = omega (arith, length-append header (drop 4 d.octets), length-drop 4 d.octets, h.long) in
-    let same : drop 12 now ≡ drop 12 d.octets = drop-append-drop 4 d.octets header 12 (omega arith) four in
+    let now : List ℕ = header ++ drop 4 d.target.octets in
+    let long : length now ≡ length d.target.octets = omega (arith, length-append header (drop 4 d.target.octets), length-drop 4 d.target.octets, h.long) in
+    let same : drop 12 now ≡ drop 12 d.target.octets = drop-append-drop 4 d.target.octets header 12 (omega arith) four in
     record {
       long = omega (arith, h.long, long);
       few = h.few;
@@ -288,6 +322,7 @@ header_holds header d c four h =
             read = ap (λ x. entries_at (head ++ (x ++ tail)) d.counts) same ∙ old.read ∙ ap (λ n. Some (old.entries, n)) (sym long);
             agree = old.agree;
           };
+      places = λ head tail e. header_places header d c (head ++ (drop 12 now ++ tail)) four h (shown head now tail e);
     }
 
 counts_found : (o : List ℕ) (counts : Counts) → (counts.questions < 65536) × (counts.answer < 65536) × (counts.authority < 65536) × (counts.additional < 65536) → Stands o 4 (counts_spelling counts) → counts_of o ≡ counts
@@ -320,21 +355,21 @@ reads_parts o counts e end long is p =
 finished_reads : (d : Draft) (c : Contents) → Holds d c → FinishedReads d c
 unfolding finished counts_in header_in counts_spelling reading_of
 finished_reads d c h =
-    let front : List ℕ = take 4 d.octets in
+    let front : List ℕ = take 4 d.target.octets in
     let header : List ℕ = front ++ counts_spelling d.counts in
-    let o : List ℕ = header ++ drop 12 d.octets in
-    let four : length front ≡ 4 = length-take-le 4 d.octets (omega (arith, h.long)) in
+    let o : List ℕ = header ++ drop 12 d.target.octets in
+    let four : length front ≡ 4 = length-take-le 4 d.target.octets (omega (arith, h.long)) in
     let twelve : length header ≡ 12 = omega (arith, length-append front (counts_spelling d.counts), four) in
     let all = h.read header [] twelve in
-    let whole : header ++ (drop 12 d.octets ++ []) ≡ o = ap (λ x. header ++ x) (append-nil (drop 12 d.octets)) in
-    let read : entries_at o d.counts ≡ Some (all.entries, length d.octets) = ap (λ x. entries_at x d.counts) (sym whole) ∙ all.read in
-    let stands : Stands o 4 (counts_spelling d.counts) = record { front = front; back = drop 12 d.octets; is = append_assoc front (counts_spelling d.counts) (drop 12 d.octets); long = four } in
+    let whole : header ++ (drop 12 d.target.octets ++ []) ≡ o = ap (λ x. header ++ x) (append-nil (drop 12 d.target.octets)) in
+    let read : entries_at o d.counts ≡ Some (all.entries, length d.target.octets) = ap (λ x. entries_at x d.counts) (sym whole) ∙ all.read in
+    let stands : Stands o 4 (counts_spelling d.counts) = record { front = front; back = drop 12 d.target.octets; is = append_assoc front (counts_spelling d.counts) (drop 12 d.target.octets); long = four } in
     let counted = counts_found o d.counts h.few stands in
-    let long : 12 ≤ length o = omega (arith, length-append header (drop 12 d.octets), twelve) in
-    let head : take 4 o ≡ front = ap (take 4) (append_assoc front (counts_spelling d.counts) (drop 12 d.octets)) ∙ take_at front (counts_spelling d.counts ++ drop 12 d.octets) 4 four in
+    let long : 12 ≤ length o = omega (arith, length-append header (drop 12 d.target.octets), twelve) in
+    let head : take 4 o ≡ front = ap (take 4) (append_assoc front (counts_spelling d.counts) (drop 12 d.target.octets)) ∙ take_at front (counts_spelling d.counts ++ drop 12 d.target.octets) 4 four in
     record {
       reading = reading_of (take 4 o) d.counts all.entries;
-      read = reads_parts o d.counts all.entries (length d.octets) long counted (found_parts o d.counts all.entries (length d.octets) read);
+      read = reads_parts o d.counts all.entries (length d.target.octets) long counted (found_parts o d.counts all.entries (length d.target.octets) read);
       is = record { header_is = head; counts_are = refl; agree = all.agree };
     }
 

@@ -1,11 +1,13 @@
 pub mod Aliases
+pub mod Compressing
+pub mod DataBack
+pub mod EntriesBack
 pub mod Holding
 pub mod Lists
+pub mod Places
 pub mod ReadData
 pub mod Readings
 pub mod Sizes
-pub mod SpelledData
-pub mod SpelledEntries
 pub mod Stands
 pub mod Steps
 pub mod Whole

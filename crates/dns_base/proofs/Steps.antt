@@ -4,10 +4,11 @@ use Rattle.std.specs.Int.{w16, to_be_bytes}
 use Rattle.std.proofs.lemmas.List.{length-drop, length-take-le, take_at, take-append-le, take-append-drop}
 use Rattle.dns_base.specs.Header.{Counts}
 use Rattle.dns_base.specs.Sections.{counts_spelling}
-use Rattle.dns_base.specs.Draft.{Draft, fresh, with_header, pushed_question, pushed_record, cleared, finished, size, limit_of, counts_in, question_spelling, record_spelling}
+use Rattle.dns_base.specs.Draft.{Draft, fresh, with_header, pushed_question, pushed_record, cleared, finished, size, limit_of, counts_in}
+use Rattle.dns_base.specs.Compression.{with_question, with_record}
 use Rattle.dns_base.specs.Holding.{header_in}
 use Rattle.dns_base.specs.DraftSteps.{CountSteps, LimitSteps, SizeSteps, HeaderSteps, DraftSteps}
-use Rattle.dns_base.proofs.Sizes.{question_long, record_long}
+use Rattle.dns_base.proofs.Sizes.{begins_long, head_stays, question_continues, question_at_most, record_continues, record_at_most}
 
 count_steps : CountSteps
 unfolding fresh with_header pushed_question pushed_record cleared counts_in
@@ -41,27 +42,23 @@ size_steps : SizeSteps
 unfolding fresh with_header pushed_question pushed_record cleared finished size
 size_steps = record {
   fresh = λ limit. refl;
-  header = λ header d e h. omega (arith, length-append header (drop 4 d.octets), length-drop 4 d.octets);
-  question = λ q d. omega (arith, length-append d.octets (question_spelling q));
-  question_at_most = λ q d. omega (arith, length-append d.octets (question_spelling q), question_long q);
-  any_record = λ section w d. omega (arith, length-append d.octets (record_spelling w));
-  record_at_most = λ section w d. omega (arith, length-append d.octets (record_spelling w), record_long w);
-  cleared = λ d h. length-take-le 12 d.octets h;
-  finished = λ d h. finished_size d.octets (counts_spelling d.counts) h (eight d.counts);
+  header = λ header d e h. omega (arith, length-append header (drop 4 d.target.octets), length-drop 4 d.target.octets);
+  question = λ q d. begins_long d.target.octets (with_question q d.target).octets (question_continues q d.target).octets;
+  question_at_most = λ q d. question_at_most q d.target;
+  any_record = λ section w d. begins_long d.target.octets (with_record w d.target).octets (record_continues w d.target).octets;
+  record_at_most = λ section w d. record_at_most w d.target;
+  cleared = λ d h. length-take-le 12 d.target.octets h;
+  finished = λ d h. finished_size d.target.octets (counts_spelling d.counts) h (eight d.counts);
 }
-
--- the head of a longer list
-head_stays : (octets more : List ℕ) → 12 ≤ length octets → take 4 (octets ++ more) ≡ take 4 octets
-head_stays octets more h = take-append-le 4 octets more (omega arith)
 
 header_steps : HeaderSteps
 unfolding fresh with_header pushed_question pushed_record cleared size header_in
 header_steps = record {
   fresh = λ limit. refl;
-  header = λ header d e. take_at header (drop 4 d.octets) 4 e;
-  question = λ q d h. head_stays d.octets (question_spelling q) h;
-  any_record = λ section w d h. head_stays d.octets (record_spelling w) h;
-  cleared = λ d h. sym (take-append-le 4 (take 12 d.octets) (drop 12 d.octets) (omega (arith, length-take-le 12 d.octets h))) ∙ ap (take 4) (take-append-drop 12 d.octets);
+  header = λ header d e. take_at header (drop 4 d.target.octets) 4 e;
+  question = λ q d h. head_stays 4 d.target.octets (with_question q d.target).octets (omega arith) (question_continues q d.target).octets;
+  any_record = λ section w d h. head_stays 4 d.target.octets (with_record w d.target).octets (omega arith) (record_continues w d.target).octets;
+  cleared = λ d h. sym (take-append-le 4 (take 12 d.target.octets) (drop 12 d.target.octets) (omega (arith, length-take-le 12 d.target.octets h))) ∙ ap (take 4) (take-append-drop 12 d.target.octets);
 }
 
 pub draft_steps : DraftSteps

@@ -1,18 +1,18 @@
 -- A message that is being written. Other crates cite these functions and their laws, and look into none of them.
 use Rattle.std.specs.Prelude.{◌≡◌, ℕ, ◌+◌, ◌≤◌, List, [], ◌∷◌, ◌++◌, length, take, drop, replicate, Option, Some, None, Result, Ok, Err, nat_lt, ◌==◌, Bool, false, if◌then◌else◌}
-use Rattle.std.specs.Int.{w16, w32, to_be_bytes}
 use Rattle.dns_values.specs.declared.numbers.Section.{Section}
 use Rattle.dns_base.specs.declared.push_error.PushError.{PushError}
 use Rattle.dns_base.specs.declared.push_error.PushError.TheVariants.{Count, Limit, NoMemory}
-use Rattle.dns_names.specs.Name.{spelling, octet_count}
+use Rattle.dns_names.specs.Name.{octet_count}
 use Rattle.dns_base.specs.Header.{Counts}
-use Rattle.dns_base.specs.Sections.{no_entries, entries_in, one_more_in, counts_spelling}
+use Rattle.dns_base.specs.Sections.{no_entries, one_question_more, entries_in, one_more_in, counts_spelling}
 use Rattle.dns_base.specs.Data.{data_spelling}
 use Rattle.dns_base.specs.Message.{Asked, Written}
+use Rattle.dns_base.specs.Compression.{Compressed, with_question, with_record}
 
--- its octets so far, what each section has, and the most octets that it may have
+-- what is written so far, what each section has, and the most octets that it may have
 pub record Draft : Type 0 where
-  pub octets : List ℕ
+  pub target : Compressed
   pub counts : Counts
   pub limit : Option ℕ
 
@@ -23,17 +23,9 @@ question_size q = octet_count q.name + 4
 abbrev pub record_size : Written → ℕ
 record_size w = octet_count w.owner + 10 + length (data_spelling w.content)
 
-unfoldable pub question_spelling : Asked → List ℕ
-question_spelling q = spelling q.name ++ to_be_bytes w16 q.rtype ++ to_be_bytes w16 q.class
-
-unfoldable pub record_spelling : Written → List ℕ
-record_spelling w =
-    spelling w.owner ++ to_be_bytes w16 w.rtype ++ to_be_bytes w16 w.class ++ to_be_bytes w32 w.ttl
-    ++ to_be_bytes w16 (length (data_spelling w.content)) ++ data_spelling w.content
-
 -- how many octets it has, and what may be asked of it
 unfoldable pub size : Draft → ℕ
-size d = length d.octets
+size d = length d.target.octets
 
 unfoldable pub limit_of : Draft → Option ℕ
 limit_of d = d.limit
@@ -42,24 +34,24 @@ unfoldable pub counts_in : Draft → Counts
 counts_in d = d.counts
 
 unfoldable pub fresh : Option ℕ → Draft
-fresh limit = record { octets = replicate 12 0; counts = no_entries; limit = limit }
+fresh limit = record { target = record { octets = replicate 12 0; places = [] }; counts = no_entries; limit = limit }
 
 unfoldable pub with_header : List ℕ → Draft → Draft
-with_header header d = record d { octets = header ++ drop 4 d.octets }
+with_header header d = record d { target = record d.target { octets = header ++ drop 4 d.target.octets } }
 
 unfoldable pub pushed_question : Asked → Draft → Draft
-pushed_question q d = record d { octets = d.octets ++ question_spelling q; counts = record d.counts { questions = d.counts.questions + 1 } }
+pushed_question q d = record d { target = with_question q d.target; counts = one_question_more d.counts }
 
 unfoldable pub pushed_record : Section → Written → Draft → Draft
-pushed_record section w d = record d { octets = d.octets ++ record_spelling w; counts = one_more_in section d.counts }
+pushed_record section w d = record d { target = with_record w d.target; counts = one_more_in section d.counts }
 
 -- with no entry, and the header as it was
 unfoldable pub cleared : Draft → Draft
-cleared d = record d { octets = take 12 d.octets; counts = no_entries }
+cleared d = record d { target = record { octets = take 12 d.target.octets; places = [] }; counts = no_entries }
 
 -- the octets of the message
 unfoldable pub finished : Draft → List ℕ
-finished d = take 4 d.octets ++ counts_spelling d.counts ++ drop 12 d.octets
+finished d = take 4 d.target.octets ++ counts_spelling d.counts ++ drop 12 d.target.octets
 
 -- so many octets would pass the limit
 abbrev pub is_past : Option ℕ → ℕ → Bool
@@ -70,12 +62,22 @@ abbrev pub IsWithin : Option ℕ → ℕ → Type 0
 IsWithin None octets = Unit {0}
 IsWithin (Some limit) octets = octets ≤ limit
 
--- why so many octets more are refused, where so many entries stand
+-- with so many octets more it would pass its limit
+abbrev pub passes : Draft → ℕ → Bool
+passes d more = is_past (limit_of d) (size d + more)
+
+-- why so many octets more are refused, where so many entries stand: they are counted before any name is compressed
 unfoldable pub refusal : ℕ → Draft → ℕ → Option PushError
 refusal entries d more =
     if entries == 65535 then Some Count
-    else if is_past d.limit (length d.octets + more) then Some Limit
+    else if is_past d.limit (length d.target.octets + more) then Some Limit
     else None
+
+abbrev pub question_refusal : Asked → Draft → Option PushError
+question_refusal q d = refusal (counts_in d).questions d (question_size q)
+
+abbrev pub record_refusal : Section → Written → Draft → Option PushError
+record_refusal section w d = refusal (entries_in section (counts_in d)) d (record_size w)
 
 -- A push answers this refusal. With none it is done, unless memory runs out.
 abbrev pub Pushed : Option PushError → Result (Unit {0}) PushError → Type 0

@@ -1,7 +1,7 @@
 -- What each step of writing changes in a draft, and what it leaves.
 use Rattle.std.specs.Prelude.{◌≡◌, ℕ, ◌+◌, ◌≤◌, List, [], ◌∷◌, length, Option}
 use Rattle.dns_values.specs.declared.numbers.Section.{Section}
-use Rattle.dns_base.specs.Sections.{no_entries, one_more_in}
+use Rattle.dns_base.specs.Sections.{no_entries, one_question_more, one_more_in}
 use Rattle.dns_base.specs.Message.{Asked, Written}
 use Rattle.dns_base.specs.Draft.{Draft, fresh, with_header, pushed_question, pushed_record, cleared, finished, size, limit_of, counts_in, question_size, record_size}
 use Rattle.dns_base.specs.Holding.{header_in}
@@ -9,7 +9,7 @@ use Rattle.dns_base.specs.Holding.{header_in}
 pub record CountSteps : Type 0 where
   pub fresh : (limit : Option ℕ) → counts_in (fresh limit) ≡ no_entries
   pub header : (header : List ℕ) (d : Draft) → counts_in (with_header header d) ≡ counts_in d
-  pub question : (q : Asked) (d : Draft) → counts_in (pushed_question q d) ≡ record (counts_in d) { questions = (counts_in d).questions + 1 }
+  pub question : (q : Asked) (d : Draft) → counts_in (pushed_question q d) ≡ one_question_more (counts_in d)
   pub any_record : (section : Section) (w : Written) (d : Draft) → counts_in (pushed_record section w d) ≡ one_more_in section (counts_in d)
   pub cleared : (d : Draft) → counts_in (cleared d) ≡ no_entries
 

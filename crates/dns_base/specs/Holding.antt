@@ -1,9 +1,9 @@
 -- What a draft holds: the entries that were pushed, as they are read back.
 use Rattle.std.specs.Prelude.{◌≡◌, ◌≢◌, ℕ, ◌+◌, ◌<◌, ◌≤◌, ◌^◌, List, [], ◌∷◌, ◌++◌, length, take, drop, Option, Some, None, option_and_then, option_map, IsTrue}
-use Rattle.std.specs.List.{AllZip}
+use Rattle.std.specs.List.{AllZip, AllByRecursion}
 use Rattle.dns_values.specs.declared.numbers.Section.{Section}
 use Rattle.dns_values.specs.declared.numbers.Section.TheVariants.{Answer, Authority, Additional}
-use Rattle.dns_names.specs.Name.{Labels, IsLegal, lowered}
+use Rattle.dns_names.specs.Name.{Labels, Found, IsLegal, lowered, name_at}
 use Rattle.dns_base.specs.Numbers.{◌>>=◌}
 use Rattle.dns_base.specs.Header.{Counts}
 use Rattle.dns_base.specs.Data.{Data, A, Aaaa, One, Minfo, Mx, StartOfAuthority, Service, Txt, Opt, Other, data_spelling, is_of_type}
@@ -100,15 +100,26 @@ pub record EntriesAre (octets : List ℕ) (counts : Counts) (c : Contents) (end 
   pub read : entries_at octets counts ≡ Some (entries, end)
   pub agree : Agree entries c
 
--- All that was pushed is read, whatever the header is and whatever octets follow.
+-- A name that a pointer may name: it is read alike here and there, with fewer pointers than labels.
+pub record IsPlace (here there : List ℕ) (place : ℕ) : Type 0 where
+  pub found : Found
+  pub read_here : name_at here place ≡ Some found
+  pub read_there : name_at there place ≡ Some found
+  pub few : found.pointers < length found.labels
+
+abbrev pub ArePlaces : List ℕ → List ℕ → List ℕ → Type 0
+ArePlaces here there places = AllByRecursion (IsPlace here there) places
+
+-- All that was pushed is read, and each name that a pointer may name, whatever the header is and whatever octets follow.
 pub record Holds (d : Draft) (c : Contents) : Type 0 where
-  pub long : 12 ≤ length d.octets
+  pub long : 12 ≤ length d.target.octets
   pub few : (d.counts.questions < 65536) × (d.counts.answer < 65536) × (d.counts.authority < 65536) × (d.counts.additional < 65536)
-  pub read : (header tail : List ℕ) → length header ≡ 12 → EntriesAre (header ++ (drop 12 d.octets ++ tail)) d.counts c (length d.octets)
+  pub read : (header tail : List ℕ) → length header ≡ 12 → EntriesAre (header ++ (drop 12 d.target.octets ++ tail)) d.counts c (length d.target.octets)
+  pub places : (header tail : List ℕ) → length header ≡ 12 → ArePlaces d.target.octets (header ++ (drop 12 d.target.octets ++ tail)) d.target.places
 
 -- the first four octets of a draft
 unfoldable pub header_in : Draft → List ℕ
-header_in d = take 4 d.octets
+header_in d = take 4 d.target.octets
 
 -- a reading with this header, whose entries are those that were pushed
 pub record IsReadingOf (reading : Reading) (header : List ℕ) (counts : Counts) (c : Contents) : Type 0 where

@@ -10,6 +10,8 @@ pub mod Canonical
 pub mod RecordData
 pub mod Knowing
 pub mod DataReading
+pub mod Entries
+pub mod Compression
 pub mod Draft
 pub mod Holding
 pub mod DraftLaws

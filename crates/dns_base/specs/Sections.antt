@@ -8,6 +8,9 @@ use Rattle.dns_base.specs.Header.{Counts}
 abbrev pub no_entries : Counts
 no_entries = record { questions = 0; answer = 0; authority = 0; additional = 0 }
 
+abbrev pub one_question_more : Counts → Counts
+one_question_more counts = record counts { questions = counts.questions + 1 }
+
 abbrev pub entries_in : Section → Counts → ℕ
 entries_in Answer counts = counts.answer
 entries_in Authority counts = counts.authority

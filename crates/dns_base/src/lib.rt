@@ -3,6 +3,7 @@
 
 mod answer;
 mod builder;
+mod compressor;
 mod header;
 mod laws;
 mod lookups;
@@ -14,8 +15,7 @@ mod question;
 mod record;
 mod record_data;
 mod spelling;
-#[cfg(test)]
-mod tests;
+mod writing;
 
 pub use answer::is_answer;
 pub use builder::Builder;
@@ -25,7 +25,7 @@ pub use dns_names::{
 };
 pub use dns_values::{
     Class, Duration, Failed, IpAddr, LongName, LongOptData, NoMemory, Octets, Opcode, OptRcode,
-    ParseError, Rcode, Rtype, Section, Serial, ShortMessage, SocketAddr, Status, Ttl, address_laws,
+    ParseError, Rcode, Rtype, Section, Seq, Serial, ShortMessage, SocketAddr, Status, Ttl, address_laws,
 };
 pub use header::{Header, HeaderCounts};
 pub use laws::{draft_laws, draft_steps, reading_laws};

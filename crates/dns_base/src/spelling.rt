@@ -1,16 +1,16 @@
-//! The octets of questions and records, with their names spelled out.
+//! Names and data of records with their names spelled out.
 
 ghost use Rattle.std.specs.Prelude.{◌≡◌, ◌≤◌, ◌<◌, ◌^◌, ◌++◌, length, IfOk, OnOk, IsTrue};
 ghost use Rattle.std.specs.Int.{w16, w32, to_be_bytes};
 ghost use Rattle.dns_names.specs.Name.{spelling, octet_count, IsLegal};
-ghost use Rattle.dns_base.specs.Data.{data_spelling, is_of_type};
-ghost use Rattle.dns_base.specs.Holding.{IsAskable, IsWritable, IsWritableData};
+ghost use Rattle.dns_base.specs.Data.{data_spelling};
+ghost use Rattle.dns_base.specs.Holding.{IsWritableData};
 ghost use Rattle.dns_base.specs.RecordData.{data_view};
-ghost use Rattle.dns_base.specs.Draft.{question_spelling, record_spelling};
+ghost use Rattle.dns_base.specs.Compression.{Begins};
 
 use crate::record_data::RecordData;
 use dns_names::ParsedName;
-use dns_values::{Class, NoMemory, Rtype, Ttl};
+use dns_values::NoMemory;
 use std::alloc::Global;
 
 /// How many octets a name has spelled out.
@@ -28,20 +28,22 @@ pub(crate) fn name_size(name: &ParsedName<'_>) -> usize
 }
 
 /// Appends a name.
+#[tactic(auto, using(crate::proofs::Compressing::begins_on))]
 fn put_name(octets: &mut Vec<u8>, name: &ParsedName<'_>) -> Result<(), NoMemory>
+    ensures kept { Begins octets.old.items octets.new.items }
     ensures items { OnOk result (octets.new.items ≡ octets.old.items ++ spelling name.now) }
     ensures legal { IsLegal name.now }
 {
     for label in name.labels() {
-        octets.push(label.len() as u8)?;
-        octets.extend_from_slice(label)?;
+        put_octets(octets, &[label.len() as u8])?;
+        put_octets(octets, label)?;
     }
-    octets.push(0)?;
-    Ok(())
+    put_octets(octets, &[0])
 }
 
 /// Appends two octets, the highest first.
 fn put_u16(octets: &mut Vec<u8>, n: u16) -> Result<(), NoMemory>
+    ensures kept { Begins octets.old.items octets.new.items }
     ensures items { OnOk result (octets.new.items ≡ octets.old.items ++ to_be_bytes w16 n) }
     ensures range { n < 2 ^ 16 }
 {
@@ -51,6 +53,7 @@ fn put_u16(octets: &mut Vec<u8>, n: u16) -> Result<(), NoMemory>
 
 /// Appends four octets, the highest first.
 fn put_u32(octets: &mut Vec<u8>, n: u32) -> Result<(), NoMemory>
+    ensures kept { Begins octets.old.items octets.new.items }
     ensures items { OnOk result (octets.new.items ≡ octets.old.items ++ to_be_bytes w32 n) }
     ensures range { n < 2 ^ 32 }
 {
@@ -59,13 +62,15 @@ fn put_u32(octets: &mut Vec<u8>, n: u32) -> Result<(), NoMemory>
 }
 
 fn put_octets(octets: &mut Vec<u8>, more: &[u8]) -> Result<(), NoMemory>
-    ensures { OnOk result (octets.new.items ≡ octets.old.items ++ more.now) }
+    ensures kept { Begins octets.old.items octets.new.items }
+    ensures items { OnOk result (octets.new.items ≡ octets.old.items ++ more.now) }
 {
     octets.extend_from_slice(more)?;
     Ok(())
 }
 
 fn put_address(octets: &mut Vec<u8>, address: [u8; 4]) -> Result<(), NoMemory>
+    ensures kept { Begins octets.old.items octets.new.items }
     ensures items { OnOk result (octets.new.items ≡ octets.old.items ++ address) }
     ensures len { length address ≡ 4 }
 {
@@ -73,28 +78,11 @@ fn put_address(octets: &mut Vec<u8>, address: [u8; 4]) -> Result<(), NoMemory>
 }
 
 fn put_long_address(octets: &mut Vec<u8>, address: [u8; 16]) -> Result<(), NoMemory>
+    ensures kept { Begins octets.old.items octets.new.items }
     ensures items { OnOk result (octets.new.items ≡ octets.old.items ++ address) }
     ensures len { length address ≡ 16 }
 {
     put_octets(octets, &address)
-}
-
-/// The octets of a question.
-#[tactic(auto, unfolding(crate::specs::Draft::question_spelling))]
-pub(crate) fn question_octets(
-    alloc: Global,
-    name: &ParsedName<'_>,
-    rtype: Rtype,
-    class: Class,
-) -> Result<Vec<u8>, NoMemory>
-    ensures items { IfOk result (λ v. v.items ≡ question_spelling (record { name = name.now; rtype = rtype.0; class = class.0 })) }
-    ensures askable { OnOk result (IsAskable (record { name = name.now; rtype = rtype.0; class = class.0 })) }
-{
-    let mut octets = Vec::new(alloc);
-    put_name(&mut octets, name)?;
-    put_u16(&mut octets, rtype.0)?;
-    put_u16(&mut octets, class.0)?;
-    Ok(octets)
 }
 
 fn octets_size(octets: &[u8]) -> usize
@@ -131,7 +119,8 @@ pub(crate) fn data_size(rdata: &RecordData<'_>) -> usize
 
 /// Appends data.
 #[tactic(auto, unfolding(crate::specs::Data::data_spelling))]
-fn put_data(octets: &mut Vec<u8>, rdata: &RecordData<'_>) -> Result<(), NoMemory>
+pub(crate) fn put_data(octets: &mut Vec<u8>, rdata: &RecordData<'_>) -> Result<(), NoMemory>
+    ensures kept { Begins octets.old.items octets.new.items }
     ensures items { OnOk result (octets.new.items ≡ octets.old.items ++ data_spelling (data_view rdata.now)) }
     ensures writable { OnOk result (IsWritableData (data_view rdata.now)) }
 {
@@ -198,29 +187,4 @@ impl<'a> RecordData<'a> {
         put_data(&mut octets, self)?;
         Ok(octets)
     }
-}
-
-/// The octets of a record, whose data has at most 65535 octets.
-#[tactic(auto, unfolding(crate::specs::Draft::record_spelling))]
-pub(crate) fn record_octets(
-    alloc: Global,
-    owner: &ParsedName<'_>,
-    rtype: Rtype,
-    class: Class,
-    ttl: Ttl,
-    rdata: &RecordData<'_>,
-) -> Result<Vec<u8>, NoMemory>
-    requires typed { IsTrue (is_of_type rtype.0 (data_view rdata.now)) }
-    requires short { length (data_spelling (data_view rdata.now)) < 65536 }
-    ensures items { IfOk result (λ v. v.items ≡ record_spelling (record { owner = owner.now; rtype = rtype.0; class = class.0; ttl = ttl.0; content = data_view rdata.now })) }
-    ensures writable { OnOk result (IsWritable (record { owner = owner.now; rtype = rtype.0; class = class.0; ttl = ttl.0; content = data_view rdata.now })) }
-{
-    let mut octets = Vec::new(alloc);
-    put_name(&mut octets, owner)?;
-    put_u16(&mut octets, rtype.0)?;
-    put_u16(&mut octets, class.0)?;
-    put_u32(&mut octets, ttl.0)?;
-    put_u16(&mut octets, data_size(rdata) as u16)?;
-    put_data(&mut octets, rdata)?;
-    Ok(octets)
 }

@@ -9,12 +9,10 @@ mod owned;
 mod relative;
 mod reverse;
 mod show;
-#[cfg(test)]
-mod tests;
 mod text;
 
 pub use fault::{ChainFault, NameFault};
 pub use laws::{grammar_laws, name_is_read_back, name_laws, relative_name_is_read_back, text_laws};
 pub use name::{LabelIter, ParsedName};
-pub use owned::{Name, ToName, is_same_name};
+pub use owned::{Name, ToName, are_same_labels, is_same_name};
 pub use relative::RelativeName;

@@ -152,6 +152,19 @@ impl<'a> Model for LabelIter<'a> {
     ghost invariant = { λ l. IsSome (walk l.left l.octets.now l.at) };
 }
 
+impl<'a> LabelIter<'a> {
+    /// The same labels again.
+    pub fn again(&self) -> LabelIter<'a>
+        ensures { result ≡ self.now }
+    {
+        LabelIter {
+            octets: self.octets,
+            at: self.at,
+            left: self.left,
+        }
+    }
+}
+
 impl<'a> Iterator for LabelIter<'a> {
     type Item = &'a [u8];
 

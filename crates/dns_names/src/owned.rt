@@ -8,7 +8,7 @@ ghost use Rattle.dns_names.specs.Name.{Labels, labels_at, lowered, same_name, sp
 ghost use Rattle.std.proofs.Common.{rules};
 ghost use Rattle.std.specs.Cmp.Rules.{comparing};
 
-use crate::name::ParsedName;
+use crate::name::{LabelIter, ParsedName};
 use dns_values::NoMemory;
 use std::alloc::{AllocError, Global};
 use std::hash::{Hash, Hasher};
@@ -18,7 +18,7 @@ use std::marker::Model;
 static ROOT: [u8; 1] = [0];
 
 /// A name that owns its octets, uncompressed; none for the root.
-#[derive(Drop)]
+#[derive(Debug, Drop)]
 pub struct Name {
     octets: Vec<u8>,
 }
@@ -139,8 +139,13 @@ fn owned(alloc: Global, name: &ParsedName<'_>) -> Result<Name, NoMemory>
 pub fn is_same_name(a: &ParsedName<'_>, b: &ParsedName<'_>) -> bool
     ensures { result ≡ same_name a.now b.now }
 {
-    let mut left = a.labels();
-    let mut right = b.labels();
+    are_same_labels(a.labels(), b.labels())
+}
+
+/// Whether the labels that are left of two names are the same, but for case.
+pub fn are_same_labels(mut left: LabelIter<'_>, mut right: LabelIter<'_>) -> bool
+    ensures { result ≡ same_name left.entry right.entry }
+{
     'labels: loop {
         match left.next() {
             None => return right.next().is_none(),

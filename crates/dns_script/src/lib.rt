@@ -1,6 +1,15 @@
 //! Scripts and traces as text.
 //!
-//! A trace is printed as a text that is read back as that trace, and no other text is read.
+//! A script says what happens to a client, and a trace what the client then put out. A trace is printed
+//! as a text that is read back as that trace, and no other text is read. What replays a script is left to
+//! others.
+//!
+//! ```text
+//! let script = read_script(alloc, text, false)?;
+//! let trace = replay(script)?; // by a client
+//! let printed = trace_text(alloc, &trace)?;
+//! let same = read_trace(alloc, &printed)?;
+//! ```
 #![tactic(auto)]
 
 mod bounds;
@@ -12,8 +21,6 @@ mod reading;
 mod script;
 mod script_lines;
 mod stage;
-#[cfg(test)]
-mod tests;
 mod trace_lines;
 mod words;
 

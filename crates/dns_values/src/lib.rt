@@ -7,12 +7,11 @@ mod error;
 mod laws;
 mod numbers;
 mod octets;
+mod seq;
 mod sink;
 mod source;
 mod std_edge;
 mod streams;
-#[cfg(test)]
-mod tests;
 
 pub use address::{IpAddr, SocketAddr};
 pub use duration::Duration;
@@ -20,7 +19,8 @@ pub use error::{Failed, LongName, LongOptData, NoMemory, ParseError, ShortMessag
 pub use laws::address_laws;
 pub use numbers::{Class, Opcode, OptRcode, Rcode, Rtype, Section, Serial, Status, Ttl};
 pub use octets::Octets;
+pub use seq::Seq;
 pub use sink::{MemSink, Sink, SinkFault, SureSink};
-pub use source::{MemSource, Source, SureSource};
+pub use source::{MemSource, Source, SureSource, copy_front};
 pub use std_edge::{StdSink, StdSource};
 pub use streams::{ReadFault, read_to_end, write_all};

@@ -135,8 +135,8 @@ impl Source for SureSource {
     }
 }
 
-// Copies as many octets as both have.
-fn copy_front(from: &[u8], to: &mut [u8]) -> usize
+/// Copies as many octets as both have, to the front, and answers how many.
+pub fn copy_front(from: &[u8], to: &mut [u8]) -> usize
     ensures count { result ≡ min (length to.old) (length from.now) }
     ensures copied { to.new ≡ take result from.now ++ drop result to.old }
 {

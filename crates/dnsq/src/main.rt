@@ -1,23 +1,11 @@
 //! The program `dnsq`: it replays scripts of events.
 #![tactic(auto)]
 
-mod configure;
-mod ending;
-mod laws;
-mod lines;
-mod replay;
-mod run;
-mod statuses;
-#[cfg(test)]
-mod tests;
-mod usage;
-
 use client_core::{ListClock, ListEdge};
 use client_request::{ListWords, WordList};
 use dns_values::{StdSink, StdSource};
-use run::run_alone;
+use dnsq_run::run_alone;
 use std::alloc::{AllocError, Global};
-use std::collections::VecDeque;
 use std::env;
 use std::io::ErrorKind;
 use std::process::ExitCode;
@@ -47,7 +35,7 @@ fn main(rt: HostRuntime) -> ExitCode {
     };
     let mut source = StdSource::new(rt.stdin());
     let mut sink = StdSink::new(rt.stdout());
-    let mut edge = ListEdge::new(alloc, VecDeque::new(alloc));
+    let mut edge = ListEdge::new(alloc, Vec::new(alloc));
     let mut clock = ListClock::new(Vec::new(alloc));
     let mut random = ListWords::new(WordList::new(alloc));
     let status = run_alone(

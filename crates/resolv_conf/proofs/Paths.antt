@@ -1,22 +1,41 @@
 -- The file at a path, in a map and in a list.
-use Rattle.std.proofs.Common.{◌≡◌, ℕ, List, [], ◌∷◌, map, refl, ap, sym, ◌∙◌, cond, Option, Some, IfSome, subst, string_bytes, String, Result, Ok, Err, IfOk}
-use Rattle.std.specs.Result.{result_ok}
-use Rattle.std.specs.Cmp.Lexicographic.{slice_cmp}
-use Rattle.std.specs.Ordering.{nat_cmp}
-use Rattle.std.specs.Map.{lookup}
-use Rattle.std.specs.BTreeMap.{is_at}
+use Rattle.std.proofs.Common.{◌≡◌, ◌+◌, ℕ, suc, Bool, true, false, not, List, [], ◌∷◌, length, position, nat_lt, refl, ap, sym, ◌∙◌, cond, Option, Some, None, IfSome, IfNone, inr, string_bytes, String, arith}
+use Rattle.std.specs.Option.{option_map}
 use Rattle.std.specs.Str.{bytes_eq}
-use Rattle.std.proofs.lemmas.Map.Text.{is_eq-slice_cmp}
-use Rattle.resolv_conf.specs.MemFiles.{file_at}
+use Rattle.std.specs.List.{position_or_len}
+use Rattle.std.proofs.lemmas.Bool.Decides.{nat_tests}
+use Rattle.resolv_conf.specs.MemFiles.{IsShut, file_at, octets_at, paths_of}
 
-pub path_at : {Y : Type 0} (path : List ℕ) (es : List (String Y × List ℕ))
-    → lookup (λ k. is_at (λ s. slice_cmp nat_cmp path (string_bytes s)) k) es ≡ file_at (map (λ e. (string_bytes e.0, e.1)) es) path
+octets_behind : {K : Type 0} (e : K × List ℕ) (es : List (K × List ℕ)) (k : ℕ) → octets_at (e ∷ es) (1 + k) ≡ octets_at es k
+octets_behind e es k = let next : 1 + k ≡ suc k = omega arith in rw next refl
+
+behind : {K : Type 0} (b : Bool) (e : K × List ℕ) (es : List (K × List ℕ)) (k : ℕ)
+    → option_map (octets_at (e ∷ es)) (cond b (Some (1 + k)) None) ≡ option_map (octets_at es) (cond b (Some k) None)
+behind true e es k = ap Some (octets_behind e es k)
+behind false e es k = refl
+
+next_place : {K : Type 0} (b : Bool) (e : K × List ℕ) (es : List (K × List ℕ)) (k n : ℕ) (found : Option (List ℕ))
+    → option_map (octets_at es) (cond (nat_lt k n) (Some k) None) ≡ found
+    → option_map (octets_at (e ∷ es)) (cond (nat_lt (cond (not b) (1 + k) 0) (suc n)) (Some (cond (not b) (1 + k) 0)) None) ≡ cond b (Some e.1) found
+next_place true e es k n found h = let first : nat_lt 0 (suc n) ≡ true = grind (arith, nat_tests) in rw first refl
+next_place false e es k n found h =
+    let same : nat_lt (1 + k) (suc n) ≡ nat_lt k n = grind (arith, nat_tests) in
+    rw same (behind (nat_lt k n) e es k ∙ h)
+
+path_at : {Y : Type 0} (path : List ℕ) (es : List (String Y × List ℕ))
+    → option_map (octets_at es) (position (λ e. bytes_eq path (string_bytes e.0)) es) ≡ file_at (paths_of es) path
 path_at path [] = refl
 path_at path (e ∷ es) =
-    ap (λ b. cond b (Some e.1) (lookup (λ k. is_at (λ s. slice_cmp nat_cmp path (string_bytes s)) k) es)) (is_eq-slice_cmp path (string_bytes e.0))
-    ∙ ap (cond (bytes_eq path (string_bytes e.0)) (Some e.1)) (path_at path es)
+    next_place (bytes_eq path (string_bytes e.0)) e es (position_or_len (λ e. bytes_eq path (string_bytes e.0)) es) (length es) (file_at (paths_of es) path) (path_at path es)
 
-pub copied : {E : Type 0} (found : Option (List ℕ)) (octets : List ℕ) (r : Result (List ℕ) E) (copy : Option (List ℕ))
-    → found ≡ Some octets → copy ≡ result_ok r → IfOk r (λ o. o ≡ octets) → IfSome copy (λ o. found ≡ Some o)
-copied found octets (Ok o) copy e f same = subst (λ (c : Option (List ℕ)). IfSome c (λ o. found ≡ Some o)) (sym f) (e ∙ ap Some (sym same))
-copied found octets (Err x) copy e f same = subst (λ (c : Option (List ℕ)). IfSome c (λ o. found ≡ Some o)) (sym f) tt
+pub found_there : {Y : Type 0} (path : List ℕ) (es : List (String Y × List ℕ)) (place : Option ℕ)
+    → place ≡ position (λ e. bytes_eq path (string_bytes e.0)) es
+    → IfSome place (λ p. file_at (paths_of es) path ≡ Some (octets_at es p))
+found_there path es None is = tt
+found_there path es (Some p) is = sym (path_at path es) ∙ ap (option_map (octets_at es)) (sym is)
+
+pub not_there : {Y : Type 0} (path : List ℕ) (es : List (String Y × List ℕ)) (place : Option ℕ) (call : ℕ) (fails : List ℕ)
+    → place ≡ position (λ e. bytes_eq path (string_bytes e.0)) es
+    → IfNone place (IsShut call fails (file_at (paths_of es) path))
+not_there path es None call fails is = inr (sym (path_at path es) ∙ ap (option_map (octets_at es)) (sym is))
+not_there path es (Some p) call fails is = tt

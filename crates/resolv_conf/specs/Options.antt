@@ -1,7 +1,9 @@
 -- What the words of an `options` line set.
-use Rattle.std.specs.Prelude.{◌==◌, ℕ, ◌*◌, List, [], ◌∷◌, length, codes, Bool, true, false, Option, Some, None, nat_lt, if◌then◌else◌}
+use Rattle.std.specs.Prelude.{◌≡◌, ◌==◌, ℕ, ◌*◌, List, [], ◌∷◌, length, codes, Bool, true, false, Option, Some, None, Result, MatchResult, nat_lt, if◌then◌else◌}
 use Rattle.std.specs.List.{position_or_len, before_first, after_first}
 use Rattle.std.specs.Str.{bytes_eq}
+use Rattle.resolv_conf.specs.declared.fault.LineFault.{LineFault}
+use Rattle.resolv_conf.specs.declared.fault.LineFault.TheVariants.{Parse}
 use Rattle.resolv_conf.specs.declared.options.ResolvOptions.{ResolvOptions}
 use Rattle.resolv_conf.specs.Number.{number_of}
 use Rattle.resolv_conf.specs.Words.{Words}
@@ -53,3 +55,8 @@ options_from (Some p) o next = next p
 abbrev pub options_after : Words → ResolvOptions → OptionsOutcome
 options_after [] o = record { taken = true; options = o }
 options_after (word ∷ words) o = options_from (option_after word o) o (options_after words)
+
+-- What the words of a line answer, with the options then.
+abbrev pub OptionsAnswer : OptionsOutcome → Result (Unit {0}) LineFault → ResolvOptions → Type 0
+OptionsAnswer outcome answer new = MatchResult answer (λ _. outcome ≡ record { taken = true; options = new })
+    (λ e. (e ≡ Parse) × (outcome ≡ record { taken = false; options = new }))

@@ -5,12 +5,13 @@ ghost use Rattle.resolv_conf.specs.Final.{finalized, FinalLaws};
 ghost use Rattle.resolv_conf.specs.Conf.{default_options};
 
 use crate::options::ResolvOptions;
-use crate::server::Servers;
+use crate::server::{Servers, this_host, with_request_timeout};
 use dns_values::NoMemory;
 use std::alloc::Global;
+use std::mem;
 
 /// The servers that a resolver asks, and its options.
-#[derive(Drop)]
+#[derive(Debug, Drop)]
 pub struct ResolvConf {
     pub servers: Servers,
     pub options: ResolvOptions,
@@ -34,7 +35,7 @@ impl ResolvConf {
         ensures { MatchResult result (λ _. self.new ≡ finalized self.old) (λ _. self.new ≡ self.old) }
     {
         let servers = if self.servers.len() == 0 {
-            Some(Servers::this_host(alloc)?)
+            Some(this_host(alloc)?)
         } else {
             None
         };
@@ -44,7 +45,8 @@ impl ResolvConf {
         if let Some(servers) = servers {
             self.servers = servers;
         }
-        self.servers.set_request_timeout(self.options.timeout);
+        let servers = mem::replace(&mut self.servers, Servers::new(alloc));
+        self.servers = with_request_timeout(servers, self.options.timeout);
         Ok(())
     }
 

@@ -1,8 +1,8 @@
 //! Reading a configuration from a file.
 
-ghost use Rattle.std.specs.Prelude.{◌≡◌, ◌≢◌, ℕ, ◌≤◌, List, Option, Err, codes, IsSome, OnOk, OnErr, IfOk, MatchResult, IfSome};
+ghost use Rattle.std.specs.Prelude.{◌≡◌, ◌≢◌, ℕ, ◌≤◌, List, Option, Err, IsSome, OnOk, OnErr, IfOk, MatchResult, IfSome};
 ghost use Rattle.dns_values.specs.Source.{Rose};
-ghost use Rattle.resolv_conf.specs.Files.{FileAnswers, IsDefaultOf};
+ghost use Rattle.resolv_conf.specs.Files.{FileAnswers, IsDefaultOf, system_file};
 
 use crate::conf::ResolvConf;
 use crate::error::{Error, IoFault};
@@ -53,7 +53,9 @@ impl ResolvConf {
     /// What `/etc/resolv.conf` says, finalized. Any fault but want of memory is dropped, with what
     /// `parse_file` leaves after it.
     pub fn default<O: OpenFile>(alloc: Global, opener: &mut O) -> Result<ResolvConf, NoMemory>
-        ensures { IfOk result (λ conf. IfSome (O.files opener.old) (λ file_at. IsDefaultOf (file_at (codes "/etc/resolv.conf")) conf)) }
+        ensures read { IfOk result (λ conf. IfSome (O.files opener.old) (λ file_at.
+            IsDefaultOf (file_at system_file) (O.faults opener.old) (O.faults opener.new) conf)) }
+        ensures count { O.faults opener.old ≤ O.faults opener.new }
     {
         let mut conf = ResolvConf::new(alloc);
         had_memory(conf.parse_file(alloc, opener, SYSTEM_FILE))?;

@@ -25,8 +25,6 @@ mod script;
 mod search;
 mod server;
 mod show;
-#[cfg(test)]
-mod tests;
 mod words;
 
 pub use conf::{ResolvConf, finalize_laws};

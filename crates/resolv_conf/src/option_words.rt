@@ -1,8 +1,8 @@
 //! The words of an `options` line.
 
-ghost use Rattle.std.specs.Prelude.{◌≡◌, true, false, MatchResult, Err, Some, None};
+ghost use Rattle.std.specs.Prelude.{◌≡◌, MatchResult, Some, None};
 ghost use Rattle.std.specs.Str.Iter.{split_whitespace_rest};
-ghost use Rattle.resolv_conf.specs.Options.{flagged, numbered, option_after, options_after};
+ghost use Rattle.resolv_conf.specs.Options.{OptionsAnswer, flagged, numbered, option_after, options_after};
 ghost use Rattle.resolv_conf.specs.Words.{words_of};
 
 use crate::fault::LineFault;
@@ -15,9 +15,7 @@ use std::str::SplitWhitespace;
 impl ResolvOptions {
     /// Takes the words in order, as far as the first one that is refused.
     pub(crate) fn take_words(&mut self, mut words: SplitWhitespace<'_>) -> Result<(), LineFault>
-        ensures { MatchResult result
-            (λ _. options_after (words_of (split_whitespace_rest words.entry)) self.old ≡ record { taken = true; options = self.new })
-            (λ e. (e ≡ LineFault.Parse) × (options_after (words_of (split_whitespace_rest words.entry)) self.old ≡ record { taken = false; options = self.new })) }
+        ensures { OptionsAnswer (options_after (words_of (split_whitespace_rest words.entry)) self.old) result self.new }
     {
         while let Some(word) = next_word(&mut words) {
             self.take_word(word)?;

@@ -8,7 +8,7 @@ use dns_values::{Duration, NoMemory};
 use std::alloc::Global;
 
 /// The options of a resolver; some are kept and printed alone, and change nothing else.
-#[derive(Drop)]
+#[derive(Debug, Drop)]
 pub struct ResolvOptions {
     pub search: SearchList,
     /// A name with fewer dots is tried with the search list first.

@@ -12,7 +12,7 @@ use std::marker::Model;
 pub type SearchSuffix = Name;
 
 /// A list of search suffixes, in the order in which they are tried.
-#[derive(Drop)]
+#[derive(Debug, Drop)]
 pub struct SearchList {
     suffixes: Vec<SearchSuffix>,
 }

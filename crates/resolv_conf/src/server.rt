@@ -1,12 +1,10 @@
 //! Servers, and how they are asked.
 
-ghost use Rattle.std.specs.Prelude.{◌≡◌, ◌*◌, List, [], ◌∷◌, ◌++◌, length, map, IfOk, MatchResult};
+ghost use Rattle.std.specs.Prelude.{◌≡◌, ◌*◌, [], map, IfOk};
 ghost use Rattle.resolv_conf.specs.Server.{or_this_host, with_timeout};
-ghost use Rattle.resolv_conf.specs.declared.server.ServerConf.{ServerConf};
 
-use dns_values::{Duration, IpAddr, NoMemory, SocketAddr};
+use dns_values::{Duration, IpAddr, NoMemory, Seq, SocketAddr};
 use std::alloc::Global;
-use std::marker::Model;
 
 /// The port of the DNS (RFC 1035 4.2).
 pub(crate) const DNS_PORT: u16 = 53;
@@ -26,7 +24,9 @@ pub enum Transport {
 /// A server and how it is asked.
 #[derive(Clone, Copy, Debug, PartialEq, Eq)]
 pub struct ServerConf {
+    /// Where it is asked.
     pub addr: SocketAddr,
+    /// By which transports it is asked.
     pub transport: Transport,
     /// How long a request may take.
     pub request_timeout: Duration,
@@ -52,72 +52,26 @@ impl ServerConf {
 }
 
 /// A list of servers.
-#[derive(Drop)]
-pub struct Servers {
-    items: Vec<ServerConf>,
+pub type Servers = Seq<ServerConf>;
+
+/// This host alone, at the port of the DNS.
+pub(crate) fn this_host(alloc: Global) -> Result<Servers, NoMemory>
+    ensures { IfOk result (λ s. s ≡ or_this_host []) }
+{
+    let ip = IpAddr::V4([127, 0, 0, 1]);
+    let addr = SocketAddr { ip, port: DNS_PORT };
+    let mut servers = Servers::new(alloc);
+    servers.push(ServerConf::new(addr, Transport::UdpTcp))?;
+    Ok(servers)
 }
 
-impl Model for Servers {
-    ghost Value = { List ServerConf };
-
-    ghost view = { λ s. s.items.items };
-}
-
-impl Servers {
-    /// No servers. It takes no memory.
-    pub fn new(alloc: Global) -> Servers
-        ensures { result ≡ [] }
-    {
-        Servers {
-            items: Vec::new(alloc),
-        }
+/// The servers, each with this time for a request.
+pub(crate) fn with_request_timeout(servers: Servers, timeout: Duration) -> Servers
+    ensures { result ≡ map (with_timeout timeout) servers }
+{
+    let mut items = servers.into_vec();
+    for server in items.iter_mut() {
+        server.request_timeout = timeout;
     }
-
-    /// This host alone, at the port of the DNS.
-    pub(crate) fn this_host(alloc: Global) -> Result<Servers, NoMemory>
-        ensures { IfOk result (λ s. s ≡ or_this_host []) }
-    {
-        let ip = IpAddr::V4([127, 0, 0, 1]);
-        let addr = SocketAddr { ip, port: DNS_PORT };
-        let mut servers = Servers::new(alloc);
-        servers.push(ServerConf::new(addr, Transport::UdpTcp))?;
-        Ok(servers)
-    }
-
-    /// Adds a server at the end.
-    pub fn push(&mut self, item: ServerConf) -> Result<(), NoMemory>
-        ensures { MatchResult result (λ _. self.new ≡ self.old ++ item ∷ []) (λ _. self.new ≡ self.old) }
-    {
-        self.items.push(item)?;
-        Ok(())
-    }
-
-    pub fn len(&self) -> usize
-        ensures { result ≡ length self.now }
-    {
-        self.items.len()
-    }
-
-    pub fn as_slice(&self) -> &[ServerConf]
-        ensures { result.now ≡ self.now }
-    {
-        self.items.as_slice()
-    }
-
-    /// Gives each server this time for a request.
-    pub(crate) fn set_request_timeout(&mut self, timeout: Duration)
-        ensures { self.new ≡ map (with_timeout timeout) self.old }
-    {
-        for server in self.items.iter_mut() {
-            server.request_timeout = timeout;
-        }
-    }
-
-    /// The same servers.
-    pub fn try_clone(&self, alloc: Global) -> Result<Servers, NoMemory>
-        ensures { IfOk result (λ s. s ≡ self.now) }
-    {
-        let items = Vec::from_slice(alloc, self.as_slice())?;
-        Ok(Servers { items })
-    }
+    Servers::from_vec(items)
 }

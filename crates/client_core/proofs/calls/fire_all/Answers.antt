@@ -8,7 +8,7 @@ use Rattle.client_core.proofs.calls.fire_all.Goals as goal
 pub loop-left-preserved : goal.loop-left-preserved
 loop-left-preserved g c =
     let layer = g.L.SendRequest in
-    let m = machine_of layer.plain_send layer.plain_step layer.plain_cancel layer.plain_response g.L.Response.GetResponse.ticket_of in
+    let m = machine_of layer.transport g.L.Response.GetResponse.ticket_of in
     let before = client_of c.loop-left.layer (c.loop-left.asked, view_of g.W.Words.stream c.loop-left.cx) in
     let after = client_of c.fire-in-loop-left.new.layer (c.fire-in-loop-left.new.asked, view_of g.W.Words.stream c.fire-in-loop-left.new.cx) in
     record {

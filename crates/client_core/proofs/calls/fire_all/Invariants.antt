@@ -8,7 +8,7 @@ use Rattle.client_core.proofs.calls.fire_all.Given as goal
 abbrev pub invariant-loop-left : goal.invariant-loop-left
 invariant-loop-left g l =
     let layer = g.L.SendRequest in
-    let m = machine_of layer.plain_send layer.plain_step layer.plain_cancel layer.plain_response g.L.Response.GetResponse.ticket_of in
+    let m = machine_of layer.transport g.L.Response.GetResponse.ticket_of in
     record {
       lends : LendsTheSame l.fn.cx l.cx;
       same : plain.fires_all m (client_of l.fn.layer (l.fn.asked, view_of g.W.Words.stream l.fn.cx)) ≡ plain.fires m l.left (client_of l.layer (l.asked, view_of g.W.Words.stream l.cx));

@@ -1,0 +1,20 @@
+use Rattle.std.proofs.Common.{◌≡◌, ◌∙◌, ap, sym, subst, false, List, ℕ}
+use Rattle.client_request.specs.Timers.{TimerList, cancelled}
+use Rattle.client_request.specs.TimerHeap.{timers_of, top_is_cancelled, DropsCancelled, IsHeapOf}
+use Rattle.client_request.proofs.TimerKept.{cancel_kept}
+use Rattle.client_request.proofs.TimerTable.{timers_of-frees}
+use Rattle.client_request.proofs.timers.Timers.cancel.Goals as goal
+
+pub invariant_of-self : goal.invariant_of-self
+invariant_of-self c =
+    let left = c.remove.ensures.entries in
+    let heap = c.settle.new.heap.items in
+    subst (λ (t : List (ℕ × ℕ)). IsHeapOf c.self.inside.next t heap) (sym left)
+    (cancel_kept _ c.args.id.0 _ _ heap c.self.invariant
+    (subst (λ (t : List (ℕ × ℕ)). DropsCancelled t c.self.inside.heap.items heap) left c.settle.ensures.drops)
+    (subst (λ (t : List (ℕ × ℕ)). top_is_cancelled t heap ≡ false) left c.settle.ensures.top))
+
+pub returns : goal.returns
+returns c =
+    let is = ap timers_of c.remove.ensures.entries ∙ timers_of-frees c.args.id.0 c.self.inside.table.entries in
+    (λ i. record { next = c.self.inside.next; set = is i }) ∙ ap (cancelled c.args.id.0) c.self.view_is

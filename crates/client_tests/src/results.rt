@@ -1,0 +1,71 @@
+//! Timers in their order, and results that are given once.
+
+use client_request::{Board, Error, Moment, Poll, TimerId, Timers, take_response};
+use std::alloc::Global;
+use std::test::Fail;
+
+/// Timers that are due at these moments, in the order in which they are set.
+fn timers_of(alloc: Global, dues: &[u128]) -> Result<Timers, Error> {
+    let mut timers = Timers::new(alloc);
+    for due in dues {
+        let _ = timers.set(*due)?;
+    }
+    Ok(timers)
+}
+
+#[test]
+fn timers_fire_in_their_order(rt: HostRuntime) -> Result<(), Fail> {
+    let mut timers = timers_of(rt.alloc(), &[7, 3, 3, 9])?;
+    timers.cancel(TimerId(0));
+    assert_eq!(rt; timers.next_due(), Some((3, TimerId(1))));
+    assert_eq!(rt; timers.fire(Moment(2)), None);
+    assert_eq!(rt; timers.fire(Moment(3)), Some(TimerId(1)));
+    assert_eq!(rt; timers.fire(Moment(8)), Some(TimerId(2)));
+    assert_eq!(rt; timers.fire(Moment(8)), None);
+    assert_eq!(rt; timers.len(), 1);
+    Ok(())
+}
+
+#[test]
+fn the_heap_of_timers_shows_the_next_first(rt: HostRuntime) -> Result<(), Fail> {
+    let mut timers = timers_of(rt.alloc(), &[5, 3, 3, 9])?;
+    assert_eq!(rt; timers.heap().len(), 4);
+    assert_eq!(rt; timers.heap().first(), Some(&(3, TimerId(1))));
+    assert_eq!(rt; timers.fire(Moment(4)), Some(TimerId(1)));
+    assert_eq!(rt; timers.fire(Moment(4)), Some(TimerId(2)));
+    assert_eq!(rt; timers.fire(Moment(4)), None);
+    assert!(rt; timers.heap() == [(5, TimerId(0)), (9, TimerId(3))].as_slice());
+    timers.cancel(TimerId(0));
+    assert_eq!(rt; timers.next_due(), Some((9, TimerId(3))));
+    assert!(rt; timers.heap() == [(9, TimerId(3))].as_slice());
+    Ok(())
+}
+
+fn board(alloc: Global) -> Result<Board, Error> {
+    let mut board = Board::new(alloc);
+    board.put(2, Err(Error::TimedOut))?;
+    board.put(1, Ok(None))?;
+    Ok(board)
+}
+
+/// The error that a request's result is, if it is there and is one.
+fn error_in(board: &mut Board, given: &mut bool) -> Option<Error> {
+    match take_response(board, 1, given) {
+        Poll::Ready(result) => result.err(),
+        Poll::Pending => None,
+    }
+}
+
+#[test]
+fn a_result_is_given_once(rt: HostRuntime) -> Result<(), Fail> {
+    let mut board = board(rt.alloc())?;
+    assert_eq!(rt; board.oldest(), Some(2));
+    let mut given = false;
+    assert_eq!(rt;
+        error_in(&mut board, &mut given),
+        Some(Error::ConnectionClosed)
+    );
+    assert_eq!(rt; error_in(&mut board, &mut given), Some(Error::AlreadyDone));
+    assert_eq!(rt; board.len(), 1);
+    Ok(())
+}

@@ -1,9 +1,0 @@
-use Rattle.std.proofs.Common.{◌≡◌, length}
-use Rattle.dns_names.specs.Name.{same_name}
-use Rattle.dns_names.proofs.owned.is_same_name.Given as goal
-
-abbrev pub invariant-labels : goal.invariant-labels
-invariant-labels l = same_name l.a l.b ≡ same_name l.left l.right
-
-abbrev pub decreases-labels : goal.decreases-labels
-decreases-labels l = length l.left

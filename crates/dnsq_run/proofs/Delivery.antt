@@ -1,0 +1,86 @@
+-- What is written of a line.
+use Rattle.std.proofs.Common.{arith, ◌≡◌, ◌≢◌, ◌⊎◌, inl, inr, ℕ, ◌≤◌, List, [], take, length, Option, None, Some, subst, sym}
+use Rattle.std.proofs.lemmas.List.{take_all}
+use Rattle.std.specs.Prelude.{IfSome}
+use Rattle.dns_values.specs.Sink.{with_octets}
+use Rattle.dns_values.specs.Source.{Rose}
+use Rattle.dnsq_run.specs.Program.{IsOutput, IsRefused, StopsForNumbers, IsBegun, IsSaid, IsCut, IsLeft, RanOut, RefusalIsSaid, is_output, is_refusal, numbers_line, stops, usage_line}
+use Rattle.dnsq_run.specs.declared.usage.Command.{Command}
+use Rattle.dnsq_run.proofs.Outcomes.{asked_for}
+
+take_whole : (xs : List ℕ) → take (length xs) xs ≡ xs
+take_whole xs = take_all (length xs) xs (omega (arith))
+
+pub begun_whole : (line : List ℕ) (before after : Option (List ℕ)) → after ≡ with_octets line before → IsBegun line before after
+begun_whole line before after whole =
+    record { count = length line; written = subst (λ (xs : List ℕ). after ≡ with_octets xs before) (sym (take_whole line)) whole }
+
+pub begun_front : (line : List ℕ) (before after : Option (List ℕ)) → ((n : ℕ) × (after ≡ with_octets (take n line) before)) → IsBegun line before after
+begun_front line before after front = record { count = front.0; written = front.1 }
+
+pub said_whole : (line : List ℕ) (before after : Option (List ℕ)) (faults faults_after : ℕ) → after ≡ with_octets line before → IsSaid line before after faults faults_after
+said_whole line before after faults faults_after whole = record { begun = begun_whole line before after whole; whole_or_fault = inl whole }
+
+pub said_front : (line : List ℕ) (before after : Option (List ℕ)) (faults faults_after : ℕ) → ((n : ℕ) × (after ≡ with_octets (take n line) before)) → Rose faults faults_after → IsSaid line before after faults faults_after
+said_front line before after faults faults_after front rose = record { begun = begun_front line before after front; whole_or_fault = inr rose }
+
+-- with what a text is told to be, what is written of it is told
+told_with : (told : Option (List ℕ)) (P Q : List ℕ → Type 0) → ((text : List ℕ) → P text → Q text) → IfSome told P → IfSome told Q
+told_with None P Q f h = h
+told_with (Some text) P Q f h = f text h
+
+abbrev pub Saying : Option (List ℕ) → (before after : Option (List ℕ)) → (faults faults_after : ℕ) → Command → Type 0
+Saying told before after faults faults_after command = IfSome told (λ text. RefusalIsSaid command text before after faults faults_after)
+
+pub refusal_said : (asked : Option Command) (command : Command) (told before after : Option (List ℕ)) (faults faults_after : ℕ) (line : List ℕ)
+    → asked ≡ Some command
+    → IfSome told (λ text. IsRefused command text line)
+    → IsSaid line before after faults faults_after
+    → IfSome asked (Saying told before after faults faults_after)
+refusal_said asked command told before after faults faults_after line is h said =
+    asked_for asked command (Saying told before after faults faults_after) is
+    (told_with told (λ text. IsRefused command text line) (λ text. RefusalIsSaid command text before after faults faults_after) (λ text r. record { line = line; refusal = r; said = said }) h)
+
+abbrev pub Cutting : Option (List ℕ) → (before after : Option (List ℕ)) → Command → Type 0
+Cutting told before after command = IfSome told (λ text. IsCut command text before after)
+
+ran_out : (asked : Option Command) (command : Command) (told before after : Option (List ℕ)) → asked ≡ Some command
+    → (after ≡ before) ⊎ IfSome told (λ text. IsLeft command text before after) → RanOut asked told before after
+ran_out asked command told before after is h = subst (λ (o : Option Command). RanOut o told before after) (sym is) h
+
+pub nothing_left : (asked : Option Command) (command : Command) (told before after : Option (List ℕ)) → asked ≡ Some command
+    → after ≡ before → RanOut asked told before after
+nothing_left asked command told before after is same = ran_out asked command told before after is (inl same)
+
+pub usage_left : (asked : Option Command) (told before after : Option (List ℕ)) → asked ≡ None → IsBegun usage_line before after → RanOut asked told before after
+usage_left asked told before after is begun = subst (λ (o : Option Command). RanOut o told before after) (sym is) begun
+
+pub output_cut : (asked : Option Command) (command : Command) (told left before after : Option (List ℕ)) (out : List ℕ)
+    → asked ≡ Some command
+    → IfSome told (λ text. IsOutput command text out × (left ≡ Some []))
+    → IsBegun out before after
+    → IfSome asked (Cutting told before after)
+output_cut asked command told left before after out is h begun =
+    asked_for asked command (Cutting told before after) is
+    (told_with told (λ text. IsOutput command text out × (left ≡ Some [])) (λ text. IsCut command text before after) (λ text o. record { out = out; output = o.0; begun = begun }) h)
+
+pub output_left : (asked : Option Command) (command : Command) (told left before after : Option (List ℕ)) (out : List ℕ)
+    → asked ≡ Some command
+    → IfSome told (λ text. IsOutput command text out × (left ≡ Some []))
+    → IsBegun out before after
+    → RanOut asked told before after
+output_left asked command told left before after out is h begun =
+    ran_out asked command told before after is (inr (told_with told (λ text. IsOutput command text out × (left ≡ Some [])) (λ text. IsLeft command text before after) (λ text o. record { out = out; sayable = is_output o.0; begun = begun }) h))
+
+pub line_left : (asked : Option Command) (command : Command) (told before after : Option (List ℕ)) (line : List ℕ) (status : ℕ)
+    → asked ≡ Some command
+    → (status ≡ 1) ⊎ (status ≡ 7)
+    → (status ≡ 1 → IfSome told (λ text. IsRefused command text line))
+    → (status ≡ 7 → IfSome told (λ text. StopsForNumbers command text))
+    → (status ≡ 7 → line ≡ numbers_line)
+    → IsBegun line before after
+    → RanOut asked told before after
+line_left asked command told before after line status is (inl one) refused numbers says begun =
+    ran_out asked command told before after is (inr (told_with told (λ text. IsRefused command text line) (λ text. IsLeft command text before after) (λ text r. record { out = line; sayable = is_refusal r; begun = begun }) (refused one)))
+line_left asked command told before after line status is (inr seven) refused numbers says begun =
+    ran_out asked command told before after is (inr (told_with told (λ text. StopsForNumbers command text) (λ text. IsLeft command text before after) (λ text s. record { out = line; sayable = stops s (says seven); begun = begun }) (numbers seven)))

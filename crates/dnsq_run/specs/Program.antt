@@ -1,0 +1,170 @@
+-- What the program writes for an input.
+use Rattle.std.specs.Prelude.{◌≡◌, ◌≢◌, ◌⊎◌, ◌<◌, ◌≤◌, ℕ, List, [], ◌∷◌, ◌++◌, length, take, Option, Some, None, IfSome, Ok, Err, false, codes}
+use Rattle.std.specs.Fmt.{decimal}
+use Rattle.dns_values.specs.Sink.{with_octets}
+use Rattle.dns_values.specs.Source.{Rose}
+use Rattle.client_request.specs.Words.{listed}
+use Rattle.client_request.specs.declared.event.Event.{Event}
+use Rattle.client_request.specs.declared.event.Row.{Row}
+use Rattle.client_core.specs.Headline.{conf_of}
+use Rattle.client_core.specs.Whole.{plain_trace}
+use Rattle.headline.specs.Right.{Right, Timely}
+use Rattle.dns_script.specs.ScriptReading.{IsScript, RefusesLine}
+use Rattle.dns_script.specs.TraceText.{trace_text_of}
+use Rattle.dns_script.specs.declared.script.Script.{Script}
+use Rattle.resolv_conf.specs.Conf.{default_options}
+use Rattle.resolv_conf.specs.Final.{finalized}
+use Rattle.resolv_conf.specs.Parse.{ParseAnswers}
+use Rattle.resolv_conf.specs.Show.{conf_text}
+use Rattle.resolv_conf.specs.declared.conf.ResolvConf.{ResolvConf}
+use Rattle.resolv_conf.specs.declared.error.Error.TheVariants as conf_errors
+use Rattle.resolv_conf.specs.declared.error.IoFault.TheVariants as io_faults
+use Rattle.dnsq_run.specs.declared.usage.Command.{Command}
+use Rattle.dnsq_run.specs.declared.usage.Command.TheVariants.{Replay, Conf}
+use Rattle.dnsq_run.specs.declared.ending.Ending.{Ending}
+use Rattle.dnsq_run.specs.declared.ending.Ending.TheVariants.{Says, Silent}
+
+-- the events of the first lane
+abbrev pub first_lane : List (List Event) → List Event
+first_lane [] = []
+first_lane (events ∷ lanes) = events
+
+-- the rows of a script: the plain trace of its events, with its words and 0 past their end; none where a number would pass 64 bits
+abbrev pub rows_of : Script → Option (List Row)
+rows_of script = plain_trace script.conf (listed script.words) (first_lane script.lanes)
+
+-- The text is a script, not too long, and these octets are the text of its plain trace, which is right and timely.
+pub record IsReplayed (text out : List ℕ) : Type 0 where
+  pub fits : length text ≤ 16777216
+  pub script : Script
+  pub is_script : IsScript false text script
+  pub rows : List Row
+  pub plain : rows_of script ≡ Some rows
+  pub right : Right (conf_of script.conf) rows
+  pub timely : Timely (conf_of script.conf) rows
+  pub says : out ≡ trace_text_of rows
+
+-- before the first line of a configuration
+abbrev pub no_conf : ResolvConf
+no_conf = record { servers = []; options = default_options }
+
+-- The text is a configuration, and these octets are the printing of what it says, finalized.
+pub record IsConfigured (text out : List ℕ) : Type 0 where
+  pub conf : ResolvConf
+  pub parses : ParseAnswers text no_conf (Ok tt) conf
+  pub says : out ≡ conf_text (finalized conf)
+
+-- what a command makes of its input
+abbrev pub IsOutput : Command → (text out : List ℕ) → Type 0
+IsOutput Replay text out = IsReplayed text out
+IsOutput Conf text out = IsConfigured text out
+
+-- the text is a script, or a configuration
+abbrev pub IsInput : Command → (text : List ℕ) → Type 0
+IsInput Replay text = (script : Script) × IsScript false text script
+IsInput Conf text = (conf : ResolvConf) × ParseAnswers text no_conf (Ok tt) conf
+
+-- The text is an input of the command, and not too long.
+pub record IsTaken (command : Command) (text : List ℕ) : Type 0 where
+  pub reads : IsInput command text
+  pub fits : length text ≤ 16777216
+
+-- Line n of a configuration is the first that is outside the grammar, or isn't UTF-8.
+pub data RefusesConfLine (text : List ℕ) (n : ℕ) : Type 0 where
+  outside_the_grammar : (conf : ResolvConf) → ParseAnswers text no_conf (Err (conf_errors.ParseError n)) conf → RefusesConfLine text n
+  not_utf8 : (conf : ResolvConf) → ParseAnswers text no_conf (Err (conf_errors.Io (io_faults.NotUtf8 n))) conf → RefusesConfLine text n
+
+abbrev pub RefusesLineOf : Command → (text : List ℕ) → ℕ → Type 0
+RefusesLineOf Replay text n = RefusesLine false text n
+RefusesLineOf Conf text n = RefusesConfLine text n
+
+-- The text is not taken, and this line says why.
+pub data IsRefused (command : Command) (text : List ℕ) (line : List ℕ) : Type 0 where
+  is_too_long : 16777216 < length text → line ≡ codes "input too long\n" → IsRefused command text line
+  has_bad_line : (n : ℕ) → length text ≤ 16777216 → RefusesLineOf command text n → line ≡ codes "line " ++ decimal n ++ codes " refused\n" → IsRefused command text line
+
+-- The text is a script, not too long, in whose replay a number would pass 64 bits.
+pub record StopsForNumbers (command : Command) (text : List ℕ) : Type 0 where
+  pub replays : command ≡ Replay
+  pub fits : length text ≤ 16777216
+  pub script : Script
+  pub is_script : IsScript false text script
+  pub stops : rows_of script ≡ None
+
+-- The output of the text is written whole.
+pub record IsDelivered (command : Command) (text : List ℕ) (before after : Option (List ℕ)) : Type 0 where
+  pub out : List ℕ
+  pub output : IsOutput command text out
+  pub written : after ≡ with_octets out before
+
+-- These octets are written, or the first of them.
+pub record IsBegun (line : List ℕ) (before after : Option (List ℕ)) : Type 0 where
+  pub count : ℕ
+  pub written : after ≡ with_octets (take count line) before
+
+-- This line is written whole, or the first of it, and then the sink's count of faults rose.
+pub record IsSaid (line : List ℕ) (before after : Option (List ℕ)) (faults faults_after : ℕ) : Type 0 where
+  pub begun : IsBegun line before after
+  pub whole_or_fault : (after ≡ with_octets line before) ⊎ Rose faults faults_after
+
+-- This line says why the text is refused, and it is written whole, or the first of it, and then the sink's count of faults rose.
+pub record RefusalIsSaid (command : Command) (text : List ℕ) (before after : Option (List ℕ)) (faults faults_after : ℕ) : Type 0 where
+  pub line : List ℕ
+  pub refusal : IsRefused command text line
+  pub said : IsSaid line before after faults faults_after
+
+abbrev pub usage_line : List ℕ
+usage_line = codes "usage: dnsq replay|conf|gen N|many|query NAME TYPE [--port P]\n"
+
+abbrev pub numbers_line : List ℕ
+numbers_line = codes "numbers used\n"
+
+-- what is written for a text: its output, or the line that tells why there is none
+pub data IsSayable (command : Command) (text out : List ℕ) : Type 0 where
+  is_output : IsOutput command text out → IsSayable command text out
+  is_refusal : IsRefused command text out → IsSayable command text out
+  stops : StopsForNumbers command text → out ≡ numbers_line → IsSayable command text out
+
+-- The output of the text is written, or the first of it.
+pub record IsCut (command : Command) (text : List ℕ) (before after : Option (List ℕ)) : Type 0 where
+  pub out : List ℕ
+  pub output : IsOutput command text out
+  pub begun : IsBegun out before after
+
+-- What is written for the text is written, or the first of it.
+pub record IsLeft (command : Command) (text : List ℕ) (before after : Option (List ℕ)) : Type 0 where
+  pub out : List ℕ
+  pub sayable : IsSayable command text out
+  pub begun : IsBegun out before after
+
+-- What memory runs out of: of the words' line, where they are no command, the first is written; of what is due for the text,
+-- nothing or the first.
+abbrev pub RanOut : Option Command → (told before after : Option (List ℕ)) → Type 0
+RanOut None told before after = IsBegun usage_line before after
+RanOut (Some command) told before after = (after ≡ before) ⊎ IfSome told (λ text. IsLeft command text before after)
+
+-- a fact of the command and of the octets that the source tells
+abbrev pub IfInput : Option Command → Option (List ℕ) → (Command → List ℕ → Type 0) → Type 0
+IfInput asked told P = IfSome asked (λ command. IfSome told (P command))
+
+-- the statuses at which a line tells why nothing else is written
+abbrev pub EndsByLine : ℕ → Type 0
+EndsByLine n = (n ≡ 1) ⊎ ((n ≡ 2) ⊎ (n ≡ 7))
+
+-- the status and the line of an ending
+abbrev pub status_of : Ending → ℕ
+status_of (Says status line) = status.0
+status_of (Silent status) = status.0
+
+abbrev pub line_of : Ending → List ℕ
+line_of (Says status line) = line.items
+line_of (Silent status) = []
+
+-- a status is one of 0, 1, 2, 3, 4, 6 and 7
+abbrev pub IsStatus : ℕ → Type 0
+IsStatus n = (n < 8) × (n ≢ 5)
+
+-- a line is told at a refusal and where numbers are used up; nothing is at a fault of the source and at want of memory
+abbrev pub IsEarly : Ending → Type 0
+IsEarly (Says status line) = (status.0 ≡ 1) ⊎ (status.0 ≡ 7)
+IsEarly (Silent status) = (status.0 ≡ 3) ⊎ (status.0 ≡ 6)

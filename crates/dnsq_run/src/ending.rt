@@ -1,0 +1,35 @@
+//! How a command ends before its output is written.
+
+ghost use Rattle.std.specs.Prelude.{◌≡◌};
+
+use crate::statuses::NO_MEMORY;
+use dns_base::{NoMemory, Status};
+use std::alloc::AllocError;
+
+/// Why a command ends before its output is written: a line is written and the status stands whatever
+/// becomes of it, or nothing is written.
+#[derive(Drop)]
+pub enum Ending {
+    Says(Status, Vec<u8>),
+    Silent(Status),
+}
+
+impl From<AllocError> for Ending {
+    ghost use Rattle.dnsq_run.specs.declared.ending.Ending.{Ending};
+
+    ghost from_gives = { λ _ e. e ≡ Ending.Silent (record { 0 = 6 }) };
+
+    fn from(_error: AllocError) -> Ending {
+        Ending::Silent(NO_MEMORY)
+    }
+}
+
+impl From<NoMemory> for Ending {
+    ghost use Rattle.dnsq_run.specs.declared.ending.Ending.{Ending};
+
+    ghost from_gives = { λ _ e. e ≡ Ending.Silent (record { 0 = 6 }) };
+
+    fn from(_error: NoMemory) -> Ending {
+        Ending::Silent(NO_MEMORY)
+    }
+}

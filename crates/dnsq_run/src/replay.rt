@@ -1,0 +1,116 @@
+//! The command that replays a script.
+
+ghost use Rattle.std.specs.Prelude.{◌≡◌, ◌≢◌, ◌≤◌, [], length, false, Some, None, IfSome, IfOk, IfErr};
+ghost use Rattle.dns_values.specs.Source.{Rose};
+ghost use Rattle.client_core.specs.Headline.{conf_of};
+ghost use Rattle.headline.specs.Right.{Right, Timely, NoneIsTruncated};
+ghost use Rattle.dns_script.specs.ScriptReading.{IsScript};
+ghost use Rattle.dnsq_run.specs.Program.{first_lane, rows_of, IsReplayed, IsRefused, StopsForNumbers, IsEarly, status_of, line_of, numbers_line};
+
+use crate::ending::Ending;
+use crate::lines::{refused_line, says};
+use crate::statuses::{NO_MEMORY, NUMBERS_USED, REFUSED, SOURCE_FAULT};
+use crate::usage::Command;
+use client_core::Client;
+use client_request::{Error, Event, ListWords, Trace};
+use dns_script::{Lanes, Script, ScriptFault, read_script, script_laws, trace_text};
+use dns_values::{ReadFault, Source, read_to_end};
+use std::alloc::Global;
+
+/// The most octets that an input may have.
+pub const MOST_OCTETS: usize = 16_777_216;
+
+/// The octets of an input, to its end.
+#[tactic(auto, using(crate::proofs::Refusals::too_long_line))]
+fn input<S: Source>(alloc: Global, source: &mut S) -> Result<Vec<u8>, Ending>
+    ensures whole { IfOk result (λ v. IfSome (S.left source.old) (λ text. (v.items ≡ text) × (S.left source.new ≡ Some []))) }
+    ensures fits { IfOk result (λ v. length v.items ≤ 16777216) }
+    ensures early { IfErr result IsEarly }
+    ensures source_fault { IfErr result (λ e. status_of e ≡ 3 → Rose (S.faults source.old) (S.faults source.new)) }
+    ensures too_long { IfErr result (λ e. status_of e ≡ 1 → IfSome (S.left source.old) (λ text. IsRefused Command.Replay text (line_of e))) }
+    ensures no_numbers { IfErr result (λ e. status_of e ≢ 7) }
+{
+    match read_to_end(alloc, source, MOST_OCTETS) {
+        Ok(octets) => Ok(octets),
+        Err(ReadFault::Failed) => Err(Ending::Silent(SOURCE_FAULT)),
+        Err(ReadFault::TooLong) => Err(says(alloc, REFUSED, "input too long\n")),
+        Err(ReadFault::NoMemory) => Err(Ending::Silent(NO_MEMORY)),
+    }
+}
+
+/// The script that a text is.
+fn script_of(alloc: Global, text: &[u8]) -> Result<Script, Ending>
+    ensures script { IfOk result (λ script. IsScript false text.now script) }
+    ensures uncut { IfOk result (λ script. NoneIsTruncated (first_lane script.lanes)) }
+    ensures early { IfErr result IsEarly }
+    ensures refused { IfErr result (λ e. length text.now ≤ 16777216 → status_of e ≡ 1 → IsRefused Command.Replay text.now (line_of e)) }
+    ensures no_fault { IfErr result (λ e. (status_of e ≢ 3) × (status_of e ≢ 7)) }
+{
+    script_laws();
+    match read_script(alloc, text, false) {
+        Ok(script) => Ok(script),
+        Err(ScriptFault::Line(line)) => Err(refused_line(alloc, line)),
+        Err(ScriptFault::NoMemory) => Err(Ending::Silent(NO_MEMORY)),
+    }
+}
+
+/// The events of the first lane.
+fn first_lane(lanes: &Lanes) -> &[Event]
+    ensures { result.now ≡ first_lane lanes.now }
+{
+    match lanes.as_slice() {
+        [] => &[],
+        [events, ..] => events.as_slice(),
+    }
+}
+
+/// The trace of a script with one lane.
+fn trace_of(alloc: Global, script: Script) -> Result<Trace, Ending>
+    ensures plain { IfOk result (λ t. rows_of script ≡ Some t.rows) }
+    ensures right { IfOk result (λ t. NoneIsTruncated (first_lane script.lanes) → Right (conf_of script.conf) t.rows) }
+    ensures timely { IfOk result (λ t. NoneIsTruncated (first_lane script.lanes) → Timely (conf_of script.conf) t.rows) }
+    ensures early { IfErr result IsEarly }
+    ensures numbers { IfErr result (λ e. status_of e ≡ 7 → rows_of script ≡ None) }
+    ensures numbers_line { IfErr result (λ e. status_of e ≡ 7 → line_of e ≡ numbers_line) }
+    ensures no_fault { IfErr result (λ e. (status_of e ≢ 3) × (status_of e ≢ 1)) }
+{
+    let Script {
+        conf,
+        redundant,
+        cache,
+        words,
+        lanes,
+    } = script;
+    let mut words = ListWords::new(words);
+    match Client::replay(
+        alloc,
+        &conf,
+        redundant,
+        cache,
+        &mut words,
+        first_lane(&lanes),
+    ) {
+        Ok(trace) => Ok(trace),
+        Err(Error::NumbersUsed) => Err(says(alloc, NUMBERS_USED, "numbers used\n")),
+        Err(_) => Err(Ending::Silent(NO_MEMORY)),
+    }
+}
+
+/// The text of the trace of the script that a source gives.
+#[tactic(auto, using(crate::proofs::Refusals::told_refusal))]
+pub fn replay<S: Source>(alloc: Global, source: &mut S) -> Result<Vec<u8>, Ending>
+    ensures done { IfOk result (λ v. IfSome (S.left source.old) (λ text. IsReplayed text v.items × (S.left source.new ≡ Some []))) }
+    ensures early { IfErr result IsEarly }
+    ensures source_fault { IfErr result (λ e. status_of e ≡ 3 → Rose (S.faults source.old) (S.faults source.new)) }
+    ensures refused { IfErr result (λ e. status_of e ≡ 1 → IfSome (S.left source.old) (λ text. IsRefused Command.Replay text (line_of e))) }
+    ensures numbers { IfErr result (λ e. status_of e ≡ 7 → IfSome (S.left source.old) (λ text. StopsForNumbers Command.Replay text)) }
+    ensures numbers_line { IfErr result (λ e. status_of e ≡ 7 → line_of e ≡ numbers_line) }
+{
+    let text = input(alloc, source)?;
+    let script = match script_of(alloc, &text) {
+        Ok(script) => script,
+        Err(ending) => return Err(ending),
+    };
+    let trace = trace_of(alloc, script)?;
+    Ok(trace_text(alloc, &trace)?)
+}

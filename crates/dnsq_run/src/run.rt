@@ -1,0 +1,131 @@
+//! What the program does, over a source, a sink and the rest of its world.
+
+ghost use Rattle.std.specs.Prelude.{◌≡◌, ◌≢◌, ◌⊎◌, [], Some, None, IfSome, IfOk, IfErr, OnOk};
+ghost use Rattle.dns_values.specs.Source.{Rose};
+ghost use Rattle.dns_values.specs.Sink.{IsFlushed, with_octets};
+ghost use Rattle.dnsq_run.specs.Program.{EndsByLine, IfInput, IsOutput, IsRefused, IsTaken, RanOut, RefusalIsSaid, StopsForNumbers, IsDelivered, IsBegun, IsSaid, IsCut, IsStatus, IsEarly, status_of, line_of, numbers_line, usage_line};
+ghost use Rattle.dnsq_run.specs.Words.{command_of};
+
+use crate::configure::configure;
+use crate::ending::Ending;
+use crate::laws::input_laws;
+use crate::replay::replay;
+use crate::statuses::{DONE, NO_MEMORY, SINK_FAULT, USAGE};
+use crate::usage::{Command, USAGE_LINE, command_of};
+use client_core::{Clock, Edge};
+use client_request::Words;
+use dns_base::{NoMemory, Status};
+use dns_values::{Sink, SinkFault, Source, write_all};
+use std::alloc::Global;
+
+/// Writes an output whole, and hands it on.
+#[tactic(auto, using(crate::proofs::Delivery::begun_whole, crate::proofs::Delivery::begun_front))]
+fn deliver<K: Sink>(sink: &mut K, text: &[u8]) -> Status
+    ensures done { result.0 ≡ 0 → K.held sink.new ≡ with_octets text.now (K.held sink.old) }
+    ensures flushed { result.0 ≡ 0 → IsFlushed (K.held sink.new) (K.flushed sink.new) }
+    ensures begun { IsBegun text.now (K.held sink.old) (K.held sink.new) }
+    ensures sink_fault { result.0 ≡ 4 → Rose (K.faults sink.old) (K.faults sink.new) }
+    ensures others { (result.0 ≡ 0) ⊎ ((result.0 ≡ 4) ⊎ (result.0 ≡ 6)) }
+{
+    match write_all(sink, text) {
+        Ok(()) => match sink.flush() {
+            Ok(()) => DONE,
+            Err(_) => SINK_FAULT,
+        },
+        Err(SinkFault::Failed) => SINK_FAULT,
+        Err(SinkFault::NoMemory) => NO_MEMORY,
+    }
+}
+
+/// Writes a line and hands it on, as far as the sink takes it. `NoMemory` where the sink found none.
+#[tactic(auto, using(crate::proofs::Delivery::begun_whole, crate::proofs::Delivery::begun_front, crate::proofs::Delivery::said_whole, crate::proofs::Delivery::said_front))]
+fn say<K: Sink>(sink: &mut K, line: &[u8]) -> Result<(), NoMemory>
+    ensures begun { IsBegun line.now (K.held sink.old) (K.held sink.new) }
+    ensures said { OnOk result (IsSaid line.now (K.held sink.old) (K.held sink.new) (K.faults sink.old) (K.faults sink.new)) }
+    ensures flushed { OnOk result (IsFlushed (K.held sink.new) (K.flushed sink.new) ⊎ Rose (K.faults sink.old) (K.faults sink.new)) }
+{
+    match write_all(sink, line) {
+        Ok(()) => {
+            // A fault of the sink is told by its count alone.
+            let _ = sink.flush();
+            Ok(())
+        }
+        Err(SinkFault::Failed) => Ok(()),
+        Err(SinkFault::NoMemory) => Err(NoMemory),
+    }
+}
+
+/// What a command makes of its input.
+fn output<S: Source>(alloc: Global, command: Command, source: &mut S) -> Result<Vec<u8>, Ending>
+    ensures done { IfOk result (λ v. IfSome (S.left source.old) (λ text. IsOutput command text v.items × (S.left source.new ≡ Some []))) }
+    ensures early { IfErr result IsEarly }
+    ensures source_fault { IfErr result (λ e. status_of e ≡ 3 → Rose (S.faults source.old) (S.faults source.new)) }
+    ensures refused { IfErr result (λ e. status_of e ≡ 1 → IfSome (S.left source.old) (λ text. IsRefused command text (line_of e))) }
+    ensures numbers { IfErr result (λ e. status_of e ≡ 7 → IfSome (S.left source.old) (λ text. StopsForNumbers command text)) }
+    ensures numbers_line { IfErr result (λ e. status_of e ≡ 7 → line_of e ≡ numbers_line) }
+{
+    match command {
+        Command::Replay => replay(alloc, source),
+        Command::Conf => configure(alloc, source),
+    }
+}
+
+/// Does what the words ask for, on a source and a sink, and answers the exit status.
+///
+/// `edge`, `clock` and `random` serve the commands that ask real servers.
+pub fn run_alone<S: Source, K: Sink, E: Edge, C: Clock, W: Words>(
+    alloc: Global,
+    words: &[String],
+    source: &mut S,
+    sink: &mut K,
+    _edge: &mut E,
+    _clock: &mut C,
+    _random: &mut W,
+) -> Status
+    ensures statuses { IsStatus result.0 }
+    ensures usage { result.0 ≡ 2 → command_of words.now ≡ None }
+    ensures no_command { command_of words.now ≡ None → (result.0 ≡ 2) ⊎ (result.0 ≡ 6) }
+    ensures usage_line { result.0 ≡ 2 → IsSaid usage_line (K.held sink.old) (K.held sink.new) (K.faults sink.old) (K.faults sink.new) }
+
+    // The output.
+    ensures done { result.0 ≡ 0 → IfInput (command_of words.now) (S.left source.old) (λ command text.
+        IsDelivered command text (K.held sink.old) (K.held sink.new) × (S.left source.new ≡ Some [])) }
+    ensures flushed { result.0 ≡ 0 → IsFlushed (K.held sink.new) (K.flushed sink.new) }
+
+    // A refusal.
+    ensures refused { result.0 ≡ 1 → IfInput (command_of words.now) (S.left source.old) (λ command text.
+        RefusalIsSaid command text (K.held sink.old) (K.held sink.new) (K.faults sink.old) (K.faults sink.new)) }
+    ensures complete { IfInput (command_of words.now) (S.left source.old) (λ command text. IsTaken command text → result.0 ≢ 1) }
+
+    // Faults.
+    ensures source_fault { result.0 ≡ 3 → Rose (S.faults source.old) (S.faults source.new) }
+    ensures silent { result.0 ≡ 3 → K.held sink.new ≡ K.held sink.old }
+    ensures sink_fault { result.0 ≡ 4 → Rose (K.faults sink.old) (K.faults sink.new) }
+    ensures cut { result.0 ≡ 4 → IfInput (command_of words.now) (S.left source.old) (λ command text.
+        IsCut command text (K.held sink.old) (K.held sink.new)) }
+
+    // Memory and numbers.
+    ensures memory { result.0 ≡ 6 → RanOut (command_of words.now) (S.left source.old) (K.held sink.old) (K.held sink.new) }
+    ensures numbers { result.0 ≡ 7 → IfInput (command_of words.now) (S.left source.old) (λ command text. StopsForNumbers command text) }
+    ensures numbers_line { result.0 ≡ 7 → IsSaid numbers_line (K.held sink.old) (K.held sink.new) (K.faults sink.old) (K.faults sink.new) }
+    ensures stops { IfInput (command_of words.now) (S.left source.old) (λ command text. StopsForNumbers command text → result.0 ≢ 0) }
+
+    // A line that tells why nothing else is written is handed on too.
+    ensures line_flushed { EndsByLine result.0 → IsFlushed (K.held sink.new) (K.flushed sink.new) ⊎ Rose (K.faults sink.old) (K.faults sink.new) }
+{
+    let Some(command) = command_of(words) else {
+        return match say(sink, USAGE_LINE.as_bytes()) {
+            Ok(()) => USAGE,
+            Err(NoMemory) => NO_MEMORY,
+        };
+    };
+    input_laws();
+    match output(alloc, command, source) {
+        Ok(text) => deliver(sink, &text),
+        Err(Ending::Silent(status)) => status,
+        Err(Ending::Says(status, line)) => match say(sink, &line) {
+            Ok(()) => status,
+            Err(NoMemory) => NO_MEMORY,
+        },
+    }
+}

@@ -1,0 +1,27 @@
+//! The words of the command line.
+
+ghost use Rattle.std.specs.Prelude.{◌≡◌};
+ghost use Rattle.dnsq_run.specs.Words.{command_of};
+
+/// What the words ask for.
+#[derive(Clone, Copy, Debug, PartialEq, Eq)]
+pub enum Command {
+    /// Replays a script.
+    Replay,
+    /// Reads a configuration, finalizes it and prints it.
+    Conf,
+}
+
+/// What is written where the words are no command.
+pub const USAGE_LINE: &str = "usage: dnsq replay|conf|gen N|many|query NAME TYPE [--port P]\n";
+
+/// The command of the words, which do not hold the program's own name.
+pub fn command_of(words: &[String]) -> Option<Command>
+    ensures { result ≡ command_of words.now }
+{
+    match words {
+        [word] if word.as_bytes() == b"replay".as_slice() => Some(Command::Replay),
+        [word] if word.as_bytes() == b"conf".as_slice() => Some(Command::Conf),
+        _ => None,
+    }
+}

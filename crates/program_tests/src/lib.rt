@@ -1,0 +1,11 @@
+//! Tests of what the program `dnsq` does, over sources and sinks in memory.
+#![tactic(auto)]
+
+#[cfg(test)]
+mod replays;
+#[cfg(test)]
+mod runs;
+#[cfg(test)]
+mod sinks;
+#[cfg(test)]
+mod statuses;
