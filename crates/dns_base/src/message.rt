@@ -14,7 +14,7 @@ use std::alloc::Global;
 use std::marker::Model;
 
 /// A message: twelve octets at least.
-#[derive(Drop)]
+#[derive(Debug, Drop)]
 pub struct Message {
     octets: Octets,
 }
