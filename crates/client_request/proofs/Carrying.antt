@@ -10,7 +10,6 @@ use Rattle.dns_values.specs.declared.numbers.Section.{Section}
 use Rattle.dns_values.specs.declared.numbers.Section.TheVariants.{Answer, Authority, Additional}
 use Rattle.dns_base.specs.declared.push_error.PushError.{PushError}
 use Rattle.dns_base.specs.Numbers.{u16_at}
-use Rattle.dns_base.specs.Data.{data_spelling}
 use Rattle.dns_base.specs.Message.{Asked, Known, Written, reads, item_then, items_at, items_behind, all_read, question_at, record_at, questions_of, answer_of, authority_of, answer_items, authority_items, additional_items}
 use Rattle.dns_base.specs.Answering.{question_items}
 use Rattle.dns_base.specs.Sections.{HasNoRecords, HasNoneAfter, entries_in}
@@ -206,7 +205,6 @@ section_holds section base d e c octets order h is =
     record { records = sent.records; read = records_read section base found.0 sent.records found.1 sent.read; order = sent.order; holds = sent.holds }
 
 opt_writable : (opt : OptFields) → IsOpt opt → IsWritable (opt_written opt)
-unfolding data_spelling
 opt_writable opt h = record {
   owner = (tt, omega arith);
   rtype = omega arith;

@@ -10,7 +10,7 @@ use Rattle.dns_names.specs.Name.{Labels, name_at, IsLegal}
 use Rattle.dns_names.proofs.Heads.{then_ok, chosen, none_some}
 use Rattle.dns_names.proofs.NameLaws.{read_legal}
 use Rattle.dns_base.specs.Numbers.{u16_at, u32_at, ◌>>=◌}
-use Rattle.dns_base.specs.Data.{Data, A, Aaaa, One, is_one_name, is_of_type, are_strings, are_options, octets_to, name_to, srv_with, data_at, data_spelling}
+use Rattle.dns_base.specs.Data.{Data, A, Aaaa, One, is_one_name, is_of_type, are_strings, are_options, octets_to, name_to, srv_with, data_at, data_size}
 use Rattle.dns_base.specs.Message.{Asked, Entry, Known, question_at, record_at}
 use Rattle.dns_base.specs.Holding.{IsAskable, IsWritable, IsWritableData}
 use Rattle.dns_base.proofs.ReadData.{data_fits}
@@ -120,12 +120,11 @@ question_askable octets at end q h e =
 -- data of a type that a record has room for
 record IsFitting (rtype : ℕ) (content : Data) : Type 0 where
   pub typed : is_of_type rtype content ≡ true
-  pub short : length (data_spelling content) < 65536
+  pub short : data_size content < 65536
 
 -- the content of a record that is read
 content_fits : (rtype : ℕ) (octets : List ℕ) (at end : ℕ) (entry : Entry) (o : Option Data) → AreOctets octets → end ≤ length octets → end < at + 65536
     → entry.octets ≡ slice_range octets at end → data_at rtype octets at end ≡ o → IsFitting rtype (content_of entry o) × IsWritableData (content_of entry o)
-unfolding data_spelling
 content_fits rtype octets at end entry None h within few e is =
     (record { typed = refl; short = rw e (omega (arith, length-between octets at end within)) }, tt)
 content_fits rtype octets at end entry (Some d) h within few e is =

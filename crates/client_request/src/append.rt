@@ -46,7 +46,6 @@ fn opt_ttl(opt: &OptRecord<'_>) -> Ttl
 }
 
 /// Adds an OPT record to the additional section (RFC 6891 6.1.1).
-#[tactic(auto, unfolding(dns_base::specs::Data::data_spelling))]
 fn add_opt(
     alloc: Global,
     opt: Option<OptRecord<'_>>,

@@ -2,7 +2,7 @@
 
 ghost use Rattle.std.specs.Prelude.{◌≡◌, ◌<◌, IsTrue, length};
 ghost use Rattle.dns_base.specs.Sections.{HasNoRecords, HasNoneAfter};
-ghost use Rattle.dns_base.specs.Data.{is_of_type, data_spelling};
+ghost use Rattle.dns_base.specs.Data.{is_of_type, data_size};
 ghost use Rattle.dns_base.specs.RecordData.{data_view};
 ghost use Rattle.dns_base.specs.Draft.{counts_in, cleared};
 ghost use Rattle.client_request.specs.Composed.{content_of, asks, adds, copies, each, written_from, is_replaced, IsCopied};
@@ -39,11 +39,10 @@ pub(crate) fn copy_questions(
 }
 
 /// The data of a record as its type reads it, else its octets.
-#[tactic(auto, unfolding(dns_base::specs::Data::data_spelling))]
 fn copied_data<'a>(source: &Record<'a>) -> RecordData<'a>
     ensures value { data_view result ≡ content_of source.now.entry source.now.says }
     ensures typed { IsTrue (is_of_type source.now.entry.rtype (data_view result)) }
-    ensures short { length (data_spelling (data_view result)) < 65536 }
+    ensures short { data_size (data_view result) < 65536 }
 {
     match source.data() {
         Ok(content) => content,

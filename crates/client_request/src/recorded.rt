@@ -120,7 +120,6 @@ fn opt_or_empty(alloc: Global, opt: Option<RecordedOpt>) -> RecordedOpt
 }
 
 /// A message without entries, which may grow as long as it needs to.
-#[tactic(auto, unfolding(dns_base::specs::Draft::fresh, dns_base::specs::Draft::cleared))]
 fn empty_message(alloc: Global) -> Result<Builder, NoMemory>
     ensures fresh { IfOk result (λ b. b ≡ fresh None) }
     ensures empty { IfOk result HoldsNothing }

@@ -7,7 +7,7 @@ use Rattle.std.proofs.lemmas.Bool.{le-leb}
 use Rattle.std.proofs.lemmas.List.{length-take-le, length-drop, drop-append-le}
 use Rattle.dns_names.specs.Name.{name_at, IsLegal}
 use Rattle.dns_base.specs.Numbers.{u16_at, u32_at}
-use Rattle.dns_base.specs.Data.{data_at, data_spelling}
+use Rattle.dns_base.specs.Data.{data_at, data_size}
 use Rattle.dns_base.specs.Message.{Asked, Written, Entry, Known, question_at, record_at}
 use Rattle.dns_base.specs.Knowing.{lowered_asked}
 use Rattle.dns_base.specs.Holding.{IsAskable, IsWritable, AskedReadsAs, ReadsAs, IsPlace, ArePlaces}
@@ -168,7 +168,7 @@ record_back w n c o long h places s =
     let at' : length fields.octets + 2 ≡ length base.octets = sym (appended_long (to_be_bytes w16 0) fields) in
     let last : ℕ = length now.octets in
     let behind = data_behind w.content fields in
-    let few : last ≤ length base.octets + length (data_spelling w.content) = data_at_most w.content base in
+    let few : last ≤ length base.octets + data_size w.content = data_at_most w.content base in
     let counted_few : count_behind (length fields.octets) now.octets < 65536 = omega (arith, h.short) in
     let there : Stands o (f.end + 8) (to_be_bytes w16 (count_behind (length fields.octets) now.octets)) = subst (λ k. Stands o k (to_be_bytes w16 (count_behind (length fields.octets) now.octets))) f.long shows.count in
     let count = number_stands o (count_behind (length fields.octets) now.octets) (f.end + 8) there counted_few in

@@ -13,7 +13,7 @@ use Rattle.dns_base.specs.Message.{Known}
 use Rattle.dns_base.specs.Knowing.{lowered_data}
 use Rattle.dns_base.specs.DataReading.{DataReadsAs}
 use Rattle.dns_base.specs.Numbers.{u16_at, u32_at, ◌>>=◌}
-use Rattle.dns_base.specs.Data.{Data, A, Aaaa, One, Minfo, Mx, StartOfAuthority, Service, Txt, Opt, Other, Soa, Srv, srv_with, whole, is_one_name, is_of_type, are_strings, are_options, name_to, octets_to, minfo_to, mx_to, soa_to, srv_to, data_at, data_spelling}
+use Rattle.dns_base.specs.Data.{Data, A, Aaaa, One, Minfo, Mx, StartOfAuthority, Service, Txt, Opt, Other, Soa, Srv, srv_with, whole, is_one_name, is_of_type, are_strings, are_options, name_to, octets_to, minfo_to, mx_to, soa_to, srv_to, data_at, data_size}
 
 -- Data that is kept as octets is all the octets.
 abbrev IsAll : List ℕ → Data → Type 0
@@ -24,7 +24,7 @@ IsAll octets _ = Unit {0}
 
 pub record Fits (rtype : ℕ) (octets : List ℕ) (d : Data) : Type 0 where
   pub typed : is_of_type rtype d ≡ true
-  pub short : length (data_spelling d) < 65536
+  pub short : data_size d < 65536
   pub all : IsAll octets d
 
 some_inside : {A B : Type 0} → (f : A → B) (o : Option A) (d : B) → option_map f o ≡ Some d → (x : A) × (o ≡ Some x) × (f x ≡ d)
@@ -34,7 +34,7 @@ some_inside f (Some x) d e = (x, refl, cc)
 range_short : (octets : List ℕ) (at end : ℕ) → end < at + 65536 → length (slice_range octets at end) < 65536
 range_short octets at end h = omega (arith, length-take (end - at) (drop at octets))
 
-name_short : (octets : List ℕ) (at end : ℕ) (name : Labels) → name_to octets at end ≡ Some name → length (spelling name) ≤ 255
+name_short : (octets : List ℕ) (at end : ℕ) (name : Labels) → name_to octets at end ≡ Some name → octet_count name ≤ 255
 name_short octets at end name e =
     let found = then_ok (name_at octets at) _ name e in
     elim (chosen (found.0.end == end) (Some found.0.labels) None (Some name) found.2) [
@@ -42,92 +42,73 @@ name_short octets at end name e =
           let legal = read_legal octets at found.0 found.1 in
           let its = p.1 in
           let same : found.0.labels ≡ name = cc in
-          let P : Labels → Type 0 = λ n. length (spelling n) ≤ 255 in
-          subst P same (omega (arith, spelled_length found.0.labels, legal.1))
+          let P : Labels → Type 0 = λ n. octet_count n ≤ 255 in
+          subst P same legal.1
       | inr p ↦ none_some p.1
     ]
 
-found_short : (octets : List ℕ) (at : ℕ) (f : Found) → name_at octets at ≡ Some f → length (spelling f.labels) ≤ 255
-found_short octets at f e = let legal = read_legal octets at f e in omega (arith, spelled_length f.labels, legal.1)
+found_short : (octets : List ℕ) (at : ℕ) (f : Found) → name_at octets at ≡ Some f → octet_count f.labels ≤ 255
+found_short octets at f e = (read_legal octets at f e).1
 
 is_it : (a b : Bool) → a ≡ true → b ≡ true → (a && b) ≡ true
 is_it true b p q = q
 is_it false b p q = absurd (cc)
 
-octets_fit : (make : List ℕ → Data) → ((xs : List ℕ) → data_spelling (make xs) ≡ xs) → (rtype count : ℕ) (octets : List ℕ) (at end : ℕ) (d : Data) → end < at + 65536
+octets_fit : (make : List ℕ → Data) → ((xs : List ℕ) → data_size (make xs) ≡ length xs) → (rtype count : ℕ) (octets : List ℕ) (at end : ℕ) (d : Data) → end < at + 65536
     → ((xs : List ℕ) → is_of_type rtype (make xs) ≡ true) → ((xs : List ℕ) → IsAll xs (make xs)) → option_map make (octets_to count octets at end) ≡ Some d → Fits rtype (slice_range octets at end) d
-octets_fit make spelled rtype count octets at end d h t all e =
+octets_fit make sized rtype count octets at end d h t all e =
     let x = some_inside make (octets_to count octets at end) d e in
     elim (chosen (at + count == end) (Some (slice_range octets at end)) None (Some x.0) x.1) [
       | inl p ↦
           let its = p.1 in
           let same : slice_range octets at end ≡ x.0 = cc in
-          let long : length (data_spelling (make x.0)) ≡ length (slice_range octets at end) = ap length (spelled x.0) ∙ ap length (sym same) in
+          let long : data_size (make x.0) ≡ length (slice_range octets at end) = sized x.0 ∙ ap length (sym same) in
           subst (Fits rtype (slice_range octets at end)) x.2 (subst (λ y. Fits rtype y (make x.0)) (sym same) (record { typed = t x.0; short = omega (arith, long, range_short octets at end h); all = all x.0 }))
       | inr p ↦ none_some p.1
     ]
 
-whole_fits : (is_whole : List ℕ → Bool) (make : List ℕ → Data) → ((xs : List ℕ) → data_spelling (make xs) ≡ xs) → (rtype : ℕ) (octets : List ℕ) (at end : ℕ) (d : Data) → end < at + 65536
+whole_fits : (is_whole : List ℕ → Bool) (make : List ℕ → Data) → ((xs : List ℕ) → data_size (make xs) ≡ length xs) → (rtype : ℕ) (octets : List ℕ) (at end : ℕ) (d : Data) → end < at + 65536
     → ((xs : List ℕ) → is_of_type rtype (make xs) ≡ true) → ((xs : List ℕ) → IsAll xs (make xs)) → whole is_whole make (slice_range octets at end) ≡ Some d → Fits rtype (slice_range octets at end) d
-whole_fits is_whole make spelled rtype octets at end d h t all e =
+whole_fits is_whole make sized rtype octets at end d h t all e =
     elim (chosen (is_whole (slice_range octets at end)) (Some (make (slice_range octets at end))) None (Some d) e) [
       | inl p ↦
           let its = p.1 in
           let same : make (slice_range octets at end) ≡ d = cc in
-          let long : length (data_spelling (make (slice_range octets at end))) ≡ length (slice_range octets at end) = ap length (spelled (slice_range octets at end)) in
+          let long : data_size (make (slice_range octets at end)) ≡ length (slice_range octets at end) = sized (slice_range octets at end) in
           subst (Fits rtype (slice_range octets at end)) same (record { typed = t (slice_range octets at end); short = omega (arith, long, range_short octets at end h); all = all (slice_range octets at end) })
       | inr p ↦ none_some p.1
     ]
 
 one_fits : (rtype : ℕ) (octets : List ℕ) (at end : ℕ) (d : Data) → is_one_name rtype ≡ true → option_map (One rtype) (name_to octets at end) ≡ Some d → Fits rtype (slice_range octets at end) d
-unfolding data_spelling
 one_fits rtype octets at end d t e =
     let x = some_inside (One rtype) (name_to octets at end) d e in
     subst (Fits rtype (slice_range octets at end)) x.2 (record { typed = is_it (is_one_name rtype) (rtype == rtype) t (eq-eqb rtype rtype refl); short = omega (arith, name_short octets at end x.0 x.1); all = tt })
 
 minfo_fits : (rtype : ℕ) (octets : List ℕ) (at end : ℕ) (d : Data) → (rtype == 14) ≡ true → minfo_to octets at end ≡ Some d → Fits rtype (slice_range octets at end) d
-unfolding data_spelling
 minfo_fits rtype octets at end d t e =
     let first = then_ok (name_at octets at) _ d e in
     let second = then_ok (name_to octets first.0.end end) _ d first.2 in
     let its = second.2 in
     let same : Minfo first.0.labels second.0 ≡ d = cc in
-    let long = length-append (spelling first.0.labels) (spelling second.0) in
-    subst (Fits rtype (slice_range octets at end)) same (record { typed = t; short = omega (arith, long, found_short octets at first.0 first.1, name_short octets first.0.end end second.0 second.1); all = tt })
+    subst (Fits rtype (slice_range octets at end)) same (record { typed = t; short = omega (arith, found_short octets at first.0 first.1, name_short octets first.0.end end second.0 second.1); all = tt })
 
 mx_fits : (rtype : ℕ) (octets : List ℕ) (at end : ℕ) (d : Data) → (rtype == 15) ≡ true → mx_to octets at end ≡ Some d → Fits rtype (slice_range octets at end) d
-unfolding data_spelling
 mx_fits rtype octets at end d t e =
     elim (chosen (nat_le (at + 2) end) (option_map (Mx (u16_at octets at)) (name_to octets (at + 2) end)) None (Some d) e) [
       | inl p ↦
           let x = some_inside (Mx (u16_at octets at)) (name_to octets (at + 2) end) d p.1 in
-          let long = length-append (to_be_bytes w16 (u16_at octets at)) (spelling x.0) in
-          subst (Fits rtype (slice_range octets at end)) x.2 (record { typed = t; short = omega (arith, long, name_short octets (at + 2) end x.0 x.1); all = tt })
+          subst (Fits rtype (slice_range octets at end)) x.2 (record { typed = t; short = omega (arith, name_short octets (at + 2) end x.0 x.1); all = tt })
       | inr p ↦ none_some p.1
     ]
 
 srv_fits : (rtype : ℕ) (octets : List ℕ) (at end : ℕ) (d : Data) → (rtype == 33) ≡ true → srv_to octets at end ≡ Some d → Fits rtype (slice_range octets at end) d
-unfolding data_spelling
 srv_fits rtype octets at end d t e =
     elim (chosen (nat_le (at + 6) end) (option_map (srv_with octets at) (name_to octets (at + 6) end)) None (Some d) e) [
       | inl p ↦
           let x = some_inside (srv_with octets at) (name_to octets (at + 6) end) d p.1 in
-          let long = length-append (to_be_bytes w16 (u16_at octets at) ++ to_be_bytes w16 (u16_at octets (at + 2)) ++ to_be_bytes w16 (u16_at octets (at + 4))) (spelling x.0) in
-          subst (Fits rtype (slice_range octets at end)) x.2 (record { typed = t; short = omega (arith, long, name_short octets (at + 6) end x.0 x.1); all = tt })
+          subst (Fits rtype (slice_range octets at end)) x.2 (record { typed = t; short = omega (arith, name_short octets (at + 6) end x.0 x.1); all = tt })
       | inr p ↦ none_some p.1
     ]
-
-soa_long : (soa : Soa) → length (data_spelling (StartOfAuthority soa)) ≡ length (spelling soa.mname) + length (spelling soa.rname) + 20
-unfolding data_spelling
-soa_long soa =
-    let M : List ℕ = spelling soa.mname in
-    let R : List ℕ = spelling soa.rname in
-    let S : List ℕ = to_be_bytes w32 soa.serial in
-    let F : List ℕ = to_be_bytes w32 soa.refresh in
-    let T : List ℕ = to_be_bytes w32 soa.retry in
-    let X : List ℕ = to_be_bytes w32 soa.expire in
-    let N : List ℕ = to_be_bytes w32 soa.minimum in
-    omega (arith, length-append (M ++ R ++ S ++ F ++ T ++ X) N, length-append (M ++ R ++ S ++ F ++ T) X, length-append (M ++ R ++ S ++ F) T, length-append (M ++ R ++ S) F, length-append (M ++ R) S, length-append M R)
 
 soa_fits : (rtype : ℕ) (octets : List ℕ) (at end : ℕ) (d : Data) → (rtype == 6) ≡ true → soa_to octets at end ≡ Some d → Fits rtype (slice_range octets at end) d
 soa_fits rtype octets at end d t e =
@@ -146,7 +127,7 @@ soa_fits rtype octets at end d t e =
       | inl p ↦
           let its = p.1 in
           let same : StartOfAuthority soa ≡ d = cc in
-          subst (Fits rtype (slice_range octets at end)) same (record { typed = t; short = omega (arith, soa_long soa, found_short octets at mname.0 mname.1, found_short octets mname.0.end rname.0 rname.1); all = tt })
+          subst (Fits rtype (slice_range octets at end)) same (record { typed = t; short = omega (arith, found_short octets at mname.0 mname.1, found_short octets mname.0.end rname.0 rname.1); all = tt })
       | inr p ↦ none_some p.1
     ]
 
@@ -155,7 +136,7 @@ step P d true x y f g e = f refl e
 step P d false x y f g e = g e
 
 pub data_fits : (rtype : ℕ) (octets : List ℕ) (at end : ℕ) (d : Data) → end < at + 65536 → data_at rtype octets at end ≡ Some d → Fits rtype (slice_range octets at end) d
-unfolding data_at data_spelling
+unfolding data_at
 data_fits rtype octets at end d h e =
     let P : Type 0 = Fits rtype (slice_range octets at end) d in
     step P d (rtype == 1) _ _ (λ t e. octets_fit A (λ _. refl) rtype 4 octets at end d h (λ _. t) (λ _. tt) e)
@@ -176,7 +157,7 @@ typed_if_read (Ok d) rtype octets at end h m = (data_fits rtype octets at end (d
 typed_if_read (Err e) rtype octets at end h m = tt
 
 pub short_if_read : (r : Result RecordData ParseError) (rtype : ℕ) (octets : List ℕ) (at end : ℕ) → end < at + 65536
-    → MatchResult r (λ d. data_at rtype octets at end ≡ Some (data_view d)) (λ _. data_at rtype octets at end ≡ None) → IfOk r (λ d. length (data_spelling (data_view d)) < 65536)
+    → MatchResult r (λ d. data_at rtype octets at end ≡ Some (data_view d)) (λ _. data_at rtype octets at end ≡ None) → IfOk r (λ d. data_size (data_view d) < 65536)
 short_if_read (Ok d) rtype octets at end h m = (data_fits rtype octets at end (data_view d) h m).short
 short_if_read (Err e) rtype octets at end h m = tt
 

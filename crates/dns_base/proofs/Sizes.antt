@@ -7,9 +7,9 @@ use Rattle.std.specs.Prelude.{Option, Some, None, ◌==◌, if◌then◌else◌}
 use Rattle.std.specs.Int.{w16, w32, to_be_bytes}
 use Rattle.dns_names.specs.Name.{Labels, octet_count, spelling}
 use Rattle.dns_names.proofs.NameLaws.{spelled_length}
-use Rattle.dns_base.specs.Data.{Data, A, Aaaa, One, Minfo, Mx, StartOfAuthority, Service, Txt, Opt, Other, data_spelling}
+use Rattle.dns_base.specs.Data.{Data, A, Aaaa, One, Minfo, Mx, StartOfAuthority, Service, Txt, Opt, Other, Srv, data_spelling, data_size}
 use Rattle.dns_base.specs.Message.{Asked, Written}
-use Rattle.dns_base.specs.Compression.{Compressed, found_at, pointer_or, name_octets, name_places, with_name, with_u16, with_octets, with_data, with_numbers, with_fields, with_question, with_counted_data, with_record, counted, count_behind, Begins, Continues}
+use Rattle.dns_base.specs.Compression.{Compressed, found_at, pointer_or, name_octets, name_places, with_name, with_u16, with_u32, with_octets, with_data, with_numbers, with_fields, with_question, with_counted_data, with_record, counted, count_behind, Begins, Continues}
 use Rattle.dns_base.specs.Draft.{Draft, IsWithin, cleared, question_size, record_size}
 
 -- a pointer is no longer than a label and the root
@@ -34,18 +34,25 @@ pub appended_long : (octets : List ℕ) (c : Compressed) → length (with_octets
 unfolding with_octets
 appended_long octets c = length-append c.octets octets
 
-one_at_most : (b : Bool) (name : Labels) (c : Compressed) → length (if b then with_octets (spelling name) c else with_name name c).octets ≤ length c.octets + length (spelling name)
-one_at_most true name c = omega (arith, appended_long (spelling name) c)
-one_at_most false name c = omega (arith, named_at_most name c, spelled_length name)
+one_at_most : (b : Bool) (name : Labels) (c : Compressed) → length (if b then with_octets (spelling name) c else with_name name c).octets ≤ length c.octets + octet_count name
+one_at_most true name c = omega (arith, appended_long (spelling name) c, spelled_length name)
+one_at_most false name c = named_at_most name c
 
-pub data_at_most : (content : Data) (c : Compressed) → length (with_data content c).octets ≤ length c.octets + length (data_spelling content)
-unfolding with_data data_spelling with_numbers
-data_at_most (One rtype name) c = one_at_most (rtype == 39) name c
-data_at_most (Minfo first second) c =
-    omega (arith, named_at_most first c, named_at_most second (with_name first c), spelled_length first, spelled_length second, length-append (spelling first) (spelling second))
-data_at_most (Mx preference name) c =
-    omega (arith, appended_long (to_be_bytes w16 preference) c, named_at_most name (with_octets (to_be_bytes w16 preference) c), spelled_length name, length-append (to_be_bytes w16 preference) (spelling name))
-data_at_most (StartOfAuthority soa) c =
+srv_long : (srv : Srv) → length (data_spelling (Service srv)) ≡ 6 + octet_count srv.target
+unfolding data_spelling
+srv_long srv =
+    let P : List ℕ = to_be_bytes w16 srv.priority ++ to_be_bytes w16 srv.weight ++ to_be_bytes w16 srv.port in
+    omega (arith, length-append P (spelling srv.target), spelled_length srv.target)
+
+-- how many octets data has with its names spelled out
+pub data_long : (content : Data) → length (data_spelling content) ≡ data_size content
+unfolding data_spelling
+data_long (A octets) = refl
+data_long (Aaaa octets) = refl
+data_long (One rtype name) = spelled_length name
+data_long (Minfo first second) = omega (arith, length-append (spelling first) (spelling second), spelled_length first, spelled_length second)
+data_long (Mx preference name) = omega (arith, length-append (to_be_bytes w16 preference) (spelling name), spelled_length name)
+data_long (StartOfAuthority soa) =
     let M : List ℕ = spelling soa.mname in
     let R : List ℕ = spelling soa.rname in
     let S : List ℕ = to_be_bytes w32 soa.serial in
@@ -53,27 +60,31 @@ data_at_most (StartOfAuthority soa) c =
     let T : List ℕ = to_be_bytes w32 soa.retry in
     let X : List ℕ = to_be_bytes w32 soa.expire in
     let N : List ℕ = to_be_bytes w32 soa.minimum in
+    omega (arith, length-append (M ++ R ++ S ++ F ++ T ++ X) N, length-append (M ++ R ++ S ++ F ++ T) X, length-append (M ++ R ++ S ++ F) T, length-append (M ++ R ++ S) F, length-append (M ++ R) S, length-append M R, spelled_length soa.mname, spelled_length soa.rname)
+data_long (Service srv) = srv_long srv
+data_long (Txt octets) = refl
+data_long (Opt octets) = refl
+data_long (Other octets) = refl
+
+pub data_at_most : (content : Data) (c : Compressed) → length (with_data content c).octets ≤ length c.octets + data_size content
+unfolding with_data with_numbers
+data_at_most (One rtype name) c = one_at_most (rtype == 39) name c
+data_at_most (Minfo first second) c = omega (arith, named_at_most first c, named_at_most second (with_name first c))
+data_at_most (Mx preference name) c = omega (arith, appended_long (to_be_bytes w16 preference) c, named_at_most name (with_octets (to_be_bytes w16 preference) c))
+data_at_most (StartOfAuthority soa) c =
     let c1 : Compressed = with_name soa.mname c in
     let c2 : Compressed = with_name soa.rname c1 in
-    let c3 : Compressed = with_octets S c2 in
-    let c4 : Compressed = with_octets F c3 in
-    let c5 : Compressed = with_octets T c4 in
-    let c6 : Compressed = with_octets X c5 in
-    let names : length c2.octets ≤ length c.octets + length (M ++ R) =
-    omega (arith, named_at_most soa.mname c, named_at_most soa.rname c1, spelled_length soa.mname, spelled_length soa.rname, length-append M R) in
-    let numbers : length (with_octets N c6).octets ≡ length c2.octets + 20 =
-    omega (arith, appended_long S c2, appended_long F c3, appended_long T c4, appended_long X c5, appended_long N c6) in
-    let long : length (M ++ R ++ S ++ F ++ T ++ X ++ N) ≡ length (M ++ R) + 20 =
-    omega (arith, length-append (M ++ R ++ S ++ F ++ T ++ X) N, length-append (M ++ R ++ S ++ F ++ T) X, length-append (M ++ R ++ S ++ F) T, length-append (M ++ R ++ S) F, length-append (M ++ R) S) in
-    omega (arith, names, numbers, long)
-data_at_most (A octets) c = omega (arith, appended_long octets c)
-data_at_most (Aaaa octets) c = omega (arith, appended_long octets c)
-data_at_most (Service srv) c =
-    let P : List ℕ = to_be_bytes w16 srv.priority ++ to_be_bytes w16 srv.weight ++ to_be_bytes w16 srv.port ++ spelling srv.target in
-    omega (arith, appended_long P c)
-data_at_most (Txt octets) c = omega (arith, appended_long octets c)
-data_at_most (Opt octets) c = omega (arith, appended_long octets c)
-data_at_most (Other octets) c = omega (arith, appended_long octets c)
+    let c3 : Compressed = with_u32 soa.serial c2 in
+    let c4 : Compressed = with_u32 soa.refresh c3 in
+    let c5 : Compressed = with_u32 soa.retry c4 in
+    let c6 : Compressed = with_u32 soa.expire c5 in
+    omega (arith, named_at_most soa.mname c, named_at_most soa.rname c1, appended_long (to_be_bytes w32 soa.serial) c2, appended_long (to_be_bytes w32 soa.refresh) c3, appended_long (to_be_bytes w32 soa.retry) c4, appended_long (to_be_bytes w32 soa.expire) c5, appended_long (to_be_bytes w32 soa.minimum) c6)
+data_at_most (A octets) c = omega (arith, appended_long (data_spelling (A octets)) c, data_long (A octets))
+data_at_most (Aaaa octets) c = omega (arith, appended_long (data_spelling (Aaaa octets)) c, data_long (Aaaa octets))
+data_at_most (Service srv) c = omega (arith, appended_long (data_spelling (Service srv)) c, srv_long srv)
+data_at_most (Txt octets) c = omega (arith, appended_long (data_spelling (Txt octets)) c, data_long (Txt octets))
+data_at_most (Opt octets) c = omega (arith, appended_long (data_spelling (Opt octets)) c, data_long (Opt octets))
+data_at_most (Other octets) c = omega (arith, appended_long (data_spelling (Other octets)) c, data_long (Other octets))
 
 -- The length of data is written over the two octets before it, and all that stood before them stays.
 pub begins_long : (a b : List ℕ) → Begins a b → length a ≤ length b
@@ -144,7 +155,7 @@ counted_data_continues content c =
     let now : Compressed = with_data content (with_u16 0 c) in
     counted_continues c now (data_behind content c) (continues_on _ _ _ (appended_continues (to_be_bytes w16 0) c) (data_continues content (with_u16 0 c)))
 
-counted_data_at_most : (content : Data) (c : Compressed) → length (with_counted_data content c).octets ≤ length c.octets + 2 + length (data_spelling content)
+counted_data_at_most : (content : Data) (c : Compressed) → length (with_counted_data content c).octets ≤ length c.octets + 2 + data_size content
 unfolding with_counted_data
 counted_data_at_most content c =
     let now : Compressed = with_data content (with_u16 0 c) in

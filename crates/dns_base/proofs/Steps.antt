@@ -8,7 +8,7 @@ use Rattle.dns_base.specs.Draft.{Draft, fresh, with_header, pushed_question, pus
 use Rattle.dns_base.specs.Compression.{with_question, with_record}
 use Rattle.dns_base.specs.Holding.{header_in}
 use Rattle.dns_base.specs.DraftSteps.{CountSteps, LimitSteps, SizeSteps, HeaderSteps, DraftSteps}
-use Rattle.dns_base.proofs.Sizes.{begins_long, head_stays, question_continues, question_at_most, record_continues, record_at_most}
+use Rattle.dns_base.proofs.Sizes.{begins_long, data_long, head_stays, question_continues, question_at_most, record_continues, record_at_most}
 
 count_steps : CountSteps
 unfolding fresh with_header pushed_question pushed_record cleared counts_in
@@ -47,6 +47,7 @@ size_steps = record {
   question_at_most = λ q d. question_at_most q d.target;
   any_record = λ section w d. begins_long d.target.octets (with_record w d.target).octets (record_continues w d.target).octets;
   record_at_most = λ section w d. record_at_most w d.target;
+  content = data_long;
   cleared = λ d h. length-take-le 12 d.target.octets h;
   finished = λ d h. finished_size d.target.octets (counts_spelling d.counts) h (eight d.counts);
 }

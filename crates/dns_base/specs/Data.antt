@@ -1,7 +1,7 @@
 -- What the data of a record says by its type: RFC 1035 3.3, and for the later types RFC 2782, RFC 3596, RFC 6672 and RFC 6891.
 use Rattle.std.specs.Prelude.{ℕ, zero, suc, ◌+◌, ◌*◌, List, [], ◌∷◌, ◌++◌, length, Option, Some, None, option_and_then, option_map, slice_range, nat_le, ◌==◌, ◌||◌, ◌&&◌, Bool, true, false, if◌then◌else◌}
 use Rattle.std.specs.Int.{w16, w32, to_be_bytes}
-use Rattle.dns_names.specs.Name.{Labels, Found, name_at, spelling}
+use Rattle.dns_names.specs.Name.{Labels, Found, name_at, spelling, octet_count}
 use Rattle.dns_base.specs.Numbers.{u16_at, u32_at, ◌>>=◌}
 
 pub record Soa : Type 0 where
@@ -135,6 +135,19 @@ data_spelling (Service srv) = to_be_bytes w16 srv.priority ++ to_be_bytes w16 sr
 data_spelling (Txt octets) = octets
 data_spelling (Opt octets) = octets
 data_spelling (Other octets) = octets
+
+-- how many octets data has so
+abbrev pub data_size : Data → ℕ
+data_size (A octets) = length octets
+data_size (Aaaa octets) = length octets
+data_size (One rtype name) = octet_count name
+data_size (Minfo first second) = octet_count first + octet_count second
+data_size (Mx preference name) = 2 + octet_count name
+data_size (StartOfAuthority soa) = octet_count soa.mname + octet_count soa.rname + 20
+data_size (Service srv) = 6 + octet_count srv.target
+data_size (Txt octets) = length octets
+data_size (Opt octets) = length octets
+data_size (Other octets) = length octets
 
 -- Data is of its type, and octets that are not looked into are of each.
 abbrev pub is_of_type : ℕ → Data → Bool

@@ -6,7 +6,7 @@ use Rattle.dns_base.specs.declared.push_error.PushError.TheVariants.{Count, Limi
 use Rattle.dns_names.specs.Name.{octet_count}
 use Rattle.dns_base.specs.Header.{Counts}
 use Rattle.dns_base.specs.Sections.{no_entries, one_question_more, entries_in, one_more_in, counts_spelling}
-use Rattle.dns_base.specs.Data.{data_spelling}
+use Rattle.dns_base.specs.Data.{data_size}
 use Rattle.dns_base.specs.Message.{Asked, Written}
 use Rattle.dns_base.specs.Compression.{Compressed, with_question, with_record}
 
@@ -21,7 +21,7 @@ abbrev pub question_size : Asked → ℕ
 question_size q = octet_count q.name + 4
 
 abbrev pub record_size : Written → ℕ
-record_size w = octet_count w.owner + 10 + length (data_spelling w.content)
+record_size w = octet_count w.owner + 10 + data_size w.content
 
 -- how many octets it has, and what may be asked of it
 unfoldable pub size : Draft → ℕ

@@ -2,6 +2,7 @@
 use Rattle.std.specs.Prelude.{◌≡◌, ℕ, ◌+◌, ◌≤◌, List, [], ◌∷◌, length, Option}
 use Rattle.dns_values.specs.declared.numbers.Section.{Section}
 use Rattle.dns_base.specs.Sections.{no_entries, one_question_more, one_more_in}
+use Rattle.dns_base.specs.Data.{Data, data_spelling, data_size}
 use Rattle.dns_base.specs.Message.{Asked, Written}
 use Rattle.dns_base.specs.Draft.{Draft, fresh, with_header, pushed_question, pushed_record, cleared, finished, size, limit_of, counts_in, question_size, record_size}
 use Rattle.dns_base.specs.Holding.{header_in}
@@ -28,6 +29,7 @@ pub record SizeSteps : Type 0 where
   pub question_at_most : (q : Asked) (d : Draft) → size (pushed_question q d) ≤ size d + question_size q
   pub any_record : (section : Section) (w : Written) (d : Draft) → size d ≤ size (pushed_record section w d)
   pub record_at_most : (section : Section) (w : Written) (d : Draft) → size (pushed_record section w d) ≤ size d + record_size w
+  pub content : (content : Data) → length (data_spelling content) ≡ data_size content
   pub cleared : (d : Draft) → 12 ≤ size d → size (cleared d) ≡ 12
   pub finished : (d : Draft) → 12 ≤ size d → length (finished d) ≡ size d
 

@@ -6,7 +6,7 @@ use Rattle.dns_values.specs.declared.numbers.Section.TheVariants.{Answer, Author
 use Rattle.dns_names.specs.Name.{Labels, Found, IsLegal, lowered, name_at}
 use Rattle.dns_base.specs.Numbers.{◌>>=◌}
 use Rattle.dns_base.specs.Header.{Counts}
-use Rattle.dns_base.specs.Data.{Data, A, Aaaa, One, Minfo, Mx, StartOfAuthority, Service, Txt, Opt, Other, data_spelling, is_of_type}
+use Rattle.dns_base.specs.Data.{Data, A, Aaaa, One, Minfo, Mx, StartOfAuthority, Service, Txt, Opt, Other, data_size, is_of_type}
 use Rattle.dns_base.specs.Message.{Asked, Written, Known, Reading, question_at, record_at, list_at}
 use Rattle.dns_base.specs.Knowing.{lowered_asked}
 use Rattle.dns_base.specs.DataReading.{DataReadsAs}
@@ -58,7 +58,7 @@ pub record IsWritable (w : Written) : Type 0 where
   pub class : w.class < 2 ^ 16
   pub ttl : w.ttl < 2 ^ 32
   pub typed : IsTrue (is_of_type w.rtype w.content)
-  pub short : length (data_spelling w.content) < 2 ^ 16
+  pub short : data_size w.content < 2 ^ 16
   pub content : IsWritableData w.content
 
 -- a question is read as it was written, but for case

@@ -5,7 +5,7 @@ ghost use Rattle.std.specs.Result.{result_err};
 ghost use Rattle.dns_base.specs.Draft as spec;
 ghost use Rattle.dns_base.specs.Compression.{with_question, with_record};
 ghost use Rattle.dns_base.specs.Sections as sections;
-ghost use Rattle.dns_base.specs.Data.{data_spelling, is_of_type};
+ghost use Rattle.dns_base.specs.Data.{data_size, is_of_type};
 ghost use Rattle.dns_base.specs.Holding.{IsAskable, IsWritable};
 ghost use Rattle.dns_base.specs.RecordData.{data_view};
 ghost use Rattle.dns_base.specs.Entries.{question_of, record_of};
@@ -117,7 +117,7 @@ impl Builder {
         rdata: &RecordData<'_>,
     ) -> Result<(), NoMemory>
         requires typed { IsTrue (is_of_type rtype.0 (data_view rdata.now)) }
-        requires short { length (data_spelling (data_view rdata.now)) < 65536 }
+        requires short { data_size (data_view rdata.now) < 65536 }
         ensures ok { OnOk result (self.new ≡ record self.old { target = with_record (record_of owner.now rtype class ttl rdata.now) self.old.target }) }
         ensures err { OnErr result (self.new ≡ self.old) }
         ensures writable { OnOk result (IsWritable (record_of owner.now rtype class ttl rdata.now)) }
@@ -171,7 +171,7 @@ impl Builder {
     ) -> Result<(), PushError>
         requires order { sections.HasNoneAfter section (spec.counts_in self.old) }
         requires typed { IsTrue (is_of_type rtype.0 (data_view rdata.now)) }
-        requires short { length (data_spelling (data_view rdata.now)) < 65536 }
+        requires short { data_size (data_view rdata.now) < 65536 }
         ensures ok { OnOk result (self.new ≡ spec.pushed_record section (record_of (N.labels_of owner.now) rtype class ttl rdata.now) self.old) }
         ensures counted { OnOk result (spec.counts_in self.new ≡ sections.one_more_in section (spec.counts_in self.old)) }
         ensures ordered { sections.HasNoneAfter section (spec.counts_in self.new) }

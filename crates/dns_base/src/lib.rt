@@ -24,8 +24,10 @@ pub use dns_names::{
     name_is_read_back, name_laws, relative_name_is_read_back, text_laws,
 };
 pub use dns_values::{
-    Class, Duration, Failed, IpAddr, LongName, LongOptData, NoMemory, Octets, Opcode, OptRcode,
-    ParseError, Rcode, Rtype, Section, Seq, Serial, ShortMessage, SocketAddr, Status, Ttl, address_laws,
+    Class, Duration, Failed, IpAddr, LongName, LongOptData, MemSink, MemSource, NoMemory, Octets,
+    Opcode, OptRcode, ParseError, Rcode, ReadFault, Rtype, Section, Seq, Serial, ShortMessage,
+    Sink, SinkFault, SocketAddr, Source, Status, StdSink, StdSource, SureSink, SureSource, Ttl,
+    address_laws, read_to_end, write_all,
 };
 pub use header::{Header, HeaderCounts};
 pub use laws::{draft_laws, draft_steps, reading_laws};

@@ -3,7 +3,7 @@
 ghost use Rattle.std.specs.Prelude.{◌≡◌, ◌+◌, ◌≤◌, ◌<◌, length, List, Result, Option, MatchResult, IfOk, Some, None, slice_range, option_map, IsTrue};
 ghost use Rattle.std.specs.Iterator.{YieldsFirst, item_count};
 ghost use Rattle.dns_values.specs.declared.error.ParseError.{ParseError};
-ghost use Rattle.dns_base.specs.Data.{data_at, data_spelling, is_of_type, whole, are_options, Opt};
+ghost use Rattle.dns_base.specs.Data.{data_at, data_size, is_of_type, whole, are_options, Opt};
 ghost use Rattle.dns_base.specs.Message.{Known, record_at, items_at};
 ghost use Rattle.dns_base.specs.RecordData.{data_view};
 ghost use Rattle.dns_base.specs.DataReading.{DataReadsAs};
@@ -86,7 +86,7 @@ impl<'a> Record<'a> {
         ensures says { MatchResult result (λ d. self.now.says ≡ Some (data_view d)) (λ _. self.now.says ≡ None) }
         ensures itself { IfOk result (λ d. DataReadsAs self.now (data_view d)) }
         ensures typed { IfOk result (λ d. IsTrue (is_of_type self.now.entry.rtype (data_view d))) }
-        ensures short { IfOk result (λ d. length (data_spelling (data_view d)) < 65536) }
+        ensures short { IfOk result (λ d. data_size (data_view d) < 65536) }
         ensures options { self.now.entry.rtype ≡ 41 → self.now.says ≡ whole are_options Opt self.now.entry.octets }
     {
         data_at(self.rtype, self.octets, self.at, self.end)

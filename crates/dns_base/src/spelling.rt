@@ -3,7 +3,7 @@
 ghost use Rattle.std.specs.Prelude.{◌≡◌, ◌≤◌, ◌<◌, ◌^◌, ◌++◌, length, IfOk, OnOk, IsTrue};
 ghost use Rattle.std.specs.Int.{w16, w32, to_be_bytes};
 ghost use Rattle.dns_names.specs.Name.{spelling, octet_count, IsLegal};
-ghost use Rattle.dns_base.specs.Data.{data_spelling};
+ghost use Rattle.dns_base.specs.Data.{data_spelling, data_size};
 ghost use Rattle.dns_base.specs.Holding.{IsWritableData};
 ghost use Rattle.dns_base.specs.RecordData.{data_view};
 ghost use Rattle.dns_base.specs.Compression.{Begins};
@@ -92,9 +92,8 @@ fn octets_size(octets: &[u8]) -> usize
 }
 
 /// How many octets data has.
-#[tactic(auto, unfolding(crate::specs::Data::data_spelling))]
 pub(crate) fn data_size(rdata: &RecordData<'_>) -> usize
-    ensures { result ≡ length (data_spelling (data_view rdata.now)) }
+    ensures { result ≡ data_size (data_view rdata.now) }
 {
     match rdata {
         RecordData::A(address) => octets_size(address),

@@ -3,7 +3,7 @@
 ghost use Rattle.std.specs.Prelude.{◌≡◌, ◌<◌, ◌^◌, length, OnOk, IsTrue};
 ghost use Rattle.dns_names.specs.Name.{IsLegal};
 ghost use Rattle.dns_base.specs.Compression as spec;
-ghost use Rattle.dns_base.specs.Data.{data_spelling, is_of_type};
+ghost use Rattle.dns_base.specs.Data.{data_size, is_of_type};
 ghost use Rattle.dns_base.specs.Entries.{question_of, record_of};
 ghost use Rattle.dns_base.specs.Holding.{IsAskable, IsWritable, IsWritableData};
 ghost use Rattle.dns_base.specs.RecordData.{data_view};
@@ -107,7 +107,7 @@ impl Compressor {
 
     /// Appends data behind its length.
     fn put_counted_data(&mut self, rdata: &RecordData<'_>) -> Result<(), NoMemory>
-        requires { length (data_spelling (data_view rdata.now)) < 65536 }
+        requires { data_size (data_view rdata.now) < 65536 }
         ensures ok { OnOk result (self.new ≡ spec.with_counted_data (data_view rdata.now) self.old) }
         ensures kept { spec.Continues self.old self.new }
         ensures writable { OnOk result (IsWritableData (data_view rdata.now)) }
@@ -130,7 +130,7 @@ impl Compressor {
         rdata: &RecordData<'_>,
     ) -> Result<(), NoMemory>
         requires typed { IsTrue (is_of_type rtype.0 (data_view rdata.now)) }
-        requires short { length (data_spelling (data_view rdata.now)) < 65536 }
+        requires short { data_size (data_view rdata.now) < 65536 }
         ensures ok { OnOk result (self.new ≡ spec.with_record (record_of owner.now rtype class ttl rdata.now) self.old) }
         ensures kept { spec.Continues self.old self.new }
         ensures writable { OnOk result (IsWritable (record_of owner.now rtype class ttl rdata.now)) }
