@@ -1,4 +1,4 @@
-"""Times the replay of long scripts: against another client, and as the events grow in number.
+"""Times the replay of long scripts: against another client, as the events grow in number, and as more requests wait.
 
 usage: python3 bench/replay.py PROGRAM [REFERENCE_FOLDER]
 
@@ -6,6 +6,10 @@ PROGRAM is the built dnsq. Up to 100 short questions are asked at a time, and ea
 of 100,000 events and of 200,000 is timed, and the ratio of the two told. With a folder that holds the package
 `plain`, the reference client replays the 100,000 events too, and that ratio is told. All run in turn, five times;
 the least time of each counts.
+
+Then 1,000, 10,000 and 100,000 requests wait at once, in three scripts: all are asked and one tick comes past their
+deadline; all are asked and each is answered; all are asked and as many ticks come. How many times as long ten times
+as many take is told. More than 14 times is too long, and ends with status 1.
 """
 
 import subprocess
@@ -16,21 +20,58 @@ import time
 AT_A_TIME = 100
 RUNS = 5
 QUESTION = "0000010001"
+WAITING = (1_000, 10_000, 100_000)
+MOST = 14
+PAST_THE_DEADLINE = 100_000_000
+
+
+def ask(moment):
+    return "at %d ask 000001000001000000000000%s 00000100 -" % (moment, QUESTION)
+
+
+def opened(moment, place):
+    return "at %d opened %d" % (moment, place)
+
+
+def answer(moment, place):
+    return "at %d datagram %d 000081800001000000000000%s" % (moment, place, QUESTION)
+
+
+def text_of(lines):
+    return "\n".join(["conf nameserver 192.0.2.53"] + lines) + "\n"
 
 
 def script(events):
-    lines = ["conf nameserver 192.0.2.53"]
+    lines = []
     first = 0
     moment = 0
-    while len(lines) <= events:
+    while len(lines) < events:
         moment += 1
         places = range(first, first + AT_A_TIME)
-        lines += ["at %d ask 000001000001000000000000%s 00000100 -" % (moment, QUESTION) for _ in places]
-        lines += ["at %d opened %d" % (moment + 10, place) for place in places]
-        lines += ["at %d datagram %d 000081800001000000000000%s" % (moment + 20, place, QUESTION) for place in places]
+        lines += [ask(moment) for _ in places]
+        lines += [opened(moment + 10, place) for place in places]
+        lines += [answer(moment + 20, place) for place in places]
         moment += 20
         first += AT_A_TIME
-    return "\n".join(lines[:events + 1]) + "\n"
+    return text_of(lines[:events])
+
+
+def late(requests):
+    return text_of([ask(1) for _ in range(requests)] + ["at %d tick" % PAST_THE_DEADLINE])
+
+
+def answered(requests):
+    lines = [ask(1) for _ in range(requests)]
+    for place in range(requests):
+        lines += [opened(2, place), answer(2, place)]
+    return text_of(lines)
+
+
+def ticked(requests):
+    return text_of([ask(1) for _ in range(requests)] + ["at %d tick" % (2 + tick) for tick in range(requests)])
+
+
+SCRIPTS = (("asked, and one tick past the deadline", late), ("asked and answered", answered), ("asked, and as many ticks", ticked))
 
 
 def seconds(command, path, folder=None):
@@ -43,26 +84,51 @@ def seconds(command, path, folder=None):
         return took
 
 
-def main():
-    if len(sys.argv) < 2:
-        sys.exit(__doc__)
-    program = [sys.argv[1], "replay"]
-    reference = [sys.executable, "-m", "plain.dnsq", "replay"]
+def write(path, text):
+    with open(path, "w") as file:
+        file.write(text)
+
+
+def time_events(program, room):
     took = {}
-    with tempfile.TemporaryDirectory() as room:
+    for events in (100_000, 200_000):
+        write("%s/%d" % (room, events), script(events))
+    for _ in range(RUNS):
         for events in (100_000, 200_000):
-            with open("%s/%d" % (room, events), "w") as file:
-                file.write(script(events))
-        for _ in range(RUNS):
-            for events in (100_000, 200_000):
-                took.setdefault(events, []).append(seconds(program, "%s/%d" % (room, events)))
-            if len(sys.argv) > 2:
-                took.setdefault("reference", []).append(seconds(reference, room + "/100000", sys.argv[2]))
+            took.setdefault(events, []).append(seconds(program, "%s/%d" % (room, events)))
+        if len(sys.argv) > 2:
+            reference = [sys.executable, "-m", "plain.dnsq", "replay"]
+            took.setdefault("reference", []).append(seconds(reference, room + "/100000", sys.argv[2]))
     least = {key: min(times) for key, times in took.items()}
     print("100000 events: %.2f s; 200000 events: %.2f s" % (least[100_000], least[200_000]))
     print("twice as many events take %.2f times as long" % (least[200_000] / least[100_000]))
     if "reference" in least:
         print("the reference client: %.2f s, %.1f times as long" % (least["reference"], least["reference"] / least[100_000]))
+
+
+def time_waiting(program, room):
+    worst = 0
+    for name, lines_of in SCRIPTS:
+        least = []
+        for requests in WAITING:
+            path = "%s/waiting" % room
+            write(path, lines_of(requests))
+            least.append(min(seconds(program, path) for _ in range(RUNS)))
+        ratios = [more / fewer for fewer, more in zip(least, least[1:])]
+        worst = max([worst] + ratios)
+        print("%s: %s s for %s requests" % (name, ", ".join("%.3f" % one for one in least), ", ".join(map(str, WAITING))))
+        print("  ten times as many take %s times as long" % " and ".join("%.1f" % ratio for ratio in ratios))
+    return worst
+
+
+def main():
+    if len(sys.argv) < 2:
+        sys.exit(__doc__)
+    program = [sys.argv[1], "replay"]
+    with tempfile.TemporaryDirectory() as room:
+        time_events(program, room)
+        if time_waiting(program, room) > MOST:
+            sys.exit("ten times as many requests take more than %d times as long" % MOST)
 
 
 if __name__ == "__main__":

@@ -1,11 +1,10 @@
 -- What the heap keeps as timers are set and dropped, and what it shows.
-use Rattle.std.proofs.Common.{◌≡◌, ℕ, zero, suc, ◌∙◌, ◌+◌, ◌-◌, ◌/◌, ◌<◌, ◌≤◌, ap, sym, subst, refl, arith, length, List, [], ◌∷◌, ◌++◌, map, Bool, true, false, get_or, ◌⊎◌, inl, inr}
-use Rattle.std.specs.Prelude.{◌==◌, nat_eq, nat_lt, Option, None, Some, is_some, is_none, option_map, slice_get, MatchOption}
+use Rattle.std.proofs.Common.{◌≡◌, ℕ, zero, suc, ◌∙◌, ◌+◌, ◌-◌, ◌/◌, ◌<◌, ap, sym, subst, refl, arith, length, List, [], ◌∷◌, ◌++◌, Bool, true, false, get_or}
+use Rattle.std.specs.Prelude.{nat_eq, nat_lt, Option, None, Some, is_some, is_none, option_map, slice_get, MatchOption}
 use Rattle.std.specs.List.{All, Contains, IsDistinct, AllByRecursion}
 use Rattle.std.specs.List.Sorted.{IsPermutation}
 use Rattle.std.specs.BinaryHeap.{IsHeap, KeepsHeap}
 use Rattle.std.proofs.HeapSift as sifts
-use Rattle.std.proofs.lemmas.Bool.{eqb-true}
 use Rattle.std.proofs.lemmas.Bool.Decides.{nat_tests}
 use Rattle.std.proofs.lemmas.Cmp.{nat_eq_equiv}
 use Rattle.std.proofs.lemmas.List.{get_or-map, length-map, get_or_default, map-append}
@@ -14,10 +13,10 @@ use Rattle.std.proofs.lemmas.List.Sorted.{IsPermutation-sym, IsPermutation-map, 
 use Rattle.std.proofs.lemmas.Map.Keys.{IsDistinct-cons, IsDistinct-IsPermutation, apart_from_distinct}
 use Rattle.client_request.specs.declared.timers.Timer.{Timer}
 use Rattle.client_request.specs.Numbered.{entry_at, frees, puts}
-use Rattle.client_request.specs.Timers.{Entry, entry_of, numbers_of, goes_before, is_before, next_due, timer_at, IsSetOrCancelled, ParentsGoFirst, TimerList}
+use Rattle.client_request.specs.Timers.{Entry, entry_of, numbers_of, goes_before, is_before, next_due, timer_at, IsSetOrCancelled, ParentsGoFirst}
 use Rattle.client_request.specs.TimerHeap.{urgency_cmp, timer_of, timers_of, entry_of_pair, top_is_cancelled, DropsCancelled, IsHeapOf}
 use Rattle.client_request.proofs.TimerOrder.{urgency_total, less-goes_before}
-use Rattle.client_request.proofs.TimerTable.{timers_of-frees, frees-All, puts-last, entry_at-member, entry_at-Some, timer_at-Some, entry_at-push}
+use Rattle.client_request.proofs.TimerTable.{frees-All, puts-last, entry_at-member, entry_at-Some, timer_at-Some, entry_at-push}
 use Rattle.client_request.proofs.TimerTop.{next_due-first, tied}
 
 -- ---- one entry of a number

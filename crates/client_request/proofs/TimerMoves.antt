@@ -1,7 +1,7 @@
 -- What pushing and popping keep of the heap of timers.
-use Rattle.std.proofs.Common.{◌≡◌, ℕ, zero, suc, ◌∙◌, ◌+◌, ◌-◌, ◌<◌, ◌≤◌, ap, sym, subst, refl, arith, length, List, [], ◌∷◌, ◌++◌, take, drop, map, Bool, true, false, get_or, ◌⊎◌, inl, inr}
-use Rattle.std.specs.Prelude.{if◌then◌else◌, nat_eq, Option, None, Some, IsSome, is_some, is_none}
-use Rattle.std.specs.List.{swap_remove, All, Contains, IsDistinct}
+use Rattle.std.proofs.Common.{◌≡◌, ℕ, zero, suc, ◌∙◌, ◌+◌, ◌<◌, ap, sym, subst, arith, length, List, [], ◌∷◌, ◌++◌, take, drop, Bool, true, false, get_or}
+use Rattle.std.specs.Prelude.{if◌then◌else◌, nat_eq, Option, None, Some, IsSome, is_none}
+use Rattle.std.specs.List.{swap_remove, Contains}
 use Rattle.std.specs.List.Sorted.{IsPermutation}
 use Rattle.std.specs.BinaryHeap.{IsHeap, KeepsHeap}
 use Rattle.std.specs.BinaryHeap.Sift.{SiftsUp, SiftsDown, RestoresHeap}

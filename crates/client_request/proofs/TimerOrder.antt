@@ -1,14 +1,12 @@
 -- The order of the heap of timers.
-use Rattle.std.proofs.Common.{◌≡◌, ℕ, ◌∙◌, ap, sym, refl, Bool, true, false, cond, ◌||◌, ◌&&◌, nat_lt, nat_eq}
-use Rattle.std.specs.declared.cmp.Ordering.{Ordering}
+use Rattle.std.proofs.Common.{◌≡◌, ℕ, ◌∙◌, refl, Bool, true, false, cond, ◌||◌, ◌&&◌, nat_lt}
 use Rattle.std.specs.declared.cmp.Ordering.TheVariants.{Less, Equal, Greater}
 use Rattle.std.specs.Prelude.{◌==◌, List, slice_index_or}
 use Rattle.std.specs.Cmp.{IsTotalOrder}
-use Rattle.std.specs.Ordering.{is_lt, ordering_then, nat_cmp}
+use Rattle.std.specs.Ordering.{is_lt, ordering_then}
 use Rattle.std.specs.BinaryHeap.{lt_by_cmp}
 use Rattle.std.specs.BinaryHeap.Sift.{ComparesAt}
 use Rattle.std.proofs.lemmas.Cmp.{nat_cmp_total, on_total, then_total, back_total}
-use Rattle.client_request.specs.declared.timers.TimerId.{TimerId}
 use Rattle.client_request.specs.Timers.{Entry, goes_before}
 use Rattle.client_request.specs.TimerHeap.{urgency_cmp}
 

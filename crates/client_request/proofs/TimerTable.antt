@@ -1,10 +1,9 @@
 -- The table of timers that are set, and the list of them.
-use Rattle.std.proofs.Common.{◌≡◌, ℕ, zero, suc, ◌∙◌, ◌+◌, ◌-◌, ◌<◌, ◌≤◌, ap, sym, subst, refl, arith, length, List, [], ◌∷◌, ◌++◌, take, drop, map, Bool, true, false, cond, get_or}
-use Rattle.std.specs.Prelude.{◌==◌, nat_lt, not, find, Option, None, Some, is_some, is_none, option_map}
-use Rattle.std.specs.List.{Contains, position, prefix_len, remove, AllByRecursion}
-use Rattle.std.specs.Map.{remove_entry}
-use Rattle.std.specs.BTreeMap.{insert_entry, is_at}
-use Rattle.std.specs.Ordering.{nat_cmp, match_ordering}
+use Rattle.std.proofs.Common.{◌≡◌, ℕ, zero, suc, ◌∙◌, ◌+◌, ◌<◌, ap, sym, refl, arith, length, List, [], ◌∷◌, ◌++◌, Bool, true, false, cond}
+use Rattle.std.specs.Prelude.{◌==◌, nat_lt, not, Option, None, Some, is_some, option_map}
+use Rattle.std.specs.List.{Contains, position, prefix_len, AllByRecursion}
+use Rattle.std.specs.BTreeMap.{is_at}
+use Rattle.std.specs.Ordering.{nat_cmp}
 use Rattle.std.proofs.lemmas.Bool.{eqb-true}
 use Rattle.std.proofs.lemmas.Bool.Decides.{nat_tests}
 use Rattle.client_request.specs.declared.timers.Timer.{Timer}

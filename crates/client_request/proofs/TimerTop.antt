@@ -1,6 +1,6 @@
 -- The timer that goes first of a list, and the top of the heap.
-use Rattle.std.proofs.Common.{◌≡◌, ℕ, zero, suc, ◌∙◌, ◌+◌, ◌<◌, ◌≤◌, ap, sym, subst, refl, arith, length, List, [], ◌∷◌, ◌++◌, map, Bool, true, false, cond, get_or}
-use Rattle.std.specs.Prelude.{◌==◌, ◌||◌, ◌&&◌, nat_lt, if◌then◌else◌, fold, Option, None, Some}
+use Rattle.std.proofs.Common.{◌≡◌, ℕ, zero, suc, sym, subst, refl, arith, List, [], ◌∷◌, Bool, true, false}
+use Rattle.std.specs.Prelude.{◌==◌, ◌||◌, ◌&&◌, nat_lt, if◌then◌else◌, fold, Some}
 use Rattle.std.specs.List.{Contains, AllByRecursion}
 use Rattle.std.proofs.lemmas.Bool.Decides.{nat_tests}
 use Rattle.client_request.specs.declared.timers.Timer.{Timer}

@@ -1,4 +1,4 @@
-use Rattle.std.proofs.Common.{arith, ◌∙◌, ◌≡◌, sym, true}
+use Rattle.std.proofs.Common.{arith, ◌≡◌, true}
 use Rattle.std.proofs.lemmas.List.Sorted.{length_permutation}
 use Rattle.client_request.specs.TimerHeap.{top_is_cancelled}
 use Rattle.client_request.proofs.TimerMoves.{drops_more, drops_top}

@@ -1,5 +1,5 @@
 use Rattle.std.proofs.Common.{◌≡◌, ◌∙◌, ap, sym, subst, false, List, ℕ}
-use Rattle.client_request.specs.Timers.{TimerList, cancelled}
+use Rattle.client_request.specs.Timers.{cancelled}
 use Rattle.client_request.specs.TimerHeap.{timers_of, top_is_cancelled, DropsCancelled, IsHeapOf}
 use Rattle.client_request.proofs.TimerKept.{cancel_kept}
 use Rattle.client_request.proofs.TimerTable.{timers_of-frees}

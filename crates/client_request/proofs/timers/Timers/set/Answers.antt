@@ -1,7 +1,7 @@
 use Rattle.std.proofs.Common.{◌≡◌, ◌+◌, ◌∙◌, ap, sym, subst, List, ℕ}
-use Rattle.std.proofs.Common.{rules, arith}
+use Rattle.std.proofs.Common.{arith}
 use Rattle.std.proofs.lemmas.Grind.{common_steps}
-use Rattle.client_request.specs.Timers.{TimerList, with_timer}
+use Rattle.client_request.specs.Timers.{with_timer}
 use Rattle.client_request.specs.TimerHeap.{timers_of, IsHeapOf}
 use Rattle.client_request.proofs.TimerKept.{set_kept, set_list}
 use Rattle.client_request.proofs.timers.Timers.set.Goals as goal
