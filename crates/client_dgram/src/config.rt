@@ -1,6 +1,6 @@
 //! The settings of a datagram transport.
 
-ghost use Rattle.std.specs.Prelude.{◌≡◌, ℕ, Option, Some, IsOkAnd};
+ghost use Rattle.std.specs.Prelude.{◌≡◌, ℕ, Option, Some, Ok};
 ghost use Rattle.std.specs.Ordering.{nat_cmp};
 ghost use Rattle.client_request.specs.Limits.{limited};
 ghost use Rattle.client_dgram.specs.Settings.{Settings, default_settings};
@@ -91,7 +91,7 @@ impl Config {
 
     /// The same settings. It takes no memory.
     pub fn try_clone(&self) -> Result<Config, NoMemory>
-        ensures { IsOkAnd result (λ c. c ≡ self.now) }
+        ensures { result ≡ Ok self.now }
     {
         Ok(*self)
     }

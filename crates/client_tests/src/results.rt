@@ -59,7 +59,6 @@ fn error_in(board: &mut Board, given: &mut bool) -> Option<Error> {
 #[test]
 fn a_result_is_given_once(rt: HostRuntime) -> Result<(), Fail> {
     let mut board = board(rt.alloc())?;
-    assert_eq!(rt; board.oldest(), Some(2));
     let mut given = false;
     assert_eq!(rt;
         error_in(&mut board, &mut given),
@@ -67,5 +66,15 @@ fn a_result_is_given_once(rt: HostRuntime) -> Result<(), Fail> {
     );
     assert_eq!(rt; error_in(&mut board, &mut given), Some(Error::AlreadyDone));
     assert_eq!(rt; board.len(), 1);
+    Ok(())
+}
+
+#[test]
+fn the_part_that_was_put_first_is_taken_first(rt: HostRuntime) -> Result<(), Fail> {
+    let mut board = board(rt.alloc())?;
+    for ticket in [Some(2), Some(1), None] {
+        let first = board.take_first();
+        assert_eq!(rt; first.map(|posted| posted.ticket), ticket);
+    }
     Ok(())
 }
