@@ -73,23 +73,17 @@ fn source(alloc: Global, text: &str) -> Result<MemSource, Fail> {
 }
 
 /// Whether a text answers so, and its configuration is then printed so.
-fn reads(
-    alloc: Global,
-    text: &str,
-    answer: Result<(), Error>,
-    printed: &str,
-) -> Result<bool, Fail> {
+fn reads(alloc: Global, row: &(&str, Result<(), Error>, &str)) -> bool {
     let mut conf = ResolvConf::new(alloc);
-    let answers = conf.parse(alloc, &mut source(alloc, text)?) == answer;
-    Ok(answers && shows(alloc, &conf, printed))
+    match source(alloc, row.0) {
+        Ok(mut source) => conf.parse(alloc, &mut source) == row.1 && shows(alloc, &conf, row.2),
+        Err(_) => false,
+    }
 }
 
 #[test]
-fn texts_are_taken_line_by_line(rt: HostRuntime) -> Result<(), Fail> {
-    for (text, answer, printed) in TEXTS {
-        assert!(rt; reads(rt.alloc(), text, answer, printed)?, "{text}");
-    }
-    Ok(())
+fn texts_are_taken_line_by_line(rt: HostRuntime) {
+    assert!(rt; TEXTS.iter().all(|row| reads(rt.alloc(), row)));
 }
 
 /// A comment of this many octets, and what it answers.

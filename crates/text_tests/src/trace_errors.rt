@@ -98,18 +98,22 @@ const ERRORS: [(Error, &str); 35] = [
 ];
 
 /// The reply to a request that has this error.
-fn reply(alloc: Global, error: Error) -> Result<Outs, NoMemory> {
-    let mut outs = Outs::new(alloc);
-    outs.push(Out::Reply {
+fn reply(error: Error) -> Out {
+    Out::Reply {
         request: 7,
         result: Err(error),
-    })?;
+    }
+}
+
+fn outs(alloc: Global, error: Error) -> Result<Outs, NoMemory> {
+    let mut outs = Outs::new(alloc);
+    outs.push(reply(error))?;
     Ok(outs)
 }
 
 /// A trace of one row, whose out is a reply with an error.
 fn trace_of(alloc: Global, error: Error) -> Result<Trace, NoMemory> {
-    let outs = reply(alloc, error)?;
+    let outs = outs(alloc, error)?;
     let mut rows = Rows::new(alloc);
     rows.push(Row {
         event: Event {
