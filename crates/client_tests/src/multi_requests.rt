@@ -55,7 +55,6 @@ const TRANSFER: [u8; 46] = [
     0, 0, 252, 0, 1, 0, 0, 0x29, 0x04, 0xd0, 0, 0, 0x80, 0, 0, 6, 0, 10, 0, 2, 1, 2,
 ];
 
-#[tactic(auto, unfolding(dns_base::specs::Draft::fresh, dns_base::specs::Draft::cleared))]
 fn empty_builder(alloc: Global) -> Result<Builder, NoMemory>
     ensures { IfOk result HoldsNothing }
 {
