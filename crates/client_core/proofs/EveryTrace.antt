@@ -14,7 +14,7 @@ use Rattle.client_core.proofs.Runs.{plain_traces_run, plain_rows_of_events}
 use Rattle.resolv_conf.specs.declared.server.ServerConf.{ServerConf}
 
 pub every_trace : EveryPlainTraceIsRight
-every_trace conf words events rows plain asked uncut =
+every_trace conf words events rows plain asked by_datagram uncut =
     let made : map (λ (row : Row). row.event) rows ≡ events = plain_rows_of_events conf words events rows plain in
     let ran : IsRun composed (nat_lt 0 (length conf.servers)) conf.options.timeout fresh rows = plain_traces_run conf words events rows plain in
     let many : length (map (λ (s : ServerConf). ByDatagrams) conf.servers) ≡ length conf.servers = length-map conf.servers (λ (s : ServerConf). ByDatagrams) in

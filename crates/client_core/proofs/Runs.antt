@@ -1,5 +1,5 @@
 -- Every plain trace is a run of the machine.
-use Rattle.std.proofs.Common.{◌≡◌, ℕ, suc, ◌%◌, max, Bool, true, false, ltb, List, [], ◌∷◌, ◌++◌, length, map, Option, Some, None, refl, sym, ap, subst, ◌∙◌, arith, le_refl}
+use Rattle.std.proofs.Common.{◌≡◌, ℕ, suc, ◌%◌, ◌<◌, max, Bool, true, false, ltb, List, [], ◌∷◌, ◌++◌, length, map, Option, Some, None, refl, sym, ap, subst, ◌∙◌, arith, le_refl}
 use Rattle.std.proofs.lemmas.Bool.Decides.{nat_tests}
 use Rattle.std.specs.Prelude.{option_and_then, option_map}
 use Rattle.client_request.specs.Composed.{composed}
@@ -62,6 +62,7 @@ module _ (timeout : ℕ) (has : Bool) where
   -- timers fired, and then the event happened
   pub record Happened (w : What) (s : State) (outs : List Out) (c : PlainClient) : Type 0 where
     pub id : ℕ
+    pub small : id < 65536
     pub first : PlainClient
     pub fired : FiresTo timeout s has outs first
     pub goes : Goes timeout has first.view.outs (suc (length first.view.timers.set)) (content composed has w id fired.done.state) c
@@ -74,13 +75,14 @@ module _ (timeout : ℕ) (has : Bool) where
       (comes_then (FiresTo timeout s0 has c0.view.outs) (Happened e.what s0 c0.view.outs) (happens whole.machine timeout e.what) (fires_all whole.machine c0)
       (fires_all_does c0 s0 (clocked_client c s e.moment.0 tied))
       (λ c1 f. comes_on (Goes timeout has c1.view.outs (suc (length c1.view.timers.set)) (content composed has e.what (word c1.view % 65536) f.done.state)) (Happened e.what s0 c0.view.outs) (happens whole.machine timeout e.what c1)
-      (λ c2 g. record { id = word c1.view % 65536; first = c1; fired = f; goes = record { tied = g.tied; put = g.put; fewer = g.fewer } })
+      (λ c2 g. record { id = word c1.view % 65536; small = omega arith; first = c1; fired = f; goes = record { tied = g.tied; put = g.put; fewer = g.fewer } })
       (happens_does e.what c1 f.done.state f.tied)))
       (λ c2 h. comes_on (FiresTo timeout (content composed has e.what h.id h.fired.done.state).state has c2.view.outs) (StepsTo s e) (fires_all whole.machine c2)
       (λ c3 f. record {
         state = f.done.state;
         step = record {
           id = h.id;
+          small = h.small;
           first = h.fired.done;
           fires = h.fired.fires_so;
           last = f.done;

@@ -1,5 +1,5 @@
 -- What the headline says of the plain client.
-use Rattle.std.specs.Prelude.{◌≡◌, ℕ, List, length, map, nat_lt, Some}
+use Rattle.std.specs.Prelude.{◌≡◌, ℕ, false, List, [], ◌∷◌, length, map, nat_lt, Some}
 use Rattle.client_request.specs.Composed.{composed}
 use Rattle.client_request.specs.declared.event.Event.{Event}
 use Rattle.client_request.specs.declared.event.Row.{Row}
@@ -8,16 +8,28 @@ use Rattle.headline.specs.Trace.{Conf, ByDatagrams}
 use Rattle.headline.specs.Right.{Right, Timely, NoneIsTruncated, AllAskedInOctets}
 use Rattle.client_core.specs.Whole.{plain_trace}
 use Rattle.resolv_conf.specs.declared.conf.ResolvConf.{ResolvConf}
+use Rattle.resolv_conf.specs.declared.options.ResolvOptions.{ResolvOptions}
+use Rattle.resolv_conf.specs.declared.server.ServerConf.{ServerConf}
+use Rattle.resolv_conf.specs.declared.server.Transport.TheVariants.{UdpTcp}
 
--- the configuration as the headline speaks of it
+-- The configuration as the headline speaks of it. The premise below says that the first server is used so, and no other is asked yet.
 abbrev pub conf_of : ResolvConf → Conf
 conf_of conf = record { servers = map (λ s. ByDatagrams) conf.servers; timeout = conf.options.timeout }
 
--- Every plain trace of events none of which brings a truncated datagram is right, and timely.
+-- The first server, where there is one, is asked by datagrams: neither it nor `options use-vc` asks for streams alone.
+abbrev pub AsksFirst : List ServerConf → ResolvOptions → Type 0
+AsksFirst [] options = Unit {0}
+AsksFirst (server ∷ others) options = (server.transport ≡ UdpTcp) × (options.use_vc ≡ false)
+
+-- The premise of this stage on a configuration. It goes once streams are there.
+abbrev pub AsksByDatagram : ResolvConf → Type 0
+AsksByDatagram conf = AsksFirst conf.servers conf.options
+
+-- Every plain trace of a configuration that asks by datagrams and of events none of which brings a truncated datagram is right, and timely.
 abbrev pub EveryPlainTraceIsRight : Type 0
 EveryPlainTraceIsRight =
     (conf : ResolvConf) (words : ℕ → ℕ) (events : List Event) (rows : List Row)
-    → plain_trace conf words events ≡ Some rows → AllAskedInOctets events → NoneIsTruncated events
+    → plain_trace conf words events ≡ Some rows → AllAskedInOctets events → AsksByDatagram conf → NoneIsTruncated events
     → Right (conf_of conf) rows × Timely (conf_of conf) rows
 
 -- Every plain trace is a run of the machine of small moves.

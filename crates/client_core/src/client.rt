@@ -8,7 +8,7 @@ ghost use Rattle.client_request.specs.Timers.{IsWant, next_due};
 ghost use Rattle.client_core.specs.Client as plain;
 ghost use Rattle.client_core.specs.Machines.{client_in};
 ghost use Rattle.client_core.specs.First.{holds_failed};
-ghost use Rattle.client_core.specs.Headline.{conf_of};
+ghost use Rattle.client_core.specs.Headline.{conf_of, AsksByDatagram};
 ghost use Rattle.client_core.specs.Upstream as upstream;
 ghost use Rattle.client_core.specs.Whole.{machine, started, first_upstream, plain_step, plain_trace, client_with};
 ghost use Rattle.headline.specs.Right.{Right, Timely, NoneIsTruncated};
@@ -190,6 +190,9 @@ impl Client {
 
     /// The trace of a client that is told these events and draws these words: a row for each event, in
     /// order. `NoMemory`, or `NumbersUsed` where a number would pass the greatest `u64`.
+    ///
+    /// A first server that is to be asked by a stream alone is asked by datagrams all the same, until streams
+    /// are there. What is `right` and `timely` says nothing of such a configuration.
     pub fn replay<W: Words>(
         alloc: Global,
         conf: &ResolvConf,
@@ -200,8 +203,8 @@ impl Client {
     ) -> Result<Trace, Error>
         ensures plain { IfOk result (λ t. plain_trace conf.now (W.stream words.old) events.now ≡ Some t.rows) }
         ensures events { IfOk result (λ t. map (λ row. row.event) t.rows ≡ events.now) }
-        ensures right { IfOk result (λ t. NoneIsTruncated events.now → Right (conf_of conf.now) t.rows) }
-        ensures timely { IfOk result (λ t. NoneIsTruncated events.now → Timely (conf_of conf.now) t.rows) }
+        ensures right { IfOk result (λ t. AsksByDatagram conf.now → NoneIsTruncated events.now → Right (conf_of conf.now) t.rows) }
+        ensures timely { IfOk result (λ t. AsksByDatagram conf.now → NoneIsTruncated events.now → Timely (conf_of conf.now) t.rows) }
         ensures numbers { IsErrOf result Error.NumbersUsed → plain_trace conf.now (W.stream words.old) events.now ≡ None }
         ensures refused { IfErr result IsWant }
     {

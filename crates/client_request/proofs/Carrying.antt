@@ -319,6 +319,7 @@ sized_opt (Some opt) h = record { udp_payload_size = omega arith; ext_rcode = h.
 pub composed_carries : (r : Request) (id : ℕ) (octets : List ℕ) → IsOfOctets r → composed (with_payload_size 1232 (with_id id r)) ≡ Ok octets → Carries octets r id
 composed_carries r id octets h is = composed_says (with_payload_size 1232 (with_id id r)) octets (record {
   base = h.base;
+  long = h.long;
   header = omega (arith, length-drop 2 r.header, h.header);
   opt = sized_opt r.opt h.opt;
 }) is

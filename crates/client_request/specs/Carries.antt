@@ -1,5 +1,5 @@
 -- The octets that carry a request.
-use Rattle.std.specs.Prelude.{◌≡◌, ℕ, ◌<◌, ◌^◌, List, [], ◌∷◌, ◌++◌, length, map, Option, Some, None, Ok, IfSome, not, option_and_then, slice_index}
+use Rattle.std.specs.Prelude.{◌≡◌, ℕ, ◌<◌, ◌≤◌, ◌^◌, List, [], ◌∷◌, ◌++◌, length, map, Option, Some, None, Ok, IfSome, not, option_and_then, slice_index}
 use Rattle.std.specs.List.{filter}
 use Rattle.dns_values.specs.declared.numbers.Section.{Section}
 use Rattle.dns_values.specs.declared.numbers.Section.TheVariants.{Answer, Authority, Additional}
@@ -58,9 +58,10 @@ pub record IsOpt (opt : OptFields) : Type 0 where
   pub flags : opt.flags < 2 ^ 16
   pub options : length opt.options < 2 ^ 16
 
--- a request that is made of octets
+-- a request that is made of octets: its base has the twelve of a header at least (RFC 1035 4.1.1)
 pub record IsOfOctets (r : Request) : Type 0 where
   pub base : (i : ℕ) → slice_index r.base i < 256
+  pub long : 12 ≤ length r.base
   pub header : length r.header ≡ 4
   pub opt : IfSome r.opt IsOpt
 

@@ -1,3 +1,4 @@
+pub mod ByDatagram
 pub mod Delivery
 pub mod Inputs
 pub mod Outcomes

@@ -2,7 +2,7 @@
 
 ghost use Rattle.std.specs.Prelude.{◌≡◌, ◌≢◌, ◌≤◌, [], length, false, Some, None, IfSome, IfOk, IfErr};
 ghost use Rattle.dns_values.specs.Source.{Rose};
-ghost use Rattle.client_core.specs.Headline.{conf_of};
+ghost use Rattle.client_core.specs.Headline.{conf_of, AsksByDatagram};
 ghost use Rattle.headline.specs.Right.{Right, Timely, NoneIsTruncated};
 ghost use Rattle.dns_script.specs.ScriptReading.{IsScript};
 ghost use Rattle.dnsq_run.specs.Program.{first_lane, rows_of, IsReplayed, IsRefused, StopsForNumbers, IsEarly, status_of, line_of, numbers_line};
@@ -42,6 +42,7 @@ fn input<S: Source>(alloc: Global, source: &mut S) -> Result<Vec<u8>, Ending>
 fn script_of(alloc: Global, text: &[u8]) -> Result<Script, Ending>
     ensures script { IfOk result (λ script. IsScript false text.now script) }
     ensures uncut { IfOk result (λ script. NoneIsTruncated (first_lane script.lanes)) }
+    ensures by_datagram { IfOk result (λ script. AsksByDatagram script.conf) }
     ensures early { IfErr result IsEarly }
     ensures refused { IfErr result (λ e. length text.now ≤ 16777216 → status_of e ≡ 1 → IsRefused Command.Replay text.now (line_of e)) }
     ensures no_fault { IfErr result (λ e. (status_of e ≢ 3) × (status_of e ≢ 7)) }
@@ -67,8 +68,8 @@ fn first_lane(lanes: &Lanes) -> &[Event]
 /// The trace of a script with one lane.
 fn trace_of(alloc: Global, script: Script) -> Result<Trace, Ending>
     ensures plain { IfOk result (λ t. rows_of script ≡ Some t.rows) }
-    ensures right { IfOk result (λ t. NoneIsTruncated (first_lane script.lanes) → Right (conf_of script.conf) t.rows) }
-    ensures timely { IfOk result (λ t. NoneIsTruncated (first_lane script.lanes) → Timely (conf_of script.conf) t.rows) }
+    ensures right { IfOk result (λ t. AsksByDatagram script.conf → NoneIsTruncated (first_lane script.lanes) → Right (conf_of script.conf) t.rows) }
+    ensures timely { IfOk result (λ t. AsksByDatagram script.conf → NoneIsTruncated (first_lane script.lanes) → Timely (conf_of script.conf) t.rows) }
     ensures early { IfErr result IsEarly }
     ensures numbers { IfErr result (λ e. status_of e ≡ 7 → rows_of script ≡ None) }
     ensures numbers_line { IfErr result (λ e. status_of e ≡ 7 → line_of e ≡ numbers_line) }

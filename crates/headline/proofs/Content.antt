@@ -4,7 +4,7 @@ use Rattle.std.specs.Prelude.{if◌then◌else◌, nat_lt}
 use Rattle.std.proofs.lemmas.Bool.{ltb-true, ltb-false, cases_eq}
 use Rattle.std.proofs.lemmas.Bool.Decides.{nat_tests}
 use Rattle.client_request.specs.Request.{Request}
-use Rattle.client_request.specs.Carries.{Carries, IsOfOctets}
+use Rattle.client_request.specs.Carries.{IsOfOctets}
 use Rattle.client_request.specs.declared.error.Error.{Error}
 use Rattle.client_request.specs.declared.error.Error.TheVariants as errors
 use Rattle.client_request.specs.declared.error.QueryError.TheVariants as query
@@ -14,15 +14,16 @@ use Rattle.client_request.specs.declared.event.What.TheVariants.{Ask, Opened, Op
 use Rattle.client_request.specs.declared.event.Out.TheVariants.{Start, OpenDgram, Send, Close}
 use Rattle.client_request.specs.declared.event.Via.TheVariants.{Dgram}
 use Rattle.headline.specs.Trace.{History, Conf, Put}
-use Rattle.headline.specs.Messages.{Octets, under, IsComposingFault, Composes}
+use Rattle.headline.specs.Messages.{Octets, CarriesBy, under, IsComposingFault, Composes}
 use Rattle.headline.specs.Requests.{asking, is_ask, replied, started}
-use Rattle.headline.specs.Places.{site, is_site, is_at, Opening, Gone, on_event, stand}
+use Rattle.headline.specs.Places.{Opening, Gone, on_event, stand}
 use Rattle.headline.specs.Exchanges.{came, has_answer}
-use Rattle.headline.specs.Causes.{sends, WasOpening, HasCause, NoServer, NotOpened, NotRead, NotComposed}
-use Rattle.headline.specs.Orderly.{FirstDatagram, MayClose, ReplyBeforeItsSend}
+use Rattle.headline.specs.Causes.{WasOpening, HasCause, NoServer, NotOpened, NotRead, NotComposed}
+use Rattle.headline.specs.Orderly.{FirstDatagram, MaySend, MayClose, ReplyBeforeItsSend}
 use Rattle.headline.specs.Right.{HasServer}
 use Rattle.headline.specs.Machine.{Stage, Queued, Loose, Trying, Sent, Held, State, Done, DueLater, Quiet, nothing, then_do, try, enter, admit, newcomer, line_up, refuse, enter_or_refuse, refusal_of, with_owner, with_held, finish, send_composed, opened_at, failed_at, dispatch, dispatched, content}
 use Rattle.headline.proofs.Kept.{first_site, StageFits, TryingFits, Kept}
+use Rattle.headline.proofs.Carried.{carried_by}
 use Rattle.headline.proofs.Views.{each_at}
 use Rattle.headline.proofs.Opening.{reopens}
 use Rattle.headline.proofs.Entering.{enters, lines_up}
@@ -177,15 +178,25 @@ finish_about c past w p k a x s h not_ask about pt quiet at held d = weaken c pa
 
 -- Opened
 
-send_does : (c : Conf) (past : History) (p k q id : ℕ) (o : Octets) (a : Held) (s : State) (h : History) → Point c past (Opened p) (Opened p) None 0 s h → Quiet c.timeout s → s.at p ≡ Some k → s.held k ≡ Some a → a.stage ≡ Trying q → site p h ≡ Some first_site → Carries o a.request id
+send_does : (c : Conf) (past : History) (p k q id : ℕ) (o : Octets) (a : Held) (s : State) (h : History) → Point c past (Opened p) (Opened p) None 0 s h → Quiet c.timeout s → s.at p ≡ Some k → s.held k ≡ Some a → a.stage ≡ Trying q → TryingFits past (Opened p) p h → CarriesBy Dgram o a.request id
     → Does c past (Opened p) (Settled c past) (record { state = dispatch p k id a s; outs = Send p k id o ∷ [] }) h
-send_does c past p k q id o a s h pt quiet at held stage here carries =
+send_does c past p k q id o a s h pt quiet at held stage fits carries =
     let pos = read_timeout_pos in
     let f = pt.kept.reqs k a held in
-    let few : sends k 0 h < 6 = (let x = f.few in let y = f.trials in grind arith) in
-    let at_first : (x : ℕ) → is_at Dgram x p h ≡ true → 0 ≡ x = λ x e. (let y : is_site Dgram x (Some first_site) ≡ true = rw here at e in grind (arith, nat_tests)) in
+    let may : MaySend k p id o past h = record {
+      server = 0;
+      at = fits.at;
+      alive = (let e = fits.stand in grind (arith, nat_tests));
+      unsent = fits.unsent;
+      has_it = f.started;
+      few = (let x = f.few in let y = f.trials in grind arith);
+      waited = pt.before k f.unreplied;
+      asking_of = record { request = a.request; moment = a.moment };
+      asked = f.asking;
+      carries = carries;
+    } in
     record {
-      right = λ end later. ((pt.kept.served k a held, λ x e. subst (λ x. sends k x h < 6) (at_first x e) few), tt);
+      right = λ end later. ((pt.kept.served k a held, may), tt);
       leaves = record {
         kept = sending.sends c past s p k q id o a h pt.kept at held stage carries;
         quiet = each_at (λ j b. DueLater c.timeout s.now b) k (dispatched p id a s.now) s.held
@@ -203,13 +214,13 @@ unsent_does c past p k e a s h pt quiet at held fits misfit =
     finish_about c past (Opened p) p k a (Err e) s h refl (about_opened past p) pt quiet at held
     (finish_does c past (Opened p) (Opened p) s p k a (Err e) h pt at held may (not_composed c past (Opened p) (Put (Close p) ∷ h) k a.moment a.request e f.asking misfit))
 
-pub opened_does : (c : Conf) (compose : Request → Result Octets Error) (has_server : Bool) (past : History) (p id : ℕ) (s : State) (h : History) → Composes compose → Point c past (Opened p) (Opened p) None 0 s h → Quiet c.timeout s → Does c past (Opened p) (Settled c past) (content compose has_server (Opened p) id s) h
-opened_does c compose has_server past p id s h composes pt quiet = owner_does c past (Opened p) (Settled c past) (λ k a. opened_at compose has_server p id a.stage k a) p s h pt.kept
+pub opened_does : (c : Conf) (compose : Request → Result Octets Error) (has_server : Bool) (past : History) (p id : ℕ) (s : State) (h : History) → Composes compose → id < 65536 → Point c past (Opened p) (Opened p) None 0 s h → Quiet c.timeout s → Does c past (Opened p) (Settled c past) (content compose has_server (Opened p) id s) h
+opened_does c compose has_server past p id s h composes small pt quiet = owner_does c past (Opened p) (Settled c past) (λ k a. opened_at compose has_server p id a.stage k a) p s h pt.kept
     (λ none. ignore_does c past (Opened p) s h pt quiet refl (turn_none past (Opened p) p s (about_opened past p) none))
     (λ k a at held fits. at_stage k a at held a.stage refl fits)
   where
     composed : (k q : ℕ) (a : Held) → s.at p ≡ Some k → s.held k ≡ Some a → a.stage ≡ Trying q → TryingFits past (Opened p) p h → (x : Result Octets Error) → compose (under id a.request) ≡ x → Does c past (Opened p) (Settled c past) (send_composed p id k a s x) h
-    composed k q a at held stage fits (Ok o) e = send_does c past p k q id o a s h pt quiet at held stage fits.at (composes.carries a.request id o (pt.kept.reqs k a held).in_octets e)
+    composed k q a at held stage fits (Ok o) e = send_does c past p k q id o a s h pt quiet at held stage fits (carried_by a.request id o small (composes.carries a.request id o (pt.kept.reqs k a held).in_octets e))
     composed k q a at held stage fits (Err x) e = unsent_does c past p k x a s h pt quiet at held fits (composes.refused_under a.request id x (pt.kept.reqs k a held).in_octets e)
 
     at_stage : (k : ℕ) (a : Held) → s.at p ≡ Some k → s.held k ≡ Some a → (st : Stage) → a.stage ≡ st → StageFits past (Opened p) p k a.request h st → Does c past (Opened p) (Settled c past) (opened_at compose has_server p id st k a s) h

@@ -104,6 +104,7 @@ pub record Old (past : History) (p id t k : ℕ) (r : Request) (octets : Octets)
   pub alive : stand p past ≡ Alive
   pub at : site p past ≡ Some first_site
   pub asked : (u : ℕ) × (asking k past ≡ Some (record { request = r; moment = u }))
+  pub begun : started k 0 Dgram past ≡ true
   pub unanswered : (n : ℕ) → n < t + read_timeout → unanswered r p k id n past ≡ octets ∷ []
   pub named : IsOneOf (record { id = id; octets = octets }) (named p k past)
 

@@ -2,6 +2,7 @@ pub mod Counts
 pub mod Kept
 pub mod Starting
 pub mod Copying
+pub mod Carried
 pub mod Composing
 pub mod Wrong
 pub mod Worked

@@ -128,7 +128,7 @@ broken_does c past told w p x s h is pt quiet not_ask is_told_of opens says_noth
     at_stage k a at held (Trying q) e fits = skip
     at_stage k a at held (Sent q i t) e fits =
         let old : Old past p i t k a.request (fits.1).octets = elim (fits.1).lived [ inl y ↦ absurd (told_now y.0) | inr o ↦ o ] in
-        let failed : FailedAt told k past w = record { place = p; is_told = is; request = a.request; asked = old.asked; send = record { id = i; octets = (fits.1).octets }; named_there = old.named; carries = (fits.1).carries } in
+        let failed : FailedAt told k past w = record { place = p; server = 0; is_told = is; at = rw old.at refl; alive = old.alive; has_it = old.begun; request = a.request; asked = old.asked; send = record { id = i; octets = (fits.1).octets }; named_there = old.named; carries = (fits.1).carries } in
         let pt' : Point c past w Tick None 0 s h = record { kept = ignores c past w s h pt.kept not_ask turned; newest = pt.newest; before = pt.before; free = λ q le. opens q; asked_here = λ e. absurd (cc) } in
         let d = finish_does c past w Tick s p k a (Err x) h pt' at held (λ end e. may_close c p past w h end (fits.1).at (ItsFault is_told_of)) (cause k (Put (Close p) ∷ h) failed) in
         weaken c past w (λ s' h'. Ends c past w Tick k s s' h' × (s'.at p ≡ None)) (Settled c past) (finish p k a (Err x) s) h (λ s' h' e. record { kept = (e.0).point.kept; quiet = quiet_still c.timeout k s s' (e.0).goes quiet }) d

@@ -75,11 +75,11 @@ if_among : (b : Bool) (o : Octets) (l : List Octets) → IsAmong o (if b then []
 if_among true o l i = absurd i
 if_among false o l i = i
 
-row_slot : (past : History) (p k : ℕ) (r : Request) (e : Event) (h : History) (st : Stage) → ((u : ℕ) × (asking k h ≡ Some (record { request = r; moment = u }))) → StageFits past Tick p k r h st → StageFits h e.what p k r (Came e ∷ h) st
-row_slot past p k r e h Queued ask f = f
-row_slot past p k r e h Loose ask f = f
-row_slot past p k r e h (Trying q) ask f = (f.0, record { was = inl f.1.stand; stand = ap (on_event e.what p) f.1.stand; at = f.1.at; unsent = f.1.unsent; none = λ r j i n. if_none _ _ (f.1.none r j i n) })
-row_slot past p k r e h (Sent q id t) ask f = (
+row_slot : (past : History) (p k : ℕ) (r : Request) (e : Event) (h : History) (st : Stage) → ((u : ℕ) × (asking k h ≡ Some (record { request = r; moment = u }))) → started k 0 Dgram h ≡ true → StageFits past Tick p k r h st → StageFits h e.what p k r (Came e ∷ h) st
+row_slot past p k r e h Queued ask begun f = f
+row_slot past p k r e h Loose ask begun f = f
+row_slot past p k r e h (Trying q) ask begun f = (f.0, record { was = inl f.1.stand; stand = ap (on_event e.what p) f.1.stand; at = f.1.at; unsent = f.1.unsent; none = λ r j i n. if_none _ _ (f.1.none r j i n) })
+row_slot past p k r e h (Sent q id t) ask begun f = (
   f.0,
   record {
     octets = f.1.octets;
@@ -89,7 +89,7 @@ row_slot past p k r e h (Sent q id t) ask f = (
     sent = f.1.sent;
     named = f.1.named;
     last = f.1.last;
-    lived = inr (record { alive = f.1.stand; at = f.1.at; asked = ask; unanswered = λ n lt. f.1.is_open refl n lt; named = f.1.named });
+    lived = inr (record { alive = f.1.stand; at = f.1.at; asked = ask; begun = begun; unanswered = λ n lt. f.1.is_open refl n lt; named = f.1.named });
     is_open = λ no n lt. (let y = f.1.is_open refl n lt in rw (no, y) refl);
     only = λ r' j i n o y. f.1.only r' j i n o (if_among _ o _ y);
   },
@@ -185,7 +185,7 @@ begins compose has_server c past s e h kept =
       reqs = λ j b x. (let lt = held_below c past Tick None 0 s h j b kept x in same_request j b h (Came e ∷ h) (row_ask e j h (omega arith)) (kept.reqs j b x));
       gone = λ j lt x. (let g = kept.gone j lt x in let same = row_ask e j h (omega arith) in grind (arith, same.is_asked, g));
       to_come = λ j le. let c = kept.to_come j le in record { unheld = c.unheld; asking = row_asking e.what e.moment s.asked j h count c.asking ∙ ap (λ t. pending_asking e.what s.asked (max e.moment.0 t) j) (sym kept.clock); unreplied = c.unreplied; unstarted = c.unstarted; untried = c.untried };
-      slots = λ q j at. let f = kept.slots q j at in record { owner = f.owner; is_held = f.is_held; fits = row_slot past q j f.owner.request e h f.owner.stage (f.owner.moment, (kept.reqs j f.owner f.is_held).asking) f.fits };
+      slots = λ q j at. let f = kept.slots q j at in let r = kept.reqs j f.owner f.is_held in record { owner = f.owner; is_held = f.is_held; fits = row_slot past q j f.owner.request e h f.owner.stage (f.owner.moment, r.asking) r.started f.fits };
       points = kept.points;
       dead = λ q x lt. ap (on_event e.what q) (kept.dead q x lt) ∙ row_ended e.what q;
       unused = λ q le. let c = kept.unused q le in record { unheld = c.unheld; was = c.stand; stand = ap (on_event e.what q) c.stand ∙ row_unused e.what q; nowhere = c.nowhere; unsent = c.unsent; none = λ r j i n. if_none _ _ (c.none r j i n) };

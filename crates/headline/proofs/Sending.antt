@@ -4,13 +4,13 @@ use Rattle.std.specs.Prelude.{nat_lt}
 use Rattle.std.proofs.lemmas.Bool.{cases_eq}
 use Rattle.std.proofs.lemmas.Bool.Decides.{nat_tests}
 use Rattle.client_request.specs.Request.{Request}
-use Rattle.client_request.specs.Carries.{Carries}
 use Rattle.client_request.specs.declared.event.What.{What}
 use Rattle.client_request.specs.declared.event.What.TheVariants.{Opened, Tick}
 use Rattle.client_request.specs.declared.event.Out.TheVariants.{Send}
+use Rattle.client_request.specs.declared.event.Via.TheVariants.{Dgram}
 use Rattle.headline.specs.Trace.{History, Conf, Put}
 use Rattle.headline.specs.Time.{read_timeout, now}
-use Rattle.headline.specs.Messages.{Octets}
+use Rattle.headline.specs.Messages.{Octets, CarriesBy}
 use Rattle.headline.specs.Places.{site}
 use Rattle.headline.specs.Exchanges.{is_send, unanswered, IsAmong}
 use Rattle.headline.specs.Causes
@@ -60,7 +60,7 @@ last_here p k id o t h clock at = grind (arith, nat_tests)
 one_more : (p k id n : ℕ) (o : Octets) (h : History) → site p h ≡ Some first_site → Causes.sends k 0 h ≡ n → Causes.sends k 0 (Put (Send p k id o) ∷ h) ≡ suc n
 one_more p k id n o h at e = grind (arith, nat_tests)
 
-sent_slot : (past : History) (p k id : ℕ) (a : Held) (o : Octets) (t : ℕ) (h : History) → t ≡ now h → TryingFits past (Opened p) p h → Carries o a.request id → SentFits past Tick p id t k a.request (Put (Send p k id o) ∷ h)
+sent_slot : (past : History) (p k id : ℕ) (a : Held) (o : Octets) (t : ℕ) (h : History) → t ≡ now h → TryingFits past (Opened p) p h → CarriesBy Dgram o a.request id → SentFits past Tick p id t k a.request (Put (Send p k id o) ∷ h)
 sent_slot past p k id a o t h clock f fits = record {
   octets = o;
   carries = fits;
@@ -80,7 +80,7 @@ trying_there past w held p k q a h f e stage =
     let is : f.owner.stage ≡ Trying q = grind (arith, f.is_held) in
     subst (λ st. StageFits past w p k f.owner.request h st) is f.fits
 
-sends_slots : (c : Conf) (past : History) (s : State) (p k q id : ℕ) (o : Octets) (a : Held) (h : History) → Kept c past (Opened p) None 0 s h → s.at p ≡ Some k → s.held k ≡ Some a → a.stage ≡ Trying q → Carries o a.request id
+sends_slots : (c : Conf) (past : History) (s : State) (p k q id : ℕ) (o : Octets) (a : Held) (h : History) → Kept c past (Opened p) None 0 s h → s.at p ≡ Some k → s.held k ≡ Some a → a.stage ≡ Trying q → CarriesBy Dgram o a.request id
     → (x j : ℕ) → (x ≡ p) ⊎ (x ≢ p) → s.at x ≡ Some j → PlaceFits past Tick (dispatch p k id a s).held x j (Put (Send p k id o) ∷ h)
 sends_slots c past s p k q id o a h kept at held stage fits x j (inl is) at' =
     let slot = kept.slots p k at in
@@ -93,7 +93,7 @@ sends_slots c past s p k q id o a h kept at held stage fits x j (inr ne) at' =
     let other = other_request c past (Opened p) None 0 s h p x k j kept at at' ne in
     record { owner = f.owner; is_held = grind (arith, nat_tests, f.is_held); fits = same_slot past (Opened p) Tick x j f.owner.request h (Put (Send p k id o) ∷ h) f.owner.stage (turned_open past p x f.owner.request ne) (send_other p k id x j o h ne other) f.fits }
 
-pub sends : (c : Conf) (past : History) (s : State) (p k q id : ℕ) (o : Octets) (a : Held) (h : History) → Kept c past (Opened p) None 0 s h → s.at p ≡ Some k → s.held k ≡ Some a → a.stage ≡ Trying q → Carries o a.request id → Kept c past Tick None 0 (dispatch p k id a s) (Put (Send p k id o) ∷ h)
+pub sends : (c : Conf) (past : History) (s : State) (p k q id : ℕ) (o : Octets) (a : Held) (h : History) → Kept c past (Opened p) None 0 s h → s.at p ≡ Some k → s.held k ≡ Some a → a.stage ≡ Trying q → CarriesBy Dgram o a.request id → Kept c past Tick None 0 (dispatch p k id a s) (Put (Send p k id o) ∷ h)
 sends c past s p k q id o a h kept at held stage fits =
     let asked = held_below c past (Opened p) None 0 s h k a kept held in
     let slot = kept.slots p k at in

@@ -1,5 +1,5 @@
 -- A whole step: timers fire, an event is taken, and timers fire again.
-use Rattle.std.proofs.Common.{◌≡◌, ℕ, Bool, false, None, [], ◌∷◌, ◌++◌, length, refl, arith, sym, ◌∙◌, subst, subst₂, append_assoc, Result}
+use Rattle.std.proofs.Common.{◌≡◌, ℕ, ◌<◌, Bool, false, None, [], ◌∷◌, ◌++◌, length, refl, arith, sym, ◌∙◌, subst, subst₂, append_assoc, Result}
 use Rattle.std.specs.Prelude.{nat_lt}
 use Rattle.std.proofs.lemmas.Bool.Decides.{nat_tests}
 use Rattle.client_request.specs.Request.{Request}
@@ -37,24 +37,24 @@ abbrev after_content : (compose : Request → Result Octets Error) (has_server :
 after_content compose has_server w id s last = record { state = last.state; outs = (content compose has_server w id s).outs ++ last.outs }
 
 module _ (c : Conf) (compose : Request → Result Octets Error) (composes : Composes compose) where
-  content_does : (past : History) (w : What) (id : ℕ) (s : State) (h : History) (last : Done) → Point c past w w None 0 s h → Quiet c.timeout s → IsUncut w → IsAskedInOctets w
+  content_does : (past : History) (w : What) (id : ℕ) (s : State) (h : History) (last : Done) → id < 65536 → Point c past w w None 0 s h → Quiet c.timeout s → IsUncut w → IsAskedInOctets w
       → Fires c.timeout (content compose (nat_lt 0 (length c.servers)) w id s).state last → Does c past w (Settled c past) (after_content compose (nat_lt 0 (length c.servers)) w id s last) h
-  content_does past (Ask r) id s h last pt quiet whole octets fires =
+  content_does past (Ask r) id s h last small pt quiet whole octets fires =
       let d = content compose (nat_lt 0 (length c.servers)) (Ask r) id s in
       both_do c past (Ask r) (Point c past (Ask r) Tick None 0) (Settled c past) d last h (ask_does c compose past r id s h composes octets pt)
       (λ e. weaken c past (Ask r) (Fired c past (Ask r) Tick d.state) (Settled c past) last (put_all d.outs h) (λ s' h' f. record { kept = f.point.kept; quiet = f.quiet }) (fires_does c past (Ask r) Tick d.state last (put_all d.outs h) fires e))
-  content_does past (Opened p) id s h last pt quiet whole octets fires = then_quiet c past (Opened p) _ last h (opened_does c compose (nat_lt 0 (length c.servers)) past p id s h composes pt quiet) fires
-  content_does past (OpenFailed p f) id s h last pt quiet whole octets fires = then_quiet c past (OpenFailed p f) _ last h (failed_does c compose (nat_lt 0 (length c.servers)) past p f id s h pt quiet) fires
-  content_does past (Datagram p o) id s h last pt quiet whole octets fires = then_quiet c past (Datagram p o) _ last h (datagram_does c compose (nat_lt 0 (length c.servers)) past p o id s h pt quiet whole) fires
-  content_does past (SendFailed p f) id s h last pt quiet whole octets fires = then_quiet c past (SendFailed p f) _ last h (send_failed_does c compose (nat_lt 0 (length c.servers)) past p f id s h pt quiet) fires
-  content_does past (ShortSend p) id s h last pt quiet whole octets fires = then_quiet c past (ShortSend p) _ last h (short_send_does c compose (nat_lt 0 (length c.servers)) past p id s h pt quiet) fires
-  content_does past (RecvFailed p f) id s h last pt quiet whole octets fires = then_quiet c past (RecvFailed p f) _ last h (receive_failed_does c compose (nat_lt 0 (length c.servers)) past p f id s h pt quiet) fires
-  content_does past (Wrote p n) id s h last pt quiet whole octets fires = plain_does c past (Wrote p n) last s h refl (λ q. refl) (λ q. refl) pt quiet fires
-  content_does past (WriteFailed p f) id s h last pt quiet whole octets fires = plain_does c past (WriteFailed p f) last s h refl (λ q. refl) (λ q. refl) pt quiet fires
-  content_does past (Bytes p o) id s h last pt quiet whole octets fires = plain_does c past (Bytes p o) last s h refl (λ q. refl) (λ q. refl) pt quiet fires
-  content_does past (ReadFailed p f) id s h last pt quiet whole octets fires = plain_does c past (ReadFailed p f) last s h refl (λ q. refl) (λ q. refl) pt quiet fires
-  content_does past (Ended p) id s h last pt quiet whole octets fires = plain_does c past (Ended p) last s h refl (λ q. refl) (λ q. refl) pt quiet fires
-  content_does past Tick id s h last pt quiet whole octets fires = plain_does c past Tick last s h refl (λ q. refl) (λ q. refl) pt quiet fires
+  content_does past (Opened p) id s h last small pt quiet whole octets fires = then_quiet c past (Opened p) _ last h (opened_does c compose (nat_lt 0 (length c.servers)) past p id s h composes small pt quiet) fires
+  content_does past (OpenFailed p f) id s h last small pt quiet whole octets fires = then_quiet c past (OpenFailed p f) _ last h (failed_does c compose (nat_lt 0 (length c.servers)) past p f id s h pt quiet) fires
+  content_does past (Datagram p o) id s h last small pt quiet whole octets fires = then_quiet c past (Datagram p o) _ last h (datagram_does c compose (nat_lt 0 (length c.servers)) past p o id s h pt quiet whole) fires
+  content_does past (SendFailed p f) id s h last small pt quiet whole octets fires = then_quiet c past (SendFailed p f) _ last h (send_failed_does c compose (nat_lt 0 (length c.servers)) past p f id s h pt quiet) fires
+  content_does past (ShortSend p) id s h last small pt quiet whole octets fires = then_quiet c past (ShortSend p) _ last h (short_send_does c compose (nat_lt 0 (length c.servers)) past p id s h pt quiet) fires
+  content_does past (RecvFailed p f) id s h last small pt quiet whole octets fires = then_quiet c past (RecvFailed p f) _ last h (receive_failed_does c compose (nat_lt 0 (length c.servers)) past p f id s h pt quiet) fires
+  content_does past (Wrote p n) id s h last small pt quiet whole octets fires = plain_does c past (Wrote p n) last s h refl (λ q. refl) (λ q. refl) pt quiet fires
+  content_does past (WriteFailed p f) id s h last small pt quiet whole octets fires = plain_does c past (WriteFailed p f) last s h refl (λ q. refl) (λ q. refl) pt quiet fires
+  content_does past (Bytes p o) id s h last small pt quiet whole octets fires = plain_does c past (Bytes p o) last s h refl (λ q. refl) (λ q. refl) pt quiet fires
+  content_does past (ReadFailed p f) id s h last small pt quiet whole octets fires = plain_does c past (ReadFailed p f) last s h refl (λ q. refl) (λ q. refl) pt quiet fires
+  content_does past (Ended p) id s h last small pt quiet whole octets fires = plain_does c past (Ended p) last s h refl (λ q. refl) (λ q. refl) pt quiet fires
+  content_does past Tick id s h last small pt quiet whole octets fires = plain_does c past Tick last s h refl (λ q. refl) (λ q. refl) pt quiet fires
 
   -- the point at which a row's timers fire
   row_point : (old past : History) (e : Event) (s : State) → Kept c old Tick None 0 s past → Point c past e.what e.what None 0 (clock compose (nat_lt 0 (length c.servers)) e.moment.0 s) (Came e ∷ past)
@@ -70,5 +70,5 @@ module _ (c : Conf) (compose : Request → Result Octets Error) (composes : Comp
       let w = row.event.what in
       let d = both_do c past w (Fired c past w w (clock compose (nat_lt 0 (length c.servers)) row.event.moment.0 s)) (Settled c past) step.first (after_content compose (nat_lt 0 (length c.servers)) w step.id step.first.state step.last) (Came row.event ∷ past)
       (first_fires old past row.event s step.first kept step.fires)
-      (λ f. content_does past w step.id step.first.state (put_all step.first.outs (Came row.event ∷ past)) step.last f.point f.quiet whole octets step.fires_again) in
+      (λ f. content_does past w step.id step.first.state (put_all step.first.outs (Came row.event ∷ past)) step.last step.small f.point f.quiet whole octets step.fires_again) in
       subst₂ (λ s o. Does c past w (Settled c past) (record { state = s; outs = o }) (Came row.event ∷ past)) (sym step.leaves) (sym (step.outs ∙ append_assoc step.first.outs (content compose (nat_lt 0 (length c.servers)) w step.id step.first.state).outs step.last.outs)) d

@@ -1,27 +1,33 @@
 -- Traces that are not right.
 use Rattle.std.proofs.Common.{◌≡◌, ℕ, ◌<◌, ◌≤◌, Bool, true, false, inl, inr, Option, Some, [], ◌∷◌, length, take, refl, arith, sym, ap, subst, subst₂}
 use Rattle.std.specs.Prelude.{if◌then◌else◌}
+use Rattle.std.specs.Option.{option_map_or}
 use Rattle.std.proofs.lemmas.Bool.Decides.{nat_tests}
 use Rattle.std.proofs.lemmas.Bool.{cases_eq, le-leb}
 use Rattle.client_request.specs.Request.{Request}
-use Rattle.client_request.specs.Carries.{Carries}
+use Rattle.client_request.specs.Carries.{IsOfOctets}
 use Rattle.client_request.specs.declared.error.Error.TheVariants.{TimedOut}
+use Rattle.client_request.specs.declared.error.Error.TheVariants as errors
+use Rattle.client_request.specs.declared.error.QueryError.TheVariants.{Receive}
+use Rattle.client_request.specs.declared.fault.Fault.{Fault}
 use Rattle.client_request.specs.declared.event.What.{What}
-use Rattle.client_request.specs.declared.event.What.TheVariants.{Ask, Opened, Datagram, Tick}
+use Rattle.client_request.specs.declared.event.What.TheVariants.{Ask, Opened, Datagram, RecvFailed, Tick}
 use Rattle.client_request.specs.declared.event.Out.TheVariants.{Start, OpenDgram, Send, Close}
 use Rattle.client_request.specs.declared.event.Via.{Via}
 use Rattle.client_request.specs.declared.event.Via.TheVariants.{Dgram, Stream}
 use Rattle.headline.specs.Trace.{History, Conf, Came, Put}
 use Rattle.headline.specs.Time.{read_timeout, one_if}
-use Rattle.headline.specs.Messages.{Octets, answers, truncated, is_valid}
-use Rattle.headline.specs.Requests.{Asking}
-use Rattle.headline.specs.Places.{stand, Alive, is_at}
+use Rattle.headline.specs.Messages.{Octets, answers, is_valid}
+use Rattle.headline.specs.Requests.{Asking, replied, started}
+use Rattle.headline.specs.Places.{Site, is_site, is_at, stand, Alive}
 use Rattle.headline.specs.Exchanges.{unanswered, IsAmong, IsOpen, Matches, came}
 use Rattle.headline.specs.Replies.{OkIsRight, Fresh}
-use Rattle.headline.specs.Causes.{sends, HasCause, Deadline, IsOverdue, PastDeadline, PastTries}
+use Rattle.headline.specs.Causes.{sends, named, IsOneOf, FailedAt, HasCause, Deadline, NotReceived, IsOverdue, PastDeadline, PastTries}
+use Rattle.headline.specs.Orderly.{MaySend}
 use Rattle.headline.specs.Busy.{IsBusy, Exchanging, PlaceIsOpening, PlacesAreTaken}
-use Rattle.headline.specs.Right.{Right, Timely, OutRight}
-use Rattle.headline.specs.Examples.{replied_twice, nothing_sent, taken, taken_when_closed, timed_out_early, passed_over, still_waiting}
+use Rattle.headline.specs.Right.{Right, Timely, HasServer}
+use Rattle.headline.specs.Examples.{replied_twice, nothing_sent, sent_too_soon, sent_nowhere, sent_at_once, sent_elsewhere, blamed_unsent, blamed_when_closed, taken, taken_when_closed, timed_out_early, passed_over, still_waiting, IsAnswered}
+use Rattle.headline.proofs.Carried.{carried_id, carried_by}
 
 pub twice : (c : Conf) (r : Request) → Right c (replied_twice r) → ⊥
 twice c r h = let f = h.0.outs.1.1.1.0 in let x = f.0.none in absurd (cc)
@@ -138,16 +144,85 @@ module _ (c : Conf) (r : Request) (o m : Octets) where
   unfolding read_timeout
   read_timeout_pos = omega arith
 
-  pub passes_over : 0 < length c.servers → 0 < c.timeout → Carries o r 7 → 12 ≤ length (take 2000 m) → answers r 7 (take 2000 m) ≡ true → truncated (take 2000 m) ≡ false → Right c (passed_over r o m) → ⊥
-  passes_over some pos carries long agrees whole h =
+  pub passes_over : HasServer c → 0 < c.timeout → IsAnswered r o m → Right c (passed_over r o m) → ⊥
+  passes_over some pos is h =
       let pos' = read_timeout_pos in
       let among : IsAmong o (unanswered r 0 0 7 0 (sent_history r o)) = grind (arith, nat_tests) in
-      let open_it : IsOpen c r Dgram 0 0 0 7 0 (sent_history r o) = record { stands = record { asked = (0, refl); waiting = refl; alive = refl; at = refl; known = some }; octets = o; sent = among; carries = carries } in
-      let come : came 0 (Datagram 0 m) (sent_history r o) ≡ take 2000 m ∷ [] = rw le-leb refl in
-      h.1.1.0.prompt r Dgram 0 0 0 7 (take 2000 m) (record { comes = record { is_open = open_it; first = rw come refl }; agrees = agrees; whole = rw whole refl }) (in_time pos)
+      let open_it : IsOpen c r Dgram 0 0 0 7 0 (sent_history r o) = record { stands = record { asked = (0, refl); waiting = refl; alive = refl; at = refl; known = some }; octets = o; sent = among; carries = carried_by r 7 o (omega arith) is.carries } in
+      let come : came 0 (Datagram 0 m) (sent_history r o) ≡ take 2000 m ∷ [] = rw (le-leb 12 (length (take 2000 m)) is.long) refl in
+      h.1.1.0.prompt r Dgram 0 0 0 7 (take 2000 m) (record { comes = record { is_open = open_it; first = rw come refl }; agrees = is.agrees; whole = rw is.whole refl }) (in_time pos)
 
   pub late : (n : ℕ) → c.timeout ≤ n → Timely c (still_waiting n r o) → ⊥
   late n old h = let lt = h.1.1.0 0 (record { request = r; moment = 0 }) refl refl in absurd (omega arith)
 
-pub seventh : (c : Conf) (past : History) (w : What) (h end : History) (p k id s : ℕ) (o : Octets) → is_at Dgram s p h ≡ true → 6 ≤ sends k s h → OutRight c past w h end (Send p k id o) → ⊥
-seventh c past w h end p k id s o at all right = let lt = right.1 s at in absurd (omega arith)
+-- Sends that owe something
+
+module _ (past h : History) (p k id : ℕ) where
+  pub seventh : (s : ℕ) (o : Octets) → is_at Dgram s p h ≡ true → 6 ≤ sends k s h → MaySend k p id o past h → ⊥
+  seventh s o at all may =
+      let y : is_site Dgram s (Some (record { via = Dgram; server = may.server })) ≡ true = rw may.at at at in
+      let is : may.server ≡ s = grind (arith, nat_tests) in
+      let few : sends k s h < 6 = subst (λ s. sends k s h < 6) is may.few in
+      absurd (omega arith)
+
+  pub after_reply : (o : Octets) → replied k past ≡ true → MaySend k p id o past h → ⊥
+  after_reply o done may = let w = may.waited in absurd (cc)
+
+  pub great_id : (o : Octets) → 65536 ≤ id → MaySend k p id o past h → ⊥
+  great_id o great may = let e = carried_id o may.asking_of.request id may.carries.0 in let f = may.carries.1 in absurd (omega arith)
+
+pub too_short : (r : Request) → length r.base < 12 → IsOfOctets r → ⊥
+too_short r short h = let l = h.long in absurd (omega arith)
+
+-- the place of which an event tells that reading failed
+abbrev place_of : What → ℕ
+place_of (RecvFailed p f) = p
+place_of _ = 0
+
+module _ (c : Conf) where
+  pub nowhere : (o : Octets) → Right c (sent_nowhere o) → ⊥
+  nowhere o h = let e = h.0.outs.0.1.at in absurd (cc)
+
+  module _ (r : Request) where
+    pub too_soon : (o : Octets) → Right c (sent_too_soon r o) → ⊥
+    too_soon o h = let e = h.0.outs.1.1.0.1.alive in absurd (cc)
+
+    pub at_once : (o : Octets) → Right c (sent_at_once r o) → ⊥
+    at_once o h = let e = h.1.0.outs.1.0.1.unsent in absurd (cc)
+
+    abbrev elsewhere_history : History
+    elsewhere_history = Came (record { moment = record { 0 = 0 }; what = Opened 0 }) ∷ Put (OpenDgram 0 1) ∷ Put (Start 0 0 Dgram) ∷ Came (record { moment = record { 0 = 0 }; what = Ask r }) ∷ []
+
+    pub elsewhere : (o : Octets) → Right c (sent_elsewhere r o) → ⊥
+    elsewhere o h =
+        let may = h.1.0.outs.0.1 in
+        let e : Path (Option Site) (Some (record { via = Dgram; server = 1 })) (Some (record { via = Dgram; server = may.server })) = may.at in
+        let is : 1 ≡ may.server = ap (λ (x : Option Site). option_map_or (λ y. y.server) x 0) e in
+        let begun : started 0 1 Dgram elsewhere_history ≡ true = subst (λ s. started 0 s Dgram elsewhere_history ≡ true) (sym is) may.has_it in
+        absurd (cc)
+
+    -- A failed reading that is blamed
+
+    told_place : (past : History) (f : Fault) (x : FailedAt (λ p. RecvFailed p f) 0 past (RecvFailed 0 f)) → 0 ≡ x.place
+    told_place past f x = ap place_of x.is_told
+
+    not_sent_there : (f : Fault) → FailedAt (λ p. RecvFailed p f) 0 (opened_history r) (RecvFailed 0 f) → ⊥
+    not_sent_there f x = subst (λ p. IsOneOf x.send (named p 0 (opened_history r))) (sym (told_place (opened_history r) f x)) x.named_there
+
+    unsent_cause : (f : Fault) (h : History) → HasCause c 0 (opened_history r) (RecvFailed 0 f) h (errors.Dgram (Receive f)) → ⊥
+    unsent_cause f h (NotReceived _ x) = not_sent_there f x
+
+    pub unsent : (f : Fault) → Right c (blamed_unsent r f) → ⊥
+    unsent f h = unsent_cause f _ h.1.1.0.outs.1.0.1
+
+    abbrev dead_history : Octets → History
+    dead_history o = Put (OpenDgram 1 0) ∷ Put (Close 0) ∷ Came (record { moment = record { 0 = 5000000 }; what = Tick }) ∷ sent_history r o
+
+    not_alive : (o : Octets) (f : Fault) → FailedAt (λ p. RecvFailed p f) 0 (dead_history o) (RecvFailed 0 f) → ⊥
+    not_alive o f x = let e : stand 0 (dead_history o) ≡ Alive = subst (λ p. stand p (dead_history o) ≡ Alive) (sym (told_place (dead_history o) f x)) x.alive in absurd (cc)
+
+    dead_cause : (o : Octets) (f : Fault) (h : History) → HasCause c 0 (dead_history o) (RecvFailed 0 f) h (errors.Dgram (Receive f)) → ⊥
+    dead_cause o f h (NotReceived _ x) = not_alive o f x
+
+    pub closed_blame : (o : Octets) (f : Fault) → Right c (blamed_when_closed r o f) → ⊥
+    closed_blame o f h = dead_cause o f _ h.1.1.1.0.outs.0.1

@@ -15,7 +15,7 @@ use Rattle.headline.specs.Trace.{History, Conf, Came, Put}
 use Rattle.headline.specs.Time.{now, read_timeout}
 use Rattle.headline.specs.Messages.{Octets, CarriesBy, base_is_read, passes_count}
 use Rattle.headline.specs.Requests.{Asking, asking, is_asked_here, started}
-use Rattle.headline.specs.Places.{is_at, Unused, Opening, Gone, stand, is_live}
+use Rattle.headline.specs.Places.{is_at, Unused, Opening, Alive, Gone, stand, is_live}
 
 -- In what follows `past` is what happened before the row, `w` is the row's event, and `h` is what happened up to here, the row's event and its outs so far included.
 
@@ -89,10 +89,14 @@ pub record FailedToOpen (k : ℕ) (f : Fault) (past : History) (w : What) (h : H
   pub at : is_at Dgram server place h ≡ true
   pub has_it : started k server Dgram h ≡ true
 
--- an event tells of a place whose send named and carried the request
+-- an event tells of a datagram place of a server that has the request; it was alive before this row, and a send there named and carried the request
 pub record FailedAt (told : ℕ → What) (k : ℕ) (past : History) (w : What) : Type 0 where
   pub place : ℕ
+  pub server : ℕ
   pub is_told : w ≡ told place
+  pub at : is_at Dgram server place past ≡ true
+  pub alive : stand place past ≡ Alive
+  pub has_it : started k server Dgram past ≡ true
   pub request : Request
   pub asked : (t : ℕ) × (asking k past ≡ Some (record { request = request; moment = t }))
   pub send : Named

@@ -1,20 +1,25 @@
 -- Traces that no right client makes: of a request that is sent once, at place 0, under id 7.
-use Rattle.std.specs.Prelude.{◌≡◌, ℕ, true, false, Some, None, List, [], ◌∷◌, ◌++◌, take, Ok, Err}
+use Rattle.std.specs.Prelude.{◌≡◌, ◌≤◌, ℕ, true, false, Some, None, List, [], ◌∷◌, ◌++◌, length, take, Ok, Err}
 use Rattle.client_request.specs.Request.{Request}
+use Rattle.client_request.specs.Carries.{Carries, IsOfOctets}
 use Rattle.client_request.specs.declared.error.Error.TheVariants.{TimedOut}
+use Rattle.client_request.specs.declared.error.Error.TheVariants as errors
+use Rattle.client_request.specs.declared.error.QueryError.TheVariants.{Receive}
+use Rattle.client_request.specs.declared.fault.Fault.{Fault}
 use Rattle.client_request.specs.declared.event.What.{What}
-use Rattle.client_request.specs.declared.event.What.TheVariants.{Ask, Opened, Datagram, Tick}
+use Rattle.client_request.specs.declared.event.What.TheVariants.{Ask, Opened, Datagram, RecvFailed, Tick}
 use Rattle.client_request.specs.declared.event.Out.{Out}
 use Rattle.client_request.specs.declared.event.Out.TheVariants.{Start, OpenDgram, Send, Close, Reply}
 use Rattle.client_request.specs.declared.event.Row.{Row}
 use Rattle.client_request.specs.declared.event.Via.TheVariants.{Dgram}
 use Rattle.headline.specs.Trace.{History, Came, Put}
 use Rattle.headline.specs.Time.{now}
-use Rattle.headline.specs.Messages.{Octets, answers, is_valid}
+use Rattle.headline.specs.Messages.{Octets, CarriesBy, answers, truncated, is_valid}
 use Rattle.headline.specs.Requests.{waits}
 use Rattle.headline.specs.Places.{site, stand, Alive, live, demand}
 use Rattle.headline.specs.Exchanges.{unanswered, came}
-use Rattle.headline.specs.Causes.{sends}
+use Rattle.headline.specs.Causes.{sends, FailedAt}
+use Rattle.headline.specs.Orderly.{MaySend}
 
 -- a row: at a moment something happens, and this is put out
 abbrev pub at : ℕ → What → List Out → Row
@@ -30,6 +35,32 @@ sent r octets rows = asked r (at 0 (Opened 0) (Send 0 0 7 octets ∷ []) ∷ row
 -- a request has two replies
 abbrev pub replied_twice : Request → List Row
 replied_twice r = at 0 (Ask r) (Start 0 0 Dgram ∷ OpenDgram 0 0 ∷ Reply 0 (Err TimedOut) ∷ Reply 0 (Err TimedOut) ∷ []) ∷ []
+
+-- the request is sent before its place has opened, and never again
+abbrev pub sent_too_soon : Request → Octets → List Row
+sent_too_soon r octets = at 0 (Ask r) (Start 0 0 Dgram ∷ OpenDgram 0 0 ∷ Send 0 0 7 octets ∷ []) ∷ at 0 (Opened 0) [] ∷ []
+
+-- octets are sent at a number that no out opened, for a request that nobody asked
+abbrev pub sent_nowhere : Octets → List Row
+sent_nowhere octets = at 0 Tick (Send 5 3 7 octets ∷ []) ∷ []
+
+-- the request is sent six times at once
+abbrev pub sent_at_once : Request → Octets → List Row
+sent_at_once r octets =
+    asked r (at 0 (Opened 0) (Send 0 0 7 octets ∷ Send 0 0 7 octets ∷ Send 0 0 7 octets ∷ Send 0 0 7 octets ∷ Send 0 0 7 octets ∷ Send 0 0 7 octets ∷ []) ∷ [])
+
+-- the request is sent at a place of a server that it was not handed to
+abbrev pub sent_elsewhere : Request → Octets → List Row
+sent_elsewhere r octets = at 0 (Ask r) (Start 0 0 Dgram ∷ OpenDgram 0 1 ∷ []) ∷ at 0 (Opened 0) (Send 0 0 7 octets ∷ []) ∷ []
+
+-- a failed reading is blamed on a place where nothing was sent
+abbrev pub blamed_unsent : Request → Fault → List Row
+blamed_unsent r f = asked r (at 0 (Opened 0) [] ∷ at 0 (RecvFailed 0 f) (Close 0 ∷ Reply 0 (Err (errors.Dgram (Receive f))) ∷ []) ∷ [])
+
+-- a failed reading is blamed on a place that was closed after 5 s
+abbrev pub blamed_when_closed : Request → Octets → Fault → List Row
+blamed_when_closed r octets f =
+    sent r octets (at 5000000 Tick (Close 0 ∷ OpenDgram 1 0 ∷ []) ∷ at 5000001 (RecvFailed 0 f) (Reply 0 (Err (errors.Dgram (Receive f))) ∷ Close 1 ∷ []) ∷ [])
 
 -- a place opens, and nothing is sent there
 abbrev pub nothing_sent : Request → List Row
@@ -47,6 +78,13 @@ taken_when_closed r octets message =
 -- the request times out after 10 microseconds
 abbrev pub timed_out_early : Request → Octets → List Row
 timed_out_early r octets = sent r octets (at 10 Tick (Close 0 ∷ Reply 0 (Err TimedOut) ∷ []) ∷ [])
+
+-- these octets carry the request under id 7, and this datagram, when it is cut, is a whole answer to it
+pub record IsAnswered (r : Request) (octets message : Octets) : Type 0 where
+  pub carries : Carries octets r 7
+  pub long : 12 ≤ length (take 2000 message)
+  pub agrees : answers r 7 (take 2000 message) ≡ true
+  pub whole : truncated (take 2000 message) ≡ false
 
 -- a datagram that comes is passed over
 abbrev pub passed_over : Request → (octets message : Octets) → List Row
@@ -74,11 +112,25 @@ answer_of high low letter =
 abbrev pub sent_example : Octets
 sent_example = 0x12 ∷ 0x34 ∷ 1 ∷ 0 ∷ 0 ∷ 1 ∷ 0 ∷ 0 ∷ 0 ∷ 0 ∷ 0 ∷ 1 ∷ question_of 101 ++ 0 ∷ 0 ∷ 41 ∷ 4 ∷ 0xd0 ∷ 0 ∷ 0 ∷ 0 ∷ 0 ∷ 0 ∷ 0 ∷ []
 
--- What happened after these rows: it is asked, its place opens, and it is sent at 10 microseconds.
+-- What happened: it is asked, its place opens at 10 microseconds, and it is sent.
+abbrev pub asked_example : History
+asked_example = Put (OpenDgram 0 0) ∷ Put (Start 0 0 Dgram) ∷ Came (record { moment = record { 0 = 0 }; what = Ask example_request }) ∷ []
+
+abbrev pub opened_example : History
+opened_example = Came (record { moment = record { 0 = 10 }; what = Opened 0 }) ∷ asked_example
+
 abbrev pub example_history : History
-example_history =
+example_history = Put (Send 0 0 4660 sent_example) ∷ opened_example
+
+-- At 5 s the first try ends, and the next place opens, which the very event of this row named before.
+abbrev pub reopened_example : History
+reopened_example = Put (OpenDgram 1 0) ∷ Put (Close 0) ∷ Came (record { moment = record { 0 = 5000010 }; what = Opened 1 }) ∷ example_history
+
+-- What would have happened had the place been of another server: the request was not handed to that.
+abbrev pub elsewhere_example : History
+elsewhere_example =
     Put (Send 0 0 4660 sent_example) ∷ Came (record { moment = record { 0 = 10 }; what = Opened 0 })
-    ∷ Put (OpenDgram 0 0) ∷ Put (Start 0 0 Dgram) ∷ Came (record { moment = record { 0 = 0 }; what = Ask example_request }) ∷ []
+    ∷ Put (OpenDgram 0 1) ∷ Put (Start 0 0 Dgram) ∷ Came (record { moment = record { 0 = 0 }; what = Ask example_request }) ∷ []
 
 -- what is computed of it
 pub record WorkedFacts : Type 0 where
@@ -98,3 +150,13 @@ pub record WorkedFacts : Type 0 where
   pub another_id : answers example_request 4660 (answer_of 0x12 0x35 101) ≡ false
   pub another_question : answers example_request 4660 (answer_of 0x12 0x34 102) ≡ false
   pub valid : is_valid example_request ≡ true
+  pub in_octets : IsOfOctets example_request
+  pub carries : CarriesBy Dgram sent_example example_request 4660
+  pub may_send : MaySend 0 0 4660 sent_example asked_example opened_example
+  pub next_try : MaySend 0 1 4660 sent_example example_history reopened_example
+  pub not_again : MaySend 0 0 4660 sent_example asked_example example_history → ⊥
+  pub not_where_it_was : MaySend 0 0 4660 sent_example example_history reopened_example → ⊥
+  pub blamed : (f : Fault) → FailedAt (λ p. RecvFailed p f) 0 example_history (RecvFailed 0 f)
+  pub not_blamed_elsewhere : (f : Fault) → FailedAt (λ p. RecvFailed p f) 0 example_history (RecvFailed 1 f) → ⊥
+  pub not_blamed_of_another_server : (f : Fault) → FailedAt (λ p. RecvFailed p f) 0 elsewhere_example (RecvFailed 0 f) → ⊥
+  pub not_yet_blamed : (f : Fault) → FailedAt (λ p. RecvFailed p f) 0 opened_example (RecvFailed 0 f) → ⊥

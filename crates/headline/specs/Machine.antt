@@ -237,9 +237,10 @@ module _ (compose : Request → Result Octets Error) (has_server : Bool) where
   clock moment s = record s { now = max moment s.now }
 
   module _ (timeout : ℕ) where
-    -- A row: timers fire, the event happens, and timers fire again.
+    -- A row: timers fire, the event happens, and timers fire again. An id has 16 bits (RFC 1035 4.1.1).
     pub record IsStep (s : State) (row : Row) (s' : State) : Type 0 where
       pub id : ℕ
+      pub small : id < 65536
       pub first : Done
       pub fires : Fires timeout (clock row.event.moment.0 s) first
       pub last : Done

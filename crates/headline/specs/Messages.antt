@@ -2,7 +2,7 @@
 use Rattle.std.specs.Prelude.{◌≡◌, ℕ, ◌+◌, Bool, true, false, not, ◌&&◌, ◌||◌, nat_lt, nat_le, ◌⊎◌, List, ◌++◌, length, map, sum, is_some, Result, Err, Ok}
 use Rattle.std.specs.Option.{option_map_or}
 use Rattle.dns_base.specs.Message.{reads}
-use Rattle.dns_base.specs.Header.{tc_of}
+use Rattle.dns_base.specs.Header.{id_of, tc_of}
 use Rattle.dns_base.specs.Answering.{is_answer}
 use Rattle.dns_base.specs.Holding.{Contents}
 use Rattle.dns_base.specs.Draft.{question_size, record_size}
@@ -16,9 +16,13 @@ use Rattle.client_request.specs.Carries.{contents_of, Carries, IsOfOctets}
 abbrev pub Octets : Type 0
 Octets = List ℕ
 
--- these octets are the request under this id, as it is sent so (RFC 1035 4.2.1, RFC 6891 6.2.3)
+-- the id of a message (RFC 1035 4.1.1)
+unfoldable pub id_in : Octets → ℕ
+id_in octets = id_of octets
+
+-- these octets are the request under this id, which they have, as it is sent so (RFC 1035 4.2.1, RFC 6891 6.2.3)
 abbrev pub CarriesBy : Via → Octets → Request → (id : ℕ) → Type 0
-CarriesBy Dgram octets r id = Carries octets r id
+CarriesBy Dgram octets r id = Carries octets r id × (id_in octets ≡ id)
 CarriesBy Stream octets r id = ⊥
 
 -- these octets are an answer to the request under this id (RFC 5452 4.2, 9.1)

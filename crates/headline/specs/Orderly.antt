@@ -1,4 +1,4 @@
--- When requests are handed on, and places opened and closed.
+-- When requests are handed on and sent, and places closed.
 use Rattle.std.specs.Prelude.{◌≡◌, ℕ, ◌+◌, ◌≤◌, ◌<◌, min, true, false, ◌==◌, if◌then◌else◌, Option, Some, None, [], ◌∷◌, length}
 use Rattle.client_request.specs.Request.{Request}
 use Rattle.client_request.specs.declared.event.What.{What}
@@ -8,10 +8,11 @@ use Rattle.client_request.specs.declared.event.Via.{Via}
 use Rattle.client_request.specs.declared.event.Via.TheVariants.{Dgram}
 use Rattle.headline.specs.Trace.{History, Conf, Came, Put}
 use Rattle.headline.specs.Time.{now, read_timeout}
-use Rattle.headline.specs.Messages.{Octets, answers}
-use Rattle.headline.specs.Requests.{replied, started}
-use Rattle.headline.specs.Places.{Site, site, is_at, is_told, live, demand}
+use Rattle.headline.specs.Messages.{Octets, CarriesBy, answers}
+use Rattle.headline.specs.Requests.{Asking, asking, replied, started}
+use Rattle.headline.specs.Places.{Site, site, is_at, is_told, Alive, stand, live, demand}
 use Rattle.headline.specs.Exchanges.{Comes}
+use Rattle.headline.specs.Causes.{sends}
 
 -- In what follows `past` is what happened before the row, `w` is the row's event, `h` is what happened up to here, and `end` is what happened when the row is done.
 
@@ -33,6 +34,19 @@ abbrev pub sending : (p : ℕ) → History → Option Sending
 sending p [] = None
 sending p (Came e ∷ h) = sending p h
 sending p (Put o ∷ h) = sending_of p o (now h) (sending p h)
+
+-- What is sent stands at an alive datagram place where nothing was sent, of a server that has the request by datagram and was sent it less than six times. The request has no reply in an earlier row, and the octets carry it under this id.
+pub record MaySend (k p id : ℕ) (octets : Octets) (past h : History) : Type 0 where
+  pub server : ℕ
+  pub at : site p h ≡ Some (record { via = Dgram; server = server })
+  pub alive : stand p h ≡ Alive
+  pub unsent : sending p h ≡ None
+  pub has_it : started k server Dgram h ≡ true
+  pub few : sends k server h < 6
+  pub waited : replied k past ≡ false
+  pub asking_of : Asking
+  pub asked : asking k h ≡ Some asking_of
+  pub carries : CarriesBy Dgram octets asking_of.request id
 
 -- the request has its reply in this row, here or later
 pub record RepliedHere (k : ℕ) (past end : History) : Type 0 where

@@ -12,16 +12,14 @@ use Rattle.client_request.specs.declared.event.Out.{Out}
 use Rattle.client_request.specs.declared.event.Out.TheVariants.{Start, OpenDgram, OpenStream, Send, Write, Resume, Close, Reply}
 use Rattle.client_request.specs.declared.event.Row.{Row}
 use Rattle.client_request.specs.declared.event.Via.{Via}
-use Rattle.client_request.specs.declared.event.Via.TheVariants.{Dgram}
 use Rattle.headline.specs.Trace.{History, Conf, Came, Put, after}
 use Rattle.headline.specs.Time.{now}
 use Rattle.headline.specs.Messages.{Octets, is_valid, truncated}
 use Rattle.headline.specs.Requests.{Asking, asking, replied, waits}
-use Rattle.headline.specs.Places.{is_at}
 use Rattle.headline.specs.Exchanges.{Matches}
 use Rattle.headline.specs.Replies.{OkIsRight}
-use Rattle.headline.specs.Causes.{sends, HasCause, IsOverdue}
-use Rattle.headline.specs.Orderly.{MayStart, MayClose, PlacesAreMet}
+use Rattle.headline.specs.Causes.{HasCause, IsOverdue}
+use Rattle.headline.specs.Orderly.{MayStart, MaySend, MayClose, PlacesAreMet}
 use Rattle.headline.specs.Busy.{IsBusy}
 
 -- In what follows `past` is what happened before the row, `w` is the row's event, `h` is what happened up to here, the row's event and its outs so far included, and `end` is what happened when the row is done.
@@ -45,7 +43,7 @@ abbrev pub OutRight : (c : Conf) (past : History) (w : What) (h end : History) �
 OutRight c past w h end (Start k s v) = HasServer c × MayStart c k s h v
 OutRight c past w h end (OpenDgram p s) = HasServer c
 OutRight c past w h end (OpenStream p s) = ⊥
-OutRight c past w h end (Send p k id o) = HasServer c × ((s : ℕ) → is_at Dgram s p h ≡ true → sends k s h < 6)
+OutRight c past w h end (Send p k id o) = HasServer c × MaySend k p id o past h
 OutRight c past w h end (Write p k id o) = ⊥
 OutRight c past w h end (Resume p o) = ⊥
 OutRight c past w h end (Close p) = HasServer c × MayClose c p past w h end
