@@ -12,11 +12,13 @@ use Rattle.dns_base.specs.declared.push_error.PushError.{PushError}
 use Rattle.dns_base.specs.Numbers.{u16_at}
 use Rattle.dns_base.specs.Message.{Asked, Known, Written, reads, item_then, items_at, items_behind, all_read, question_at, record_at, questions_of, answer_of, authority_of, answer_items, authority_items, additional_items}
 use Rattle.dns_base.specs.Answering.{question_items}
-use Rattle.dns_base.specs.Sections.{HasNoRecords, HasNoneAfter, entries_in}
+use Rattle.dns_base.specs.Sections.{HasNoRecords, HasNoneAfter, one_more_in, entries_in}
+use Rattle.dns_base.specs.Header.{Counts}
 use Rattle.dns_base.specs.OptRecord.{OptFields}
 use Rattle.dns_base.specs.Draft.{Draft, counts_in, refusal, fresh, with_header, pushed_question, pushed_record, finished}
 use Rattle.dns_base.specs.Holding.{Contents, no_contents, with_question, with_record, IsAskable, IsWritable, Holds, header_in}
 use Rattle.dns_base.proofs.Holding.{draft_laws}
+use Rattle.dns_base.proofs.Steps.{draft_steps}
 use Rattle.client_request.specs.Request.{Request, opt_written, opt_or_empty, with_id, with_payload_size}
 use Rattle.client_request.specs.Composed.{Copied, ◌>>◌, unless, asks, adds, copies, each, each_found, copies_section, section_items, adds_opt, copies_all, written_from, is_replaced, appended, message_of, composed}
 use Rattle.client_request.specs.Carries.{sent_from, records_of, opt_records, contents_of, SaysRequest, Carries, IsOpt, IsOfOctets}
@@ -49,8 +51,7 @@ not_refused None a d h = (refl, cc)
 not_refused (Some e) a d h = absurd cc
 
 room_left : (entries more : ℕ) (d : Draft) → refusal entries d more ≡ None → entries ≢ 65535
-unfolding refusal
-room_left entries more d h full = let is = eq-eqb entries 65535 full in let h' = rw is at h in absurd cc
+room_left entries more d h full = let is = draft_steps.refusals.full entries d more full in absurd cc
 
 asked : (q : Asked) (d e : Draft) → asks q d ≡ Ok e → ((counts_in d).questions ≢ 65535) × (pushed_question q d ≡ e)
 asked q d e h = let parts = not_refused _ _ e h in (room_left _ _ d parts.0, parts.1)
@@ -59,14 +60,15 @@ added : (section : Section) (w : Written) (d e : Draft) → adds section w d ≡
 added section w d e h = let parts = not_refused _ _ e h in (room_left _ _ d parts.0, parts.1)
 
 question_order : (q : Asked) (d : Draft) → HasNoRecords (counts_in d) → HasNoRecords (counts_in (pushed_question q d))
-unfolding counts_in pushed_question
-question_order q d h = h
+question_order q d h = subst HasNoRecords (sym (draft_steps.counts.question q d)) h
+
+one_more : (section : Section) (counts : Counts) → HasNoneAfter section counts → HasNoneAfter section (one_more_in section counts)
+one_more Answer counts h = h
+one_more Authority counts h = h
+one_more Additional counts h = h
 
 record_order : (section : Section) (w : Written) (d : Draft) → HasNoneAfter section (counts_in d) → HasNoneAfter section (counts_in (pushed_record section w d))
-unfolding counts_in pushed_record
-record_order Answer w d h = h
-record_order Authority w d h = h
-record_order Additional w d h = h
+record_order section w d h = subst (HasNoneAfter section) (sym (draft_steps.counts.any_record section w d)) (one_more section (counts_in d) h)
 
 -- questions
 
@@ -242,8 +244,7 @@ record AllHeld (base : List ℕ) (opt : Option OptFields) (e : Draft) : Type 0 w
   })
 
 fresh_order : HasNoRecords (counts_in (fresh None))
-unfolding counts_in fresh
-fresh_order = (refl, refl, refl)
+fresh_order = subst HasNoRecords (sym (draft_steps.counts.fresh None)) (refl, refl, refl)
 
 all_hold : (base : List ℕ) (opt : Option OptFields) (e : Draft) → AreOctets base → IfSome opt IsOpt → copies_all base opt (fresh None) ≡ Ok e → AllHeld base opt e
 all_hold base opt e octets good is =
@@ -283,10 +284,6 @@ message_done : (a : Copied) (octets : List ℕ) → message_of a ≡ Ok octets �
 message_done (Ok d) octets h = (d, refl, cc)
 message_done (Err e) octets h = absurd cc
 
-headed : (header : List ℕ) (d : Draft) → length header ≡ 4 → header_in (with_header header d) ≡ header
-unfolding header_in with_header
-headed header d four = let P : ℕ → Type 0 = λ n. take n (header ++ drop 4 d.octets) ≡ header in subst P four (take-append_seam header (drop 4 d.octets))
-
 pub composed_says : (r : Request) (octets : List ℕ) → IsOfOctets r → composed r ≡ Ok octets → SaysRequest octets r
 unfolding composed appended contents_of
 composed_says r octets h is =
@@ -308,7 +305,7 @@ composed_says r octets h is =
       are = rw (held.asked, held.answered, held.authorized, held.added) refl;
       reading = reads_back.reading;
       read = ap reads (sym wrote) ∙ reads_back.read;
-      header = reads_back.is.header_is ∙ headed r.header under.0 h.header;
+      header = reads_back.is.header_is ∙ draft_steps.headers.header r.header under.0 h.header;
       agree = reads_back.is.agree;
     }
 

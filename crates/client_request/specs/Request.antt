@@ -6,7 +6,6 @@ use Rattle.dns_base.specs.Header as head
 use Rattle.dns_base.specs.Answering.{is_answer}
 use Rattle.dns_base.specs.Data.{Opt}
 use Rattle.dns_base.specs.Message.{Written, header_of, first_question}
-use Rattle.dns_base.specs.Draft.{record_spelling}
 use Rattle.dns_base.specs.OptRecord.{OptFields, dnssec_ok}
 
 pub record Request : Type 0 where
@@ -31,9 +30,6 @@ opt_written opt = record {
   ttl = opt.ext_rcode * 2 ^ 24 + opt.version * 2 ^ 16 + opt.flags;
   content = Opt opt.options;
 }
-
-abbrev pub opt_octets : OptFields → List ℕ
-opt_octets opt = record_spelling (opt_written opt)
 
 -- an option: its code, its length and its octets
 abbrev pub option_octets : ℕ → List ℕ → List ℕ

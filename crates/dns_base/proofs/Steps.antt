@@ -2,12 +2,13 @@
 use Rattle.std.proofs.Common.{◌≡◌, ℕ, ◌+◌, ◌≤◌, List, ◌++◌, length, take, drop, refl, ap, sym, ◌∙◌, arith, length-append}
 use Rattle.std.specs.Int.{w16, to_be_bytes}
 use Rattle.std.proofs.lemmas.List.{length-drop, length-take-le, take_at, take-append-le, take-append-drop}
+use Rattle.std.proofs.lemmas.Bool.{eq-eqb, ne_eqb}
 use Rattle.dns_base.specs.Header.{Counts}
 use Rattle.dns_base.specs.Sections.{counts_spelling}
-use Rattle.dns_base.specs.Draft.{Draft, fresh, with_header, pushed_question, pushed_record, cleared, finished, size, limit_of, counts_in}
+use Rattle.dns_base.specs.Draft.{Draft, fresh, with_header, pushed_question, pushed_record, cleared, finished, size, limit_of, counts_in, refusal}
 use Rattle.dns_base.specs.Compression.{with_question, with_record}
 use Rattle.dns_base.specs.Holding.{header_in}
-use Rattle.dns_base.specs.DraftSteps.{CountSteps, LimitSteps, SizeSteps, HeaderSteps, DraftSteps}
+use Rattle.dns_base.specs.DraftSteps.{CountSteps, LimitSteps, SizeSteps, HeaderSteps, RefusalSteps, DraftSteps}
 use Rattle.dns_base.proofs.Sizes.{begins_long, data_long, head_stays, question_continues, question_at_most, record_continues, record_at_most}
 
 count_steps : CountSteps
@@ -62,5 +63,12 @@ header_steps = record {
   cleared = λ d h. sym (take-append-le 4 (take 12 d.target.octets) (drop 12 d.target.octets) (omega (arith, length-take-le 12 d.target.octets h))) ∙ ap (take 4) (take-append-drop 12 d.target.octets);
 }
 
+refusal_steps : RefusalSteps
+unfolding refusal limit_of
+refusal_steps = record {
+  full = λ entries d more full. rw (eq-eqb entries 65535 full) refl;
+  room = λ entries d more room none. rw (ne_eqb entries 65535 room, none) refl;
+}
+
 pub draft_steps : DraftSteps
-draft_steps = record { counts = count_steps; limits = limit_steps; sizes = size_steps; headers = header_steps }
+draft_steps = record { counts = count_steps; limits = limit_steps; sizes = size_steps; headers = header_steps; refusals = refusal_steps }

@@ -1,10 +1,11 @@
 -- What each step of writing changes in a draft, and what it leaves.
-use Rattle.std.specs.Prelude.{◌≡◌, ℕ, ◌+◌, ◌≤◌, List, [], ◌∷◌, length, Option}
+use Rattle.std.specs.Prelude.{◌≡◌, ◌≢◌, ℕ, ◌+◌, ◌≤◌, List, [], ◌∷◌, length, Option, Some, None}
+use Rattle.dns_base.specs.declared.push_error.PushError.TheVariants.{Count}
 use Rattle.dns_values.specs.declared.numbers.Section.{Section}
 use Rattle.dns_base.specs.Sections.{no_entries, one_question_more, one_more_in}
 use Rattle.dns_base.specs.Data.{Data, data_spelling, data_size}
 use Rattle.dns_base.specs.Message.{Asked, Written}
-use Rattle.dns_base.specs.Draft.{Draft, fresh, with_header, pushed_question, pushed_record, cleared, finished, size, limit_of, counts_in, question_size, record_size}
+use Rattle.dns_base.specs.Draft.{Draft, fresh, with_header, pushed_question, pushed_record, cleared, finished, size, limit_of, counts_in, refusal, question_size, record_size}
 use Rattle.dns_base.specs.Holding.{header_in}
 
 pub record CountSteps : Type 0 where
@@ -40,8 +41,14 @@ pub record HeaderSteps : Type 0 where
   pub any_record : (section : Section) (w : Written) (d : Draft) → 12 ≤ size d → header_in (pushed_record section w d) ≡ header_in d
   pub cleared : (d : Draft) → 12 ≤ size d → header_in (cleared d) ≡ header_in d
 
+-- A section of 65535 entries takes no more. Without a limit there is no other refusal.
+pub record RefusalSteps : Type 0 where
+  pub full : (entries : ℕ) (d : Draft) (more : ℕ) → entries ≡ 65535 → refusal entries d more ≡ Some Count
+  pub room : (entries : ℕ) (d : Draft) (more : ℕ) → entries ≢ 65535 → limit_of d ≡ None → refusal entries d more ≡ None
+
 pub record DraftSteps : Type 0 where
   pub counts : CountSteps
   pub limits : LimitSteps
   pub sizes : SizeSteps
   pub headers : HeaderSteps
+  pub refusals : RefusalSteps
