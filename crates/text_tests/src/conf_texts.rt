@@ -1,6 +1,6 @@
 //! Configurations by their texts.
 
-use dns_values::{MemSource, Octets};
+use dns_values::{MemSource, NoMemory, Octets};
 use resolv_conf::{Error, LineFault, ResolvConf};
 use std::alloc::Global;
 use std::test::Fail;
@@ -67,7 +67,7 @@ pub fn shows(alloc: Global, conf: &ResolvConf, printed: &str) -> bool {
         .is_ok_and(|text| text.as_str() == printed)
 }
 
-fn source(alloc: Global, text: &str) -> Result<MemSource, Fail> {
+fn source(alloc: Global, text: &str) -> Result<MemSource, NoMemory> {
     let octets = Octets::from_slice(alloc, text.as_bytes())?;
     Ok(MemSource::new(octets, Vec::new(alloc)))
 }
