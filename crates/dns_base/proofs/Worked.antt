@@ -1,8 +1,9 @@
 -- Worked messages, computed.
 use Rattle.std.proofs.Common.{◌≡◌, ℕ, List, [], ◌∷◌, ◌++◌, refl, Some, None}
-use Rattle.std.specs.Prelude.{option_map}
-use Rattle.dns_names.specs.Name.{name_at, walk, head_at}
-use Rattle.dns_base.specs.Data.{A, One, Opt, data_at}
+use Rattle.std.specs.Prelude.{option_map, replicate}
+use Rattle.dns_names.specs.Name.{Labels, name_at, walk, head_at, spelling}
+use Rattle.dns_base.specs.Data.{A, One, Mx, Service, Opt, data_at, data_spelling}
+use Rattle.dns_base.specs.Compression.{Compressed, found_at, name_octets, remembered, with_name, with_octets, with_data, with_question, with_fields, counted, with_counted_data, with_record}
 use Rattle.dns_base.specs.Message.{question_at, record_at, list_at, questions_of, answer_of, authority_of, additional_of, reads}
 
 abbrev example : List (List ℕ)
@@ -79,3 +80,76 @@ under_zero = refl
 pub under_one : option_map (λ x. x.0.says) (record_at ((1 ∷ 52 ∷ 0 ∷ 0 ∷ 0 ∷ 0 ∷ 0 ∷ 1 ∷ 0 ∷ 0 ∷ 0 ∷ 0 ∷ []) ++ ns) 12) ≡ Some (Some (One 2 ((52 ∷ []) ∷ [])))
 unfolding name_at walk head_at record_at data_at
 under_one = refl
+
+-- Names that are compressed (RFC 1035 4.1.4).
+
+abbrev top : Labels
+top = (99 ∷ 111 ∷ 109 ∷ []) ∷ []
+
+abbrev mail : Labels
+mail = (109 ∷ 97 ∷ 105 ∷ 108 ∷ []) ∷ example
+
+abbrev blank : Compressed
+blank = record { octets = replicate 12 0; places = [] }
+
+abbrev asked : Compressed
+asked = record { octets = replicate 12 0 ++ q; places = 12 ∷ 20 ∷ [] }
+
+-- The first name is written out, and its labels are remembered.
+pub question_written : with_question (record { name = example; rtype = 1; class = 1 }) blank ≡ asked
+unfolding name_at walk head_at with_name with_octets with_question
+question_written = refl
+
+abbrev answered : Compressed
+answered = record {
+  octets = asked.octets ++ (0xc0 ∷ 0x0c ∷ 0 ∷ 0x0f ∷ 0 ∷ 1 ∷ 0 ∷ 0 ∷ 0 ∷ 0 ∷ 0 ∷ 9 ∷ 0 ∷ 0x0a ∷ 4 ∷ 0x6d ∷ 0x61 ∷ 0x69 ∷ 0x6c ∷ 0xc0 ∷ 0x0c ∷ []);
+  places = 12 ∷ 20 ∷ 43 ∷ [];
+}
+
+-- A mail exchange in the domain that was asked for: two pointers to the question's name.
+pub answer_written : with_record (record { owner = example; rtype = 15; class = 1; ttl = 0; content = Mx 10 mail }) asked ≡ answered
+unfolding name_at walk head_at with_name with_octets with_fields with_data counted with_counted_data with_record
+answer_written = refl
+
+-- the longest suffix, and not the first that stands
+pub longest_suffix : name_octets answered ((120 ∷ []) ∷ mail) ≡ 1 ∷ 120 ∷ 0xc0 ∷ 43 ∷ []
+unfolding name_at walk head_at
+longest_suffix = refl
+
+pub shorter_suffix : name_octets answered ((120 ∷ []) ∷ top) ≡ 1 ∷ 120 ∷ 0xc0 ∷ 20 ∷ []
+unfolding name_at walk head_at
+shorter_suffix = refl
+
+-- case is ignored: EXAMPLE.com
+pub case_ignored : name_octets asked ((69 ∷ 88 ∷ 65 ∷ 77 ∷ 80 ∷ 76 ∷ 69 ∷ []) ∷ top) ≡ 0xc0 ∷ 12 ∷ []
+unfolding name_at walk head_at
+case_ignored = refl
+
+-- the first of two places
+pub first_place : found_at (replicate 12 0 ++ spelling example ++ spelling example) (12 ∷ 25 ∷ []) example ≡ Some 12
+unfolding name_at walk head_at
+first_place = refl
+
+-- no pointer stands for the root
+pub root_written : name_octets answered [] ≡ 0 ∷ []
+root_written = refl
+
+-- nor in the data of SRV and DNAME, of which no label is remembered either
+pub service_written : with_data (Service (record { priority = 1; weight = 2; port = 53; target = example })) asked ≡ record asked { octets = asked.octets ++ (0 ∷ 1 ∷ 0 ∷ 2 ∷ 0 ∷ 53 ∷ spelling example) }
+unfolding with_octets with_data data_spelling
+service_written = refl
+
+pub domain_written : with_data (One 39 example) asked ≡ record asked { octets = asked.octets ++ spelling example }
+unfolding with_octets with_data
+domain_written = refl
+
+pub alias_written : with_data (One 5 example) asked ≡ record asked { octets = asked.octets ++ (0xc0 ∷ 12 ∷ []) }
+unfolding name_at walk head_at with_name with_data
+alias_written = refl
+
+-- the last place that a pointer can name, and the first that it can't
+pub last_place : remembered 16383 [] ≡ 16383 ∷ []
+last_place = refl
+
+pub past_places : remembered 16384 [] ≡ []
+past_places = refl
