@@ -37,6 +37,7 @@ impl Model for ListDgram {
 }
 
 impl ListDgram {
+    /// A socket that receives this list call by call, and sends or fails by that one.
     pub fn new(received: Vec<Result<Octets, Fault>>, sends: Vec<Option<Fault>>) -> ListDgram
         ensures { result ≡ record { received = received.items; sends = sends.items; recv_calls = 0; send_calls = 0; faults = 0 } }
     {
@@ -121,6 +122,7 @@ impl Model for ListConnect {
 }
 
 impl ListConnect {
+    /// A connector that fails where the list has a fault, call by call, and else connects.
     pub fn new(alloc: Global, faults: Vec<Option<Fault>>) -> ListConnect
         ensures { result ≡ record { connects = faults.items; calls = 0; faults = 0 } }
     {

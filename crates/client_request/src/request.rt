@@ -75,6 +75,7 @@ impl RequestMessage {
         Ok(RequestMessage { recorded })
     }
 
+    /// The message that it was made of.
     pub fn base(&self) -> &Message
         ensures { result.now ≡ self.now.base }
     {
@@ -95,6 +96,7 @@ impl RequestMessage {
         let _recorded = &self.recorded;
     }
 
+    /// The OPT record that is recorded, if there is one.
     pub fn recorded_opt(&self) -> Option<OptRecord<'_>>
         ensures { result ≡ self.now.opt }
     {

@@ -55,12 +55,14 @@ impl RequestMessageMulti {
         })
     }
 
+    /// The message that it was made of.
     pub fn base(&self) -> &Message
         ensures { result.now ≡ self.now.base }
     {
         self.recorded.base()
     }
 
+    /// The OPT record that is recorded, if there is one.
     pub fn recorded_opt(&self) -> Option<OptRecord<'_>>
         ensures { result ≡ self.now.opt }
     {

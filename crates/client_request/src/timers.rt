@@ -19,7 +19,9 @@ pub struct TimerId(pub u64);
 /// A timer that is set: when it is due, in microseconds, and its number.
 #[derive(Clone, Copy, Debug, PartialEq, Eq)]
 pub struct Timer {
+    /// The moment at which it is due, in microseconds.
     pub due: u128,
+    /// Its number.
     pub id: u64,
 }
 
@@ -44,6 +46,7 @@ impl Model for Timers {
 }
 
 impl Timers {
+    /// No timers; the first that is set has the number 0.
     pub fn new(alloc: Global) -> Timers
         ensures { result ≡ record { next = 0; set = [] } }
     {

@@ -226,6 +226,7 @@ impl Config {
         self.cache_truncated
     }
 
+    /// Keeps truncated answers, or not.
     pub fn set_cache_truncated(&mut self, value: bool)
         ensures { self.new ≡ record self.old { cache_truncated = value } }
     {

@@ -51,6 +51,7 @@ impl Config {
         self.defer_transport_error
     }
 
+    /// Lets an error of a transport wait for the other servers, or not.
     pub fn set_defer_transport_error(&mut self, value: bool)
         ensures { self.new ≡ record self.old { defer_transport_error = value } }
     {
@@ -64,6 +65,7 @@ impl Config {
         self.defer_refused
     }
 
+    /// Lets an answer with the code REFUSED wait for the other servers, or not.
     pub fn set_defer_refused(&mut self, value: bool)
         ensures { self.new ≡ record self.old { defer_refused = value } }
     {
@@ -77,6 +79,7 @@ impl Config {
         self.defer_servfail
     }
 
+    /// Lets an answer with the code SERVFAIL wait for the other servers, or not.
     pub fn set_defer_servfail(&mut self, value: bool)
         ensures { self.new ≡ record self.old { defer_servfail = value } }
     {

@@ -14,6 +14,7 @@ pub enum NameFault {
     Parse,
     /// The text is in the grammar, and a label passes 63 octets or the name its greatest length.
     Long,
+    /// Memory ran out.
     NoMemory,
 }
 
@@ -22,6 +23,7 @@ pub enum NameFault {
 pub enum ChainFault {
     /// The name would pass 255 octets.
     Long,
+    /// Memory ran out.
     NoMemory,
 }
 

@@ -9,8 +9,11 @@ use std::marker::Model;
 /// What stands at the head of a label.
 #[derive(Clone, Copy)]
 pub enum Head {
+    /// The octet 0: the name ends.
     Root,
+    /// A label of so many octets, which follow.
     Label(usize),
+    /// The name goes on at this place (RFC 1035 4.1.4).
     Pointer(usize),
 }
 
@@ -189,6 +192,7 @@ impl<'a> ParsedName<'a> {
         ParsedName { octets, place: 0 }
     }
 
+    /// Its labels in order, without the root's.
     pub fn labels(&self) -> LabelIter<'a>
         ensures all { result ≡ self.now }
         ensures legal { IsLegal self.now }

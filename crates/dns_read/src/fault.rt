@@ -4,6 +4,7 @@ use dns_base::{NoMemory, ParseError, PushError, ShortMessage};
 use std::alloc::AllocError;
 use std::io;
 
+/// Why nothing was printed.
 #[derive(Debug, Drop)]
 pub enum ReadFault {
     /// Standard input, standard output, the arguments or the clock failed.

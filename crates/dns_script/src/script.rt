@@ -71,9 +71,14 @@ pub enum ScriptFault {
 /// words to draw, and the events of each lane.
 #[derive(Drop)]
 pub struct Script {
+    /// What its `conf` lines say.
     pub conf: ResolvConf,
+    /// The settings of the choice among servers.
     pub redundant: redundant::Config,
+    /// The settings of the cache.
     pub cache: cache::Config,
+    /// The words to draw, in order; 0 comes past their end.
     pub words: WordList,
+    /// The events, a list for each lane; one list where there are no lanes.
     pub lanes: Lanes,
 }

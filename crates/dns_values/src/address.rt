@@ -12,7 +12,9 @@ use std::net::{Ipv4Addr, Ipv6Addr};
 /// An address: four octets, or eight groups of 16 bits.
 #[derive(Clone, Copy, Debug, PartialEq, Eq, PartialOrd, Ord, Hash)]
 pub enum IpAddr {
+    /// Its four octets, the highest first.
     V4([u8; 4]),
+    /// Its eight groups, the highest first.
     V6([u16; 8]),
 }
 
@@ -47,7 +49,9 @@ impl Display for IpAddr {
 /// An address and a port.
 #[derive(Clone, Copy, Debug, PartialEq, Eq, PartialOrd, Ord, Hash)]
 pub struct SocketAddr {
+    /// The address of a host.
     pub ip: IpAddr,
+    /// The port there, of UDP or TCP.
     pub port: u16,
 }
 

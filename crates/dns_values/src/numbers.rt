@@ -99,8 +99,11 @@ pub struct Serial(pub u32);
 /// The three lists of records of a message (RFC 1035 4.1).
 #[derive(Clone, Copy, Debug, PartialEq, Eq, Hash)]
 pub enum Section {
+    /// Records that answer the question.
     Answer,
+    /// Records of the zone that is in charge.
     Authority,
+    /// Records that may help, an OPT record among them (RFC 6891 6.1.1).
     Additional,
 }
 

@@ -109,6 +109,7 @@ impl Model for SureSource {
 }
 
 impl SureSource {
+    /// A source that gives these octets.
     pub fn new(octets: Octets) -> SureSource
         ensures { result ≡ octets }
     {

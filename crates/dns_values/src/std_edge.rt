@@ -73,6 +73,7 @@ impl<R: Read> Model for StdSource<R> {
 }
 
 impl<R: Read> StdSource<R> {
+    /// The reader, with no fault counted yet.
     pub fn new(reader: R) -> StdSource<R>
         ensures { result ≡ record { inner = reader; faults = 0 } }
     {
@@ -117,6 +118,7 @@ impl<W: Write> Model for StdSink<W> {
 }
 
 impl<W: Write> StdSink<W> {
+    /// The writer, with no fault counted yet.
     pub fn new(writer: W) -> StdSink<W>
         ensures { result ≡ record { inner = writer; faults = 0 } }
     {

@@ -10,7 +10,9 @@ use std::alloc::AllocError;
 /// becomes of it, or nothing is written.
 #[derive(Drop)]
 pub enum Ending {
+    /// This status, and a line that says why.
     Says(Status, Vec<u8>),
+    /// This status, with nothing written.
     Silent(Status),
 }
 

@@ -13,7 +13,9 @@ use std::mem;
 /// The servers that a resolver asks, and its options.
 #[derive(Debug, Drop)]
 pub struct ResolvConf {
+    /// The servers, in the order in which they are written.
     pub servers: Servers,
+    /// How they are asked.
     pub options: ResolvOptions,
 }
 

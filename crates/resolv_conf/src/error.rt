@@ -19,9 +19,11 @@ pub enum IoFault {
 pub enum Error {
     /// This line, counted from 1, is outside the grammar.
     ParseError(u64),
+    /// The octets were not read, or are no text.
     Io(IoFault),
     /// There are more than 16777216 octets.
     TooLong,
+    /// Memory ran out.
     NoMemory,
 }
 

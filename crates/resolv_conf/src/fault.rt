@@ -10,6 +10,7 @@ use dns_values::NoMemory;
 pub enum LineFault {
     /// The line is outside the grammar.
     Parse,
+    /// Memory ran out.
     NoMemory,
 }
 

@@ -10,6 +10,7 @@ use std::alloc::Global;
 /// The options of a resolver; some are kept and printed alone, and change nothing else.
 #[derive(Debug, Drop)]
 pub struct ResolvOptions {
+    /// The suffixes that are tried with a short name.
     pub search: SearchList,
     /// A name with fewer dots is tried with the search list first.
     pub ndots: usize,
@@ -17,24 +18,41 @@ pub struct ResolvOptions {
     pub timeout: Duration,
     /// How often a server is asked.
     pub attempts: usize,
+    /// Kept alone: authoritative answers only (RFC 1035 4.1.1).
     pub aa_only: bool,
     /// Whether servers are asked by streams alone.
     pub use_vc: bool,
+    /// Kept alone: the primary server only.
     pub primary: bool,
+    /// Kept alone: recursion is desired (RFC 1035 4.1.1).
     pub recurse: bool,
+    /// Kept alone: a name without a dot gets the default domain.
     pub default_names: bool,
+    /// Kept alone: a connection stays open between questions.
     pub stay_open: bool,
+    /// Kept alone: parents of the domain are searched.
     pub dn_search: bool,
+    /// Kept alone: `inet6`, IPv6 addresses are asked for first.
     pub use_inet6: bool,
+    /// Kept alone: servers take turns.
     pub rotate: bool,
+    /// Kept alone: `no-check-names`, names may have any octets.
     pub no_check_name: bool,
+    /// Kept alone: TSIG records are left in messages (RFC 8945).
     pub keep_tsig: bool,
+    /// Kept alone: all servers are asked at once.
     pub blast: bool,
+    /// Kept alone: `ip6-bytestring`, reverse names of IPv6 as bit strings (RFC 2673).
     pub use_bstring: bool,
+    /// Kept alone: `ip6-dotint`, reverse names of IPv6 under ip6.int.
     pub use_ip6dotint: bool,
+    /// Kept alone: `edns0`, an OPT record is sent (RFC 6891).
     pub use_edns0: bool,
+    /// Kept alone: addresses of IPv4 and IPv6 are asked for one after the other.
     pub single_request: bool,
+    /// Kept alone: and by another socket.
     pub single_request_reopen: bool,
+    /// Kept alone: a name without a dot is not asked for as it is.
     pub no_tld_query: bool,
 }
 

@@ -57,12 +57,14 @@ impl SearchList {
         self.push(Name::root(alloc))
     }
 
+    /// How many suffixes there are.
     pub fn len(&self) -> usize
         ensures { result ≡ length self.now }
     {
         self.suffixes.len()
     }
 
+    /// Whether there is none.
     pub fn is_empty(&self) -> bool
         ensures { result ≡ (length self.now == 0) }
     {
@@ -76,6 +78,7 @@ impl SearchList {
         self.suffixes.get(pos)
     }
 
+    /// The suffixes in order.
     pub fn as_slice(&self) -> &[SearchSuffix]
         ensures { result.now ≡ self.now }
     {
