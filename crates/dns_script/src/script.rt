@@ -1,61 +1,12 @@
 //! Scripts: a configuration, words, and the events of each lane.
 
-ghost use Rattle.std.specs.Prelude.{◌≡◌, ◌++◌, [], ◌∷◌, length, OnOk, OnErr};
-
 use client_request::{Events, WordList};
 use client_settings::{cache, redundant};
-use dns_base::NoMemory;
+use dns_base::Seq;
 use resolv_conf::ResolvConf;
-use std::alloc::Global;
-use std::marker::Model;
 
 /// The events of each lane, in order.
-#[derive(Drop)]
-pub struct Lanes {
-    items: Vec<Events>,
-}
-
-impl Model for Lanes {
-    ghost use Rattle.std.specs.Prelude.{List};
-    ghost use Rattle.client_request.specs.declared.event.Event.{Event};
-
-    ghost Value = { List (List Event) };
-
-    ghost view = { λ s. s.items.items };
-}
-
-impl Lanes {
-    pub fn new(alloc: Global) -> Lanes
-        ensures { result ≡ [] }
-    {
-        Lanes {
-            items: Vec::new(alloc),
-        }
-    }
-
-    /// After want of memory nothing was added.
-    pub fn push(&mut self, item: Events) -> Result<(), NoMemory>
-        ensures ok { OnOk result (self.new ≡ self.old ++ item ∷ []) }
-        ensures err { OnErr result (self.new ≡ self.old) }
-    {
-        match self.items.push(item) {
-            Ok(()) => Ok(()),
-            Err(_) => Err(NoMemory),
-        }
-    }
-
-    pub fn len(&self) -> usize
-        ensures { result ≡ length self.now }
-    {
-        self.items.len()
-    }
-
-    pub fn as_slice(&self) -> &[Events]
-        ensures { result.now ≡ self.now }
-    {
-        self.items.as_slice()
-    }
-}
+pub type Lanes = Seq<Events>;
 
 /// Why a text was not read.
 #[derive(Clone, Copy, Debug, PartialEq, Eq)]
