@@ -24,6 +24,13 @@ said_whole line before after faults faults_after whole = record { begun = begun_
 pub said_front : (line : List ℕ) (before after : Option (List ℕ)) (faults faults_after : ℕ) → ((n : ℕ) × (after ≡ with_octets (take n line) before)) → Rose faults faults_after → IsSaid line before after faults faults_after
 said_front line before after faults faults_after front rose = record { begun = begun_front line before after front; whole_or_fault = inr rose }
 
+-- the same of another spelling of the line
+pub begun_line : (line other : List ℕ) (before after : Option (List ℕ)) → IsBegun line before after → line ≡ other → IsBegun other before after
+begun_line line other before after h same = subst (λ (l : List ℕ). IsBegun l before after) same h
+
+pub said_line : (line other : List ℕ) (before after : Option (List ℕ)) (faults faults_after : ℕ) → IsSaid line before after faults faults_after → line ≡ other → IsSaid other before after faults faults_after
+said_line line other before after faults faults_after h same = subst (λ (l : List ℕ). IsSaid l before after faults faults_after) same h
+
 -- with what a text is told to be, what is written of it is told
 told_with : (told : Option (List ℕ)) (P Q : List ℕ → Type 0) → ((text : List ℕ) → P text → Q text) → IfSome told P → IfSome told Q
 told_with None P Q f h = h
@@ -41,9 +48,6 @@ refusal_said asked command told before after faults faults_after line is h said 
     asked_for asked command (Saying told before after faults faults_after) is
     (told_with told (λ text. IsRefused command text line) (λ text. RefusalIsSaid command text before after faults faults_after) (λ text r. record { line = line; refusal = r; said = said }) h)
 
-abbrev pub Cutting : Option (List ℕ) → (before after : Option (List ℕ)) → Command → Type 0
-Cutting told before after command = IfSome told (λ text. IsCut command text before after)
-
 ran_out : (asked : Option Command) (command : Command) (told before after : Option (List ℕ)) → asked ≡ Some command
     → (after ≡ before) ⊎ IfSome told (λ text. IsLeft command text before after) → RanOut asked told before after
 ran_out asked command told before after is h = subst (λ (o : Option Command). RanOut o told before after) (sym is) h
@@ -54,23 +58,6 @@ nothing_left asked command told before after is same = ran_out asked command tol
 
 pub usage_left : (asked : Option Command) (told before after : Option (List ℕ)) → asked ≡ None → IsBegun usage_line before after → RanOut asked told before after
 usage_left asked told before after is begun = subst (λ (o : Option Command). RanOut o told before after) (sym is) begun
-
-pub output_cut : (asked : Option Command) (command : Command) (told left before after : Option (List ℕ)) (out : List ℕ)
-    → asked ≡ Some command
-    → IfSome told (λ text. IsOutput command text out × (left ≡ Some []))
-    → IsBegun out before after
-    → IfSome asked (Cutting told before after)
-output_cut asked command told left before after out is h begun =
-    asked_for asked command (Cutting told before after) is
-    (told_with told (λ text. IsOutput command text out × (left ≡ Some [])) (λ text. IsCut command text before after) (λ text o. record { out = out; output = o.0; begun = begun }) h)
-
-pub output_left : (asked : Option Command) (command : Command) (told left before after : Option (List ℕ)) (out : List ℕ)
-    → asked ≡ Some command
-    → IfSome told (λ text. IsOutput command text out × (left ≡ Some []))
-    → IsBegun out before after
-    → RanOut asked told before after
-output_left asked command told left before after out is h begun =
-    ran_out asked command told before after is (inr (told_with told (λ text. IsOutput command text out × (left ≡ Some [])) (λ text. IsLeft command text before after) (λ text o. record { out = out; sayable = is_output o.0; begun = begun }) h))
 
 pub line_left : (asked : Option Command) (command : Command) (told before after : Option (List ℕ)) (line : List ℕ) (status : ℕ)
     → asked ≡ Some command

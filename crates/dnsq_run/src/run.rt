@@ -55,6 +55,19 @@ fn say<K: Sink>(sink: &mut K, line: &[u8]) -> Result<(), NoMemory>
     }
 }
 
+/// Tells how the program is called.
+fn tell_usage<K: Sink>(sink: &mut K) -> Status
+    ensures status { (result.0 ≡ 2) ⊎ (result.0 ≡ 6) }
+    ensures begun { IsBegun usage_line (K.held sink.old) (K.held sink.new) }
+    ensures said { result.0 ≡ 2 → IsSaid usage_line (K.held sink.old) (K.held sink.new) (K.faults sink.old) (K.faults sink.new) }
+    ensures flushed { result.0 ≡ 2 → IsFlushed (K.held sink.new) (K.flushed sink.new) ⊎ Rose (K.faults sink.old) (K.faults sink.new) }
+{
+    match say(sink, USAGE_LINE.as_bytes()) {
+        Ok(()) => USAGE,
+        Err(NoMemory) => NO_MEMORY,
+    }
+}
+
 /// What a command makes of its input.
 fn output<S: Source>(alloc: Global, command: Command, source: &mut S) -> Result<Vec<u8>, Ending>
     ensures done { IfOk result (λ v. IfSome (S.left source.old) (λ text. IsOutput command text v.items × (S.left source.new ≡ Some []))) }
@@ -114,10 +127,7 @@ pub fn run_alone<S: Source, K: Sink, E: Edge, C: Clock, W: Words>(
     ensures line_flushed { EndsByLine result.0 → IsFlushed (K.held sink.new) (K.flushed sink.new) ⊎ Rose (K.faults sink.old) (K.faults sink.new) }
 {
     let Some(command) = command_of(words) else {
-        return match say(sink, USAGE_LINE.as_bytes()) {
-            Ok(()) => USAGE,
-            Err(NoMemory) => NO_MEMORY,
-        };
+        return tell_usage(sink);
     };
     input_laws();
     match output(alloc, command, source) {
