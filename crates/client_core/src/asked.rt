@@ -1,6 +1,6 @@
 //! The requests that wait for their reply.
 
-ghost use Rattle.std.specs.Prelude.{◌≡◌, ◌<◌, ◌-◌, zero, length, Some, None, Err, Ok, OnOk, OnErr, IfOk, IfErr, IsErrOf, option_map};
+ghost use Rattle.std.specs.Prelude.{◌≡◌, ◌<◌, ◌-◌, Some, None, Err, Ok, OnOk, IfErr, option_map};
 ghost use Rattle.client_request.specs.Cx.{view_of, LendsTheSame};
 ghost use Rattle.client_core.specs.Client as plain;
 ghost use Rattle.client_request.specs.Numbered.{entry_at};

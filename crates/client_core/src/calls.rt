@@ -1,12 +1,10 @@
 //! Calls of the transport, each with its replies, and the deadlines of requests.
 
-ghost use Rattle.std.specs.Prelude.{◌≡◌, ◌+◌, ◌<◌, true, zero, length, Some, None, Err, Ok, OnOk, OnErr, IfOk, IfErr, IsErrOf};
+ghost use Rattle.std.specs.Prelude.{◌≡◌, ◌+◌, ◌<◌, true, Some, None, Err, Ok, OnOk, IfErr, IsErrOf};
 ghost use Rattle.client_request.specs.Calls.{Steps, NumbersRunOut};
-ghost use Rattle.client_request.specs.Cx.{view_of, heard, LendsTheSame};
+ghost use Rattle.client_request.specs.Cx.{heard, LendsTheSame};
 ghost use Rattle.client_request.specs.Response.{IsRefusal};
-ghost use Rattle.client_request.specs.View.{told, due_timer};
 ghost use Rattle.client_core.specs.Client as plain;
-ghost use Rattle.client_request.specs.Numbered.{entry_at};
 ghost use Rattle.client_core.specs.Machines.{machine_of, client_in};
 
 use crate::asked::{Asked, Waiting, reply_all};

@@ -1,6 +1,6 @@
 //! What stands in for a choice among servers: the first one is asked.
 
-ghost use Rattle.std.specs.Prelude.{◌≡◌, true, false, ◌||◌, OnOk, OnErr, IfOk, IfErr, IsErrOf, Some, None, Err, Ok};
+ghost use Rattle.std.specs.Prelude.{◌≡◌, true, false, OnOk, IfOk, IfErr, IsErrOf, Some, None, Err, Ok};
 ghost use Rattle.client_request.specs.Calls.{Steps, NumbersRunOut};
 ghost use Rattle.client_request.specs.Cx.{view_of, heard, LendsTheSame};
 ghost use Rattle.client_request.specs.Response.{IsRefusal};

@@ -1,8 +1,8 @@
 //! One server, by the transports that are used for it.
 
-ghost use Rattle.std.specs.Prelude.{◌≡◌, true, false, OnOk, OnErr, IfOk, IfErr, IsErrOf, Some, None, Err};
+ghost use Rattle.std.specs.Prelude.{◌≡◌, true, false, OnOk, OnErr, IfOk, IfErr, IsErrOf, Err};
 ghost use Rattle.client_request.specs.Calls.{Steps, NumbersRunOut, AnswersFailed};
-ghost use Rattle.client_request.specs.Cx.{view_of, heard, LendsTheSame};
+ghost use Rattle.client_request.specs.Cx.{view_of, LendsTheSame};
 ghost use Rattle.client_request.specs.Response.{IsRefusal};
 ghost use Rattle.client_core.specs.Upstream as plain;
 

@@ -1,6 +1,6 @@
 //! The settings of a datagram transport.
 
-ghost use Rattle.std.specs.Prelude.{◌≡◌, ℕ, Option, Some, Ok};
+ghost use Rattle.std.specs.Prelude.{◌≡◌, Option, Some, Ok};
 ghost use Rattle.std.specs.Ordering.{nat_cmp};
 ghost use Rattle.client_request.specs.Limits.{limited};
 ghost use Rattle.client_dgram.specs.Settings.{Settings, default_settings};

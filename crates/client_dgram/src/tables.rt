@@ -1,9 +1,8 @@
 //! The requests that a connection works on, and where each is.
 
-ghost use Rattle.std.specs.Prelude.{◌≡◌, ◌+◌, ◌-◌, ◌<◌, ◌^◌, false, [], Option, Some, None, Err, OnOk, OnErr, IsErrOf, IfErr, IfOk, option_map};
+ghost use Rattle.std.specs.Prelude.{◌≡◌, ◌+◌, ◌-◌, ◌<◌, Option, Some, None, Err, IfErr, IfOk, option_map};
 ghost use Rattle.client_request.specs.Calls.{Steps, NumbersRunOut};
 ghost use Rattle.client_request.specs.Cx.{view_of, heard, LendsTheSame};
-ghost use Rattle.client_request.specs.View.{drawn};
 ghost use Rattle.client_request.specs.Timers.{IsWant};
 ghost use Rattle.client_dgram.specs.Plain as plain;
 ghost use Rattle.client_request.specs.Numbered.{entry_at};

@@ -2,7 +2,7 @@
 
 ghost use Rattle.std.specs.Prelude.{◌≡◌, true, false, OnOk, OnErr, IfOk, IfErr, IsErrOf};
 ghost use Rattle.client_request.specs.Calls.{Steps, NumbersRunOut, AnswersFailed};
-ghost use Rattle.client_request.specs.Cx.{view_of, view_below, heard, LendsTheSame};
+ghost use Rattle.client_request.specs.Cx.{view_below, heard, LendsTheSame};
 ghost use Rattle.client_request.specs.Response.{IsRefusal};
 
 use crate::board::Board;

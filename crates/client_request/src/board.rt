@@ -1,6 +1,6 @@
 //! Results by ticket.
 
-ghost use Rattle.std.specs.Prelude.{◌≡◌, ◌==◌, ◌<◌, ◌++◌, ◌∷◌, [], length, position, option_map, OnOk, OnErr, IfSome, slice_get};
+ghost use Rattle.std.specs.Prelude.{◌≡◌, ◌==◌, ◌<◌, [], length, position, OnOk, OnErr, IfSome};
 ghost use Rattle.client_request.specs.Board.{part_of, without_part, posted, TakesFirst};
 
 use crate::error::Error;

@@ -4,7 +4,7 @@ ghost use Rattle.std.specs.Prelude.{◌≡◌, ◌↔◌, IfOk, IfErr, IsErrOf, 
 ghost use Rattle.client_request.specs.Request as spec;
 ghost use Rattle.client_request.specs.Requests.{for_one};
 ghost use Rattle.client_request.specs.Carries.{IsOfOctets};
-ghost use Rattle.client_request.specs.Composed.{composed, appended};
+ghost use Rattle.client_request.specs.Composed.{appended};
 ghost use Rattle.client_request.specs.declared.error.Error.TheVariants as errors;
 
 use crate::compose::ComposeRequest;

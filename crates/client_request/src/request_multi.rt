@@ -1,10 +1,10 @@
 //! Requests that several messages may answer.
 
-ghost use Rattle.std.specs.Prelude.{◌≡◌, ◌↔◌, IfOk, IfErr, IsErrOf, IsTrue, false};
+ghost use Rattle.std.specs.Prelude.{◌≡◌, ◌↔◌, IfOk, IfErr, IsErrOf, false};
 ghost use Rattle.dns_base.specs.Message.{is_xfr};
 ghost use Rattle.client_request.specs.Request as spec;
 ghost use Rattle.client_request.specs.Requests.{for_several};
-ghost use Rattle.client_request.specs.Composed.{composed, appended};
+ghost use Rattle.client_request.specs.Composed.{appended};
 ghost use Rattle.client_request.specs.declared.error.Error.TheVariants as errors;
 
 use crate::compose::ComposeRequest;

@@ -1,6 +1,6 @@
 //! The trait of a transport.
 
-ghost use Rattle.std.specs.Prelude.{◌≡◌, ℕ, Bool, true, false, Option, Some, None, OnOk, OnErr, IfOk, IfErr, IsErrOf, Err};
+ghost use Rattle.std.specs.Prelude.{◌≡◌, Bool, true, false, OnOk, OnErr, IfOk, IfErr, IsErrOf};
 ghost use Rattle.client_request.specs.View.{Transport};
 ghost use Rattle.client_request.specs.Calls.{Steps, NumbersRunOut, AnswersFailed};
 ghost use Rattle.client_request.specs.Cx.{view_of, heard, LendsTheSame};

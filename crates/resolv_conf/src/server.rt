@@ -1,6 +1,6 @@
 //! Servers, and how they are asked.
 
-ghost use Rattle.std.specs.Prelude.{◌≡◌, ◌*◌, [], map, IfOk};
+ghost use Rattle.std.specs.Prelude.{◌≡◌, [], map, IfOk};
 ghost use Rattle.resolv_conf.specs.Server.{or_this_host, with_timeout};
 
 use dns_values::{Duration, IpAddr, NoMemory, Seq, SocketAddr};
