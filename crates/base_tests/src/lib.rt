@@ -7,6 +7,8 @@
 #[cfg(test)]
 mod building;
 #[cfg(test)]
+mod compression;
+#[cfg(test)]
 mod interrupts;
 #[cfg(test)]
 mod messages;

@@ -4,6 +4,7 @@ pub mod DataBack
 pub mod EntriesBack
 pub mod Holding
 pub mod Lists
+pub mod OtherLabels
 pub mod Places
 pub mod ReadData
 pub mod Readings

@@ -1,8 +1,8 @@
 //! Octets of a message that are written, with their names compressed (RFC 1035 4.1.4).
 
-ghost use Rattle.std.specs.Prelude.{◌≡◌, ◌+◌, ◌≤◌, ◌<◌, ◌^◌, ◌++◌, ◌∷◌, [], ℕ, length, take, drop, replicate, Some, None, OnOk, IfOk, IsTrue, nat_lt, if◌then◌else◌};
+ghost use Rattle.std.specs.Prelude.{◌≡◌, ◌+◌, ◌≤◌, ◌<◌, ◌^◌, ◌++◌, ◌∷◌, [], ℕ, length, take, drop, replicate, Some, None, false, OnOk, IfOk, IsTrue, nat_lt, if◌then◌else◌};
 ghost use Rattle.std.specs.Int.{w16, w32, to_be_bytes};
-ghost use Rattle.dns_names.specs.Name.{IsLegal};
+ghost use Rattle.dns_names.specs.Name.{IsLegal, Labels, same_name};
 ghost use Rattle.dns_base.specs.Compression as spec;
 ghost use Rattle.dns_base.specs.Data.{data_spelling};
 ghost use Rattle.dns_base.specs.Holding.{IsWritableData};
@@ -58,22 +58,49 @@ impl Place {
     }
 }
 
-/// Whether the rest of a name stands at a place, but for case.
-fn stands_at(octets: &[u8], place: usize, suffix: &LabelIter<'_>) -> bool
-    ensures { result ≡ spec.stands_at octets.now suffix.now place }
+/// Whether another label than this one stands at a place: a quick test, which says no where a pointer or the root does.
+fn is_other_label(octets: &[u8], place: usize, label: &[u8]) -> bool
+    ensures { IsTrue result → (rest : Labels) → spec.stands_at octets.now (label.now ∷ rest) place ≡ false }
 {
+    let count = match octets.get(place) {
+        None => return false,
+        Some(count) => *count as usize,
+    };
+    if count == 0 || count >= 64 || octets.len() - (place + 1) < count {
+        return false;
+    }
+    !label.eq_ignore_ascii_case(&octets[place + 1..place + 1 + count])
+}
+
+/// Whether a label and the rest of a name stand at a place, but for case.
+fn stands_at(octets: &[u8], place: usize, label: &[u8], rest: &LabelIter<'_>) -> bool
+    ensures { result ≡ spec.stands_at octets.now (label.now ∷ rest.now) place }
+{
+    if is_other_label(octets, place, label) {
+        return false;
+    }
     match ParsedName::parse(octets, place) {
         None => false,
-        Some((name, _)) => are_same_labels(suffix.again(), name.labels()),
+        Some((name, _)) => is_same_suffix(label, rest, name.labels()),
     }
 }
 
-/// The first of some places at which the rest of a name stands.
-fn found_at(octets: &[u8], places: &[Place], suffix: &LabelIter<'_>) -> Option<Place>
-    ensures { result ≡ spec.found_at octets.now places.now suffix.now }
+/// Whether a label and the rest of a name are the same as the labels of another, but for case.
+fn is_same_suffix(label: &[u8], rest: &LabelIter<'_>, mut labels: LabelIter<'_>) -> bool
+    ensures { result ≡ same_name (label.now ∷ rest.now) labels.entry }
+{
+    match labels.next() {
+        None => false,
+        Some(first) => label.eq_ignore_ascii_case(first) && are_same_labels(rest.again(), labels),
+    }
+}
+
+/// The first of some places at which a label and the rest of a name stand.
+fn found_at(octets: &[u8], places: &[Place], label: &[u8], rest: &LabelIter<'_>) -> Option<Place>
+    ensures { result ≡ spec.found_at octets.now places.now (label.now ∷ rest.now) }
 {
     for place in places {
-        if stands_at(octets, place.at(), suffix) {
+        if stands_at(octets, place.at(), label, rest) {
             return Some(*place);
         }
     }
@@ -148,14 +175,14 @@ impl Compressor {
         let known = self.places.len();
         let mut labels = name.labels();
         'labels: loop {
-            let suffix = labels.again();
             match labels.next() {
                 None => return self.put_octets(&[0]),
                 Some(label) => {
                     if let Some(place) = found_at(
                         &self.octets[..from],
                         &self.places[..known],
-                        &suffix,
+                        label,
+                        &labels,
                     ) {
                         return self.put_octets(&place.pointer());
                     }

@@ -33,9 +33,8 @@ returns-in-Some-found_at-clause-ok c =
     let octets = c.deref.ensures.value ∙ ap (λ (x : Compressed). x.octets) c.self-in-Some.view_is in
     let places = c.deref-in-Some.ensures.value ∙ ap (λ (x : Compressed). x.places) c.self-in-Some.view_is in
     let same = looked_up before now c.deref.result.now c.deref-in-Some.result.now c.len-from.result c.len-known.result next c.labels.invariant.kept octets places c.labels.invariant.octets_known c.labels.invariant.places_known in
-    let suffix : c.again-suffix.result ≡ next = c.again-suffix.ensures ∙ is in
     let found : found_at before.octets before.places next ≡ Some c.in-Some-found_at.place =
-    same ∙ ap (λ l. found_at (take c.len-from.result c.deref.result.now) (take c.len-known.result c.deref-in-Some.result.now) l) (sym suffix) ∙ sym c.in-Some-found_at.ensures in
+    same ∙ sym c.in-Some-found_at.ensures in
     on_ok _ _ c.put_octets-in-Some-found_at.result
     (λ e. e ∙ ap (λ o. with_octets o now) c.pointer.ensures ∙ pointer_last before now c.in-Some.label.now c.next.new.self c.in-Some-found_at.place found ∙ ap (λ l. with_rest before now l) (sym is) ∙ c.labels.invariant.same)
     c.put_octets-in-Some-found_at.ensures.ok
@@ -49,9 +48,8 @@ labels-preserved c =
     let octets = c.deref.ensures.value ∙ ap (λ (x : Compressed). x.octets) c.self-in-Some.view_is in
     let places = c.deref-in-Some.ensures.value ∙ ap (λ (x : Compressed). x.places) c.self-in-Some.view_is in
     let same = looked_up before now c.deref.result.now c.deref-in-Some.result.now c.len-from.result c.len-known.result next c.labels.invariant.kept octets places c.labels.invariant.octets_known c.labels.invariant.places_known in
-    let suffix : c.again-suffix.result ≡ next = c.again-suffix.ensures ∙ is in
     let none : found_at before.octets before.places next ≡ None =
-    same ∙ ap (λ l. found_at (take c.len-from.result c.deref.result.now) (take c.len-known.result c.deref-in-Some.result.now) l) (sym suffix) ∙ sym c.in_default.ensures in
+    same ∙ sym c.in_default.ensures in
     let legal = subst (AllByRecursion IsLabel) is c.labels.invariant.legal in
     let label = c.in-Some.label.now in
     record {
