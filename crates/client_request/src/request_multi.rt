@@ -7,8 +7,7 @@ ghost use Rattle.client_request.specs.Requests.{for_several};
 ghost use Rattle.client_request.specs.Composed.{composed, appended};
 ghost use Rattle.client_request.specs.declared.error.Error.TheVariants as errors;
 
-use crate::compose::ComposeRequest;
-use crate::compose_multi::ComposeRequestMulti;
+use crate::compose::{Compose, ComposeRequestMulti};
 use crate::error::{CopyRecordsError, Error};
 use crate::recorded::Recorded;
 use dns_base::{Builder, Header, Message, NoMemory, OptRecord, Rtype};
@@ -68,7 +67,7 @@ impl RequestMessageMulti {
     }
 }
 
-impl ComposeRequestMulti for RequestMessageMulti {
+impl Compose for RequestMessageMulti {
     ghost requests = { for_several };
 
     ghost appended = { appended };
@@ -83,6 +82,10 @@ impl ComposeRequestMulti for RequestMessageMulti {
 
     fn to_message(&self) -> Result<Message, Error> {
         self.recorded.to_message()
+    }
+
+    fn check_message(&self) -> Result<(), Error> {
+        self.recorded.check_message()
     }
 
     fn set_id(&mut self, id: u16) {
@@ -133,3 +136,5 @@ impl ComposeRequestMulti for RequestMessageMulti {
         Ok(RequestMessageMulti { recorded })
     }
 }
+
+impl ComposeRequestMulti for RequestMessageMulti {}
