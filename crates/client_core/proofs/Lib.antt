@@ -18,3 +18,4 @@ pub mod Steps
 pub mod Tables
 pub mod Tied
 pub mod TimerLaws
+pub mod Faults

@@ -19,10 +19,10 @@ has_given below (Here ticket given) = given
 has_given below (Below r) = below r
 
 -- why a request can't be sent, if it can't
-abbrev pub fault_of : (has_server : Bool) → Result (List ℕ) Error → Option Error
+abbrev pub fault_of : {M : Type 0} → (has_server : Bool) → Result M Error → Option Error
 fault_of has_server (Err error) = Some error
-fault_of true (Ok octets) = None
-fault_of false (Ok octets) = Some NoTransportAvailable
+fault_of true (Ok message) = None
+fault_of false (Ok message) = Some NoTransportAvailable
 
 -- a request that is not handed on has its error at once
 abbrev pub refused : Error → View → Option View

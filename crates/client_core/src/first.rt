@@ -87,20 +87,14 @@ fn refuse<W: Words>(cx: &mut Cx<'_, W>, error: Error) -> Result<u64, Error>
 }
 
 /// Why a request can't be sent, if it can't: it does not compose, or there is no server.
-fn fault_of<CR: ComposeRequest>(request: &CR, has_server: bool) -> Result<Option<Error>, Error>
-    ensures fault { IfOk result (λ fault. fault ≡ plain.fault_of has_server (CR.requests.composed request.now)) }
-    ensures want { IfErr result (λ e. e ≡ Error.NoMemory) }
+#[tactic(auto, using(crate::proofs::Faults::same_fault))]
+fn fault_of<CR: ComposeRequest>(request: &CR, has_server: bool) -> Option<Error>
+    ensures { result ≡ plain.fault_of has_server (CR.requests.composed request.now) }
 {
-    match request.to_message() {
-        Err(Error::NoMemory) => Err(Error::NoMemory),
-        Err(error) => Ok(Some(error)),
-        Ok(_) => {
-            if has_server {
-                Ok(None)
-            } else {
-                Ok(Some(Error::NoTransportAvailable))
-            }
-        }
+    match request.check_message() {
+        Err(error) => Some(error),
+        Ok(()) if has_server => None,
+        Ok(()) => Some(Error::NoTransportAvailable),
     }
 }
 
@@ -120,7 +114,7 @@ fn take_on<CR: ComposeRequest, U: SendRequest<CR>, W: Words>(
     ensures refused { IfErr result IsRefusal }
     ensures failed_only { IsErrOf result Error.Failed → plain.below_failed U.holds_failed upstream.old ≡ true }
 {
-    if let Some(error) = fault_of(&request, upstream.is_some())? {
+    if let Some(error) = fault_of(&request, upstream.is_some()) {
         let ticket = refuse(cx, error)?;
         return Ok(Passed::Here {
             ticket,

@@ -7,3 +7,4 @@ pub mod TimerMoves
 pub mod TimerTable
 pub mod TimerTop
 pub mod TimerKept
+pub mod Verdicts

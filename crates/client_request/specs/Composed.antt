@@ -21,8 +21,9 @@ use Rattle.client_request.specs.Request.{Request, opt_written}
 abbrev pub Copied : Type 0
 Copied = Result Draft CopyRecordsError
 
+-- one step after another, up to the first that is refused
 infixl 10 ◌>>◌
-abbrev pub ◌>>◌ : Copied → (Draft → Copied) → Copied
+abbrev pub ◌>>◌ : {D : Type 0} → Result D CopyRecordsError → (D → Result D CopyRecordsError) → Result D CopyRecordsError
 Ok d >> next = next d
 Err e >> next = Err e
 
@@ -61,7 +62,7 @@ abbrev pub copies : Section → Known → Draft → Copied
 copies section known d = if is_replaced section known then Ok d else adds section (written_from known) d
 
 -- item by item, up to the first that can't be read or is refused
-abbrev pub each : {A : Type 0} → (A → Draft → Copied) → List (Result A ParseError) → Draft → Copied
+abbrev pub each : {A D : Type 0} → (A → D → Result D CopyRecordsError) → List (Result A ParseError) → D → Result D CopyRecordsError
 each one [] d = Ok d
 each one (Ok x ∷ items) d = one x d >> each one items
 each one (Err e ∷ items) d = Err (Parse e)

@@ -7,3 +7,8 @@ use Rattle.client_request.specs.declared.error.Error.TheVariants.{NoMemory}
 abbrev pub IsComposed : Result (List ℕ) Error → Result (List ℕ) Error → Type 0
 IsComposed composed (Ok message) = composed ≡ Ok message
 IsComposed composed (Err error) = (error ≡ NoMemory) ⊎ (composed ≡ Err error)
+
+-- whether a message comes of it, or why none does
+abbrev pub without_message : Result (List ℕ) Error → Result (Unit {0}) Error
+without_message (Ok message) = Ok tt
+without_message (Err error) = Err error

@@ -2,6 +2,7 @@ pub mod Fault
 pub mod ErrorText
 pub mod Request
 pub mod Composed
+pub mod Counted
 pub mod Carries
 pub mod Words
 pub mod Numbered

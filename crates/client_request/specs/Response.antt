@@ -1,9 +1,9 @@
 -- What a request that was handed on gets.
-use Rattle.std.specs.Prelude.{ℕ, Bool, true, false, List, Option, Some, None, Result, Ok, Err}
+use Rattle.std.specs.Prelude.{◌||◌, ℕ, Bool, true, false, List, Option, Some, None, Result, Ok, Err}
 use Rattle.client_request.specs.Board.{Part, part_of, without_part}
 use Rattle.client_request.specs.declared.board.Posted.{Posted}
 use Rattle.client_request.specs.declared.error.Error.{Error}
-use Rattle.client_request.specs.declared.error.Error.TheVariants.{AlreadyDone, ConnectionClosed, NoMemory, NumbersUsed, Failed}
+use Rattle.client_request.specs.declared.error.Error.TheVariants.{AlreadyDone, ConnectionClosed, WrongReplyForQuery, NoMemory, NumbersUsed, Failed}
 use Rattle.client_request.specs.declared.response.Poll.{Poll}
 use Rattle.client_request.specs.declared.response.Poll.TheVariants.{Ready, Pending}
 
@@ -26,6 +26,28 @@ board_after false ticket board = without_part ticket board
 abbrev pub is_ready : {T : Type 0} → Poll T → Bool
 is_ready (Ready x) = true
 is_ready Pending = false
+
+-- what stands for a ticket, as one of the results of a request that several messages answer
+abbrev pub polled_part : Option Part → Poll Part
+polled_part None = Pending
+polled_part (Some part) = Ready part
+
+-- the answer to such a request of which the end was given, or not
+abbrev pub part_response_of : (ended : Bool) → ℕ → List Posted → Poll Part
+part_response_of true ticket board = Ready (Err ConnectionClosed)
+part_response_of false ticket board = polled_part (part_of ticket board)
+
+-- None is the end of a transfer, and so is each error but the one after which messages may come.
+abbrev pub is_end : Part → Bool
+is_end (Ok None) = true
+is_end (Ok (Some message)) = false
+is_end (Err WrongReplyForQuery) = false
+is_end (Err error) = true
+
+-- whether the end was given, once a result is
+abbrev pub ended_after : (ended : Bool) → Poll Part → Bool
+ended_after ended Pending = ended
+ended_after ended (Ready part) = ended || is_end part
 
 -- why a call of a transport gives up
 abbrev pub IsRefusal : Error → Type 0

@@ -14,7 +14,8 @@ use dns_base::{
 };
 use std::alloc::Global;
 
-fn section_of(base: &Message, section: Section) -> Result<RecordSection<'_>, ParseError>
+/// The records of a section.
+pub(crate) fn section_of(base: &Message, section: Section) -> Result<RecordSection<'_>, ParseError>
     ensures { MatchResult result (λ s. section_items section base.now ≡ Some s) (λ _. section_items section base.now ≡ None) }
 {
     match section {

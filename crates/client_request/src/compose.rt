@@ -1,4 +1,4 @@
-//! The trait of a request that a transport can compose and match.
+//! The traits of requests that a transport can compose and match.
 
 ghost use Rattle.std.specs.Prelude.{◌≡◌, ◌↔◌, ◌⊎◌, ℕ, Bool, List, Result, Ok, Err, IsTrue, IfOk, IfErr, OnOk, OnErr, MatchResult, IsErrOf, length};
 ghost use Rattle.std.specs.Borrow.{Lends, sem};
@@ -6,7 +6,7 @@ ghost use Rattle.dns_base.specs.contracts.header.Header.{the_row as header_row};
 ghost use Rattle.dns_base.specs.Draft.{Draft};
 ghost use Rattle.client_request.specs.declared.error.Error.{Error};
 ghost use Rattle.client_request.specs.declared.error.Error.TheVariants as errors;
-ghost use Rattle.client_request.specs.Composing.{IsComposed};
+ghost use Rattle.client_request.specs.Composing.{IsComposed, without_message};
 ghost use Rattle.client_request.specs.Requests.{Requests};
 ghost use Rattle.client_request.specs.Composed.{Copied, IsCopied, HoldsNothing};
 
@@ -14,11 +14,11 @@ use crate::error::{CopyRecordsError, Error};
 use dns_base::{Builder, Header, Message, NoMemory};
 use std::alloc::Global;
 
-/// A request that a transport sends and whose answer it knows.
+/// A message that is composed of what is recorded of a request, and told from others' answers.
 ///
 /// `requests.composed` is the message that is made of it. How its names are compressed is the business of
 /// the writer alone: no clause outside of it looks into these octets.
-pub trait ComposeRequest: Drop {
+pub trait Compose: Drop {
     /// What a transport asks of it: what is changed of it, what is sent, and what answers it.
     ghost requests: { Requests Self };
 
@@ -38,6 +38,12 @@ pub trait ComposeRequest: Drop {
     fn to_message(&self) -> Result<Message, Error>
         ensures { IsComposed (requests.composed self.now) result };
 
+    /// Whether that message can be made, or why not; it takes no memory. `MessageParseError` where the base
+    /// can't be read, and `MessageBuilderPushError` where a section would have more than 65535 entries: of
+    /// two the first in message order.
+    fn check_message(&self) -> Result<(), Error>
+        ensures { result ≡ without_message (requests.composed self.now) };
+
     /// Records an id.
     fn set_id(&mut self, id: u16)
         ensures { self.new ≡ requests.with_id id self.old };
@@ -46,8 +52,7 @@ pub trait ComposeRequest: Drop {
     fn set_udp_payload_size(&mut self, value: u16)
         ensures { self.new ≡ requests.with_payload_size value self.old };
 
-    /// Whether a message answers this request: QR is set, the id is the recorded one, and the questions
-    /// are the base's, or an error came without any entry.
+    /// Whether a message answers this request.
     fn is_answer(&self, answer: &Message) -> bool
         ensures { result ≡ requests.is_answered answer.now self.now };
 
@@ -58,10 +63,6 @@ pub trait ComposeRequest: Drop {
         requires { HoldsNothing target.old }
         ensures copied { IsCopied (appended self.now target.old) result target.new }
         ensures err { OnErr result (target.new ≡ target.old) };
-
-    /// The octets of that message.
-    fn to_vec(&self) -> Result<Vec<u8>, Error>
-        ensures { MatchResult result (λ v. requests.composed self.now ≡ Ok v.items) (λ e. IsComposed (requests.composed self.now) (Err e)) };
 
     /// The recorded header.
     fn header(&self) -> &Header
@@ -93,3 +94,15 @@ pub trait ComposeRequest: Drop {
     fn try_clone(&self, alloc: Global) -> Result<Self, NoMemory>
         ensures { IfOk result (λ copy. copy ≡ self.now) };
 }
+
+/// A request that one message answers: QR is set, the id is the recorded one, and the questions are the
+/// base's, or an error came without any entry.
+pub trait ComposeRequest: Compose {
+    /// The octets of the message that is made of it.
+    fn to_vec(&self) -> Result<Vec<u8>, Error>
+        ensures { MatchResult result (λ v. Self.requests.composed self.now ≡ Ok v.items) (λ e. IsComposed (Self.requests.composed self.now) (Err e)) };
+}
+
+/// A request that several messages may answer: such a message answers it as a single one would, or it is
+/// for a whole zone and the message has no question (RFC 5936 2.2.1).
+pub trait ComposeRequestMulti: Compose {}

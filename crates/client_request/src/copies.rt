@@ -3,7 +3,7 @@
 ghost use Rattle.std.specs.Prelude.{◌≡◌, false, IfOk, IsOk};
 ghost use Rattle.client_request.specs.Copies.{came_with_octets, has_octets};
 
-use crate::compose::ComposeRequest;
+use crate::compose::Compose;
 use crate::event::{Event, Out, What};
 use dns_base::NoMemory;
 use std::alloc::Global;

@@ -73,7 +73,7 @@ fn push_copy(
 }
 
 /// Whether the recorded OPT record takes the place of a record.
-fn is_replaced(section: Section, source: &Record<'_>) -> bool
+pub(crate) fn is_replaced(section: Section, source: &Record<'_>) -> bool
     ensures { result ≡ is_replaced section source.now }
 {
     match section {

@@ -1,6 +1,6 @@
 //! Why a request got no message, or a call gave up.
 
-ghost use Rattle.std.specs.Prelude.{◌≡◌, Some};
+ghost use Rattle.std.specs.Prelude.{◌≡◌, Some, Ok};
 ghost use Rattle.client_request.specs.declared.error.Error.TheVariants as errors;
 ghost use Rattle.client_request.specs.declared.error.CopyRecordsError.TheVariants as copying;
 
@@ -91,6 +91,15 @@ pub enum Error {
     AlreadyDone,
     /// An earlier call answered `NoMemory` or `NumbersUsed`. Nothing was changed.
     Failed,
+}
+
+impl Error {
+    /// The same error once more. It takes no memory.
+    pub fn try_clone(&self) -> Result<Error, NoMemory>
+        ensures { result ≡ Ok self.now }
+    {
+        Ok(*self)
+    }
 }
 
 impl From<ParseError> for CopyRecordsError {

@@ -8,7 +8,8 @@ ghost use Rattle.client_request.specs.Carries.{IsOfOctets};
 ghost use Rattle.client_request.specs.Composed.{composed, appended, HoldsNothing};
 
 use crate::append::append;
-use crate::compose::ComposeRequest;
+use crate::compose::{Compose, ComposeRequest};
+use crate::counting::check;
 use crate::error::{CopyRecordsError, Error};
 use crate::recorded_opt::RecordedOpt;
 use dns_base::{Builder, Header, Message, NoMemory, OptRecord, is_answer};
@@ -127,7 +128,7 @@ fn empty_message(alloc: Global) -> Result<Builder, NoMemory>
     Builder::new(alloc, None)
 }
 
-impl ComposeRequest for Recorded {
+impl Compose for Recorded {
     ghost requests = { for_one };
 
     ghost appended = { appended };
@@ -158,6 +159,10 @@ impl ComposeRequest for Recorded {
         Ok(message)
     }
 
+    fn check_message(&self) -> Result<(), Error> {
+        check(&self.base, self.header, self.recorded_opt())
+    }
+
     fn set_id(&mut self, id: u16) {
         self.header.set_id(id);
     }
@@ -170,14 +175,6 @@ impl ComposeRequest for Recorded {
 
     fn is_answer(&self, answer: &Message) -> bool {
         is_answer(self.header.id(), &self.base, answer)
-    }
-
-    fn to_vec(&self) -> Result<Vec<u8>, Error> {
-        let message = self.to_message()?;
-        match Vec::from_slice(self.alloc, message.as_slice()) {
-            Ok(octets) => Ok(octets),
-            Err(_) => Err(Error::NoMemory),
-        }
     }
 
     fn header(&self) -> &Header {
@@ -225,5 +222,15 @@ impl ComposeRequest for Recorded {
             header: self.header,
             opt,
         })
+    }
+}
+
+impl ComposeRequest for Recorded {
+    fn to_vec(&self) -> Result<Vec<u8>, Error> {
+        let message = self.to_message()?;
+        match Vec::from_slice(self.alloc, message.as_slice()) {
+            Ok(octets) => Ok(octets),
+            Err(_) => Err(Error::NoMemory),
+        }
     }
 }

@@ -7,7 +7,7 @@ ghost use Rattle.client_request.specs.Carries.{IsOfOctets};
 ghost use Rattle.client_request.specs.Composed.{appended};
 ghost use Rattle.client_request.specs.declared.error.Error.TheVariants as errors;
 
-use crate::compose::ComposeRequest;
+use crate::compose::{Compose, ComposeRequest};
 use crate::error::{CopyRecordsError, Error};
 use crate::recorded::Recorded;
 use dns_base::{Builder, Header, Message, NoMemory, Opcode, OptRecord, Rtype};
@@ -104,7 +104,7 @@ impl RequestMessage {
     }
 }
 
-impl ComposeRequest for RequestMessage {
+impl Compose for RequestMessage {
     ghost requests = { for_one };
 
     ghost appended = { appended };
@@ -125,6 +125,10 @@ impl ComposeRequest for RequestMessage {
         self.recorded.to_message()
     }
 
+    fn check_message(&self) -> Result<(), Error> {
+        self.recorded.check_message()
+    }
+
     fn set_id(&mut self, id: u16) {
         self.recorded.set_id(id);
     }
@@ -135,10 +139,6 @@ impl ComposeRequest for RequestMessage {
 
     fn is_answer(&self, answer: &Message) -> bool {
         self.recorded.is_answer(answer)
-    }
-
-    fn to_vec(&self) -> Result<Vec<u8>, Error> {
-        self.recorded.to_vec()
     }
 
     fn header(&self) -> &Header {
@@ -164,5 +164,11 @@ impl ComposeRequest for RequestMessage {
     fn try_clone(&self, alloc: Global) -> Result<RequestMessage, NoMemory> {
         let recorded = self.recorded.try_clone(alloc)?;
         Ok(RequestMessage { recorded })
+    }
+}
+
+impl ComposeRequest for RequestMessage {
+    fn to_vec(&self) -> Result<Vec<u8>, Error> {
+        self.recorded.to_vec()
     }
 }

@@ -7,8 +7,7 @@ ghost use Rattle.client_request.specs.Requests.{for_several};
 ghost use Rattle.client_request.specs.Composed.{appended};
 ghost use Rattle.client_request.specs.declared.error.Error.TheVariants as errors;
 
-use crate::compose::ComposeRequest;
-use crate::compose_multi::ComposeRequestMulti;
+use crate::compose::{Compose, ComposeRequestMulti};
 use crate::error::{CopyRecordsError, Error};
 use crate::recorded::Recorded;
 use dns_base::{Builder, Header, Message, NoMemory, OptRecord, Rtype};
@@ -70,7 +69,7 @@ impl RequestMessageMulti {
     }
 }
 
-impl ComposeRequestMulti for RequestMessageMulti {
+impl Compose for RequestMessageMulti {
     ghost requests = { for_several };
 
     ghost appended = { appended };
@@ -85,6 +84,10 @@ impl ComposeRequestMulti for RequestMessageMulti {
 
     fn to_message(&self) -> Result<Message, Error> {
         self.recorded.to_message()
+    }
+
+    fn check_message(&self) -> Result<(), Error> {
+        self.recorded.check_message()
     }
 
     fn set_id(&mut self, id: u16) {
@@ -135,3 +138,5 @@ impl ComposeRequestMulti for RequestMessageMulti {
         Ok(RequestMessageMulti { recorded })
     }
 }
+
+impl ComposeRequestMulti for RequestMessageMulti {}

@@ -244,7 +244,8 @@ impl HeaderCounts {
         }
     }
 
-    pub(crate) fn none() -> HeaderCounts
+    /// No entry in any section.
+    pub fn none() -> HeaderCounts
         ensures { result ≡ sections.no_entries }
     {
         HeaderCounts {
@@ -256,7 +257,7 @@ impl HeaderCounts {
     }
 
     /// How many records a section has.
-    pub(crate) fn records_in(&self, section: Section) -> u16
+    pub fn records_in(&self, section: Section) -> u16
         ensures { result ≡ sections.entries_in section self.now }
     {
         match section {
@@ -266,14 +267,16 @@ impl HeaderCounts {
         }
     }
 
-    pub(crate) fn add_question(&mut self)
+    /// Counts a question more.
+    pub fn add_question(&mut self)
         requires { self.old.questions < 65535 }
         ensures { self.new ≡ record self.old { questions = self.old.questions + 1 } }
     {
         self.questions += 1;
     }
 
-    pub(crate) fn add_record(&mut self, section: Section)
+    /// Counts a record more in a section.
+    pub fn add_record(&mut self, section: Section)
         requires { sections.entries_in section self.old < 65535 }
         ensures { self.new ≡ sections.one_more_in section self.old }
     {

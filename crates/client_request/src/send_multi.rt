@@ -1,0 +1,71 @@
+//! The trait of a transport whose requests get several messages.
+
+ghost use Rattle.std.specs.Prelude.{◌≡◌, ℕ, Bool, true, false, Option, Some, None, OnOk, OnErr, IfOk, IfErr, IsErrOf, Err};
+ghost use Rattle.client_request.specs.View.{Transport};
+ghost use Rattle.client_request.specs.Calls.{Steps, NumbersRunOut, AnswersFailed};
+ghost use Rattle.client_request.specs.Cx.{view_of, heard, LendsTheSame};
+ghost use Rattle.client_request.specs.Response.{IsRefusal};
+
+use crate::cx::{Cx, Signal};
+use crate::error::Error;
+use crate::response_multi::GetResponseMulti;
+use crate::words::Words;
+
+/// A transport of requests that several messages may answer: each call is the step of the plain machine
+/// that its ghost members say, and answers `Err` as a transport of requests for one message does.
+pub trait SendRequestMulti<CR> {
+    type Response: GetResponseMulti;
+
+    /// Whether an earlier call gave up: then each call answers `Failed`.
+    ghost has_failed: { Self → Bool };
+
+    /// Whether it, or a transport that it holds, gave up: else no call answers `Failed`.
+    ghost holds_failed: { Self → Bool };
+
+    /// What each call leaves, and what stands for the results of a request that is taken on.
+    ghost transport: { Transport CR Self Self.Response };
+
+    /// Takes a request on. Its results will stand on the board under the response's ticket.
+    fn send_request<W: Words>(
+        &mut self,
+        cx: &mut Cx<'_, W>,
+        request: CR,
+    ) -> Result<Self::Response, Error>
+        ensures lends { LendsTheSame cx.old cx.new }
+        ensures ok { Steps result (transport.send request self.old (view_of W.stream cx.old)) (self.new, view_of W.stream cx.new) }
+        ensures response { IfOk result (λ r. r ≡ transport.response request self.old (view_of W.stream cx.old)) }
+        ensures ticket { IfOk result (λ r. Self.Response.ticket_of r ≡ cx.old.ticket) }
+        ensures waits { IfOk result (λ r. Self.Response.has_ended r ≡ false) }
+        ensures numbers { NumbersRunOut result (transport.send request self.old (view_of W.stream cx.old)) }
+        ensures keeps { OnOk result (holds_failed self.new ≡ holds_failed self.old) }
+        ensures refused { IfErr result IsRefusal }
+        ensures err { OnErr result (has_failed self.new ≡ true) }
+        ensures failed { has_failed self.old ≡ true → AnswersFailed result (self.old, view_of W.stream cx.old) (self.new, view_of W.stream cx.new) }
+        ensures failed_only { IsErrOf result Error.Failed → holds_failed self.old ≡ true };
+
+    /// Hears what happened.
+    fn step<W: Words>(&mut self, cx: &mut Cx<'_, W>, signal: Signal<'_>) -> Result<(), Error>
+        ensures lends { LendsTheSame cx.old cx.new }
+        ensures ok { Steps result (transport.step (heard signal.entry) self.old (view_of W.stream cx.old)) (self.new, view_of W.stream cx.new) }
+        ensures numbers { NumbersRunOut result (transport.step (heard signal.entry) self.old (view_of W.stream cx.old)) }
+        ensures keeps { OnOk result (holds_failed self.new ≡ holds_failed self.old) }
+        ensures refused { IfErr result IsRefusal }
+        ensures err { OnErr result (has_failed self.new ≡ true) }
+        ensures failed { has_failed self.old ≡ true → AnswersFailed result (self.old, view_of W.stream cx.old) (self.new, view_of W.stream cx.new) }
+        ensures failed_only { IsErrOf result Error.Failed → holds_failed self.old ≡ true };
+
+    /// Gives a request up, of which no more results come.
+    fn cancel<W: Words>(
+        &mut self,
+        cx: &mut Cx<'_, W>,
+        response: Self::Response,
+    ) -> Result<(), Error>
+        ensures lends { LendsTheSame cx.old cx.new }
+        ensures ok { Steps result (transport.cancel response self.old (view_of W.stream cx.old)) (self.new, view_of W.stream cx.new) }
+        ensures numbers { NumbersRunOut result (transport.cancel response self.old (view_of W.stream cx.old)) }
+        ensures keeps { OnOk result (holds_failed self.new ≡ holds_failed self.old) }
+        ensures refused { IfErr result IsRefusal }
+        ensures err { OnErr result (has_failed self.new ≡ true) }
+        ensures failed { has_failed self.old ≡ true → AnswersFailed result (self.old, view_of W.stream cx.old) (self.new, view_of W.stream cx.new) }
+        ensures failed_only { IsErrOf result Error.Failed → holds_failed self.old ≡ true };
+}
