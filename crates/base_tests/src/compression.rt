@@ -41,7 +41,14 @@ fn with_exchange(alloc: Global) -> Result<Message, Fail> {
     let owner = Name::from_text(alloc, "example.com")?;
     let exchange = Name::from_text(alloc, "mail.EXAMPLE.com")?;
     let rdata = RecordData::Mx(10, exchange.parsed());
-    builder.push_record(Section::Answer, &owner, Class::IN, Ttl(0), Rtype::MX, &rdata)?;
+    builder.push_record(
+        Section::Answer,
+        &owner,
+        Class::IN,
+        Ttl(0),
+        Rtype::MX,
+        &rdata,
+    )?;
     Ok(builder.finish()?)
 }
 
@@ -59,7 +66,14 @@ fn push_far(alloc: Global, builder: &mut Builder) -> Result<(), Fail>
 {
     let far = Name::from_text(alloc, "far.example.org")?;
     let nothing = RecordData::Other(&[]);
-    builder.push_record(Section::Answer, &far, Class::IN, Ttl(0), Rtype(65280), &nothing)?;
+    builder.push_record(
+        Section::Answer,
+        &far,
+        Class::IN,
+        Ttl(0),
+        Rtype(65280),
+        &nothing,
+    )?;
     Ok(())
 }
 
@@ -72,7 +86,14 @@ fn far_names(alloc: Global, place: usize) -> Result<Message, Fail>
     let root = Name::root(alloc);
     let zeros = vec![in alloc; 0; place - 40]?;
     let filler = RecordData::Other(&zeros);
-    builder.push_record(Section::Answer, &root, Class::IN, Ttl(0), Rtype(65280), &filler)?;
+    builder.push_record(
+        Section::Answer,
+        &root,
+        Class::IN,
+        Ttl(0),
+        Rtype(65280),
+        &filler,
+    )?;
     push_far(alloc, &mut builder)?;
     push_far(alloc, &mut builder)?;
     Ok(builder.finish()?)
