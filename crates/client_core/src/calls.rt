@@ -9,8 +9,8 @@ ghost use Rattle.client_core.specs.Machines.{machine_of, client_in};
 
 use crate::asked::{Asked, Waiting, reply_all};
 use client_request::{
-    ComposeRequest, Cx, Error, Event, GetResponse, Moment, Out, RequestMessage, SendRequest,
-    Signal, TimerId, What, Words,
+    Compose, Cx, Error, Event, GetResponse, Moment, Out, RequestMessage, SendRequest, Signal,
+    TimerId, What, Words,
 };
 use dns_base::Duration;
 use std::alloc::Global;

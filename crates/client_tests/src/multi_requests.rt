@@ -4,7 +4,7 @@ ghost use Rattle.std.specs.Prelude.{IfOk};
 ghost use Rattle.client_request.specs.Composed.{HoldsNothing};
 
 use crate::queries::{QUERY, message, query_octets};
-use client_request::{ComposeRequestMulti, Error, RequestMessageMulti};
+use client_request::{Compose, Error, RequestMessageMulti};
 use dns_base::{Builder, Message, NoMemory};
 use std::alloc::Global;
 use std::test::Fail;

@@ -1,7 +1,7 @@
 //! Requests by their octets.
 
 use crate::queries::{QUERY, message, query_octets, request, short_of_a_question};
-use client_request::{ComposeRequest, Error, RequestMessage};
+use client_request::{Compose, ComposeRequest, Error, RequestMessage};
 use dns_base::{Header, OptRecord};
 use std::alloc::{AllocError, Global};
 use std::test::Fail;
@@ -117,6 +117,7 @@ fn some_queries_are_refused(rt: HostRuntime) {
 fn a_question_may_be_missing(rt: HostRuntime) -> Result<(), Fail> {
     let request = request(rt.alloc(), &short_of_a_question())?;
     assert!(rt; request.to_message().err() == Some(Error::MessageParseError));
+    assert!(rt; request.check_message() == Err(Error::MessageParseError));
     Ok(())
 }
 
@@ -136,8 +137,10 @@ fn full_section(alloc: Global) -> Result<Vec<u8>, AllocError> {
 fn a_full_section_takes_no_opt_record(rt: HostRuntime) -> Result<(), Fail> {
     let octets = full_section(rt.alloc())?;
     let mut request = RequestMessage::new(rt.alloc(), message(rt.alloc(), octets.as_slice())?)?;
+    assert!(rt; request.check_message() == Ok(()));
     assert!(rt; request.to_message().is_ok());
     request.set_udp_payload_size(1232);
+    assert!(rt; request.check_message() == Err(Error::MessageBuilderPushError));
     assert!(rt; request.to_message().err() == Some(Error::MessageBuilderPushError));
     Ok(())
 }

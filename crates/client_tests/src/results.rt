@@ -1,6 +1,6 @@
-//! Timers in their order, and results that are given once.
+//! Timers in their order, results that are given once, and parts that come until their end.
 
-use client_request::{Board, Error, Moment, Poll, TimerId, Timers, take_response};
+use client_request::{Board, Error, Moment, Poll, TimerId, Timers, take_part, take_response};
 use std::alloc::Global;
 use std::test::Fail;
 
@@ -77,4 +77,44 @@ fn the_part_that_was_put_first_is_taken_first(rt: HostRuntime) -> Result<(), Fai
         assert_eq!(rt; first.map(|posted| posted.ticket), ticket);
     }
     Ok(())
+}
+
+/// Parts for one ticket: a reply that is wrong, and then the end.
+fn board_of_parts(alloc: Global) -> Result<Board, Error> {
+    let mut board = Board::new(alloc);
+    board.put(1, Err(Error::WrongReplyForQuery))?;
+    board.put(1, Ok(None))?;
+    board.put(1, Err(Error::TimedOut))?;
+    Ok(board)
+}
+
+/// Whether the next part is the end, or its error; `None` where none stands.
+fn next_part(board: &mut Board, ended: &mut bool) -> Option<Option<Error>> {
+    match take_part(board, 1, ended) {
+        Poll::Ready(part) => Some(part.err()),
+        Poll::Pending => None,
+    }
+}
+
+#[test]
+fn parts_come_until_their_end(rt: HostRuntime) -> Result<(), Fail> {
+    let mut board = board_of_parts(rt.alloc())?;
+    let mut ended = false;
+    assert_eq!(rt;
+        next_part(&mut board, &mut ended),
+        Some(Some(Error::WrongReplyForQuery))
+    );
+    assert!(rt; !ended);
+    assert_eq!(rt; next_part(&mut board, &mut ended), Some(None));
+    assert_eq!(rt;
+        next_part(&mut board, &mut ended),
+        Some(Some(Error::ConnectionClosed))
+    );
+    assert_eq!(rt; board.len(), 1);
+    Ok(())
+}
+
+#[test]
+fn an_error_is_copied(rt: HostRuntime) {
+    assert!(rt; Error::TimedOut.try_clone() == Ok(Error::TimedOut));
 }

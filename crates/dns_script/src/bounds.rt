@@ -4,7 +4,7 @@ ghost use Rattle.std.specs.Prelude.{◌<◌, ◌≤◌, ◌^◌, length, slice_i
 ghost use Rattle.std.specs.List.{AllByRecursion};
 ghost use Rattle.dns_script.specs.TextLaws.{AreOctets, AreRows, IsOut, IsRequest, IsRow, IsWhat};
 
-use client_request::{ComposeRequest, Out, RequestMessage, Row, Trace, What};
+use client_request::{Compose, Out, RequestMessage, Row, Trace, What};
 
 /// Each octet is one.
 #[tactic(auto, using(crate::proofs::InRange::octets_by_index))]

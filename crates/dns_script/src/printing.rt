@@ -12,7 +12,7 @@ ghost use Rattle.dns_script.specs.TraceText.{row_text, trace_text_of};
 use crate::bounds::trace_is_in_range;
 use crate::words::{error_name, fault_word, push_digits, push_hex, via_word};
 use client_request::{
-    ComposeRequest, Error, Event, Fault, Out, QueryError, RequestMessage, Row, Trace, What,
+    Compose, Error, Event, Fault, Out, QueryError, RequestMessage, Row, Trace, What,
 };
 use dns_base::{Message, NoMemory, OptRecord};
 use std::alloc::Global;
