@@ -15,13 +15,12 @@ use Rattle.client_dgram.specs.Settings.{Settings}
 use Rattle.client_dgram.specs.declared.job.Job.{Job}
 use Rattle.client_dgram.specs.declared.job.Stage.{Stage}
 use Rattle.client_dgram.specs.declared.job.Stage.TheVariants as at
-use Rattle.client_request.specs.Requests.{Requests}
 use Rattle.client_dgram.specs.Plain.{Tables, After, leaves, closes, at_place, at_ticket, at_job}
 use Rattle.client_request.specs.Numbered.{frees, entry_at}
 use Rattle.client_dgram.specs.Plain as dgram
 use Rattle.headline.specs.Messages.{under}
 use Rattle.headline.specs.Messages as messages
-use Rattle.headline.specs.Machine.{Loose, Trying, Held, State, Done, nothing, then_do, with_at, staged, loosen, try, forget, put_back, give, settle, finish, with_owner, with_held, opened_at, send_composed, failed_at, broken_at, message_at, dispatch}
+use Rattle.headline.specs.Machine.{Trying, Held, State, Done, nothing, then_do, loosen, forget, give, settle, finish, with_owner, with_held, opened_at, send_composed, failed_at, broken_at, message_at, dispatch}
 use Rattle.headline.specs.Machine as machine
 use Rattle.client_core.specs.Client.{Asked, result_of}
 use Rattle.client_core.specs.Whole.{Response, requests}

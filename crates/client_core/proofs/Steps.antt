@@ -9,8 +9,7 @@ use Rattle.client_request.specs.declared.event.Out.{Out}
 use Rattle.client_request.specs.declared.event.Out.TheVariants.{OpenDgram}
 use Rattle.client_dgram.specs.declared.job.Job.{Job}
 use Rattle.client_dgram.specs.declared.job.Stage.TheVariants as at
-use Rattle.client_request.specs.Requests.{Requests}
-use Rattle.client_dgram.specs.Plain.{Tables, After, leaves, closes, at_place, at_ticket, at_job}
+use Rattle.client_dgram.specs.Plain.{Tables, After}
 use Rattle.client_request.specs.Numbered.{frees, entry_at}
 use Rattle.client_dgram.specs.Plain as dgram
 use Rattle.headline.specs.Machine.{Loose, Trying, Held, State, Done, staged, try, put_back, give, give_to, give_held, remove}
