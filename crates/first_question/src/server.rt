@@ -1,28 +1,37 @@
 //! The server's side: the answer to a query, and the address in an answer.
 
 use crate::trouble::Trouble;
-use dns_base::{Builder, Class, Message, Octets, RecordData, Rtype, Section, Ttl};
+use dns_base::{
+    Builder, Class, Message, Octets, PushError, Question, RecordData, Rtype, Section, Ttl,
+};
 use std::alloc::Global;
 
-/// The answer to a query: its id and question, and 192.0.2.1 for five minutes.
-pub(crate) fn answer_to(alloc: Global, query: &Octets) -> Result<Octets, Trouble> {
-    let query = Message::from_octets(query.try_clone()?)?;
-    let question = query.sole_question()?;
+/// The answer to a query and its question: 192.0.2.1 for five minutes.
+fn answer(alloc: Global, query: &Message, question: &Question<'_>) -> Result<Message, PushError> {
     let mut header = query.header();
     header.set_qr(true);
-    header.set_ra(true);
+    let name = question.qname();
     let mut builder = Builder::new(alloc, None)?;
     builder.set_header(header);
-    builder.push_question(&question.qname(), question.qtype(), question.qclass())?;
+    builder.push_question(&name, question.qtype(), question.qclass())?;
+    let address = RecordData::A([192, 0, 2, 1]);
     builder.push_record(
         Section::Answer,
-        &question.qname(),
+        &name,
         Class::IN,
         Ttl(300),
         Rtype::A,
-        &RecordData::A([192, 0, 2, 1]),
+        &address,
     )?;
-    Ok(builder.finish()?.into_octets())
+    Ok(builder.finish()?)
+}
+
+/// The octets of the answer to a query.
+pub(crate) fn answer_to(alloc: Global, query: &Octets) -> Result<Octets, Trouble> {
+    let query = Message::from_octets(query.try_clone()?)?;
+    let question = query.sole_question()?;
+    let answer = answer(alloc, &query, &question)?;
+    Ok(answer.into_octets())
 }
 
 /// The first address in an answer, or 0.0.0.0 where there is none.
