@@ -1,0 +1,9 @@
+//! One connection to a server by stream, at a place that was opened: requests go out one behind the
+//! other, and answers come in any order (RFC 7766).
+#![tactic(auto)]
+
+mod framer;
+mod laws;
+
+pub use framer::Framer;
+pub use laws::frames_law;
