@@ -4,6 +4,8 @@
 
 mod framer;
 mod laws;
+mod queries;
 
 pub use framer::Framer;
 pub use laws::frames_law;
+pub use queries::{InsertFault, Queries};

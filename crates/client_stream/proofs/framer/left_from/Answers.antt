@@ -1,6 +1,6 @@
-use Rattle.std.proofs.Common.{◌≡◌, ◌+◌, ◌-◌, ◌≤◌, ℕ, Bool, true, false, suc, List, length, drop, take, ap, sym, ◌∙◌, arith, length-drop}
+use Rattle.std.proofs.Common.{◌≡◌, ◌+◌, ◌-◌, ℕ, Bool, true, false, suc, List, length, drop, take, ap, sym, ◌∙◌, arith, length-drop}
 use Rattle.std.proofs.lemmas.List.{drop-drop, take_rest}
-use Rattle.client_stream.specs.Frames.{body_size, has_frame, behind_frames, left_of}
+use Rattle.client_stream.specs.Frames.{body_size, has_frame, behind_frames}
 use Rattle.client_stream.proofs.Frames.{stops, goes, whole}
 use Rattle.client_stream.proofs.framer.left_from.Goals as goal
 
