@@ -2,10 +2,20 @@
 //! other, and answers come in any order (RFC 7766).
 #![tactic(auto)]
 
+mod composing;
+mod config;
 mod framer;
+mod keepalive;
 mod laws;
+mod line;
 mod queries;
+mod request;
+mod stage;
 
+pub use config::Config;
 pub use framer::Framer;
 pub use laws::frames_law;
+pub use line::Line;
 pub use queries::{InsertFault, Queries};
+pub use request::{Holder, Request, Waiting};
+pub use stage::Stage;

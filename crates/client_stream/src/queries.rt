@@ -149,6 +149,19 @@ impl<T: Drop> Queries<T> {
         }
     }
 
+    /// The id that comes next, unless 32768 ids are held.
+    pub fn next_id(&self) -> Option<u16>
+        ensures { result ≡ (if length self.now.held == 32768 then None else Some (next_id self.now)) }
+    {
+        if self.held == MAX_HELD {
+            return None;
+        }
+        match self.reusable() {
+            Some(id) => Some(id as u16),
+            None => Some(self.slots.len() as u16),
+        }
+    }
+
     /// The id that is given again, if one is.
     fn reusable(&self) -> Option<usize>
         ensures { result ≡ (if reuses self.now then Some (least_free self.now) else None) }
@@ -217,6 +230,7 @@ impl<T: Drop> Queries<T> {
         ensures below { OnSome result (id < self.new.mark) }
         ensures free { OnSome result (entry_at id self.new.held ≡ None) }
         ensures room { OnSome result (length self.new.held < 32768) }
+        ensures none { result ≡ None → self.new ≡ self.old }
     {
         let id = usize::from(id);
         let item = take_slot(&mut self.slots, id)?;
