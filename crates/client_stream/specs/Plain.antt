@@ -8,6 +8,7 @@
 use Rattle.std.specs.Prelude.{ℕ, ◌+◌, ◌/◌, ◌%◌, ◌==◌, ◌&&◌, ◌||◌, not, nat_le, Bool, true, false, if◌then◌else◌, List, [], ◌∷◌, ◌++◌, length, drop, Option, Some, None, option_and_then, option_map, is_some, Result, Ok, Err}
 use Rattle.std.specs.Option.{unwrap_or}
 use Rattle.dns_base.specs.Header.{id_of}
+use Rattle.dns_base.specs.Message.{header_of}
 use Rattle.client_request.specs.Board.{Part, posted}
 use Rattle.client_request.specs.declared.board.Posted.{Posted}
 use Rattle.client_request.specs.Numbered.{puts, frees, entry_at}
@@ -127,12 +128,20 @@ module _ {R : Type 0} where
   fires place timer s v stage.Ended = Some (s, v)
 
   -- A request is given up: a queued one is dropped, and the id of one that was written stays held.
+  abbrev pub leaves_id : ℕ → IdTable (Holder R) → Option (Holder R) → IdTable (Holder R)
+  leaves_id id held None = held
+  leaves_id id held (Some _) = inserted_at id GivenUp (removed id held)
+
   abbrev pub gives_up_id : ℕ → Line R → Option ℕ → Line R
   gives_up_id ticket s None = s
-  gives_up_id ticket s (Some id) = record s { ids = frees ticket s.ids; held = inserted_at id GivenUp (removed id s.held) }
+  gives_up_id ticket s (Some id) = record s { ids = frees ticket s.ids; held = leaves_id id s.held (entry_at id s.held.held) }
 
   abbrev pub gives_up : ℕ → Line R → Line R
   gives_up ticket s = if is_some (entry_at ticket s.queue) then record s { queue = frees ticket s.queue } else gives_up_id ticket s (entry_at ticket s.ids)
+
+-- the id in the header of a message
+abbrev pub message_id : List ℕ → ℕ
+message_id message = id_of (header_of message)
 
 -- a message behind its two octets of length
 abbrev pub framed : List ℕ → List ℕ
@@ -209,12 +218,14 @@ module _ {R : Type 0} (requests : Requests R) where
     abbrev pub frees_id : List ℕ → Line R → View → Option (Holder R) → After R
     frees_id message s v None = Some (s, v)
     frees_id message s v (Some holder) =
-        let x = given message (record s { held = removed (id_of message) s.held }) v holder in settles place x.0 x.1
+        let x = given message (record s { held = removed (message_id message) s.held }) v holder in settles place x.0 x.1
+
+    abbrev pub releases : List ℕ → Line R → View → After R
+    releases message s v = frees_id message s v (entry_at (message_id message) s.held.held)
 
     abbrev pub comes : Settings → List ℕ → Line R → View → After R
     comes settings message s v =
-        option_and_then (λ x. frees_id message x.0 x.1 (entry_at (id_of message) x.0.held.held))
-        (activates settings (record s { idle_time = unwrap_or (idle_time_told message) s.idle_time }) v)
+        option_and_then (λ x. releases message x.0 x.1) (activates settings (record s { idle_time = unwrap_or (idle_time_told message) s.idle_time }) v)
 
     -- a frame came
     abbrev pub frame_comes : Settings → List ℕ → Line R → View → After R

@@ -2,7 +2,7 @@
 
 ghost use Rattle.std.specs.Prelude.{◌≡◌, ◌+◌, ℕ, length, [], Some, None, Err, IsSome, OnOk, IsErrOf, IfErr, IfOk};
 ghost use Rattle.client_request.specs.Cx.{view_of, LendsTheSame};
-ghost use Rattle.client_request.specs.View.{sets_timer};
+ghost use Rattle.client_request.specs.View.{sets_timer, asks};
 ghost use Rattle.client_request.specs.Timers.{IsWant};
 ghost use Rattle.client_stream.specs.Plain as plain;
 
@@ -303,5 +303,229 @@ fn take_next<Req: ComposeRequest, W: Words>(
     };
     request.set_id(id);
     write(line, place, cx, ticket, number, id, request)?;
+    Ok(())
+}
+
+/// Takes requests from the queue in order until one is being written.
+fn pump<Req: ComposeRequest, W: Words>(
+    line: &mut Line<Req>,
+    place: u64,
+    config: &Config,
+    cx: &mut Cx<'_, W>,
+) -> Result<(), Error>
+    ensures lends { LendsTheSame cx.old cx.new }
+    ensures ok { OnOk result (plain.pumps Req.requests place config.now line.old.queue line.old (view_of W.stream cx.old) ≡ Some (line.new, view_of W.stream cx.new)) }
+    ensures numbers { IsErrOf result Error.NumbersUsed → plain.pumps Req.requests place config.now line.old.queue line.old (view_of W.stream cx.old) ≡ None }
+    ensures want { IfErr result IsWant }
+{
+    while line.writing.is_none() {
+        let Some((ticket, waiting)) = line.queue.pop_first() else {
+            return Ok(());
+        };
+        take_next(line, place, config, cx, ticket, waiting)?;
+    }
+    Ok(())
+}
+
+/// Takes a request on: it is queued, and written where nothing else is.
+pub(crate) fn take_on<Req: ComposeRequest, W: Words>(
+    line: &mut Line<Req>,
+    place: u64,
+    config: &Config,
+    cx: &mut Cx<'_, W>,
+    request: Req,
+) -> Result<u64, Error>
+    ensures lends { LendsTheSame cx.old cx.new }
+    ensures ok { OnOk result (plain.takes_on Req.requests place config.now request line.old (view_of W.stream cx.old) ≡ Some (line.new, view_of W.stream cx.new)) }
+    ensures ticket { IfOk result (λ ticket. ticket ≡ cx.old.ticket) }
+    ensures numbers { IsErrOf result Error.NumbersUsed → plain.takes_on Req.requests place config.now request line.old (view_of W.stream cx.old) ≡ None }
+    ensures want { IfErr result IsWant }
+{
+    let ticket = cx.ticket;
+    let Some(next) = ticket.checked_add(1) else {
+        return Err(Error::NumbersUsed);
+    };
+    let waiting = Waiting {
+        number: cx.request,
+        request,
+    };
+    cx.ticket = next;
+    if line.has_ended() {
+        cx.board.put(ticket, Err(Error::ConnectionClosed))?;
+        return Ok(ticket);
+    }
+    if line.queue.insert(ticket, waiting).is_err() {
+        return Err(Error::NoMemory);
+    }
+    pump(line, place, config, cx)?;
+    Ok(ticket)
+}
+
+/// Gives a message to who held its id, unless the request was given up: as it is where it answers the
+/// request.
+fn deliver<Req: ComposeRequest, W: Words>(
+    line: &mut Line<Req>,
+    cx: &mut Cx<'_, W>,
+    message: Message,
+    holder: Holder<Req>,
+) -> Result<(), NoMemory>
+    ensures lends { LendsTheSame cx.old cx.new }
+    ensures ok { OnOk result (plain.given Req.requests message line.old (view_of W.stream cx.old) holder ≡ (line.new, view_of W.stream cx.new)) }
+{
+    match holder {
+        Holder::GivenUp => Ok(()),
+        Holder::Waits { ticket, request } => {
+            let _ = line.ids.remove(&ticket);
+            let part = if request.is_answer(&message) {
+                Ok(Some(message))
+            } else {
+                Err(Error::WrongReplyForQuery)
+            };
+            cx.board.put(ticket, part)
+        }
+    }
+}
+
+/// The id of a message is free, and who held it gets the message. If nobody held it, it is nobody's.
+fn release<Req: ComposeRequest, W: Words>(
+    line: &mut Line<Req>,
+    place: u64,
+    cx: &mut Cx<'_, W>,
+    message: Message,
+) -> Result<(), Error>
+    ensures lends { LendsTheSame cx.old cx.new }
+    ensures ok { OnOk result (plain.releases Req.requests place message line.old (view_of W.stream cx.old) ≡ Some (line.new, view_of W.stream cx.new)) }
+    ensures numbers { IsErrOf result Error.NumbersUsed → plain.releases Req.requests place message line.old (view_of W.stream cx.old) ≡ None }
+    ensures want { IfErr result IsWant }
+{
+    let id = message.header().id();
+    let Some(holder) = line.held.try_remove(id) else {
+        return Ok(());
+    };
+    deliver(line, cx, message, holder)?;
+    settle(line, place, cx)
+}
+
+/// A message came: the connection is active, and who held the message's id gets it.
+fn hear_message<Req: ComposeRequest, W: Words>(
+    line: &mut Line<Req>,
+    place: u64,
+    config: &Config,
+    cx: &mut Cx<'_, W>,
+    message: Message,
+) -> Result<(), Error>
+    ensures lends { LendsTheSame cx.old cx.new }
+    ensures ok { OnOk result (plain.comes Req.requests place config.now message line.old (view_of W.stream cx.old) ≡ Some (line.new, view_of W.stream cx.new)) }
+    ensures numbers { IsErrOf result Error.NumbersUsed → plain.comes Req.requests place config.now message line.old (view_of W.stream cx.old) ≡ None }
+    ensures want { IfErr result IsWant }
+{
+    line.idle_time = idle_time_told(&message).unwrap_or(line.idle_time);
+    activate(line, config, cx)?;
+    release(line, place, cx, message)
+}
+
+/// A frame came. One that is too short for a message ends the connection.
+pub(crate) fn hear_frame<Req: ComposeRequest, W: Words>(
+    line: &mut Line<Req>,
+    place: u64,
+    config: &Config,
+    cx: &mut Cx<'_, W>,
+    frame: Octets,
+) -> Result<(), Error>
+    ensures lends { LendsTheSame cx.old cx.new }
+    ensures ok { OnOk result (plain.frame_comes Req.requests place config.now frame line.old (view_of W.stream cx.old) ≡ Some (line.new, view_of W.stream cx.new)) }
+    ensures numbers { IsErrOf result Error.NumbersUsed → plain.frame_comes Req.requests place config.now frame line.old (view_of W.stream cx.old) ≡ None }
+    ensures want { IfErr result IsWant }
+{
+    match Message::from_octets(frame) {
+        Ok(message) => hear_message(line, place, config, cx, message),
+        Err(_) => {
+            end(line, place, cx, Error::ShortMessage)?;
+            Ok(())
+        }
+    }
+}
+
+/// The rest of what was outstanding is written on.
+fn resume<Req: ComposeRequest, W: Words>(
+    line: &mut Line<Req>,
+    place: u64,
+    cx: &mut Cx<'_, W>,
+    rest: Octets,
+) -> Result<(), NoMemory>
+    ensures lends { LendsTheSame cx.old cx.new }
+    ensures line { OnOk result (line.new ≡ record line.old { writing = Some rest }) }
+    ensures view { OnOk result (view_of W.stream cx.new ≡ asks (Out.Resume place rest) (view_of W.stream cx.old)) }
+{
+    line.writing = Some(rest.try_clone()?);
+    cx.outs.push(Out::Resume {
+        place,
+        octets: rest,
+    })
+}
+
+/// So many octets of what was outstanding were taken. None at all is a fault.
+pub(crate) fn wrote<Req: ComposeRequest, W: Words>(
+    line: &mut Line<Req>,
+    place: u64,
+    config: &Config,
+    cx: &mut Cx<'_, W>,
+    count: u64,
+) -> Result<(), Error>
+    ensures lends { LendsTheSame cx.old cx.new }
+    ensures ok { OnOk result (plain.wrote Req.requests place config.now count line.old (view_of W.stream cx.old) line.old.writing ≡ Some (line.new, view_of W.stream cx.new)) }
+    ensures numbers { IsErrOf result Error.NumbersUsed → plain.wrote Req.requests place config.now count line.old (view_of W.stream cx.old) line.old.writing ≡ None }
+    ensures want { IfErr result IsWant }
+{
+    let Some(octets) = line.writing.take() else {
+        return Ok(());
+    };
+    if count == 0 {
+        let error = Error::StreamWriteError(Fault::NothingTaken);
+        end(line, place, cx, error)?;
+        return Ok(());
+    }
+    if octets.as_slice().len() as u64 <= count {
+        return pump(line, place, config, cx);
+    }
+    let rest = octets.behind(count as usize)?;
+    resume(line, place, cx, rest)?;
+    Ok(())
+}
+
+/// A timer fired. Where it is the connection's own it ends: with an error where it was active, else
+/// nobody holds an id.
+pub(crate) fn fire<Req: ComposeRequest, W: Words>(
+    line: &mut Line<Req>,
+    place: u64,
+    cx: &mut Cx<'_, W>,
+    fired: u64,
+) -> Result<(), NoMemory>
+    ensures lends { LendsTheSame cx.old cx.new }
+    ensures ok { OnOk result (plain.fires place fired line.old (view_of W.stream cx.old) line.old.stage ≡ Some (line.new, view_of W.stream cx.new)) }
+{
+    match line.stage {
+        Stage::Active { timer } if fired == timer => end(line, place, cx, Error::StreamReadTimeout),
+        Stage::Idle { timer } if fired == timer => end(line, place, cx, Error::StreamReceiveError),
+        _ => Ok(()),
+    }
+}
+
+/// Gives a request up. The id of one that was written stays held until a frame with it comes.
+pub(crate) fn give_up<Req: ComposeRequest>(
+    line: &mut Line<Req>,
+    ticket: u64,
+) -> Result<(), NoMemory>
+    ensures { OnOk result (line.new ≡ plain.gives_up ticket line.old) }
+{
+    if line.queue.remove(&ticket).is_some() {
+        return Ok(());
+    }
+    let Some(id) = line.ids.remove(&ticket) else {
+        return Ok(());
+    };
+    if line.held.try_remove(id).is_some() {
+        line.held.insert_at(id, Holder::GivenUp);
+    }
     Ok(())
 }
