@@ -296,27 +296,33 @@ module _ {R : Type 0} where
   abbrev pub plain_cancel : ℕ → Stream R → View → AfterAll R
   plain_cancel ticket s v = Some (record s { line = gives_up ticket s.line }, v)
 
+  abbrev pub closes : Error → Stream R → View → AfterAll R
+  closes error s v = keeps s s.octets (ends s.place error s.line v)
+
   module _ (requests : Requests R) where
     -- the first frame is taken, if it is whole
-    abbrev pub takes_frame : List ℕ → Stream R → View → Option (List ℕ) → AfterAll R
-    takes_frame octets s v None = Some (record s { octets = octets }, v)
-    takes_frame octets s v (Some frame) = keeps s (behind_frame octets) (frame_comes requests s.place s.settings frame s.line v)
+    abbrev pub takes_frame : Stream R → View → Option (List ℕ) → AfterAll R
+    takes_frame s v None = Some (s, v)
+    takes_frame s v (Some frame) = keeps s (behind_frame s.octets) (frame_comes requests s.place s.settings frame s.line v)
 
-    abbrev pub reads : List ℕ → Stream R → View → AfterAll R
-    reads octets s v = says (takes_frame octets s v (first_frame octets))
+    abbrev pub frame_taken : Stream R → View → AfterAll R
+    frame_taken s v = takes_frame s v (first_frame s.octets)
+
+    abbrev pub reads : Stream R → View → AfterAll R
+    reads s v = says (frame_taken s v)
 
     -- an event at its own place
     abbrev pub tells : What → Stream R → View → AfterAll R
-    tells (Bytes _ octets) s v = reads (s.octets ++ octets) s v
+    tells (Bytes _ octets) s v = reads (record s { octets = s.octets ++ octets }) v
     tells (Wrote _ count) s v = keeps s s.octets (wrote requests s.place s.settings count s.line v s.line.writing)
-    tells (WriteFailed _ f) s v = keeps s s.octets (ends s.place (errors.StreamWriteError f) s.line v)
-    tells (ReadFailed _ f) s v = keeps s s.octets (ends s.place (errors.StreamReadError f) s.line v)
-    tells (Ended _) s v = keeps s s.octets (ends s.place (end_error s.octets) s.line v)
+    tells (WriteFailed _ f) s v = closes (errors.StreamWriteError f) s v
+    tells (ReadFailed _ f) s v = closes (errors.StreamReadError f) s v
+    tells (Ended _) s v = closes (end_error s.octets) s v
     tells _ s v = Some (s, v)
 
     abbrev pub hears : Heard → Stream R → View → AfterAll R
     hears (told what) s v = if is_at s.place what then tells what s v else Some (s, v)
-    hears (more_at place) s v = if s.place == place then reads s.octets s v else Some (s, v)
+    hears (more_at place) s v = if s.place == place then reads s v else Some (s, v)
     hears (due_timer timer) s v = keeps s s.octets (fires s.place timer s.line v s.line.stage)
 
     abbrev pub plain_step : Heard → Stream R → View → AfterAll R

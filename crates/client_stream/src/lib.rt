@@ -4,6 +4,7 @@
 
 mod composing;
 mod config;
+mod connection;
 mod framer;
 mod keepalive;
 mod laws;
@@ -13,6 +14,7 @@ mod request;
 mod stage;
 
 pub use config::Config;
+pub use connection::Connection;
 pub use framer::Framer;
 pub use laws::frames_law;
 pub use line::Line;

@@ -512,20 +512,16 @@ pub(crate) fn fire<Req: ComposeRequest, W: Words>(
 }
 
 /// Gives a request up. The id of one that was written stays held until a frame with it comes.
-pub(crate) fn give_up<Req: ComposeRequest>(
-    line: &mut Line<Req>,
-    ticket: u64,
-) -> Result<(), NoMemory>
-    ensures { OnOk result (line.new ≡ plain.gives_up ticket line.old) }
+pub(crate) fn give_up<Req: ComposeRequest>(line: &mut Line<Req>, ticket: u64)
+    ensures { line.new ≡ plain.gives_up ticket line.old }
 {
     if line.queue.remove(&ticket).is_some() {
-        return Ok(());
+        return;
     }
     let Some(id) = line.ids.remove(&ticket) else {
-        return Ok(());
+        return;
     };
     if line.held.try_remove(id).is_some() {
         line.held.insert_at(id, Holder::GivenUp);
     }
-    Ok(())
 }

@@ -1,4 +1,4 @@
-use Rattle.std.proofs.Common.{◌≡◌, ◌-◌, ◌*◌, ◌+◌, ℕ, List, take, drop, length, get_or, ◌∙◌, sym, refl, arith}
+use Rattle.std.proofs.Common.{◌-◌, ◌*◌, ◌+◌, ℕ, List, take, drop, length, get_or, ◌∙◌, refl, arith}
 use Rattle.std.proofs.lemmas.List.{take_rest}
 use Rattle.client_stream.proofs.Telling.{ends_within, goes_on}
 use Rattle.client_stream.proofs.keepalive.tenths_told.Goals as goal

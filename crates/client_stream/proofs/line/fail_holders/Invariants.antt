@@ -1,4 +1,4 @@
-use Rattle.std.proofs.Common.{◌≡◌, ◌≤◌, length, drop}
+use Rattle.std.proofs.Common.{◌≡◌, drop}
 use Rattle.client_stream.specs.Plain as plain
 use Rattle.client_stream.proofs.line.fail_holders.Given as goal
 

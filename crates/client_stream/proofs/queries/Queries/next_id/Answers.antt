@@ -1,4 +1,4 @@
-use Rattle.std.proofs.Common.{◌≡◌, ℕ, ◌<◌, length, ap, arith}
+use Rattle.std.proofs.Common.{◌≡◌, length, ap, arith}
 use Rattle.client_stream.proofs.IdTable.{short_mark}
 use Rattle.client_stream.proofs.queries.Queries.next_id.Goals as goal
 
