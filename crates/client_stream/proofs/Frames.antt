@@ -6,10 +6,10 @@ use Rattle.std.proofs.lemmas.List.{drop-append-le, get_or_append_left, take-appe
 use Rattle.client_stream.specs.Frames.{body_size, has_frame, first_frame, behind_frame, behind_frames, first_frames, frames_of, left_of, FramesJoin}
 
 -- what stands behind a whole frame
-abbrev behind : List ℕ → List ℕ
+abbrev pub behind : List ℕ → List ℕ
 behind octets = drop (2 + body_size octets) octets
 
-abbrev body : List ℕ → List ℕ
+abbrev pub body : List ℕ → List ℕ
 body octets = slice_range octets 2 (2 + body_size octets)
 
 -- a whole frame has its two octets of length and all that they say
@@ -65,20 +65,20 @@ steady_behind zero m octets p q = sym (stops m octets (no_frame_in_none octets p
 steady_behind (suc n) m octets p q = steady_behind_more n m octets p q (steady_behind n) (has_frame octets) refl
 
 -- A whole frame stays the first one whatever comes behind it.
-same_size : (a b : List ℕ) → 2 ≤ length a → body_size (a ++ b) ≡ body_size a
+pub same_size : (a b : List ℕ) → 2 ≤ length a → body_size (a ++ b) ≡ body_size a
 same_size a b h =
     let first : get_or (a ++ b) 0 0 ≡ get_or a 0 0 = get_or_append_left a b 0 0 (omega arith) in
     let second : get_or (a ++ b) 1 0 ≡ get_or a 1 0 = get_or_append_left a b 0 1 (omega arith) in
     omega arith
 
-still_whole : (a b : List ℕ) → has_frame a ≡ true → has_frame (a ++ b) ≡ true
+pub still_whole : (a b : List ℕ) → has_frame a ≡ true → has_frame (a ++ b) ≡ true
 still_whole a b h =
     let w = whole a h in
     let s = same_size a b (omega arith) in
     let l = length-append a b in
     grind (arith, nat_tests)
 
-same_body : (a b : List ℕ) → has_frame a ≡ true → body (a ++ b) ≡ body a
+pub same_body : (a b : List ℕ) → has_frame a ≡ true → body (a ++ b) ≡ body a
 same_body a b h =
     let w = whole a h in
     let s = same_size a b (omega arith) in
@@ -88,7 +88,7 @@ same_body a b h =
     ap (take (2 + n - 2)) front ∙ take-append-le (2 + n - 2) (drop 2 a) b (omega arith)) in
     subst (λ n. take (2 + n - 2) (drop 2 (a ++ b)) ≡ body a) (sym s) (cut (body_size a) w)
 
-same_behind : (a b : List ℕ) → has_frame a ≡ true → behind (a ++ b) ≡ behind a ++ b
+pub same_behind : (a b : List ℕ) → has_frame a ≡ true → behind (a ++ b) ≡ behind a ++ b
 same_behind a b h =
     let w = whole a h in
     let s = same_size a b (omega arith) in

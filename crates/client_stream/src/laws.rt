@@ -1,5 +1,6 @@
 //! What holds of every stream.
 
+ghost use Rattle.client_stream.specs.Cutting.{CuttingLaw};
 ghost use Rattle.client_stream.specs.Frames.{FramesJoin};
 ghost use Rattle.client_stream.specs.Ids.{IdsLaw};
 
@@ -16,4 +17,10 @@ pub fn frames_law()
 #[tactic(auto, using(crate::proofs::IdMoves::ids_law))]
 pub fn ids_law<Req: ComposeRequest>()
     ensures { IdsLaw Req.requests }
+{}
+
+/// Octets that come in two pieces at one moment leave and give what they do in one.
+#[tactic(auto, using(crate::proofs::Cutting::cutting))]
+pub fn cutting_law<Req: ComposeRequest>()
+    ensures { CuttingLaw Req.requests }
 {}

@@ -16,7 +16,7 @@ mod stage;
 pub use config::Config;
 pub use connection::Connection;
 pub use framer::Framer;
-pub use laws::{frames_law, ids_law};
+pub use laws::{cutting_law, frames_law, ids_law};
 pub use line::Line;
 pub use queries::{InsertFault, Queries};
 pub use request::{Holder, Request, Waiting};
