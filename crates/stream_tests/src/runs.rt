@@ -21,10 +21,12 @@ fn holds(alloc: Global, stage: &Stage, cell: &Cell) -> Result<bool, Error> {
 
 /// The first cell of a stage that does not hold, with its number.
 fn fault_in(alloc: Global, stage: &Stage) -> Option<usize> {
-    stage
-        .1
-        .iter()
-        .position(|cell| !holds(alloc, stage, cell).is_ok_and(|holds| holds))
+    for (number, cell) in stage.1.iter().enumerate() {
+        if !holds(alloc, stage, cell).is_ok_and(|holds| holds) {
+            return Some(number);
+        }
+    }
+    None
 }
 
 #[test]
