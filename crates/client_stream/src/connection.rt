@@ -1,0 +1,325 @@
+//! One connection to a server by stream, with the octets that come on it.
+
+ghost use Rattle.std.specs.Prelude.{◌≡◌, ◌==◌, true, false, length, Some, None, Err, IsOkAnd, OnOk, OnErr, IfOk, IfErr, IsErrOf, IsTrue};
+ghost use Rattle.client_request.specs.Cx.{view_of, heard, LendsTheSame};
+ghost use Rattle.client_request.specs.Timers.{IsWant};
+ghost use Rattle.client_request.specs.Response.{response_of, IsRefusal};
+ghost use Rattle.client_stream.specs.Plain as plain;
+ghost use Rattle.client_stream.specs.Settings.{default_settings};
+
+use crate::config::Config;
+use crate::framer::Framer;
+use crate::line::{Line, end, fire, give_up, hear_frame, take_on, wrote};
+use crate::request::Request;
+use client_request::{
+    ComposeRequest, Cx, Error, Fault, GetResponse, SendRequest, Signal, What, Words,
+};
+use dns_base::NoMemory;
+use std::alloc::Global;
+use std::marker::Model;
+
+/// How many ids may be held at a time.
+const MAX_HELD: usize = 32768;
+
+/// A connection to a server at a place that was opened. Requests are written one behind the other, each
+/// under an id of its own, and answers come in any order. Once it has ended each request that is taken on
+/// gets `ConnectionClosed`.
+#[derive(Drop)]
+pub struct Connection<Req> {
+    alloc: Global,
+    place: u64,
+    config: Config,
+    line: Line<Req>,
+    /// The octets that no frame has taken.
+    framer: Framer,
+    failed: bool,
+}
+
+impl<Req> Model for Connection<Req> {
+    ghost use Rattle.client_stream.specs.Plain.{Stream};
+
+    ghost Value = { Stream Req };
+
+    ghost view = { λ c. record {
+      place = c.place;
+      settings = c.config;
+      line = c.line;
+      octets = c.framer;
+      failed = c.failed;
+    } };
+}
+
+/// Whether an event is of a stream place with this number.
+fn is_at(place: u64, what: &What) -> bool
+    ensures { result ≡ plain.is_at place what.now }
+{
+    match what {
+        What::Bytes { place: at, .. }
+        | What::Wrote { place: at, .. }
+        | What::WriteFailed { place: at, .. }
+        | What::ReadFailed { place: at, .. }
+        | What::Ended { place: at } => place == *at,
+        _ => false,
+    }
+}
+
+impl<Req: Drop> Connection<Req> {
+    /// A connection at a place, with the default settings. It takes no memory.
+    pub fn new(alloc: Global, place: u64) -> Result<Connection<Req>, NoMemory>
+        ensures { IsOkAnd result (λ c. c ≡ plain.started place default_settings) }
+    {
+        Connection::with_config(alloc, place, Config::new())
+    }
+
+    /// A connection with settings of one's own. It takes no memory.
+    pub fn with_config(
+        alloc: Global,
+        place: u64,
+        config: Config,
+    ) -> Result<Connection<Req>, NoMemory>
+        ensures { IsOkAnd result (λ c. c ≡ plain.started place config) }
+    {
+        Ok(Connection {
+            alloc,
+            place,
+            config,
+            line: Line::new(alloc, &config),
+            framer: Framer::new(alloc),
+            failed: false,
+        })
+    }
+
+    /// The place that its outs name.
+    pub fn place(&self) -> u64
+        ensures { result ≡ self.now.place }
+    {
+        self.place
+    }
+
+    /// Whether the connection has ended.
+    pub fn is_closed(&self) -> bool
+        ensures { result ≡ plain.has_ended self.now.line.stage }
+    {
+        self.line.has_ended()
+    }
+
+    /// Whether 32768 ids are held, so that no request gets one.
+    pub fn is_full(&self) -> bool
+        ensures { result ≡ (length self.now.line.held.held == 32768) }
+    {
+        self.line.count() == MAX_HELD
+    }
+
+    /// Whether an earlier call found no memory or no number.
+    pub fn has_failed(&self) -> bool
+        ensures { result ≡ self.now.failed }
+    {
+        self.failed
+    }
+
+    /// Lets each later call answer `Failed`, for what holds it and could not go on.
+    pub fn fail(&mut self)
+        ensures { self.new ≡ record self.old { failed = true } }
+    {
+        self.failed = true;
+    }
+
+    /// The octets of a connection that has ended are dropped.
+    fn drop_octets(&mut self)
+        ensures { self.new ≡ record self.old { octets = plain.octets_left self.old.line.stage self.old.octets } }
+    {
+        if self.line.has_ended() {
+            self.framer = Framer::new(self.alloc);
+        }
+    }
+}
+
+impl<Req: ComposeRequest> Connection<Req> {
+    /// Takes a request on, as `send_request` does. Its result will stand on the board under the
+    /// response's ticket.
+    pub fn get_request<W: Words>(
+        &mut self,
+        cx: &mut Cx<'_, W>,
+        request: Req,
+    ) -> Result<Request, Error>
+        ensures lends { LendsTheSame cx.old cx.new }
+        ensures ok { OnOk result (plain.plain_send Req.requests request self.old (view_of W.stream cx.old) ≡ Some (self.new, view_of W.stream cx.new)) }
+        ensures response { IfOk result (λ r. r ≡ plain.asked cx.old.ticket) }
+        ensures numbers { IsErrOf result Error.NumbersUsed → plain.plain_send Req.requests request self.old (view_of W.stream cx.old) ≡ None }
+        ensures keeps { OnOk result (self.new.failed ≡ self.old.failed) }
+        ensures refused { IfErr result IsRefusal }
+        ensures err { OnErr result (self.new.failed ≡ true) }
+        ensures failed { self.old.failed ≡ true → (result ≡ Err Error.Failed) × (self.new ≡ self.old) × (view_of W.stream cx.new ≡ view_of W.stream cx.old) }
+        ensures failed_only { IsErrOf result Error.Failed → self.old.failed ≡ true }
+    {
+        if self.failed {
+            return Err(Error::Failed);
+        }
+        match take_on(&mut self.line, self.place, &self.config, cx, request) {
+            Ok(ticket) => Ok(Request::of(ticket)),
+            Err(error) => {
+                self.failed = true;
+                Err(error)
+            }
+        }
+    }
+
+    /// Takes the first frame, if it is whole.
+    fn take_frame<W: Words>(&mut self, cx: &mut Cx<'_, W>) -> Result<(), Error>
+        ensures lends { LendsTheSame cx.old cx.new }
+        ensures ok { OnOk result (plain.frame_taken Req.requests self.old (view_of W.stream cx.old) ≡ Some (self.new, view_of W.stream cx.new)) }
+        ensures numbers { IsErrOf result Error.NumbersUsed → plain.frame_taken Req.requests self.old (view_of W.stream cx.old) ≡ None }
+        ensures keeps { self.new.failed ≡ self.old.failed }
+        ensures want { IfErr result IsWant }
+    {
+        let Some(frame) = self.framer.next_frame()? else {
+            return Ok(());
+        };
+        hear_frame(&mut self.line, self.place, &self.config, cx, frame)?;
+        self.drop_octets();
+        Ok(())
+    }
+
+    /// Takes the first frame, and says whether another whole one stands.
+    fn read<W: Words>(&mut self, cx: &mut Cx<'_, W>) -> Result<(), Error>
+        ensures lends { LendsTheSame cx.old cx.new }
+        ensures ok { OnOk result (plain.reads Req.requests self.old (view_of W.stream cx.old) ≡ Some (self.new, view_of W.stream cx.new)) }
+        ensures numbers { IsErrOf result Error.NumbersUsed → plain.reads Req.requests self.old (view_of W.stream cx.old) ≡ None }
+        ensures keeps { self.new.failed ≡ self.old.failed }
+        ensures want { IfErr result IsWant }
+    {
+        self.take_frame(cx)?;
+        if self.framer.has_frame() {
+            cx.more = true;
+        }
+        Ok(())
+    }
+
+    /// Ends the connection.
+    fn close<W: Words>(&mut self, cx: &mut Cx<'_, W>, error: Error) -> Result<(), NoMemory>
+        ensures lends { LendsTheSame cx.old cx.new }
+        ensures ok { OnOk result (plain.closes error self.old (view_of W.stream cx.old) ≡ Some (self.new, view_of W.stream cx.new)) }
+        ensures keeps { self.new.failed ≡ self.old.failed }
+    {
+        end(&mut self.line, self.place, cx, error)?;
+        self.drop_octets();
+        Ok(())
+    }
+
+    /// What an event at its own place does.
+    fn told<W: Words>(&mut self, cx: &mut Cx<'_, W>, what: &What) -> Result<(), Error>
+        ensures lends { LendsTheSame cx.old cx.new }
+        ensures ok { OnOk result (plain.tells Req.requests what.now self.old (view_of W.stream cx.old) ≡ Some (self.new, view_of W.stream cx.new)) }
+        ensures numbers { IsErrOf result Error.NumbersUsed → plain.tells Req.requests what.now self.old (view_of W.stream cx.old) ≡ None }
+        ensures keeps { self.new.failed ≡ self.old.failed }
+        ensures want { IfErr result IsWant }
+    {
+        match what {
+            What::Bytes { octets, .. } => {
+                self.framer.feed(octets.as_slice())?;
+                self.read(cx)
+            }
+            What::Wrote { count, .. } => {
+                wrote(&mut self.line, self.place, &self.config, cx, *count)?;
+                self.drop_octets();
+                Ok(())
+            }
+            What::WriteFailed { fault, .. } => {
+                self.close(cx, Error::StreamWriteError(*fault))?;
+                Ok(())
+            }
+            What::ReadFailed { fault, .. } => {
+                self.close(cx, Error::StreamReadError(*fault))?;
+                Ok(())
+            }
+            What::Ended { .. } => {
+                let error = self.end_error();
+                self.close(cx, error)?;
+                Ok(())
+            }
+            _ => Ok(()),
+        }
+    }
+
+    /// Why the connection ends where its server ended it.
+    fn end_error(&self) -> Error
+        ensures { result ≡ plain.end_error self.now.octets }
+    {
+        if self.framer.in_body() {
+            Error::StreamUnexpectedEndOfData
+        } else {
+            Error::StreamReadError(Fault::EndOfData)
+        }
+    }
+
+    /// What a signal does.
+    fn hear<W: Words>(&mut self, cx: &mut Cx<'_, W>, signal: Signal<'_>) -> Result<(), Error>
+        ensures lends { LendsTheSame cx.old cx.new }
+        ensures ok { OnOk result (plain.plain_step Req.requests (heard signal.entry) self.old (view_of W.stream cx.old) ≡ Some (self.new, view_of W.stream cx.new)) }
+        ensures numbers { IsErrOf result Error.NumbersUsed → plain.plain_step Req.requests (heard signal.entry) self.old (view_of W.stream cx.old) ≡ None }
+        ensures keeps { self.new.failed ≡ self.old.failed }
+        ensures want { IfErr result IsWant }
+    {
+        if self.line.has_ended() {
+            return Ok(());
+        }
+        match signal {
+            Signal::Told(what) => {
+                if is_at(self.place, what) {
+                    self.told(cx, what)
+                } else {
+                    Ok(())
+                }
+            }
+            Signal::More { place } => {
+                if self.place == place {
+                    self.read(cx)
+                } else {
+                    Ok(())
+                }
+            }
+            Signal::Due(timer) => {
+                fire(&mut self.line, self.place, cx, timer.0)?;
+                self.drop_octets();
+                Ok(())
+            }
+        }
+    }
+}
+
+impl<Req: ComposeRequest> SendRequest<Req> for Connection<Req> {
+    type Response = Request;
+
+    ghost has_failed = { λ c. c.failed };
+
+    ghost holds_failed = { λ c. c.failed };
+
+    ghost transport = { plain.transport Req.requests };
+
+    fn send_request<W: Words>(
+        &mut self,
+        cx: &mut Cx<'_, W>,
+        request: Req,
+    ) -> Result<Request, Error> {
+        self.get_request(cx, request)
+    }
+
+    fn step<W: Words>(&mut self, cx: &mut Cx<'_, W>, signal: Signal<'_>) -> Result<(), Error> {
+        if self.failed {
+            return Err(Error::Failed);
+        }
+        let result = self.hear(cx, signal);
+        if result.is_err() {
+            self.failed = true;
+        }
+        result
+    }
+
+    fn cancel<W: Words>(&mut self, cx: &mut Cx<'_, W>, response: Request) -> Result<(), Error> {
+        if self.failed {
+            return Err(Error::Failed);
+        }
+        give_up(&mut self.line, response.ticket());
+        Ok(())
+    }
+}

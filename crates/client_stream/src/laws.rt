@@ -1,0 +1,26 @@
+//! What holds of every stream.
+
+ghost use Rattle.client_stream.specs.Cutting.{CuttingLaw};
+ghost use Rattle.client_stream.specs.Frames.{FramesJoin};
+ghost use Rattle.client_stream.specs.Ids.{IdsLaw};
+
+use client_request::ComposeRequest;
+
+/// The frames of octets are those of their pieces, wherever they are cut.
+#[tactic(auto, using(crate::proofs::Frames::frames_join))]
+pub fn frames_law()
+    ensures { FramesJoin }
+{}
+
+/// An id that was written on a connection is not written again there until a frame with it came or the
+/// connection ended.
+#[tactic(auto, using(crate::proofs::IdMoves::ids_law))]
+pub fn ids_law<Req: ComposeRequest>()
+    ensures { IdsLaw Req.requests }
+{}
+
+/// Octets that come in two pieces at one moment leave and give what they do in one.
+#[tactic(auto, using(crate::proofs::Cutting::cutting))]
+pub fn cutting_law<Req: ComposeRequest>()
+    ensures { CuttingLaw Req.requests }
+{}

@@ -1,0 +1,23 @@
+//! One connection to a server by stream, at a place that was opened: requests go out one behind the
+//! other, and answers come in any order (RFC 7766).
+#![tactic(auto)]
+
+mod composing;
+mod config;
+mod connection;
+mod framer;
+mod keepalive;
+mod laws;
+mod line;
+mod queries;
+mod request;
+mod stage;
+
+pub use config::Config;
+pub use connection::Connection;
+pub use framer::Framer;
+pub use laws::{cutting_law, frames_law, ids_law};
+pub use line::Line;
+pub use queries::{InsertFault, Queries};
+pub use request::{Holder, Request, Waiting};
+pub use stage::Stage;
