@@ -488,7 +488,7 @@ pub(crate) fn wrote<Req: ComposeRequest, W: Words>(
     if octets.as_slice().len() as u64 <= count {
         return pump(line, place, config, cx);
     }
-    let rest = octets.behind(count as usize)?;
+    let rest = Octets::from_slice(line.alloc, &octets.as_slice()[count as usize..])?;
     resume(line, place, cx, rest)?;
     Ok(())
 }
