@@ -1,16 +1,16 @@
 -- Frames are taken alike wherever their octets are cut.
-use Rattle.std.proofs.Common.{◌≡◌, ℕ, zero, suc, ◌+◌, ◌-◌, ◌<◌, ◌≤◌, Bool, true, false, Option, Some, None, List, [], ◌∷◌, ◌++◌, length, drop, refl, sym, ◌∙◌, ap, subst, arith, length-append, length-drop, append_assoc}
-use Rattle.std.specs.Prelude.{if◌then◌else◌, ◌==◌, option_and_then, IfSome, nat_le, slice_range}
+use Rattle.std.proofs.Common.{◌≡◌, ℕ, zero, suc, ◌+◌, ◌≤◌, Bool, true, false, Option, Some, None, List, [], ◌++◌, length, refl, sym, ◌∙◌, ap, subst, arith, length-append, length-drop, append_assoc}
+use Rattle.std.specs.Prelude.{if◌then◌else◌, ◌==◌, option_and_then, IfSome, nat_le}
 use Rattle.std.proofs.lemmas.Bool.Decides.{nat_tests}
 use Rattle.client_request.specs.Numbered.{entry_at}
 use Rattle.client_request.specs.Requests.{Requests}
 use Rattle.client_request.specs.Timers.{can_draw, with_timer}
-use Rattle.client_request.specs.View.{View, told, more_at, sets_timer, asks}
+use Rattle.client_request.specs.View.{View, told, sets_timer, asks}
 use Rattle.client_request.specs.declared.error.Error.{Error}
 use Rattle.client_request.specs.declared.error.Error.TheVariants as errors
 use Rattle.client_request.specs.declared.event.What.TheVariants.{Bytes}
 use Rattle.client_stream.specs.Cutting.{takes_more, brings, CuttingLaw}
-use Rattle.client_stream.specs.Frames.{body_size, has_frame, first_frame, behind_frame}
+use Rattle.client_stream.specs.Frames.{body_size, has_frame}
 use Rattle.client_stream.specs.IdTable.{removed}
 use Rattle.client_stream.specs.Plain as plain
 use Rattle.client_stream.specs.Plain.{Line, Stream, After, AfterAll, has_ended, message_id, octets_left}

@@ -1,14 +1,13 @@
 -- What a table of ids holds after each change.
-use Rattle.std.proofs.Common.{◌≡◌, ℕ, zero, suc, ◌+◌, ◌<◌, ◌≤◌, Bool, true, false, Option, Some, None, List, [], ◌∷◌, ◌++◌, length, get_or, set, refl, sym, ◌∙◌, ap, subst, arith, length-append, inl, inr, ◌⊎◌}
-use Rattle.std.specs.Prelude.{if◌then◌else◌, ◌==◌, ◌&&◌, nat_le, nat_lt}
+use Rattle.std.proofs.Common.{◌≡◌, ℕ, ◌<◌, Bool, true, false, Option, Some, None, List, [], ◌∷◌, ◌++◌, length, set, refl, sym, ◌∙◌, ap, subst, arith, length-append, inl, inr, ◌⊎◌}
+use Rattle.std.specs.Prelude.{if◌then◌else◌, ◌==◌, nat_lt}
 use Rattle.std.specs.Option.{is_some}
-use Rattle.std.specs.Ordering.{nat_cmp, match_ordering, is_eq}
-use Rattle.std.specs.declared.cmp.Ordering.{Ordering}
+use Rattle.std.specs.Ordering.{nat_cmp, is_eq}
 use Rattle.std.specs.declared.cmp.Ordering.TheVariants.{Less, Equal, Greater}
 use Rattle.std.proofs.lemmas.Bool.Decides.{nat_tests}
 use Rattle.std.proofs.lemmas.List.{length-set, get_or_past}
 use Rattle.client_request.specs.Numbered.{puts, frees, entry_at}
-use Rattle.client_stream.specs.IdTable.{IdTable, no_ids, least_free, reuses, next_id, inserted, inserted_at, removed, held_from, full_front}
+use Rattle.client_stream.specs.IdTable.{IdTable, no_ids, reuses, next_id, inserted, inserted_at, removed, held_from, full_front}
 use Rattle.client_stream.proofs.IdTable.{table_of, at_slot, least, set_slot, free_slot, push_slot, front_free, some_held}
 
 cmp_cases : (i j : ℕ) → ((i < j) × (nat_cmp i j ≡ Less)) ⊎ (((i ≡ j) × (nat_cmp i j ≡ Equal)) ⊎ ((j < i) × (nat_cmp i j ≡ Greater)))

@@ -1,5 +1,5 @@
 -- Octets that come in two pieces at one moment, and what they do in one.
-use Rattle.std.specs.Prelude.{◌≡◌, ℕ, zero, suc, false, if◌then◌else◌, List, ◌++◌, length, Option, Some, option_and_then}
+use Rattle.std.specs.Prelude.{◌≡◌, ℕ, zero, suc, false, if◌then◌else◌, List, ◌++◌, length, Some, option_and_then}
 use Rattle.client_request.specs.Requests.{Requests}
 use Rattle.client_request.specs.View.{View, told, more_at}
 use Rattle.client_request.specs.declared.event.What.TheVariants.{Bytes}

@@ -1,5 +1,5 @@
 -- When an id is open on a connection, and that no open id is written again.
-use Rattle.std.specs.Prelude.{◌≡◌, ℕ, ◌+◌, ◌==◌, ◌&&◌, ◌||◌, not, nat_lt, nat_le, Bool, true, false, if◌then◌else◌, List, [], ◌∷◌, ◌++◌, length, Option, Some, None, IfSome}
+use Rattle.std.specs.Prelude.{◌≡◌, ℕ, ◌+◌, ◌==◌, ◌&&◌, ◌||◌, not, nat_lt, Bool, true, false, if◌then◌else◌, List, [], ◌∷◌, ◌++◌, Option, Some, None, IfSome}
 use Rattle.client_request.specs.Requests.{Requests}
 use Rattle.client_request.specs.View.{View, Heard, told, more_at, due_timer}
 use Rattle.client_request.specs.declared.event.Out.{Out}
@@ -7,7 +7,7 @@ use Rattle.client_request.specs.declared.event.Out.TheVariants.{Write}
 use Rattle.client_request.specs.declared.event.What.{What}
 use Rattle.client_request.specs.declared.event.What.TheVariants.{Bytes}
 use Rattle.client_stream.specs.Frames.{first_frame}
-use Rattle.client_stream.specs.Plain.{Stream, AfterAll, has_ended, message_id, is_at, started, plain_send, plain_step, plain_cancel}
+use Rattle.client_stream.specs.Plain.{Stream, AfterAll, has_ended, message_id, started, plain_send, plain_step, plain_cancel}
 use Rattle.client_stream.specs.Settings.{Settings}
 
 -- a call of a connection: a request is taken on, something is heard, or the request with a ticket is given up
