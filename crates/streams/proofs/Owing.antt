@@ -22,45 +22,22 @@ use Rattle.streams.specs.Multi as multi
 use Rattle.streams.specs.Multi.{Act, Puts, Gives, Nothing, Phase, Free, Expecting, Lined, Holding, Broken, BackingOff, Asker, Conn, Multi, with_at, Moves, Takes, TakesFrame}
 use Rattle.streams.specs.Dgrams as dgrams
 use Rattle.streams.specs.Dgrams.{Stage, Queued, Trying, Sent, Ending, Cut, Tryer, Dgrams, Tries, Meets, stage_of}
+use Rattle.streams.specs.Server as server
 use Rattle.streams.specs.Server.{Server}
 use Rattle.streams.specs.Served as served
 use Rattle.streams.specs.Served.{Served, holds, outs_of, Acts, Settles, AsItIs, WithResult, ByStreamNow}
 use Rattle.streams.specs.upper.Rows.{handed}
 use Rattle.streams.specs.upper.Owed.{IsOwed}
-use Rattle.streams.specs.upper.Server.{Act as Step}
+use Rattle.streams.specs.upper.Server.{Act as Step, this_one}
 use Rattle.streams.proofs.DgramKept.{Old, SentFits, StageFits}
-use Rattle.streams.proofs.Views.{each_at, each_other}
+use Rattle.streams.proofs.Views.{each_at, each_other, at_there}
 use Rattle.streams.proofs.Ending.{every_some}
-use Rattle.streams.proofs.Handing.{before_of, none_started}
+use Rattle.streams.proofs.Handing.{before_of, none_started, handed_put}
 use Rattle.streams.proofs.Cancels.{one_way}
 use Rattle.streams.proofs.Staying.{Was, IsSentBy, IsNext, nothing_new, owed_put, mute_put, held_tryer, held_asker, CutsAt, tries_cut, meets_cut, empty_close, start_put, acts_were}
 use Rattle.streams.proofs.Moved.{now_all}
+use Rattle.streams.proofs.OwedFits.{StageOwed, PhaseOwed, OwedFits}
 use Rattle.streams.proofs.Fitting.{Fits}
-
--- by datagram: at the place where it was sent, and the event is no answer
-abbrev pub StageOwed : (w : What) (past : History) → Request → (p : ℕ) → Stage → Type 0
-StageOwed w past r p (Sent q id t) = (p ≡ q) × (has_answer r id (came q w past) ≡ false)
-StageOwed w past r p _ = ⊥
-
--- by stream: nothing to one that is on its way to a connection; at the connection where it holds an id; who was broken off in this row backs off beyond it
-abbrev pub PhaseOwed : (n : ℕ) → Via → (p : ℕ) → Phase → Type 0
-PhaseOwed n v p (Holding q id) = (v ≡ Stream) × (p ≡ q)
-PhaseOwed n v p Broken = v ≡ Stream
-PhaseOwed n v p (BackingOff until) = (v ≡ Stream) × (n < until)
-PhaseOwed n v p _ = ⊥
-
-pub record OwedFits (c : Conf) (s : ℕ) (past : History) (w : What) (v : Server) (h : History) : Type 0 where
-  pub begun : (k : ℕ) → IsOwed c s k past w h → handed k s h ≡ true
-  pub by_dgram : (k : ℕ) (a : Tryer) → v.by_dgram.held k ≡ Some a → (o : IsOwed c s k past w h) → StageOwed w past a.request o.place a.stage
-  pub by_stream : (k : ℕ) (a : Asker) → v.by_stream.asks k ≡ Some a → (o : IsOwed c s k past w h) → PhaseOwed (now h) o.via o.place a.phase
-
-pub owed_stream : (n : ℕ) (v : Via) (p : ℕ) (ph : Phase) → PhaseOwed n v p ph → v ≡ Stream
-owed_stream n v p (Holding q id) o = o.0
-owed_stream n v p Broken o = o
-owed_stream n v p (BackingOff until) o = o.0
-owed_stream n v p Free o = absurd o
-owed_stream n v p Expecting o = absurd o
-owed_stream n v p (Lined q) o = absurd o
 
 broken_owed : (n : ℕ) (v : Via) (p q : ℕ) (ph : Phase) → PhaseOwed n v p ph → PhaseOwed n v p (multi.broken_at q ph)
 broken_owed n v p q (Holding r id) o = go (r == q)
@@ -345,3 +322,64 @@ module _ (c : Conf) (s : ℕ) (past : History) (w : What) (u : Served) (h : Hist
 
   pub acts_owed : (next : ℕ) → next ≡ reach h → (d : Step Served) → Acts s next u d → ((k : ℕ) → handed k s h ≡ true → handed k s (put_all d.outs h) ≡ true) → OwedFits c s past w d.state.server (put_all d.outs h)
   acts_owed next is d act more = (let z = acts_both next is d act in record { begun = λ k o. elim (acts_were c s past w u h f next is d act k s o) [ inl y ↦ more k (g.begun k y.0) | inr y ↦ more k (held_handed k y.1) ]; by_dgram = z.by_dgram; by_stream = z.by_stream })
+
+-- Another server
+
+pub others_owed : (c : Conf) (t : ℕ) (past : History) (w : What) (v : Server) (h h' : History) → now h' ≡ now h → ((k : ℕ) → handed k t h ≡ true → handed k t h' ≡ true) → ((k : ℕ) (o : IsOwed c t k past w h') → Was c t k past w h h' o) → OwedFits c t past w v h → OwedFits c t past w v h'
+others_owed c t past w v h h' clock more was g = record {
+  begun = λ k o. more k (g.begun k (was k o).0);
+  by_dgram = λ k a e o. (let y = was k o in subst (λ p. StageOwed w past a.request p a.stage) y.2 (g.by_dgram k a e y.0));
+  by_stream = λ k a e o. (let y = was k o in subst (λ n. PhaseOwed n o.via o.place a.phase) (sym clock) (subst₂ (λ v p. PhaseOwed (now h) v p a.phase) y.1 y.2 (g.by_stream k a e y.0)));
+}
+
+-- A request is handed over, or given up
+
+module _ (c : Conf) (s next k : ℕ) (r : Request) (past : History) (w : What) (u : Served) (h : History) (f : Fits c s past w u h) (g : OwedFits c s past w u.server h) where
+  start_was : handed k s h ≡ false → (v : Via) (j t : ℕ) (o : IsOwed c t j past w (Put (Start k s v) ∷ h)) → Was c t j past w h (Put (Start k s v) ∷ h) o
+  start_was un v j t o = elim (owed_put c s past w h (nothing_new c s past w u h f) f.begun (Start k s v) (is_next v) j t o) [ inl y ↦ y | inr e ↦ absurd e ]
+    where
+      or_false : (x y : Bool) → (x || y) ≡ false → y ≡ false
+      or_false false y e = e
+      or_false true y e = absurd (cc)
+
+      is_next : (v : Via) → IsNext s (Start k s v) h
+      is_next Dgram = tt
+      is_next Stream = (refl, or_false (started k s Dgram h) (started k s Stream h) un)
+
+  pub starts_were : handed k s h ≡ false → (d : Step Served) → served.Starts c s next k r u d → (j t : ℕ) (o : IsOwed c t j past w (put_all d.outs h)) → Was c t j past w h (put_all d.outs h) o
+  starts_were un _ (served.IsHanded how x v used (server.ToDgrams is free)) j t o = start_was un Dgram j t o
+  starts_were un _ (served.IsHanded how x v used (server.ToStreams is free)) j t o = start_was un Stream j t o
+
+  pub starts_owed : handed k s h ≡ false → (d : Step Served) → served.Starts c s next k r u d → OwedFits c s past w d.state.server (put_all d.outs h)
+  starts_owed un _ (served.IsHanded how x v used (server.ToDgrams is free)) = record {
+    begun = λ j o. (let z = g.begun j (start_was un Dgram j s o).0 in handed_put k s Dgram h j s ∙ or_last (this_one k s j s) (handed j s h) z);
+    by_dgram = each_at (λ j (a : Tryer). (o : IsOwed c s j past w (Put (Start k s Dgram) ∷ h)) → StageOwed w past a.request o.place a.stage) k _ u.server.by_dgram.held (λ o. (let z = g.begun k (start_was un Dgram k s o).0 in let y : true ≡ false = sym z ∙ un in cc)) (λ j a ne e o. was_dgram c s past w u h f g _ j a e o (start_was un Dgram j s o));
+    by_stream = λ j a e o. was_stream c s past w u h f g _ j a e o (start_was un Dgram j s o);
+  }
+    where
+      or_last : (x y : Bool) → y ≡ true → (x || y) ≡ true
+      or_last true y e = refl
+      or_last false y e = e
+  starts_owed un _ (served.IsHanded how x v used (server.ToStreams is free)) = record {
+    begun = λ j o. (let z = g.begun j (start_was un Stream j s o).0 in handed_put k s Stream h j s ∙ or_last (this_one k s j s) (handed j s h) z);
+    by_dgram = λ j a e o. was_dgram c s past w u h f g _ j a e o (start_was un Stream j s o);
+    by_stream = each_at (λ j (a : Asker). (o : IsOwed c s j past w (Put (Start k s Stream) ∷ h)) → PhaseOwed (now h) o.via o.place a.phase) k _ u.server.by_stream.asks (λ o. (let z = g.begun k (start_was un Stream k s o).0 in let y : true ≡ false = sym z ∙ un in cc)) (λ j a ne e o. was_stream c s past w u h f g _ j a e o (start_was un Stream j s o));
+  }
+    where
+      or_last : (x y : Bool) → y ≡ true → (x || y) ≡ true
+      or_last true y e = refl
+      or_last false y e = e
+
+  pub cancels_were : (d : Step Served) → served.Cancels s next k u d → (j t : ℕ) (o : IsOwed c t j past w (put_all d.outs h)) → Was c t j past w h (put_all d.outs h) o
+  cancels_were _ (served.IsGivenUp x v (server.Waits a held stage)) j t o = (o, refl, refl)
+  cancels_were _ (served.IsGivenUp x v (server.HasPlace a p held stage)) j t o = mute_put c s past w u h f (Close p) tt tt j t o
+  cancels_were _ (served.IsGivenUp x v (server.AtStreams none)) j t o = (o, refl, refl)
+
+  pub cancels_owed : (d : Step Served) → served.Cancels s next k u d → OwedFits c s past w d.state.server (put_all d.outs h)
+  cancels_owed _ (served.IsGivenUp x v (server.Waits a held stage)) = record { begun = g.begun; by_dgram = each_other (λ j (a : Tryer). (o : IsOwed c s j past w h) → StageOwed w past a.request o.place a.stage) k u.server.by_dgram.held (λ j a ne e. g.by_dgram j a e); by_stream = g.by_stream }
+  cancels_owed _ (served.IsGivenUp x v (server.HasPlace a p held stage)) = record {
+    begun = λ j o. g.begun j (close_was c s past w u h f g p j o).0;
+    by_dgram = each_other (λ j (b : Tryer). (o : IsOwed c s j past w (Put (Close p) ∷ h)) → StageOwed w past b.request o.place b.stage) k _ (λ j b ne e o. was_dgram c s past w u h f g _ j b (sym (at_there k j _ u.server.by_dgram.held ne) ∙ e) o (close_was c s past w u h f g p j o));
+    by_stream = λ j b e o. was_stream c s past w u h f g _ j b e o (close_was c s past w u h f g p j o);
+  }
+  cancels_owed _ (served.IsGivenUp x v (server.AtStreams none)) = record { begun = g.begun; by_dgram = g.by_dgram; by_stream = each_other (λ j (a : Asker). (o : IsOwed c s j past w h) → PhaseOwed (now h) o.via o.place a.phase) k u.server.by_stream.asks (λ j a ne e. g.by_stream j a e) }
