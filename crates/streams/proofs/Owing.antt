@@ -88,7 +88,7 @@ module _ (c : Conf) (s : ℕ) (past : History) (w : What) (u : Served) (h : Hist
   itself : (k : ℕ) (o : IsOwed c s k past w h) → Was c s k past w h h o
   itself k o = (o, refl, refl)
 
-  close_was : (p k : ℕ) (o : IsOwed c s k past w (Put (Close p) ∷ h)) → Was c s k past w h (Put (Close p) ∷ h) o
+  pub close_was : (p k : ℕ) (o : IsOwed c s k past w (Put (Close p) ∷ h)) → Was c s k past w h (Put (Close p) ∷ h) o
   close_was p k o = mute_put c s past w u h f (Close p) tt tt k s o
 
   -- By datagram
@@ -111,7 +111,7 @@ module _ (c : Conf) (s : ℕ) (past : History) (w : What) (u : Served) (h : Hist
   each_staged : (h' : History) (k : ℕ) (b : Tryer) → ((o : IsOwed c s k past w h') → StageOwed w past b.request o.place b.stage) → ((j : ℕ) (o : IsOwed c s j past w h') → k ≢ j → Was c s j past w h h' o) → (j : ℕ) (a : Tryer) → with_at k (Some b) u.server.by_dgram.held j ≡ Some a → (o : IsOwed c s j past w h') → StageOwed w past a.request o.place a.stage
   each_staged h' k b here was j a e = each_at (λ j (a : Tryer). (o : IsOwed c s j past w h') → StageOwed w past a.request o.place a.stage) k b u.server.by_dgram.held here (λ j a ne e o. was_dgram h' j a e o (was j o ne)) j a e
 
-  tries_owed : (d : Dgrams) (x : Act) → Tries s (now h) (reach h) u.server.by_dgram x d → (j : ℕ) (a : Tryer) → d.held j ≡ Some a → (o : IsOwed c s j past w (put_all (outs_of x) h)) → StageOwed w past a.request o.place a.stage
+  pub tries_owed : (d : Dgrams) (x : Act) → Tries s (now h) (reach h) u.server.by_dgram x d → (j : ℕ) (a : Tryer) → d.held j ≡ Some a → (o : IsOwed c s j past w (put_all (outs_of x) h)) → StageOwed w past a.request o.place a.stage
   tries_owed _ _ (dgrams.Opens k b held stage few) = each_staged (Put (OpenDgram (reach h) s) ∷ h) k (dgrams.staged b (Trying (reach h))) (λ o. stage_owed _ k b Queued held stage o (mute_put c s past w u h f (OpenDgram (reach h) s) tt refl k s o)) (λ j o ne. mute_put c s past w u h f (OpenDgram (reach h) s) tt refl j s o)
   tries_owed _ _ (dgrams.Retries k b p id t held stage late few) = each_staged (Put (Close p) ∷ h) k (dgrams.staged b Queued) (λ o. stops k b p id t held stage late (close_was p k o).0) (λ j o ne. close_was p j o)
   tries_owed _ _ (dgrams.StopsTrying k b p id t held stage late six) = each_staged (Put (Close p) ∷ h) k (dgrams.staged b _) (λ o. stops k b p id t held stage late (close_was p k o).0) (λ j o ne. close_was p j o)
@@ -140,10 +140,7 @@ module _ (c : Conf) (s : ℕ) (past : History) (w : What) (u : Served) (h : Hist
       let some : has_answer a.request id (take 2000 m ∷ []) ≡ true = rw ok refl in
       (let y : true ≡ false = sym some ∙ (ap (has_answer a.request id) (sym here) ∙ none) in cc)
 
-  is_owed_none : (r : Request) (p : ℕ) (m : Octets) (b : Bool) → ⊥ → StageOwed w past r p (if b then Cut else Ending (Result.Ok m))
-  is_owed_none r p m b n = absurd n
-
-  meets_owed : (n : ℕ) (v : What) (e : Dgrams) (x : Act) → v ≡ w → u.pending ≡ w → Meets n u.server.by_dgram v x e → (j : ℕ) (a : Tryer) → e.held j ≡ Some a → (o : IsOwed c s j past w (put_all (outs_of x) h)) → StageOwed w past a.request o.place a.stage
+  pub meets_owed : (n : ℕ) (v : What) (e : Dgrams) (x : Act) → v ≡ w → u.pending ≡ w → Meets n u.server.by_dgram v x e → (j : ℕ) (a : Tryer) → e.held j ≡ Some a → (o : IsOwed c s j past w (put_all (outs_of x) h)) → StageOwed w past a.request o.place a.stage
   meets_owed n _ _ _ same pend (dgrams.IsSent k b p id m at held stage carries) = each_staged (Put (Send p k id m) ∷ h) k (record { request = b.request; tries = suc b.tries; stage = Sent p id n })
       (λ o. elim (owed_put c s past w h (nothing_new c s past w u h f) f.begun (Send p k id m) tt k s o) [ inl y ↦ absurd (stage_owed _ k b (Trying p) held stage o y) | inr z ↦ (sym z.2, subst (λ w. has_answer b.request id (came p w past) ≡ false) same refl) ])
       (λ j o ne. elim (owed_put c s past w h (nothing_new c s past w u h f) f.begun (Send p k id m) tt j s o) [ inl y ↦ y | inr z ↦ absurd (ne z.1) ])
