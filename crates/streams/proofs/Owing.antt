@@ -367,6 +367,7 @@ module _ (c : Conf) (s next k : ℕ) (r : Request) (past : History) (w : What) (
       or_last true y e = refl
       or_last false y e = e
 
+module _ (c : Conf) (s next k : ℕ) (past : History) (w : What) (u : Served) (h : History) (f : Fits c s past w u h) (g : OwedFits c s past w u.server h) where
   pub cancels_were : (d : Step Served) → served.Cancels s next k u d → (j t : ℕ) (o : IsOwed c t j past w (put_all d.outs h)) → Was c t j past w h (put_all d.outs h) o
   cancels_were _ (served.IsGivenUp x v (server.Waits a held stage)) j t o = (o, refl, refl)
   cancels_were _ (served.IsGivenUp x v (server.HasPlace a p held stage)) j t o = mute_put c s past w u h f (Close p) tt tt j t o
