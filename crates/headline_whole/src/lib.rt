@@ -1,0 +1,6 @@
+//! What a right trace is, for any number of servers, by datagrams and streams, and that every run is right: mathematics alone.
+#![tactic(auto)]
+
+mod laws;
+
+pub use laws::{every_cached_run_hits, every_run_is_right};
