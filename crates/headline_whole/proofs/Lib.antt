@@ -1,3 +1,5 @@
+pub mod Copying
+pub mod Composing
 pub mod PartLaws
 pub mod server
 pub mod client

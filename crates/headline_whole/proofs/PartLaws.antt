@@ -175,7 +175,6 @@ pub record Part (c : Conf) : Type 1 where
   pub just_so_many : (s : ℕ) (past : History) (w : What) (u : State) (h : History) → s < length c.servers → Fits s past w u h → Rests u → ((k : ℕ) → holds u k ≡ true → waits k h ≡ true) → ((k : ℕ) → waits k h ≡ true → handed k s h ≡ true → holds u k ≡ true)
       → live s h ≡ min 100 (demand s h)
 
-
 -- its machine
 abbrev pub machine_of : {c : Conf} → Part c → ServerPart c
 machine_of P = record { State = P.State; fresh = P.fresh; holds = P.holds; begin = P.begin; Acts = P.Acts; Starts = P.Starts; Cancels = P.Cancels; Rests = P.Rests }

@@ -102,7 +102,6 @@ is_of_server errors.WrongReplyForQuery = true
 is_of_server errors.StreamReadTimeout = true
 is_of_server _ = false
 
-
 -- An error has its own cause or is kept; a deferred one that is not kept is given only when every server is done with the request, and no message came.
 pub data HasCause (c : Conf) (s : Settings) (e : Error) (k : ℕ) (past : History) (w : What) (h : History) : Type 0 where
   Own : DirectCause c s k past w h e → (is_of_server e ≡ true → s.defers_errors ≡ true → AllAreDone c k past w h × NoneCame c k past w h) → HasCause c s e k past w h

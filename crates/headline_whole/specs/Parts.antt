@@ -1,5 +1,5 @@
 -- What a message is read as: its flags and its lists, with the data of its records as octets or by type.
-use Rattle.std.specs.Prelude.{◌≡◌, ℕ, Bool, Option, List, map, option_map}
+use Rattle.std.specs.Prelude.{◌≡◌, ℕ, ◌⊎◌, Bool, Option, List, [], ◌∷◌, map, option_map}
 use Rattle.dns_names.specs.Name.{Labels, lowered}
 use Rattle.dns_base.specs.Data.{Data}
 use Rattle.dns_base.specs.Message.{Asked, Known, Written, reads}
@@ -7,6 +7,11 @@ use Rattle.dns_base.specs.Knowing.{knows, lowered_asked, lowered_data}
 use Rattle.dns_base.specs.OptRecord.{opt_rcode}
 use Rattle.headline_whole.specs.Messages.{Octets}
 use Rattle.dns_base.specs.Header as head
+
+-- it is one of these
+abbrev pub IsIn : {A : Type 0} → A → List A → Type 0
+IsIn x [] = ⊥
+IsIn x (y ∷ ys) = (y ≡ x) ⊎ IsIn x ys
 
 pub record Header : Type 0 where
   pub id : ℕ

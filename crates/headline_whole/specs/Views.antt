@@ -7,7 +7,7 @@ use Rattle.client_request.specs.Request.{Request}
 use Rattle.headline_whole.specs.Messages.{Octets}
 use Rattle.headline_whole.specs.Settings.{Settings}
 use Rattle.headline_whole.specs.Keys.{Key, key_of, spelled_name, is_do, is_plain, is_signing}
-use Rattle.headline_whole.specs.Parts.{Header, Item, Parts, known_parts}
+use Rattle.headline_whole.specs.Parts.{IsIn, Header, Item, Parts, known_parts}
 use Rattle.headline_whole.specs.Validity.{second, validity_of_message, validity_of_parts}
 
 -- AA is clear; so are AD and RD where only the first request asked for them (RFC 6840 5.8)
@@ -65,6 +65,12 @@ module _ {C : Type 0} where
   -- how long the view of a message may be given
   abbrev pub view_validity : Settings → (q r : Request) → Parts C → ℕ
   view_validity s q r x = validity_of_parts s (viewed (key_of q) (key_of r) (spelled_name r) 0 x)
+
+  -- the records whose TTLs a view lessens
+  pub data IsLessened (q r : Request) (x : Parts C) (y : Item C) : Type 0 where
+    OfAnswer : IsIn y (without_signing (leaves_out (key_of q) (key_of r)) x.answer) → IsLessened q r x y
+    OfAuthority : IsIn y (without_signing (leaves_out (key_of q) (key_of r)) x.authority) → IsLessened q r x y
+    OfAdditional : IsIn y (without_signing (leaves_out (key_of q) (key_of r)) x.additional) → (y.rtype == 41) ≡ false → IsLessened q r x y
 
 -- The view of a message with these parts may be given at this age.
 pub record IsValidView (s : Settings) (q r : Request) (m : Octets) (x : Parts Data) (age : ℕ) : Type 0 where

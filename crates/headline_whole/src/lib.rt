@@ -3,4 +3,6 @@
 
 mod laws;
 
-pub use laws::{every_cached_run_hits, every_run_is_right};
+pub use laws::{
+    composing_composes, covering_is_an_order, every_cached_run_hits, every_run_is_right, no_ttl_falls_below_zero, views_compose,
+};

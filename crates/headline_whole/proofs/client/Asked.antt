@@ -2,6 +2,7 @@
 use Rattle.std.proofs.Common.{◌≡◌, ℕ, suc, ◌<◌, ◌≢◌, Bool, true, false, inl, inr, Some, [], ◌∷◌, refl, arith, sym, ◌∙◌, ap, subst, ◌==◌, ◌&&◌, ◌||◌}
 use Rattle.std.specs.Prelude.{if◌then◌else◌, max, not}
 use Rattle.std.proofs.lemmas.Bool.Decides.{nat_tests}
+use Rattle.dns_base.specs.Header.{cd_of}
 use Rattle.client_request.specs.Request.{Request}
 use Rattle.client_request.specs.declared.event.Event.{Event}
 use Rattle.headline_whole.specs.Trace.{History, Item, Came, Put}
@@ -153,3 +154,8 @@ covers_refl q e = record { first = e; second = e; keys = keys_refl (key_of q) }
 -- what is stored under a key that a request's key covers serves whom that key serves
 pub serves : (q r : Request) (k : Key) → is_cacheable q ≡ true → KeysCover (key_of q) k → KeyCovers k r → Covers q r
 serves q r k e a b = record { first = e; second = b.cacheable; keys = keys_trans (key_of q) k (key_of r) a b.keys }
+
+-- requests that differ in CD never cover each other (RFC 4035 4.7)
+pub apart_by_cd : (q r : Request) → cd_of q.header ≢ cd_of r.header → Covers q r → ⊥
+unfolding key_of
+apart_by_cd q r ne x = ne x.keys.cd

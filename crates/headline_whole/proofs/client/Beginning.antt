@@ -22,7 +22,8 @@ use Rattle.headline_whole.specs.Validity.{waits_for_others, is_deferred}
 use Rattle.headline_whole.specs.Coming.{IsExcused, CameFor, SomeCame, CameFirst, FirstHere, FirstEarlier}
 use Rattle.headline_whole.specs.Errors.{HereOrEarlier, Here, Earlier}
 use Rattle.headline_whole.specs.Orderly.{PlacesAreMet}
-use Rattle.headline_whole.specs.machine.Client.{Waiting, Upper, IsIn, first_message, IsDone, row_begins, begun}
+use Rattle.headline_whole.specs.machine.Client.{Waiting, Upper, first_message, IsDone, row_begins, begun}
+use Rattle.headline_whole.specs.Parts.{IsIn}
 use Rattle.headline_whole.proofs.client.Kept.{AllDiffer, WasReply, Pending, IsTold, IsExpected, IsPosted, IsKeptBack, IsPassedOver, Kept}
 use Rattle.client_request.specs.declared.event.Via.{Via}
 use Rattle.headline_whole.specs.Exchanges.{Matches}

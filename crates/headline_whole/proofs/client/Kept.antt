@@ -23,7 +23,8 @@ use Rattle.headline_whole.specs.Replies.{IsFresh, IsFreshReply}
 use Rattle.headline_whole.specs.Errors.{HereOrEarlier, DirectCause, IsErrorReply, is_deadline, is_of_server}
 use Rattle.headline_whole.specs.Right.{ReplyRight}
 use Rattle.headline_whole.proofs.PartLaws.{PostRight, Part}
-use Rattle.headline_whole.specs.machine.Client.{Posted, Given, Waiting, Leaving, Entry, Upper, IsIn, first_message}
+use Rattle.headline_whole.specs.machine.Client.{Posted, Given, Waiting, Leaving, Entry, Upper, first_message}
+use Rattle.headline_whole.specs.Parts.{IsIn}
 
 -- a reply with this result is given only when every server is done with the request
 abbrev pub needs_all : Settings → Result Octets Error → Bool

@@ -3,12 +3,11 @@ use Rattle.std.proofs.Common.{◌≡◌, ℕ, ◌*◌, ◌≤◌, Bool, true, fa
 use Rattle.std.specs.Prelude.{if◌then◌else◌, not, map, ◌-◌, ◌/◌, min}
 use Rattle.std.proofs.Math.Nat.{mul_comm, div-le_of_le-mul}
 use Rattle.client_request.specs.Request.{Request}
+use Rattle.headline_whole.specs.Parts.{Item, Parts, IsIn}
 use Rattle.headline_whole.specs.Settings.{Settings}
 use Rattle.headline_whole.specs.Keys.{key_of, spelled_name}
-use Rattle.headline_whole.specs.Parts.{Item, Parts}
 use Rattle.headline_whole.specs.Validity.{second, least, without_opt, limit}
-use Rattle.headline_whole.specs.Views.{leaves_out, lessened, mostly_lessened, without_signing, viewed, view_validity}
-use Rattle.headline_whole.specs.machine.Client.{IsIn}
+use Rattle.headline_whole.specs.Views.{IsLessened, OfAnswer, OfAuthority, OfAdditional, leaves_out, lessened, mostly_lessened, without_signing, viewed, view_validity}
 
 age_in_seconds : (age ttl : ℕ) → age ≤ ttl * second → age / second ≤ ttl
 age_in_seconds age ttl le = div-le_of_le-mul second (subst (λ n. age ≤ n) (mul_comm ttl second) le)
@@ -46,12 +45,6 @@ module _ {C : Type 0} where
       there : (b : Bool) → IsIn x (without_opt ys) → IsIn x (if b then without_opt ys else y ∷ without_opt ys)
       there true j = j
       there false j = inr j
-
-  -- the records whose TTLs a view lessens
-  pub data IsLessened (q r : Request) (x : Parts C) (y : Item C) : Type 0 where
-    OfAnswer : IsIn y (without_signing (leaves_out (key_of q) (key_of r)) x.answer) → IsLessened q r x y
-    OfAuthority : IsIn y (without_signing (leaves_out (key_of q) (key_of r)) x.authority) → IsLessened q r x y
-    OfAdditional : IsIn y (without_signing (leaves_out (key_of q) (key_of r)) x.additional) → (y.rtype == 41) ≡ false → IsLessened q r x y
 
   pub lessened_in_time : (s : Settings) (q r : Request) (x : Parts C) (age : ℕ) (y : Item C) → age ≤ view_validity s q r x → IsLessened q r x y → age / second ≤ y.ttl
   lessened_in_time s q r x age y le is = age_in_seconds age y.ttl (go (x.header.tc && not s.cache_truncated) le)

@@ -2,7 +2,8 @@
 use Rattle.std.proofs.Common.{◌≡◌, ℕ, Bool, true, false, ◌⊎◌, inl, inr, List, [], ◌∷◌, ◌++◌, refl, sym, ◌∙◌, ap}
 use Rattle.std.specs.Prelude.{map, Option, Some, None, Result, Ok, Err}
 use Rattle.headline_whole.specs.machine.Part.{Post, IsPosted}
-use Rattle.headline_whole.specs.machine.Client.{Posted, Given, Leaving, IsIn, tag, best, first_message, first_result, or_else}
+use Rattle.headline_whole.specs.machine.Client.{Posted, Given, Leaving, tag, best, first_message, first_result, or_else}
+use Rattle.headline_whole.specs.Parts.{IsIn}
 use Rattle.client_request.specs.declared.error.Error.{Error}
 use Rattle.headline_whole.specs.Messages.{Octets}
 use Rattle.headline_whole.proofs.client.Kept.{Leaves, AllDiffer}

@@ -20,7 +20,8 @@ use Rattle.headline_whole.specs.Replies.{IsFresh, InThisRow, Deferred, Supplies,
 use Rattle.headline_whole.specs.Causes.{ServerCause, NotOpened, NotSent, SentShort, NotReceived, NoAnswer, WrongReply, StreamSilence, NotRead, NotComposed}
 use Rattle.headline_whole.specs.Errors.{HereOrEarlier, Here, Earlier, CameWithoutValidity, InTime, Derived, DirectCause, NoServer, ByServer, NoValidity, ViewNotKnown, is_deadline, is_of_server, HasCause, Own, Kept as KeptError}
 use Rattle.headline_whole.specs.Right.{ReplyRight}
-use Rattle.headline_whole.specs.machine.Client.{Given, Waiting, Leaving, Entry, Upper, IsIn, best, first_message, first_result, or_else, outcome, outcome_of, AtOnce, Refused, Viewed, Unread, Repeated, Nowhere, NoneOf}
+use Rattle.headline_whole.specs.machine.Client.{Given, Waiting, Leaving, Entry, Upper, best, first_message, first_result, or_else, outcome, outcome_of, AtOnce, Refused, Viewed, Unread, Repeated, Nowhere, NoneOf}
+use Rattle.headline_whole.specs.Parts.{IsIn}
 use Rattle.headline_whole.proofs.client.Kept.{needs_all, MayStore, WasReply, IsTold, IsExpected, IsPosted, IsKeptBack, IsPassedOver, Kept}
 use Rattle.headline_whole.proofs.client.Lists.{best_message, best_error, no_message}
 use Rattle.headline_whole.proofs.client.Serving.{clash}

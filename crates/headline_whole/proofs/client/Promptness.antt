@@ -28,7 +28,8 @@ use Rattle.headline_whole.specs.Keys.{is_cacheable}
 use Rattle.headline_whole.specs.Validity.{validity_of_message, is_deferred, is_final, waits_for_others}
 use Rattle.headline_whole.specs.Coming.{CameFor, IsExcused}
 use Rattle.headline_whole.specs.machine.Part.{Act}
-use Rattle.headline_whole.specs.machine.Client.{Posted, Given, Waiting, Leaving, Upper, Made, with_up, with_held, IsIn, moved, handing, keeping, leave, newcomer, validity_of, outcome, outcome_of, Move, Server_moves, Hands_on, Gives_up, Drops, Keeps_back, Delivers, Concludes, Times_out, Replies, Forgets, Derives, Answers, Takes_on, Moves, Rests, Goes, IsDone, row_begins, NoneOf, hand}
+use Rattle.headline_whole.specs.machine.Client.{Posted, Given, Waiting, Leaving, Upper, Made, with_up, with_held, moved, handing, keeping, leave, newcomer, validity_of, outcome, outcome_of, Move, Server_moves, Hands_on, Gives_up, Drops, Keeps_back, Delivers, Concludes, Times_out, Replies, Forgets, Derives, Answers, Takes_on, Moves, Rests, Goes, IsDone, row_begins, NoneOf, hand}
+use Rattle.headline_whole.specs.Parts.{IsIn}
 use Rattle.headline_whole.proofs.client.Kept.{IsTold, IsExpected, IsPosted as OnBoard, IsKeptBack, IsPassedOver, Kept}
 use Rattle.headline_whole.proofs.client.Later.{now_all, put_more, excused_on, matches_reply, comes_all}
 use Rattle.headline_whole.proofs.client.Lists.{decide, in_left, in_right, in_here, in_but}

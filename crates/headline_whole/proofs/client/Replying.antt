@@ -20,7 +20,8 @@ use Rattle.headline_whole.specs.Replies.{IsFresh}
 use Rattle.headline_whole.specs.Errors.{DirectCause}
 use Rattle.headline_whole.specs.Right.{OutsRight}
 use Rattle.headline_whole.proofs.PartLaws.{Part}
-use Rattle.headline_whole.specs.machine.Client.{Waiting, Leaving, Entry, Upper, IsIn, entry_of, store}
+use Rattle.headline_whole.specs.machine.Client.{Waiting, Leaving, Entry, Upper, entry_of, store}
+use Rattle.headline_whole.specs.Parts.{IsIn}
 use Rattle.headline_whole.proofs.client.Kept.{Leaves, AllDiffer, MayStore, WasReply, EntryFits, LeavingFits, IsTold, IsExpected, IsPosted, IsKeptBack, IsPassedOver, Kept}
 use Rattle.headline_whole.proofs.client.Later.{Carried, carried_put, six_reply, post_on, fresh_stays, direct_on, given_on, none_on, first_on, matches_reply, excused_on, reply_on}
 use Rattle.headline_whole.proofs.client.Lists.{in_more, in_but, in_here, differ_but}

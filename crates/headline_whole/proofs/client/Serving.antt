@@ -20,7 +20,8 @@ use Rattle.headline_whole.specs.Coming.{SomeCame, NoneCame}
 use Rattle.headline_whole.specs.Errors.{IsErrorReply}
 use Rattle.headline_whole.specs.machine.Part.{Post, Act, IsPosted}
 use Rattle.headline_whole.proofs.PartLaws.{PostRight, Keeps, Goes, Late, Part}
-use Rattle.headline_whole.specs.machine.Client.{Posted, Given, Waiting, Leaving, Entry, Upper, with_up, IsIn, first_message, tag, moved}
+use Rattle.headline_whole.specs.machine.Client.{Posted, Given, Waiting, Leaving, Entry, Upper, with_up, first_message, tag, moved}
+use Rattle.headline_whole.specs.Parts.{IsIn}
 use Rattle.headline_whole.proofs.client.Kept.{RequestFits, IsOnBoard, HasGiven, MayStore, WasReply, EntryFits, ToCome, Nothing, HeldFits, PostFits, GivenFits, LeavingFits, IsFirstOf, IsTold, IsExpected, IsPosted as OnBoard, IsKeptBack, IsPassedOver, Kept}
 use Rattle.headline_whole.proofs.client.Later.{Carried, post_on, asked_on, fresh_stays, direct_on, given_on, first_on, excused_on, reply_on}
 use Rattle.headline_whole.proofs.client.Lists.{decide, in_left, in_right, in_either, in_tagged, tagged_in}

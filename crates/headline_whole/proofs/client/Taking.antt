@@ -19,7 +19,8 @@ use Rattle.headline_whole.specs.Coming.{SomeCame, FirstHere}
 use Rattle.headline_whole.proofs.client.Asked.{asking_below, here_asks, earlier_known}
 use Rattle.headline_whole.specs.Right.{ReplyRight}
 use Rattle.headline_whole.proofs.PartLaws.{PostRight, Part}
-use Rattle.headline_whole.specs.machine.Client.{Posted, Given, Waiting, Leaving, Entry, Upper, IsIn, with_held, keeping, leave, answer, newcomer, take_on}
+use Rattle.headline_whole.specs.machine.Client.{Posted, Given, Waiting, Leaving, Entry, Upper, with_held, keeping, leave, answer, newcomer, take_on}
+use Rattle.headline_whole.specs.Parts.{IsIn}
 use Rattle.headline_whole.proofs.client.Kept.{needs_all, RequestFits, Leaves, IsOnBoard, HasGiven, MayStore, EntryFits, GivenFits, LeavingFits, IsFirstOf, IsTold, IsExpected, IsPosted, IsKeptBack, IsPassedOver, Kept}
 use Rattle.headline_whole.proofs.client.Lists.{decide, in_left, in_either, in_more, in_but, leaves_left, leaves_last, differ_last, first_none, first_last}
 use Rattle.headline_whole.proofs.client.Serving.{clash}

@@ -139,8 +139,8 @@ whole_acts c s place past w u h d lt f is act =
     record {
       fits = record { fits = k.fits; owed = acts_owed c s past w u h f.fits f.owed place is d act (λ j. more j s); heard = acts_heard c s place past w u h f.fits f.heard is d act };
       others = λ t v ne g. other_whole c t past w v d.outs h (k.others t v ne g.fits) (λ j. more j t)
-        (λ j o. elim (acts_were c s past w u h f.fits place is d act j t o) [ inl y ↦ y | inr y ↦ absurd (ne y.0) ])
-        (λ r p j id m y. elim (late.acts_come c s place past w u h f.fits d act t r Stream p j id m y) [ inl z ↦ z | inr z ↦ absurd (ne z.0) ]) g;
+          (λ j o. elim (acts_were c s past w u h f.fits place is d act j t o) [ inl y ↦ y | inr y ↦ absurd (ne y.0) ])
+          (λ r p j id m y. elim (late.acts_come c s place past w u h f.fits d act t r Stream p j id m y) [ inl z ↦ z | inr z ↦ absurd (ne z.0) ]) g;
       silent = k.silent;
       handed_on = k.handed_on;
       reaches = k.reaches;

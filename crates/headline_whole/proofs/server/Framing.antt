@@ -118,8 +118,8 @@ module _ (c : Conf) (s : ℕ) (past : History) (w : What) (u : Served) (h : Hist
       let fits : ConnFits s p past Tick (f.fr p) (f.more p) x h = kept.conns p x conn in
       record {
         fits = stays x mode m.asks conn (after_frame s past w f.fr f.more m m.asks p g gs x mode h kept conn (here x conn).0 good (here x conn).1
-        (λ k b e. (e, λ z i j. (let same : y ≡ z = (let u = sym held ∙ i in cc) in let mine : m.asks y.request ≡ Some b = ap m.asks (ap (λ y. y.request) same ∙ j) ∙ e in late b mine (kept.owners p x conn (id_in g) y held b mine))))
-        (mode_after s p past (f.fr p) (f.more p) m x g mode h fits leaves') (mode_new m p (now h) (framed g mode x) mode leaves')) (λ k a e. e);
+            (λ k b e. (e, λ z i j. (let same : y ≡ z = (let u = sym held ∙ i in cc) in let mine : m.asks y.request ≡ Some b = ap m.asks (ap (λ y. y.request) same ∙ j) ∙ e in late b mine (kept.owners p x conn (id_in g) y held b mine))))
+            (mode_after s p past (f.fr p) (f.more p) m x g mode h fits leaves') (mode_new m p (now h) (framed g mode x) mode leaves')) (λ k a e. e);
         others = λ i y ne z. z;
         silent = λ j. refl;
         handed_on = λ j i. refl;
@@ -129,8 +129,8 @@ module _ (c : Conf) (s : ℕ) (past : History) (w : What) (u : Served) (h : Hist
       let fits : ConnFits s p past Tick (f.fr p) (f.more p) x h = kept.conns p x conn in
       record {
         fits = stays x mode (with_at y.request None m.asks) conn (after_frame s past w f.fr f.more m (with_at y.request None m.asks) p g gs x mode h kept conn (here x conn).0 good (here x conn).1
-        (each_other (λ k b. (m.asks k ≡ Some b) × ((z : Written) → x.ids (id_in g) ≡ Some z → z.request ≢ k)) y.request m.asks (λ k b ne e. (e, λ z i j. (let same : y ≡ z = (let u = sym held ∙ i in cc) in ne (ap (λ y. y.request) same ∙ j)))))
-        (mode_after s p past (f.fr p) (f.more p) m x g mode h fits leaves') (mode_new m p (now h) (framed g mode x) mode leaves')) (each_other (λ k b. m.asks k ≡ Some b) y.request m.asks (λ k b ne e. e));
+            (each_other (λ k b. (m.asks k ≡ Some b) × ((z : Written) → x.ids (id_in g) ≡ Some z → z.request ≢ k)) y.request m.asks (λ k b ne e. (e, λ z i j. (let same : y ≡ z = (let u = sym held ∙ i in cc) in ne (ap (λ y. y.request) same ∙ j)))))
+            (mode_after s p past (f.fr p) (f.more p) m x g mode h fits leaves') (mode_new m p (now h) (framed g mode x) mode leaves')) (each_other (λ k b. m.asks k ≡ Some b) y.request m.asks (λ k b ne e. e));
         others = λ i y ne z. z;
         silent = λ j. refl;
         handed_on = λ j i. refl;

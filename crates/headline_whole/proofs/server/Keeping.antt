@@ -124,8 +124,8 @@ module _ (c : Conf) (s : ℕ) (past : History) (w : What) (u : Served) (h : Hist
         held = λ j b e. by_dgram_less k j b (twice j b e);
         settled = λ j b e. settled_less k j b (twice j b e);
         one_id = f.one_id;
-    begun = f.begun;
-    unsent = f.unsent;
+        begun = f.begun;
+        unsent = f.unsent;
       }
   gives_up k _ _ (server.AtStreams none) = record {
     streams = silent.drops s past w u.pending f.fr f.more u.server.by_stream h k f.streams;

@@ -14,7 +14,7 @@ use Rattle.headline_whole.specs.Messages.{Octets}
 use Rattle.headline_whole.specs.Requests.{is_ask}
 use Rattle.headline_whole.specs.Settings.{Settings}
 use Rattle.headline_whole.specs.Keys.{Key, KeysCover, KeyCovers, key_of, is_cacheable, is_do}
-use Rattle.headline_whole.specs.Parts.{Parts, read_parts, known_parts, Says}
+use Rattle.headline_whole.specs.Parts.{IsIn, Parts, read_parts, known_parts, Says}
 use Rattle.headline_whole.specs.Validity.{validity_of_message, waits_for_others}
 use Rattle.headline_whole.specs.Views.{view_of, view_validity, IsValidView}
 use Rattle.headline_whole.specs.machine.Part.{Post, Act, ServerPart}
@@ -73,11 +73,6 @@ with_up s u f t = if s == t then u else f t
 
 abbrev pub with_held : ℕ → Option Waiting → (ℕ → Option Waiting) → ℕ → Option Waiting
 with_held k a f j = if k == j then a else f j
-
--- it is one of these
-abbrev pub IsIn : {A : Type 0} → A → List A → Type 0
-IsIn x [] = ⊥
-IsIn x (y ∷ ys) = (y ≡ x) ⊎ IsIn x ys
 
 abbrev pub tag : ℕ → Post → Posted
 tag s x = record { server = s; request = x.request; result = x.result }
