@@ -3,3 +3,4 @@ pub mod Composing
 pub mod PartLaws
 pub mod server
 pub mod client
+pub mod worked

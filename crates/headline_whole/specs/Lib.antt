@@ -23,4 +23,5 @@ pub mod Right
 pub mod Timely
 pub mod Hit
 pub mod machine
+pub mod examples
 pub mod Theorem

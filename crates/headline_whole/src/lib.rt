@@ -1,8 +1,9 @@
-//! What a right trace is, for any number of servers, by datagrams and streams, and that every run is right: mathematics alone.
+//! What a right trace is, for any number of servers, by datagrams and streams, and that every run is right: mathematics
+//! alone.
 #![tactic(auto)]
 
+mod examples;
 mod laws;
 
-pub use laws::{
-    composing_composes, covering_is_an_order, every_cached_run_hits, every_run_is_right, no_ttl_falls_below_zero, views_compose,
-};
+pub use examples::worked_streams;
+pub use laws::{composing_composes, covering_is_an_order, every_cached_run_hits, every_run_is_right, no_ttl_falls_below_zero, views_compose};

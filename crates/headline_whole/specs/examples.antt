@@ -1,0 +1,5 @@
+pub mod Messages
+pub mod Rows
+pub mod Streams
+pub mod Cache
+pub mod Servers
