@@ -5,5 +5,5 @@
 mod examples;
 mod laws;
 
-pub use examples::worked_streams;
+pub use examples::{worked_cache, worked_servers, worked_streams};
 pub use laws::{composing_composes, covering_is_an_order, every_cached_run_hits, every_run_is_right, no_ttl_falls_below_zero, views_compose};
