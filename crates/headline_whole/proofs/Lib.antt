@@ -4,3 +4,4 @@ pub mod PartLaws
 pub mod server
 pub mod client
 pub mod worked
+pub mod wrong

@@ -3,3 +3,4 @@ pub mod Rows
 pub mod Streams
 pub mod Cache
 pub mod Servers
+pub mod Wrong
