@@ -1,1 +1,2 @@
 pub mod Dgrams
+pub mod Streams
