@@ -1,2 +1,3 @@
 pub mod Dgrams
 pub mod Streams
+pub mod Cache

@@ -79,7 +79,7 @@ both_handed zero lt = refl
 both_handed (suc zero) lt = refl
 both_handed (suc (suc i)) lt = absurd (omega arith)
 
-defers_it : is_deferred deferring failing ≡ true
+pub defers_it : is_deferred deferring failing ≡ true
 unfolding name_at walk head_at data_at data_spelling question_at record_at list_at items_at questions_of answer_of authority_of additional_of answer_items authority_items additional_items first_question sole_question reads opt_of opt_rcode is_deferred
 defers_it = refl
 
