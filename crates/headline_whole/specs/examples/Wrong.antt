@@ -1,5 +1,5 @@
 -- Traces that no right client makes: of a request that is sent once, at place 0, under id 7; then by stream; then with the cache and with two servers.
-use Rattle.std.specs.Prelude.{ℕ, List, [], ◌∷◌, ◌++◌, take, Ok, Err}
+use Rattle.std.specs.Prelude.{◌≡◌, ℕ, ◌<◌, ◌≤◌, true, false, Some, List, [], ◌∷◌, ◌++◌, length, take, Ok, Err}
 use Rattle.client_request.specs.Request.{Request}
 use Rattle.client_request.specs.declared.error.Error.TheVariants as errors
 use Rattle.client_request.specs.declared.error.Error.TheVariants.{TimedOut, WrongReplyForQuery}
@@ -10,7 +10,12 @@ use Rattle.client_request.specs.declared.event.Out.{Out}
 use Rattle.client_request.specs.declared.event.Out.TheVariants.{Start, OpenDgram, OpenStream, Send, Write, Close, Reply}
 use Rattle.client_request.specs.declared.event.Row.{Row}
 use Rattle.client_request.specs.declared.event.Via.TheVariants.{Dgram, Stream}
-use Rattle.headline_whole.specs.Messages.{Octets}
+use Rattle.client_request.specs.Carries.{Carries}
+use Rattle.headline_whole.specs.Trace.{Conf}
+use Rattle.headline_whole.specs.Messages.{Octets, CarriesInFrame, answers, truncated}
+use Rattle.headline_whole.specs.Frames.{Length, fed, first_with}
+use Rattle.headline_whole.specs.Settings.{Settings}
+use Rattle.headline_whole.specs.Validity.{is_final}
 use Rattle.headline_whole.specs.examples.Messages.{plain_request, ad_request, as_datagram, answer, failing}
 use Rattle.headline_whole.specs.examples.Rows.{at}
 use Rattle.headline_whole.specs.examples.Cache.{asked_again, refused_twice}
@@ -48,6 +53,16 @@ timed_out_early r octets = sent r octets (at 10 Tick (Close 0 ∷ Reply 0 (Err T
 -- a datagram that comes is passed over
 abbrev pub passed_over : Request → (octets message : Octets) → List Row
 passed_over r octets message = sent r octets (at 0 (Datagram 0 message) [] ∷ [])
+
+-- The request was sent as these octets to a server, and this datagram is its answer, which may not be passed over.
+pub record IsItsAnswer (c : Conf) (s : Settings) (r : Request) (octets message : Octets) : Type 0 where
+  pub has_server : 0 < length c.servers
+  pub has_time : 0 < c.timeout
+  pub carries : Carries octets r 7
+  pub long : 12 ≤ length (take 2000 message)
+  pub answers_it : answers r 7 (take 2000 message) ≡ true
+  pub whole : truncated (take 2000 message) ≡ false
+  pub final : is_final s r (take 2000 message) ≡ true
 
 -- at this moment the request has no reply yet
 abbrev pub still_waiting : ℕ → Request → Octets → List Row
@@ -91,6 +106,15 @@ taken_unwritten r piece message = asked_by_stream r (at 0 (Opened 0) [] ∷ at 1
 -- octets that come are passed over
 abbrev pub frame_passed_over : Request → (octets piece : Octets) → List Row
 frame_passed_over r octets piece = written r octets (at 1 (Bytes 0 piece) [] ∷ [])
+
+-- The request was written as these octets, and the first frame of the piece with its id is its answer, which may not be passed over.
+pub record IsItsFrame (c : Conf) (s : Settings) (r : Request) (octets piece message : Octets) : Type 0 where
+  pub has_server : 0 < length c.servers
+  pub has_time : 1 < c.timeout
+  pub carries : CarriesInFrame octets r 7
+  pub first : first_with 7 (fed Length piece).frames ≡ Some message
+  pub answers_it : answers r 7 message ≡ true
+  pub final : is_final s r message ≡ true
 
 -- a connection opens, and nothing is written there
 abbrev pub nothing_written : Request → List Row
