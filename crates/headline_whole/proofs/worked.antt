@@ -1,3 +1,5 @@
 pub mod Streams
 pub mod Cache
 pub mod Servers
+pub mod Resting
+pub mod Runs

@@ -4,3 +4,4 @@ pub mod Streams
 pub mod Cache
 pub mod Servers
 pub mod Wrong
+pub mod Runs

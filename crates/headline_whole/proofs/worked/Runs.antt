@@ -1,0 +1,202 @@
+-- Worked traces are runs of the machine.
+use Rattle.std.proofs.Common.{◌≡◌, ◌≢◌, ℕ, ◌+◌, ◌<◌, ◌≤◌, ◌==◌, true, false, inl, inr, Option, Some, None, List, [], ◌∷◌, refl, arith, take, length, ap}
+use Rattle.std.specs.Prelude.{Result, Ok, if◌then◌else◌}
+use Rattle.std.proofs.lemmas.Bool.Decides.{nat_tests}
+use Rattle.std.proofs.lemmas.Bool.{cases_eq}
+use Rattle.client_request.specs.Request.{Request}
+use Rattle.client_request.specs.declared.error.Error.{Error}
+use Rattle.headline_whole.specs.Time.{read_timeout, response_timeout, stream_timeout, idle_timeout}
+use Rattle.headline_whole.specs.Messages.{Octets, CarriesInFrame, answers, truncated, id_in, keepalive_of}
+use Rattle.headline_whole.specs.Frames.{Length, fed, is_bad}
+use Rattle.headline_whole.specs.Timers.{told_idle}
+use Rattle.client_request.specs.Carries.{Carries}
+use Rattle.client_request.specs.declared.event.Row.{Row}
+use Rattle.client_request.specs.declared.event.Out.{Out}
+use Rattle.headline_whole.specs.Trace.{ByDatagrams}
+use Rattle.headline_whole.specs.machine.Streams as multi
+use Rattle.headline_whole.specs.machine.Dgrams as dgrams
+use Rattle.headline_whole.specs.machine.Dgrams.{Tryer, Dgrams}
+use Rattle.headline_whole.specs.machine.Part.{ServerPart, Act as Step}
+use Rattle.headline_whole.specs.machine.Streams.{Act, Puts, Gives, Nothing, Asker, Conn, Multi, with_at}
+use Rattle.client_request.specs.declared.event.What.{What}
+use Rattle.client_request.specs.declared.event.Event.{Event}
+use Rattle.headline_whole.specs.machine.Server as server
+use Rattle.headline_whole.specs.machine.Server.{Server}
+use Rattle.headline_whole.specs.machine.Served as served
+use Rattle.headline_whole.specs.machine.Served.{Served, RestsNow, served, does, has_moved, has_taken_it, AsItIs, WithResult, ByStreamNow}
+use Rattle.headline_whole.specs.machine.Client.{Waiting, outcome, Upper, moved, hand, handing, newcomer, take_on, row_begins, Moves, Goes, Rests, Takes_on, Hands_on, Server_moves, Delivers, Replies, Answers, IsRun, Ends, begun}
+use Rattle.headline_whole.specs.examples.Messages.{plain_request, as_datagram, cut_answer, answer}
+use Rattle.headline_whole.specs.examples.Rows.{at, by_datagrams, first_settings}
+use Rattle.client_request.specs.declared.event.What.TheVariants.{Ask, Opened, Datagram, Wrote, Bytes}
+use Rattle.client_request.specs.declared.event.Out.TheVariants.{Start, OpenDgram, OpenStream, Send, Write, Close, Reply}
+use Rattle.client_request.specs.declared.event.Via.TheVariants.{Dgram, Stream}
+use Rattle.headline_whole.specs.examples.Streams.{cut_goes_on}
+use Rattle.headline_whole.specs.examples.Runs.{IsARun}
+use Rattle.headline_whole.proofs.worked.Resting.{only, nobody, away, gone, away_held, gone_held, away_every, away_unheard, not_held, not_octets, wrote_plain, below, at_most, StageSettled, trying_settled, sent_settled, StageInTime, in_time_by, tick_foreign, ask_foreign, datagram_foreign, opens_nothing, nobody_tries, nobody_sent, StageRests, PhaseRests, ModeRests, rests_by, done_with, done_with_none, next}
+use Rattle.headline_whole.proofs.worked.Cache.{carried, carried_in_frame}
+
+abbrev P : ServerPart by_datagrams
+P = served by_datagrams
+
+-- the one server's part, and what its moves make of the client
+abbrev server_in : Upper Served → Server
+server_in y = (y.ups 0).server
+
+abbrev goes_to : Server → Act → Upper Served → Upper Served
+goes_to v x y = moved 0 (does (has_moved v (y.ups 0)) y.place x) y
+
+abbrev takes_to : Server → Act → Upper Served → Upper Served
+takes_to v x y = moved 0 (does (has_taken_it v (y.ups 0)) y.place x) y
+
+abbrev with_dgrams : Dgrams → Server → Server
+with_dgrams d v = record v { by_dgram = d }
+
+abbrev with_streams : Multi → Server → Server
+with_streams m v = record v { by_stream = m }
+
+abbrev event : ℕ → What → Event
+event n w = record { moment = record { 0 = n }; what = w }
+
+abbrev nowhere : {V : Type 0} → ℕ → Option V
+nowhere k = None
+
+module _ (compose : Request → Result Octets Error) (o : Octets) (r : Request) (composed : compose r ≡ Ok o) where
+  abbrev begins : ℕ → What → Upper Served → Upper Served
+  begins n w x = row_begins by_datagrams first_settings compose P (event n w) x
+
+  abbrev Goes_to : (x : Upper Served) (n : ℕ) (w : What) (y : Upper Served) → List Out → Type 0
+  Goes_to x n w y outs = Moves by_datagrams first_settings compose P (begins n w x) (record { state = y; outs = outs })
+
+  pub row : (x : Upper Served) (n : ℕ) (w : What) (outs : List Out) (y : Upper Served) (rows : List Row) → Goes_to x n w y outs → IsRun by_datagrams first_settings compose P y rows → IsRun by_datagrams first_settings compose P x (at n w outs ∷ rows)
+  row x n w outs y rows moves more = next compose x (at n w outs) rows (record { state = y; outs = outs }) moves refl more
+
+  -- the request is asked, and its place opens
+  abbrev waiting : Waiting
+  waiting = handing 0 (newcomer r 0)
+
+  abbrev queued : Tryer
+  queued = record { request = r; tries = 0; stage = dgrams.Queued }
+
+  abbrev trying : Tryer
+  trying = dgrams.staged queued (dgrams.Trying 0)
+
+  abbrev d1 : Dgrams
+  d1 = record dgrams.no_datagram { held = with_at 0 (Some queued) (λ k. None) }
+
+  abbrev d2 : Dgrams
+  d2 = dgrams.try_at 0 0 queued d1
+
+  abbrev x0 : Upper Served
+  x0 = begun by_datagrams first_settings compose P
+
+  abbrev y1 : Upper Served
+  y1 = take_on r (begins 0 (Ask r) x0)
+
+  abbrev y2 : Upper Served
+  y2 = goes_to (with_dgrams d1 (server_in y1)) (Puts (Start 0 0 Dgram)) (hand 0 0 (newcomer r 0) y1)
+
+  abbrev pub x1 : Upper Served
+  x1 = goes_to (with_dgrams d2 (server_in y2)) (Puts (OpenDgram 0 0)) y2
+
+  others2 : (j : ℕ) → 0 ≢ j → d2.held j ≡ None
+  others2 = away 0 _ _ (away 0 _ _ (λ j ne. refl))
+
+  others_held : (j : ℕ) → 0 ≢ j → x1.held j ≡ None
+  others_held = away_held 0 _ _ (away_held 0 _ _ (λ j ne. refl))
+
+  row1 : Goes_to x0 0 (Ask r) x1 (Start 0 0 Dgram ∷ OpenDgram 0 0 ∷ [])
+  row1 =
+      Goes (begins 0 (Ask r) x0) _ _ (Takes_on r o refl composed (below 0 1 refl))
+      (Goes y1 _ _ (Hands_on 0 0 (newcomer r 0) _ (below 0 1 refl) refl refl (served.IsHanded ByDatagrams (Puts (Start 0 0 Dgram)) (with_dgrams d1 (server_in y1)) refl (server.ToDgrams refl refl)))
+      (Goes y2 _ _ (Server_moves 0 _ (below 0 1 refl) (served.ByDgram (Puts (OpenDgram 0 0)) d2 _ (dgrams.Opens 0 queued refl refl (below 0 100 refl)) (AsItIs (only (λ k (a : Tryer). StageSettled a.stage) 0 trying d2.held refl others2 (trying_settled 0)))))
+      (Rests x1 (done_with compose x1 0 waiting refl refl refl
+          (record { rests = rests_by 0 (server_in x1) (only (λ k (a : Tryer). StageRests 0 1 a.stage) 0 trying d2.held refl others2 tt) (nobody _ nowhere (λ j. refl)) (nobody _ nowhere (λ j. refl)); frames = refl; ignored = tt; foreign = ask_foreign r (server_in x1).by_stream })
+          refl others_held refl (λ j ne. not_held (x1.ups 0) j (others2 j ne) refl) (below 0 5000000 refl)))))
+
+  -- A cut answer goes on by stream.
+  module _ (o1 m1 m0 w b m2 : Octets) (carries : Carries o1 r 4660) (long : 12 ≤ length (take 2000 m1)) (answers1 : answers r 4660 (take 2000 m1) ≡ true) (cut : truncated (take 2000 m1) ≡ true) (in_frame : CarriesInFrame w r 0) (some : 0 < length w) (few : length w ≤ 46) (frames : (fed Length b).frames ≡ m2 ∷ []) (good : is_bad m2 ≡ false) (id0 : id_in m2 ≡ 0) (answers2 : answers r 0 m2 ≡ true)
+      (stays : 20004 < 20004 + told_idle (keepalive_of m2) idle_timeout) (kept : outcome first_settings 0 r (Ok m2) ≡ record { request = 0; asked = r; result = Ok m2; is_stored = true }) where
+    -- it is sent
+    abbrev sent : Tryer
+    sent = record { request = r; tries = 1; stage = dgrams.Sent 0 4660 10 }
+
+    abbrev d3 : Dgrams
+    d3 = dgrams.send_at 0 4660 10 0 trying d2
+
+    abbrev z2 : Upper Served
+    z2 = begins 10 (Opened 0) x1
+
+    abbrev x2 : Upper Served
+    x2 = takes_to (with_dgrams d3 (server_in z2)) (Puts (Send 0 0 4660 o1)) z2
+
+    others3 : (j : ℕ) → 0 ≢ j → d3.held j ≡ None
+    others3 = away 0 _ _ others2
+
+    row2 : Goes_to x1 10 (Opened 0) x2 (Send 0 0 4660 o1 ∷ [])
+    unfolding read_timeout
+    row2 =
+        Goes z2 _ _ (Server_moves 0 _ (below 0 1 refl) (served.TellsDgrams (Puts (Send 0 0 4660 o1)) d3 _ refl (in_time_by 10 (server_in z2) (only (λ k (a : Tryer). StageInTime 10 a.stage) 0 trying d2.held refl others2 tt) (nobody _ nowhere (λ j. refl)))
+            (dgrams.IsSent 0 trying 0 4660 o1 refl refl refl carries) (opens_nothing 0 (server_in z2).by_stream refl) (AsItIs (only (λ k (a : Tryer). StageSettled a.stage) 0 sent d3.held refl others3 (sent_settled 0 4660 10)))))
+        (Rests x2 (done_with compose x2 0 waiting refl refl refl
+            (record { rests = rests_by 10 (server_in x2) (only (λ k (a : Tryer). StageRests 10 1 a.stage) 0 sent d3.held refl others3 (below 10 5000010 refl)) (nobody _ nowhere (λ j. refl)) (nobody _ nowhere (λ j. refl)); frames = refl; ignored = tt; foreign = tick_foreign (server_in x2).by_stream })
+            refl others_held refl (λ j ne. not_held (x2.ups 0) j (others3 j ne) refl) (below 10 5000000 refl)))
+
+    -- the cut answer comes
+    abbrev ended : Tryer
+    ended = dgrams.staged sent (dgrams.stage_of (take 2000 m1))
+
+    abbrev d4 : Dgrams
+    d4 = dgrams.leave 0 0 sent (dgrams.stage_of (take 2000 m1)) d3
+
+    abbrev z3 : Upper Served
+    z3 = begins 20000 (Datagram 0 m1) x2
+
+    abbrev free : Asker
+    free = record { request = r; since = 20000; phase = multi.Free }
+
+    abbrev s1 : Multi
+    s1 = record (server_in z3).by_stream { asks = with_at 0 (Some free) (server_in z3).by_stream.asks }
+
+    abbrev act3 : Step Served
+    act3 = record { state = has_moved (record { by_dgram = dgrams.forget 0 d4; by_stream = s1 }) (has_taken_it (with_dgrams d4 (server_in z3)) (z3.ups 0)); place = 1; outs = Close 0 ∷ Start 0 0 Stream ∷ []; posts = [] }
+
+    abbrev y3 : Upper Served
+    y3 = moved 0 act3 z3
+
+    abbrev s2 : Multi
+    s2 = record (multi.move 0 free multi.Expecting s1) { opening = Some 1 }
+
+    abbrev x3 : Upper Served
+    x3 = goes_to (with_streams s2 (server_in y3)) (Puts (OpenStream 1 0)) y3
+
+    none4 : (j : ℕ) → (dgrams.forget 0 d4).held j ≡ None
+    none4 = gone 0 _ (away 0 _ _ others3)
+
+    asks3 : (j : ℕ) → 0 ≢ j → s2.asks j ≡ None
+    asks3 = away 0 _ _ (away 0 _ _ (λ j ne. refl))
+
+    expecting : Asker
+    expecting = multi.moved free multi.Expecting
+
+    is_cut : dgrams.stage_of (take 2000 m1) ≡ dgrams.Cut
+    is_cut = ap (λ b. if b then dgrams.Cut else dgrams.Ending (Ok (take 2000 m1))) cut
+
+    row3 : Goes_to x2 20000 (Datagram 0 m1) x3 (Close 0 ∷ Start 0 0 Stream ∷ OpenStream 1 0 ∷ [])
+    unfolding read_timeout stream_timeout
+    row3 =
+        Goes z3 _ _ (Server_moves 0 act3 (below 0 1 refl) (served.TellsDgrams (Puts (Close 0)) d4 act3 refl (in_time_by 20000 (server_in z3) (only (λ k (a : Tryer). StageInTime 20000 a.stage) 0 sent d3.held refl others3 (below 20000 5000010 refl)) (nobody _ nowhere (λ j. refl)))
+            (dgrams.IsAnswered 0 sent 0 4660 10 m1 refl refl refl long answers1) (datagram_foreign 0 m1 (server_in z3).by_stream) (ByStreamNow 0 ended (Close 0) refl refl is_cut)))
+        (Goes y3 _ _ (Server_moves 0 _ (below 0 1 refl) (served.ByStream (Puts (OpenStream 1 0)) s2 (multi.Opens 0 free refl refl refl (nobody _ s1.conns (λ j. refl)))))
+        (Rests x3 (done_with compose x3 0 waiting refl refl refl
+            (record { rests = rests_by 20000 (server_in x3) (nobody _ (dgrams.forget 0 d4).held none4) (only (λ k (a : Asker). PhaseRests 20000 s2.conns a.phase × (20000 < a.since + stream_timeout)) 0 (multi.moved free multi.Expecting) s2.asks refl asks3 (tt, below 20000 30020000 refl)) (nobody _ s2.conns (λ j. refl)); frames = refl; ignored = tt; foreign = tick_foreign s2 })
+            refl others_held refl (λ j ne. not_held (x3.ups 0) j (none4 j) (asks3 j ne)) (below 20000 5000000 refl))))
+
+    -- a datagram for the closed place is nobody's
+    abbrev x4 : Upper Served
+    x4 = begins 20001 (Datagram 0 m0) x3
+
+    row4 : Goes_to x3 20001 (Datagram 0 m0) x4 []
+    unfolding stream_timeout
+    row4 = Rests x4 (done_with compose x4 0 waiting refl refl refl
+        (record { rests = rests_by 20001 (server_in x4) (nobody _ (dgrams.forget 0 d4).held none4) (only (λ k (a : Asker). PhaseRests 20001 (server_in x4).by_stream.conns a.phase × (20001 < a.since + stream_timeout)) 0 (multi.moved free multi.Expecting) s2.asks refl asks3 (tt, below 20001 30020000 refl)) (nobody _ (server_in x4).by_stream.conns (λ j. refl)); frames = refl; ignored = nobody_sent 0 m0 (dgrams.forget 0 d4) refl; foreign = datagram_foreign 0 m0 (server_in x4).by_stream })
+        refl others_held refl (λ j ne. not_held (x4.ups 0) j (none4 j) (asks3 j ne)) (below 20001 5000000 refl))
