@@ -1,6 +1,6 @@
 -- Worked traces are runs of the machine.
-use Rattle.std.proofs.Common.{◌≡◌, ◌≢◌, ℕ, ◌+◌, ◌<◌, ◌≤◌, ◌==◌, true, false, inl, inr, Option, Some, None, List, [], ◌∷◌, refl, arith, take, length, ap}
-use Rattle.std.specs.Prelude.{Result, Ok, if◌then◌else◌}
+use Rattle.std.proofs.Common.{◌≡◌, ◌≢◌, ℕ, ◌+◌, ◌<◌, ◌≤◌, ◌==◌, true, false, inl, inr, Option, Some, None, List, [], ◌∷◌, refl, arith, take, length, ap, sym, subst, ◌∙◌}
+use Rattle.std.specs.Prelude.{Result, Ok, Err, if◌then◌else◌}
 use Rattle.std.proofs.lemmas.Bool.Decides.{nat_tests}
 use Rattle.std.proofs.lemmas.Bool.{cases_eq}
 use Rattle.client_request.specs.Request.{Request}
@@ -9,6 +9,9 @@ use Rattle.headline_whole.specs.Time.{read_timeout, response_timeout, stream_tim
 use Rattle.headline_whole.specs.Messages.{Octets, CarriesInFrame, answers, truncated, id_in, keepalive_of}
 use Rattle.headline_whole.specs.Frames.{Length, fed, is_bad}
 use Rattle.headline_whole.specs.Timers.{told_idle}
+use Rattle.headline_whole.specs.Writes.{Written}
+use Rattle.headline_whole.specs.Validity.{waits_for_others}
+use Rattle.client_request.specs.declared.error.Error.TheVariants as errors
 use Rattle.client_request.specs.Carries.{Carries}
 use Rattle.client_request.specs.declared.event.Row.{Row}
 use Rattle.client_request.specs.declared.event.Out.{Out}
@@ -24,7 +27,7 @@ use Rattle.headline_whole.specs.machine.Server as server
 use Rattle.headline_whole.specs.machine.Server.{Server}
 use Rattle.headline_whole.specs.machine.Served as served
 use Rattle.headline_whole.specs.machine.Served.{Served, RestsNow, served, does, has_moved, has_taken_it, AsItIs, WithResult, ByStreamNow}
-use Rattle.headline_whole.specs.machine.Client.{Waiting, outcome, Upper, moved, hand, handing, newcomer, take_on, row_begins, Moves, Goes, Rests, Takes_on, Hands_on, Server_moves, Delivers, Replies, Answers, IsRun, Ends, begun}
+use Rattle.headline_whole.specs.machine.Client.{Waiting, Leaving, Made, outcome, leave, store, unmade, Upper, Move, moved, hand, handing, newcomer, take_on, row_begins, Moves, Goes, Rests, Takes_on, Hands_on, Server_moves, Delivers, Replies, Answers, IsRun, Ends, begun}
 use Rattle.headline_whole.specs.examples.Messages.{plain_request, as_datagram, cut_answer, answer}
 use Rattle.headline_whole.specs.examples.Rows.{at, by_datagrams, first_settings}
 use Rattle.client_request.specs.declared.event.What.TheVariants.{Ask, Opened, Datagram, Wrote, Bytes}
@@ -115,7 +118,7 @@ module _ (compose : Request → Result Octets Error) (o : Octets) (r : Request) 
 
   -- A cut answer goes on by stream.
   module _ (o1 m1 m0 w b m2 : Octets) (carries : Carries o1 r 4660) (long : 12 ≤ length (take 2000 m1)) (answers1 : answers r 4660 (take 2000 m1) ≡ true) (cut : truncated (take 2000 m1) ≡ true) (in_frame : CarriesInFrame w r 0) (some : 0 < length w) (few : length w ≤ 46) (frames : (fed Length b).frames ≡ m2 ∷ []) (good : is_bad m2 ≡ false) (id0 : id_in m2 ≡ 0) (answers2 : answers r 0 m2 ≡ true)
-      (stays : 20004 < 20004 + told_idle (keepalive_of m2) idle_timeout) (kept : outcome first_settings 0 r (Ok m2) ≡ record { request = 0; asked = r; result = Ok m2; is_stored = true }) where
+      (stays : 20004 < 20004 + told_idle (keepalive_of m2) idle_timeout) (kept : outcome first_settings 0 r (Ok m2) ≡ record { request = 0; asked = r; result = Ok m2; is_stored = true }) (final : waits_for_others first_settings (Ok m2) ≡ false) where
     -- it is sent
     abbrev sent : Tryer
     sent = record { request = r; tries = 1; stage = dgrams.Sent 0 4660 10 }
@@ -200,3 +203,161 @@ module _ (compose : Request → Result Octets Error) (o : Octets) (r : Request) 
     row4 = Rests x4 (done_with compose x4 0 waiting refl refl refl
         (record { rests = rests_by 20001 (server_in x4) (nobody _ (dgrams.forget 0 d4).held none4) (only (λ k (a : Asker). PhaseRests 20001 (server_in x4).by_stream.conns a.phase × (20001 < a.since + stream_timeout)) 0 (multi.moved free multi.Expecting) s2.asks refl asks3 (tt, below 20001 30020000 refl)) (nobody _ (server_in x4).by_stream.conns (λ j. refl)); frames = refl; ignored = nobody_sent 0 m0 (dgrams.forget 0 d4) refl; foreign = datagram_foreign 0 m0 (server_in x4).by_stream })
         refl others_held refl (λ j ne. not_held (x4.ups 0) j (none4 j) (asks3 j ne)) (below 20001 5000000 refl))
+
+    -- the connection opens, and the request is written
+    abbrev z5 : Upper Served
+    z5 = begins 20002 (Opened 1) x4
+
+    abbrev s3 : Multi
+    s3 = multi.open_at 1 (server_in z5).by_stream
+
+    abbrev y5 : Upper Served
+    y5 = takes_to (with_streams s3 (server_in z5)) Nothing z5
+
+    abbrev s4 : Multi
+    s4 = multi.move 0 free (multi.Lined 1) s3
+
+    abbrev v5 : Upper Served
+    v5 = goes_to (with_streams s4 (server_in y5)) Nothing y5
+
+    abbrev lined : Asker
+    lined = multi.moved free (multi.Lined 1)
+
+    abbrev holding : Asker
+    holding = multi.moved free (multi.Holding 1 0)
+
+    abbrev c5 : Conn
+    c5 = multi.written_on 0 0 20002 w multi.new_conn
+
+    abbrev s5 : Multi
+    s5 = multi.set_conn 1 c5 (multi.move 0 lined (multi.Holding 1 0) s4)
+
+    abbrev x5 : Upper Served
+    x5 = goes_to (with_streams s5 (server_in v5)) (Puts (Write 1 0 0 w)) v5
+
+    asks5 : (j : ℕ) → 0 ≢ j → s5.asks j ≡ None
+    asks5 = away 0 _ _ (away 0 _ _ (away_every (multi.expected multi.Free) 0 _ asks3))
+
+    conns5 : (p : ℕ) → 1 ≢ p → s5.conns p ≡ None
+    conns5 = away 1 _ _ (away 1 _ _ (λ p ne. refl))
+
+    row5 : Goes_to x4 20002 (Opened 1) x5 (Write 1 0 0 w ∷ [])
+    unfolding stream_timeout response_timeout
+    row5 =
+        Goes z5 _ _ (Server_moves 0 _ (below 0 1 refl) (served.TellsStreams Nothing s3 refl (not_octets 1) (multi.ItOpens 1 refl) (nobody_tries 1 (dgrams.forget 0 d4) refl)))
+        (Goes y5 _ _ (Server_moves 0 _ (below 0 1 refl) (served.ByStream Nothing s4 (multi.Joins 0 free 1 multi.new_conn refl refl refl)))
+        (Goes v5 _ _ (Server_moves 0 _ (below 0 1 refl) (served.ByStream (Puts (Write 1 0 0 w)) s5 (multi.Writes 0 lined 1 multi.new_conn 0 w refl refl refl refl refl refl in_frame some)))
+        (Rests x5 (done_with compose x5 0 waiting refl refl refl
+            (record { rests = rests_by 20002 (server_in x5) (nobody _ (dgrams.forget 0 d4).held none4) (only (λ k (a : Asker). PhaseRests 20002 s5.conns a.phase × (20002 < a.since + stream_timeout)) 0 holding s5.asks refl asks5 (tt, below 20002 30020000 refl)) (only (λ p (x : Conn). ModeRests 20002 x.idle x.mode) 1 c5 s5.conns refl conns5 (at_most 20002 19020002 refl)); frames = refl; ignored = tt; foreign = tick_foreign s5 })
+            refl others_held refl (λ j ne. not_held (x5.ups 0) j (none4 j) (asks5 j ne)) (below 20002 5000000 refl)))))
+
+    -- all is written
+    abbrev z6 : Upper Served
+    z6 = begins 20003 (Wrote 1 46) x5
+
+    abbrev c5' : Conn
+    c5' = record c5 { heard = false }
+
+    abbrev c6 : Conn
+    c6 = multi.wrote_on 46 c5'
+
+    abbrev s6 : Multi
+    s6 = multi.set_conn 1 c6 (server_in z6).by_stream
+
+    abbrev x6 : Upper Served
+    x6 = takes_to (with_streams s6 (server_in z6)) Nothing z6
+
+    conns6 : (p : ℕ) → 1 ≢ p → s6.conns p ≡ None
+    conns6 = away 1 _ _ (away_unheard 1 _ conns5)
+
+    row6 : Goes_to x5 20003 (Wrote 1 46) x6 []
+    unfolding stream_timeout response_timeout
+    row6 =
+        Goes z6 _ _ (Server_moves 0 _ (below 0 1 refl) (served.TellsStreams Nothing s6 refl (wrote_plain 1 46) (multi.AllWritten 1 46 c5' refl some few) tt))
+        (Rests x6 (done_with compose x6 0 waiting refl refl refl
+            (record { rests = rests_by 20003 (server_in x6) (nobody _ (dgrams.forget 0 d4).held none4) (only (λ k (a : Asker). PhaseRests 20003 s6.conns a.phase × (20003 < a.since + stream_timeout)) 0 holding s6.asks refl asks5 (tt, below 20003 30020000 refl)) (only (λ p (x : Conn). ModeRests 20003 x.idle x.mode) 1 c6 s6.conns refl conns6 (at_most 20003 19020002 refl)); frames = refl; ignored = tt; foreign = tick_foreign s6 })
+            refl others_held refl (λ j ne. not_held (x6.ups 0) j (none4 j) (asks5 j ne)) (below 20003 5000000 refl)))
+
+    -- the answer comes
+    abbrev z7 : Upper Served
+    z7 = begins 20004 (Bytes 1 b) x6
+
+    abbrev c6' : Conn
+    c6' = record c6 { heard = false }
+
+    abbrev c7 : Conn
+    c7 = multi.fed_by b c6'
+
+    abbrev s7 : Multi
+    s7 = multi.set_conn 1 c7 (server_in z7).by_stream
+
+    abbrev y7 : Upper Served
+    y7 = moved 0 (does (served.reads_at 1 (fed Length b).frames s7 (z7.ups 0)) z7.place Nothing) z7
+
+    abbrev write : Written
+    write = record { request = 0; octets = w; moment = 20002 }
+
+    abbrev c8 : Conn
+    c8 = multi.framed m2 (multi.Idle 20004) c7
+
+    abbrev s8 : Multi
+    s8 = multi.set_conn 1 c8 (multi.drop 0 s7)
+
+    abbrev v7 : Upper Served
+    v7 = moved 0 (does (served.frames_left [] s8 (y7.ups 0)) y7.place (Gives 0 (multi.result_of r (id_in m2) m2))) y7
+
+    abbrev leaving : Leaving
+    leaving = record { request = 0; asked = r; result = Ok m2; is_stored = true }
+
+    abbrev u7 : Upper Served
+    u7 = leave leaving (record v7 { board = [] })
+
+    abbrev x7 : Upper Served
+    x7 = record u7 { leaving = []; stored = store 20004 leaving u7.stored }
+
+    answers_so : answers r (id_in m2) m2 ≡ true
+    answers_so = subst (λ i. answers r i m2 ≡ true) (sym id0) answers2
+
+    result_is : multi.result_of r (id_in m2) m2 ≡ Ok m2
+    result_is = ap (λ b. if b then Ok m2 else Err errors.WrongReplyForQuery) answers_so
+
+    leaves_so : outcome first_settings 0 r (multi.result_of r (id_in m2) m2) ≡ leaving
+    leaves_so = ap (outcome first_settings 0 r) result_is ∙ kept
+
+    no_ids : (j : ℕ) → c8.ids j ≡ None
+    no_ids = subst (λ i. (j : ℕ) → with_at i None c7.ids j ≡ None) (sym id0) (gone 0 c7.ids (away 0 _ _ (λ j ne. refl)))
+
+    asks8 : (j : ℕ) → s8.asks j ≡ None
+    asks8 = gone 0 _ asks5
+
+    conns8 : (p : ℕ) → 1 ≢ p → s8.conns p ≡ None
+    conns8 = away 1 _ _ (away 1 _ _ (away_unheard 1 _ conns6))
+
+    -- the frame is taken, and its result
+    frame : multi.TakesFrame 20004 1 m2 s7 (Gives 0 (multi.result_of r (id_in m2) m2)) s8
+    frame = multi.IsResult c7 write (multi.Idle 20004) holding refl good (subst (λ i. c7.ids i ≡ Some write) (sym id0) refl) refl (ap (multi.Holding 1) (sym id0)) (multi.Rests no_ids)
+
+    delivers : Move by_datagrams first_settings compose P v7 (unmade u7)
+    delivers = subst (λ l. Move by_datagrams first_settings compose P v7 (unmade (leave l (record v7 { board = [] })))) leaves_so (Delivers [] [] (record { server = 0; request = 0; result = multi.result_of r (id_in m2) m2 }) waiting refl refl (ap (λ x. waits_for_others first_settings x) result_is ∙ final))
+
+    row7 : Goes_to x6 20004 (Bytes 1 b) x7 (Reply 0 (Ok m2) ∷ [])
+    unfolding stream_timeout response_timeout
+    row7 =
+        Goes z7 _ _ (Server_moves 0 _ (below 0 1 refl) (served.Reads 1 b c6' refl refl refl))
+        (Goes y7 _ _ (Server_moves 0 _ (below 0 1 refl) (served.TakesOne m2 [] (Gives 0 (multi.result_of r (id_in m2) m2)) s8 frames (in_time_by 20004 (server_in y7) (nobody _ (dgrams.forget 0 d4).held none4) (only (λ k (a : Asker). 20004 < a.since + stream_timeout) 0 holding s7.asks refl asks5 (below 20004 30020000 refl))) frame))
+        (Goes v7 _ _ delivers
+        (Goes u7 _ _ (Replies [] [] leaving refl)
+        (Rests x7 (done_with_none compose x7 refl refl refl
+            (record { rests = rests_by 20004 (server_in x7) (nobody _ (dgrams.forget 0 d4).held none4) (nobody _ s8.asks asks8) (only (λ p (x : Conn). ModeRests 20004 x.idle x.mode) 1 c8 s8.conns refl conns8 stays); frames = refl; ignored = tt; foreign = tick_foreign s8 })
+            (gone_held 0 _ others_held) (λ j. not_held (x7.ups 0) j (none4 j) (asks8 j)))))))
+
+    pub cut_run : IsRun by_datagrams first_settings compose P x0
+        (at 0 (Ask r) (Start 0 0 Dgram ∷ OpenDgram 0 0 ∷ [])
+        ∷ at 10 (Opened 0) (Send 0 0 4660 o1 ∷ [])
+        ∷ at 20000 (Datagram 0 m1) (Close 0 ∷ Start 0 0 Stream ∷ OpenStream 1 0 ∷ [])
+        ∷ at 20001 (Datagram 0 m0) []
+        ∷ at 20002 (Opened 1) (Write 1 0 0 w ∷ [])
+        ∷ at 20003 (Wrote 1 46) []
+        ∷ at 20004 (Bytes 1 b) (Reply 0 (Ok m2) ∷ [])
+        ∷ [])
+    cut_run = row _ 0 _ _ x1 _ row1 (row x1 10 _ _ x2 _ row2 (row x2 20000 _ _ x3 _ row3 (row x3 20001 _ _ x4 _ row4 (row x4 20002 _ _ x5 _ row5 (row x5 20003 _ _ x6 _ row6 (row x6 20004 _ _ x7 _ row7 (Ends x7)))))))
