@@ -44,9 +44,9 @@ pub answers_it : answers plain_request 4660 (answer 18 52 100) ≡ true
 unfolding name_at walk head_at data_at data_spelling question_at record_at list_at items_at questions_of answer_of authority_of additional_of answer_items authority_items additional_items first_question sole_question reads knows opt_of opt_rcode contents_of answers is_answer
 answers_it = refl
 
-whole : truncated (answer 18 52 100) ≡ false
+pub whole_answer : truncated (answer 18 52 100) ≡ false
 unfolding truncated
-whole = refl
+whole_answer = refl
 
 abbrev answered : History
 answered = Put (Close 0) ∷ Came (record { moment = record { 0 = 0 }; what = Datagram 0 (answer 18 52 100) }) ∷ so_far 2 asked_again
@@ -62,14 +62,14 @@ came_it = record {
   matches = record {
     comes = record { is_open = record { stands = record { asked = (0, refl); waiting = refl; alive = refl; at = refl; known = omega arith }; octets = as_datagram 18 52; sent = inl refl; carries = carried }; first = refl };
     agrees = answers_it;
-    whole = rw whole refl;
+    whole = rw whole_answer refl;
   };
 }
 
 fresh : IsFreshReply by_datagrams first_settings 0 (answer 18 52 100) 0 (so_far 3 asked_again)
 fresh = record { before = answered; put = refl; fresh = InThisRow came_it; at = refl }
 
-cacheable : is_cacheable plain_request ≡ true
+pub cacheable : is_cacheable plain_request ≡ true
 unfolding name_at walk head_at data_at data_spelling question_at record_at list_at items_at questions_of answer_of authority_of additional_of answer_items authority_items additional_items first_question sole_question reads knows opt_of opt_rcode contents_of base_is_read is_cacheable
 cacheable = refl
 
@@ -110,17 +110,17 @@ computed = record {
 }
 
 -- what it is as a view at an age
-record Viewable (age : ℕ) (m : Octets) : Type 0 where
+pub record Viewable (age : ℕ) (m : Octets) : Type 0 where
   pub parts : Parts Data
   pub known : known_parts (answer 18 52 100) ≡ Some parts
   pub in_time : age ≤ view_validity first_settings plain_request plain_request parts
   pub says : Says m (view_of plain_request plain_request age parts)
 
-viewable_30 : Viewable 30000000 (answer 18 52 70)
+pub viewable_30 : Viewable 30000000 (answer 18 52 70)
 unfolding name_at walk head_at data_at data_spelling question_at record_at list_at items_at questions_of answer_of authority_of additional_of answer_items authority_items additional_items first_question sole_question reads knows opt_of opt_rcode contents_of base_is_read question_of key_of known_parts second
 viewable_30 = record { parts = _; known = refl; in_time = omega arith; says = refl }
 
-viewable_100 : Viewable 100000000 (answer 18 52 0)
+pub viewable_100 : Viewable 100000000 (answer 18 52 0)
 unfolding name_at walk head_at data_at data_spelling question_at record_at list_at items_at questions_of answer_of authority_of additional_of answer_items authority_items additional_items first_question sole_question reads knows opt_of opt_rcode contents_of base_is_read question_of key_of known_parts second
 viewable_100 = record { parts = _; known = refl; in_time = omega arith; says = refl }
 

@@ -6,11 +6,21 @@ use Rattle.std.proofs.lemmas.Bool.{cases_eq}
 use Rattle.client_request.specs.Request.{Request}
 use Rattle.client_request.specs.declared.error.Error.{Error}
 use Rattle.headline_whole.specs.Time.{read_timeout, response_timeout, stream_timeout, idle_timeout}
-use Rattle.headline_whole.specs.Messages.{Octets, CarriesInFrame, answers, truncated, id_in, keepalive_of}
+use Rattle.headline_whole.specs.Messages.{Octets, CarriesInFrame, base_is_read, answers, truncated, id_in, keepalive_of}
 use Rattle.headline_whole.specs.Frames.{Length, fed, is_bad}
 use Rattle.headline_whole.specs.Timers.{told_idle}
 use Rattle.headline_whole.specs.Writes.{Written}
-use Rattle.headline_whole.specs.Validity.{waits_for_others}
+use Rattle.headline_whole.specs.Validity.{second, validity_of_message, is_deferred, waits_for_others}
+use Rattle.headline_whole.specs.Keys.{KeyCovers, key_of, question_of, is_cacheable}
+use Rattle.headline_whole.specs.Parts.{Parts, Says, read_parts, known_parts}
+use Rattle.headline_whole.specs.Views.{view_of, view_validity, IsValidView}
+use Rattle.dns_base.specs.Data.{Data, data_at, data_spelling}
+use Rattle.dns_names.specs.Name.{name_at, walk, head_at}
+use Rattle.dns_base.specs.Message.{question_at, record_at, list_at, items_at, questions_of, answer_of, authority_of, additional_of, answer_items, authority_items, additional_items, first_question, sole_question, reads}
+use Rattle.dns_base.specs.Knowing.{knows}
+use Rattle.dns_base.specs.OptRecord.{opt_of, opt_rcode}
+use Rattle.dns_base.specs.Answering.{is_answer}
+use Rattle.client_request.specs.Carries.{contents_of}
 use Rattle.client_request.specs.declared.error.Error.TheVariants as errors
 use Rattle.client_request.specs.Carries.{Carries}
 use Rattle.client_request.specs.declared.event.Row.{Row}
@@ -27,16 +37,18 @@ use Rattle.headline_whole.specs.machine.Server as server
 use Rattle.headline_whole.specs.machine.Server.{Server}
 use Rattle.headline_whole.specs.machine.Served as served
 use Rattle.headline_whole.specs.machine.Served.{Served, RestsNow, served, does, has_moved, has_taken_it, AsItIs, WithResult, ByStreamNow}
-use Rattle.headline_whole.specs.machine.Client.{Waiting, Leaving, Made, outcome, leave, store, unmade, Upper, Move, moved, hand, handing, newcomer, take_on, row_begins, Moves, Goes, Rests, Takes_on, Hands_on, Server_moves, Delivers, Replies, Answers, IsRun, Ends, begun}
-use Rattle.headline_whole.specs.examples.Messages.{plain_request, as_datagram, cut_answer, answer}
+use Rattle.headline_whole.specs.machine.Client.{Waiting, Leaving, Entry, entry_of, answer as answer_at_once, Viewed, Made, outcome, leave, store, unmade, Upper, Move, moved, hand, handing, newcomer, take_on, row_begins, Moves, Goes, Rests, Takes_on, Hands_on, Server_moves, Delivers, Replies, Answers, IsRun, Ends, begun}
+use Rattle.headline_whole.specs.examples.Messages.{plain_request, as_datagram, as_frame, frame, cut_answer, answer}
 use Rattle.headline_whole.specs.examples.Rows.{at, by_datagrams, first_settings}
 use Rattle.client_request.specs.declared.event.What.TheVariants.{Ask, Opened, Datagram, Wrote, Bytes}
 use Rattle.client_request.specs.declared.event.Out.TheVariants.{Start, OpenDgram, OpenStream, Send, Write, Close, Reply}
 use Rattle.client_request.specs.declared.event.Via.TheVariants.{Dgram, Stream}
 use Rattle.headline_whole.specs.examples.Streams.{cut_goes_on}
+use Rattle.headline_whole.specs.examples.Cache.{asked_again}
+use Rattle.headline_whole.proofs.client.Asked.{keys_refl}
 use Rattle.headline_whole.specs.examples.Runs.{IsARun}
 use Rattle.headline_whole.proofs.worked.Resting.{only, nobody, away, gone, away_held, gone_held, away_every, away_unheard, not_held, not_octets, wrote_plain, below, at_most, StageSettled, trying_settled, sent_settled, StageInTime, in_time_by, tick_foreign, ask_foreign, datagram_foreign, opens_nothing, nobody_tries, nobody_sent, StageRests, PhaseRests, ModeRests, rests_by, done_with, done_with_none, next}
-use Rattle.headline_whole.proofs.worked.Cache.{carried, carried_in_frame}
+use Rattle.headline_whole.proofs.worked.Cache.{carried, carried_in_frame, answers_it, whole_answer, cacheable, computed, viewable_30, viewable_100}
 
 abbrev P : ServerPart by_datagrams
 P = served by_datagrams
@@ -334,8 +346,8 @@ module _ (compose : Request → Result Octets Error) (o : Octets) (r : Request) 
     conns8 = away 1 _ _ (away 1 _ _ (away_unheard 1 _ conns6))
 
     -- the frame is taken, and its result
-    frame : multi.TakesFrame 20004 1 m2 s7 (Gives 0 (multi.result_of r (id_in m2) m2)) s8
-    frame = multi.IsResult c7 write (multi.Idle 20004) holding refl good (subst (λ i. c7.ids i ≡ Some write) (sym id0) refl) refl (ap (multi.Holding 1) (sym id0)) (multi.Rests no_ids)
+    takes_frame : multi.TakesFrame 20004 1 m2 s7 (Gives 0 (multi.result_of r (id_in m2) m2)) s8
+    takes_frame = multi.IsResult c7 write (multi.Idle 20004) holding refl good (subst (λ i. c7.ids i ≡ Some write) (sym id0) refl) refl (ap (multi.Holding 1) (sym id0)) (multi.Rests no_ids)
 
     delivers : Move by_datagrams first_settings compose P v7 (unmade u7)
     delivers = subst (λ l. Move by_datagrams first_settings compose P v7 (unmade (leave l (record v7 { board = [] })))) leaves_so (Delivers [] [] (record { server = 0; request = 0; result = multi.result_of r (id_in m2) m2 }) waiting refl refl (ap (λ x. waits_for_others first_settings x) result_is ∙ final))
@@ -344,7 +356,7 @@ module _ (compose : Request → Result Octets Error) (o : Octets) (r : Request) 
     unfolding stream_timeout response_timeout
     row7 =
         Goes z7 _ _ (Server_moves 0 _ (below 0 1 refl) (served.Reads 1 b c6' refl refl refl))
-        (Goes y7 _ _ (Server_moves 0 _ (below 0 1 refl) (served.TakesOne m2 [] (Gives 0 (multi.result_of r (id_in m2) m2)) s8 frames (in_time_by 20004 (server_in y7) (nobody _ (dgrams.forget 0 d4).held none4) (only (λ k (a : Asker). 20004 < a.since + stream_timeout) 0 holding s7.asks refl asks5 (below 20004 30020000 refl))) frame))
+        (Goes y7 _ _ (Server_moves 0 _ (below 0 1 refl) (served.TakesOne m2 [] (Gives 0 (multi.result_of r (id_in m2) m2)) s8 frames (in_time_by 20004 (server_in y7) (nobody _ (dgrams.forget 0 d4).held none4) (only (λ k (a : Asker). 20004 < a.since + stream_timeout) 0 holding s7.asks refl asks5 (below 20004 30020000 refl))) takes_frame))
         (Goes v7 _ _ delivers
         (Goes u7 _ _ (Replies [] [] leaving refl)
         (Rests x7 (done_with_none compose x7 refl refl refl
@@ -361,3 +373,202 @@ module _ (compose : Request → Result Octets Error) (o : Octets) (r : Request) 
         ∷ at 20004 (Bytes 1 b) (Reply 0 (Ok m2) ∷ [])
         ∷ [])
     cut_run = row _ 0 _ _ x1 _ row1 (row x1 10 _ _ x2 _ row2 (row x2 20000 _ _ x3 _ row3 (row x3 20001 _ _ x4 _ row4 (row x4 20002 _ _ x5 _ row5 (row x5 20003 _ _ x6 _ row6 (row x6 20004 _ _ x7 _ row7 (Ends x7)))))))
+
+  -- An answer is given again as a view, and then no more.
+  module _ (o1 m v30 v100 : Octets) (x : Parts Data) (carries : Carries o1 r 4660) (long : 12 ≤ length (take 2000 m)) (answers1 : answers r 4660 (take 2000 m) ≡ true) (whole : truncated (take 2000 m) ≡ false) (kept : outcome first_settings 0 r (Ok (take 2000 m)) ≡ record { request = 0; asked = r; result = Ok (take 2000 m); is_stored = true }) (final : waits_for_others first_settings (Ok (take 2000 m)) ≡ false)
+      (covers : KeyCovers (key_of r) r) (valid30 : IsValidView first_settings r r (take 2000 m) x 30000000) (says30 : Says v30 (view_of r r 30000000 x)) (valid100 : IsValidView first_settings r r (take 2000 m) x 100000000) (says100 : Says v100 (view_of r r 100000000 x)) where
+    -- it is sent at once
+    abbrev sent0 : Tryer
+    sent0 = record { request = r; tries = 1; stage = dgrams.Sent 0 4660 0 }
+
+    abbrev e3 : Dgrams
+    e3 = dgrams.send_at 0 4660 0 0 trying d2
+
+    abbrev t2 : Upper Served
+    t2 = begins 0 (Opened 0) x1
+
+    abbrev w2 : Upper Served
+    w2 = takes_to (with_dgrams e3 (server_in t2)) (Puts (Send 0 0 4660 o1)) t2
+
+    away3 : (j : ℕ) → 0 ≢ j → e3.held j ≡ None
+    away3 = away 0 _ _ others2
+
+    sends : Goes_to x1 0 (Opened 0) w2 (Send 0 0 4660 o1 ∷ [])
+    unfolding read_timeout
+    sends =
+        Goes t2 _ _ (Server_moves 0 _ (below 0 1 refl) (served.TellsDgrams (Puts (Send 0 0 4660 o1)) e3 _ refl (in_time_by 0 (server_in t2) (only (λ k (a : Tryer). StageInTime 0 a.stage) 0 trying d2.held refl others2 tt) (nobody _ nowhere (λ j. refl)))
+            (dgrams.IsSent 0 trying 0 4660 o1 refl refl refl carries) (opens_nothing 0 (server_in t2).by_stream refl) (AsItIs (only (λ k (a : Tryer). StageSettled a.stage) 0 sent0 e3.held refl away3 (sent_settled 0 4660 0)))))
+        (Rests w2 (done_with compose w2 0 waiting refl refl refl
+            (record { rests = rests_by 0 (server_in w2) (only (λ k (a : Tryer). StageRests 0 1 a.stage) 0 sent0 e3.held refl away3 (below 0 5000000 refl)) (nobody _ nowhere (λ j. refl)) (nobody _ nowhere (λ j. refl)); frames = refl; ignored = tt; foreign = tick_foreign (server_in w2).by_stream })
+            refl others_held refl (λ j ne. not_held (w2.ups 0) j (away3 j ne) refl) (below 0 5000000 refl)))
+
+    -- the answer comes
+    abbrev ended0 : Tryer
+    ended0 = dgrams.staged sent0 (dgrams.stage_of (take 2000 m))
+
+    abbrev e4 : Dgrams
+    e4 = dgrams.leave 0 0 sent0 (dgrams.stage_of (take 2000 m)) e3
+
+    abbrev t3 : Upper Served
+    t3 = begins 0 (Datagram 0 m) w2
+
+    abbrev act : Step Served
+    act = record { state = has_moved (with_dgrams (dgrams.forget 0 e4) (server_in t3)) (has_taken_it (with_dgrams e4 (server_in t3)) (t3.ups 0)); place = 1; outs = Close 0 ∷ []; posts = record { request = 0; result = Ok (take 2000 m) } ∷ [] }
+
+    abbrev a3 : Upper Served
+    a3 = moved 0 act t3
+
+    abbrev first : Leaving
+    first = record { request = 0; asked = r; result = Ok (take 2000 m); is_stored = true }
+
+    abbrev b3 : Upper Served
+    b3 = leave first (record a3 { board = [] })
+
+    abbrev w3 : Upper Served
+    w3 = record b3 { leaving = []; stored = store 0 first b3.stored }
+
+    is_ended : dgrams.stage_of (take 2000 m) ≡ dgrams.Ending (Ok (take 2000 m))
+    is_ended = ap (λ b. if b then dgrams.Cut else dgrams.Ending (Ok (take 2000 m))) whole
+
+    none_there : (j : ℕ) → (dgrams.forget 0 e4).held j ≡ None
+    none_there = gone 0 _ (away 0 _ _ away3)
+
+    none_tried : (j : ℕ) → w3.held j ≡ None
+    none_tried = gone_held 0 _ others_held
+
+    gives : Move by_datagrams first_settings compose P a3 (unmade b3)
+    gives = subst (λ l. Move by_datagrams first_settings compose P a3 (unmade (leave l (record a3 { board = [] })))) kept (Delivers [] [] (record { server = 0; request = 0; result = Ok (take 2000 m) }) waiting refl refl final)
+
+    replies : Goes_to w2 0 (Datagram 0 m) w3 (Close 0 ∷ Reply 0 (Ok (take 2000 m)) ∷ [])
+    unfolding read_timeout
+    replies =
+        Goes t3 _ _ (Server_moves 0 act (below 0 1 refl) (served.TellsDgrams (Puts (Close 0)) e4 act refl (in_time_by 0 (server_in t3) (only (λ k (a : Tryer). StageInTime 0 a.stage) 0 sent0 e3.held refl away3 (below 0 5000000 refl)) (nobody _ nowhere (λ j. refl)))
+            (dgrams.IsAnswered 0 sent0 0 4660 0 m refl refl refl long answers1) (datagram_foreign 0 m (server_in t3).by_stream) (WithResult 0 ended0 (Ok (take 2000 m)) refl is_ended)))
+        (Goes a3 _ _ gives
+        (Goes b3 _ _ (Replies [] [] first refl)
+        (Rests w3 (done_with_none compose w3 refl refl refl
+            (record { rests = rests_by 0 (server_in w3) (nobody _ (dgrams.forget 0 e4).held none_there) (nobody _ nowhere (λ j. refl)) (nobody _ nowhere (λ j. refl)); frames = refl; ignored = tt; foreign = tick_foreign (server_in w3).by_stream })
+            none_tried (λ j. not_held (w3.ups 0) j (none_there j) refl)))))
+
+    -- it is asked again
+    abbrev stored : Entry
+    stored = entry_of 0 first
+
+    abbrev viewed : ℕ → Octets → Leaving
+    viewed k y = record { request = k; asked = r; result = Ok y; is_stored = false }
+
+    abbrev t4 : Upper Served
+    t4 = begins 30000000 (Ask r) w3
+
+    abbrev b4 : Upper Served
+    b4 = answer_at_once (viewed 1 v30) t4
+
+    abbrev w4 : Upper Served
+    w4 = record b4 { leaving = [] }
+
+    after_30 : Goes_to w3 30000000 (Ask r) w4 (Reply 1 (Ok v30) ∷ [])
+    after_30 =
+        Goes t4 _ _ (Answers r (viewed 1 v30) refl (Viewed stored (take 2000 m) v30 x 30000000 (o, composed) (inl refl) refl covers refl valid30 says30))
+        (Goes b4 _ _ (Replies [] [] (viewed 1 v30) refl)
+        (Rests w4 (done_with_none compose w4 refl refl refl
+            (record { rests = rests_by 30000000 (server_in w4) (nobody _ (dgrams.forget 0 e4).held none_there) (nobody _ nowhere (λ j. refl)) (nobody _ (server_in w4).by_stream.conns (λ j. refl)); frames = refl; ignored = tt; foreign = ask_foreign r (server_in w4).by_stream })
+            none_tried (λ j. not_held (w4.ups 0) j (none_there j) refl))))
+
+    -- and once more
+    abbrev t5 : Upper Served
+    t5 = begins 100000000 (Ask r) w4
+
+    abbrev b5 : Upper Served
+    b5 = answer_at_once (viewed 2 v100) t5
+
+    abbrev w5 : Upper Served
+    w5 = record b5 { leaving = [] }
+
+    after_100 : Goes_to w4 100000000 (Ask r) w5 (Reply 2 (Ok v100) ∷ [])
+    after_100 =
+        Goes t5 _ _ (Answers r (viewed 2 v100) refl (Viewed stored (take 2000 m) v100 x 100000000 (o, composed) (inl refl) refl covers refl valid100 says100))
+        (Goes b5 _ _ (Replies [] [] (viewed 2 v100) refl)
+        (Rests w5 (done_with_none compose w5 refl refl refl
+            (record { rests = rests_by 100000000 (server_in w5) (nobody _ (dgrams.forget 0 e4).held none_there) (nobody _ nowhere (λ j. refl)) (nobody _ (server_in w5).by_stream.conns (λ j. refl)); frames = refl; ignored = tt; foreign = ask_foreign r (server_in w5).by_stream })
+            none_tried (λ j. not_held (w5.ups 0) j (none_there j) refl))))
+
+    -- too late: it is tried anew
+    abbrev t6 : Upper Served
+    t6 = begins 101000000 (Ask r) w5
+
+    abbrev a6 : Upper Served
+    a6 = take_on r t6
+
+    abbrev newest : Waiting
+    newest = newcomer r 101000000
+
+    abbrev e5 : Dgrams
+    e5 = record (dgrams.forget 0 e4) { held = with_at 3 (Some queued) (dgrams.forget 0 e4).held }
+
+    abbrev b6 : Upper Served
+    b6 = goes_to (with_dgrams e5 (server_in a6)) (Puts (Start 3 0 Dgram)) (hand 3 0 newest a6)
+
+    abbrev e6 : Dgrams
+    e6 = dgrams.try_at 1 3 queued e5
+
+    abbrev w6 : Upper Served
+    w6 = goes_to (with_dgrams e6 (server_in b6)) (Puts (OpenDgram 1 0)) b6
+
+    away6 : (j : ℕ) → 3 ≢ j → e6.held j ≡ None
+    away6 = away 3 _ _ (away 3 _ _ (λ j ne. none_there j))
+
+    away_tried : (j : ℕ) → 3 ≢ j → w6.held j ≡ None
+    away_tried = away_held 3 _ _ (away_held 3 _ _ (λ j ne. none_tried j))
+
+    after_101 : Goes_to w5 101000000 (Ask r) w6 (Start 3 0 Dgram ∷ OpenDgram 1 0 ∷ [])
+    after_101 =
+        Goes t6 _ _ (Takes_on r o refl composed (below 0 1 refl))
+        (Goes a6 _ _ (Hands_on 0 3 newest _ (below 0 1 refl) refl refl (served.IsHanded ByDatagrams (Puts (Start 3 0 Dgram)) (with_dgrams e5 (server_in a6)) refl (server.ToDgrams refl refl)))
+        (Goes b6 _ _ (Server_moves 0 _ (below 0 1 refl) (served.ByDgram (Puts (OpenDgram 1 0)) e6 _ (dgrams.Opens 3 queued refl refl (below 0 100 refl)) (AsItIs (only (λ k (a : Tryer). StageSettled a.stage) 3 (dgrams.staged queued (dgrams.Trying 1)) e6.held refl away6 (trying_settled 1)))))
+        (Rests w6 (done_with compose w6 3 (handing 0 newest) refl refl refl
+            (record { rests = rests_by 101000000 (server_in w6) (only (λ k (a : Tryer). StageRests 101000000 1 a.stage) 3 (dgrams.staged queued (dgrams.Trying 1)) e6.held refl away6 tt) (nobody _ nowhere (λ j. refl)) (nobody _ (server_in w6).by_stream.conns (λ j. refl)); frames = refl; ignored = tt; foreign = ask_foreign r (server_in w6).by_stream })
+            refl away_tried refl (λ j ne. not_held (w6.ups 0) j (away6 j ne) refl) (below 101000000 106000000 refl)))))
+
+    pub view_run : IsRun by_datagrams first_settings compose P x0
+        (at 0 (Ask r) (Start 0 0 Dgram ∷ OpenDgram 0 0 ∷ [])
+        ∷ at 0 (Opened 0) (Send 0 0 4660 o1 ∷ [])
+        ∷ at 0 (Datagram 0 m) (Close 0 ∷ Reply 0 (Ok (take 2000 m)) ∷ [])
+        ∷ at 30000000 (Ask r) (Reply 1 (Ok v30) ∷ [])
+        ∷ at 100000000 (Ask r) (Reply 2 (Ok v100) ∷ [])
+        ∷ at 101000000 (Ask r) (Start 3 0 Dgram ∷ OpenDgram 1 0 ∷ [])
+        ∷ [])
+    view_run = row _ 0 _ _ x1 _ row1 (row x1 0 _ _ w2 _ sends (row w2 0 _ _ w3 _ replies (row w3 30000000 _ _ w4 _ after_30 (row w4 100000000 _ _ w5 _ after_100 (row w5 101000000 _ _ w6 _ after_101 (Ends w6))))))
+
+-- The worked traces
+
+cut_is : (answers plain_request 4660 (cut_answer 18 52) ≡ true) × (truncated (cut_answer 18 52) ≡ true) × (is_bad (answer 0 0 100) ≡ false) × (id_in (answer 0 0 100) ≡ 0) × (answers plain_request 0 (answer 0 0 100) ≡ true)
+unfolding name_at walk head_at data_at data_spelling question_at record_at list_at items_at questions_of answer_of authority_of additional_of answer_items authority_items additional_items first_question sole_question reads knows opt_of opt_rcode contents_of is_answer answers truncated is_bad id_in
+cut_is = (refl, refl, refl, refl, refl)
+
+keeps : 20004 < 20004 + told_idle (keepalive_of (answer 0 0 100)) idle_timeout
+unfolding name_at walk head_at data_at data_spelling question_at record_at list_at items_at questions_of answer_of authority_of additional_of answer_items authority_items additional_items first_question sole_question reads knows opt_of opt_rcode contents_of keepalive_of idle_timeout
+keeps = below 20004 10020004 refl
+
+kept_answer : outcome first_settings 0 plain_request (Ok (answer 0 0 100)) ≡ record { request = 0; asked = plain_request; result = Ok (answer 0 0 100); is_stored = true }
+unfolding name_at walk head_at data_at data_spelling question_at record_at list_at items_at questions_of answer_of authority_of additional_of answer_items authority_items additional_items first_question sole_question reads knows opt_of opt_rcode contents_of base_is_read truncated question_of key_of is_cacheable read_parts second validity_of_message
+kept_answer = refl
+
+kept_first : outcome first_settings 0 plain_request (Ok (answer 18 52 100)) ≡ record { request = 0; asked = plain_request; result = Ok (answer 18 52 100); is_stored = true }
+unfolding name_at walk head_at data_at data_spelling question_at record_at list_at items_at questions_of answer_of authority_of additional_of answer_items authority_items additional_items first_question sole_question reads knows opt_of opt_rcode contents_of base_is_read truncated question_of key_of is_cacheable read_parts second validity_of_message
+kept_first = refl
+
+is_final : (m : Octets) → waits_for_others first_settings (Ok m) ≡ false
+unfolding is_deferred
+is_final m = refl
+
+pub cut_goes_on_is_a_run : IsARun cut_goes_on
+cut_goes_on_is_a_run compose o composed = cut_run compose o plain_request composed (as_datagram 18 52) (cut_answer 18 52) (answer 18 52 100) as_frame (frame (answer 0 0 100)) (answer 0 0 100) carried (at_most 12 29 refl) cut_is.0 cut_is.1 carried_in_frame (below 0 46 refl) (at_most 46 46 refl) refl cut_is.2 cut_is.3 cut_is.4 keeps kept_answer (is_final (answer 0 0 100))
+
+same_parts : viewable_100.parts ≡ viewable_30.parts
+same_parts = (let z = sym viewable_100.known ∙ viewable_30.known in cc)
+
+is_valid_view : (age : ℕ) (x : Parts Data) → known_parts (answer 18 52 100) ≡ Some x → age ≤ view_validity first_settings plain_request plain_request x → IsValidView first_settings plain_request plain_request (answer 18 52 100) x age
+is_valid_view age x known le = record { known = known; validity = 100000000; is_validity = computed.valid_for_100; kept = below 0 100000000 refl; in_time = le }
+
+pub asked_again_is_a_run : IsARun asked_again
+asked_again_is_a_run compose o composed = view_run compose o plain_request composed (as_datagram 18 52) (answer 18 52 100) (answer 18 52 70) (answer 18 52 0) viewable_30.parts carried (at_most 12 45 refl) answers_it whole_answer kept_first (is_final (answer 18 52 100)) (record { cacheable = cacheable; keys = keys_refl (key_of plain_request) }) (is_valid_view 30000000 viewable_30.parts viewable_30.known viewable_30.in_time) viewable_30.says (is_valid_view 100000000 viewable_30.parts viewable_30.known (subst (λ x. 100000000 ≤ view_validity first_settings plain_request plain_request x) same_parts viewable_100.in_time)) (subst (λ x. Says (answer 18 52 0) (view_of plain_request plain_request 100000000 x)) same_parts viewable_100.says)
