@@ -1,8 +1,9 @@
 //! What the definitions compute on worked traces.
 
-ghost use Rattle.headline_whole.specs.examples.Cache.{WorkedCache};
+ghost use Rattle.headline_whole.specs.examples.Cache.{asked_again, WorkedCache};
+ghost use Rattle.headline_whole.specs.examples.Runs.{IsARun};
 ghost use Rattle.headline_whole.specs.examples.Servers.{WorkedServers};
-ghost use Rattle.headline_whole.specs.examples.Streams.{WorkedStreams};
+ghost use Rattle.headline_whole.specs.examples.Streams.{cut_goes_on, WorkedStreams};
 
 /// A cut answer, two requests on one connection, a bad frame, an answer to another question, a refused opening, and
 /// a frame behind an end.
@@ -18,4 +19,10 @@ pub fn worked_cache()
 /// A slow server, and one that fails, each beside another.
 pub fn worked_servers()
     ensures { WorkedServers }
+{}
+
+/// The traces of a cut answer and of an answer that is given again are runs of the machine.
+pub fn worked_traces_are_runs()
+    ensures cut_goes_on { IsARun cut_goes_on }
+    ensures asked_again { IsARun asked_again }
 {}
