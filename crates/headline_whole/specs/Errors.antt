@@ -6,7 +6,7 @@ use Rattle.client_request.specs.declared.error.Error.{Error}
 use Rattle.client_request.specs.declared.event.What.{What}
 use Rattle.client_request.specs.declared.event.Out.TheVariants.{Reply}
 use Rattle.client_request.specs.declared.event.Via.{Via}
-use Rattle.headline_whole.specs.Trace.{History, Conf, Put, Came}
+use Rattle.headline_whole.specs.Trace.{History, Conf, Put}
 use Rattle.headline_whole.specs.Time.{now, row_before, Ever, EarlierRow, OfRow, newest}
 use Rattle.headline_whole.specs.Messages.{Octets}
 use Rattle.headline_whole.specs.Requests.{is_asked_here}
@@ -17,14 +17,9 @@ use Rattle.headline_whole.specs.Parts.{Parts, read_parts, known_parts}
 use Rattle.headline_whole.specs.Validity.{validity_of_message, is_above, is_deferred}
 use Rattle.headline_whole.specs.Views.{view_validity}
 use Rattle.headline_whole.specs.Replies.{CoversLater, Supplies}
-use Rattle.client_request.specs.declared.event.Out.{Out}
-use Rattle.client_request.specs.declared.event.Row.{Row}
-use Rattle.client_request.specs.declared.event.Via.TheVariants.{Dgram}
 use Rattle.headline_whole.specs.Owed.{AllAreDone}
 use Rattle.headline_whole.specs.Coming.{NoneCame}
 use Rattle.client_request.specs.declared.error.Error.TheVariants as errors
-use Rattle.client_request.specs.declared.error.QueryError.TheVariants as query
-use Rattle.client_request.specs.declared.fault.Fault.TheVariants as fault
 
 -- In what follows `past` is what happened before the row, `w` is the row's event, `h` is what happened up to here, the row's event and its outs so far included, and `end` is what happened when the row is done.
 

@@ -5,7 +5,7 @@ use Rattle.dns_base.specs.Data.{Data}
 use Rattle.client_request.specs.Request.{Request}
 use Rattle.client_request.specs.declared.event.What.{What}
 use Rattle.client_request.specs.declared.event.Out.TheVariants.{Reply}
-use Rattle.headline_whole.specs.Trace.{History, Conf, Put, Came}
+use Rattle.headline_whole.specs.Trace.{History, Conf, Put}
 use Rattle.headline_whole.specs.Time.{now, newest, row_before, Ever, EarlierRow, OfRow}
 use Rattle.headline_whole.specs.Messages.{Octets}
 use Rattle.headline_whole.specs.Requests.{asking, is_asked_here}
@@ -14,7 +14,6 @@ use Rattle.headline_whole.specs.Keys.{Covers}
 use Rattle.headline_whole.specs.Parts.{Parts, Says}
 use Rattle.headline_whole.specs.Validity.{is_deferred}
 use Rattle.headline_whole.specs.Views.{view_of, IsValidView}
-use Rattle.client_request.specs.declared.event.Row.{Row}
 use Rattle.headline_whole.specs.Owed.{AllAreDone}
 
 -- In what follows `past` is what happened before the row, `w` is the row's event, `h` is what happened up to here, the row's event and its outs so far included, and `end` is what happened when the row is done.

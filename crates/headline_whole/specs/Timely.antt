@@ -7,10 +7,7 @@ use Rattle.client_request.specs.declared.event.What.TheVariants.{Ask}
 use Rattle.client_request.specs.declared.event.Row.{Row}
 use Rattle.headline_whole.specs.Trace.{History, Conf, after}
 use Rattle.headline_whole.specs.Time.{now}
-use Rattle.headline_whole.specs.Messages.{Octets}
 use Rattle.headline_whole.specs.Requests.{Asking, asking, replied}
-use Rattle.client_request.specs.declared.error.Error.TheVariants as errors
-use Rattle.client_request.specs.declared.error.QueryError.TheVariants as query
 
 -- when a row is done, a request without its reply is not yet at its timeout
 abbrev pub InTime : (c : Conf) (end : History) → Type 0

@@ -1,6 +1,6 @@
 -- Since when a stream place is quiet, how long it may be idle, and when its two timers are due.
 use Rattle.headline_whole.specs.Writes.{IsWritten, Written, is_any, is_unwritten, waiting, waiting_with}
-use Rattle.headline_whole.specs.Frames.{but_last, came, came_here, has_frame, is_bad, last_of}
+use Rattle.headline_whole.specs.Frames.{but_last, came_here, has_frame, is_bad, last_of}
 use Rattle.std.specs.Prelude.{◌≡◌, ℕ, ◌+◌, ◌<◌, ◌≤◌, Bool, true, false, not, ◌&&◌, ◌||◌, ◌==◌, if◌then◌else◌, Option, Some, None, List, [], ◌∷◌, ◌++◌}
 use Rattle.client_request.specs.declared.event.What.{What}
 use Rattle.client_request.specs.declared.event.What.TheVariants.{Opened}

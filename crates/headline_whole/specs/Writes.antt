@@ -1,6 +1,6 @@
 -- What was written at a stream place: which writes wait for a frame, and what of the last write is unwritten.
 use Rattle.headline_whole.specs.Frames.{brings, came_here}
-use Rattle.std.specs.Prelude.{◌≡◌, ℕ, ◌+◌, ◌⊎◌, Bool, true, false, not, ◌&&◌, ◌==◌, nat_lt, if◌then◌else◌, List, [], ◌∷◌, length, take}
+use Rattle.std.specs.Prelude.{◌≡◌, ℕ, ◌+◌, ◌⊎◌, Bool, true, false, not, ◌&&◌, ◌==◌, nat_lt, if◌then◌else◌, List, [], ◌∷◌, length}
 use Rattle.client_request.specs.declared.event.What.{What}
 use Rattle.client_request.specs.declared.event.What.TheVariants.{Wrote}
 use Rattle.client_request.specs.declared.event.Out.{Out}

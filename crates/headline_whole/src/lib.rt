@@ -7,5 +7,10 @@ mod laws;
 mod refusals;
 
 pub use examples::{worked_cache, worked_servers, worked_streams, worked_traces_are_runs};
-pub use refusals::{wrong_datagrams_are_refused, wrong_replies_are_refused, wrong_streams_are_refused};
-pub use laws::{composing_composes, covering_is_an_order, every_cached_run_hits, every_run_is_right, no_ttl_falls_below_zero, views_compose};
+pub use laws::{
+    composing_composes, covering_is_an_order, every_cached_run_hits, every_run_is_right,
+    no_ttl_falls_below_zero, views_compose,
+};
+pub use refusals::{
+    wrong_datagrams_are_refused, wrong_replies_are_refused, wrong_streams_are_refused,
+};

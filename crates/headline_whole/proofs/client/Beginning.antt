@@ -123,7 +123,7 @@ module _ (c : Conf) (s : Settings) (compose : Request → Result Octets Error) (
     held_waits : (i k : ℕ) → i < length c.servers → P.holds (x.ups i) k ≡ true → waits k h ≡ true
     held_waits i k lt e = (let a = has_some (x.held k) (done.tried_alone i k lt e) in let f = kept.reqs k (a.0) a.1 in waits_of k (record { request = (a.0).request; moment = (a.0).moment }) h f.asked f.unreplied)
 
-    -- H4
+    -- each waiting request is busy
     pub busy_here : WaitingIsBusy c h
     busy_here k a asked valid waiting =
         let b = has_some (x.held k) (waits_tried k waiting) in

@@ -1,28 +1,20 @@
 -- The moves of its own, of one server's part.
-use Rattle.std.proofs.Common.{◌≡◌, ◌≢◌, ℕ, suc, ◌+◌, ◌≤◌, ◌<◌, Bool, true, false, ◌&&◌, ◌||◌, ◌⊎◌, inl, inr, Option, Some, None, List, [], ◌∷◌, ◌++◌, is_some, refl, arith, ◌∙◌, sym, subst, ap, ◌==◌, length}
-use Rattle.std.specs.Prelude.{if◌then◌else◌, Result, Ok, Err, nat_lt}
-use Rattle.std.proofs.lemmas.Bool.{cases_eq, eqb-true}
-use Rattle.std.proofs.lemmas.Bool.Decides.{nat_tests}
+use Rattle.std.proofs.Common.{◌≡◌, ℕ, ◌≤◌, Bool, true, false, Some, List, [], refl, arith, ◌∙◌, sym, subst, ap}
+use Rattle.std.specs.Prelude.{if◌then◌else◌, Result, Ok, Err}
 use Rattle.client_request.specs.Request.{Request}
 use Rattle.client_request.specs.declared.error.Error.{Error}
 use Rattle.client_request.specs.declared.event.What.{What}
-use Rattle.client_request.specs.declared.event.What.TheVariants.{Bytes}
-use Rattle.client_request.specs.declared.event.Out.{Out}
-use Rattle.client_request.specs.declared.event.Out.TheVariants.{Start, OpenDgram, OpenStream, Send, Write, Resume, Close, Reply}
-use Rattle.client_request.specs.declared.event.Via.{Via}
-use Rattle.client_request.specs.declared.event.Via.TheVariants.{Dgram, Stream}
-use Rattle.headline_whole.specs.Trace.{History, Conf, Put, put_all}
-use Rattle.headline_whole.specs.Time.{now, stream_timeout}
+use Rattle.client_request.specs.declared.event.Via.TheVariants.{Dgram}
+use Rattle.headline_whole.specs.Trace.{History, Conf}
 use Rattle.headline_whole.specs.Messages.{Octets, answers, id_in}
-use Rattle.headline_whole.specs.Requests.{start, started}
-use Rattle.headline_whole.specs.Places.{site, reach, place_of}
+use Rattle.headline_whole.specs.Places.{place_of}
 use Rattle.headline_whole.specs.machine.Streams.{Act, Puts, Gives, Nothing, Asker, Conn, Multi, with_at, Moves, TakesFrame, result_of}
 use Rattle.headline_whole.specs.machine.Dgrams.{Stage, Queued, Trying, Sent, Ending, Cut, Tryer, Dgrams, Tries, Meets, IsIgnored}
 use Rattle.headline_whole.specs.machine.Served.{Served, IsSettled, holds, posts_of, Acts, Settles, AsItIs, WithResult, ByStreamNow}
 use Rattle.headline_whole.specs.machine.Part.{Post, Act as Step}
-use Rattle.headline_whole.proofs.PartLaws.{fault_in, total, IsEventOf, Tells}
+use Rattle.headline_whole.proofs.PartLaws.{fault_in, total, Tells}
 use Rattle.headline_whole.proofs.server.DgramKept.{dgram_site}
-use Rattle.headline_whole.proofs.server.Views.{each_at, each_other}
+use Rattle.headline_whole.proofs.server.Views.{each_at}
 use Rattle.headline_whole.proofs.server.Fitting.{Fits}
 use Rattle.headline_whole.proofs.server.Keeping.{at_site}
 use Rattle.headline_whole.proofs.client.Faults.{fault_few}

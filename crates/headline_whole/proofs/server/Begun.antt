@@ -11,10 +11,10 @@ use Rattle.client_request.specs.declared.event.Via.{Via}
 use Rattle.client_request.specs.declared.event.What.TheVariants.{Tick, Bytes, Datagram}
 use Rattle.client_request.specs.declared.event.Via.TheVariants.{Dgram, Stream}
 use Rattle.headline_whole.specs.Trace.{History, Conf, Came}
-use Rattle.headline_whole.specs.Time.{now, EarlierRow, read_timeout, stream_timeout}
-use Rattle.headline_whole.specs.Messages.{Octets, answers, truncated, CarriesBy, CarriesInFrame}
+use Rattle.headline_whole.specs.Time.{now, read_timeout, stream_timeout}
+use Rattle.headline_whole.specs.Messages.{Octets, answers, truncated, CarriesBy}
 use Rattle.headline_whole.specs.Requests.{Asking, asking, start, started, handed}
-use Rattle.headline_whole.specs.Places.{site, is_at, is_of_kind, Opening, Alive, stand, is_alive, is_live, Site, Stand, on_event}
+use Rattle.headline_whole.specs.Places.{site, is_at, is_of_kind, Opening, Alive, stand, is_alive, is_live}
 use Rattle.headline_whole.specs.Frames.{came, came_here, brings, first_with, fed, reading, is_alive_stream}
 use Rattle.headline_whole.specs.Writes.{Written, IsWritten, waiting_with, waiting}
 use Rattle.headline_whole.specs.Exchanges.{octets_for, IsAmong, is_before, unanswered, has_answer, waited_for, first_of, Comes, Matches}

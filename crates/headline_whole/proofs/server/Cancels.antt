@@ -1,5 +1,5 @@
 -- A request is given up, by one server's part.
-use Rattle.std.proofs.Common.{◌≡◌, ◌≢◌, ℕ, ◌+◌, ◌≤◌, ◌<◌, Bool, true, false, not, ◌&&◌, ◌||◌, ◌⊎◌, inl, inr, Option, Some, None, List, [], ◌∷◌, is_some, refl, arith, ◌∙◌, sym, subst, ap, ◌==◌, length, Result, Err}
+use Rattle.std.proofs.Common.{◌≡◌, ◌≢◌, ℕ, ◌<◌, Bool, true, false, ◌||◌, ◌⊎◌, inl, inr, Option, Some, None, [], ◌∷◌, refl, arith, ◌∙◌, sym, subst, ap, ◌==◌, length, Err}
 use Rattle.std.specs.Prelude.{if◌then◌else◌}
 use Rattle.std.proofs.lemmas.Bool.{cases_eq}
 use Rattle.std.proofs.lemmas.Bool.Decides.{nat_tests}
@@ -11,22 +11,22 @@ use Rattle.client_request.specs.declared.event.Via.TheVariants.{Dgram, Stream}
 use Rattle.headline_whole.specs.Trace.{History, Conf, Put, put_all}
 use Rattle.headline_whole.specs.Time.{now}
 use Rattle.headline_whole.specs.Messages.{Octets}
-use Rattle.headline_whole.specs.Requests.{replied, start, started}
-use Rattle.headline_whole.specs.Places.{site, Stand, Unused, Opening, Alive, Gone, closed, stand}
+use Rattle.headline_whole.specs.Requests.{replied, started}
+use Rattle.headline_whole.specs.Places.{Stand, Unused, Opening, Alive, Gone, closed, stand}
 use Rattle.headline_whole.specs.Frames.{came_here}
 use Rattle.headline_whole.specs.Exchanges.{waited_for, IsAmong, Comes}
 use Rattle.headline_whole.specs.Orderly.{OfDgram, MayCloseDgram, ItsReply, ReplyBeforeItsSend, RepliedHere}
-use Rattle.headline_whole.specs.machine.Streams.{Asker, Nothing, with_at}
+use Rattle.headline_whole.specs.machine.Streams.{Asker, with_at}
 use Rattle.headline_whole.specs.machine.Dgrams.{Stage, Trying, Sent, Tryer}
 use Rattle.headline_whole.specs.machine.Served.{Served, holds, Cancels, IsGivenUp}
 use Rattle.headline_whole.proofs.server.Expecting.{Expects, ByDatagram, ByOctets, InFrames}
 use Rattle.headline_whole.specs.Owed.{IsOwed}
 use Rattle.headline_whole.specs.Right.{ServerOutsRight}
-use Rattle.headline_whole.specs.machine.Part.{Act, IsPosted}
-use Rattle.headline_whole.proofs.PartLaws.{Late, Goes, Later}
+use Rattle.headline_whole.specs.machine.Part.{Act}
+use Rattle.headline_whole.proofs.PartLaws.{Late, Goes}
 use Rattle.headline_whole.proofs.server.DgramKept.{dgram_site, placed, TryingFits, SentFits, StageFits}
 use Rattle.headline_whole.proofs.server.DgramMoves.{standing, dgram_at}
-use Rattle.headline_whole.proofs.server.Views.{at_here, at_there}
+use Rattle.headline_whole.proofs.server.Views.{at_there}
 use Rattle.headline_whole.proofs.server.Fitting.{Fits}
 use Rattle.client_request.specs.declared.error.Error.TheVariants as errors
 use Rattle.headline_whole.specs.machine.Dgrams as dgrams

@@ -1,5 +1,5 @@
 -- One server by datagrams and streams is a part of a client of several.
-use Rattle.std.proofs.Common.{◌≡◌, ◌≢◌, ℕ, ◌<◌, length, Some, [], ◌∷◌, is_some, Bool, ◌||◌, ◌⊎◌, inl, inr, ◌∙◌, ap, arith, ◌+◌, ◌≤◌, subst, subst₂, false, true, refl}
+use Rattle.std.proofs.Common.{◌≡◌, ℕ, ◌<◌, length, Some, [], ◌∷◌, is_some, Bool, ◌||◌, inl, inr, ◌∙◌, ap, arith, ◌+◌, ◌≤◌, subst, subst₂, false, true, refl}
 use Rattle.client_request.specs.declared.event.What.{What}
 use Rattle.client_request.specs.declared.event.What.TheVariants.{Tick}
 use Rattle.client_request.specs.declared.event.Event.{Event}
@@ -12,25 +12,20 @@ use Rattle.headline_whole.specs.Requests.{asking, replied, handed}
 use Rattle.headline_whole.specs.Exchanges.{waited_for, IsAmong, Comes}
 use Rattle.headline_whole.specs.Owed.{IsOwed}
 use Rattle.headline_whole.specs.Places.{reach}
-use Rattle.headline_whole.specs.machine.Streams.{Gives, Moves, IsForeign}
-use Rattle.headline_whole.specs.Right.{ServerOutsRight, Right}
+use Rattle.headline_whole.specs.machine.Streams.{Gives, Moves}
+use Rattle.headline_whole.specs.Right.{ServerOutsRight}
 use Rattle.headline_whole.proofs.server.Handing.{or_left}
 use Rattle.headline_whole.proofs.server.DgramKept.{StageFits, KeptD}
-use Rattle.headline_whole.specs.machine.Dgrams.{Meets, Tryer, Cut}
+use Rattle.headline_whole.specs.machine.Dgrams.{Tryer, Cut}
 use Rattle.headline_whole.specs.Orderly.{AfterCutAnswer}
-use Rattle.headline_whole.specs.Time.{now}
 use Rattle.headline_whole.specs.machine.Served.{Served, outs_of, frames_left, unserved, holds, row_begun, Acts, Starts, Cancels, RestsNow}
 use Rattle.headline_whole.proofs.server.Expecting.{Expects}
 use Rattle.headline_whole.specs.machine.Part.{Act}
 use Rattle.headline_whole.proofs.PartLaws.{Keeps, none_more, this_one, Part}
-use Rattle.std.specs.Prelude.{List, map, Result}
+use Rattle.std.specs.Prelude.{List, Result}
 use Rattle.client_request.specs.Request.{Request}
 use Rattle.client_request.specs.declared.error.Error.{Error}
-use Rattle.client_request.specs.declared.event.Row.{Row}
-use Rattle.headline_whole.specs.Messages.{Octets, Composes}
-use Rattle.headline_whole.specs.Timely.{AllAskedInOctets, Timely}
-use Rattle.headline_whole.specs.Settings.{Settings}
-use Rattle.headline_whole.specs.machine.Client.{begun, IsRun}
+use Rattle.headline_whole.specs.Messages.{Octets}
 use Rattle.headline_whole.proofs.client.Runs.{run_right}
 use Rattle.headline_whole.proofs.client.Hitting.{cached_run_hits}
 use Rattle.headline_whole.specs.Theorem.{EveryRunIsRight, EveryCachedRunHits}

@@ -18,7 +18,7 @@ use Rattle.headline_whole.specs.Causes.{Named, last_try, named, IsOneOf}
 use Rattle.headline_whole.specs.machine.Dgrams.{Stage, Queued, Trying, Sent, Ending, Cut, Tryer, Dgrams, forget}
 use Rattle.headline_whole.specs.machine.Streams.{with_at}
 use Rattle.headline_whole.proofs.server.DgramKept.{dgram_site, placed, has_place, StageFits, TryerFits, is_ended, lost, KeptD}
-use Rattle.headline_whole.proofs.server.DgramPuts.{reaches, concerns, IsApart, dgram_same, tryer_put, tryer_put_by, new_put}
+use Rattle.headline_whole.proofs.server.DgramPuts.{reaches, IsApart, dgram_same, tryer_put, tryer_put_by, new_put}
 use Rattle.headline_whole.proofs.server.Puts.{reach_put}
 use Rattle.headline_whole.proofs.server.Counts.{count_same}
 use Rattle.headline_whole.proofs.server.Views.{each_at, each_other, at_here, at_there}

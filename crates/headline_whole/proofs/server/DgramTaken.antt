@@ -1,5 +1,5 @@
 -- An event that datagrams take, for one server's part.
-use Rattle.std.proofs.Common.{◌≡◌, ◌≢◌, ℕ, suc, ◌+◌, ◌≤◌, ◌<◌, Bool, true, false, ◌&&◌, ◌||◌, ◌⊎◌, inl, inr, Option, Some, None, List, [], ◌∷◌, is_some, refl, arith, ◌∙◌, sym, subst, ap, ◌==◌, length}
+use Rattle.std.proofs.Common.{◌≡◌, ◌≢◌, ℕ, ◌≤◌, ◌<◌, Bool, true, false, ◌||◌, ◌⊎◌, inl, inr, Option, Some, None, List, [], ◌∷◌, is_some, refl, arith, ◌∙◌, sym, subst, ap, ◌==◌, length}
 use Rattle.std.specs.Prelude.{if◌then◌else◌, Result}
 use Rattle.std.proofs.lemmas.Bool.{cases_eq, eqb-true}
 use Rattle.std.proofs.lemmas.Bool.Decides.{nat_tests}
@@ -10,7 +10,7 @@ use Rattle.client_request.specs.declared.event.Out.{Out}
 use Rattle.client_request.specs.declared.event.Out.TheVariants.{Start, Send, Close}
 use Rattle.client_request.specs.declared.event.Via.TheVariants.{Dgram, Stream}
 use Rattle.headline_whole.specs.Trace.{History, Conf, ByDatagrams, Put, put_all}
-use Rattle.headline_whole.specs.Time.{now, EarlierRow}
+use Rattle.headline_whole.specs.Time.{now}
 use Rattle.headline_whole.specs.Messages.{Octets}
 use Rattle.headline_whole.specs.Requests.{start, started, is_start, replied, handed}
 use Rattle.headline_whole.specs.Places.{site, is_told, Opening, on_event, reach}
@@ -22,13 +22,13 @@ use Rattle.headline_whole.specs.machine.Dgrams.{Meets, Stage, Ending, Cut, Tryer
 use Rattle.headline_whole.specs.machine.Served.{Served, IsSettled, IsInTime, Settles, AsItIs, WithResult, ByStreamNow, has_taken_it, outs_of, place_after}
 use Rattle.headline_whole.specs.machine.Part.{Act as Step}
 use Rattle.headline_whole.proofs.PartLaws.{Keeps, none_more, this_one}
-use Rattle.headline_whole.proofs.server.Kept.{stream_site, Kept}
+use Rattle.headline_whole.proofs.server.Kept.{Kept}
 use Rattle.headline_whole.proofs.server.DgramKept.{dgram_site, placed, KeptD}
 use Rattle.headline_whole.proofs.server.DgramMoves.{place_below, standing, forgets, kept_put_d}
 use Rattle.headline_whole.proofs.server.Views.{each_at, each_other, at_there}
 use Rattle.headline_whole.proofs.server.Fitting.{OneId, BegunBy, UnsentBy, Fits, no_frames_came}
 use Rattle.headline_whole.proofs.server.Moved.{AreOf, others_all, reach_all, now_all, earlier_all, not_heard}
-use Rattle.headline_whole.proofs.server.Keeping.{two_kinds, quiet_other}
+use Rattle.headline_whole.proofs.server.Keeping.{quiet_other}
 use Rattle.headline_whole.proofs.server.Handing.{handed_put, none_started}
 use Rattle.headline_whole.specs.machine.Streams as multi
 use Rattle.headline_whole.specs.machine.Dgrams as dgrams

@@ -16,7 +16,7 @@ use Rattle.headline_whole.specs.Trace.{History, Conf, Came, Put}
 use Rattle.headline_whole.specs.machine.Dgrams.{IsIgnored, Stage, Queued, Trying, Sent, Ending, Cut, Tryer, Dgrams, staged, send_at, leave}
 use Rattle.headline_whole.specs.Time.{now, row_before, count_below, one_if, read_timeout}
 use Rattle.headline_whole.specs.Messages.{Octets, answers}
-use Rattle.headline_whole.specs.Requests.{asking, is_ask, asks, replied}
+use Rattle.headline_whole.specs.Requests.{asking, is_ask, asks}
 use Rattle.headline_whole.specs.Places.{Site, site, is_of_kind, is_alive, is_at, Stand, Unused, Opening, Alive, Gone, opened, failed, on_event, stand, is_live, reach, live}
 use Rattle.headline_whole.specs.Frames.{is_alive_stream, fed, reading, came}
 use Rattle.headline_whole.specs.Exchanges.{has_answer, is_send, unanswered, IsAmong}

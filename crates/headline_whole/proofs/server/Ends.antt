@@ -1,5 +1,5 @@
 -- When a row is done: who is held is busy, and places are as many as said; for one server's part.
-use Rattle.std.proofs.Common.{◌≡◌, ℕ, zero, suc, ◌+◌, ◌<◌, min, Bool, true, false, not, ◌&&◌, ◌⊎◌, inl, inr, Option, Some, None, List, [], ◌∷◌, ◌++◌, ◌≢◌, ◌≤◌, length, refl, arith, ◌∙◌, sym, subst, ap, ◌==◌}
+use Rattle.std.proofs.Common.{◌≡◌, ℕ, ◌+◌, ◌<◌, min, Bool, true, false, not, ◌&&◌, inl, inr, Option, Some, None, [], ◌∷◌, ◌++◌, ◌≤◌, length, refl, arith, ◌∙◌, sym, subst, ap}
 use Rattle.std.specs.Prelude.{is_some, ◌||◌}
 use Rattle.std.proofs.lemmas.List.{append-nil}
 use Rattle.std.proofs.lemmas.Bool.{and_parts, cases_lt}
@@ -9,7 +9,7 @@ use Rattle.client_request.specs.declared.event.What.{What}
 use Rattle.client_request.specs.declared.event.What.TheVariants.{Tick}
 use Rattle.client_request.specs.declared.event.Via.TheVariants.{Dgram, Stream}
 use Rattle.headline_whole.specs.Trace.{History, Conf}
-use Rattle.headline_whole.specs.Time.{now, back_off, count_below}
+use Rattle.headline_whole.specs.Time.{now, back_off}
 use Rattle.headline_whole.specs.Messages.{is_valid}
 use Rattle.headline_whole.specs.Requests.{Asking, asking, asks, replied, waits, start, started, handed}
 use Rattle.headline_whole.specs.Places.{live, demand}
@@ -21,7 +21,7 @@ use Rattle.headline_whole.specs.machine.Streams.{Asker, Conn}
 use Rattle.headline_whole.specs.machine.Dgrams.{Stage, Queued, Trying, Sent, Ending, Cut, Tryer}
 use Rattle.headline_whole.specs.machine.Served.{Served, holds, RestsNow}
 use Rattle.headline_whole.proofs.server.Kept.{listed, PhaseFits, AskFits, LeftFits, Kept}
-use Rattle.headline_whole.proofs.server.Counts.{count_same, count_more}
+use Rattle.headline_whole.proofs.server.Counts.{count_more}
 use Rattle.headline_whole.proofs.server.DgramKept.{placed, has_place, TryingFits, SentFits, StageFits}
 use Rattle.headline_whole.proofs.server.Views.{ever_more}
 use Rattle.headline_whole.proofs.server.DgramMoves.{dgram_at}

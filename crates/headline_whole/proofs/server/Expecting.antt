@@ -7,10 +7,8 @@ use Rattle.headline_whole.specs.Frames.{fed, first_with}
 use Rattle.headline_whole.specs.machine.Streams.{Asker, Conn}
 use Rattle.headline_whole.specs.machine.Dgrams.{Tryer}
 use Rattle.headline_whole.specs.machine.Served.{Served}
-use Rattle.client_request.specs.declared.error.Error.TheVariants as errors
 use Rattle.headline_whole.specs.machine.Streams as multi
 use Rattle.headline_whole.specs.machine.Dgrams as dgrams
-use Rattle.headline_whole.specs.machine.Server as server
 
 -- The event brings this message for request k to place p, in time, and it is not taken yet.
 pub data Expects (u : Served) (p k : ℕ) (m : Octets) : Type 0 where

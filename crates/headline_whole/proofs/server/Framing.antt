@@ -1,12 +1,11 @@
 -- A frame is taken by one server's part.
-use Rattle.std.proofs.Common.{◌≡◌, ◌≢◌, ℕ, suc, ◌+◌, ◌≤◌, ◌<◌, Bool, true, false, ◌&&◌, ◌||◌, Option, Some, None, List, [], ◌∷◌, ◌++◌, is_some, refl, arith, ◌∙◌, sym, subst, ap, ◌==◌, length}
-use Rattle.std.specs.Prelude.{if◌then◌else◌}
+use Rattle.std.proofs.Common.{◌≡◌, ◌≢◌, ℕ, ◌+◌, ◌≤◌, ◌<◌, Bool, true, false, Option, Some, None, List, [], ◌∷◌, ◌++◌, refl, arith, ◌∙◌, sym, subst, ap, length}
 use Rattle.std.proofs.lemmas.Bool.Decides.{nat_tests}
 use Rattle.client_request.specs.declared.event.What.{What}
 use Rattle.client_request.specs.declared.event.What.TheVariants.{Tick}
 use Rattle.client_request.specs.declared.event.Out.TheVariants.{Close}
 use Rattle.client_request.specs.declared.event.Via.TheVariants.{Stream}
-use Rattle.headline_whole.specs.Trace.{History, Conf, Put, put_all}
+use Rattle.headline_whole.specs.Trace.{History, Conf, Put}
 use Rattle.headline_whole.specs.Time.{now}
 use Rattle.headline_whole.specs.Messages.{Octets, id_in}
 use Rattle.headline_whole.specs.Places.{reach}
@@ -15,11 +14,11 @@ use Rattle.headline_whole.specs.Writes.{Written}
 use Rattle.headline_whole.specs.Orderly.{BadFrame, IdleTimer}
 use Rattle.headline_whole.specs.Busy.{ByBadFrame}
 use Rattle.headline_whole.specs.machine.Streams.{Act, Puts, Gives, Nothing, Asker, Conn, Multi, with_at, Mode, Active, framed, LeavesMode, Stays, Rests, TakesFrame}
-use Rattle.headline_whole.specs.machine.Served.{Served, does, frames_left, outs_of, place_after}
+use Rattle.headline_whole.specs.machine.Served.{Served, does, frames_left, outs_of}
 use Rattle.headline_whole.specs.Right.{ServerOutsRight}
 use Rattle.headline_whole.proofs.PartLaws.{Keeps, none_more}
 use Rattle.headline_whole.proofs.server.Kept.{ConnFits, Kept}
-use Rattle.headline_whole.proofs.server.Views.{each_at, each_other, at_here, at_there}
+use Rattle.headline_whole.proofs.server.Views.{each_other, at_here, at_there}
 use Rattle.headline_whole.proofs.server.DgramKept.{KeptD}
 use Rattle.headline_whole.proofs.server.DgramMoves.{kept_put_d}
 use Rattle.headline_whole.proofs.server.Frames.{put_at, mode_after, mode_unknown, after_frame}

@@ -1,12 +1,11 @@
 -- What one server's part expects of the row's event stays so, or its request has it as its result, through each move of its own.
-use Rattle.std.proofs.Common.{◌≡◌, ◌≢◌, ℕ, suc, ◌+◌, ◌≤◌, ◌<◌, Bool, true, false, ◌&&◌, ◌||◌, ◌⊎◌, inl, inr, Option, Some, None, List, [], ◌∷◌, ◌++◌, is_some, refl, arith, ◌∙◌, sym, subst, subst₂, ap, ◌==◌, length, take}
+use Rattle.std.proofs.Common.{◌≡◌, ◌≢◌, ℕ, ◌+◌, ◌≤◌, ◌<◌, Bool, true, false, ◌⊎◌, inl, inr, Option, Some, None, List, [], ◌∷◌, refl, arith, ◌∙◌, sym, subst, ap, ◌==◌, length, take}
 use Rattle.std.specs.Prelude.{if◌then◌else◌, Result, Ok, Err}
 use Rattle.std.proofs.lemmas.Bool.{cases_eq, eqb-true}
 use Rattle.std.proofs.lemmas.Bool.Decides.{nat_tests}
 use Rattle.client_request.specs.declared.error.Error.{Error}
 use Rattle.client_request.specs.declared.event.What.{What}
 use Rattle.client_request.specs.declared.event.What.TheVariants.{Datagram, Bytes}
-use Rattle.client_request.specs.declared.event.Out.{Out}
 use Rattle.client_request.specs.declared.event.Out.TheVariants.{OpenStream, Write, Close}
 use Rattle.headline_whole.specs.Trace.{History, Conf, Put, put_all}
 use Rattle.headline_whole.specs.Time.{now, read_timeout, response_timeout, stream_timeout}
@@ -20,12 +19,12 @@ use Rattle.headline_whole.specs.machine.Dgrams.{Stage, Queued, Trying, Sent, End
 use Rattle.headline_whole.specs.machine.Served.{Served, holds, outs_of, posts_of, has_moved, does, Acts, Settles, AsItIs, WithResult, ByStreamNow}
 use Rattle.headline_whole.proofs.server.Expecting.{Expects, ByDatagram, ByOctets, InFrames}
 use Rattle.headline_whole.specs.Coming.{IsExcused}
-use Rattle.headline_whole.specs.machine.Part.{Post, Act as Step, IsPosted}
+use Rattle.headline_whole.specs.machine.Part.{Act as Step, IsPosted}
 use Rattle.headline_whole.proofs.PartLaws.{Goes}
 use Rattle.headline_whole.proofs.server.Kept.{HoldsId, PhaseFits, IdleFits, ModeFits}
 use Rattle.headline_whole.proofs.server.DgramKept.{placed}
 use Rattle.headline_whole.proofs.server.DgramMoves.{place_below}
-use Rattle.headline_whole.proofs.server.Views.{each_at, each_other, at_here, at_there}
+use Rattle.headline_whole.proofs.server.Views.{at_here, at_there}
 use Rattle.headline_whole.proofs.server.Cancels.{one_way}
 use Rattle.headline_whole.proofs.server.Untaken.{Source, InOctets, AmongFrames, IsUntaken, Stays, source_same, still, expects_it}
 use Rattle.headline_whole.proofs.server.Fitting.{Fits}

@@ -1,5 +1,5 @@
 -- A request is handed to one server's part.
-use Rattle.std.proofs.Common.{◌≡◌, ◌≢◌, ℕ, suc, ◌+◌, ◌≤◌, ◌<◌, Bool, true, false, ◌&&◌, ◌||◌, ◌⊎◌, inl, inr, Option, Some, None, List, [], ◌∷◌, is_some, refl, arith, ◌∙◌, sym, subst, ap, ◌==◌, length}
+use Rattle.std.proofs.Common.{◌≡◌, ◌≢◌, ℕ, ◌<◌, Bool, true, false, ◌&&◌, ◌||◌, ◌⊎◌, inl, inr, Option, Some, None, List, [], ◌∷◌, is_some, refl, arith, ◌∙◌, sym, subst, ap, ◌==◌, length}
 use Rattle.std.specs.Prelude.{if◌then◌else◌}
 use Rattle.std.proofs.lemmas.Bool.{cases_eq}
 use Rattle.std.proofs.lemmas.Bool.Decides.{nat_tests}
@@ -8,17 +8,17 @@ use Rattle.client_request.specs.declared.event.What.{What}
 use Rattle.client_request.specs.declared.event.Out.TheVariants.{Start}
 use Rattle.client_request.specs.declared.event.Via.{Via}
 use Rattle.client_request.specs.declared.event.Via.TheVariants.{Dgram, Stream}
-use Rattle.headline_whole.specs.Trace.{History, Conf, ByDatagrams, ByStreams, Put, put_all}
+use Rattle.headline_whole.specs.Trace.{History, Conf, Put, put_all}
 use Rattle.headline_whole.specs.Time.{now}
 use Rattle.headline_whole.specs.Messages.{Octets}
 use Rattle.headline_whole.specs.Requests.{asking, same_via, is_start, start, started, handed}
-use Rattle.headline_whole.specs.Places.{is_at, site, reach}
+use Rattle.headline_whole.specs.Places.{site, reach}
 use Rattle.headline_whole.specs.Frames.{came_here}
 use Rattle.headline_whole.specs.Writes.{waiting_with}
 use Rattle.headline_whole.specs.Exchanges.{octets_for, is_before, waited_for, IsAmong, Comes}
 use Rattle.headline_whole.specs.Orderly.{use_at, FirstDatagram, FirstStream}
 use Rattle.headline_whole.specs.machine.Streams.{Act, Puts, Asker, Multi, with_at}
-use Rattle.headline_whole.specs.machine.Dgrams.{Queued, Ending, Cut, Tryer, Dgrams}
+use Rattle.headline_whole.specs.machine.Dgrams.{Queued, Ending, Cut, Tryer}
 use Rattle.headline_whole.specs.machine.Server.{Server}
 use Rattle.headline_whole.specs.machine.Served.{Served, holds, has_moved, does, Starts, IsHanded}
 use Rattle.headline_whole.proofs.server.Expecting.{Expects, ByDatagram, ByOctets, InFrames}
@@ -27,8 +27,8 @@ use Rattle.headline_whole.specs.Right.{ServerOutsRight}
 use Rattle.headline_whole.specs.machine.Part.{Act as Step, IsPosted}
 use Rattle.headline_whole.proofs.PartLaws.{Keeps, Gives, Tells, Late, Goes, this_one, or_this}
 use Rattle.headline_whole.proofs.server.Kept.{Kept}
-use Rattle.headline_whole.proofs.server.Views.{each_at, at_here, at_there}
-use Rattle.headline_whole.proofs.server.Puts.{IsForeignOut, kept_put}
+use Rattle.headline_whole.proofs.server.Views.{each_at, at_there}
+use Rattle.headline_whole.proofs.server.Puts.{kept_put}
 use Rattle.headline_whole.proofs.server.DgramMoves.{kept_put_d, begins_d}
 use Rattle.headline_whole.proofs.server.Ending.{at_is}
 use Rattle.headline_whole.proofs.server.Coming.{site_past}
@@ -36,7 +36,6 @@ use Rattle.headline_whole.proofs.server.Fitting.{Fits, UnsentBy, BegunBy}
 use Rattle.headline_whole.proofs.server.Moved.{Moved, fits_after, others_all}
 use Rattle.headline_whole.proofs.server.Keeping.{quiet_other, same_conns}
 use Rattle.headline_whole.specs.machine.Streams as multi
-use Rattle.headline_whole.specs.machine.Dgrams as dgrams
 use Rattle.headline_whole.specs.machine.Server as server
 use Rattle.headline_whole.proofs.server.Opening as opening
 

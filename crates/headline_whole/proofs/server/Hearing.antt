@@ -1,25 +1,22 @@
 -- A message that comes by stream for a request that is held is still to be taken, or its place was closed by its read timer: a fact beside `Fits`.
-use Rattle.std.proofs.Common.{◌≡◌, ◌≢◌, ℕ, ◌+◌, ◌≤◌, ◌<◌, Bool, true, false, ◌&&◌, ◌||◌, ◌⊎◌, inl, inr, Option, Some, None, List, [], ◌∷◌, is_some, refl, arith, ◌∙◌, sym, subst, ap, ◌==◌, length}
-use Rattle.std.specs.Prelude.{if◌then◌else◌, Result}
-use Rattle.std.proofs.lemmas.Bool.{cases_eq}
+use Rattle.std.proofs.Common.{◌≡◌, ◌≢◌, ℕ, Bool, true, false, ◌||◌, ◌⊎◌, inl, inr, Option, Some, None, List, [], ◌∷◌, is_some, refl, ◌∙◌, sym, subst, ap}
 use Rattle.client_request.specs.Request.{Request}
-use Rattle.client_request.specs.declared.error.Error.{Error}
 use Rattle.client_request.specs.declared.event.What.{What}
 use Rattle.client_request.specs.declared.event.Event.{Event}
 use Rattle.client_request.specs.declared.event.Out.{Out}
-use Rattle.client_request.specs.declared.event.Out.TheVariants.{Start, OpenDgram, OpenStream, Send, Write, Resume, Close, Reply}
+use Rattle.client_request.specs.declared.event.Out.TheVariants.{Start, Close}
 use Rattle.client_request.specs.declared.event.Via.TheVariants.{Dgram, Stream}
 use Rattle.headline_whole.specs.Trace.{History, Conf, Came, Put, put_all}
-use Rattle.headline_whole.specs.Time.{now, newest, row_before}
+use Rattle.headline_whole.specs.Time.{now, newest}
 use Rattle.headline_whole.specs.Messages.{Octets}
-use Rattle.headline_whole.specs.Requests.{start, started, replied, asking, handed}
+use Rattle.headline_whole.specs.Requests.{start, started, asking, handed}
 use Rattle.headline_whole.specs.Places.{site, closed_here, is_close, reach}
-use Rattle.headline_whole.specs.Frames.{first_with, fed}
+use Rattle.headline_whole.specs.Frames.{first_with}
 use Rattle.headline_whole.specs.Writes.{waiting_with}
 use Rattle.headline_whole.specs.Timers.{ReadTimerIsDue}
 use Rattle.headline_whole.specs.Exchanges.{octets_for, is_before, Comes}
 use Rattle.headline_whole.specs.Causes.{Heard}
-use Rattle.headline_whole.specs.machine.Streams.{Asker, Multi, IsForeign, with_at}
+use Rattle.headline_whole.specs.machine.Streams.{Asker, IsForeign}
 use Rattle.headline_whole.specs.machine.Dgrams.{Tryer}
 use Rattle.headline_whole.specs.machine.Served.{Served, holds, row_begun, Acts, RestsNow}
 use Rattle.headline_whole.specs.Coming.{IsExcused}
@@ -27,14 +24,13 @@ use Rattle.headline_whole.specs.machine.Part.{Act as Step}
 use Rattle.headline_whole.proofs.server.Kept.{stream_site}
 use Rattle.headline_whole.proofs.server.Coming.{site_past}
 use Rattle.headline_whole.proofs.server.Ending.{at_is}
-use Rattle.headline_whole.proofs.server.Views.{each_at, each_other, at_there}
+use Rattle.headline_whole.proofs.server.Views.{each_other, at_there}
 use Rattle.headline_whole.proofs.server.Handing.{before_of}
 use Rattle.headline_whole.proofs.server.Late.{IsQuiet, comes_out}
 use Rattle.headline_whole.proofs.server.Going.{Fate, Given, TimedOut, Remains, Excused}
 use Rattle.headline_whole.proofs.server.Moved.{now_all}
 use Rattle.headline_whole.proofs.server.Untaken.{Source, InOctets, AmongFrames, IsUntaken, source_same}
 use Rattle.headline_whole.proofs.server.Fitting.{Fits}
-use Rattle.headline_whole.specs.machine.Streams as multi
 use Rattle.headline_whole.specs.machine.Server as server
 use Rattle.headline_whole.specs.machine.Served as served
 use Rattle.headline_whole.proofs.server.Handing as handing

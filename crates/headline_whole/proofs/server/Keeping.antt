@@ -1,44 +1,36 @@
 -- Each move of one server's part keeps all that is known.
-use Rattle.std.proofs.Common.{◌≡◌, ◌≢◌, ℕ, suc, ◌+◌, ◌≤◌, ◌<◌, Bool, true, false, ◌&&◌, ◌||◌, ◌⊎◌, inl, inr, Option, Some, None, List, [], ◌∷◌, is_some, refl, arith, ◌∙◌, sym, subst, ap, ◌==◌, length}
+use Rattle.std.proofs.Common.{◌≡◌, ◌≢◌, ℕ, ◌+◌, ◌≤◌, ◌<◌, true, false, ◌⊎◌, inl, inr, Option, Some, None, List, [], ◌∷◌, refl, arith, ◌∙◌, sym, subst, ap, ◌==◌}
 use Rattle.std.specs.Prelude.{Err}
-use Rattle.std.proofs.lemmas.Bool.{cases_eq, eqb-true}
+use Rattle.std.proofs.lemmas.Bool.{eqb-true}
 use Rattle.std.proofs.lemmas.Bool.Decides.{nat_tests}
 use Rattle.client_request.specs.declared.event.What.{What}
 use Rattle.client_request.specs.declared.event.Out.{Out}
-use Rattle.client_request.specs.declared.event.Out.TheVariants.{Start, OpenDgram, OpenStream, Send, Write, Resume, Close, Reply}
-use Rattle.client_request.specs.declared.event.Via.{Via}
+use Rattle.client_request.specs.declared.event.Out.TheVariants.{OpenStream, Close}
 use Rattle.client_request.specs.declared.event.Via.TheVariants.{Dgram, Stream}
-use Rattle.headline_whole.specs.Trace.{History, Conf, ByDatagrams, Put, put_all}
-use Rattle.headline_whole.specs.Time.{now}
+use Rattle.headline_whole.specs.Trace.{History, Conf, ByDatagrams, Put}
 use Rattle.headline_whole.specs.Messages.{Octets}
-use Rattle.headline_whole.specs.Requests.{start, started}
-use Rattle.headline_whole.specs.Places.{Site, site, is_site, is_of_kind, is_at, opens_as, is_live, stand, Opening, on_event, reach}
-use Rattle.headline_whole.specs.Writes.{waiting_with}
-use Rattle.headline_whole.specs.Exchanges.{octets_for, IsAmong}
+use Rattle.headline_whole.specs.Requests.{start}
+use Rattle.headline_whole.specs.Places.{Site, site, is_site, is_of_kind, reach}
 use Rattle.headline_whole.specs.Orderly.{use_at}
-use Rattle.headline_whole.specs.machine.Streams.{Act, Puts, Gives, Nothing, Asker, Conn, Multi, with_at, Moves}
+use Rattle.headline_whole.specs.machine.Streams.{Act, Asker, Conn, Multi, with_at}
 use Rattle.headline_whole.specs.machine.Dgrams.{Stage, Queued, Trying, Sent, Ending, Cut, Tryer, Dgrams, leave, forget}
 use Rattle.headline_whole.specs.machine.Server.{Server}
 use Rattle.headline_whole.specs.machine.Served.{Served, IsSettled, has_moved, does, Cancels, IsGivenUp}
 use Rattle.headline_whole.specs.machine.Part.{Act as Step}
 use Rattle.headline_whole.proofs.PartLaws.{Keeps, none_more}
 use Rattle.headline_whole.proofs.server.Kept.{stream_site, Kept}
-use Rattle.headline_whole.proofs.server.DgramKept.{dgram_site, owing, placed, StageFits, KeptD}
-use Rattle.headline_whole.proofs.server.Views.{each_at, each_other, at_here, at_there}
-use Rattle.headline_whole.proofs.server.Puts.{touches, IsForeignOut, kept_put}
+use Rattle.headline_whole.proofs.server.DgramKept.{dgram_site, placed, KeptD}
+use Rattle.headline_whole.proofs.server.Views.{each_other, at_here, at_there}
+use Rattle.headline_whole.proofs.server.Puts.{IsForeignOut, kept_put}
 use Rattle.headline_whole.proofs.server.DgramPuts.{reaches, concerns, apart_by}
-use Rattle.headline_whole.proofs.server.DgramMoves.{place_below, standing, dgram_at, IsOther, kept_put_d, forgets}
-use Rattle.headline_whole.proofs.server.DgramPlaces.{opens_d, closes_d}
-use Rattle.headline_whole.proofs.server.Ending.{every_some, conn_below, ends, idle_ends, idle_is_due}
-use Rattle.headline_whole.proofs.server.Fitting.{OneId, Fits}
-use Rattle.headline_whole.proofs.server.Moved.{Moved, fits_after, AreOf, others_all}
+use Rattle.headline_whole.proofs.server.DgramMoves.{place_below, standing, IsOther, forgets}
+use Rattle.headline_whole.proofs.server.DgramPlaces.{closes_d}
+use Rattle.headline_whole.proofs.server.Fitting.{Fits}
+use Rattle.headline_whole.proofs.server.Moved.{Moved, fits_after, others_all}
 use Rattle.client_request.specs.declared.error.Error.TheVariants as errors
-use Rattle.headline_whole.specs.machine.Streams as multi
 use Rattle.headline_whole.specs.machine.Dgrams as dgrams
 use Rattle.headline_whole.specs.machine.Server as server
 use Rattle.headline_whole.proofs.server.Silent as silent
-use Rattle.headline_whole.proofs.server.Opening as opening
-use Rattle.headline_whole.proofs.server.Writing as writing
 
 -- Outs of the other kind
 

@@ -1,7 +1,7 @@
 -- What a move of one server's part writes may be answered in the same row.
-use Rattle.std.proofs.Common.{◌≡◌, ◌≢◌, ℕ, suc, ◌+◌, ◌≤◌, ◌<◌, Bool, true, false, ◌&&◌, ◌||◌, ◌⊎◌, inl, inr, Option, Some, None, List, [], ◌∷◌, ◌++◌, is_some, refl, arith, ◌∙◌, sym, subst, ap, ◌==◌, length}
+use Rattle.std.proofs.Common.{◌≡◌, ◌≢◌, ℕ, ◌+◌, ◌<◌, Bool, true, false, ◌&&◌, ◌||◌, ◌⊎◌, inl, inr, Option, Some, List, [], ◌∷◌, ◌++◌, is_some, refl, arith, ◌∙◌, sym, subst, ap, ◌==◌}
 use Rattle.std.specs.Prelude.{if◌then◌else◌, nat_lt}
-use Rattle.std.proofs.lemmas.Bool.{cases_eq, eqb-true, and_parts}
+use Rattle.std.proofs.lemmas.Bool.{cases_eq, eqb-true}
 use Rattle.std.proofs.lemmas.Bool.Decides.{nat_tests}
 use Rattle.client_request.specs.Request.{Request}
 use Rattle.client_request.specs.declared.event.What.{What}
@@ -11,11 +11,11 @@ use Rattle.client_request.specs.declared.event.Out.TheVariants.{Start, OpenDgram
 use Rattle.client_request.specs.declared.event.Via.{Via}
 use Rattle.client_request.specs.declared.event.Via.TheVariants.{Dgram, Stream}
 use Rattle.headline_whole.specs.Trace.{History, Conf, Put, put_all}
-use Rattle.headline_whole.specs.Time.{now, newest, row_before, stream_timeout}
+use Rattle.headline_whole.specs.Time.{now, stream_timeout}
 use Rattle.headline_whole.specs.Messages.{Octets, answers}
 use Rattle.headline_whole.specs.Requests.{Asking, asking, is_ask, start, started}
 use Rattle.headline_whole.specs.Places.{Site, site}
-use Rattle.headline_whole.specs.Frames.{came, came_here, fed, first_with}
+use Rattle.headline_whole.specs.Frames.{came, fed, first_with}
 use Rattle.headline_whole.specs.Writes.{waiting_with}
 use Rattle.headline_whole.specs.Exchanges.{octets_for, is_before, waited_for, IsAmong, Comes}
 use Rattle.headline_whole.specs.machine.Streams.{Act, Puts, Gives, Nothing, Asker, Conn, Multi, with_at, Moves, TakesFrame}

@@ -1,7 +1,6 @@
 -- An event by datagram, for one server's part: what it leaves before its result is given.
-use Rattle.std.proofs.Common.{◌≡◌, ◌≢◌, ℕ, suc, ◌+◌, ◌≤◌, ◌<◌, Bool, true, false, not, ◌&&◌, ◌||◌, ◌⊎◌, inl, inr, Option, Some, None, List, [], ◌∷◌, is_some, refl, arith, ◌∙◌, sym, subst, ap, ◌==◌, length, take}
-use Rattle.std.specs.Prelude.{if◌then◌else◌, nat_le, Result, Ok, Err}
-use Rattle.std.proofs.lemmas.Bool.{cases_eq}
+use Rattle.std.proofs.Common.{◌≡◌, ℕ, ◌+◌, ◌≤◌, ◌<◌, Bool, true, false, not, ◌&&◌, ◌⊎◌, inl, inr, Some, None, List, [], ◌∷◌, refl, arith, ◌∙◌, sym, subst, ap, ◌==◌, length, take}
+use Rattle.std.specs.Prelude.{if◌then◌else◌, nat_le, Ok, Err}
 use Rattle.std.proofs.lemmas.Bool.Decides.{nat_tests}
 use Rattle.client_request.specs.Request.{Request, is_misformed}
 use Rattle.client_request.specs.declared.error.Error.{Error}
@@ -9,21 +8,20 @@ use Rattle.client_request.specs.declared.event.What.{What}
 use Rattle.client_request.specs.declared.event.What.TheVariants.{Opened, OpenFailed, SendFailed, ShortSend, Datagram, RecvFailed, Tick}
 use Rattle.client_request.specs.declared.event.Out.{Out}
 use Rattle.client_request.specs.declared.event.Out.TheVariants.{Send, Close}
-use Rattle.client_request.specs.declared.event.Via.TheVariants.{Dgram, Stream}
-use Rattle.headline_whole.specs.Trace.{History, Conf, ByDatagrams, Put, put_all}
+use Rattle.client_request.specs.declared.event.Via.TheVariants.{Dgram}
+use Rattle.headline_whole.specs.Trace.{History, Conf, Put, put_all}
 use Rattle.headline_whole.specs.Time.{now, read_timeout}
 use Rattle.headline_whole.specs.Messages.{Octets, answers, truncated, is_valid, base_is_read, passes_count, fits, IsComposingFault}
-use Rattle.headline_whole.specs.Requests.{asking, replied, handed}
-use Rattle.headline_whole.specs.Places.{is_site, is_at, site, Gone, Alive, Opening, stand, on_event}
+use Rattle.headline_whole.specs.Requests.{asking, replied}
+use Rattle.headline_whole.specs.Places.{is_site, Gone, Alive, stand}
 use Rattle.headline_whole.specs.Frames.{came}
 use Rattle.headline_whole.specs.Exchanges.{Comes}
-use Rattle.headline_whole.specs.Causes.{WasOpening, FailedAt, sends, ServerCause, NotOpened, NotSent, SentShort, NotReceived, NotRead, NotComposed}
-use Rattle.headline_whole.specs.Orderly.{use_at, OfDgram, ItsFault, ItsAnswer, InvalidBeforeItsSend, MaySend}
-use Rattle.headline_whole.specs.machine.Streams.{Act, Puts, Nothing, Multi, IsForeign}
+use Rattle.headline_whole.specs.Causes.{WasOpening, FailedAt, ServerCause, NotOpened, NotSent, SentShort, NotReceived, NotRead, NotComposed}
+use Rattle.headline_whole.specs.Orderly.{OfDgram, ItsFault, ItsAnswer, InvalidBeforeItsSend}
+use Rattle.headline_whole.specs.machine.Streams.{Act, Multi, IsForeign}
 use Rattle.headline_whole.specs.machine.Dgrams.{IsIgnored, Meets, stage_of, Stage, Trying, Sent, Ending, Cut, Tryer, Dgrams, leave}
-use Rattle.headline_whole.specs.machine.Served.{Served, outs_of}
+use Rattle.headline_whole.specs.machine.Served.{outs_of}
 use Rattle.headline_whole.specs.Right.{ServerOutsRight}
-use Rattle.headline_whole.proofs.PartLaws.{PostRight, is_composing}
 use Rattle.headline_whole.proofs.server.Kept.{Kept}
 use Rattle.headline_whole.proofs.server.DgramKept.{dgram_site, owing, placed, TryingFits, Old, SentFits, StageFits, KeptD}
 use Rattle.headline_whole.proofs.server.Views.{at_here}

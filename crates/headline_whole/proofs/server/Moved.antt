@@ -1,8 +1,8 @@
 -- What a move of one server's part leaves: its own facts, and those of every other server.
-use Rattle.std.proofs.Common.{◌≡◌, ◌≢◌, ℕ, suc, ◌+◌, ◌≤◌, ◌<◌, Bool, true, false, ◌&&◌, ◌||◌, ◌⊎◌, inl, inr, Option, Some, None, List, [], ◌∷◌, is_some, refl, arith, ◌∙◌, sym, subst, ap, ◌==◌, length}
+use Rattle.std.proofs.Common.{◌≡◌, ◌≢◌, ℕ, suc, ◌≤◌, ◌<◌, Bool, true, false, ◌&&◌, ◌⊎◌, inl, inr, Option, Some, None, List, [], ◌∷◌, refl, arith, ◌∙◌, sym, subst, ap, ◌==◌}
 use Rattle.std.specs.Prelude.{if◌then◌else◌, Result}
 use Rattle.client_request.specs.declared.error.Error.{Error}
-use Rattle.std.proofs.lemmas.Bool.{cases_eq, cases_lt, eqb-true}
+use Rattle.std.proofs.lemmas.Bool.{cases_lt, eqb-true}
 use Rattle.std.proofs.lemmas.Bool.Decides.{nat_tests}
 use Rattle.client_request.specs.declared.event.What.{What}
 use Rattle.client_request.specs.declared.event.Out.{Out}
@@ -12,7 +12,7 @@ use Rattle.client_request.specs.declared.event.Via.TheVariants.{Dgram, Stream}
 use Rattle.headline_whole.specs.Trace.{History, Conf, ByDatagrams, Came, Put, put_all}
 use Rattle.headline_whole.specs.Time.{now, EarlierRow}
 use Rattle.headline_whole.specs.Messages.{Octets}
-use Rattle.headline_whole.specs.Requests.{start, started, is_start, same_via, replied, handed}
+use Rattle.headline_whole.specs.Requests.{start, started, is_start, same_via, handed}
 use Rattle.headline_whole.specs.Places.{Site, site, is_site, is_at, opens_as, reach}
 use Rattle.headline_whole.specs.Writes.{waiting_with}
 use Rattle.headline_whole.specs.Exchanges.{octets_for, is_before, IsAmong}
@@ -23,12 +23,11 @@ use Rattle.headline_whole.specs.machine.Dgrams.{Stage, Queued, Trying, Sent, End
 use Rattle.headline_whole.specs.machine.Server.{Server}
 use Rattle.headline_whole.specs.machine.Served.{Served, IsSettled, has_moved}
 use Rattle.headline_whole.proofs.server.Kept.{stream_site, Kept}
-use Rattle.headline_whole.proofs.server.DgramKept.{dgram_site, StageFits, KeptD}
-use Rattle.headline_whole.proofs.server.Puts.{reach_put, touches, IsForeignOut, kept_put}
-use Rattle.headline_whole.proofs.server.DgramPuts.{reaches, SameTryer, IsShort, IsApart}
-use Rattle.headline_whole.proofs.server.DgramMoves.{IsOther, kept_put_d, standing, place_below}
-use Rattle.headline_whole.proofs.server.Ending.{conn_below}
-use Rattle.headline_whole.proofs.server.Fitting.{OneId, BegunBy, UnsentBy, IsUntaken, IsTaken, Fits}
+use Rattle.headline_whole.proofs.server.DgramKept.{dgram_site, KeptD}
+use Rattle.headline_whole.proofs.server.Puts.{reach_put, IsForeignOut, kept_put}
+use Rattle.headline_whole.proofs.server.DgramPuts.{SameTryer, IsShort}
+use Rattle.headline_whole.proofs.server.DgramMoves.{IsOther, kept_put_d, standing}
+use Rattle.headline_whole.proofs.server.Fitting.{OneId, BegunBy, UnsentBy, Fits}
 
 pub reach_all : (outs : List Out) (h : History) → reach h ≤ reach (put_all outs h)
 reach_all [] h = omega arith

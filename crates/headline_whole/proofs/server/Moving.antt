@@ -1,33 +1,30 @@
 -- The moves by stream of one server's part keep all that is known.
-use Rattle.std.proofs.Common.{◌≡◌, ◌≢◌, ℕ, suc, ◌+◌, ◌≤◌, ◌<◌, Bool, true, false, ◌&&◌, ◌||◌, ◌⊎◌, inl, inr, Option, Some, None, List, [], ◌∷◌, ◌++◌, is_some, refl, arith, ◌∙◌, sym, subst, subst₂, ap, ◌==◌, length}
+use Rattle.std.proofs.Common.{◌≡◌, ◌≢◌, ℕ, ◌<◌, Bool, true, false, ◌&&◌, ◌⊎◌, inl, inr, Option, Some, None, List, [], ◌∷◌, refl, arith, ◌∙◌, sym, subst, subst₂, ap, ◌==◌, length}
 use Rattle.std.specs.Prelude.{if◌then◌else◌}
 use Rattle.std.proofs.lemmas.Bool.{cases_eq, eqb-true}
 use Rattle.std.proofs.lemmas.Bool.Decides.{nat_tests}
 use Rattle.client_request.specs.declared.event.What.{What}
-use Rattle.client_request.specs.declared.event.Out.{Out}
 use Rattle.client_request.specs.declared.event.Out.TheVariants.{OpenStream, Write, Close}
-use Rattle.client_request.specs.declared.event.Via.TheVariants.{Dgram, Stream}
+use Rattle.client_request.specs.declared.event.Via.TheVariants.{Stream}
 use Rattle.headline_whole.specs.Trace.{History, Conf, Put, put_all}
 use Rattle.headline_whole.specs.Time.{now}
 use Rattle.headline_whole.specs.Messages.{Octets, CarriesInFrame}
 use Rattle.headline_whole.specs.Requests.{replied, start, started, handed}
-use Rattle.headline_whole.specs.Places.{Site, site, is_site, is_at, opens_as, Opening, on_event, reach}
+use Rattle.headline_whole.specs.Places.{site, is_site, is_at, opens_as, reach}
 use Rattle.headline_whole.specs.Writes.{Written, IsWritten, waiting_with}
 use Rattle.headline_whole.specs.Exchanges.{octets_for, IsAmong}
 use Rattle.headline_whole.specs.Orderly.{MayWrite, ReadTimer, IdleTimer}
 use Rattle.headline_whole.specs.Right.{ServerOutsRight}
 use Rattle.headline_whole.specs.Busy.{ByReadTimer}
 use Rattle.headline_whole.specs.machine.Streams.{Act, Puts, Gives, Nothing, Asker, Conn, Multi, with_at, Moves}
-use Rattle.headline_whole.specs.machine.Server.{Server}
 use Rattle.headline_whole.specs.machine.Served.{Served, has_moved, does, outs_of, place_after}
-use Rattle.headline_whole.specs.machine.Part.{Act as Step}
 use Rattle.headline_whole.proofs.PartLaws.{Keeps, none_more}
-use Rattle.headline_whole.proofs.server.Kept.{stream_site, listed, ConnFits, Kept}
-use Rattle.headline_whole.proofs.server.Views.{each_at, each_other, at_here, at_there}
+use Rattle.headline_whole.proofs.server.Kept.{listed, ConnFits, Kept}
+use Rattle.headline_whole.proofs.server.Views.{each_at, each_other}
 use Rattle.headline_whole.proofs.server.DgramMoves.{kept_put_d}
 use Rattle.headline_whole.proofs.server.Ending.{every_some, conn_below, ends, idle_ends, idle_is_due, may_close}
 use Rattle.headline_whole.proofs.server.Begun.{written_of}
-use Rattle.headline_whole.proofs.server.Fitting.{OneId, BegunBy, Fits}
+use Rattle.headline_whole.proofs.server.Fitting.{Fits}
 use Rattle.headline_whole.proofs.server.Moved.{Moved, fits_after, AreOf, others_all}
 use Rattle.headline_whole.proofs.server.Keeping.{close_other, open_other, quiet_other, same_conns}
 use Rattle.headline_whole.specs.machine.Streams as multi
@@ -173,7 +170,7 @@ module _ (c : Conf) (s : ℕ) (past : History) (w : What) (u : Served) (h : Hist
   moves_of _ _ (multi.ReadsNothing p x since conn mode late) = ((Stream, (f.streams.conns p x conn).at), tt)
   moves_of _ _ (multi.RestsTooLong p x since conn mode late pumped) = ((Stream, (f.streams.conns p x conn).at), tt)
 
-  -- a write stands where it may (A28)
+  -- a write stands where it may
   pub may_write : (k p id : ℕ) (a : Asker) (x : Conn) (o : Octets) → m.asks k ≡ Some a → m.conns p ≡ Some x → x.heard ≡ false → x.ids id ≡ None → CarriesInFrame o a.request id → replied k past ≡ false → MayWrite k p id o past h
   may_write k p id a x o ask conn unheard unheld carries un =
       let fit : ConnFits s p past u.pending (f.fr p) (f.more p) x h = f.streams.conns p x conn in

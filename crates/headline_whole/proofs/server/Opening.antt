@@ -10,7 +10,7 @@ use Rattle.client_request.specs.declared.event.Via.TheVariants.{Stream}
 use Rattle.headline_whole.specs.Trace.{History, Put}
 use Rattle.headline_whole.specs.Time.{now, newest, id_count}
 use Rattle.headline_whole.specs.Messages.{Octets}
-use Rattle.headline_whole.specs.Requests.{asking, replied, start, started}
+use Rattle.headline_whole.specs.Requests.{asking, start, started}
 use Rattle.headline_whole.specs.Places.{site, is_at, Unused, Opening, Alive, on_event, stand, is_live, reach}
 use Rattle.headline_whole.specs.Writes.{Written, held_with}
 use Rattle.headline_whole.specs.Orderly.{MayOpenStream}

@@ -1,39 +1,33 @@
 -- A result ends what its request is owed, where all that is owed is owed at the place where the request is.
-use Rattle.std.proofs.Common.{◌≡◌, ◌≢◌, ℕ, suc, ◌+◌, ◌≤◌, ◌<◌, Bool, true, false, ◌&&◌, ◌||◌, ◌⊎◌, inl, inr, Option, Some, None, List, [], ◌∷◌, ◌++◌, refl, arith, ◌∙◌, sym, subst, subst₂, ap, ◌==◌, length, take, Result}
-use Rattle.std.specs.Prelude.{if◌then◌else◌, nat_le}
-use Rattle.std.proofs.lemmas.Bool.{eqb-true}
+use Rattle.std.proofs.Common.{◌≡◌, ℕ, ◌+◌, ◌≤◌, ◌<◌, Bool, true, false, inl, inr, Some, List, [], ◌∷◌, ◌++◌, refl, arith, ◌∙◌, sym, subst, subst₂, ap, ◌==◌, Result}
 use Rattle.std.proofs.lemmas.Bool.Decides.{nat_tests}
 use Rattle.client_request.specs.declared.error.Error.{Error}
 use Rattle.client_request.specs.declared.event.What.{What}
-use Rattle.client_request.specs.declared.event.What.TheVariants.{SendFailed, ShortSend, RecvFailed, Datagram, Tick}
-use Rattle.client_request.specs.declared.event.Out.TheVariants.{Close}
+use Rattle.client_request.specs.declared.event.What.TheVariants.{Tick}
 use Rattle.client_request.specs.declared.event.Via.{Via}
 use Rattle.client_request.specs.declared.event.Via.TheVariants.{Dgram, Stream}
-use Rattle.headline_whole.specs.Trace.{History, Conf, Put, put_all}
-use Rattle.headline_whole.specs.Time.{now, read_timeout, stream_timeout}
-use Rattle.headline_whole.specs.Messages.{Octets, answers, id_in}
+use Rattle.headline_whole.specs.Trace.{History, Conf, put_all}
+use Rattle.headline_whole.specs.Time.{now, stream_timeout}
+use Rattle.headline_whole.specs.Messages.{Octets, id_in}
 use Rattle.headline_whole.specs.Requests.{start}
-use Rattle.headline_whole.specs.Places.{is_told, reach}
-use Rattle.headline_whole.specs.Frames.{came, came_here, is_bad, brings}
+use Rattle.headline_whole.specs.Places.{reach}
+use Rattle.headline_whole.specs.Frames.{came_here, is_bad, brings}
 use Rattle.headline_whole.specs.Writes.{waiting_with}
-use Rattle.headline_whole.specs.Exchanges.{has_answer, octets_for, is_before, unanswered, waited_for, IsAmong}
+use Rattle.headline_whole.specs.Exchanges.{octets_for, is_before, waited_for, IsAmong}
 use Rattle.headline_whole.specs.machine.Streams.{Act, Puts, Gives, Nothing, Asker, Conn, Multi, Holding, Moves, TakesFrame}
-use Rattle.headline_whole.specs.machine.Dgrams.{Stage, Queued, Trying, Sent, Ending, Tryer, Dgrams, Tries, Meets}
+use Rattle.headline_whole.specs.machine.Dgrams.{Ending, Tryer, Dgrams, Tries}
 use Rattle.headline_whole.specs.machine.Served.{Served, outs_of, posts_of, Acts, Settles, AsItIs, WithResult, ByStreamNow}
 use Rattle.headline_whole.specs.Owed.{IsOwed}
 use Rattle.headline_whole.specs.machine.Part.{Post, Act as Step, IsPosted}
 use Rattle.headline_whole.proofs.server.Kept.{listed, Kept}
-use Rattle.headline_whole.proofs.server.DgramKept.{Old, SentFits, StageFits}
-use Rattle.headline_whole.proofs.server.Views.{each_at}
 use Rattle.headline_whole.proofs.server.FrameLaws.{waits_none, waits_same}
 use Rattle.headline_whole.proofs.server.Ending.{at_is}
-use Rattle.headline_whole.proofs.server.Handing.{before_of, none_started}
+use Rattle.headline_whole.proofs.server.Handing.{before_of}
 use Rattle.headline_whole.proofs.server.OwedFits.{StageOwed, PhaseOwed, OwedFits, owed_stream}
 use Rattle.headline_whole.proofs.server.Owing.{close_was, tries_owed, meets_owed}
 use Rattle.headline_whole.proofs.server.Giving.{tries_held, meets_held, takes_held}
 use Rattle.headline_whole.proofs.server.Fitting.{Fits}
 use Rattle.headline_whole.specs.machine.Streams as multi
-use Rattle.headline_whole.specs.machine.Dgrams as dgrams
 use Rattle.headline_whole.specs.machine.Served as served
 use Rattle.headline_whole.proofs.server.Framing as framing
 

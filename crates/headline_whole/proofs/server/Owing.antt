@@ -1,19 +1,16 @@
 -- What is owed to a request that is held is owed where it is: a fact beside `Fits`, kept by each move.
-use Rattle.std.proofs.Common.{◌≡◌, ◌≢◌, ℕ, suc, ◌+◌, ◌≤◌, ◌<◌, Bool, true, false, ◌&&◌, ◌||◌, ◌⊎◌, inl, inr, Option, Some, None, List, [], ◌∷◌, is_some, refl, arith, ◌∙◌, sym, subst, subst₂, ap, ◌==◌, length, take}
-use Rattle.std.specs.Prelude.{if◌then◌else◌, Result, nat_le}
-use Rattle.std.proofs.lemmas.Bool.{cases_eq, eqb-true}
+use Rattle.std.proofs.Common.{◌≡◌, ◌≢◌, ℕ, suc, ◌+◌, ◌≤◌, Bool, true, false, ◌||◌, ◌⊎◌, inl, inr, Option, Some, None, [], ◌∷◌, is_some, refl, arith, ◌∙◌, sym, subst, subst₂, ap, ◌==◌, length, take}
+use Rattle.std.specs.Prelude.{if◌then◌else◌, nat_le}
 use Rattle.std.proofs.lemmas.Bool.Decides.{nat_tests}
 use Rattle.client_request.specs.Request.{Request}
-use Rattle.client_request.specs.declared.error.Error.{Error}
 use Rattle.client_request.specs.declared.event.What.{What}
-use Rattle.client_request.specs.declared.event.What.TheVariants.{Opened, SendFailed, ShortSend, RecvFailed, Datagram, Tick}
-use Rattle.client_request.specs.declared.event.Out.{Out}
+use Rattle.client_request.specs.declared.event.What.TheVariants.{SendFailed, ShortSend, RecvFailed, Datagram, Tick}
 use Rattle.client_request.specs.declared.event.Out.TheVariants.{Start, OpenDgram, OpenStream, Send, Write, Resume, Close}
 use Rattle.client_request.specs.declared.event.Via.{Via}
 use Rattle.client_request.specs.declared.event.Via.TheVariants.{Dgram, Stream}
 use Rattle.headline_whole.specs.Trace.{History, Conf, Put, put_all}
 use Rattle.headline_whole.specs.Time.{now, read_timeout}
-use Rattle.headline_whole.specs.Messages.{Octets, answers, truncated}
+use Rattle.headline_whole.specs.Messages.{Octets, answers}
 use Rattle.headline_whole.specs.Requests.{start, started, handed}
 use Rattle.headline_whole.specs.Places.{Stand, Unused, Opening, Alive, Gone, closed, stand, is_told, reach}
 use Rattle.headline_whole.specs.Frames.{came, came_here}
@@ -27,10 +24,9 @@ use Rattle.headline_whole.specs.machine.Part.{Act as Step}
 use Rattle.headline_whole.proofs.PartLaws.{this_one}
 use Rattle.headline_whole.proofs.server.DgramKept.{Old, SentFits, StageFits}
 use Rattle.headline_whole.proofs.server.Views.{each_at, each_other, at_there}
-use Rattle.headline_whole.proofs.server.Ending.{every_some}
 use Rattle.headline_whole.proofs.server.Handing.{before_of, none_started, handed_put}
 use Rattle.headline_whole.proofs.server.Cancels.{one_way}
-use Rattle.headline_whole.proofs.server.Staying.{Was, IsSentBy, IsNext, nothing_new, owed_put, mute_put, held_tryer, held_asker, CutsAt, tries_cut, meets_cut, empty_close, start_put, acts_were}
+use Rattle.headline_whole.proofs.server.Staying.{Was, IsNext, nothing_new, owed_put, mute_put, CutsAt, tries_cut, meets_cut, empty_close, start_put, acts_were}
 use Rattle.headline_whole.proofs.server.Moved.{now_all}
 use Rattle.headline_whole.proofs.server.OwedFits.{StageOwed, PhaseOwed, OwedFits}
 use Rattle.headline_whole.proofs.server.Fitting.{Fits}

@@ -10,7 +10,7 @@ use Rattle.client_request.specs.declared.event.Via.TheVariants.{Stream}
 use Rattle.headline_whole.specs.Trace.{History, Put}
 use Rattle.headline_whole.specs.Time.{now}
 use Rattle.headline_whole.specs.Messages.{Octets}
-use Rattle.headline_whole.specs.Requests.{start, started, is_start, is_reply}
+use Rattle.headline_whole.specs.Requests.{start, started, is_start}
 use Rattle.headline_whole.specs.Places.{is_at, stand, is_live, reach}
 use Rattle.headline_whole.specs.machine.Streams.{Phase, Free, Expecting, Lined, Holding, Broken, BackingOff, Asker, Conn, Multi}
 use Rattle.headline_whole.proofs.server.Kept.{PhaseFits, AskFits, OpeningFits, IsBlank, IsToCome, RowFits, Kept}

@@ -1,10 +1,9 @@
 -- What an out makes a server owe: nothing but by a send or a write of its own.
-use Rattle.std.proofs.Common.{◌≡◌, ◌≢◌, ℕ, suc, ◌+◌, ◌≤◌, ◌<◌, Bool, true, false, not, ◌&&◌, ◌||◌, ◌⊎◌, inl, inr, Option, Some, None, List, [], ◌∷◌, is_some, refl, arith, ◌∙◌, sym, subst, subst₂, ap, ◌==◌, length}
-use Rattle.std.specs.Prelude.{if◌then◌else◌, nat_lt, Result}
+use Rattle.std.proofs.Common.{◌≡◌, ℕ, ◌+◌, ◌≤◌, Bool, true, false, not, ◌&&◌, ◌||◌, ◌⊎◌, inl, inr, Option, Some, List, ◌∷◌, is_some, refl, arith, ◌∙◌, sym, subst, subst₂, ap, ◌==◌}
+use Rattle.std.specs.Prelude.{if◌then◌else◌, nat_lt}
 use Rattle.std.proofs.lemmas.Bool.{cases_eq, eqb-true}
 use Rattle.std.proofs.lemmas.Bool.Decides.{nat_tests}
 use Rattle.client_request.specs.Request.{Request}
-use Rattle.client_request.specs.declared.error.Error.{Error}
 use Rattle.client_request.specs.declared.event.What.{What}
 use Rattle.client_request.specs.declared.event.Out.{Out}
 use Rattle.client_request.specs.declared.event.Out.TheVariants.{Start, OpenDgram, OpenStream, Send, Write, Resume, Close, Reply}
@@ -14,8 +13,8 @@ use Rattle.headline_whole.specs.Trace.{History, Conf, Put, put_all}
 use Rattle.headline_whole.specs.Time.{now, read_timeout}
 use Rattle.headline_whole.specs.Messages.{Octets}
 use Rattle.headline_whole.specs.Requests.{is_start, start, started}
-use Rattle.headline_whole.specs.Places.{Site, site, is_at, reach}
-use Rattle.headline_whole.specs.Writes.{Written, waiting_with}
+use Rattle.headline_whole.specs.Places.{Site, site, reach}
+use Rattle.headline_whole.specs.Writes.{waiting_with}
 use Rattle.headline_whole.specs.Frames.{came_here, brings}
 use Rattle.headline_whole.specs.Exchanges.{octets_for, is_before, is_send, unanswered, waited_for, IsAmong}
 use Rattle.headline_whole.specs.machine.Streams.{Act, Puts, Gives, Nothing, Asker, Multi, Moves, Takes, TakesFrame}
@@ -28,14 +27,13 @@ use Rattle.headline_whole.proofs.server.DgramKept.{dgram_site}
 use Rattle.headline_whole.proofs.server.Views.{each_at}
 use Rattle.headline_whole.proofs.server.Ending.{at_is}
 use Rattle.headline_whole.proofs.server.Keeping.{at_site}
-use Rattle.headline_whole.proofs.server.Handing.{or_left, before_of, waited_start, none_started}
+use Rattle.headline_whole.proofs.server.Handing.{or_left, before_of, waited_start}
 use Rattle.headline_whole.proofs.server.Cancels.{still_alive}
 use Rattle.headline_whole.proofs.server.Begun.{among_before}
 use Rattle.headline_whole.proofs.server.Fitting.{BegunBy, Fits}
 use Rattle.headline_whole.specs.machine.Streams as multi
 use Rattle.headline_whole.specs.machine.Dgrams as dgrams
 use Rattle.headline_whole.specs.machine.Served as served
-use Rattle.headline_whole.proofs.server.Late as late
 
 -- it was owed before, at the same place
 abbrev pub Was : (c : Conf) (t k : ℕ) (past : History) (w : What) (h h' : History) → IsOwed c t k past w h' → Type 0

@@ -1,15 +1,13 @@
 -- An event that streams take, and octets that are read, for one server's part.
-use Rattle.std.proofs.Common.{◌≡◌, ◌≢◌, ℕ, suc, ◌+◌, ◌≤◌, ◌<◌, Bool, true, false, ◌&&◌, ◌||◌, ◌⊎◌, inl, inr, Option, Some, List, [], ◌∷◌, is_some, refl, arith, ◌∙◌, sym, subst, ap, ◌==◌, length}
-use Rattle.std.specs.Prelude.{if◌then◌else◌}
-use Rattle.std.proofs.lemmas.Bool.{cases_eq}
+use Rattle.std.proofs.Common.{◌≡◌, ◌≢◌, ℕ, ◌≤◌, ◌<◌, true, false, Some, List, [], ◌∷◌, refl, arith, ◌∙◌, sym, subst, ap, length}
 use Rattle.std.proofs.lemmas.Bool.Decides.{nat_tests}
 use Rattle.client_request.specs.declared.event.What.{What}
 use Rattle.client_request.specs.declared.event.What.TheVariants.{Opened, OpenFailed, Wrote, Bytes, Tick}
 use Rattle.client_request.specs.declared.event.Out.{Out}
 use Rattle.client_request.specs.declared.event.Out.TheVariants.{Resume, Close}
-use Rattle.client_request.specs.declared.event.Via.TheVariants.{Dgram, Stream}
+use Rattle.client_request.specs.declared.event.Via.TheVariants.{Stream}
 use Rattle.headline_whole.specs.Trace.{History, Conf, Put, put_all}
-use Rattle.headline_whole.specs.Time.{now, EarlierRow}
+use Rattle.headline_whole.specs.Time.{now}
 use Rattle.headline_whole.specs.Messages.{Octets}
 use Rattle.headline_whole.specs.Requests.{replied, handed}
 use Rattle.headline_whole.specs.Places.{is_told, Opening, on_event, reach}

@@ -1,5 +1,5 @@
 -- The timers by datagram of one server's part keep all that is known.
-use Rattle.std.proofs.Common.{◌≡◌, ◌≢◌, ℕ, suc, ◌+◌, ◌≤◌, ◌<◌, Bool, true, false, ◌&&◌, ◌||◌, ◌⊎◌, inl, inr, Option, Some, None, List, [], ◌∷◌, is_some, refl, arith, ◌∙◌, sym, subst, subst₂, ap, ◌==◌, length}
+use Rattle.std.proofs.Common.{◌≡◌, ◌≢◌, ℕ, ◌+◌, ◌≤◌, ◌<◌, Bool, true, false, inl, inr, Option, Some, None, List, [], ◌∷◌, refl, arith, ◌∙◌, sym, subst, subst₂, ap, ◌==◌, length}
 use Rattle.std.specs.Prelude.{if◌then◌else◌, Result, Err}
 use Rattle.std.proofs.lemmas.Bool.{cases_eq, eqb-true}
 use Rattle.std.proofs.lemmas.Bool.Decides.{nat_tests}
@@ -14,24 +14,23 @@ use Rattle.client_request.specs.Request.{Request}
 use Rattle.headline_whole.specs.Messages.{Octets}
 use Rattle.headline_whole.specs.Requests.{replied, handed}
 use Rattle.headline_whole.specs.Places.{Site, site, is_site, is_at, is_live, stand, opens_as, reach}
-use Rattle.headline_whole.specs.Causes.{TriesAreUp, NoAnswer}
+use Rattle.headline_whole.specs.Causes.{NoAnswer}
 use Rattle.headline_whole.specs.Orderly.{use_at, OfDgram, ItsTimeout}
-use Rattle.headline_whole.specs.machine.Streams.{Act, Puts, Gives, Nothing, Multi, with_at}
+use Rattle.headline_whole.specs.machine.Streams.{Act, Multi, with_at}
 use Rattle.headline_whole.specs.machine.Dgrams.{Stage, Queued, Trying, Sent, Ending, Cut, Tryer, Dgrams, Tries, leave, forget}
-use Rattle.headline_whole.specs.machine.Server.{Server}
-use Rattle.headline_whole.specs.machine.Served.{Served, IsSettled, has_moved, outs_of, place_after, Settles, AsItIs, WithResult, ByStreamNow}
+use Rattle.headline_whole.specs.machine.Served.{Served, has_moved, outs_of, place_after, Settles, AsItIs, WithResult, ByStreamNow}
 use Rattle.headline_whole.specs.Right.{ServerOutsRight}
 use Rattle.headline_whole.specs.machine.Part.{Act as Step}
 use Rattle.headline_whole.proofs.PartLaws.{Keeps, none_more}
 use Rattle.headline_whole.proofs.server.Kept.{Kept}
-use Rattle.headline_whole.proofs.server.DgramKept.{dgram_site, owing, placed, Old, SentFits, StageFits, KeptD}
+use Rattle.headline_whole.proofs.server.DgramKept.{dgram_site, owing, placed, SentFits, StageFits, KeptD}
 use Rattle.headline_whole.proofs.server.Views.{each_at, each_other, at_there}
 use Rattle.headline_whole.proofs.server.Puts.{IsForeignOut, kept_put}
 use Rattle.headline_whole.proofs.server.DgramMoves.{place_below, standing, dgram_at, forgets}
 use Rattle.headline_whole.proofs.server.DgramPlaces.{opens_d, closes_d}
 use Rattle.headline_whole.proofs.server.Ending.{conn_below}
 use Rattle.headline_whole.proofs.server.Fitting.{OneId, BegunBy, UnsentBy, Fits}
-use Rattle.headline_whole.proofs.server.Moved.{Moved, fits_after, AreOf, others_all}
+use Rattle.headline_whole.proofs.server.Moved.{fits_after, AreOf, others_all}
 use Rattle.headline_whole.proofs.server.Keeping.{close_foreign, same_conns}
 use Rattle.client_request.specs.declared.error.Error.TheVariants as errors
 use Rattle.client_request.specs.declared.error.QueryError.TheVariants as query

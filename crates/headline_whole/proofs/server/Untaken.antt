@@ -1,14 +1,12 @@
 -- A message that came by stream for a request that is held, and is not taken yet.
-use Rattle.std.proofs.Common.{◌≡◌, ℕ, ◌+◌, ◌<◌, Bool, true, false, ◌||◌, Option, Some, None, is_some, refl, sym, subst, ap, ◌∙◌}
-use Rattle.client_request.specs.Request.{Request}
-use Rattle.client_request.specs.declared.event.What.{What}
+use Rattle.std.proofs.Common.{◌≡◌, ℕ, ◌+◌, ◌<◌, true, false, Some, sym, subst, ap, ◌∙◌}
 use Rattle.client_request.specs.declared.event.What.TheVariants.{Bytes}
 use Rattle.headline_whole.specs.Time.{stream_timeout}
 use Rattle.headline_whole.specs.Messages.{Octets, answers}
 use Rattle.headline_whole.specs.Frames.{Reading, fed, first_with}
 use Rattle.headline_whole.specs.machine.Streams.{Asker, Conn}
 use Rattle.headline_whole.specs.machine.Served.{Served}
-use Rattle.headline_whole.proofs.server.Expecting.{Expects, ByDatagram, ByOctets, InFrames}
+use Rattle.headline_whole.proofs.server.Expecting.{Expects, ByOctets, InFrames}
 use Rattle.headline_whole.specs.machine.Streams as multi
 
 -- where the message is

@@ -1,6 +1,6 @@
 -- Worked traces with the cache, computed.
-use Rattle.std.proofs.Common.{◌≡◌, ℕ, true, false, Some, [], ◌∷◌, inl, inr, refl, arith}
-use Rattle.std.specs.Prelude.{◌<◌, ◌≤◌, Ok, Err, drop, option_map}
+use Rattle.std.proofs.Common.{◌≡◌, ℕ, true, false, Some, ◌∷◌, inl, inr, refl, arith}
+use Rattle.std.specs.Prelude.{◌≤◌, drop, option_map}
 use Rattle.dns_names.specs.Name.{name_at, walk, head_at}
 use Rattle.dns_base.specs.Data.{Data, data_at, data_spelling}
 use Rattle.dns_base.specs.Message.{question_at, record_at, list_at, items_at, questions_of, answer_of, authority_of, additional_of, answer_items, authority_items, additional_items, first_question, sole_question, reads}
@@ -11,7 +11,7 @@ use Rattle.client_request.specs.Carries.{Carries, contents_of}
 use Rattle.client_request.specs.declared.error.Error.TheVariants as errors
 use Rattle.client_request.specs.declared.error.QueryError.TheVariants as query
 use Rattle.client_request.specs.declared.fault.Fault.TheVariants.{Refused}
-use Rattle.client_request.specs.declared.event.What.TheVariants.{Ask, OpenFailed, Datagram}
+use Rattle.client_request.specs.declared.event.What.TheVariants.{OpenFailed, Datagram}
 use Rattle.client_request.specs.declared.event.Out.TheVariants.{Close}
 use Rattle.client_request.specs.declared.event.Via.TheVariants.{Dgram, Stream}
 use Rattle.headline_whole.specs.Trace.{History, Came, Put}
@@ -22,7 +22,7 @@ use Rattle.headline_whole.specs.Parts.{Parts, Says, read_parts, known_parts, low
 use Rattle.headline_whole.specs.Validity.{second, validity_of_message, is_deferred}
 use Rattle.headline_whole.specs.Views.{view_of, view_validity}
 use Rattle.headline_whole.specs.Coming.{CameFor}
-use Rattle.headline_whole.specs.Replies.{IsView, IsFreshReply, InThisRow}
+use Rattle.headline_whole.specs.Replies.{IsFreshReply, InThisRow}
 use Rattle.headline_whole.specs.Causes.{NotOpened}
 use Rattle.headline_whole.specs.Errors.{Here, ByServer, NoServer, Own, Kept}
 use Rattle.headline_whole.specs.examples.Messages.{plain_request, ad_request, cd_request, do_request, as_datagram, as_frame, answer, signed_answer, unsigned_answer}

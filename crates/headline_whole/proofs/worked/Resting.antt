@@ -1,6 +1,6 @@
 -- When one server rests, and a client of one server is done with a row.
-use Rattle.std.proofs.Common.{◌≡◌, ◌≢◌, ℕ, zero, suc, ◌+◌, ◌<◌, ◌≤◌, Bool, true, false, ◌||◌, ◌⊎◌, inl, inr, Option, Some, None, List, [], ◌∷◌, length, is_some, refl, arith, sym, ap, subst, ◌∙◌}
-use Rattle.std.specs.Prelude.{Result, ◌==◌, nat_lt, nat_le, if◌then◌else◌}
+use Rattle.std.proofs.Common.{◌≡◌, ◌≢◌, ℕ, zero, suc, ◌+◌, ◌<◌, ◌≤◌, true, false, inl, inr, Option, Some, None, List, [], ◌∷◌, is_some, refl, arith, sym, ap, subst, ◌∙◌}
+use Rattle.std.specs.Prelude.{Result, ◌==◌, nat_lt, nat_le}
 use Rattle.std.proofs.lemmas.Bool.Decides.{nat_tests}
 use Rattle.client_request.specs.declared.event.What.TheVariants.{Ask, Opened, Datagram, Wrote, Bytes, Tick}
 use Rattle.std.proofs.lemmas.Bool.{cases_eq}
@@ -14,8 +14,8 @@ use Rattle.headline_whole.specs.machine.Streams.{Phase, Asker, Mode, Conn, Multi
 use Rattle.headline_whole.specs.machine.Dgrams as dgrams
 use Rattle.headline_whole.specs.machine.Dgrams.{Stage, Tryer, Dgrams, IsIgnored}
 use Rattle.headline_whole.specs.machine.Server.{Server, Rests}
-use Rattle.headline_whole.specs.machine.Served.{Served, holds, served, IsSettled, IsInTime, RestsNow}
-use Rattle.headline_whole.specs.machine.Client.{Waiting, with_held, Upper, Made, Moves, IsDone, IsStep, IsRun, Goes_on, row_begins}
+use Rattle.headline_whole.specs.machine.Served.{Served, holds, served, IsInTime, RestsNow}
+use Rattle.headline_whole.specs.machine.Client.{Waiting, with_held, Upper, Made, Moves, IsDone, IsRun, Goes_on, row_begins}
 use Rattle.headline_whole.specs.examples.Rows.{by_datagrams, first_settings}
 use Rattle.client_request.specs.declared.event.Row.{Row}
 use Rattle.headline_whole.proofs.server.Views.{at_here, at_there}

@@ -1,8 +1,6 @@
 -- Worked traces are runs of the machine.
-use Rattle.std.proofs.Common.{◌≡◌, ◌≢◌, ℕ, ◌+◌, ◌<◌, ◌≤◌, ◌==◌, true, false, inl, inr, Option, Some, None, List, [], ◌∷◌, refl, arith, take, length, ap, sym, subst, ◌∙◌}
+use Rattle.std.proofs.Common.{◌≡◌, ◌≢◌, ℕ, ◌+◌, ◌<◌, ◌≤◌, true, false, inl, Option, Some, None, List, [], ◌∷◌, refl, take, length, ap, sym, subst, ◌∙◌}
 use Rattle.std.specs.Prelude.{Result, Ok, Err, if◌then◌else◌}
-use Rattle.std.proofs.lemmas.Bool.Decides.{nat_tests}
-use Rattle.std.proofs.lemmas.Bool.{cases_eq}
 use Rattle.client_request.specs.Request.{Request}
 use Rattle.client_request.specs.declared.error.Error.{Error}
 use Rattle.headline_whole.specs.Time.{read_timeout, response_timeout, stream_timeout, idle_timeout}
@@ -37,7 +35,7 @@ use Rattle.headline_whole.specs.machine.Server as server
 use Rattle.headline_whole.specs.machine.Server.{Server}
 use Rattle.headline_whole.specs.machine.Served as served
 use Rattle.headline_whole.specs.machine.Served.{Served, RestsNow, served, does, has_moved, has_taken_it, AsItIs, WithResult, ByStreamNow}
-use Rattle.headline_whole.specs.machine.Client.{Waiting, Leaving, Entry, entry_of, answer as answer_at_once, Viewed, Made, outcome, leave, store, unmade, Upper, Move, moved, hand, handing, newcomer, take_on, row_begins, Moves, Goes, Rests, Takes_on, Hands_on, Server_moves, Delivers, Replies, Answers, IsRun, Ends, begun}
+use Rattle.headline_whole.specs.machine.Client.{Waiting, Leaving, Entry, entry_of, answer as answer_at_once, Viewed, outcome, leave, store, unmade, Upper, Move, moved, hand, handing, newcomer, take_on, row_begins, Moves, Goes, Rests, Takes_on, Hands_on, Server_moves, Delivers, Replies, Answers, IsRun, Ends, begun}
 use Rattle.headline_whole.specs.examples.Messages.{plain_request, as_datagram, as_frame, frame, cut_answer, answer}
 use Rattle.headline_whole.specs.examples.Rows.{at, by_datagrams, first_settings}
 use Rattle.client_request.specs.declared.event.What.TheVariants.{Ask, Opened, Datagram, Wrote, Bytes}
@@ -125,8 +123,8 @@ module _ (compose : Request → Result Octets Error) (o : Octets) (r : Request) 
       (Goes y1 _ _ (Hands_on 0 0 (newcomer r 0) _ (below 0 1 refl) refl refl (served.IsHanded ByDatagrams (Puts (Start 0 0 Dgram)) (with_dgrams d1 (server_in y1)) refl (server.ToDgrams refl refl)))
       (Goes y2 _ _ (Server_moves 0 _ (below 0 1 refl) (served.ByDgram (Puts (OpenDgram 0 0)) d2 _ (dgrams.Opens 0 queued refl refl (below 0 100 refl)) (AsItIs (only (λ k (a : Tryer). StageSettled a.stage) 0 trying d2.held refl others2 (trying_settled 0)))))
       (Rests x1 (done_with compose x1 0 waiting refl refl refl
-          (record { rests = rests_by 0 (server_in x1) (only (λ k (a : Tryer). StageRests 0 1 a.stage) 0 trying d2.held refl others2 tt) (nobody _ nowhere (λ j. refl)) (nobody _ nowhere (λ j. refl)); frames = refl; ignored = tt; foreign = ask_foreign r (server_in x1).by_stream })
-          refl others_held refl (λ j ne. not_held (x1.ups 0) j (others2 j ne) refl) (below 0 5000000 refl)))))
+      (record { rests = rests_by 0 (server_in x1) (only (λ k (a : Tryer). StageRests 0 1 a.stage) 0 trying d2.held refl others2 tt) (nobody _ nowhere (λ j. refl)) (nobody _ nowhere (λ j. refl)); frames = refl; ignored = tt; foreign = ask_foreign r (server_in x1).by_stream })
+      refl others_held refl (λ j ne. not_held (x1.ups 0) j (others2 j ne) refl) (below 0 5000000 refl)))))
 
   -- A cut answer goes on by stream.
   module _ (o1 m1 m0 w b m2 : Octets) (carries : Carries o1 r 4660) (long : 12 ≤ length (take 2000 m1)) (answers1 : answers r 4660 (take 2000 m1) ≡ true) (cut : truncated (take 2000 m1) ≡ true) (in_frame : CarriesInFrame w r 0) (some : 0 < length w) (few : length w ≤ 46) (frames : (fed Length b).frames ≡ m2 ∷ []) (good : is_bad m2 ≡ false) (id0 : id_in m2 ≡ 0) (answers2 : answers r 0 m2 ≡ true)
@@ -151,10 +149,10 @@ module _ (compose : Request → Result Octets Error) (o : Octets) (r : Request) 
     unfolding read_timeout
     row2 =
         Goes z2 _ _ (Server_moves 0 _ (below 0 1 refl) (served.TellsDgrams (Puts (Send 0 0 4660 o1)) d3 _ refl (in_time_by 10 (server_in z2) (only (λ k (a : Tryer). StageInTime 10 a.stage) 0 trying d2.held refl others2 tt) (nobody _ nowhere (λ j. refl)))
-            (dgrams.IsSent 0 trying 0 4660 o1 refl refl refl carries) (opens_nothing 0 (server_in z2).by_stream refl) (AsItIs (only (λ k (a : Tryer). StageSettled a.stage) 0 sent d3.held refl others3 (sent_settled 0 4660 10)))))
+        (dgrams.IsSent 0 trying 0 4660 o1 refl refl refl carries) (opens_nothing 0 (server_in z2).by_stream refl) (AsItIs (only (λ k (a : Tryer). StageSettled a.stage) 0 sent d3.held refl others3 (sent_settled 0 4660 10)))))
         (Rests x2 (done_with compose x2 0 waiting refl refl refl
-            (record { rests = rests_by 10 (server_in x2) (only (λ k (a : Tryer). StageRests 10 1 a.stage) 0 sent d3.held refl others3 (below 10 5000010 refl)) (nobody _ nowhere (λ j. refl)) (nobody _ nowhere (λ j. refl)); frames = refl; ignored = tt; foreign = tick_foreign (server_in x2).by_stream })
-            refl others_held refl (λ j ne. not_held (x2.ups 0) j (others3 j ne) refl) (below 10 5000000 refl)))
+        (record { rests = rests_by 10 (server_in x2) (only (λ k (a : Tryer). StageRests 10 1 a.stage) 0 sent d3.held refl others3 (below 10 5000010 refl)) (nobody _ nowhere (λ j. refl)) (nobody _ nowhere (λ j. refl)); frames = refl; ignored = tt; foreign = tick_foreign (server_in x2).by_stream })
+        refl others_held refl (λ j ne. not_held (x2.ups 0) j (others3 j ne) refl) (below 10 5000000 refl)))
 
     -- the cut answer comes
     abbrev ended : Tryer
@@ -200,11 +198,11 @@ module _ (compose : Request → Result Octets Error) (o : Octets) (r : Request) 
     unfolding read_timeout stream_timeout
     row3 =
         Goes z3 _ _ (Server_moves 0 act3 (below 0 1 refl) (served.TellsDgrams (Puts (Close 0)) d4 act3 refl (in_time_by 20000 (server_in z3) (only (λ k (a : Tryer). StageInTime 20000 a.stage) 0 sent d3.held refl others3 (below 20000 5000010 refl)) (nobody _ nowhere (λ j. refl)))
-            (dgrams.IsAnswered 0 sent 0 4660 10 m1 refl refl refl long answers1) (datagram_foreign 0 m1 (server_in z3).by_stream) (ByStreamNow 0 ended (Close 0) refl refl is_cut)))
+        (dgrams.IsAnswered 0 sent 0 4660 10 m1 refl refl refl long answers1) (datagram_foreign 0 m1 (server_in z3).by_stream) (ByStreamNow 0 ended (Close 0) refl refl is_cut)))
         (Goes y3 _ _ (Server_moves 0 _ (below 0 1 refl) (served.ByStream (Puts (OpenStream 1 0)) s2 (multi.Opens 0 free refl refl refl (nobody _ s1.conns (λ j. refl)))))
         (Rests x3 (done_with compose x3 0 waiting refl refl refl
-            (record { rests = rests_by 20000 (server_in x3) (nobody _ (dgrams.forget 0 d4).held none4) (only (λ k (a : Asker). PhaseRests 20000 s2.conns a.phase × (20000 < a.since + stream_timeout)) 0 (multi.moved free multi.Expecting) s2.asks refl asks3 (tt, below 20000 30020000 refl)) (nobody _ s2.conns (λ j. refl)); frames = refl; ignored = tt; foreign = tick_foreign s2 })
-            refl others_held refl (λ j ne. not_held (x3.ups 0) j (none4 j) (asks3 j ne)) (below 20000 5000000 refl))))
+        (record { rests = rests_by 20000 (server_in x3) (nobody _ (dgrams.forget 0 d4).held none4) (only (λ k (a : Asker). PhaseRests 20000 s2.conns a.phase × (20000 < a.since + stream_timeout)) 0 (multi.moved free multi.Expecting) s2.asks refl asks3 (tt, below 20000 30020000 refl)) (nobody _ s2.conns (λ j. refl)); frames = refl; ignored = tt; foreign = tick_foreign s2 })
+        refl others_held refl (λ j ne. not_held (x3.ups 0) j (none4 j) (asks3 j ne)) (below 20000 5000000 refl))))
 
     -- a datagram for the closed place is nobody's
     abbrev x4 : Upper Served
@@ -260,8 +258,8 @@ module _ (compose : Request → Result Octets Error) (o : Octets) (r : Request) 
         (Goes y5 _ _ (Server_moves 0 _ (below 0 1 refl) (served.ByStream Nothing s4 (multi.Joins 0 free 1 multi.new_conn refl refl refl)))
         (Goes v5 _ _ (Server_moves 0 _ (below 0 1 refl) (served.ByStream (Puts (Write 1 0 0 w)) s5 (multi.Writes 0 lined 1 multi.new_conn 0 w refl refl refl refl refl refl in_frame some)))
         (Rests x5 (done_with compose x5 0 waiting refl refl refl
-            (record { rests = rests_by 20002 (server_in x5) (nobody _ (dgrams.forget 0 d4).held none4) (only (λ k (a : Asker). PhaseRests 20002 s5.conns a.phase × (20002 < a.since + stream_timeout)) 0 holding s5.asks refl asks5 (tt, below 20002 30020000 refl)) (only (λ p (x : Conn). ModeRests 20002 x.idle x.mode) 1 c5 s5.conns refl conns5 (at_most 20002 19020002 refl)); frames = refl; ignored = tt; foreign = tick_foreign s5 })
-            refl others_held refl (λ j ne. not_held (x5.ups 0) j (none4 j) (asks5 j ne)) (below 20002 5000000 refl)))))
+        (record { rests = rests_by 20002 (server_in x5) (nobody _ (dgrams.forget 0 d4).held none4) (only (λ k (a : Asker). PhaseRests 20002 s5.conns a.phase × (20002 < a.since + stream_timeout)) 0 holding s5.asks refl asks5 (tt, below 20002 30020000 refl)) (only (λ p (x : Conn). ModeRests 20002 x.idle x.mode) 1 c5 s5.conns refl conns5 (at_most 20002 19020002 refl)); frames = refl; ignored = tt; foreign = tick_foreign s5 })
+        refl others_held refl (λ j ne. not_held (x5.ups 0) j (none4 j) (asks5 j ne)) (below 20002 5000000 refl)))))
 
     -- all is written
     abbrev z6 : Upper Served
@@ -287,8 +285,8 @@ module _ (compose : Request → Result Octets Error) (o : Octets) (r : Request) 
     row6 =
         Goes z6 _ _ (Server_moves 0 _ (below 0 1 refl) (served.TellsStreams Nothing s6 refl (wrote_plain 1 46) (multi.AllWritten 1 46 c5' refl some few) tt))
         (Rests x6 (done_with compose x6 0 waiting refl refl refl
-            (record { rests = rests_by 20003 (server_in x6) (nobody _ (dgrams.forget 0 d4).held none4) (only (λ k (a : Asker). PhaseRests 20003 s6.conns a.phase × (20003 < a.since + stream_timeout)) 0 holding s6.asks refl asks5 (tt, below 20003 30020000 refl)) (only (λ p (x : Conn). ModeRests 20003 x.idle x.mode) 1 c6 s6.conns refl conns6 (at_most 20003 19020002 refl)); frames = refl; ignored = tt; foreign = tick_foreign s6 })
-            refl others_held refl (λ j ne. not_held (x6.ups 0) j (none4 j) (asks5 j ne)) (below 20003 5000000 refl)))
+        (record { rests = rests_by 20003 (server_in x6) (nobody _ (dgrams.forget 0 d4).held none4) (only (λ k (a : Asker). PhaseRests 20003 s6.conns a.phase × (20003 < a.since + stream_timeout)) 0 holding s6.asks refl asks5 (tt, below 20003 30020000 refl)) (only (λ p (x : Conn). ModeRests 20003 x.idle x.mode) 1 c6 s6.conns refl conns6 (at_most 20003 19020002 refl)); frames = refl; ignored = tt; foreign = tick_foreign s6 })
+        refl others_held refl (λ j ne. not_held (x6.ups 0) j (none4 j) (asks5 j ne)) (below 20003 5000000 refl)))
 
     -- the answer comes
     abbrev z7 : Upper Served
@@ -360,8 +358,8 @@ module _ (compose : Request → Result Octets Error) (o : Octets) (r : Request) 
         (Goes v7 _ _ delivers
         (Goes u7 _ _ (Replies [] [] leaving refl)
         (Rests x7 (done_with_none compose x7 refl refl refl
-            (record { rests = rests_by 20004 (server_in x7) (nobody _ (dgrams.forget 0 d4).held none4) (nobody _ s8.asks asks8) (only (λ p (x : Conn). ModeRests 20004 x.idle x.mode) 1 c8 s8.conns refl conns8 stays); frames = refl; ignored = tt; foreign = tick_foreign s8 })
-            (gone_held 0 _ others_held) (λ j. not_held (x7.ups 0) j (none4 j) (asks8 j)))))))
+        (record { rests = rests_by 20004 (server_in x7) (nobody _ (dgrams.forget 0 d4).held none4) (nobody _ s8.asks asks8) (only (λ p (x : Conn). ModeRests 20004 x.idle x.mode) 1 c8 s8.conns refl conns8 stays); frames = refl; ignored = tt; foreign = tick_foreign s8 })
+        (gone_held 0 _ others_held) (λ j. not_held (x7.ups 0) j (none4 j) (asks8 j)))))))
 
     pub cut_run : IsRun by_datagrams first_settings compose P x0
         (at 0 (Ask r) (Start 0 0 Dgram ∷ OpenDgram 0 0 ∷ [])
@@ -397,10 +395,10 @@ module _ (compose : Request → Result Octets Error) (o : Octets) (r : Request) 
     unfolding read_timeout
     sends =
         Goes t2 _ _ (Server_moves 0 _ (below 0 1 refl) (served.TellsDgrams (Puts (Send 0 0 4660 o1)) e3 _ refl (in_time_by 0 (server_in t2) (only (λ k (a : Tryer). StageInTime 0 a.stage) 0 trying d2.held refl others2 tt) (nobody _ nowhere (λ j. refl)))
-            (dgrams.IsSent 0 trying 0 4660 o1 refl refl refl carries) (opens_nothing 0 (server_in t2).by_stream refl) (AsItIs (only (λ k (a : Tryer). StageSettled a.stage) 0 sent0 e3.held refl away3 (sent_settled 0 4660 0)))))
+        (dgrams.IsSent 0 trying 0 4660 o1 refl refl refl carries) (opens_nothing 0 (server_in t2).by_stream refl) (AsItIs (only (λ k (a : Tryer). StageSettled a.stage) 0 sent0 e3.held refl away3 (sent_settled 0 4660 0)))))
         (Rests w2 (done_with compose w2 0 waiting refl refl refl
-            (record { rests = rests_by 0 (server_in w2) (only (λ k (a : Tryer). StageRests 0 1 a.stage) 0 sent0 e3.held refl away3 (below 0 5000000 refl)) (nobody _ nowhere (λ j. refl)) (nobody _ nowhere (λ j. refl)); frames = refl; ignored = tt; foreign = tick_foreign (server_in w2).by_stream })
-            refl others_held refl (λ j ne. not_held (w2.ups 0) j (away3 j ne) refl) (below 0 5000000 refl)))
+        (record { rests = rests_by 0 (server_in w2) (only (λ k (a : Tryer). StageRests 0 1 a.stage) 0 sent0 e3.held refl away3 (below 0 5000000 refl)) (nobody _ nowhere (λ j. refl)) (nobody _ nowhere (λ j. refl)); frames = refl; ignored = tt; foreign = tick_foreign (server_in w2).by_stream })
+        refl others_held refl (λ j ne. not_held (w2.ups 0) j (away3 j ne) refl) (below 0 5000000 refl)))
 
     -- the answer comes
     abbrev ended0 : Tryer
@@ -443,12 +441,12 @@ module _ (compose : Request → Result Octets Error) (o : Octets) (r : Request) 
     unfolding read_timeout
     replies =
         Goes t3 _ _ (Server_moves 0 act (below 0 1 refl) (served.TellsDgrams (Puts (Close 0)) e4 act refl (in_time_by 0 (server_in t3) (only (λ k (a : Tryer). StageInTime 0 a.stage) 0 sent0 e3.held refl away3 (below 0 5000000 refl)) (nobody _ nowhere (λ j. refl)))
-            (dgrams.IsAnswered 0 sent0 0 4660 0 m refl refl refl long answers1) (datagram_foreign 0 m (server_in t3).by_stream) (WithResult 0 ended0 (Ok (take 2000 m)) refl is_ended)))
+        (dgrams.IsAnswered 0 sent0 0 4660 0 m refl refl refl long answers1) (datagram_foreign 0 m (server_in t3).by_stream) (WithResult 0 ended0 (Ok (take 2000 m)) refl is_ended)))
         (Goes a3 _ _ gives
         (Goes b3 _ _ (Replies [] [] first refl)
         (Rests w3 (done_with_none compose w3 refl refl refl
-            (record { rests = rests_by 0 (server_in w3) (nobody _ (dgrams.forget 0 e4).held none_there) (nobody _ nowhere (λ j. refl)) (nobody _ nowhere (λ j. refl)); frames = refl; ignored = tt; foreign = tick_foreign (server_in w3).by_stream })
-            none_tried (λ j. not_held (w3.ups 0) j (none_there j) refl)))))
+        (record { rests = rests_by 0 (server_in w3) (nobody _ (dgrams.forget 0 e4).held none_there) (nobody _ nowhere (λ j. refl)) (nobody _ nowhere (λ j. refl)); frames = refl; ignored = tt; foreign = tick_foreign (server_in w3).by_stream })
+        none_tried (λ j. not_held (w3.ups 0) j (none_there j) refl)))))
 
     -- it is asked again
     abbrev stored : Entry
@@ -471,8 +469,8 @@ module _ (compose : Request → Result Octets Error) (o : Octets) (r : Request) 
         Goes t4 _ _ (Answers r (viewed 1 v30) refl (Viewed stored (take 2000 m) v30 x 30000000 (o, composed) (inl refl) refl covers refl valid30 says30))
         (Goes b4 _ _ (Replies [] [] (viewed 1 v30) refl)
         (Rests w4 (done_with_none compose w4 refl refl refl
-            (record { rests = rests_by 30000000 (server_in w4) (nobody _ (dgrams.forget 0 e4).held none_there) (nobody _ nowhere (λ j. refl)) (nobody _ (server_in w4).by_stream.conns (λ j. refl)); frames = refl; ignored = tt; foreign = ask_foreign r (server_in w4).by_stream })
-            none_tried (λ j. not_held (w4.ups 0) j (none_there j) refl))))
+        (record { rests = rests_by 30000000 (server_in w4) (nobody _ (dgrams.forget 0 e4).held none_there) (nobody _ nowhere (λ j. refl)) (nobody _ (server_in w4).by_stream.conns (λ j. refl)); frames = refl; ignored = tt; foreign = ask_foreign r (server_in w4).by_stream })
+        none_tried (λ j. not_held (w4.ups 0) j (none_there j) refl))))
 
     -- and once more
     abbrev t5 : Upper Served
@@ -489,8 +487,8 @@ module _ (compose : Request → Result Octets Error) (o : Octets) (r : Request) 
         Goes t5 _ _ (Answers r (viewed 2 v100) refl (Viewed stored (take 2000 m) v100 x 100000000 (o, composed) (inl refl) refl covers refl valid100 says100))
         (Goes b5 _ _ (Replies [] [] (viewed 2 v100) refl)
         (Rests w5 (done_with_none compose w5 refl refl refl
-            (record { rests = rests_by 100000000 (server_in w5) (nobody _ (dgrams.forget 0 e4).held none_there) (nobody _ nowhere (λ j. refl)) (nobody _ (server_in w5).by_stream.conns (λ j. refl)); frames = refl; ignored = tt; foreign = ask_foreign r (server_in w5).by_stream })
-            none_tried (λ j. not_held (w5.ups 0) j (none_there j) refl))))
+        (record { rests = rests_by 100000000 (server_in w5) (nobody _ (dgrams.forget 0 e4).held none_there) (nobody _ nowhere (λ j. refl)) (nobody _ (server_in w5).by_stream.conns (λ j. refl)); frames = refl; ignored = tt; foreign = ask_foreign r (server_in w5).by_stream })
+        none_tried (λ j. not_held (w5.ups 0) j (none_there j) refl))))
 
     -- too late: it is tried anew
     abbrev t6 : Upper Served
@@ -526,8 +524,8 @@ module _ (compose : Request → Result Octets Error) (o : Octets) (r : Request) 
         (Goes a6 _ _ (Hands_on 0 3 newest _ (below 0 1 refl) refl refl (served.IsHanded ByDatagrams (Puts (Start 3 0 Dgram)) (with_dgrams e5 (server_in a6)) refl (server.ToDgrams refl refl)))
         (Goes b6 _ _ (Server_moves 0 _ (below 0 1 refl) (served.ByDgram (Puts (OpenDgram 1 0)) e6 _ (dgrams.Opens 3 queued refl refl (below 0 100 refl)) (AsItIs (only (λ k (a : Tryer). StageSettled a.stage) 3 (dgrams.staged queued (dgrams.Trying 1)) e6.held refl away6 (trying_settled 1)))))
         (Rests w6 (done_with compose w6 3 (handing 0 newest) refl refl refl
-            (record { rests = rests_by 101000000 (server_in w6) (only (λ k (a : Tryer). StageRests 101000000 1 a.stage) 3 (dgrams.staged queued (dgrams.Trying 1)) e6.held refl away6 tt) (nobody _ nowhere (λ j. refl)) (nobody _ (server_in w6).by_stream.conns (λ j. refl)); frames = refl; ignored = tt; foreign = ask_foreign r (server_in w6).by_stream })
-            refl away_tried refl (λ j ne. not_held (w6.ups 0) j (away6 j ne) refl) (below 101000000 106000000 refl)))))
+        (record { rests = rests_by 101000000 (server_in w6) (only (λ k (a : Tryer). StageRests 101000000 1 a.stage) 3 (dgrams.staged queued (dgrams.Trying 1)) e6.held refl away6 tt) (nobody _ nowhere (λ j. refl)) (nobody _ (server_in w6).by_stream.conns (λ j. refl)); frames = refl; ignored = tt; foreign = ask_foreign r (server_in w6).by_stream })
+        refl away_tried refl (λ j ne. not_held (w6.ups 0) j (away6 j ne) refl) (below 101000000 106000000 refl)))))
 
     pub view_run : IsRun by_datagrams first_settings compose P x0
         (at 0 (Ask r) (Start 0 0 Dgram ∷ OpenDgram 0 0 ∷ [])

@@ -1,5 +1,5 @@
 -- Traces with the cache, and with two servers, that are not right.
-use Rattle.std.proofs.Common.{◌≡◌, ℕ, zero, suc, ◌+◌, ◌<◌, ◌≤◌, true, false, ◌⊎◌, inl, inr, Option, Some, None, List, [], ◌∷◌, length, refl, arith, sym, ap, subst, subst₂, ◌∙◌}
+use Rattle.std.proofs.Common.{◌≡◌, ℕ, ◌+◌, ◌≤◌, true, false, inl, inr, Option, Some, None, List, [], ◌∷◌, refl, arith, sym, ap, subst, subst₂, ◌∙◌}
 use Rattle.std.specs.Prelude.{min, option_map, Ok, Err}
 use Rattle.dns_names.specs.Name.{name_at, walk, head_at}
 use Rattle.dns_base.specs.Data.{Data, data_at, data_spelling}
@@ -11,25 +11,23 @@ use Rattle.client_request.specs.declared.error.Error.{Error}
 use Rattle.client_request.specs.declared.error.Error.TheVariants as errors
 use Rattle.client_request.specs.declared.error.QueryError.TheVariants as query
 use Rattle.client_request.specs.declared.fault.Fault.TheVariants.{Refused}
-use Rattle.client_request.specs.declared.event.What.{What}
 use Rattle.client_request.specs.declared.event.What.TheVariants.{Ask, OpenFailed, SendFailed, ShortSend, RecvFailed, Datagram}
 use Rattle.client_request.specs.declared.event.Out.TheVariants.{Close, Reply}
 use Rattle.headline_whole.specs.Trace.{History, Conf, Item, Came, Put}
-use Rattle.headline_whole.specs.Time.{now, newest, row_before, Ever, EarlierRow, OfRow}
+use Rattle.headline_whole.specs.Time.{now, newest, row_before, Ever}
 use Rattle.headline_whole.specs.Messages.{Octets, base_is_read}
-use Rattle.headline_whole.specs.Requests.{Asking, asking, handed}
+use Rattle.headline_whole.specs.Requests.{asking}
 use Rattle.headline_whole.specs.Settings.{Settings}
 use Rattle.headline_whole.specs.Keys.{Covers, key_of, question_of}
 use Rattle.headline_whole.specs.Parts.{Item as Entry, Parts, Says, known_parts, lowered_parts}
 use Rattle.headline_whole.specs.Validity.{second}
 use Rattle.headline_whole.specs.Views.{view_of, view_validity}
-use Rattle.headline_whole.specs.Coming.{CameFor}
 use Rattle.headline_whole.specs.Replies.{InThisRow, Deferred, OkIsRight, Fresh, View, IsView, IsFreshReply}
 use Rattle.headline_whole.specs.Causes.{ServerCause, NotOpened, NotSent, SentShort, NotReceived, NoAnswer, WrongReply, StreamSilence, NotRead, NotComposed}
 use Rattle.headline_whole.specs.Errors.{DirectCause, Deadline, NoServer, ByServer, NoValidity, ViewNotKnown, Here, Earlier, IsErrorReply, HasCause, Own, Kept}
 use Rattle.headline_whole.specs.Right.{Right}
 use Rattle.headline_whole.specs.examples.Messages.{plain_request, ad_request, answer, failing}
-use Rattle.headline_whole.specs.examples.Rows.{so_far, by_datagrams, two_servers, first_settings, deferring}
+use Rattle.headline_whole.specs.examples.Rows.{so_far, two_servers, first_settings, deferring}
 use Rattle.headline_whole.specs.examples.Cache.{asked_again, refused_twice}
 use Rattle.headline_whole.specs.examples.Servers.{failing_server}
 use Rattle.headline_whole.specs.examples.Wrong.{invented, asked_then, refused_again, refused_thrice, failing_at_once}

@@ -6,7 +6,6 @@ use Rattle.std.proofs.lemmas.Bool.{cases_eq, le-leb}
 use Rattle.client_request.specs.Request.{Request}
 use Rattle.client_request.specs.Carries.{Carries}
 use Rattle.client_request.specs.declared.error.Error.{Error}
-use Rattle.client_request.specs.declared.error.Error.TheVariants as errors
 use Rattle.client_request.specs.declared.error.Error.TheVariants.{TimedOut}
 use Rattle.client_request.specs.declared.event.What.{What}
 use Rattle.client_request.specs.declared.event.What.TheVariants.{Ask, Opened, Datagram, Tick}
@@ -14,20 +13,20 @@ use Rattle.client_request.specs.declared.event.Out.TheVariants.{Start, OpenDgram
 use Rattle.client_request.specs.declared.event.Via.{Via}
 use Rattle.client_request.specs.declared.event.Via.TheVariants.{Dgram, Stream}
 use Rattle.headline_whole.specs.Trace.{History, Conf, Came, Put}
-use Rattle.headline_whole.specs.Time.{read_timeout, one_if, count_below, Ever, EarlierRow, OfRow}
+use Rattle.headline_whole.specs.Time.{read_timeout, one_if, EarlierRow, OfRow}
 use Rattle.headline_whole.specs.Messages.{Octets, answers, truncated, is_valid}
 use Rattle.headline_whole.specs.Requests.{Asking, replied}
-use Rattle.headline_whole.specs.Places.{Stand, site, stand, Alive, Opening, is_at, is_live}
+use Rattle.headline_whole.specs.Places.{Stand, site, stand, Alive, Opening, is_at}
 use Rattle.headline_whole.specs.Frames.{came}
-use Rattle.headline_whole.specs.Exchanges.{unanswered, IsAmong, IsOpen, Comes, Matches}
+use Rattle.headline_whole.specs.Exchanges.{unanswered, IsAmong, IsOpen, Matches}
 use Rattle.headline_whole.specs.Settings.{Settings}
 use Rattle.headline_whole.specs.Validity.{is_final}
 use Rattle.headline_whole.specs.Coming.{CameFor, IsExcused}
-use Rattle.headline_whole.specs.Replies.{IsFresh, InThisRow, Deferred, OkIsRight, Fresh, View}
+use Rattle.headline_whole.specs.Replies.{InThisRow, Deferred, OkIsRight, Fresh, View}
 use Rattle.headline_whole.specs.Causes.{sends, ServerCause, NotOpened, NotSent, SentShort, NotReceived, NoAnswer, WrongReply, StreamSilence, NotRead, NotComposed}
-use Rattle.headline_whole.specs.Errors.{DirectCause, Deadline, NoServer, ByServer, NoValidity, ViewNotKnown, Here, Earlier, HasCause, Own, Kept}
+use Rattle.headline_whole.specs.Errors.{Deadline, NoServer, ByServer, NoValidity, ViewNotKnown, Here, Earlier, HasCause, Own, Kept}
 use Rattle.headline_whole.specs.Orderly.{Sending, MayCloseDgram, ItsFault, ItsAnswer, ItsTimeout, ItsReply, ReplyBeforeItsSend, InvalidBeforeItsSend, MayClose, OfDgram, OfStream}
-use Rattle.headline_whole.specs.Busy.{IsBusy, BreaksOff, OpeningFailed, OpeningFailedAtOnce, IdsAreUsed, ConnectionEnded, HappenedWithin, Exchanging, PlaceIsOpening, PlacesAreTaken, StreamIsOpening, StreamIsWriting, BackingOff}
+use Rattle.headline_whole.specs.Busy.{IsBusy, Exchanging, PlaceIsOpening, PlacesAreTaken, StreamIsOpening, StreamIsWriting, BackingOff}
 use Rattle.headline_whole.specs.Right.{Right, OutRight, IsOverdue, PastDeadline, PastTries, PastStream}
 use Rattle.headline_whole.specs.Timely.{Timely}
 use Rattle.headline_whole.specs.examples.Wrong.{replied_twice, nothing_sent, taken, taken_when_closed, timed_out_early, passed_over, still_waiting, closed_for_nothing, sent_too_soon, sent_nowhere, sent_at_once}

@@ -1,5 +1,5 @@
 -- Traces by stream that are not right.
-use Rattle.std.proofs.Common.{◌≡◌, ◌≢◌, ℕ, zero, suc, ◌+◌, ◌<◌, ◌≤◌, Bool, true, false, ◌&&◌, ◌⊎◌, inl, inr, Option, Some, None, List, [], ◌∷◌, ◌++◌, length, refl, arith, sym, ap, subst, subst₂, ◌∙◌, ◌==◌}
+use Rattle.std.proofs.Common.{◌≡◌, ◌≢◌, ℕ, zero, suc, ◌+◌, ◌<◌, ◌≤◌, Bool, true, false, ◌&&◌, inl, inr, Option, Some, None, List, [], ◌∷◌, ◌++◌, length, refl, arith, sym, ap, subst, subst₂, ◌∙◌, ◌==◌}
 use Rattle.std.specs.Prelude.{if◌then◌else◌, nat_lt}
 use Rattle.std.proofs.lemmas.Bool.Decides.{nat_tests}
 use Rattle.std.proofs.lemmas.Bool.{cases_eq, eqb-true}
@@ -9,26 +9,24 @@ use Rattle.client_request.specs.declared.error.Error.TheVariants.{WrongReplyForQ
 use Rattle.client_request.specs.declared.event.What.{What}
 use Rattle.client_request.specs.declared.fault.Fault.{Fault}
 use Rattle.client_request.specs.declared.event.What.TheVariants.{Ask, Opened, OpenFailed, Bytes, Tick}
-use Rattle.client_request.specs.declared.event.Out.{Out}
 use Rattle.client_request.specs.declared.event.Out.TheVariants.{Start, OpenStream, Write, Close}
 use Rattle.client_request.specs.declared.event.Via.{Via}
 use Rattle.client_request.specs.declared.event.Via.TheVariants.{Dgram, Stream}
 use Rattle.headline_whole.specs.Trace.{History, Conf, Came, Put}
-use Rattle.headline_whole.specs.Time.{now, newest, stream_timeout, response_timeout, id_count, all_ids, back_off, count_below, one_if, Ever, EarlierRow, OfRow}
+use Rattle.headline_whole.specs.Time.{now, newest, stream_timeout, response_timeout, id_count, all_ids, count_below, one_if, EarlierRow, OfRow}
 use Rattle.headline_whole.specs.Messages.{Octets, CarriesInFrame, answers, id_in, is_valid}
 use Rattle.headline_whole.specs.Requests.{Asking, start}
-use Rattle.headline_whole.specs.Places.{site, stand, Opening}
 use Rattle.headline_whole.specs.Frames.{Length, fed, is_bad, first_with, came}
 use Rattle.headline_whole.specs.Writes.{Written, is_any, waiting_with, held_with}
-use Rattle.headline_whole.specs.Exchanges.{octets_for, is_before, IsAmong, IsOpen, Comes, Matches}
+use Rattle.headline_whole.specs.Exchanges.{octets_for, is_before, IsAmong, IsOpen, Matches}
 use Rattle.headline_whole.specs.Settings.{Settings}
 use Rattle.headline_whole.specs.Validity.{is_final}
 use Rattle.headline_whole.specs.Coming.{CameFor, IsExcused}
 use Rattle.headline_whole.specs.Replies.{InThisRow, Deferred, OkIsRight, Fresh, View}
-use Rattle.headline_whole.specs.Causes.{sends, ServerCause, NotOpened, NotSent, SentShort, NotReceived, NoAnswer, WrongReply, StreamSilence, NotRead, NotComposed}
-use Rattle.headline_whole.specs.Errors.{DirectCause, Deadline, NoServer, ByServer, NoValidity, ViewNotKnown, Here, Earlier, HasCause, Own, Kept}
+use Rattle.headline_whole.specs.Causes.{ServerCause, NotOpened, NotSent, SentShort, NotReceived, NoAnswer, WrongReply, StreamSilence, NotRead, NotComposed}
+use Rattle.headline_whole.specs.Errors.{Deadline, NoServer, ByServer, NoValidity, ViewNotKnown, Here, Earlier, HasCause, Own, Kept}
 use Rattle.headline_whole.specs.Orderly.{MayCloseStream, StreamFault, BadFrame, ReadTimer, IdleTimer, MayClose, OfDgram, OfStream}
-use Rattle.headline_whole.specs.Busy.{IsBusy, BreaksOff, OpeningFailed, OpeningFailedAtOnce, IdsAreUsed, ConnectionEnded, HappenedWithin, Exchanging, PlaceIsOpening, PlacesAreTaken, StreamIsOpening, StreamIsWriting, BackingOff}
+use Rattle.headline_whole.specs.Busy.{IsBusy, BreaksOff, OpeningFailed, OpeningFailedAtOnce, IdsAreUsed, ConnectionEnded, Exchanging, PlaceIsOpening, PlacesAreTaken, StreamIsOpening, StreamIsWriting, BackingOff}
 use Rattle.headline_whole.specs.Right.{Right, IsOverdue, PastDeadline, PastTries, PastStream}
 use Rattle.headline_whole.specs.examples.Wrong.{frame_taken, taken_unwritten, frame_passed_over, nothing_written, stream_closed_for_nothing, wrong_without_frame, second_while_opening, second_while_open}
 use Rattle.headline_whole.proofs.client.Promptness.{none_first}

@@ -1,5 +1,5 @@
 -- Worked traces with the cache: views at several ages, requests that differ in their flags, and a kept error.
-use Rattle.std.specs.Prelude.{◌≡◌, ℕ, true, false, Some, None, List, [], ◌∷◌, Ok, Err, option_map}
+use Rattle.std.specs.Prelude.{◌≡◌, true, false, Some, List, [], ◌∷◌, Ok, Err, option_map}
 use Rattle.client_request.specs.Carries.{Carries}
 use Rattle.client_request.specs.declared.error.Error.TheVariants as errors
 use Rattle.client_request.specs.declared.error.Error.TheVariants.{NoTransportAvailable}

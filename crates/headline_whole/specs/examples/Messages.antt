@@ -1,5 +1,5 @@
 -- Worked requests and messages: the addresses of example.com are asked.
-use Rattle.std.specs.Prelude.{ℕ, List, [], ◌∷◌, ◌++◌, length, Some, None}
+use Rattle.std.specs.Prelude.{ℕ, [], ◌∷◌, ◌++◌, length, Some, None}
 use Rattle.client_request.specs.Request.{Request}
 use Rattle.headline_whole.specs.Messages.{Octets}
 

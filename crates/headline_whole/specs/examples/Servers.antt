@@ -1,5 +1,5 @@
 -- Worked traces with two servers: the second is tried when the first is slow, and when it fails.
-use Rattle.std.specs.Prelude.{◌≡◌, ℕ, true, false, Some, List, [], ◌∷◌, Ok}
+use Rattle.std.specs.Prelude.{◌≡◌, true, false, List, [], ◌∷◌, Ok}
 use Rattle.client_request.specs.declared.fault.Fault.TheVariants.{Refused}
 use Rattle.client_request.specs.declared.event.What.TheVariants.{Ask, Opened, OpenFailed, Datagram, Tick}
 use Rattle.client_request.specs.declared.event.Out.TheVariants.{Start, OpenDgram, Send, Close, Reply}
@@ -7,7 +7,7 @@ use Rattle.client_request.specs.declared.event.Row.{Row}
 use Rattle.client_request.specs.declared.event.Via.TheVariants.{Dgram}
 use Rattle.headline_whole.specs.Trace.{Put, Came}
 use Rattle.headline_whole.specs.Requests.{handed}
-use Rattle.headline_whole.specs.Places.{site, stand, Alive, live, demand}
+use Rattle.headline_whole.specs.Places.{live, demand}
 use Rattle.headline_whole.specs.Validity.{is_deferred}
 use Rattle.headline_whole.specs.Replies.{OkIsRight}
 use Rattle.headline_whole.specs.Orderly.{MayClose}

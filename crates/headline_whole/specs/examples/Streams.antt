@@ -1,5 +1,5 @@
 -- Worked traces by stream, and what the definitions compute of them.
-use Rattle.std.specs.Prelude.{◌≡◌, ℕ, true, false, Some, List, [], ◌∷◌, ◌++◌, Ok, Err}
+use Rattle.std.specs.Prelude.{◌≡◌, true, false, Some, List, [], ◌∷◌, ◌++◌, Ok, Err}
 use Rattle.client_request.specs.declared.error.Error.TheVariants.{WrongReplyForQuery}
 use Rattle.client_request.specs.declared.fault.Fault.TheVariants.{Refused}
 use Rattle.client_request.specs.declared.event.What.TheVariants.{Ask, Opened, OpenFailed, Datagram, Wrote, Bytes, Tick}

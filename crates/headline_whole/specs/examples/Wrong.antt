@@ -16,7 +16,7 @@ use Rattle.headline_whole.specs.Messages.{Octets, CarriesInFrame, answers, trunc
 use Rattle.headline_whole.specs.Frames.{Length, fed, first_with}
 use Rattle.headline_whole.specs.Settings.{Settings}
 use Rattle.headline_whole.specs.Validity.{is_final}
-use Rattle.headline_whole.specs.examples.Messages.{plain_request, ad_request, as_datagram, answer, failing}
+use Rattle.headline_whole.specs.examples.Messages.{plain_request, as_datagram, failing}
 use Rattle.headline_whole.specs.examples.Rows.{at}
 use Rattle.headline_whole.specs.examples.Cache.{asked_again, refused_twice}
 

@@ -1,13 +1,11 @@
 -- One server's part of a client, whatever transport it is: what it holds, how it may move, and what a move makes.
-use Rattle.std.specs.Prelude.{◌≡◌, ℕ, Bool, ◌⊎◌, List, [], ◌∷◌, Result, Err}
+use Rattle.std.specs.Prelude.{◌≡◌, ℕ, Bool, ◌⊎◌, List, [], ◌∷◌, Result}
 use Rattle.client_request.specs.Request.{Request}
 use Rattle.client_request.specs.declared.error.Error.{Error}
 use Rattle.client_request.specs.declared.event.Event.{Event}
 use Rattle.client_request.specs.declared.event.Out.{Out}
 use Rattle.headline_whole.specs.Trace.{Conf}
 use Rattle.headline_whole.specs.Messages.{Octets}
-use Rattle.client_request.specs.declared.error.Error.TheVariants as errors
-use Rattle.client_request.specs.declared.error.QueryError.TheVariants as query
 
 -- a result that a server gives for a request
 pub record Post : Type 0 where

@@ -1,5 +1,5 @@
 -- One server by datagrams and streams as a part of a client of several: its moves, each with what it puts out and the results that it posts.
-use Rattle.std.specs.Prelude.{◌≡◌, ◌≢◌, ℕ, suc, ◌+◌, ◌<◌, ◌≤◌, max, Bool, true, false, ◌||◌, is_some, Some, List, [], ◌∷◌, take, Result}
+use Rattle.std.specs.Prelude.{◌≡◌, ◌≢◌, ℕ, suc, ◌+◌, ◌<◌, ◌≤◌, max, Bool, true, false, ◌||◌, is_some, Some, List, [], ◌∷◌, Result}
 use Rattle.client_request.specs.Request.{Request}
 use Rattle.client_request.specs.declared.error.Error.{Error}
 use Rattle.client_request.specs.declared.event.Event.{Event}
@@ -17,7 +17,6 @@ use Rattle.headline_whole.specs.machine.Streams.{Puts, Gives, Nothing, Asker, Co
 use Rattle.headline_whole.specs.machine.Dgrams.{Tryer, Dgrams, IsIgnored, forget}
 use Rattle.headline_whole.specs.machine.Server.{Server, no_request}
 use Rattle.headline_whole.specs.machine.Part.{Post, Act, ServerPart}
-use Rattle.client_request.specs.declared.error.Error.TheVariants as errors
 use Rattle.headline_whole.specs.machine.Streams as multi
 use Rattle.headline_whole.specs.machine.Dgrams as dgrams
 use Rattle.headline_whole.specs.machine.Server as server
