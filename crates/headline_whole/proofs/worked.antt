@@ -3,3 +3,4 @@ pub mod Cache
 pub mod Servers
 pub mod Resting
 pub mod Runs
+pub mod Rightness

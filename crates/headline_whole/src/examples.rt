@@ -1,6 +1,9 @@
 //! What the definitions compute on worked traces.
 
 ghost use Rattle.headline_whole.specs.examples.Cache.{asked_again, WorkedCache};
+ghost use Rattle.headline_whole.specs.Right.{Right};
+ghost use Rattle.headline_whole.specs.Timely.{Timely};
+ghost use Rattle.headline_whole.specs.examples.Rows.{by_datagrams, first_settings};
 ghost use Rattle.headline_whole.specs.examples.Runs.{IsARun};
 ghost use Rattle.headline_whole.specs.examples.Servers.{WorkedServers};
 ghost use Rattle.headline_whole.specs.examples.Streams.{cut_goes_on, WorkedStreams};
@@ -21,8 +24,10 @@ pub fn worked_servers()
     ensures { WorkedServers }
 {}
 
-/// The traces of a cut answer and of an answer that is given again are runs of the machine.
+/// The traces of a cut answer and of an answer that is given again are runs of the machine, so they are right.
 pub fn worked_traces_are_runs()
     ensures cut_goes_on { IsARun cut_goes_on }
     ensures asked_again { IsARun asked_again }
+    ensures cut_goes_on_is_right { Right by_datagrams first_settings cut_goes_on × Timely by_datagrams cut_goes_on }
+    ensures asked_again_is_right { Right by_datagrams first_settings asked_again × Timely by_datagrams asked_again }
 {}
