@@ -20,7 +20,7 @@ use Rattle.headline_whole.specs.Right.{fault_of, faults, ServerOutsRight}
 use Rattle.headline_whole.specs.Settings.{Settings, defers_nothing}
 use Rattle.headline_whole.specs.Keys.{is_cacheable}
 use Rattle.headline_whole.specs.machine.Part.{Post, Act}
-use Rattle.headline_whole.specs.machine.Client.{Posted, Leaving, Upper, Made, with_up, tag, moved, hand, store, take_on, leave, outcome, outcome_of, validity_of, Move, Server_moves, Hands_on, Gives_up, Drops, Keeps_back, Delivers, Concludes, Times_out, Replies, Forgets, Derives, Answers, Takes_on, Moves, Rests, Goes}
+use Rattle.headline_whole.specs.machine.Client.{Posted, Leaving, Upper, Made, with_up, tag, moved, hand, store, take_on, leave, outcome, outcome_of, validity_of, IsOutcome, Caches, Passes, Move, Server_moves, Hands_on, Gives_up, Drops, Keeps_back, Delivers, Concludes, Times_out, Replies, Forgets, Derives, Answers, Takes_on, Moves, Rests, Goes}
 use Rattle.headline_whole.proofs.client.Kept.{Kept}
 use Rattle.headline_whole.proofs.client.Later.{site_all}
 use Rattle.headline_whole.proofs.client.Asked.{here_is_ask}
@@ -111,6 +111,10 @@ outcome_fault s k r x = go (is_cacheable r) (validity_of s x)
     go false v = omega arith
     go true (Some n) = omega arith
     go true None = omega arith
+
+is_fault : (s : Settings) (k : ℕ) (r : Request) (x : Result Octets Error) (z : Leaving) → IsOutcome s k r x z → fault_in z.result ≤ fault_in x
+is_fault s k r x _ Caches = outcome_fault s k r x
+is_fault s k r x _ (Passes m is none) = omega arith
 
 same_place : (w : What) (p q : ℕ) → place_of w ≡ Some p → place_of w ≡ Some q → p ≡ q
 same_place w p q a b = (let z : Path (Option ℕ) (Some p) (Some q) = sym a ∙ b in cc)
@@ -243,12 +247,12 @@ module _ (c : Conf) (s : Settings) (compose : Request → Result Octets Error) (
       let b : on_board x.board ≡ on_board (before ++ after) + fault_in y.result = ap on_board is ∙ total_but (λ z. fault_in z.result) before y after in
       fewer n (n + 0) x (record x { board = before ++ after }) h f (omega arith) (omega arith) refl
   move_faults n x h _ kept f (Keeps_back before after y a is held waits) = absurd (waits_not s y.result quiet waits)
-  move_faults n x h _ kept f (Delivers before after y a is held waits) =
+  move_faults n x h _ kept f (Delivers before after y a z is held waits out) =
       let b : on_board x.board ≡ on_board (before ++ after) + fault_in y.result = ap on_board is ∙ total_but (λ z. fault_in z.result) before y after in
-      let o = outcome_fault s y.request a.request y.result in
-      let l = left x.leaving (outcome s y.request a.request y.result) in
-      fewer n (n + 0) x (leave (outcome s y.request a.request y.result) (record x { board = before ++ after })) h f (omega arith) (omega arith) refl
-  move_faults n x h _ kept f (Concludes k a y held tried free none is) = (let g = best_given a.kept_back y is in absurd (waits_not s (g.0).result quiet ((kept.back k a (g.0) held g.1).waits)))
+      let o = is_fault s y.request a.request y.result z out in
+      let l = left x.leaving z in
+      fewer n (n + 0) x (leave z (record x { board = before ++ after })) h f (omega arith) (omega arith) refl
+  move_faults n x h _ kept f (Concludes k a y z held tried free none is out) = (let g = best_given a.kept_back y is in absurd (waits_not s (g.0).result quiet ((kept.back k a (g.0) held g.1).waits)))
   move_faults n x h _ kept f (Times_out k a held late) =
       let l = left x.leaving (record { request = k; asked = a.request; result = Err errors.TimedOut; is_stored = false }) in
       fewer n (n + 0) x (leave (record { request = k; asked = a.request; result = Err errors.TimedOut; is_stored = false }) x) h f (omega arith) (omega arith) refl

@@ -300,8 +300,8 @@ module _ (c : Conf) (s : Settings) (compose : Request → Result Octets Error) (
         replied_now k g = grind (arith, nat_tests)
     move_fits _ (Drops before after y is held) es fs e f = subst (λ z. HitFits (one_if (is_ask x.pending)) z h) (sym e) f
     move_fits _ (Keeps_back before after y a is held waits) es fs e f = subst (λ z. HitFits (one_if (is_ask x.pending)) z h) (sym e) f
-    move_fits _ (Delivers before after y a is held waits) es fs e f = subst (λ z. HitFits (one_if (is_ask x.pending)) z h) (sym e) f
-    move_fits _ (Concludes k a y held tried free none is) es fs e f = subst (λ z. HitFits (one_if (is_ask x.pending)) z h) (sym e) f
+    move_fits _ (Delivers before after y a l is held waits out) es fs e f = subst (λ z. HitFits (one_if (is_ask x.pending)) z h) (sym e) f
+    move_fits _ (Concludes k a y l held tried free none is out) es fs e f = subst (λ z. HitFits (one_if (is_ask x.pending)) z h) (sym e) f
     move_fits _ (Times_out k a held late) es fs e f = subst (λ z. HitFits (one_if (is_ask x.pending)) z h) (sym e) f
     move_fits _ (Replies before after y is) es fs e f = fits_reply before after y is es fs e f
     move_fits _ (Forgets before after z is) es fs e f = subst (λ z. HitFits (one_if (is_ask x.pending)) z h) (sym e) f
@@ -320,8 +320,8 @@ module _ (c : Conf) (s : Settings) (compose : Request → Result Octets Error) (
       still y x _ i (Gives_up j k d lt held holds can) = inl i
       still y x _ i (Drops before after z is held) = inl i
       still y x _ i (Keeps_back before after z a is held waits) = inl i
-      still y x _ i (Delivers before after z a is held waits) = inl (in_left y x.leaving (outcome s z.request a.request z.result ∷ []) i)
-      still y x _ i (Concludes k a z held tried free none is) = inl (in_left y x.leaving (outcome s k a.request z ∷ []) i)
+      still y x _ i (Delivers before after z a l is held waits out) = inl (in_left y x.leaving (l ∷ []) i)
+      still y x _ i (Concludes k a z l held tried free none is out) = inl (in_left y x.leaving (l ∷ []) i)
       still y x _ i (Times_out k a held late) = inl (in_left y x.leaving (record { request = k; asked = a.request; result = Err errors.TimedOut; is_stored = false } ∷ []) i)
       still y x _ i (Replies before after z is) = elim (in_but y z before after (subst (IsIn y) is i)) [ inl same ↦ inr (inl (ap (λ (v : Leaving). Reply v.request v.result) same)) | inr l ↦ inl l ]
       still y x _ i (Forgets before after z is) = inl i
@@ -439,8 +439,8 @@ module _ (c : Conf) (s : Settings) (compose : Request → Result Octets Error) (
         replied_now k g = grind (arith, nat_tests)
     step_hit x h es gs kept _ (Drops before after y held no_one) cached pend is_k is found rep e more rest = rest refl refl (counts_none j k h rep)
     step_hit x h es gs kept _ (Keeps_back before after y a eqn held waits) cached pend is_k is found rep e more rest = rest refl refl (counts_none j k h rep)
-    step_hit x h es gs kept _ (Delivers before after y a eqn held waits) cached pend is_k is found rep e more rest = rest refl refl (counts_none j k h rep)
-    step_hit x h es gs kept _ (Concludes l a y held tried free none eqn) cached pend is_k is found rep e more rest = rest refl refl (counts_none j k h rep)
+    step_hit x h es gs kept _ (Delivers before after y a z eqn held waits out) cached pend is_k is found rep e more rest = rest refl refl (counts_none j k h rep)
+    step_hit x h es gs kept _ (Concludes l a y z held tried free none eqn out) cached pend is_k is found rep e more rest = rest refl refl (counts_none j k h rep)
     step_hit x h es gs kept _ (Times_out l a held late) cached pend is_k is found rep e more rest = rest refl refl (counts_none j k h rep)
     step_hit x h es gs kept _ (Replies before after y eqn) cached pend is_k is found rep e more rest =
         let f = kept.leaves y (subst (IsIn y) (sym eqn) (in_here y before after)) in

@@ -20,7 +20,7 @@ use Rattle.headline_whole.specs.Replies.{IsFresh, InThisRow, Deferred, Supplies,
 use Rattle.headline_whole.specs.Causes.{ServerCause, NotOpened, NotSent, SentShort, NotReceived, NoAnswer, WrongReply, StreamSilence, NotRead, NotComposed}
 use Rattle.headline_whole.specs.Errors.{HereOrEarlier, Here, Earlier, CameWithoutValidity, InTime, Derived, DirectCause, NoServer, ByServer, NoValidity, ViewNotKnown, is_deadline, is_of_server, HasCause, Own, Kept as KeptError}
 use Rattle.headline_whole.specs.Right.{ReplyRight}
-use Rattle.headline_whole.specs.machine.Client.{Given, Waiting, Leaving, Entry, Upper, best, first_message, first_result, or_else, outcome, outcome_of, AtOnce, Refused, Viewed, Unread, Repeated, Nowhere, NoneOf}
+use Rattle.headline_whole.specs.machine.Client.{Given, Waiting, Leaving, Entry, Upper, best, first_message, first_result, or_else, outcome, outcome_of, IsOutcome, Caches, Passes, AtOnce, Refused, Viewed, Unread, Repeated, Nowhere, NoneOf}
 use Rattle.headline_whole.specs.Parts.{IsIn}
 use Rattle.headline_whole.proofs.client.Kept.{needs_all, MayStore, WasReply, IsTold, IsExpected, IsPosted, IsKeptBack, IsPassedOver, Kept}
 use Rattle.headline_whole.proofs.client.Lists.{best_message, best_error, no_message}
@@ -128,6 +128,32 @@ module _ (c : Conf) (s : Settings) (past : History) (w : What) (h : History) (k 
   concluded (Err e) on (Here x) d all b = error_outcome e (ByServer e (Here x.0)) (not_deadline c k past w h e x.0) (λ a q. (all, b)) (is_cacheable r) refl
   concluded (Err e) on (Earlier q x) d all b = error_outcome e (ByServer e (Earlier d (ever_cause c k e h x))) (ever_not_deadline c k e h (ever_cause c k e h x)) (λ a q. (all, b)) (is_cacheable r) refl
 
+  -- a message that has no validity, where no cache looks at it
+  passed : (m : Octets) → IsFresh c s k m past w h → (is_deferred s m ≡ true → AllAreDone c k past w h × CameFirst c k m past w h) → validity_of_message s m ≡ None → OutcomeFits c s past w h k r (record { request = k; asked = r; result = Ok m; is_stored = false })
+  passed m fresh done none = record { request = refl; asked = refl; right = Fresh fresh done; stores = λ e. absurd (cc); unstored = λ e q same ca n p l. absurd (let z : m ≡ q = cc in let v : Path (Option ℕ) None (Some n) = sym none ∙ (ap (validity_of_message s) z ∙ p) in cc) }
+
+  as_it_is : (y : Result Octets Error) (m : Octets) → y ≡ Ok m → OutcomeFits c s past w h k r (record { request = k; asked = r; result = Ok m; is_stored = false }) → OutcomeFits c s past w h k r (record { request = k; asked = r; result = y; is_stored = false })
+  as_it_is y m e o = subst (λ y. OutcomeFits c s past w h k r (record { request = k; asked = r; result = y; is_stored = false })) (sym e) o
+
+  pub delivered_so : (y : Result Octets Error) (z : Leaving) → IsOutcome s k r y z → ((a : Asking) → asking k past ≡ Some a → asking k h ≡ Some a) → PostRight c k y past w h → waits_for_others s y ≡ false → OutcomeFits c s past w h k r z
+  delivered_so y _ Caches on x final = delivered y on x final
+  delivered_so y _ (Passes m is none) on x final =
+      let x' : PostRight c k (Ok m) past w h = subst (λ y. PostRight c k y past w h) is x in
+      let final' : waits_for_others s (Ok m) ≡ false = subst (λ y. waits_for_others s y ≡ false) is final in
+      as_it_is y m is (passed m (InThisRow x') (λ d. absurd (clash (is_deferred s m) d final')) none)
+
+  pub concluded_so : (y : Result Octets Error) (z : Leaving) → IsOutcome s k r y z → ((a : Asking) → asking k past ≡ Some a → asking k h ≡ Some a) → HereOrEarlier true (PostRight c k y) past w h → waits_for_others s y ≡ true → AllAreDone c k past w h → IsBest y → OutcomeFits c s past w h k r z
+  concluded_so y _ Caches on x d all b = concluded y on x d all b
+  concluded_so y _ (Passes m is none) on x d all b =
+      let x' : HereOrEarlier true (PostRight c k (Ok m)) past w h = subst (λ y. HereOrEarlier true (PostRight c k y) past w h) is x in
+      let d' : waits_for_others s (Ok m) ≡ true = subst (λ y. waits_for_others s y ≡ true) is d in
+      let b' : IsBest (Ok m) = subst IsBest is b in
+      as_it_is y m is (passed m (fresh x' d') (λ q. (all, b')) none)
+    where
+      fresh : HereOrEarlier true (PostRight c k (Ok m)) past w h → waits_for_others s (Ok m) ≡ true → IsFresh c s k m past w h
+      fresh (Here x) d = InThisRow x
+      fresh (Earlier q x) d = Deferred d x
+
 -- what an outcome needs all servers for is what was kept back
 pub outcome_needs : (s : Settings) (k : ℕ) (r : Request) (y : Result Octets Error) → needs_all s (outcome s k r y).result ≡ true → waits_for_others s y ≡ true
 outcome_needs s k r (Ok m) e = go (is_cacheable r) (validity_of_message s m) e
@@ -145,6 +171,10 @@ outcome_needs s k r (Err x) e = go (is_cacheable r) e
     go : (b : Bool) → needs_all s (outcome_of b (Some s.transport_failure_duration) k r (Err x)).result ≡ true → s.defers_errors ≡ true
     go false e = right (is_of_server x) s.defers_errors e
     go true e = right (is_of_server x) s.defers_errors e
+
+pub outcome_needs_so : (s : Settings) (k : ℕ) (r : Request) (y : Result Octets Error) (z : Leaving) → IsOutcome s k r y z → needs_all s z.result ≡ true → waits_for_others s y ≡ true
+outcome_needs_so s k r y _ Caches e = outcome_needs s k r y e
+outcome_needs_so s k r y _ (Passes m is none) e = subst (λ y. waits_for_others s y ≡ true) (sym is) (subst (λ y. needs_all s y ≡ true) is e)
 
 -- the best is one of them
 pub best_given : (gs : List Given) (y : Result Octets Error) → best gs ≡ Some y → (g : Given) × IsIn g gs × (g.result ≡ y)

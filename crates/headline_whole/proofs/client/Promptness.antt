@@ -28,7 +28,7 @@ use Rattle.headline_whole.specs.Keys.{is_cacheable}
 use Rattle.headline_whole.specs.Validity.{validity_of_message, is_deferred, is_final, waits_for_others}
 use Rattle.headline_whole.specs.Coming.{CameFor, IsExcused}
 use Rattle.headline_whole.specs.machine.Part.{Act}
-use Rattle.headline_whole.specs.machine.Client.{Posted, Given, Waiting, Leaving, Upper, Made, with_up, with_held, moved, handing, keeping, leave, newcomer, validity_of, outcome, outcome_of, Move, Server_moves, Hands_on, Gives_up, Drops, Keeps_back, Delivers, Concludes, Times_out, Replies, Forgets, Derives, Answers, Takes_on, Moves, Rests, Goes, IsDone, row_begins, NoneOf, hand}
+use Rattle.headline_whole.specs.machine.Client.{Posted, Given, Waiting, Leaving, Upper, Made, with_up, with_held, moved, handing, keeping, leave, newcomer, validity_of, outcome, outcome_of, IsOutcome, Caches, Passes, Move, Server_moves, Hands_on, Gives_up, Drops, Keeps_back, Delivers, Concludes, Times_out, Replies, Forgets, Derives, Answers, Takes_on, Moves, Rests, Goes, IsDone, row_begins, NoneOf, hand}
 use Rattle.headline_whole.specs.Parts.{IsIn}
 use Rattle.headline_whole.proofs.client.Kept.{IsTold, IsExpected, IsPosted as OnBoard, IsKeptBack, IsPassedOver, Kept}
 use Rattle.headline_whole.proofs.client.Later.{now_all, put_more, excused_on, matches_reply, comes_all}
@@ -206,8 +206,8 @@ module _ (c : Conf) (s : Settings) (compose : Request → Result Octets Error) (
       less_one false z e = e
   move_free x h kept _ (Drops before after y is held) f = record { free = record { unheld = f.unheld; below = f.below; free = f.free }; back = λ z. z }
   move_free x h kept _ (Keeps_back before after y a is held waits) f = record { free = record { unheld = f_other x.held y.request (Some (keeping (record { server = y.server; result = y.result }) a)) (f_tried x.held y.request a f.unheld held) f.unheld; below = f.below; free = f.free }; back = λ z. z }
-  move_free x h kept _ (Delivers before after y a is held waits) f = record { free = record { unheld = f_left x.held ((outcome s y.request a.request y.result).request) f.unheld; below = f.below; free = f.free }; back = λ z. z }
-  move_free x h kept _ (Concludes l a y held tried free none is) f = record { free = record { unheld = f_left x.held ((outcome s l a.request y).request) f.unheld; below = f.below; free = f.free }; back = λ z. z }
+  move_free x h kept _ (Delivers before after y a l is held waits out) f = record { free = record { unheld = f_left x.held (l.request) f.unheld; below = f.below; free = f.free }; back = λ z. z }
+  move_free x h kept _ (Concludes k' a y l held tried free none is out) f = record { free = record { unheld = f_left x.held (l.request) f.unheld; below = f.below; free = f.free }; back = λ z. z }
   move_free x h kept _ (Times_out l a held late) f = record { free = record { unheld = f_left x.held l f.unheld; below = f.below; free = f.free }; back = λ z. z }
   move_free x h kept _ (Replies before after y is) f = record { free = record { unheld = f.unheld; below = f.below; free = f.free }; back = reply_back y.request y.result h }
   move_free x h kept _ (Forgets before after z is) f = record { free = record { unheld = f.unheld; below = f.below; free = f.free }; back = λ z. z }
@@ -361,8 +361,13 @@ module _ (c : Conf) (s : Settings) (compose : Request → Result Octets Error) (
     tried_still : (y : Upper P.State) → y.held k ≡ x.held k → Tried x → Tried y
     tried_still y same tr = record { waiting = tr.waiting; held = same ∙ tr.held; request = tr.request; moment = tr.moment }
 
-    outcome_request : (j : ℕ) (q : Request) (z : Result Octets Error) → (outcome s j q z).request ≡ j
-    outcome_request j q z = go (is_cacheable q) (validity_of s z)
+    outcome_result : (j : ℕ) (q : Request) (z : Result Octets Error) (l : Leaving) → IsOutcome s j q z l → j ≡ k → q ≡ r → z ≡ Ok m → l.result ≡ Ok m
+    outcome_result j q z _ Caches a b e = ap (λ j. (outcome s j q z).result) a ∙ (ap (λ z. (outcome s k q z).result) e ∙ (ap (λ q. (outcome s k q (Ok m)).result) b ∙ kept_message))
+    outcome_result j q z _ (Passes n is none) a b e = e
+
+    outcome_request : (j : ℕ) (q : Request) (z : Result Octets Error) (l : Leaving) → IsOutcome s j q z l → l.request ≡ j
+    outcome_request j q z _ (Passes n is none) = refl
+    outcome_request j q z _ Caches = go (is_cacheable q) (validity_of s z)
       where
         go : (b : Bool) (o : Option ℕ) → (outcome_of b o j q z).request ≡ j
         go false o = refl
@@ -401,23 +406,23 @@ module _ (c : Conf) (s : Settings) (compose : Request → Result Octets Error) (
               record { waiting = keeping g a; held = subst (λ j. with_held j (Some (keeping g a)) x.held k ≡ Some (keeping g a)) (sym same) (that (Some (keeping g a))); request = ap (λ (z : Waiting). z.request) w ∙ tr.request; moment = ap (λ (z : Waiting). z.moment) w ∙ tr.moment })
           | inr ne ↦ record { waiting = tr.waiting; held = other y.request (Some (keeping g a)) ne ∙ tr.held; request = tr.request; moment = tr.moment }
         ]))
-    move_tracks n _ (Delivers before after y a is held waits) f more kept' z counts (IsTried tr) = inl (elim (cases_eq y.request k) [
+    move_tracks n _ (Delivers before after y a l is held waits out) f more kept' z counts (IsTried tr) = inl (elim (cases_eq y.request k) [
       | inl same ↦
           (let w : a ≡ tr.waiting = same_waiting y.request a held same tr in
-          let res : y.result ≡ Ok m = on_board f.outs f.state (moves_do c s compose composes P past e.what (leave (outcome s y.request a.request y.result) (record x { board = before ++ after })) h f kept' more).leaves z.comes n y (subst (IsIn y) (sym is) (in_here y before after)) same waits in
-          let out : (outcome s y.request a.request y.result).result ≡ Ok m = ap (λ k. (outcome s k a.request y.result).result) same ∙ (ap (λ z. (outcome s k a.request z).result) res ∙ (ap (λ q. (outcome s k q (Ok m)).result) (ap (λ (z : Waiting). z.request) w ∙ tr.request) ∙ kept_message)) in
-          IsLeaving (outcome s y.request a.request y.result) (in_right (outcome s y.request a.request y.result) x.leaving (outcome s y.request a.request y.result ∷ []) (inl refl)) (outcome_request y.request a.request y.result ∙ same) out)
-      | inr ne ↦ IsTried (record { waiting = tr.waiting; held = other ((outcome s y.request a.request y.result).request) None (λ q. ne (sym (outcome_request y.request a.request y.result) ∙ q)) ∙ tr.held; request = tr.request; moment = tr.moment })
+          let res : y.result ≡ Ok m = on_board f.outs f.state (moves_do c s compose composes P past e.what (leave l (record x { board = before ++ after })) h f kept' more).leaves z.comes n y (subst (IsIn y) (sym is) (in_here y before after)) same waits in
+          let result : l.result ≡ Ok m = outcome_result y.request a.request y.result l out same (ap (λ (z : Waiting). z.request) w ∙ tr.request) res in
+          IsLeaving l (in_right l x.leaving (l ∷ []) (inl refl)) (outcome_request y.request a.request y.result l out ∙ same) result)
+      | inr ne ↦ IsTried (record { waiting = tr.waiting; held = other l.request None (λ q. ne (sym (outcome_request y.request a.request y.result l out) ∙ q)) ∙ tr.held; request = tr.request; moment = tr.moment })
     ])
-    move_tracks n _ (Concludes k' a y held tried free none is) f more kept' z counts (IsTried tr) = inl (elim (cases_eq k' k) [
+    move_tracks n _ (Concludes k' a y l held tried free none is out) f more kept' z counts (IsTried tr) = inl (elim (cases_eq k' k) [
       | inl same ↦
-          (let req : (outcome s k' a.request y).request ≡ k = outcome_request k' a.request y ∙ same in
-          let free' : (j : ℕ) → j < length c.servers → P.holds (x.ups j) k ≡ false = λ j l. subst (λ k. P.holds (x.ups j) k ≡ false) same (free j l) in
-          let gone : with_held ((outcome s k' a.request y).request) None x.held k ≡ None = subst (λ j. with_held j None x.held k ≡ None) (sym req) (that None) in
+          (let req : l.request ≡ k = outcome_request k' a.request y l out ∙ same in
+          let free' : (j : ℕ) → j < length c.servers → P.holds (x.ups j) k ≡ false = λ j lt. subst (λ k. P.holds (x.ups j) k ≡ false) same (free j lt) in
+          let gone : with_held (l.request) None x.held k ≡ None = subst (λ j. with_held j None x.held k ≡ None) (sym req) (that None) in
           let below = (kept.reqs k tr.waiting tr.held).below in
-          let now_here : Matches c r v i p k id m past w h = free_back c s compose composes P past w r v i p k id m (leave (outcome s k' a.request y) x) h f kept' more (record { unheld = gone; below = below; free = free' }) z in
+          let now_here : Matches c r v i p k id m past w h = free_back c s compose composes P past w r v i p k id m (leave l x) h f kept' more (record { unheld = gone; below = below; free = free' }) z in
           absurd (not_concluded tr.waiting tr.held free' (λ b j e. none b j (e ∙ sym same)) now_here (λ q. counts (excused_on p past w f.outs h q))))
-      | inr ne ↦ IsTried (record { waiting = tr.waiting; held = other ((outcome s k' a.request y).request) None (λ q. ne (sym (outcome_request k' a.request y) ∙ q)) ∙ tr.held; request = tr.request; moment = tr.moment })
+      | inr ne ↦ IsTried (record { waiting = tr.waiting; held = other l.request None (λ q. ne (sym (outcome_request k' a.request y l out) ∙ q)) ∙ tr.held; request = tr.request; moment = tr.moment })
     ])
     move_tracks n _ (Times_out k' a held late) f more kept' z counts (IsTried tr) = inl (elim (cases_eq k' k) [
       | inl same ↦
@@ -443,8 +448,8 @@ module _ (c : Conf) (s : Settings) (compose : Request → Result Octets Error) (
     move_tracks n _ (Gives_up j k' d l held holds can) f more kept' z counts (IsLeaving y q a b) = inl (IsLeaving y q a b)
     move_tracks n _ (Drops before after u is held) f more kept' z counts (IsLeaving y q a b) = inl (IsLeaving y q a b)
     move_tracks n _ (Keeps_back before after u g is held waits) f more kept' z counts (IsLeaving y q a b) = inl (IsLeaving y q a b)
-    move_tracks n _ (Delivers before after u g is held waits) f more kept' z counts (IsLeaving y q a b) = inl (IsLeaving y (in_left y x.leaving (outcome s u.request g.request u.result ∷ []) q) a b)
-    move_tracks n _ (Concludes k' g u held tried free none is) f more kept' z counts (IsLeaving y q a b) = inl (IsLeaving y (in_left y x.leaving (outcome s k' g.request u ∷ []) q) a b)
+    move_tracks n _ (Delivers before after u g l is held waits out) f more kept' z counts (IsLeaving y q a b) = inl (IsLeaving y (in_left y x.leaving (l ∷ []) q) a b)
+    move_tracks n _ (Concludes k' g u l held tried free none is out) f more kept' z counts (IsLeaving y q a b) = inl (IsLeaving y (in_left y x.leaving (l ∷ []) q) a b)
     move_tracks n _ (Times_out k' g held late) f more kept' z counts (IsLeaving y q a b) = inl (IsLeaving y (in_left y x.leaving (record { request = k'; asked = g.request; result = Err errors.TimedOut; is_stored = false } ∷ []) q) a b)
     move_tracks n _ (Replies before after u is) f more kept' z counts (IsLeaving y q a b) = elim (in_but y u before after (subst (IsIn y) is q)) [
       | inl same ↦ inr (inl (subst (λ k. Reply u.request u.result ≡ Reply k (Ok m)) a (subst (λ v. Reply u.request u.result ≡ Reply y.request v) b (ap (λ (z : Leaving). Reply z.request z.result) same))))

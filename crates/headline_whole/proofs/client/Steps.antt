@@ -24,7 +24,7 @@ use Rattle.headline_whole.proofs.client.Lists.{in_right, in_here, in_more, in_bu
 use Rattle.headline_whole.proofs.client.Serving.{clash}
 use Rattle.headline_whole.proofs.client.Moving.{outs_right, acts_right_here, acts_kept, starts_right_here, starts_kept, cancels_right_here, cancels_kept}
 use Rattle.headline_whole.proofs.client.Taking.{stored_kept, board_kept, back_kept, leave_kept, answer_kept, take_kept}
-use Rattle.headline_whole.proofs.client.Outcomes.{OutcomeFits, delivered, concluded, outcome_needs, best_given, all_done, best_is, at_once}
+use Rattle.headline_whole.proofs.client.Outcomes.{OutcomeFits, delivered_so, concluded_so, outcome_needs_so, best_given, all_done, best_is, at_once}
 use Rattle.headline_whole.proofs.client.Replying.{reply_right, reply_kept}
 use Rattle.headline_whole.proofs.client.Asked.{keys_trans}
 use Rattle.client_request.specs.declared.error.Error.TheVariants as errors
@@ -86,23 +86,23 @@ module _ (c : Conf) (s : Settings) (compose : Request → Result Octets Error) (
 
         kept_there : (g : Given) (a b : Waiting) → Path (Option Waiting) (Some (keeping g a)) (Some b) → (z : Given) × IsIn z b.kept_back × (z.server ≡ g.server) × (z.result ≡ g.result)
         kept_there g a b e = (let v : keeping g a ≡ b = cc in (g, subst (IsIn g) (ap (λ (z : Waiting). z.kept_back) v) (in_right g a.kept_back (g ∷ []) (inl refl)), refl, refl))
-    move_does _ (Delivers before after y a is held waits) =
+    move_does _ (Delivers before after y a z is held waits out) =
         let f = kept.reqs y.request a held in
         let p = kept.posts y (subst (IsIn y) (sym is) (in_here y before after)) in
-        let o = delivered c s past w h y.request a.moment a.request f.asked y.result (λ z e. kept.known y.request z e) p.right waits in
-        let l = leaves_so y.request a (outcome s y.request a.request y.result) held o (λ needs. absurd (clash (waits_for_others s y.result) (outcome_needs s y.request a.request y.result needs) waits)) in
-        let x' : Upper P.State = leave (outcome s y.request a.request y.result) x in
-        state_does past w x (record x' { board = before ++ after }) h (board_kept c s P past w x' h l before after y is (λ b e. absurd (nobody y.request (outcome s y.request a.request y.result) b o.request e))) (λ k l. leaves_left k x.leaving (outcome s y.request a.request y.result ∷ []) l)
+        let o = delivered_so c s past w h y.request a.moment a.request f.asked y.result z out (λ z e. kept.known y.request z e) p.right waits in
+        let l = leaves_so y.request a z held o (λ needs. absurd (clash (waits_for_others s y.result) (outcome_needs_so s y.request a.request y.result z out needs) waits)) in
+        let x' : Upper P.State = leave z x in
+        state_does past w x (record x' { board = before ++ after }) h (board_kept c s P past w x' h l before after y is (λ b e. absurd (nobody y.request z b o.request e))) (λ k l. leaves_left k x.leaving (z ∷ []) l)
       where
         nobody : (k : ℕ) (z : Leaving) (b : Waiting) → z.request ≡ k → with_held z.request None x.held k ≡ Some b → ⊥
         nobody k z b e q = (let n : with_held z.request None x.held k ≡ None = grind (arith, nat_tests) in let v : Path (Option Waiting) None (Some b) = sym n ∙ q in absurd (cc))
-    move_does _ (Concludes k a y held tried free none is) =
+    move_does _ (Concludes k a y z held tried free none is out) =
         let f = kept.reqs k a held in
         let g = best_given a.kept_back y is in
         let b = kept.back k a (g.0) held g.1 in
         let all = all_done c s compose composes P past w x h kept k a held tried free none in
-        let o = concluded c s past w h k a.moment a.request f.asked y (λ z e. kept.known k z e) (subst (λ y. HereOrEarlier true (PostRight c k y) past w h) g.2 b.right) (subst (λ y. waits_for_others s y ≡ true) g.2 b.waits) all (best_is c s compose composes P past w x h kept k a y a.request a.moment f.asked held free none is) in
-        state_does past w x (leave (outcome s k a.request y) x) h (leaves_so k a (outcome s k a.request y) held o (λ needs i lt. free i lt)) (λ j l. leaves_left j x.leaving (outcome s k a.request y ∷ []) l)
+        let o = concluded_so c s past w h k a.moment a.request f.asked y z out (λ z e. kept.known k z e) (subst (λ y. HereOrEarlier true (PostRight c k y) past w h) g.2 b.right) (subst (λ y. waits_for_others s y ≡ true) g.2 b.waits) all (best_is c s compose composes P past w x h kept k a y a.request a.moment f.asked held free none is) in
+        state_does past w x (leave z x) h (leaves_so k a z held o (λ needs i lt. free i lt)) (λ j l. leaves_left j x.leaving (z ∷ []) l)
     move_does _ (Times_out k a held late) =
         let f = kept.reqs k a held in
         let y : Leaving = record { request = k; asked = a.request; result = Err errors.TimedOut; is_stored = false } in

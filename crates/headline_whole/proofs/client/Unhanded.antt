@@ -50,8 +50,8 @@ module _ (c : Conf) (s : Settings) (compose : Request → Result Octets Error) (
   move_untried past w x h kept _ (Gives_up i j d lt held holds can) u = record { unheld = u.unheld; below = u.below; unhanded = λ t. (P.cancels_keeps i x.place j past w (x.ups i) h d lt (kept.parts i lt) kept.place holds can).handed_on k t ∙ u.unhanded t }
   move_untried past w x h kept _ (Drops before after y is held) u = record { unheld = u.unheld; below = u.below; unhanded = u.unhanded }
   move_untried past w x h kept _ (Keeps_back before after y a is held waits) u = record { unheld = other x.held y.request _ (tried_other x.held y.request a u.unheld held) u.unheld; below = u.below; unhanded = u.unhanded }
-  move_untried past w x h kept _ (Delivers before after y a is held waits) u = record { unheld = left x.held _ u.unheld; below = u.below; unhanded = u.unhanded }
-  move_untried past w x h kept _ (Concludes j a y held tried free none is) u = record { unheld = left x.held _ u.unheld; below = u.below; unhanded = u.unhanded }
+  move_untried past w x h kept _ (Delivers before after y a l is held waits out) u = record { unheld = left x.held _ u.unheld; below = u.below; unhanded = u.unhanded }
+  move_untried past w x h kept _ (Concludes j a y l held tried free none is out) u = record { unheld = left x.held _ u.unheld; below = u.below; unhanded = u.unhanded }
   move_untried past w x h kept _ (Times_out j a held late) u = record { unheld = left x.held _ u.unheld; below = u.below; unhanded = u.unhanded }
   move_untried past w x h kept _ (Replies before after y is) u = record { unheld = u.unheld; below = u.below; unhanded = u.unhanded }
   move_untried past w x h kept _ (Forgets before after e is) u = record { unheld = u.unheld; below = u.below; unhanded = u.unhanded }

@@ -35,7 +35,7 @@ use Rattle.headline_whole.specs.machine.Server as server
 use Rattle.headline_whole.specs.machine.Server.{Server}
 use Rattle.headline_whole.specs.machine.Served as served
 use Rattle.headline_whole.specs.machine.Served.{Served, RestsNow, served, does, has_moved, has_taken_it, AsItIs, WithResult, ByStreamNow}
-use Rattle.headline_whole.specs.machine.Client.{Waiting, Leaving, Entry, entry_of, answer as answer_at_once, Viewed, outcome, leave, store, unmade, Upper, Move, moved, hand, handing, newcomer, take_on, row_begins, Moves, Goes, Rests, Takes_on, Hands_on, Server_moves, Delivers, Replies, Answers, IsRun, Ends, begun}
+use Rattle.headline_whole.specs.machine.Client.{Caches, Waiting, Leaving, Entry, entry_of, answer as answer_at_once, Viewed, outcome, leave, store, unmade, Upper, Move, moved, hand, handing, newcomer, take_on, row_begins, Moves, Goes, Rests, Takes_on, Hands_on, Server_moves, Delivers, Replies, Answers, IsRun, Ends, begun}
 use Rattle.headline_whole.specs.examples.Messages.{plain_request, as_datagram, as_frame, frame, cut_answer, answer}
 use Rattle.headline_whole.specs.examples.Rows.{at, by_datagrams, first_settings}
 use Rattle.client_request.specs.declared.event.What.TheVariants.{Ask, Opened, Datagram, Wrote, Bytes}
@@ -348,7 +348,7 @@ module _ (compose : Request → Result Octets Error) (o : Octets) (r : Request) 
     takes_frame = multi.IsResult c7 write (multi.Idle 20004) holding refl good (subst (λ i. c7.ids i ≡ Some write) (sym id0) refl) refl (ap (multi.Holding 1) (sym id0)) (multi.Rests no_ids)
 
     delivers : Move by_datagrams first_settings compose P v7 (unmade u7)
-    delivers = subst (λ l. Move by_datagrams first_settings compose P v7 (unmade (leave l (record v7 { board = [] })))) leaves_so (Delivers [] [] (record { server = 0; request = 0; result = multi.result_of r (id_in m2) m2 }) waiting refl refl (ap (λ x. waits_for_others first_settings x) result_is ∙ final))
+    delivers = subst (λ l. Move by_datagrams first_settings compose P v7 (unmade (leave l (record v7 { board = [] })))) leaves_so (Delivers [] [] (record { server = 0; request = 0; result = multi.result_of r (id_in m2) m2 }) waiting _ refl refl (ap (λ x. waits_for_others first_settings x) result_is ∙ final) Caches)
 
     row7 : Goes_to x6 20004 (Bytes 1 b) x7 (Reply 0 (Ok m2) ∷ [])
     unfolding stream_timeout response_timeout
@@ -435,7 +435,7 @@ module _ (compose : Request → Result Octets Error) (o : Octets) (r : Request) 
     none_tried = gone_held 0 _ others_held
 
     gives : Move by_datagrams first_settings compose P a3 (unmade b3)
-    gives = subst (λ l. Move by_datagrams first_settings compose P a3 (unmade (leave l (record a3 { board = [] })))) kept (Delivers [] [] (record { server = 0; request = 0; result = Ok (take 2000 m) }) waiting refl refl final)
+    gives = subst (λ l. Move by_datagrams first_settings compose P a3 (unmade (leave l (record a3 { board = [] })))) kept (Delivers [] [] (record { server = 0; request = 0; result = Ok (take 2000 m) }) waiting _ refl refl final Caches)
 
     replies : Goes_to w2 0 (Datagram 0 m) w3 (Close 0 ∷ Reply 0 (Ok (take 2000 m)) ∷ [])
     unfolding read_timeout

@@ -121,6 +121,11 @@ outcome_of true None k r x = record { request = k; asked = r; result = Err error
 abbrev pub outcome : Settings → (k : ℕ) → Request → Result Octets Error → Leaving
 outcome s k r x = outcome_of (is_cacheable r) (validity_of s x) k r x
 
+-- What a result becomes: what the cache makes of it; or, where a message has no validity and no cache looks at it, itself.
+pub data IsOutcome (s : Settings) (k : ℕ) (r : Request) (x : Result Octets Error) : Leaving → Type 0 where
+  Caches : IsOutcome s k r x (outcome s k r x)
+  Passes : (m : Octets) → x ≡ Ok m → validity_of_message s m ≡ None → IsOutcome s k r x (record { request = k; asked = r; result = x; is_stored = false })
+
 -- a request leaves with this result
 abbrev pub leave : {U : Type 0} → Leaving → Upper U → Upper U
 leave x u = record u { held = with_held x.request None u.held; leaving = u.leaving ++ x ∷ [] }
@@ -168,10 +173,10 @@ module _ (c : Conf) (s : Settings) (compose : Request → Result Octets Error) w
       Drops : (before after : List Posted) (y : Posted) → x.board ≡ before ++ y ∷ after → x.held y.request ≡ None → Move x (unmade (record x { board = before ++ after }))
       Keeps_back : (before after : List Posted) (y : Posted) (a : Waiting) → x.board ≡ before ++ y ∷ after → x.held y.request ≡ Some a → waits_for_others s y.result ≡ true
           → Move x (unmade (record x { board = before ++ after; held = with_held y.request (Some (keeping (record { server = y.server; result = y.result }) a)) x.held }))
-      Delivers : (before after : List Posted) (y : Posted) (a : Waiting) → x.board ≡ before ++ y ∷ after → x.held y.request ≡ Some a → waits_for_others s y.result ≡ false
-          → Move x (unmade (leave (outcome s y.request a.request y.result) (record x { board = before ++ after })))
-      Concludes : (k : ℕ) (a : Waiting) (y : Result Octets Error) → x.held k ≡ Some a → ((i : ℕ) → i < length c.servers → a.tried i ≡ true) → ((i : ℕ) → i < length c.servers → P.holds (x.ups i) k ≡ false) → NoneOf k x.board → best a.kept_back ≡ Some y
-          → Move x (unmade (leave (outcome s k a.request y) x))
+      Delivers : (before after : List Posted) (y : Posted) (a : Waiting) (z : Leaving) → x.board ≡ before ++ y ∷ after → x.held y.request ≡ Some a → waits_for_others s y.result ≡ false → IsOutcome s y.request a.request y.result z
+          → Move x (unmade (leave z (record x { board = before ++ after })))
+      Concludes : (k : ℕ) (a : Waiting) (y : Result Octets Error) (z : Leaving) → x.held k ≡ Some a → ((i : ℕ) → i < length c.servers → a.tried i ≡ true) → ((i : ℕ) → i < length c.servers → P.holds (x.ups i) k ≡ false) → NoneOf k x.board → best a.kept_back ≡ Some y → IsOutcome s k a.request y z
+          → Move x (unmade (leave z x))
       Times_out : (k : ℕ) (a : Waiting) → x.held k ≡ Some a → a.moment + c.timeout ≤ x.now → Move x (unmade (leave (record { request = k; asked = a.request; result = Err errors.TimedOut; is_stored = false }) x))
       Replies : (before after : List Leaving) (y : Leaving) → x.leaving ≡ before ++ y ∷ after → Move x (record { state = record x { leaving = before ++ after; stored = store x.now y x.stored }; outs = Reply y.request y.result ∷ [] })
       Forgets : (before after : List Entry) (e : Entry) → x.stored ≡ before ++ e ∷ after → Move x (unmade (record x { stored = before ++ after }))

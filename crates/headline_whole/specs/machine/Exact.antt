@@ -58,8 +58,8 @@ module _ (c : Conf) (s : Settings) (compose : Request → Result Octets Error) (
   Cached x _ (Gives_up i k d lt held holds can) es fs = fs ≡ es
   Cached x _ (Drops before after y is held) es fs = fs ≡ es
   Cached x _ (Keeps_back before after y a is held waits) es fs = fs ≡ es
-  Cached x _ (Delivers before after y a is held waits) es fs = fs ≡ es
-  Cached x _ (Concludes k a y held tried free none is) es fs = fs ≡ es
+  Cached x _ (Delivers before after y a z is held waits out) es fs = fs ≡ es
+  Cached x _ (Concludes k a y z held tried free none is out) es fs = fs ≡ es
   Cached x _ (Times_out k a held late) es fs = fs ≡ es
   Cached x _ (Replies before after y is) es fs = fs ≡ (if y.is_stored then put_entries eq (lru_cache es cap) (key_of y.asked) (value_of x.now y) else es)
   Cached x _ (Forgets before after e is) es fs = fs ≡ es
