@@ -1,10 +1,11 @@
 -- Composing makes what carries its request, or is refused for a cause.
-use Rattle.std.proofs.Common.{◌≡◌, ℕ, ◌<◌, ◌≤◌, inl, inr, List, ◌++◌, length, refl, arith, Bool, true, false, length-append}
+use Rattle.std.proofs.Common.{◌≡◌, ℕ, ◌<◌, ◌≤◌, inl, inr, List, ◌++◌, length, refl, ap, sym, subst, arith, Bool, true, false, length-append}
 use Rattle.std.specs.Prelude.{Option, Some, None, Ok, Err, nat_lt, ◌==◌, ◌||◌}
 use Rattle.std.proofs.lemmas.Bool.{eqb-true, eqb-false, lt-ltb}
 use Rattle.dns_values.specs.declared.numbers.Section.TheVariants.{Answer, Authority, Additional}
 use Rattle.dns_base.specs.declared.push_error.PushError.TheVariants as refusals
 use Rattle.dns_base.specs.Numbers.{u16_at}
+use Rattle.dns_base.specs.Header.{Counts}
 use Rattle.dns_base.specs.Message.{Asked, Known, Reading, reads, all_read, question_at}
 use Rattle.dns_base.specs.Answering.{question_items}
 use Rattle.dns_base.specs.Sections.{HasNoRecords, entries_in}
@@ -13,6 +14,7 @@ use Rattle.dns_base.specs.Holding.{Contents}
 use Rattle.dns_base.specs.Draft.{Draft, counts_in, limit_of, fresh, with_header, pushed_record, record_size}
 use Rattle.dns_base.proofs.Lists.{items_few}
 use Rattle.dns_base.proofs.Readings.{reading_laws}
+use Rattle.dns_base.proofs.Steps.{draft_steps}
 use Rattle.client_request.specs.declared.error.Error.{Error}
 use Rattle.client_request.specs.declared.error.CopyRecordsError.TheVariants.{Parse, Push}
 use Rattle.client_request.specs.Request.{Request, opt_written, with_payload_size}
@@ -69,8 +71,13 @@ record Starts (d : Draft) : Type 0 where
   order : HasNoRecords (counts_in d)
 
 fresh_starts : Starts (fresh None)
-unfolding limit_of counts_in fresh
-fresh_starts = record { unlimited = refl; questions = refl; order = (refl, refl, refl) }
+fresh_starts =
+    let is = draft_steps.counts.fresh None in
+    record {
+      unlimited = draft_steps.limits.fresh None;
+      questions = ap (λ (n : Counts). n.questions) is;
+      order = subst HasNoRecords (sym is) (refl, refl, refl);
+    }
 
 -- at the OPT record
 

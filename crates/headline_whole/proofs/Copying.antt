@@ -1,8 +1,7 @@
 -- Questions and records of a base are copied into a draft without a limit until one can't be read: no section of a base has more than 65535 entries, so no push is refused.
-use Rattle.std.proofs.Common.{◌≡◌, ℕ, ◌+◌, ◌-◌, ◌<◌, ◌≤◌, ◌⊎◌, inl, inr, List, [], ◌∷◌, length, drop, get_or, refl, ◌∙◌, arith, Bool, true, false}
+use Rattle.std.proofs.Common.{◌≡◌, ℕ, ◌+◌, ◌-◌, ◌<◌, ◌≤◌, ◌⊎◌, inl, inr, List, [], ◌∷◌, length, drop, get_or, refl, ap, sym, subst, ◌∙◌, arith, Bool, true, false}
 use Rattle.std.specs.Prelude.{Option, Some, None, Result, Ok, Err, map, not, option_and_then, slice_range, if◌then◌else◌}
 use Rattle.std.specs.List.{filter}
-use Rattle.std.proofs.lemmas.Bool.{ne_eqb, eq-eqb}
 use Rattle.std.proofs.lemmas.List.{get_or-take, get_or-drop}
 use Rattle.dns_values.specs.declared.error.ParseError.{ParseError}
 use Rattle.dns_values.specs.declared.numbers.Section.{Section}
@@ -11,9 +10,10 @@ use Rattle.dns_base.specs.declared.push_error.PushError.TheVariants as refusals
 use Rattle.dns_base.specs.Numbers.{u16_at}
 use Rattle.dns_base.specs.Header.{Counts}
 use Rattle.dns_base.specs.Message.{Asked, Known, Written, all_read, record_at, items_at, items_behind, questions_of, answer_of, authority_of, answer_items, authority_items, additional_items}
-use Rattle.dns_base.specs.Sections.{HasNoRecords, HasNoneAfter, entries_in}
+use Rattle.dns_base.specs.Sections.{HasNoRecords, HasNoneAfter, one_more_in, entries_in}
 use Rattle.dns_base.specs.Draft.{Draft, counts_in, limit_of, refusal, pushed_question, pushed_record, question_size, record_size}
 use Rattle.dns_base.proofs.Lists.{items_few}
+use Rattle.dns_base.proofs.Steps.{draft_steps}
 use Rattle.client_request.specs.declared.error.CopyRecordsError.TheVariants.{Parse}
 use Rattle.client_request.specs.Composed.{Copied, asks, copies, each, each_found, copies_section, section_items, written_from, is_replaced}
 use Rattle.client_request.specs.Carries.{sent_from, records_of}
@@ -33,12 +33,10 @@ number_small octets at h =
 -- one push
 
 pub room_left : (entries more : ℕ) (d : Draft) → limit_of d ≡ None → entries < 65535 → refusal entries d more ≡ None
-unfolding refusal limit_of
-room_left entries more d unlimited few = rw (ne_eqb entries 65535 (λ e. omega arith), unlimited) refl
+room_left entries more d unlimited few = draft_steps.refusals.room entries d more (λ e. omega arith) unlimited
 
 pub full_refused : (entries more : ℕ) (d : Draft) → entries ≡ 65535 → refusal entries d more ≡ Some refusals.Count
-unfolding refusal
-full_refused entries more d full = rw (eq-eqb entries 65535 full) refl
+full_refused entries more d full = draft_steps.refusals.full entries d more full
 
 -- questions
 
@@ -49,8 +47,13 @@ record Asking (d e : Draft) : Type 0 where
   entries : (counts_in e).questions ≡ (counts_in d).questions + 1
 
 question_pushed : (q : Asked) (d : Draft) → limit_of d ≡ None → HasNoRecords (counts_in d) → Asking d (pushed_question q d)
-unfolding limit_of counts_in pushed_question
-question_pushed q d unlimited order = record { unlimited = unlimited; order = order; entries = refl }
+question_pushed q d unlimited order =
+    let is = draft_steps.counts.question q d in
+    record {
+      unlimited = draft_steps.limits.question q d ∙ unlimited;
+      order = subst HasNoRecords (sym is) order;
+      entries = ap (λ (n : Counts). n.questions) is;
+    }
 
 -- all questions are read and pushed
 pub record Asks (items : List (Result Asked ParseError)) (o : Copied) : Type 0 where
@@ -82,11 +85,20 @@ record Adding (section : Section) (n : ℕ) (d e : Draft) : Type 0 where
   order : HasNoneAfter section (counts_in e)
   entries : entries_in section (counts_in e) ≡ entries_in section (counts_in d) + n
 
+one_more : (section : Section) (counts : Counts) → HasNoneAfter section counts → HasNoneAfter section (one_more_in section counts) × (entries_in section (one_more_in section counts) ≡ entries_in section counts + 1)
+one_more Answer counts h = (h, refl)
+one_more Authority counts h = (h, refl)
+one_more Additional counts h = (h, refl)
+
 record_pushed : (section : Section) (w : Written) (d : Draft) → limit_of d ≡ None → HasNoneAfter section (counts_in d) → Adding section 1 d (pushed_record section w d)
-unfolding limit_of counts_in pushed_record
-record_pushed Answer w d unlimited order = record { unlimited = unlimited; order = order; entries = refl }
-record_pushed Authority w d unlimited order = record { unlimited = unlimited; order = order; entries = refl }
-record_pushed Additional w d unlimited order = record { unlimited = unlimited; order = order; entries = refl }
+record_pushed section w d unlimited order =
+    let is = draft_steps.counts.any_record section w d in
+    let next = one_more section (counts_in d) order in
+    record {
+      unlimited = draft_steps.limits.any_record section w d ∙ unlimited;
+      order = subst (HasNoneAfter section) (sym is) next.0;
+      entries = ap (entries_in section) is ∙ next.1;
+    }
 
 -- how many records of these are sent
 unfoldable pub count_sent : Section → List Known → ℕ

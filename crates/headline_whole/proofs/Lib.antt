@@ -1,4 +1,5 @@
 pub mod Copying
+pub mod Carried
 pub mod Composing
 pub mod PartLaws
 pub mod server

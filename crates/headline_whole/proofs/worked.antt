@@ -4,3 +4,4 @@ pub mod Servers
 pub mod Resting
 pub mod Runs
 pub mod Rightness
+pub mod Dgrams

@@ -12,7 +12,7 @@ use Rattle.headline_whole.specs.Trace.{History, Conf, Came, Put}
 use Rattle.headline_whole.specs.Time.{now, newest, row_before, EarlierRow, read_timeout, stream_timeout}
 use Rattle.headline_whole.specs.Messages.{Octets, CarriesBy, answers, base_is_read, passes_count}
 use Rattle.headline_whole.specs.Requests.{Asking, asking, start, started}
-use Rattle.headline_whole.specs.Places.{is_at, Unused, Opening, Gone, stand, is_live, closed_here}
+use Rattle.headline_whole.specs.Places.{is_at, Unused, Opening, Alive, Gone, stand, is_live, closed_here}
 use Rattle.headline_whole.specs.Timers.{ReadTimerIsDue}
 use Rattle.headline_whole.specs.Exchanges.{Comes}
 use Rattle.client_request.specs.declared.error.Error.TheVariants as errors
@@ -87,10 +87,14 @@ pub record FailedToOpen (k : ℕ) (f : Fault) (past : History) (w : What) (h : H
   pub at : is_at Dgram server place h ≡ true
   pub has_it : started k server Dgram h ≡ true
 
--- an event tells of a place whose send named and carried the request
+-- an event tells of a datagram place of a server that has the request; it was alive before this row, and a send there named and carried the request
 pub record FailedAt (told : ℕ → What) (k : ℕ) (past : History) (w : What) : Type 0 where
   pub place : ℕ
+  pub server : ℕ
   pub is_told : w ≡ told place
+  pub at : is_at Dgram server place past ≡ true
+  pub alive : stand place past ≡ Alive
+  pub has_it : started k server Dgram past ≡ true
   pub request : Request
   pub asked : (t : ℕ) × (asking k past ≡ Some (record { request = request; moment = t }))
   pub send : Named

@@ -18,15 +18,20 @@ use Rattle.client_request.specs.Carries.{contents_of, Carries, SaysRequest, IsOf
 abbrev pub Octets : Type 0
 Octets = List ℕ
 
--- By stream two octets give the length of the rest, which says the request under its id, with or without the empty option 11 (RFC 7766 8, RFC 7828 3.2.1).
+-- the id of a message (RFC 1035 4.1.1)
+unfoldable pub id_in : Octets → ℕ
+id_in octets = id_of octets
+
+-- By stream two octets give the length of the rest, which has the id and says the request under it, with or without the empty option 11 (RFC 7766 8, RFC 7828 3.2.1).
 pub record CarriesInFrame (octets : Octets) (r : Request) (id : ℕ) : Type 0 where
   pub rest : Octets
   pub framed : octets ≡ to_be_bytes w16 (length rest) ++ rest
+  pub named : id_in rest ≡ id
   pub says : SaysRequest rest (with_id id r) ⊎ SaysRequest rest (with_option 11 [] (with_id id r))
 
--- these octets are the request under this id, as it is sent so (RFC 1035 4.2.1, RFC 6891 6.2.3)
+-- these octets are the request under this id, which they have, as it is sent so (RFC 1035 4.2.1, RFC 6891 6.2.3)
 abbrev pub CarriesBy : Via → Octets → Request → (id : ℕ) → Type 0
-CarriesBy Dgram octets r id = Carries octets r id
+CarriesBy Dgram octets r id = Carries octets r id × (id_in octets ≡ id)
 CarriesBy Stream octets r id = CarriesInFrame octets r id
 
 -- these octets are an answer to the request under this id (RFC 5452 4.2, 9.1)
@@ -36,10 +41,6 @@ answers r id octets = is_answer id r.base octets
 -- TC is set (RFC 1035 4.1.1, RFC 2181 9)
 unfoldable pub truncated : Octets → Bool
 truncated octets = tc_of octets
-
--- the id of a message
-unfoldable pub id_in : Octets → ℕ
-id_in octets = id_of octets
 
 -- one option: its code, its length, and what follows
 abbrev pub keepalive_option : (code count : ℕ) → Octets → Option ℕ → Option ℕ

@@ -1,5 +1,6 @@
 pub mod Messages
 pub mod Rows
+pub mod Dgrams
 pub mod Streams
 pub mod Cache
 pub mod Servers

@@ -3,10 +3,16 @@
 ghost use Rattle.headline_whole.specs.examples.Cache.{asked_again, WorkedCache};
 ghost use Rattle.headline_whole.specs.Right.{Right};
 ghost use Rattle.headline_whole.specs.Timely.{Timely};
+ghost use Rattle.headline_whole.specs.examples.Dgrams.{WorkedDatagrams};
 ghost use Rattle.headline_whole.specs.examples.Rows.{by_datagrams, first_settings};
 ghost use Rattle.headline_whole.specs.examples.Runs.{IsARun};
 ghost use Rattle.headline_whole.specs.examples.Servers.{WorkedServers};
 ghost use Rattle.headline_whole.specs.examples.Streams.{cut_goes_on, WorkedStreams};
+
+/// A request by datagram: its place, its send, what answers it, and of what a failure is blamed.
+pub fn worked_datagrams()
+    ensures { WorkedDatagrams }
+{}
 
 /// A cut answer, two requests on one connection, a bad frame, an answer to another question, a refused opening, and
 /// a frame behind an end.

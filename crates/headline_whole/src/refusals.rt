@@ -1,21 +1,26 @@
 //! Traces that the definitions refuse: each lacks what it owes at one point.
 
-ghost use Rattle.std.specs.Prelude.{◌<◌, ◌≡◌, ◌≢◌, ◌≤◌, ◌∷◌, List, [], ℕ, false, length, take, true};
+ghost use Rattle.std.specs.Prelude.{◌<◌, ◌≡◌, ◌≢◌, ◌≤◌, ◌∷◌, List, [], ℕ, false, length, slice_index, take, true};
+ghost use Rattle.client_request.specs.Carries.{Carries, IsOfOctets};
 ghost use Rattle.client_request.specs.Request.{Request};
+ghost use Rattle.client_request.specs.declared.error.Error.{Error};
+ghost use Rattle.client_request.specs.declared.fault.Fault.{Fault};
 ghost use Rattle.client_request.specs.declared.event.Out.TheVariants.{Send};
 ghost use Rattle.client_request.specs.declared.event.Via.TheVariants.{Dgram};
 ghost use Rattle.client_request.specs.declared.event.What.{What};
 ghost use Rattle.headline_whole.specs.Causes.{sends};
 ghost use Rattle.headline_whole.specs.Frames.{Length, fed, is_bad};
-ghost use Rattle.headline_whole.specs.Messages.{Octets, answers, id_in, is_valid, truncated};
+ghost use Rattle.headline_whole.specs.Messages.{IsComposingFault, Octets, answers, id_in, is_valid, truncated};
+ghost use Rattle.headline_whole.specs.Orderly.{MaySend, MayWrite};
 ghost use Rattle.headline_whole.specs.Places.{is_at};
+ghost use Rattle.headline_whole.specs.Requests.{replied};
 ghost use Rattle.headline_whole.specs.Right.{OutRight, Right};
 ghost use Rattle.headline_whole.specs.Settings.{Settings};
 ghost use Rattle.headline_whole.specs.Timely.{Timely};
 ghost use Rattle.headline_whole.specs.Trace.{Conf, History};
 ghost use Rattle.headline_whole.specs.examples.Messages.{answer, plain_request, ad_request};
 ghost use Rattle.headline_whole.specs.examples.Rows.{deferring, first_settings, two_servers};
-ghost use Rattle.headline_whole.specs.examples.Wrong.{IsItsAnswer, IsItsFrame, asked_then, closed_for_nothing, failing_at_once, frame_passed_over, frame_taken, invented, nothing_sent, nothing_written, passed_over, refused_again, refused_thrice, replied_twice, second_while_open, second_while_opening, sent_at_once, sent_nowhere, sent_too_soon, still_waiting, stream_closed_for_nothing, taken, taken_unwritten, taken_when_closed, timed_out_early, wrong_without_frame};
+ghost use Rattle.headline_whole.specs.examples.Wrong.{IsItsAnswer, IsItsFrame, asked_then, blamed_unsent, blamed_when_closed, closed_for_nothing, failing_at_once, frame_passed_over, frame_taken, invented, nothing_sent, nothing_written, passed_over, refused_again, refused_thrice, replied_twice, second_while_open, second_while_opening, sent_at_once, sent_elsewhere, sent_nowhere, sent_too_soon, still_waiting, stream_closed_for_nothing, taken, taken_unwritten, taken_when_closed, timed_out_early, wrong_without_frame};
 
 /// By datagram: replies, sends, closes and answers that are not owed, or that are owed and do not stand.
 pub fn wrong_datagrams_are_refused()
@@ -32,7 +37,28 @@ pub fn wrong_datagrams_are_refused()
     ensures too_soon { (c : Conf) (s : Settings) (r : Request) (o : Octets) → Right c s (sent_too_soon r o) → ⊥ }
     ensures nowhere { (c : Conf) (s : Settings) (r : Request) (o : Octets) → Right c s (sent_nowhere r o) → ⊥ }
     ensures six_at_once { (c : Conf) (s : Settings) (r : Request) (o : Octets) → Right c s (sent_at_once r o) → ⊥ }
+    ensures elsewhere { (c : Conf) (s : Settings) (r : Request) (o : Octets) → Right c s (sent_elsewhere r o) → ⊥ }
+    ensures unsent { (c : Conf) (s : Settings) (r : Request) (f : Fault) → Right c s (blamed_unsent r f) → ⊥ }
+    ensures blamed_when_closed { (c : Conf) (s : Settings) (r : Request) (o : Octets) (f : Fault) → Right c s (blamed_when_closed r o f) → ⊥ }
+{}
+
+/// No send is right that is the seventh, and neither a send nor a write that stands after the reply or has an id past 16 bits.
+pub fn wrong_sends_are_refused()
     ensures seventh { (c : Conf) (t : Settings) (past : History) (w : What) (h end : History) (p k id s : ℕ) (o : Octets) → is_at Dgram s p h ≡ true → 6 ≤ sends k s h → OutRight c t past w h end (Send p k id o) → ⊥ }
+    ensures replied { (past h : History) (p k id : ℕ) (o : Octets) → replied k past ≡ true → MaySend k p id o past h → ⊥ }
+    ensures great_id { (past h : History) (p k id : ℕ) (o : Octets) → 65536 ≤ id → MaySend k p id o past h → ⊥ }
+    ensures written_when_replied { (past h : History) (p k id : ℕ) (o : Octets) → replied k past ≡ true → MayWrite k p id o past h → ⊥ }
+    ensures written_under_great_id { (past h : History) (p k id : ℕ) (o : Octets) → 65536 ≤ id → MayWrite k p id o past h → ⊥ }
+{}
+
+/// Octets that carry a request don't stand beside a cause that it can't be composed.
+pub fn carried_can_be_composed()
+    ensures { (r : Request) (o : Octets) (id : ℕ) (e : Error) → IsOfOctets r → ((i : ℕ) → slice_index o i < 256) → Carries o r id → IsComposingFault r e → ⊥ }
+{}
+
+/// A base below the twelve octets of a header is none.
+pub fn short_bases_are_refused()
+    ensures { (r : Request) → length r.base < 12 → IsOfOctets r → ⊥ }
 {}
 
 /// By stream: frames that are nobody's, connections that open or close without a cause, and requests that wait for nothing.

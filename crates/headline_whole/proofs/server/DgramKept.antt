@@ -52,6 +52,7 @@ pub record Old (s p id t k : ℕ) (r : Request) (octets : Octets) (past : Histor
   pub asked : (u : ℕ) × (asking k past ≡ Some (record { request = r; moment = u }))
   pub unanswered : (n : ℕ) → n < t + read_timeout → unanswered r p k id n past ≡ octets ∷ []
   pub named : IsOneOf (record { id = id; octets = octets }) (named p k past)
+  pub begun : started k s Dgram past ≡ true
 
 -- request k was sent at place p under this id at moment t
 pub record SentFits (s p id t k : ℕ) (r : Request) (past : History) (pend : What) (h : History) : Type 0 where

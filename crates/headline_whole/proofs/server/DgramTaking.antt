@@ -4,7 +4,6 @@ use Rattle.std.specs.Prelude.{if◌then◌else◌, nat_lt, nat_le, is_some}
 use Rattle.std.proofs.lemmas.Bool.{cases_eq, eqb-true}
 use Rattle.std.proofs.lemmas.Bool.Decides.{nat_tests}
 use Rattle.client_request.specs.Request.{Request}
-use Rattle.client_request.specs.Carries.{Carries}
 use Rattle.client_request.specs.declared.error.Error.{Error}
 use Rattle.client_request.specs.declared.event.Event.{Event}
 use Rattle.client_request.specs.declared.event.What.{What}
@@ -15,8 +14,8 @@ use Rattle.client_request.specs.declared.event.Via.TheVariants.{Dgram}
 use Rattle.headline_whole.specs.Trace.{History, Conf, Came, Put}
 use Rattle.headline_whole.specs.machine.Dgrams.{IsIgnored, Stage, Queued, Trying, Sent, Ending, Cut, Tryer, Dgrams, staged, send_at, leave}
 use Rattle.headline_whole.specs.Time.{now, row_before, count_below, one_if, read_timeout}
-use Rattle.headline_whole.specs.Messages.{Octets, answers}
-use Rattle.headline_whole.specs.Requests.{asking, is_ask, asks}
+use Rattle.headline_whole.specs.Messages.{Octets, CarriesBy, answers}
+use Rattle.headline_whole.specs.Requests.{asking, is_ask, asks, started}
 use Rattle.headline_whole.specs.Places.{Site, site, is_of_kind, is_alive, is_at, Stand, Unused, Opening, Alive, Gone, opened, failed, on_event, stand, is_live, reach, live}
 use Rattle.headline_whole.specs.Frames.{is_alive_stream, fed, reading, came}
 use Rattle.headline_whole.specs.Exchanges.{has_answer, is_send, unanswered, IsAmong}
@@ -156,7 +155,7 @@ named_here p k id o h =
     let e : named p k (Put (Send p k id o) ∷ h) ≡ x ∷ named p k h = grind (arith, nat_tests) in
     subst (λ l. IsOneOf x l) (sym e) (inl refl)
 
-sent_now : (s p k id : ℕ) (r : Request) (o : Octets) (past h : History) → TryingFits s p past (Opened p) h → Carries o r id → SentFits s p id (now h) k r past Tick (Put (Send p k id o) ∷ h)
+sent_now : (s p k id : ℕ) (r : Request) (o : Octets) (past h : History) → TryingFits s p past (Opened p) h → CarriesBy Dgram o r id → SentFits s p id (now h) k r past Tick (Put (Send p k id o) ∷ h)
 sent_now s p k id r o past h f carries =
     let at = dgram_at s p h f.at in
     let it : (p == p) ≡ true = grind (arith, nat_tests) in
@@ -175,7 +174,7 @@ sent_now s p k id r o past h f carries =
       only = only_send p k id o h f.none;
     }
 
-pub sends_d : (c : Conf) (s : ℕ) (past : History) (w : What) (d : Dgrams) (h : History) (p k id : ℕ) (a : Tryer) (o : Octets) → KeptD c s past w (Opened p) d h → d.held k ≡ Some a → a.stage ≡ Trying p → Carries o a.request id → KeptD c s past w Tick (send_at p id (now h) k a d) (Put (Send p k id o) ∷ h)
+pub sends_d : (c : Conf) (s : ℕ) (past : History) (w : What) (d : Dgrams) (h : History) (p k id : ℕ) (a : Tryer) (o : Octets) → KeptD c s past w (Opened p) d h → d.held k ≡ Some a → a.stage ≡ Trying p → CarriesBy Dgram o a.request id → KeptD c s past w Tick (send_at p id (now h) k a d) (Put (Send p k id o) ∷ h)
 sends_d c s past w d h p k id a o kept held stage carries =
     let f = kept.held k a held in
     let try : TryingFits s p past (Opened p) h = subst (λ st. StageFits c s k a.request past w (Opened p) h st) stage f.stage in
@@ -254,9 +253,9 @@ pub record IsAtRest (d : Dgrams) : Type 0 where
   pub ending : (k : ℕ) (a : Tryer) → d.held k ≡ Some a → (x : Result Octets Error) → a.stage ≢ Ending x
   pub cut : (k : ℕ) (a : Tryer) → d.held k ≡ Some a → a.stage ≢ Cut
 
-stage_begins : (c : Conf) (s k : ℕ) (r : Request) (past : History) (w : What) (e : Event) (h : History) (st : Stage) → ((t : ℕ) × (asking k h ≡ Some (record { request = r; moment = t }))) → ((x : Result Octets Error) → st ≢ Ending x) → st ≢ Cut → StageFits c s k r past w Tick h st → StageFits c s k r h e.what e.what (Came e ∷ h) st
-stage_begins c s k r past w e h Queued asked ending cut f = tt
-stage_begins c s k r past w e h (Trying p) asked ending cut f = record {
+stage_begins : (c : Conf) (s k : ℕ) (r : Request) (past : History) (w : What) (e : Event) (h : History) (st : Stage) → ((t : ℕ) × (asking k h ≡ Some (record { request = r; moment = t }))) → started k s Dgram h ≡ true → ((x : Result Octets Error) → st ≢ Ending x) → st ≢ Cut → StageFits c s k r past w Tick h st → StageFits c s k r h e.what e.what (Came e ∷ h) st
+stage_begins c s k r past w e h Queued asked begun ending cut f = tt
+stage_begins c s k r past w e h (Trying p) asked begun ending cut f = record {
   was = inl f.stand;
   stand = ap (on_event e.what p) f.stand;
   at = f.at;
@@ -267,7 +266,7 @@ stage_begins c s k r past w e h (Trying p) asked ending cut f = record {
     none : (r : Request) (j i n : ℕ) (b : Bool) → unanswered r p j i n h ≡ [] → (if b then [] else unanswered r p j i n h) ≡ []
     none r j i n true g = refl
     none r j i n false g = g
-stage_begins c s k r past w e h (Sent p id t) asked ending cut f = record {
+stage_begins c s k r past w e h (Sent p id t) asked begun ending cut f = record {
   octets = f.octets;
   carries = f.carries;
   stand = ap (on_event e.what p) f.stand ∙ on_alive e.what p;
@@ -275,7 +274,7 @@ stage_begins c s k r past w e h (Sent p id t) asked ending cut f = record {
   sent = f.sent;
   named = f.named;
   last = f.last;
-  lived = inr (record { alive = f.stand; at = f.at; asked = asked; unanswered = λ n lt. f.is_open refl n lt; named = f.named });
+  lived = inr (record { alive = f.stand; at = f.at; asked = asked; unanswered = λ n lt. f.is_open refl n lt; named = f.named; begun = begun });
   is_open = λ g n lt. rw g (f.is_open refl n lt);
   only = λ r' j i n o g. only r' j i n o (has_answer r' i (came p e.what h)) g;
 }
@@ -283,8 +282,8 @@ stage_begins c s k r past w e h (Sent p id t) asked ending cut f = record {
     only : (r' : Request) (j i n : ℕ) (o : Octets) (b : Bool) → IsAmong o (if b then [] else unanswered r' p j i n h) → (j ≡ k) × (i ≡ id) × (n < t + read_timeout)
     only r' j i n o true g = absurd g
     only r' j i n o false g = f.only r' j i n o g
-stage_begins c s k r past w e h (Ending x) asked ending cut f = absurd (ending x refl)
-stage_begins c s k r past w e h Cut asked ending cut f = absurd (cut refl)
+stage_begins c s k r past w e h (Ending x) asked begun ending cut f = absurd (ending x refl)
+stage_begins c s k r past w e h Cut asked begun ending cut f = absurd (cut refl)
 
 -- an event makes a place no live one but by failing to open it
 live_event : (w : What) (q : ℕ) (x : Stand) → ((f : Fault) → w ≡ OpenFailed q f → x ≢ Opening) → is_live (on_event w q x) ≡ is_live x
@@ -389,7 +388,7 @@ live_begins c s past w d e h kept rest Tick is = plain c s e h (λ q g i. absurd
 
 pub row_begins_d : (c : Conf) (s : ℕ) (past : History) (w : What) (d : Dgrams) (e : Event) (h : History) → KeptD c s past w Tick d h → IsAtRest d → KeptD c s h e.what e.what d (Came e ∷ h)
 row_begins_d c s past w d e h kept rest = record {
-  held = λ k a g. (let f = kept.held k a g in record { asked = (f.asked.0, asked_still k _ e h f.asked.1); has_it = f.has_it; unstreamed = f.unstreamed; trials = f.trials; few = f.few; stage = stage_begins c s k a.request past w e h a.stage f.asked (rest.ending k a g) (rest.cut k a g) f.stage });
+  held = λ k a g. (let f = kept.held k a g in record { asked = (f.asked.0, asked_still k _ e h f.asked.1); has_it = f.has_it; unstreamed = f.unstreamed; trials = f.trials; few = f.few; stage = stage_begins c s k a.request past w e h a.stage f.asked f.has_it (rest.ending k a g) (rest.cut k a g) f.stage });
   slots = kept.slots;
   points = kept.points;
   others = λ p g n. on_dead e.what p (stand p h) (kept.others p g n);

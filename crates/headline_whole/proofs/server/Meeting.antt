@@ -56,7 +56,7 @@ was_sent : (s p id t k : ℕ) (r : Request) (past : History) (w : What) (h : His
 was_sent s p id t k r past w h ne g f = elim f.lived [ inl e ↦ absurd (ne e.0) | inr o ↦ o ]
 
 failed_at : (s : ℕ) (told : ℕ → What) (p id t k : ℕ) (r : Request) (past : History) (h : History) → (told p ≡ Tick → ⊥) → SentFits s p id t k r past (told p) h → FailedAt told k past (told p)
-failed_at s told p id t k r past h ne f = (let o = was_sent s p id t k r past (told p) h ne f f in record { place = p; is_told = refl; request = r; asked = o.asked; send = record { id = id; octets = f.octets }; named_there = o.named; carries = f.carries })
+failed_at s told p id t k r past h ne f = (let o = was_sent s p id t k r past (told p) h ne f f in record { place = p; server = s; is_told = refl; at = dgram_at s p past o.at; alive = o.alive; has_it = o.begun; request = r; asked = o.asked; send = record { id = id; octets = f.octets }; named_there = o.named; carries = f.carries })
 
 -- A datagram that answers comes for its request.
 pub answer_comes : (c : Conf) (s : ℕ) (past : History) (p : ℕ) (o : Octets) (h : History) (k id t : ℕ) (r : Request) → s < length c.servers → replied k past ≡ false → SentFits s p id t k r past (Datagram p o) h → now h < t + read_timeout → 12 ≤ length (take 2000 o) → Comes c r Dgram s p k id (take 2000 o) past (Datagram p o) h

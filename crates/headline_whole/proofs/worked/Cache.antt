@@ -7,7 +7,7 @@ use Rattle.dns_base.specs.Message.{question_at, record_at, list_at, items_at, qu
 use Rattle.dns_base.specs.Knowing.{knows}
 use Rattle.dns_base.specs.OptRecord.{opt_of, opt_rcode}
 use Rattle.dns_base.specs.Answering.{is_answer}
-use Rattle.client_request.specs.Carries.{Carries, contents_of}
+use Rattle.client_request.specs.Carries.{contents_of}
 use Rattle.client_request.specs.declared.error.Error.TheVariants as errors
 use Rattle.client_request.specs.declared.error.QueryError.TheVariants as query
 use Rattle.client_request.specs.declared.fault.Fault.TheVariants.{Refused}
@@ -16,7 +16,7 @@ use Rattle.client_request.specs.declared.event.Out.TheVariants.{Close}
 use Rattle.client_request.specs.declared.event.Via.TheVariants.{Dgram, Stream}
 use Rattle.headline_whole.specs.Trace.{History, Came, Put}
 use Rattle.headline_whole.specs.Time.{read_timeout}
-use Rattle.headline_whole.specs.Messages.{Octets, CarriesBy, answers, truncated, base_is_read, passes_count, fits, is_valid}
+use Rattle.headline_whole.specs.Messages.{Octets, CarriesBy, id_in, answers, truncated, base_is_read, passes_count, fits, is_valid}
 use Rattle.headline_whole.specs.Keys.{Do, Ad, Plain, Covers, question_of, key_of, is_cacheable}
 use Rattle.headline_whole.specs.Parts.{Parts, Says, read_parts, known_parts, lowered_parts}
 use Rattle.headline_whole.specs.Validity.{second, validity_of_message, is_deferred}
@@ -31,13 +31,13 @@ use Rattle.headline_whole.specs.examples.Cache.{asked_again, refused_twice, Work
 use Rattle.headline_whole.proofs.client.Asked.{covers_refl}
 
 -- the requests as they are sent
-pub carried : Carries (as_datagram 18 52) plain_request 4660
-unfolding name_at walk head_at data_at data_spelling question_at record_at list_at items_at questions_of answer_of authority_of additional_of answer_items authority_items additional_items first_question sole_question reads knows opt_of opt_rcode contents_of
-carried = record { contents = _; are = refl; reading = _; read = refl; header = refl; agree = record { questions = (refl, tt); answer = tt; authority = tt; additional = (record { owner = refl; rtype = refl; class = refl; ttl = refl; content = refl }, tt) } }
+pub carried : CarriesBy Dgram (as_datagram 18 52) plain_request 4660
+unfolding name_at walk head_at data_at data_spelling question_at record_at list_at items_at questions_of answer_of authority_of additional_of answer_items authority_items additional_items first_question sole_question reads knows opt_of opt_rcode contents_of id_in
+carried = (record { contents = _; are = refl; reading = _; read = refl; header = refl; agree = record { questions = (refl, tt); answer = tt; authority = tt; additional = (record { owner = refl; rtype = refl; class = refl; ttl = refl; content = refl }, tt) } }, refl)
 
 pub carried_in_frame : CarriesBy Stream as_frame plain_request 0
-unfolding name_at walk head_at data_at data_spelling question_at record_at list_at items_at questions_of answer_of authority_of additional_of answer_items authority_items additional_items first_question sole_question reads knows opt_of opt_rcode contents_of
-carried_in_frame = record { rest = drop 2 as_frame; framed = refl; says = inr (record { contents = _; are = refl; reading = _; read = refl; header = refl; agree = record { questions = (refl, tt); answer = tt; authority = tt; additional = (record { owner = refl; rtype = refl; class = refl; ttl = refl; content = refl }, tt) } }) }
+unfolding name_at walk head_at data_at data_spelling question_at record_at list_at items_at questions_of answer_of authority_of additional_of answer_items authority_items additional_items first_question sole_question reads knows opt_of opt_rcode contents_of id_in
+carried_in_frame = record { rest = drop 2 as_frame; framed = refl; named = refl; says = inr (record { contents = _; are = refl; reading = _; read = refl; header = refl; agree = record { questions = (refl, tt); answer = tt; authority = tt; additional = (record { owner = refl; rtype = refl; class = refl; ttl = refl; content = refl }, tt) } }) }
 
 -- the answer came for the first request
 pub answers_it : answers plain_request 4660 (answer 18 52 100) ≡ true

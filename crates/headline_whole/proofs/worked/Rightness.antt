@@ -1,11 +1,11 @@
 -- The worked traces that are runs are right, as every run is.
 use Rattle.std.proofs.Common.{◌≡◌, ℕ, zero, suc, ◌<◌, Bool, true, false, ◌&&◌, List, [], ◌∷◌, refl, arith, ◌++◌}
 use Rattle.std.specs.Prelude.{Ok, map, nat_lt, slice_index}
-use Rattle.std.proofs.lemmas.Bool.{and_parts}
+use Rattle.std.proofs.lemmas.Bool.{and_parts, leb-true}
 use Rattle.std.proofs.lemmas.Bool.Decides.{nat_tests}
 use Rattle.dns_names.specs.Name.{name_at, walk, head_at}
 use Rattle.dns_base.specs.Data.{data_at, data_spelling}
-use Rattle.dns_base.specs.Draft.{question_spelling, record_spelling, size, limit_of, counts_in, fresh, with_header, pushed_question, pushed_record, cleared, finished, refusal}
+use Rattle.dns_base.specs.Draft.{size, limit_of, counts_in, fresh, with_header, pushed_question, pushed_record, cleared, finished, refusal}
 use Rattle.dns_base.specs.Sections.{counts_spelling}
 use Rattle.dns_base.specs.Message.{question_at, record_at, list_at, items_at, questions_of, answer_of, authority_of, additional_of, answer_items, authority_items, additional_items, first_question}
 use Rattle.client_request.specs.Request.{Request}
@@ -24,7 +24,7 @@ use Rattle.headline_whole.proofs.worked.Runs.{cut_goes_on_is_a_run, asked_again_
 
 -- the plain request is composed
 is_composed : (o : Octets) × (composed plain_request ≡ Ok o)
-unfolding name_at walk head_at data_at data_spelling question_at record_at list_at items_at questions_of answer_of authority_of additional_of answer_items authority_items additional_items first_question question_spelling record_spelling size limit_of counts_in fresh with_header pushed_question pushed_record cleared finished refusal counts_spelling appended composed
+unfolding name_at walk head_at data_at data_spelling question_at record_at list_at items_at questions_of answer_of authority_of additional_of answer_items authority_items additional_items first_question size limit_of counts_in fresh with_header pushed_question pushed_record cleared finished refusal counts_spelling appended composed
 is_composed = (_, refl)
 
 abbrev all_octets : List ℕ → Bool
@@ -43,8 +43,8 @@ are_octets (x ∷ xs) e zero = lt_of x (and_left (nat_lt x 256) (all_octets xs) 
     and_left false b e = absurd (cc)
 are_octets (x ∷ xs) e (suc i) = are_octets xs (and_parts (nat_lt x 256) (all_octets xs) e).1 i
 
-of_octets : IsOfOctets plain_request
-of_octets = record { base = are_octets plain_request.base refl; header = refl; opt = tt }
+pub of_octets : IsOfOctets plain_request
+of_octets = record { base = are_octets plain_request.base refl; long = leb-true 12 29 refl; header = refl; opt = tt }
 
 pub cut_goes_on_is_right : Right by_datagrams first_settings cut_goes_on × Timely by_datagrams cut_goes_on
 cut_goes_on_is_right = every_run by_datagrams first_settings composed cut_goes_on composed_composes (of_octets, (tt, (tt, (tt, (tt, (tt, (tt, tt))))))) (cut_goes_on_is_a_run composed (is_composed.0) is_composed.1)

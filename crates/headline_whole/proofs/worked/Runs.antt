@@ -4,7 +4,7 @@ use Rattle.std.specs.Prelude.{Result, Ok, Err, if◌then◌else◌}
 use Rattle.client_request.specs.Request.{Request}
 use Rattle.client_request.specs.declared.error.Error.{Error}
 use Rattle.headline_whole.specs.Time.{read_timeout, response_timeout, stream_timeout, idle_timeout}
-use Rattle.headline_whole.specs.Messages.{Octets, CarriesInFrame, base_is_read, answers, truncated, id_in, keepalive_of}
+use Rattle.headline_whole.specs.Messages.{Octets, CarriesBy, CarriesInFrame, base_is_read, answers, truncated, id_in, keepalive_of}
 use Rattle.headline_whole.specs.Frames.{Length, fed, is_bad}
 use Rattle.headline_whole.specs.Timers.{told_idle}
 use Rattle.headline_whole.specs.Writes.{Written}
@@ -20,7 +20,6 @@ use Rattle.dns_base.specs.OptRecord.{opt_of, opt_rcode}
 use Rattle.dns_base.specs.Answering.{is_answer}
 use Rattle.client_request.specs.Carries.{contents_of}
 use Rattle.client_request.specs.declared.error.Error.TheVariants as errors
-use Rattle.client_request.specs.Carries.{Carries}
 use Rattle.client_request.specs.declared.event.Row.{Row}
 use Rattle.client_request.specs.declared.event.Out.{Out}
 use Rattle.headline_whole.specs.Trace.{ByDatagrams}
@@ -127,7 +126,7 @@ module _ (compose : Request → Result Octets Error) (o : Octets) (r : Request) 
       refl others_held refl (λ j ne. not_held (x1.ups 0) j (others2 j ne) refl) (below 0 5000000 refl)))))
 
   -- A cut answer goes on by stream.
-  module _ (o1 m1 m0 w b m2 : Octets) (carries : Carries o1 r 4660) (long : 12 ≤ length (take 2000 m1)) (answers1 : answers r 4660 (take 2000 m1) ≡ true) (cut : truncated (take 2000 m1) ≡ true) (in_frame : CarriesInFrame w r 0) (some : 0 < length w) (few : length w ≤ 46) (frames : (fed Length b).frames ≡ m2 ∷ []) (good : is_bad m2 ≡ false) (id0 : id_in m2 ≡ 0) (answers2 : answers r 0 m2 ≡ true)
+  module _ (o1 m1 m0 w b m2 : Octets) (carries : CarriesBy Dgram o1 r 4660) (long : 12 ≤ length (take 2000 m1)) (answers1 : answers r 4660 (take 2000 m1) ≡ true) (cut : truncated (take 2000 m1) ≡ true) (in_frame : CarriesInFrame w r 0) (some : 0 < length w) (few : length w ≤ 46) (frames : (fed Length b).frames ≡ m2 ∷ []) (good : is_bad m2 ≡ false) (id0 : id_in m2 ≡ 0) (answers2 : answers r 0 m2 ≡ true)
       (stays : 20004 < 20004 + told_idle (keepalive_of m2) idle_timeout) (kept : outcome first_settings 0 r (Ok m2) ≡ record { request = 0; asked = r; result = Ok m2; is_stored = true }) (final : waits_for_others first_settings (Ok m2) ≡ false) where
     -- it is sent
     abbrev sent : Tryer
@@ -373,7 +372,7 @@ module _ (compose : Request → Result Octets Error) (o : Octets) (r : Request) 
     cut_run = row _ 0 _ _ x1 _ row1 (row x1 10 _ _ x2 _ row2 (row x2 20000 _ _ x3 _ row3 (row x3 20001 _ _ x4 _ row4 (row x4 20002 _ _ x5 _ row5 (row x5 20003 _ _ x6 _ row6 (row x6 20004 _ _ x7 _ row7 (Ends x7)))))))
 
   -- An answer is given again as a view, and then no more.
-  module _ (o1 m v30 v100 : Octets) (x : Parts Data) (carries : Carries o1 r 4660) (long : 12 ≤ length (take 2000 m)) (answers1 : answers r 4660 (take 2000 m) ≡ true) (whole : truncated (take 2000 m) ≡ false) (kept : outcome first_settings 0 r (Ok (take 2000 m)) ≡ record { request = 0; asked = r; result = Ok (take 2000 m); is_stored = true }) (final : waits_for_others first_settings (Ok (take 2000 m)) ≡ false)
+  module _ (o1 m v30 v100 : Octets) (x : Parts Data) (carries : CarriesBy Dgram o1 r 4660) (long : 12 ≤ length (take 2000 m)) (answers1 : answers r 4660 (take 2000 m) ≡ true) (whole : truncated (take 2000 m) ≡ false) (kept : outcome first_settings 0 r (Ok (take 2000 m)) ≡ record { request = 0; asked = r; result = Ok (take 2000 m); is_stored = true }) (final : waits_for_others first_settings (Ok (take 2000 m)) ≡ false)
       (covers : KeyCovers (key_of r) r) (valid30 : IsValidView first_settings r r (take 2000 m) x 30000000) (says30 : Says v30 (view_of r r 30000000 x)) (valid100 : IsValidView first_settings r r (take 2000 m) x 100000000) (says100 : Says v100 (view_of r r 100000000 x)) where
     -- it is sent at once
     abbrev sent0 : Tryer

@@ -6,13 +6,13 @@ use Rattle.dns_base.specs.Data.{data_at, data_spelling}
 use Rattle.dns_base.specs.Message.{question_at, record_at, list_at, items_at, questions_of, answer_of, authority_of, additional_of, answer_items, authority_items, additional_items, first_question, sole_question, reads}
 use Rattle.dns_base.specs.OptRecord.{opt_of, opt_rcode}
 use Rattle.dns_base.specs.Answering.{is_answer}
-use Rattle.client_request.specs.Carries.{Carries, contents_of}
+use Rattle.client_request.specs.Carries.{contents_of}
 use Rattle.client_request.specs.declared.fault.Fault.TheVariants.{Refused}
 use Rattle.client_request.specs.declared.event.What.TheVariants.{Ask, Opened, OpenFailed, Datagram, Tick}
 use Rattle.client_request.specs.declared.event.Via.TheVariants.{Dgram}
 use Rattle.headline_whole.specs.Trace.{History, Came}
 use Rattle.headline_whole.specs.Time.{read_timeout, EarlierRow, OfRow}
-use Rattle.headline_whole.specs.Messages.{answers, truncated}
+use Rattle.headline_whole.specs.Messages.{CarriesBy, id_in, answers, truncated}
 use Rattle.headline_whole.specs.Requests.{handed}
 use Rattle.headline_whole.specs.Places.{stand, Alive, is_told}
 use Rattle.headline_whole.specs.Validity.{is_deferred}
@@ -27,9 +27,9 @@ use Rattle.headline_whole.proofs.client.Promptness.{none_first}
 abbrev last_row : History
 last_row = Came (record { moment = record { 0 = 20000 }; what = OpenFailed 1 Refused }) ∷ so_far 3 failing_server
 
-carried : Carries (as_datagram 0 0) plain_request 0
-unfolding name_at walk head_at data_at data_spelling question_at record_at list_at items_at questions_of answer_of authority_of additional_of answer_items authority_items additional_items first_question sole_question reads opt_of opt_rcode contents_of
-carried = record { contents = _; are = refl; reading = _; read = refl; header = refl; agree = record { questions = (refl, tt); answer = tt; authority = tt; additional = (record { owner = refl; rtype = refl; class = refl; ttl = refl; content = refl }, tt) } }
+carried : CarriesBy Dgram (as_datagram 0 0) plain_request 0
+unfolding name_at walk head_at data_at data_spelling question_at record_at list_at items_at questions_of answer_of authority_of additional_of answer_items authority_items additional_items first_question sole_question reads opt_of opt_rcode contents_of id_in
+carried = (record { contents = _; are = refl; reading = _; read = refl; header = refl; agree = record { questions = (refl, tt); answer = tt; authority = tt; additional = (record { owner = refl; rtype = refl; class = refl; ttl = refl; content = refl }, tt) } }, refl)
 
 answers_it : answers plain_request 0 failing ≡ true
 unfolding answers is_answer name_at walk head_at question_at items_at

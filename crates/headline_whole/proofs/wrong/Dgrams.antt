@@ -4,7 +4,6 @@ use Rattle.std.specs.Prelude.{if◌then◌else◌}
 use Rattle.std.proofs.lemmas.Bool.Decides.{nat_tests}
 use Rattle.std.proofs.lemmas.Bool.{cases_eq, le-leb}
 use Rattle.client_request.specs.Request.{Request}
-use Rattle.client_request.specs.Carries.{Carries}
 use Rattle.client_request.specs.declared.error.Error.{Error}
 use Rattle.client_request.specs.declared.error.Error.TheVariants.{TimedOut}
 use Rattle.client_request.specs.declared.event.What.{What}
@@ -14,7 +13,7 @@ use Rattle.client_request.specs.declared.event.Via.{Via}
 use Rattle.client_request.specs.declared.event.Via.TheVariants.{Dgram, Stream}
 use Rattle.headline_whole.specs.Trace.{History, Conf, Came, Put}
 use Rattle.headline_whole.specs.Time.{read_timeout, one_if, EarlierRow, OfRow}
-use Rattle.headline_whole.specs.Messages.{Octets, answers, truncated, is_valid}
+use Rattle.headline_whole.specs.Messages.{Octets, CarriesBy, answers, truncated, is_valid}
 use Rattle.headline_whole.specs.Requests.{Asking, replied}
 use Rattle.headline_whole.specs.Places.{Stand, site, stand, Alive, Opening, is_at}
 use Rattle.headline_whole.specs.Frames.{came}
@@ -35,13 +34,13 @@ use Rattle.headline_whole.proofs.client.Promptness.{none_first}
 pub twice : (c : Conf) (s : Settings) (r : Request) → Right c s (replied_twice r) → ⊥
 twice c s r h = let f = h.0.outs.1.1.1.0 in let x = f.0.none in absurd (cc)
 
-abbrev asked_history : Request → History
+abbrev pub asked_history : Request → History
 asked_history r = Put (OpenDgram 0 0) ∷ Put (Start 0 0 Dgram) ∷ Came (record { moment = record { 0 = 0 }; what = Ask r }) ∷ []
 
-abbrev opened_history : Request → History
+abbrev pub opened_history : Request → History
 opened_history r = Came (record { moment = record { 0 = 0 }; what = Opened 0 }) ∷ asked_history r
 
-abbrev sent_history : Request → Octets → History
+abbrev pub sent_history : Request → Octets → History
 sent_history r o = Put (Send 0 0 7 o) ∷ opened_history r
 
 at_most_one : (b : Bool) → one_if b ≤ 1
@@ -213,7 +212,7 @@ module _ (c : Conf) (s : Settings) (r : Request) (o m : Octets) where
   unfolding IsExcused
   not_excused h x = (let z : false ≡ true = x.0 in cc)
 
-  pub passes_over : 0 < length c.servers → 0 < c.timeout → Carries o r 7 → 12 ≤ length (take 2000 m) → answers r 7 (take 2000 m) ≡ true → truncated (take 2000 m) ≡ false → is_final s r (take 2000 m) ≡ true → Right c s (passed_over r o m) → ⊥
+  pub passes_over : 0 < length c.servers → 0 < c.timeout → CarriesBy Dgram o r 7 → 12 ≤ length (take 2000 m) → answers r 7 (take 2000 m) ≡ true → truncated (take 2000 m) ≡ false → is_final s r (take 2000 m) ≡ true → Right c s (passed_over r o m) → ⊥
   passes_over some pos carries long agrees whole final h =
       let pos' = read_timeout_pos in
       let among : IsAmong o (unanswered r 0 0 7 0 (sent_history r o)) = grind (arith, nat_tests) in

@@ -1,6 +1,5 @@
 -- Worked traces with the cache: views at several ages, requests that differ in their flags, and a kept error.
 use Rattle.std.specs.Prelude.{◌≡◌, true, false, Some, List, [], ◌∷◌, Ok, Err, option_map}
-use Rattle.client_request.specs.Carries.{Carries}
 use Rattle.client_request.specs.declared.error.Error.TheVariants as errors
 use Rattle.client_request.specs.declared.error.Error.TheVariants.{NoTransportAvailable}
 use Rattle.client_request.specs.declared.error.QueryError.TheVariants as query
@@ -47,7 +46,7 @@ no_server = record { servers = []; timeout = 5000000 }
 pub record WorkedCache : Type 0 where
   pub cacheable : is_cacheable plain_request ≡ true
   pub valid : is_valid plain_request ≡ true
-  pub carried : Carries (as_datagram 18 52) plain_request 4660
+  pub carried : CarriesBy Dgram (as_datagram 18 52) plain_request 4660
   pub carried_in_frame : CarriesBy Stream as_frame plain_request 0
   pub is_answer : answers plain_request 4660 (answer 18 52 100) ≡ true
   -- an answer of 100 seconds, and its views

@@ -4,15 +4,15 @@ use Rattle.client_request.specs.Request.{Request}
 use Rattle.client_request.specs.declared.error.Error.TheVariants as errors
 use Rattle.client_request.specs.declared.error.Error.TheVariants.{TimedOut, WrongReplyForQuery}
 use Rattle.client_request.specs.declared.error.QueryError.TheVariants as query
+use Rattle.client_request.specs.declared.fault.Fault.{Fault}
 use Rattle.client_request.specs.declared.fault.Fault.TheVariants.{Refused}
-use Rattle.client_request.specs.declared.event.What.TheVariants.{Ask, Opened, Datagram, Bytes, Tick}
+use Rattle.client_request.specs.declared.event.What.TheVariants.{Ask, Opened, Datagram, RecvFailed, Bytes, Tick}
 use Rattle.client_request.specs.declared.event.Out.{Out}
 use Rattle.client_request.specs.declared.event.Out.TheVariants.{Start, OpenDgram, OpenStream, Send, Write, Close, Reply}
 use Rattle.client_request.specs.declared.event.Row.{Row}
 use Rattle.client_request.specs.declared.event.Via.TheVariants.{Dgram, Stream}
-use Rattle.client_request.specs.Carries.{Carries}
 use Rattle.headline_whole.specs.Trace.{Conf}
-use Rattle.headline_whole.specs.Messages.{Octets, CarriesInFrame, answers, truncated}
+use Rattle.headline_whole.specs.Messages.{Octets, CarriesBy, CarriesInFrame, answers, truncated}
 use Rattle.headline_whole.specs.Frames.{Length, fed, first_with}
 use Rattle.headline_whole.specs.Settings.{Settings}
 use Rattle.headline_whole.specs.Validity.{is_final}
@@ -58,7 +58,7 @@ passed_over r octets message = sent r octets (at 0 (Datagram 0 message) [] ∷ [
 pub record IsItsAnswer (c : Conf) (s : Settings) (r : Request) (octets message : Octets) : Type 0 where
   pub has_server : 0 < length c.servers
   pub has_time : 0 < c.timeout
-  pub carries : Carries octets r 7
+  pub carries : CarriesBy Dgram octets r 7
   pub long : 12 ≤ length (take 2000 message)
   pub answers_it : answers r 7 (take 2000 message) ≡ true
   pub whole : truncated (take 2000 message) ≡ false
@@ -79,6 +79,19 @@ sent_too_soon r octets = at 0 (Ask r) (Start 0 0 Dgram ∷ OpenDgram 0 0 ∷ Sen
 -- it is sent at a place that no out opened
 abbrev pub sent_nowhere : Request → Octets → List Row
 sent_nowhere r octets = asked r (at 0 (Opened 0) (Send 5 0 7 octets ∷ []) ∷ [])
+
+-- it is sent at a place of a server that it was not handed to
+abbrev pub sent_elsewhere : Request → Octets → List Row
+sent_elsewhere r octets = at 0 (Ask r) (Start 0 0 Dgram ∷ OpenDgram 0 1 ∷ []) ∷ at 0 (Opened 0) (Send 0 0 7 octets ∷ []) ∷ []
+
+-- a failed reading is blamed on a place where nothing was sent
+abbrev pub blamed_unsent : Request → Fault → List Row
+blamed_unsent r f = asked r (at 0 (Opened 0) [] ∷ at 0 (RecvFailed 0 f) (Close 0 ∷ Reply 0 (Err (errors.Dgram (query.Receive f))) ∷ []) ∷ [])
+
+-- a failed reading is blamed on a place that was closed after 5 s
+abbrev pub blamed_when_closed : Request → Octets → Fault → List Row
+blamed_when_closed r octets f =
+    sent r octets (at 5000000 Tick (Close 0 ∷ OpenDgram 1 0 ∷ []) ∷ at 5000001 (RecvFailed 0 f) (Reply 0 (Err (errors.Dgram (query.Receive f))) ∷ Close 1 ∷ []) ∷ [])
 
 -- it is sent six times at once
 abbrev pub sends_six : Octets → List Out

@@ -6,9 +6,9 @@ use Rattle.client_request.specs.declared.fault.Fault.{Fault}
 use Rattle.client_request.specs.declared.event.What.{What}
 use Rattle.client_request.specs.declared.event.What.TheVariants.{Opened, OpenFailed, SendFailed, ShortSend, Datagram, RecvFailed}
 use Rattle.client_request.specs.declared.event.Out.TheVariants.{OpenDgram, Send, Close}
-use Rattle.client_request.specs.Carries.{Carries}
+use Rattle.client_request.specs.declared.event.Via.TheVariants.{Dgram}
 use Rattle.headline_whole.specs.Time.{read_timeout}
-use Rattle.headline_whole.specs.Messages.{Octets, answers, truncated, IsComposingFault}
+use Rattle.headline_whole.specs.Messages.{Octets, CarriesBy, answers, truncated, IsComposingFault}
 use Rattle.headline_whole.specs.machine.Streams.{Act, Puts, Gives, Nothing, with_at}
 use Rattle.client_request.specs.declared.error.Error.TheVariants as errors
 use Rattle.client_request.specs.declared.error.QueryError.TheVariants as query
@@ -68,7 +68,7 @@ pub data Tries (s n next : ℕ) (d : Dgrams) : Act → Dgrams → Type 0 where
 
 -- What an event does at moment n.
 pub data Meets (n : ℕ) (d : Dgrams) : What → Act → Dgrams → Type 0 where
-  IsSent : (k : ℕ) (a : Tryer) (p id : ℕ) (o : Octets) → d.at p ≡ Some k → d.held k ≡ Some a → a.stage ≡ Trying p → Carries o a.request id → Meets n d (Opened p) (Puts (Send p k id o)) (send_at p id n k a d)
+  IsSent : (k : ℕ) (a : Tryer) (p id : ℕ) (o : Octets) → d.at p ≡ Some k → d.held k ≡ Some a → a.stage ≡ Trying p → CarriesBy Dgram o a.request id → Meets n d (Opened p) (Puts (Send p k id o)) (send_at p id n k a d)
   CannotBeSent : (k : ℕ) (a : Tryer) (p : ℕ) (e : Error) → d.at p ≡ Some k → d.held k ≡ Some a → a.stage ≡ Trying p → IsComposingFault a.request e → Meets n d (Opened p) (Puts (Close p)) (leave p k a (Ending (Err e)) d)
   DoesNotOpen : (k : ℕ) (a : Tryer) (p : ℕ) (f : Fault) → d.at p ≡ Some k → d.held k ≡ Some a → a.stage ≡ Trying p → Meets n d (OpenFailed p f) Nothing (leave p k a (Ending (Err (errors.Dgram (query.Connect f)))) d)
   NotSent : (k : ℕ) (a : Tryer) (p id t : ℕ) (f : Fault) → d.at p ≡ Some k → d.held k ≡ Some a → a.stage ≡ Sent p id t → Meets n d (SendFailed p f) (Puts (Close p)) (leave p k a (Ending (Err (errors.Dgram (query.Send f)))) d)

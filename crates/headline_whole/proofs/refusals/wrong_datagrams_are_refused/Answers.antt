@@ -2,6 +2,7 @@
 use Rattle.std.specs.Prelude.{[]}
 use Rattle.headline_whole.specs.examples.Rows.{first_settings}
 use Rattle.headline_whole.proofs.wrong.Dgrams as wrong
+use Rattle.headline_whole.proofs.wrong.Sends as sends
 use Rattle.headline_whole.proofs.refusals.wrong_datagrams_are_refused.Goals as goal
 
 pub returns : goal.returns
@@ -19,5 +20,7 @@ returns c = record {
   too_soon = λ c s r o. wrong.too_soon c s r o [];
   nowhere = λ c s r o. wrong.nowhere c s r o [];
   six_at_once = λ c s r o. wrong.at_once c s r o [];
-  seventh = wrong.seventh;
+  elsewhere = sends.elsewhere;
+  unsent = sends.unsent;
+  blamed_when_closed = sends.closed_blame;
 }
