@@ -6,3 +6,4 @@ pub mod server
 pub mod client
 pub mod worked
 pub mod wrong
+pub mod single

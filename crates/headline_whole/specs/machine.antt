@@ -6,3 +6,4 @@ pub mod Served
 pub mod Client
 pub mod Cache
 pub mod Exact
+pub mod Single
