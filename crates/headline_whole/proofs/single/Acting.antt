@@ -25,8 +25,9 @@ use Rattle.headline_whole.specs.machine.Served as served_by
 use Rattle.headline_whole.specs.machine.Server as server
 use Rattle.headline_whole.specs.machine.Single.{Stage, Queued, Loose, Trying, Sent, Held, State, Done, staged, with_at, loosen, try, forget, lose, put_back, give_held, give_to, give, settle, finish, retry, expire, act_at, act, Pick, IsDue, Quiet, Fires, Rests, Fires_one, remove}
 use Rattle.headline_whole.proofs.client.Beginning.{waits_not}
-use Rattle.headline_whole.proofs.single.Standing.{placed, Standing, here, there}
-use Rattle.headline_whole.proofs.single.Alike.{stage_in, tryer_of, waiting_of, Follows, both_at, one_at, Mirrors, IsTold, Told, Idle, others_stay, Alike, settled_all, Leads, Stays, Then, Does, then_does, by_one, does_so, takes_place, gives, replies}
+use Rattle.headline_whole.proofs.single.Standing.{placed, Standing, here, there, stands_so, gives_on, leaves_queue}
+use Rattle.headline_whole.proofs.single.Standing as standing
+use Rattle.headline_whole.proofs.single.Alike.{stage_in, tryer_of, waiting_of, Follows, both_at, one_at, Mirrors, IsTold, Told, Idle, others_stay, Alike, settled_all, Leads, Stays, Then, Does, then_does, by_one, does_so, leads_on, takes_place, gives, replies}
 use Rattle.client_request.specs.declared.error.Error.TheVariants as errors
 use Rattle.client_request.specs.declared.error.QueryError.TheVariants as query
 
@@ -180,3 +181,207 @@ module _ (c : Conf) (st : Settings) (compose : Request → Result Octets Error) 
             leaving = ap (λ l. l ++ z.leaving ∷ []) alike.leaving;
           };
         }
+
+    abbrev d : Dgrams
+    d = (x.ups 0).server.by_dgram
+
+    -- how the server holds a request
+    is_held : (k : ℕ) (a : Held) → s.held k ≡ Some a → d.held k ≡ Some (tryer_of a)
+    is_held k a held = alike.first.held k ∙ ap (option_map tryer_of) held
+
+    sent_in : (a : Held) (p id m : ℕ) → a.stage ≡ Sent p id m → stage_in a.stage ≡ dgrams.Sent p id m
+    sent_in a p id m e = ap stage_in e
+
+    -- its place is closed at the read timeout, and its next one opens
+    pub retries : (p id m k : ℕ) (a : Held) → s.held k ≡ Some a → a.stage ≡ Sent p id m → m + read_timeout ≤ s.now → a.tries < 6 → Does c st compose t [] x (retry p k a s).state (retry p k a s).outs
+    retries p id m k a held stage late few =
+        then_does c st compose t t [] [] x (loosen p k a s) (retry p k a s).state (Close p ∷ []) (OpenDgram s.opened 0 ∷ []) closes
+        (λ y al. takes_place c st compose t [] y (loosen p k a s) k (staged a Loose) some al (here k (Some (staged a Loose)) s.held) refl (let f = inv.few in omega arith))
+      where
+        d' : Dgrams
+        d' = dgrams.leave p k (tryer_of a) dgrams.Queued d
+
+        follows : Follows tryer_of (loosen p k a s).held d'.held
+        follows = both_at tryer_of s.held d.held alike.first.held k (Some (staged a Loose)) (Some (dgrams.staged (tryer_of a) dgrams.Queued)) refl
+
+        v : Served
+        v = has_moved (record (x.ups 0).server { by_dgram = d' }) (x.ups 0)
+
+        nowhere : (q : ℕ) → d'.at q ≡ (loosen p k a s).at q
+        nowhere q = by (p == q)
+          where
+            by : (b : Bool) → (if b then None else d.at q) ≡ (if b then None else s.at q)
+            by true = refl
+            by false = alike.first.at q
+
+        closes : Does c st compose t [] x (loosen p k a s) (Close p ∷ [])
+        closes = by_one c st compose t [] x (record { state = moved 0 (does v x.place (Puts (Close p))) x; outs = Close p ∷ [] }) (loosen p k a s)
+            (Server_moves 0 (does v x.place (Puts (Close p))) some (served_by.ByDgram (Puts (Close p)) d' _ (dgrams.Retries k (tryer_of a) p id m (is_held k a held) (sent_in a p id m stage) (subst (λ n. m + read_timeout ≤ n) (sym alike.first.clock) late) few) (AsItIs (settled_all (loosen p k a s).held d' follows))))
+            (record {
+              now = alike.now;
+              asked = alike.asked;
+              place = alike.place;
+              held = one_at waiting_of s.held x.held alike.held k (Some (staged a Loose)) (sym (alike.held k ∙ ap (option_map waiting_of) held));
+              first = record { clock = alike.first.clock; held = follows; at = nowhere; used = ap (λ n. n - 1) alike.first.used; still = alike.first.still; frames = alike.first.frames };
+              told = record { pending = alike.told.pending; taken = alike.told.taken };
+              others = others_stay t.others x.ups v alike.others;
+              pending = alike.pending;
+              board = ap (λ b. b ++ []) alike.board;
+              leaving = alike.leaving;
+            })
+
+    -- after six tries it has its reply
+    pub stops : (p id m k : ℕ) (a : Held) → s.held k ≡ Some a → a.stage ≡ Sent p id m → m + read_timeout ≤ s.now → 6 ≤ a.tries → Does c st compose t [] x (finish p k a (Err (errors.Dgram query.Timeout)) s).state (finish p k a (Err (errors.Dgram query.Timeout)) s).outs
+    stops p id m k a held stage late many =
+        settles t.first t.taken p k a (Err (errors.Dgram query.Timeout)) (has_moved (record (x.ups 0).server { by_dgram = dgrams.forget k d' }) (x.ups 0)) x.place (Close p ∷ []) held (ap placed stage) refl
+        (served_by.ByDgram (Puts (Close p)) d' _ (dgrams.StopsTrying k (tryer_of a) p id m (is_held k a held) (sent_in a p id m stage) (subst (λ n. m + read_timeout ≤ n) (sym alike.first.clock) late) many)
+          (WithResult k (dgrams.staged (tryer_of a) (dgrams.Ending (Err (errors.Dgram query.Timeout)))) (Err (errors.Dgram query.Timeout)) (here k (Some (dgrams.staged (tryer_of a) (dgrams.Ending (Err (errors.Dgram query.Timeout))))) d.held) refl))
+        (gone p k (tryer_of a) (dgrams.Ending (Err (errors.Dgram query.Timeout))) (x.ups 0) s alike.first) (record { pending = alike.told.pending; taken = alike.told.taken })
+      where
+        d' : Dgrams
+        d' = dgrams.leave p k (tryer_of a) (dgrams.Ending (Err (errors.Dgram query.Timeout))) d
+
+    -- The timeout of a request has passed: its reply is put out.
+    abbrev late_leaving : (k : ℕ) → Held → Leaving
+    late_leaving k a = record { request = k; asked = a.request; result = Err errors.TimedOut; is_stored = false }
+
+    abbrev replied : (k : ℕ) → Held → Upper Served
+    replied k a = record (leave (late_leaving k a) x) { leaving = []; stored = store x.now (late_leaving k a) x.stored }
+
+    times_out : (k : ℕ) (a : Held) → s.held k ≡ Some a → a.moment + c.timeout ≤ s.now → Leads c st compose x (Reply k (Err errors.TimedOut) ∷ []) (replied k a)
+    times_out k a held late =
+        Then x (record { state = leave (late_leaving k a) x; outs = [] }) _ (replied k a) (Times_out k (waiting_of a) (alike.held k ∙ ap (option_map waiting_of) held) (subst (λ n. a.moment + c.timeout ≤ n) (sym alike.now) late))
+        (Then (leave (late_leaving k a) x) (record { state = replied k a; outs = Reply k (Err errors.TimedOut) ∷ [] }) [] (replied k a) (Replies [] [] (late_leaving k a) (ap (λ l. l ++ late_leaving k a ∷ []) alike.leaving)) (Stays (replied k a)))
+
+    -- its server has it still, and gives it up
+    still_has : (k : ℕ) (a : Held) → s.held k ≡ Some a → holds (x.ups 0) k ≡ true
+    still_has k a held = ap (λ o. is_some o || is_some ((x.ups 0).server.by_stream.asks k)) (is_held k a held)
+
+    waits_in_vain : (k : ℕ) (a : Held) → s.held k ≡ Some a → a.stage ≡ Queued → a.moment + c.timeout ≤ s.now → Does c st compose t [] x (expire k Queued s).state (expire k Queued s).outs
+    waits_in_vain k a held stage late = record {
+      end = y;
+      leads = then_one (Reply k (Err errors.TimedOut) ∷ []) (times_out k a held late);
+      alike = record {
+        now = alike.now;
+        asked = alike.asked;
+        place = alike.place;
+        held = forgotten k s.held x.held alike.held;
+        first = record { clock = alike.first.clock; held = both_at tryer_of s.held d.held alike.first.held k None None refl; at = alike.first.at; used = alike.first.used; still = alike.first.still; frames = alike.first.frames };
+        told = record { pending = alike.told.pending; taken = alike.told.taken };
+        others = others_stay t.others x.ups v alike.others;
+        pending = alike.pending;
+        board = ap (λ b. b ++ []) alike.board;
+        leaving = refl;
+      };
+    }
+      where
+        v : Served
+        v = has_moved (record (x.ups 0).server { by_dgram = dgrams.forget k d }) (x.ups 0)
+
+        y : Upper Served
+        y = moved 0 (does v x.place Nothing) (replied k a)
+
+        then_one : (o : List Out) → Leads c st compose x o (replied k a) → Leads c st compose x o y
+        then_one o l = subst (λ o. Leads c st compose x o y) (nil_end o) (leads_on c st compose x o (replied k a) [] y l (Then (replied k a) (record { state = y; outs = [] }) [] y (Gives_up 0 k (does v x.place Nothing) some (here k None x.held) (still_has k a held) (IsGivenUp Nothing (v.server) (server.Waits (tryer_of a) (is_held k a held) (ap stage_in stage)))) (Stays y)))
+          where
+            nil_end : (o : List Out) → o ++ [] ≡ o
+            nil_end [] = refl
+            nil_end (u ∷ o) = ap (λ l. u ∷ l) (nil_end o)
+
+    tries_in_vain : (p k : ℕ) (a : Held) → s.held k ≡ Some a → placed a.stage ≡ Some p → a.moment + c.timeout ≤ s.now → Does c st compose t [] x (give (lose p k s)).state ((Reply k (Err errors.TimedOut) ∷ Close p ∷ []) ++ (give (lose p k s)).outs)
+    tries_in_vain p k a held at late =
+        then_does c st compose t t [] [] x (lose p k s) (give (lose p k s)).state (Reply k (Err errors.TimedOut) ∷ Close p ∷ []) (give (lose p k s)).outs closes
+        (λ z al. gives c st compose t [] z (lose p k s) some waits (let f = inv.few in omega arith) al)
+      where
+        v : Served
+        v = has_moved (record (x.ups 0).server { by_dgram = dgrams.forget k (dgrams.leave p k (tryer_of a) (dgrams.Ending (Err errors.TimedOut)) d) }) (x.ups 0)
+
+        y : Upper Served
+        y = moved 0 (does v x.place (Puts (Close p))) (replied k a)
+
+        waits : (j : ℕ) → IsIn j s.queue → (b : Held) × ((lose p k s).held j ≡ Some b) × (b.stage ≡ Queued)
+        waits j i = (let b = inv.queued j i in (b.0, there k j None s.held (λ is. not_there b.0 b.2 (sym held ∙ (ap s.held is ∙ b.1))) ∙ b.1, b.2))
+          where
+            not_there : (b : Held) → b.stage ≡ Queued → Some a ≡ Some b → ⊥
+            not_there b st' e = (let same' : a ≡ b = cc in let y : placed Queued ≡ Some p = ap placed (sym st') ∙ (ap (λ (a : Held). placed a.stage) (sym same') ∙ at) in cc)
+
+        placed_in : (stage : Stage) → placed stage ≡ Some p → (stage_in stage ≡ dgrams.Trying p) ⊎ ((id : ℕ) × (m : ℕ) × (stage_in stage ≡ dgrams.Sent p id m))
+        placed_in Queued e = absurd (cc)
+        placed_in Loose e = absurd (cc)
+        placed_in (Trying q) e = inl (let is : q ≡ p = cc in ap dgrams.Trying is)
+        placed_in (Sent q id m) e = inr (id, m, (let is : q ≡ p = cc in ap (λ q. dgrams.Sent q id m) is))
+
+        closes : Does c st compose t [] x (lose p k s) (Reply k (Err errors.TimedOut) ∷ Close p ∷ [])
+        closes = record {
+          end = y;
+          leads = leads_on c st compose x (Reply k (Err errors.TimedOut) ∷ []) (replied k a) (Close p ∷ []) y (times_out k a held late)
+              (Then (replied k a) (record { state = y; outs = Close p ∷ [] }) [] y (Gives_up 0 k (does v x.place (Puts (Close p))) some (here k None x.held) (still_has k a held) (IsGivenUp (Puts (Close p)) (v.server) (server.HasPlace (tryer_of a) p (is_held k a held) (placed_in a.stage at)))) (Stays y));
+          alike = record {
+            now = alike.now;
+            asked = alike.asked;
+            place = alike.place;
+            held = forgotten k s.held x.held alike.held;
+            first = gone p k (tryer_of a) (dgrams.Ending (Err errors.TimedOut)) (x.ups 0) s alike.first;
+            told = record { pending = alike.told.pending; taken = alike.told.taken };
+            others = others_stay t.others x.ups v alike.others;
+            pending = alike.pending;
+            board = ap (λ b. b ++ []) alike.board;
+            leaving = refl;
+          };
+        }
+
+    expires : (k : ℕ) (a : Held) → s.held k ≡ Some a → a.moment + c.timeout ≤ s.now → (stage : Stage) → a.stage ≡ stage → Does c st compose t [] x (expire k stage s).state (expire k stage s).outs
+    expires k a held late Queued e = waits_in_vain k a held e late
+    expires k a held late Loose e = absurd (inv.settled k a held e)
+    expires k a held late (Trying p) e = tries_in_vain p k a held (ap placed e) late
+    expires k a held late (Sent p id m) e = tries_in_vain p k a held (ap placed e) late
+
+    -- a timer that is due
+    pub fires_one : (z : Pick) → IsDue c.timeout s z → Does c st compose t [] x (act z s).state (act z s).outs
+    fires_one z due = go z.place refl
+      where
+        go : (o : Option ℕ) → z.place ≡ o → Does c st compose t [] x (act_at o z.request z.held s).state (act_at o z.request z.held s).outs
+        go None e = expires z.request z.held due.held (due.deadline e) z.held.stage refl
+        go (Some p) e = (let r = due.reading p e in by_tries p r.0 r.1 r.2 r.3 (nat_lt z.held.tries 6) refl)
+          where
+            by_tries : (p id m : ℕ) → z.held.stage ≡ Sent p id m → m + read_timeout ≤ s.now → (b : Bool) → nat_lt z.held.tries 6 ≡ b → Does c st compose t [] x (if b then retry p z.request z.held s else finish p z.request z.held (Err (errors.Dgram query.Timeout)) s).state (if b then retry p z.request z.held s else finish p z.request z.held (Err (errors.Dgram query.Timeout)) s).outs
+            by_tries p id m stage late true e = retries p id m z.request z.held due.held stage late (ltb-true z.held.tries 6 e)
+            by_tries p id m stage late false e = stops p id m z.request z.held due.held stage late (ltb-false z.held.tries 6 e)
+
+-- what a timer leaves stands
+fired_stands : (n timeout : ℕ) (s : State) → Standing n s → (z : Pick) → IsDue timeout s z → Standing n (act z s).state
+fired_stands n timeout s inv z due = go z.place refl
+  where
+    k : ℕ
+    k = z.request
+
+    a : Held
+    a = z.held
+
+    settles_so : (p : ℕ) (x : Result Octets Error) → placed a.stage ≡ Some p → Standing n (settle k x (loosen p k a s)).state
+    settles_so p x at = settled_so n s inv (λ S o. Standing n S) (λ S o f e i. stands_so n S i f e) p k a x due.held at (gives_on n s inv p k a due.held at)
+
+    expires : (stage : Stage) → a.stage ≡ stage → Standing n (expire k stage s).state
+    expires Queued e = leaves_queue n s inv k a due.held e
+    expires Loose e = absurd (inv.settled k a due.held e)
+    expires (Trying p) e = gives_on n s inv p k a due.held (ap placed e)
+    expires (Sent p id m) e = gives_on n s inv p k a due.held (ap placed e)
+
+    go : (o : Option ℕ) → z.place ≡ o → Standing n (act_at o k a s).state
+    go None e = expires a.stage refl
+    go (Some p) e = (let r = due.reading p e in by_tries p (ap placed r.2) (nat_lt a.tries 6))
+      where
+        by_tries : (p : ℕ) → placed a.stage ≡ Some p → (b : Bool) → Standing n (if b then retry p k a s else finish p k a (Err (errors.Dgram query.Timeout)) s).state
+        by_tries p at true = standing.retries n s inv p k a due.held at
+        by_tries p at false = settles_so p (Err (errors.Dgram query.Timeout)) at
+
+pub fires_stand : (n timeout : ℕ) (s : State) (d : Done) → Fires timeout s d → Standing n s → Standing n d.state × Quiet timeout d.state
+fires_stand n timeout _ _ (Rests s quiet) inv = (inv, quiet)
+fires_stand n timeout _ _ (Fires_one s z d due more) inv = fires_stand n timeout (act z s).state d more (fired_stands n timeout s inv z due)
+
+-- timers fire until none is due
+pub fires_do : (c : Conf) (st : Settings) (compose : Request → Result Octets Error) → defers_nothing st ≡ true → (t : Told) (n : ℕ) → (0 < n → 0 < length c.servers) → (s : State) (d : Done) (x : Upper Served) → Fires c.timeout s d → Alike t [] x s → Standing n s → Does c st compose t [] x d.state d.outs
+fires_do c st compose defers t n some _ _ x (Rests s quiet) alike inv = record { end = x; leads = Stays x; alike = alike }
+fires_do c st compose defers t n some _ _ x (Fires_one s z d due more) alike inv =
+    then_does c st compose t t [] [] x (act z s).state d.state (act z s).outs d.outs (fires_one c st compose defers t x s alike n inv (some (inv.some z.request z.held due.held)) z due)
+    (λ y al. fires_do c st compose defers t n some (act z s).state d y more al (fired_stands n c.timeout s inv z due))
