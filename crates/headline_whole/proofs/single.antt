@@ -1,3 +1,4 @@
 pub mod Standing
 pub mod Alike
 pub mod Acting
+pub mod Meeting

@@ -1,11 +1,15 @@
 -- The theorems that the definitions lead up to.
-use Rattle.std.specs.Prelude.{◌≡◌, ℕ, Bool, true, List, [], map, Result}
+use Rattle.std.specs.Prelude.{◌≡◌, ℕ, ◌≤◌, nat_lt, Bool, true, false, Option, Some, List, [], ◌∷◌, length, map, Result}
 use Rattle.client_request.specs.Request.{Request}
 use Rattle.client_request.specs.declared.error.Error.{Error}
+use Rattle.client_request.specs.declared.event.Event.{Event}
+use Rattle.client_request.specs.declared.event.What.{What}
+use Rattle.client_request.specs.declared.event.What.TheVariants.{Datagram}
 use Rattle.client_request.specs.declared.event.Row.{Row}
-use Rattle.headline_whole.specs.Trace.{Conf}
-use Rattle.headline_whole.specs.Messages.{Octets, Composes}
-use Rattle.headline_whole.specs.Settings.{Settings}
+use Rattle.headline_whole.specs.Trace.{Conf, Use, ByDatagrams}
+use Rattle.headline_whole.specs.Messages.{Octets, Composes, truncated}
+use Rattle.headline_whole.specs.Settings.{Settings, defers_nothing}
+use Rattle.headline_whole.specs.Orderly.{use_at}
 use Rattle.headline_whole.specs.Keys.{Key}
 use Rattle.headline_whole.specs.Right.{Right}
 use Rattle.headline_whole.specs.Timely.{AllAskedInOctets, Timely}
@@ -13,6 +17,7 @@ use Rattle.headline_whole.specs.Hit.{AllHit}
 use Rattle.headline_whole.specs.machine.Served.{served}
 use Rattle.headline_whole.specs.machine.Client.{begun, IsRun}
 use Rattle.headline_whole.specs.machine.Exact.{RunCached}
+use Rattle.headline_whole.specs.machine.Single as single
 
 -- Every run of a client of any number of servers, by datagrams and streams, is right and timely, with deferring and the cache, however messages are composed, whatever happens and whatever is chosen.
 abbrev pub EveryRunIsRight : Type 0
@@ -30,3 +35,18 @@ pub record TellsKeys (eq : Key → Key → Bool) : Type 0 where
 abbrev pub EveryCachedRunHits : Type 0
 EveryCachedRunHits = (c : Conf) (s : Settings) (compose : Request → Result Octets Error) (eq : Key → Key → Bool) (cap : ℕ) (rows : List Row)
     → Composes compose → TellsKeys eq → AllAskedInOctets (map (λ row. row.event) rows) → (run : IsRun c s compose (served c) (begun c s compose (served c)) rows) → RunCached c s compose (served c) eq cap (begun c s compose (served c)) rows run [] → AllHit c s compose cap [] rows
+
+-- no datagram of three octets or more has TC set
+abbrev pub IsUncut : What → Type 0
+IsUncut (Datagram p o) = 3 ≤ length o → truncated o ≡ false
+IsUncut _ = Unit {0}
+
+abbrev pub NoneIsTruncated : List Event → Type 0
+NoneIsTruncated [] = Unit {0}
+NoneIsTruncated (e ∷ es) = IsUncut e.what × NoneIsTruncated es
+
+-- A client of one server by datagrams makes only runs that the client of any number makes that defers nothing, where no datagram that comes is truncated.
+abbrev pub RunsOfOneServerAreRuns : Type 0
+RunsOfOneServerAreRuns = (c : Conf) (s : Settings) (compose : Request → Result Octets Error) (rows : List Row)
+    → Composes compose → defers_nothing s ≡ true → ((u : Use) → use_at 0 c.servers ≡ Some u → u ≡ ByDatagrams) → AllAskedInOctets (map (λ row. row.event) rows) → NoneIsTruncated (map (λ row. row.event) rows)
+    → single.IsRun compose (nat_lt 0 (length c.servers)) c.timeout single.fresh rows → IsRun c s compose (served c) (begun c s compose (served c)) rows

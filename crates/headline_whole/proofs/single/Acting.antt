@@ -66,13 +66,13 @@ module _ (n : ℕ) (s : State) (inv : Standing n s) (P : State → List Out → 
   settled_so p k a x held at = either_order p k a held at
 
 -- a result that leaves unchanged
-record IsLeft (st : Settings) (k : ℕ) (q : Request) (r : Result Octets Error) : Type 0 where
-  leaving : Leaving
-  is : IsOutcome st k q r leaving
-  request : leaving.request ≡ k
-  result : leaving.result ≡ r
+pub record IsLeft (st : Settings) (k : ℕ) (q : Request) (r : Result Octets Error) : Type 0 where
+  pub leaving : Leaving
+  pub is : IsOutcome st k q r leaving
+  pub request : leaving.request ≡ k
+  pub result : leaving.result ≡ r
 
-left_so : (st : Settings) (k : ℕ) (q : Request) (r : Result Octets Error) → IsLeft st k q r
+pub left_so : (st : Settings) (k : ℕ) (q : Request) (r : Result Octets Error) → IsLeft st k q r
 left_so st k q (Err e) = record { leaving = outcome st k q (Err e); is = Caches; request = number (is_cacheable q); result = as_it_is (is_cacheable q) }
   where
     number : (b : Bool) → (outcome_of b (Some st.transport_failure_duration) k q (Err e)).request ≡ k
