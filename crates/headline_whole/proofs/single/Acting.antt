@@ -66,14 +66,15 @@ module _ (n : ℕ) (s : State) (inv : Standing n s) (P : State → List Out → 
   settled_so p k a x held at = either_order p k a held at
 
 -- a result that leaves unchanged
-pub record IsLeft (st : Settings) (k : ℕ) (q : Request) (r : Result Octets Error) : Type 0 where
-  pub leaving : Leaving
-  pub is : IsOutcome st k q r leaving
-  pub request : leaving.request ≡ k
-  pub result : leaving.result ≡ r
+record IsLeft (st : Settings) (k : ℕ) (q : Request) (r : Result Octets Error) : Type 0 where
+  leaving : Leaving
+  is : IsOutcome st k q r leaving
+  request : leaving.request ≡ k
+  result : leaving.result ≡ r
 
-pub left_so : (st : Settings) (k : ℕ) (q : Request) (r : Result Octets Error) → IsLeft st k q r
-left_so st k q (Err e) = record { leaving = outcome st k q (Err e); is = Caches; request = number (is_cacheable q); result = as_it_is (is_cacheable q) }
+-- an error leaves as it is
+pub error_so : (st : Settings) (k : ℕ) (q : Request) (e : Error) → ((outcome st k q (Err e)).request ≡ k) × ((outcome st k q (Err e)).result ≡ Err e)
+error_so st k q e = (number (is_cacheable q), as_it_is (is_cacheable q))
   where
     number : (b : Bool) → (outcome_of b (Some st.transport_failure_duration) k q (Err e)).request ≡ k
     number true = refl
@@ -82,6 +83,9 @@ left_so st k q (Err e) = record { leaving = outcome st k q (Err e); is = Caches;
     as_it_is : (b : Bool) → (outcome_of b (Some st.transport_failure_duration) k q (Err e)).result ≡ Err e
     as_it_is true = refl
     as_it_is false = refl
+
+left_so : (st : Settings) (k : ℕ) (q : Request) (r : Result Octets Error) → IsLeft st k q r
+left_so st k q (Err e) = (let z = error_so st k q e in record { leaving = outcome st k q (Err e); is = Caches; request = z.0; result = z.1 })
 left_so st k q (Ok m) = go (validity_of_message st m) refl
   where
     number : (b : Bool) (n : ℕ) → (outcome_of b (Some n) k q (Ok m)).request ≡ k
