@@ -50,3 +50,9 @@ abbrev pub RunsOfOneServerAreRuns : Type 0
 RunsOfOneServerAreRuns = (c : Conf) (s : Settings) (compose : Request → Result Octets Error) (rows : List Row)
     → Composes compose → defers_nothing s ≡ true → ((u : Use) → use_at 0 c.servers ≡ Some u → u ≡ ByDatagrams) → AllAskedInOctets (map (λ row. row.event) rows) → NoneIsTruncated (map (λ row. row.event) rows)
     → single.IsRun compose (nat_lt 0 (length c.servers)) c.timeout single.fresh rows → IsRun c s compose (served c) (begun c s compose (served c)) rows
+
+-- So each of these is right and timely.
+abbrev pub EveryRunOfOneServerIsRight : Type 0
+EveryRunOfOneServerIsRight = (c : Conf) (s : Settings) (compose : Request → Result Octets Error) (rows : List Row)
+    → Composes compose → defers_nothing s ≡ true → ((u : Use) → use_at 0 c.servers ≡ Some u → u ≡ ByDatagrams) → AllAskedInOctets (map (λ row. row.event) rows) → NoneIsTruncated (map (λ row. row.event) rows)
+    → single.IsRun compose (nat_lt 0 (length c.servers)) c.timeout single.fresh rows → Right c s rows × Timely c rows

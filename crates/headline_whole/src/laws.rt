@@ -9,7 +9,7 @@ ghost use Rattle.headline_whole.specs.Keys.{Covers, is_cacheable};
 ghost use Rattle.headline_whole.specs.Messages.{Composes, Octets};
 ghost use Rattle.headline_whole.specs.Parts.{Item, Parts};
 ghost use Rattle.headline_whole.specs.Settings.{Settings};
-ghost use Rattle.headline_whole.specs.Theorem.{EveryCachedRunHits, EveryRunIsRight};
+ghost use Rattle.headline_whole.specs.Theorem.{EveryCachedRunHits, EveryRunIsRight, EveryRunOfOneServerIsRight, RunsOfOneServerAreRuns};
 ghost use Rattle.headline_whole.specs.Validity.{second};
 ghost use Rattle.headline_whole.specs.Views.{IsLessened, IsValidView, view_of, view_validity};
 
@@ -23,6 +23,13 @@ pub fn composing_composes()
 /// deferring and the cache, however it composes, whatever happens.
 pub fn every_run_is_right()
     ensures { EveryRunIsRight }
+{}
+
+/// A client of one server by datagrams that comes upon no cut answer makes only runs of the client of small moves, so
+/// each of these is right and timely.
+pub fn runs_of_one_server_are_runs()
+    ensures runs { RunsOfOneServerAreRuns }
+    ensures right { EveryRunOfOneServerIsRight }
 {}
 
 /// In every run whose cache is exact, an asking that the cache must answer is answered in its own row.

@@ -11,7 +11,7 @@ pub use examples::{
 };
 pub use laws::{
     composing_composes, covering_is_an_order, every_cached_run_hits, every_run_is_right,
-    no_ttl_falls_below_zero, views_compose,
+    no_ttl_falls_below_zero, runs_of_one_server_are_runs, views_compose,
 };
 pub use refusals::{
     carried_can_be_composed, short_bases_are_refused, wrong_datagrams_are_refused,

@@ -56,7 +56,7 @@ module _ (n : ℕ) (s : State) (inv : Standing n s) (P : State → List Out → 
           let ne : k ≢ j = λ is. not_there b.0 b.2 (sym held ∙ (ap s.held is ∙ b.1)) in
           let y : P (give_held j (Some b.0) (put_back q (lose p k s))).state (give_held j (Some b.0) (put_back q (lose p k s))).outs = subst (λ o. P (give_held j o (put_back q (lose p k s))).state (give_held j o (put_back q (lose p k s))).outs) (there k j None s.held ne ∙ b.1) x in
           let z : P (forget k (give_held j (Some b.0) (put_back q (loosen p k a s))).state) (give_held j (Some b.0) (put_back q (loosen p k a s))).outs =
-              so (try j b.0 (put_back q (lose p k s))) (OpenDgram s.opened 0 ∷ []) (with_at k None (with_at j (Some (staged b.0 (Trying s.opened))) (with_at k (Some (staged a Loose)) s.held))) (swapped j ne (Some (staged b.0 (Trying s.opened))) (Some (staged a Loose)) s.held) y in
+          so (try j b.0 (put_back q (lose p k s))) (OpenDgram s.opened 0 ∷ []) (with_at k None (with_at j (Some (staged b.0 (Trying s.opened))) (with_at k (Some (staged a Loose)) s.held))) (swapped j ne (Some (staged b.0 (Trying s.opened))) (Some (staged a Loose)) s.held) y in
           subst (λ o. P (forget k (give_held j o (put_back q (loosen p k a s))).state) (give_held j o (put_back q (loosen p k a s))).outs) (sym (there k j (Some (staged a Loose)) s.held ne ∙ b.1)) z
         where
           not_there : (b : Held) → b.stage ≡ Queued → Some a ≡ Some b → ⊥
@@ -239,7 +239,7 @@ module _ (c : Conf) (st : Settings) (compose : Request → Result Octets Error) 
     stops p id m k a held stage late many =
         settles t.first t.taken p k a (Err (errors.Dgram query.Timeout)) (has_moved (record (x.ups 0).server { by_dgram = dgrams.forget k d' }) (x.ups 0)) x.place (Close p ∷ []) held (ap placed stage) refl
         (served_by.ByDgram (Puts (Close p)) d' _ (dgrams.StopsTrying k (tryer_of a) p id m (is_held k a held) (sent_in a p id m stage) (subst (λ n. m + read_timeout ≤ n) (sym alike.first.clock) late) many)
-          (WithResult k (dgrams.staged (tryer_of a) (dgrams.Ending (Err (errors.Dgram query.Timeout)))) (Err (errors.Dgram query.Timeout)) (here k (Some (dgrams.staged (tryer_of a) (dgrams.Ending (Err (errors.Dgram query.Timeout))))) d.held) refl))
+        (WithResult k (dgrams.staged (tryer_of a) (dgrams.Ending (Err (errors.Dgram query.Timeout)))) (Err (errors.Dgram query.Timeout)) (here k (Some (dgrams.staged (tryer_of a) (dgrams.Ending (Err (errors.Dgram query.Timeout))))) d.held) refl))
         (gone p k (tryer_of a) (dgrams.Ending (Err (errors.Dgram query.Timeout))) (x.ups 0) s alike.first) (record { pending = alike.told.pending; taken = alike.told.taken })
       where
         d' : Dgrams

@@ -156,7 +156,7 @@ module _ (c : Conf) (st : Settings) (compose : Request → Result Octets Error) 
         told = record t { first = Tick; taken = true };
         does = settles c st compose defers t x s alike (length c.servers) inv (inv.some k a held) Tick true p k a r u (place_after act x.place) (outs_of act) held at same
             (TellsDgrams act d' _ alike.told.taken in_time (subst (λ w. dgrams.Meets (x.ups 0).clock d w act d') (sym alike.told.pending) meets) (foreign (x.ups 0).pending (x.ups 0).server.by_stream alike.first.still)
-              (WithResult k (dgrams.staged (tryer_of a) (dgrams.Ending r)) r (here k (Some (dgrams.staged (tryer_of a) (dgrams.Ending r))) d.held) refl))
+            (WithResult k (dgrams.staged (tryer_of a) (dgrams.Ending r)) r (here k (Some (dgrams.staged (tryer_of a) (dgrams.Ending r))) d.held) refl))
             (let g = gone p k (tryer_of a) (dgrams.Ending r) (x.ups 0) s alike.first in record { clock = g.clock; held = g.held; at = g.at; used = g.used; still = g.still; frames = refl })
             (record { pending = refl; taken = refl });
         answered = not_asked;
@@ -224,7 +224,7 @@ module _ (c : Conf) (st : Settings) (compose : Request → Result Octets Error) 
         told = record t { first = Tick; taken = true };
         does = by_one c st compose (record t { first = Tick; taken = true }) [] x (record { state = moved 0 (does u x.place (Puts (Send p k id o))) x; outs = Send p k id o ∷ [] }) (dispatch p k id a s)
             (Server_moves 0 (does u x.place (Puts (Send p k id o))) (inv.some k a held)
-              (TellsDgrams (Puts (Send p k id o)) d' _ alike.told.taken in_time (subst (λ w. dgrams.Meets (x.ups 0).clock d w (Puts (Send p k id o)) d') (sym alike.told.pending) meets) (foreign (x.ups 0).pending (x.ups 0).server.by_stream alike.first.still) (AsItIs (settled_all (dispatch p k id a s).held d' follows))))
+            (TellsDgrams (Puts (Send p k id o)) d' _ alike.told.taken in_time (subst (λ w. dgrams.Meets (x.ups 0).clock d w (Puts (Send p k id o)) d') (sym alike.told.pending) meets) (foreign (x.ups 0).pending (x.ups 0).server.by_stream alike.first.still) (AsItIs (settled_all (dispatch p k id a s).held d' follows))))
             (record {
               now = alike.now;
               asked = alike.asked;
@@ -281,7 +281,7 @@ module _ (c : Conf) (st : Settings) (compose : Request → Result Octets Error) 
                   let long = leb-true 12 (length (take 2000 o)) e1 in
                   let is : dgrams.stage_of (take 2000 o) ≡ dgrams.Ending (Ok (take 2000 o)) = ap (λ b. if b then dgrams.Cut else dgrams.Ending (Ok (take 2000 o))) (uncut p o whole long) in
                   rw (e1, e2) (ends not_asked p k a (Ok (take 2000 o)) (Puts (Close p)) held (ap placed stage)
-                    (subst (λ st. dgrams.Meets (x.ups 0).clock d w (Puts (Close p)) (dgrams.leave p k (tryer_of a) st d)) is (meets k a id m (at_it p k at) (is_held k a held) (ap stage_in stage) long e2)) refl)
+                  (subst (λ st. dgrams.Meets (x.ups 0).clock d w (Puts (Close p)) (dgrams.leave p k (tryer_of a) st d)) is (meets k a id m (at_it p k at) (is_held k a held) (ap stage_in stage) long e2)) refl)
 
     -- a place opens for which somebody waits
     opens : (p id : ℕ) (x : Upper Served) (s : State) → Alike (record { upper = Opened p; first = Opened p; taken = false; others = Opened p }) [] x s → Standing (length c.servers) s → Quiet c.timeout s → id < 65536 → Meets (Opened p) x s (content compose has (Opened p) id s)
@@ -370,7 +370,7 @@ module _ (c : Conf) (st : Settings) (compose : Request → Result Octets Error) 
           leads = subst (λ k. Leads c st compose x (Start k 0 Dgram ∷ []) x2) alike.asked
               (Then x (record { state = x1; outs = [] }) _ x2 (Takes_on r o alike.pending composed some)
               (Then x1 (record { state = x2; outs = Start x.asked 0 Dgram ∷ [] }) [] x2
-                (Hands_on 0 x.asked (upper.newcomer r x.now) (does (has_moved v (x.ups 0)) x1.place (Puts (Start x.asked 0 Dgram))) some (here x.asked (Some (upper.newcomer r x.now)) x.held) refl (IsHanded ByDatagrams (Puts (Start x.asked 0 Dgram)) v used_so (server.ToDgrams refl unheld)))
+              (Hands_on 0 x.asked (upper.newcomer r x.now) (does (has_moved v (x.ups 0)) x1.place (Puts (Start x.asked 0 Dgram))) some (here x.asked (Some (upper.newcomer r x.now)) x.held) refl (IsHanded ByDatagrams (Puts (Start x.asked 0 Dgram)) v used_so (server.ToDgrams refl unheld)))
               (Stays x2)));
           alike = record {
             now = alike.now;

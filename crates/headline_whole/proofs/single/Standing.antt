@@ -79,29 +79,32 @@ module _ (n : ℕ) (s : State) (inv : Standing n s) where
 
   -- and the request that waits longest takes the next place
   pub passes : (p k : ℕ) (a : Held) (j : ℕ) (b : Held) (q : List ℕ) → s.held k ≡ Some a → placed a.stage ≡ Some p → s.queue ≡ j ∷ q → s.held j ≡ Some b → b.stage ≡ Queued → (k ≢ j) × Standing n (try j b (put_back q (lose p k s)))
-  passes p k a j b q held at is held' stage = (ne, record {
-    slots = λ r i e. elim (was_at s.opened j (with_at p None s.at) r i e) [
-      | inl w ↦ (staged b (Trying s.opened), subst (λ i. with_at j (Some (staged b (Trying s.opened))) (with_at k None s.held) i ≡ Some (staged b (Trying s.opened))) w.1 (here j (Some (staged b (Trying s.opened))) (with_at k None s.held)), ap Some w.0)
-      | inr w ↦
-          (let v = was_left p s.at r i w.1 in
-          let g = inv.slots r i v.1 in
-          let not_k : k ≢ i = λ e. v.0 (let same : a ≡ g.0 = one_of i a g.0 s (ap s.held (sym e) ∙ held) g.1 in let z : Some p ≡ Some r = sym at ∙ (ap (λ (a : Held). placed a.stage) same ∙ g.2) in cc) in
-          let not_j : j ≢ i = λ e. (let same : b ≡ g.0 = one_of i b g.0 s (ap s.held (sym e) ∙ held') g.1 in let z : placed Queued ≡ Some r = ap placed (sym stage) ∙ (ap (λ (a : Held). placed a.stage) same ∙ g.2) in cc) in
-          (g.0, there j i (Some (staged b (Trying s.opened))) (with_at k None s.held) not_j ∙ (there k i None s.held not_k ∙ g.1), g.2))
-    ];
-    few = (let f = inv.few in omega arith);
-    lined = λ i h e st. elim (was_at j (staged b (Trying s.opened)) (with_at k None s.held) i h e) [
-      | inl w ↦ absurd (let z : Trying s.opened ≡ Queued = ap (λ (a : Held). a.stage) w.1 ∙ st in cc)
-      | inr w ↦ (let v = was_left k s.held i h w.1 in in_rest i w.0 (subst (IsIn i) is (inv.lined i h v.1 st)))
-    ];
-    queued = λ i l. (let g = inv.queued i (subst (IsIn i) (sym is) (inr l)) in (g.0, there j i (Some (staged b (Trying s.opened))) (with_at k None s.held) (λ e. dis.0 (subst (λ i. IsIn i q) (sym e) l)) ∙ (there k i None s.held (λ e. not_in_queue k a p held at (subst (λ k. IsIn k s.queue) (sym e) (subst (IsIn i) (sym is) (inr l)))) ∙ g.1), g.2));
-    distinct = dis.1;
-    full = λ i l. (let f = inv.full j (subst (IsIn j) (sym is) (inl refl)) in omega arith);
-    unasked = λ i le. none i le;
-    octets = λ i h e. elim (was_at j (staged b (Trying s.opened)) (with_at k None s.held) i h e) [ inl w ↦ subst (λ (h : Held). IsOfOctets h.request) w.1 (inv.octets j b held') | inr w ↦ inv.octets i h (was_left k s.held i h w.1).1 ];
-    some = λ i h e. inv.some j b held';
-    settled = λ i h e. elim (was_at j (staged b (Trying s.opened)) (with_at k None s.held) i h e) [ inl w ↦ subst (λ (h : Held). h.stage ≢ Loose) w.1 (trying_fixed s.opened) | inr w ↦ inv.settled i h (was_left k s.held i h w.1).1 ];
-  })
+  passes p k a j b q held at is held' stage = (
+    ne,
+    record {
+      slots = λ r i e. elim (was_at s.opened j (with_at p None s.at) r i e) [
+        | inl w ↦ (staged b (Trying s.opened), subst (λ i. with_at j (Some (staged b (Trying s.opened))) (with_at k None s.held) i ≡ Some (staged b (Trying s.opened))) w.1 (here j (Some (staged b (Trying s.opened))) (with_at k None s.held)), ap Some w.0)
+        | inr w ↦
+            (let v = was_left p s.at r i w.1 in
+            let g = inv.slots r i v.1 in
+            let not_k : k ≢ i = λ e. v.0 (let same : a ≡ g.0 = one_of i a g.0 s (ap s.held (sym e) ∙ held) g.1 in let z : Some p ≡ Some r = sym at ∙ (ap (λ (a : Held). placed a.stage) same ∙ g.2) in cc) in
+            let not_j : j ≢ i = λ e. (let same : b ≡ g.0 = one_of i b g.0 s (ap s.held (sym e) ∙ held') g.1 in let z : placed Queued ≡ Some r = ap placed (sym stage) ∙ (ap (λ (a : Held). placed a.stage) same ∙ g.2) in cc) in
+            (g.0, there j i (Some (staged b (Trying s.opened))) (with_at k None s.held) not_j ∙ (there k i None s.held not_k ∙ g.1), g.2))
+      ];
+      few = (let f = inv.few in omega arith);
+      lined = λ i h e st. elim (was_at j (staged b (Trying s.opened)) (with_at k None s.held) i h e) [
+        | inl w ↦ absurd (let z : Trying s.opened ≡ Queued = ap (λ (a : Held). a.stage) w.1 ∙ st in cc)
+        | inr w ↦ (let v = was_left k s.held i h w.1 in in_rest i w.0 (subst (IsIn i) is (inv.lined i h v.1 st)))
+      ];
+      queued = λ i l. (let g = inv.queued i (subst (IsIn i) (sym is) (inr l)) in (g.0, there j i (Some (staged b (Trying s.opened))) (with_at k None s.held) (λ e. dis.0 (subst (λ i. IsIn i q) (sym e) l)) ∙ (there k i None s.held (λ e. not_in_queue k a p held at (subst (λ k. IsIn k s.queue) (sym e) (subst (IsIn i) (sym is) (inr l)))) ∙ g.1), g.2));
+      distinct = dis.1;
+      full = λ i l. (let f = inv.full j (subst (IsIn j) (sym is) (inl refl)) in omega arith);
+      unasked = λ i le. none i le;
+      octets = λ i h e. elim (was_at j (staged b (Trying s.opened)) (with_at k None s.held) i h e) [ inl w ↦ subst (λ (h : Held). IsOfOctets h.request) w.1 (inv.octets j b held') | inr w ↦ inv.octets i h (was_left k s.held i h w.1).1 ];
+      some = λ i h e. inv.some j b held';
+      settled = λ i h e. elim (was_at j (staged b (Trying s.opened)) (with_at k None s.held) i h e) [ inl w ↦ subst (λ (h : Held). h.stage ≢ Loose) w.1 (trying_fixed s.opened) | inr w ↦ inv.settled i h (was_left k s.held i h w.1).1 ];
+    },
+  )
     where
       dis : (IsIn j q → ⊥) × Distinct q
       dis = subst Distinct is inv.distinct
