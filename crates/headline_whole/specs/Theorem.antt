@@ -1,5 +1,5 @@
 -- The theorems that the definitions lead up to.
-use Rattle.std.specs.Prelude.{◌≡◌, ℕ, ◌≤◌, nat_lt, Bool, true, false, Option, Some, List, [], ◌∷◌, length, map, Result}
+use Rattle.std.specs.Prelude.{◌≡◌, ℕ, ◌≤◌, nat_lt, Bool, true, false, Some, List, [], ◌∷◌, length, map, Result}
 use Rattle.client_request.specs.Request.{Request}
 use Rattle.client_request.specs.declared.error.Error.{Error}
 use Rattle.client_request.specs.declared.event.Event.{Event}

@@ -32,7 +32,7 @@ use Rattle.headline_whole.specs.Theorem.{TellsKeys}
 use Rattle.headline_whole.specs.machine.Cache.{Op, AskDoes, after_ops, Between, Ended, Asked, Replied, RepliedUnstored}
 use Rattle.headline_whole.specs.Hit.{asks_since, replies_since, is_some_reply, other_replies, IsViewOf, OutIsView, AllAreViews, IsHit, Views, CantRead, Hits, AllHit}
 use Rattle.headline_whole.specs.machine.Exact.{Value, value_of, RunCached, Serves, ServedBy, Viewing, NotReading, Looks, Looked, LeftAlone, Cached, AllCached}
-use Rattle.headline_whole.specs.machine.Client.{unmade, Leaving, Upper, Made, outcome, Move, Server_moves, Hands_on, Gives_up, Drops, Keeps_back, Delivers, Concludes, Times_out, Replies, Forgets, Derives, Answers, Takes_on, Moves, Rests, Goes, IsDone, IsStep, IsRun, Ends, Goes_on, row_begins, begun, answer}
+use Rattle.headline_whole.specs.machine.Client.{unmade, Leaving, Upper, Made, Move, Server_moves, Hands_on, Gives_up, Drops, Keeps_back, Delivers, Concludes, Times_out, Replies, Forgets, Derives, Answers, Takes_on, Moves, Rests, Goes, IsDone, IsStep, IsRun, Ends, Goes_on, row_begins, begun, answer}
 use Rattle.headline_whole.proofs.client.Kept.{Kept, MayStore, LeavingFits}
 use Rattle.headline_whole.proofs.client.Later.{put_more, now_all, asking_all, ever_all}
 use Rattle.headline_whole.proofs.client.Lists.{decide, in_left, in_right, in_here, in_but}

@@ -16,7 +16,7 @@ use Rattle.headline_whole.specs.Keys.{key_of}
 use Rattle.headline_whole.specs.Validity.{waits_for_others}
 use Rattle.headline_whole.specs.Errors.{HereOrEarlier, Deadline, Own}
 use Rattle.headline_whole.specs.Right.{OutsRight, ReplyRight}
-use Rattle.headline_whole.specs.machine.Client.{Given, Waiting, Leaving, Upper, Made, unmade, with_held, keeping, leave, answer, take_on, outcome, Move, Server_moves, Hands_on, Gives_up, Drops, Keeps_back, Delivers, Concludes, Times_out, Replies, Forgets, Derives, Answers, Takes_on, Moves, Rests, Goes, IsDone}
+use Rattle.headline_whole.specs.machine.Client.{Given, Waiting, Leaving, Upper, Made, unmade, with_held, keeping, leave, answer, take_on, Move, Server_moves, Hands_on, Gives_up, Drops, Keeps_back, Delivers, Concludes, Times_out, Replies, Forgets, Derives, Answers, Takes_on, Moves, Rests, Goes, IsDone}
 use Rattle.headline_whole.specs.Parts.{IsIn}
 use Rattle.headline_whole.proofs.client.Kept.{needs_all, Leaves, MayStore, EntryFits, Kept}
 use Rattle.headline_whole.proofs.client.Later.{later_all, put_more}

@@ -1,5 +1,5 @@
 -- What timers of the one server do, done by the client of parts.
-use Rattle.std.proofs.Common.{◌≡◌, ◌≢◌, ℕ, zero, suc, ◌+◌, ◌-◌, ◌<◌, ◌≤◌, Bool, true, false, ◌⊎◌, inl, inr, Option, Some, None, List, [], ◌∷◌, ◌++◌, length, map, refl, arith, sym, ap, subst, ◌∙◌, ◌==◌}
+use Rattle.std.proofs.Common.{◌≡◌, ◌≢◌, ℕ, ◌+◌, ◌-◌, ◌<◌, ◌≤◌, Bool, true, false, ◌⊎◌, inl, inr, Option, Some, None, List, [], ◌∷◌, ◌++◌, length, refl, arith, sym, ap, subst, ◌∙◌, ◌==◌}
 use Rattle.std.specs.Prelude.{if◌then◌else◌, ◌||◌, is_some, nat_lt, Result, Ok, Err, option_map}
 use Rattle.std.proofs.lemmas.Bool.Decides.{nat_tests}
 use Rattle.std.proofs.lemmas.Bool.{cases_eq, ltb-true, ltb-false}
@@ -19,15 +19,15 @@ use Rattle.headline_whole.specs.machine.Part.{Act}
 use Rattle.headline_whole.specs.machine.Streams.{Puts, Nothing}
 use Rattle.headline_whole.specs.machine.Dgrams.{Dgrams, Tryer}
 use Rattle.headline_whole.specs.machine.Served.{Served, served, holds, has_moved, does, Acts, AsItIs, WithResult, IsGivenUp}
-use Rattle.headline_whole.specs.machine.Client.{Waiting, Leaving, Upper, Made, Move, Server_moves, Gives_up, Delivers, Times_out, Replies, moved, with_up, leave, store, outcome, outcome_of, IsOutcome, Caches, Passes}
+use Rattle.headline_whole.specs.machine.Client.{Waiting, Leaving, Upper, Server_moves, Gives_up, Delivers, Times_out, Replies, moved, leave, store, outcome, outcome_of, IsOutcome, Caches, Passes}
 use Rattle.headline_whole.specs.machine.Dgrams as dgrams
 use Rattle.headline_whole.specs.machine.Served as served_by
 use Rattle.headline_whole.specs.machine.Server as server
-use Rattle.headline_whole.specs.machine.Single.{Stage, Queued, Loose, Trying, Sent, Held, State, Done, staged, with_at, loosen, try, forget, lose, put_back, give_held, give_to, give, settle, finish, retry, expire, act_at, act, Pick, IsDue, Quiet, Fires, Rests, Fires_one, remove}
+use Rattle.headline_whole.specs.machine.Single.{Stage, Queued, Loose, Trying, Sent, Held, State, Done, staged, with_at, loosen, try, forget, lose, put_back, give_held, give_to, give, settle, finish, retry, expire, act_at, act, Pick, IsDue, Quiet, Fires, Rests, Fires_one}
 use Rattle.headline_whole.proofs.client.Beginning.{waits_not}
 use Rattle.headline_whole.proofs.single.Standing.{placed, Standing, here, there, stands_so, gives_on, leaves_queue}
 use Rattle.headline_whole.proofs.single.Standing as standing
-use Rattle.headline_whole.proofs.single.Alike.{stage_in, tryer_of, waiting_of, Follows, both_at, one_at, Mirrors, IsTold, Told, Idle, others_stay, Alike, settled_all, Leads, Stays, Then, Does, then_does, by_one, does_so, leads_on, takes_place, gives, replies}
+use Rattle.headline_whole.proofs.single.Alike.{stage_in, tryer_of, waiting_of, Follows, both_at, one_at, Mirrors, IsTold, Told, others_stay, Alike, settled_all, Leads, Stays, Then, Does, then_does, by_one, does_so, leads_on, takes_place, gives, replies}
 use Rattle.client_request.specs.declared.error.Error.TheVariants as errors
 use Rattle.client_request.specs.declared.error.QueryError.TheVariants as query
 

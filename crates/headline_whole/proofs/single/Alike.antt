@@ -1,6 +1,6 @@
 -- When a client of parts is as the client of one server is, and how places are given on and replies put out there.
-use Rattle.std.proofs.Common.{◌≡◌, ◌≢◌, ℕ, zero, suc, ◌+◌, ◌-◌, ◌<◌, ◌≤◌, Bool, true, false, ◌⊎◌, inl, inr, Option, Some, None, List, [], ◌∷◌, ◌++◌, length, map, refl, arith, sym, ap, subst, ◌∙◌, ◌==◌}
-use Rattle.std.specs.Prelude.{if◌then◌else◌, ◌||◌, Result, Ok, Err, option_map}
+use Rattle.std.proofs.Common.{◌≡◌, ◌≢◌, ℕ, suc, ◌<◌, Bool, true, false, inl, inr, Option, Some, None, List, [], ◌∷◌, ◌++◌, length, refl, arith, sym, ap, subst, ◌∙◌, ◌==◌}
+use Rattle.std.specs.Prelude.{if◌then◌else◌, ◌||◌, Result, option_map}
 use Rattle.std.proofs.lemmas.Bool.Decides.{nat_tests}
 use Rattle.std.proofs.lemmas.Bool.{cases_eq}
 use Rattle.client_request.specs.Request.{Request}
@@ -18,7 +18,7 @@ use Rattle.headline_whole.specs.machine.Served.{Served, served, has_moved, does,
 use Rattle.headline_whole.specs.machine.Client.{Waiting, Leaving, Upper, Made, Move, Moves, Rests, Goes, IsDone, Server_moves, Replies, moved, with_up, store}
 use Rattle.headline_whole.specs.machine.Dgrams as dgrams
 use Rattle.headline_whole.specs.machine.Served as served_by
-use Rattle.headline_whole.specs.machine.Single.{Stage, Queued, Loose, Trying, Sent, Held, State, Done, staged, try, put_back, give_held, give_to, give}
+use Rattle.headline_whole.specs.machine.Single.{Stage, Queued, Loose, Trying, Sent, Held, State, staged, try, put_back, give_held, give_to, give}
 
 -- A request as a server holds it, and as the client does: handed to server 0 alone.
 abbrev pub stage_in : Stage → dgrams.Stage

@@ -1,15 +1,13 @@
 -- What an event does to the one server, done by the client of parts.
-use Rattle.std.proofs.Common.{◌≡◌, ◌≢◌, ℕ, zero, suc, ◌+◌, ◌-◌, ◌<◌, ◌≤◌, Bool, true, false, ◌⊎◌, inl, inr, Option, Some, None, List, [], ◌∷◌, ◌++◌, length, take, map, refl, arith, sym, ap, subst, ◌∙◌, ◌==◌}
-use Rattle.std.specs.Prelude.{if◌then◌else◌, ◌||◌, ◌&&◌, nat_lt, nat_le, Result, Ok, Err, option_map}
+use Rattle.std.proofs.Common.{◌≡◌, ℕ, suc, ◌+◌, ◌<◌, ◌≤◌, Bool, true, false, Option, Some, None, List, [], ◌∷◌, ◌++◌, length, take, refl, arith, sym, ap, subst, ◌∙◌, ◌==◌}
+use Rattle.std.specs.Prelude.{if◌then◌else◌, ◌&&◌, nat_lt, nat_le, Result, Ok, Err, option_map}
 use Rattle.std.proofs.lemmas.Bool.Decides.{nat_tests}
-use Rattle.std.proofs.lemmas.Bool.{cases_eq, ltb-true, ltb-false, leb-true}
+use Rattle.std.proofs.lemmas.Bool.{ltb-true, ltb-false, leb-true}
 use Rattle.client_request.specs.Request.{Request}
 use Rattle.client_request.specs.Carries.{IsOfOctets}
 use Rattle.client_request.specs.declared.error.Error.{Error}
-use Rattle.client_request.specs.declared.fault.Fault.{Fault}
 use Rattle.client_request.specs.declared.event.What.{What}
 use Rattle.client_request.specs.declared.event.What.TheVariants.{Ask, Opened, OpenFailed, SendFailed, ShortSend, Datagram, RecvFailed, Wrote, WriteFailed, Bytes, ReadFailed, Ended, Tick}
-use Rattle.client_request.specs.declared.event.Out.{Out}
 use Rattle.client_request.specs.declared.event.Out.TheVariants.{Start, OpenDgram, Send, Close, Reply}
 use Rattle.client_request.specs.declared.event.Via.TheVariants.{Dgram}
 use Rattle.headline_whole.specs.Trace.{Conf, Use, ByDatagrams}
@@ -22,18 +20,17 @@ use Rattle.headline_whole.specs.Timely.{IsAskedInOctets}
 use Rattle.headline_whole.specs.Theorem.{IsUncut}
 use Rattle.headline_whole.specs.machine.Streams.{Multi, Puts, Nothing, IsForeign}
 use Rattle.headline_whole.specs.machine.Dgrams.{Dgrams, Tryer, TriesAt, SentAt, IsIgnored}
-use Rattle.headline_whole.specs.machine.Served.{Served, served, has_moved, has_taken_it, does, place_after, outs_of, Acts, AsItIs, WithResult, TellsDgrams, IsInTime, IsHanded}
+use Rattle.headline_whole.specs.machine.Served.{Served, has_moved, has_taken_it, does, place_after, outs_of, AsItIs, WithResult, TellsDgrams, IsInTime, IsHanded}
 use Rattle.headline_whole.specs.machine.Client.{Waiting, Leaving, Upper, Made, Move, Server_moves, Hands_on, Answers, Takes_on, moved, hand, handing, take_on, answer, outcome, AtOnce, Refused, Nowhere}
 use Rattle.headline_whole.specs.machine.Streams as multi
 use Rattle.headline_whole.specs.machine.Dgrams as dgrams
-use Rattle.headline_whole.specs.machine.Served as served_by
 use Rattle.headline_whole.specs.machine.Server as server
 use Rattle.headline_whole.specs.machine.Client as upper
-use Rattle.headline_whole.specs.machine.Single.{Stage, Queued, Loose, Trying, Sent, Held, State, Done, staged, with_at, nothing, then_do, loosen, try, lose, give, settle, finish, Quiet, with_held, with_owner, dispatched, dispatch, send_composed, failed_at, broken_at, message_at, newcomer, admit, line_up, settle_in, enter, refuse, refusal_of, enter_or_refuse, opened_at, content}
+use Rattle.headline_whole.specs.machine.Single.{Stage, Queued, Loose, Trying, Sent, Held, State, Done, staged, with_at, nothing, loosen, try, settle, finish, Quiet, with_held, with_owner, dispatched, dispatch, send_composed, failed_at, broken_at, message_at, newcomer, admit, line_up, settle_in, enter, refuse, refusal_of, enter_or_refuse, opened_at, content}
 use Rattle.headline_whole.proofs.Carried.{carried_by}
 use Rattle.headline_whole.proofs.single.Standing.{placed, Standing, here, there, stands_so, gives_on}
 use Rattle.headline_whole.proofs.single.Standing as standing
-use Rattle.headline_whole.proofs.single.Alike.{stage_in, tryer_of, waiting_of, Follows, both_at, one_at, Still, Mirrors, IsTold, Told, Idle, others_stay, Alike, settled_all, Leads, Stays, Then, Does, then_does, by_one, takes_place, replies}
+use Rattle.headline_whole.proofs.single.Alike.{stage_in, tryer_of, waiting_of, Follows, both_at, one_at, Still, Told, others_stay, Alike, settled_all, Leads, Stays, Then, Does, then_does, by_one, takes_place, replies}
 use Rattle.headline_whole.proofs.single.Acting.{settled_so, gone, settles, error_so}
 use Rattle.client_request.specs.declared.error.Error.TheVariants as errors
 use Rattle.client_request.specs.declared.error.QueryError.TheVariants as query

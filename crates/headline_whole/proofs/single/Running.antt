@@ -1,7 +1,6 @@
 -- Each run of a client of one server by datagrams is a run of the client of parts.
-use Rattle.std.proofs.Common.{◌≡◌, ◌≢◌, ℕ, zero, suc, ◌+◌, ◌<◌, ◌≤◌, Bool, true, false, ◌⊎◌, inl, inr, Option, Some, None, List, [], ◌∷◌, ◌++◌, length, map, refl, arith, sym, ap, subst, ◌∙◌, ◌==◌}
-use Rattle.std.specs.Prelude.{if◌then◌else◌, ◌||◌, max, nat_lt, is_some, Result, Ok, Err, option_map}
-use Rattle.std.proofs.lemmas.Bool.Decides.{nat_tests}
+use Rattle.std.proofs.Common.{◌≡◌, ◌≢◌, ℕ, ◌+◌, ◌<◌, Bool, true, false, inl, inr, Option, Some, None, List, [], ◌∷◌, ◌++◌, length, map, refl, arith, sym, ap, subst, ◌∙◌}
+use Rattle.std.specs.Prelude.{◌||◌, max, nat_lt, is_some, Result, option_map}
 use Rattle.std.proofs.lemmas.Bool.{cases_eq}
 use Rattle.client_request.specs.Request.{Request}
 use Rattle.client_request.specs.declared.error.Error.{Error}
@@ -18,18 +17,17 @@ use Rattle.headline_whole.specs.Settings.{Settings, defers_nothing}
 use Rattle.headline_whole.specs.Orderly.{use_at}
 use Rattle.headline_whole.specs.Timely.{IsAskedInOctets, AllAskedInOctets}
 use Rattle.headline_whole.specs.Theorem.{IsUncut, NoneIsTruncated, RunsOfOneServerAreRuns}
-use Rattle.headline_whole.specs.machine.Streams.{Multi, Conn, unheard, begin_row}
+use Rattle.headline_whole.specs.machine.Streams.{Multi, unheard, begin_row}
 use Rattle.headline_whole.specs.machine.Dgrams.{Dgrams, Tryer, IsIgnored}
-use Rattle.headline_whole.specs.machine.Served.{Served, served, unserved, holds, row_begun, RestsNow}
+use Rattle.headline_whole.specs.machine.Served.{Served, served, unserved, holds, RestsNow}
 use Rattle.headline_whole.specs.machine.Client.{Waiting, Upper, IsDone, IsStep, IsRun, Ends, Goes_on, row_begins, begun}
 use Rattle.headline_whole.specs.machine.Dgrams as dgrams
-use Rattle.headline_whole.specs.machine.Server as server
 use Rattle.headline_whole.specs.machine.Single as single
 use Rattle.headline_whole.specs.machine.Single.{Stage, Queued, Loose, Trying, Sent, Held, State, Done, nothing, content, Quiet, Fires, Rests, Fires_one, IsDue}
 use Rattle.headline_whole.proofs.single.Standing.{Standing}
-use Rattle.headline_whole.proofs.single.Alike.{stage_in, tryer_of, waiting_of, Still, Mirrors, IsTold, Told, Idle, Alike, settled_all, Leads, leads_on, all_moves, Does}
+use Rattle.headline_whole.proofs.single.Alike.{stage_in, tryer_of, waiting_of, Still, Told, Alike, settled_all, leads_on, all_moves, Does}
 use Rattle.headline_whole.proofs.single.Acting.{fires_stand, fires_do}
-use Rattle.headline_whole.proofs.single.Meeting.{foreign, Met, Meets, Does_so, Passes, meets_all}
+use Rattle.headline_whole.proofs.single.Meeting.{foreign, Meets, Does_so, Passes, meets_all}
 
 -- the clock goes on, and never back
 abbrev clock : ℕ → State → State

@@ -1,8 +1,8 @@
 -- A worked request by datagram, computed.
-use Rattle.std.proofs.Common.{◌≡◌, ℕ, zero, suc, true, Some, [], ◌∷◌, inl, refl, ap, sym, subst, arith}
+use Rattle.std.proofs.Common.{◌≡◌, ℕ, true, inl, refl, ap, sym, subst, arith}
 use Rattle.std.proofs.lemmas.Bool.Decides.{nat_tests}
 use Rattle.dns_names.specs.Name.{name_at, walk, head_at}
-use Rattle.dns_base.specs.Data.{Data, data_at, data_spelling}
+use Rattle.dns_base.specs.Data.{data_at, data_spelling}
 use Rattle.dns_base.specs.Message.{question_at, record_at, list_at, items_at, questions_of, answer_of, authority_of, additional_of, answer_items, authority_items, additional_items, first_question, sole_question, reads}
 use Rattle.dns_base.specs.Knowing.{knows}
 use Rattle.dns_base.specs.OptRecord.{opt_of, opt_rcode}

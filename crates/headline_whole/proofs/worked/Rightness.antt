@@ -1,6 +1,6 @@
 -- The worked traces that are runs are right, as every run is.
-use Rattle.std.proofs.Common.{◌≡◌, ℕ, zero, suc, ◌<◌, Bool, true, false, ◌&&◌, List, [], ◌∷◌, refl, arith, ◌++◌}
-use Rattle.std.specs.Prelude.{Ok, map, nat_lt, slice_index}
+use Rattle.std.proofs.Common.{◌≡◌, ℕ, zero, suc, ◌<◌, Bool, true, false, ◌&&◌, List, [], ◌∷◌, refl, arith}
+use Rattle.std.specs.Prelude.{Ok, nat_lt, slice_index}
 use Rattle.std.proofs.lemmas.Bool.{and_parts, leb-true}
 use Rattle.std.proofs.lemmas.Bool.Decides.{nat_tests}
 use Rattle.dns_names.specs.Name.{name_at, walk, head_at}
@@ -8,12 +8,11 @@ use Rattle.dns_base.specs.Data.{data_at, data_spelling}
 use Rattle.dns_base.specs.Draft.{size, limit_of, counts_in, fresh, with_header, pushed_question, pushed_record, cleared, finished, refusal}
 use Rattle.dns_base.specs.Sections.{counts_spelling}
 use Rattle.dns_base.specs.Message.{question_at, record_at, list_at, items_at, questions_of, answer_of, authority_of, additional_of, answer_items, authority_items, additional_items, first_question}
-use Rattle.client_request.specs.Request.{Request}
 use Rattle.client_request.specs.Carries.{IsOfOctets}
 use Rattle.client_request.specs.Composed.{appended, composed}
 use Rattle.headline_whole.specs.Messages.{Octets}
 use Rattle.headline_whole.specs.Right.{Right}
-use Rattle.headline_whole.specs.Timely.{Timely, AllAskedInOctets}
+use Rattle.headline_whole.specs.Timely.{Timely}
 use Rattle.headline_whole.specs.examples.Messages.{plain_request}
 use Rattle.headline_whole.specs.examples.Rows.{by_datagrams, first_settings}
 use Rattle.headline_whole.specs.examples.Streams.{cut_goes_on}

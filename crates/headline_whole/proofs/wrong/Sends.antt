@@ -1,19 +1,18 @@
 -- Sends and writes that owe something, and failures that are blamed on a wrong place.
-use Rattle.std.proofs.Common.{◌≡◌, ◌≢◌, ℕ, ◌<◌, ◌≤◌, true, false, inl, inr, Option, Some, None, [], ◌∷◌, length, take, refl, arith, sym, ap, subst, ◌∙◌}
-use Rattle.std.specs.Int.{w16, to_be_bytes, from_be_bytes}
+use Rattle.std.proofs.Common.{◌≡◌, ℕ, ◌<◌, ◌≤◌, true, false, inl, inr, Option, Some, [], ◌∷◌, length, refl, arith, sym, ap, subst}
 use Rattle.std.specs.Option.{option_map_or}
-use Rattle.client_request.specs.Request.{Request, with_id}
-use Rattle.client_request.specs.Carries.{SaysRequest, IsOfOctets}
+use Rattle.client_request.specs.Request.{Request}
+use Rattle.client_request.specs.Carries.{IsOfOctets}
 use Rattle.client_request.specs.declared.error.Error.TheVariants as errors
 use Rattle.client_request.specs.declared.error.QueryError.TheVariants as query
 use Rattle.client_request.specs.declared.fault.Fault.{Fault}
 use Rattle.client_request.specs.declared.event.What.{What}
 use Rattle.client_request.specs.declared.event.What.TheVariants.{Ask, Opened, RecvFailed, Tick}
-use Rattle.client_request.specs.declared.event.Out.TheVariants.{Start, OpenDgram, Send, Close}
+use Rattle.client_request.specs.declared.event.Out.TheVariants.{Start, OpenDgram, Close}
 use Rattle.client_request.specs.declared.event.Via.TheVariants.{Dgram}
 use Rattle.headline_whole.specs.Trace.{History, Conf, Came, Put}
 use Rattle.headline_whole.specs.Time.{EarlierRow, OfRow}
-use Rattle.headline_whole.specs.Messages.{Octets, id_in}
+use Rattle.headline_whole.specs.Messages.{Octets}
 use Rattle.headline_whole.specs.Requests.{replied, started}
 use Rattle.headline_whole.specs.Places.{Site, stand, Alive}
 use Rattle.headline_whole.specs.Settings.{Settings}
