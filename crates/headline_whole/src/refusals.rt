@@ -15,11 +15,11 @@ ghost use Rattle.headline_whole.specs.Orderly.{MaySend, MayWrite};
 ghost use Rattle.headline_whole.specs.Places.{is_at};
 ghost use Rattle.headline_whole.specs.Requests.{replied};
 ghost use Rattle.headline_whole.specs.Right.{OutRight, Right};
-ghost use Rattle.headline_whole.specs.Settings.{Settings};
+ghost use Rattle.headline_whole.specs.Settings.{Settings, first_settings};
 ghost use Rattle.headline_whole.specs.Timely.{Timely};
 ghost use Rattle.headline_whole.specs.Trace.{Conf, History};
 ghost use Rattle.headline_whole.specs.examples.Messages.{answer, plain_request, ad_request};
-ghost use Rattle.headline_whole.specs.examples.Rows.{deferring, first_settings, two_servers};
+ghost use Rattle.headline_whole.specs.examples.Rows.{deferring, two_servers};
 ghost use Rattle.headline_whole.specs.examples.Wrong.{IsItsAnswer, IsItsFrame, asked_then, blamed_unsent, blamed_when_closed, closed_for_nothing, failing_at_once, frame_passed_over, frame_taken, invented, nothing_sent, nothing_written, passed_over, refused_again, refused_thrice, replied_twice, second_while_open, second_while_opening, sent_at_once, sent_elsewhere, sent_nowhere, sent_too_soon, still_waiting, stream_closed_for_nothing, taken, taken_unwritten, taken_when_closed, timed_out_early, wrong_without_frame};
 
 /// By datagram: replies, sends, closes and answers that are not owed, or that are owed and do not stand.

@@ -26,7 +26,8 @@ use Rattle.headline_whole.specs.Replies.{IsFreshReply, InThisRow}
 use Rattle.headline_whole.specs.Causes.{NotOpened}
 use Rattle.headline_whole.specs.Errors.{Here, ByServer, NoServer, Own, Kept}
 use Rattle.headline_whole.specs.examples.Messages.{plain_request, ad_request, cd_request, do_request, as_datagram, as_frame, answer, signed_answer, unsigned_answer}
-use Rattle.headline_whole.specs.examples.Rows.{so_far, by_datagrams, first_settings}
+use Rattle.headline_whole.specs.Settings.{first_settings}
+use Rattle.headline_whole.specs.examples.Rows.{so_far, by_datagrams}
 use Rattle.headline_whole.specs.examples.Cache.{asked_again, refused_twice, WorkedCache}
 use Rattle.headline_whole.proofs.client.Asked.{covers_refl}
 

@@ -16,7 +16,8 @@ use Rattle.headline_whole.specs.machine.Dgrams.{Stage, Tryer, Dgrams, IsIgnored}
 use Rattle.headline_whole.specs.machine.Server.{Server, Rests}
 use Rattle.headline_whole.specs.machine.Served.{Served, holds, served, IsInTime, RestsNow}
 use Rattle.headline_whole.specs.machine.Client.{Waiting, with_held, Upper, Made, Moves, IsDone, IsRun, Goes_on, row_begins}
-use Rattle.headline_whole.specs.examples.Rows.{by_datagrams, first_settings}
+use Rattle.headline_whole.specs.Settings.{first_settings}
+use Rattle.headline_whole.specs.examples.Rows.{by_datagrams}
 use Rattle.client_request.specs.declared.event.Row.{Row}
 use Rattle.headline_whole.proofs.server.Views.{at_here, at_there}
 

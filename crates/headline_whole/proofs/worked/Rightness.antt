@@ -14,7 +14,8 @@ use Rattle.headline_whole.specs.Messages.{Octets}
 use Rattle.headline_whole.specs.Right.{Right}
 use Rattle.headline_whole.specs.Timely.{Timely}
 use Rattle.headline_whole.specs.examples.Messages.{plain_request}
-use Rattle.headline_whole.specs.examples.Rows.{by_datagrams, first_settings}
+use Rattle.headline_whole.specs.Settings.{first_settings}
+use Rattle.headline_whole.specs.examples.Rows.{by_datagrams}
 use Rattle.headline_whole.specs.examples.Streams.{cut_goes_on}
 use Rattle.headline_whole.specs.examples.Cache.{asked_again}
 use Rattle.headline_whole.proofs.Composing.{composed_composes}

@@ -36,7 +36,8 @@ use Rattle.headline_whole.specs.machine.Served as served
 use Rattle.headline_whole.specs.machine.Served.{Served, RestsNow, served, does, has_moved, has_taken_it, AsItIs, WithResult, ByStreamNow}
 use Rattle.headline_whole.specs.machine.Client.{Caches, Waiting, Leaving, Entry, entry_of, answer as answer_at_once, Viewed, outcome, leave, store, unmade, Upper, Move, moved, hand, handing, newcomer, take_on, row_begins, Moves, Goes, Rests, Takes_on, Hands_on, Server_moves, Delivers, Replies, Answers, IsRun, Ends, begun}
 use Rattle.headline_whole.specs.examples.Messages.{plain_request, as_datagram, as_frame, frame, cut_answer, answer}
-use Rattle.headline_whole.specs.examples.Rows.{at, by_datagrams, first_settings}
+use Rattle.headline_whole.specs.Settings.{first_settings}
+use Rattle.headline_whole.specs.examples.Rows.{at, by_datagrams}
 use Rattle.client_request.specs.declared.event.What.TheVariants.{Ask, Opened, Datagram, Wrote, Bytes}
 use Rattle.client_request.specs.declared.event.Out.TheVariants.{Start, OpenDgram, OpenStream, Send, Write, Close, Reply}
 use Rattle.client_request.specs.declared.event.Via.TheVariants.{Dgram, Stream}

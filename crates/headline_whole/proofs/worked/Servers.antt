@@ -20,7 +20,8 @@ use Rattle.headline_whole.specs.Coming.{CameFor, SomeCame, FirstEarlier}
 use Rattle.headline_whole.specs.Replies.{Deferred, OkIsRight, Fresh}
 use Rattle.headline_whole.specs.Orderly.{OfDgram, ReplyBeforeItsSend}
 use Rattle.headline_whole.specs.examples.Messages.{plain_request, as_datagram, failing}
-use Rattle.headline_whole.specs.examples.Rows.{so_far, two_servers, first_settings, deferring}
+use Rattle.headline_whole.specs.Settings.{first_settings}
+use Rattle.headline_whole.specs.examples.Rows.{so_far, two_servers, deferring}
 use Rattle.headline_whole.specs.examples.Servers.{failing_server, WorkedServers}
 use Rattle.headline_whole.proofs.client.Promptness.{none_first}
 

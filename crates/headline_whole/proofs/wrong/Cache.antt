@@ -17,7 +17,7 @@ use Rattle.headline_whole.specs.Trace.{History, Conf, Item, Came, Put}
 use Rattle.headline_whole.specs.Time.{now, newest, row_before, Ever}
 use Rattle.headline_whole.specs.Messages.{Octets, base_is_read}
 use Rattle.headline_whole.specs.Requests.{asking}
-use Rattle.headline_whole.specs.Settings.{Settings}
+use Rattle.headline_whole.specs.Settings.{Settings, first_settings}
 use Rattle.headline_whole.specs.Keys.{Covers, key_of, question_of}
 use Rattle.headline_whole.specs.Parts.{Item as Entry, Parts, Says, known_parts, lowered_parts}
 use Rattle.headline_whole.specs.Validity.{second}
@@ -27,7 +27,7 @@ use Rattle.headline_whole.specs.Causes.{ServerCause, NotOpened, NotSent, SentSho
 use Rattle.headline_whole.specs.Errors.{DirectCause, Deadline, NoServer, ByServer, NoValidity, ViewNotKnown, Here, Earlier, IsErrorReply, HasCause, Own, Kept}
 use Rattle.headline_whole.specs.Right.{Right}
 use Rattle.headline_whole.specs.examples.Messages.{plain_request, ad_request, answer, failing}
-use Rattle.headline_whole.specs.examples.Rows.{so_far, two_servers, first_settings, deferring}
+use Rattle.headline_whole.specs.examples.Rows.{so_far, two_servers, deferring}
 use Rattle.headline_whole.specs.examples.Cache.{asked_again, refused_twice}
 use Rattle.headline_whole.specs.examples.Servers.{failing_server}
 use Rattle.headline_whole.specs.examples.Wrong.{invented, asked_then, refused_again, refused_thrice, failing_at_once}

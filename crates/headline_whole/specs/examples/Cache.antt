@@ -18,7 +18,8 @@ use Rattle.headline_whole.specs.Replies.{IsView}
 use Rattle.headline_whole.specs.Errors.{HasCause}
 use Rattle.headline_whole.specs.Trace.{Conf, Came}
 use Rattle.headline_whole.specs.examples.Messages.{plain_request, ad_request, cd_request, do_request, as_datagram, as_frame, answer, signed_answer, unsigned_answer}
-use Rattle.headline_whole.specs.examples.Rows.{at, so_far, by_datagrams, first_settings}
+use Rattle.headline_whole.specs.Settings.{first_settings}
+use Rattle.headline_whole.specs.examples.Rows.{at, so_far, by_datagrams}
 
 -- a request has its answer, of 100 seconds; it is asked again after 30 and after 100 seconds, and then, too late, after 101
 abbrev pub asked_again : List Row

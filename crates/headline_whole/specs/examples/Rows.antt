@@ -1,10 +1,10 @@
 -- How worked traces are written.
-use Rattle.std.specs.Prelude.{ℕ, true, false, List, [], ◌∷◌, take}
+use Rattle.std.specs.Prelude.{ℕ, true, List, [], ◌∷◌, take}
 use Rattle.client_request.specs.declared.event.What.{What}
 use Rattle.client_request.specs.declared.event.Out.{Out}
 use Rattle.client_request.specs.declared.event.Row.{Row}
 use Rattle.headline_whole.specs.Trace.{History, Conf, ByDatagrams, ByStreams, after}
-use Rattle.headline_whole.specs.Settings.{Settings}
+use Rattle.headline_whole.specs.Settings.{Settings, first_settings}
 
 -- a row: at a moment something happens, and this is put out
 abbrev pub at : ℕ → What → List Out → Row
@@ -27,21 +27,6 @@ by_streams = record { servers = ByStreams ∷ []; timeout = 5000000 }
 
 abbrev pub two_servers : Conf
 two_servers = record { servers = ByDatagrams ∷ ByDatagrams ∷ []; timeout = 5000000 }
-
--- the first settings: nothing is deferred
-abbrev pub first_settings : Settings
-first_settings = record {
-  defers_errors = false;
-  defers_refused = false;
-  defers_servfail = false;
-  max_validity = 604800000000;
-  transport_failure_duration = 30000000;
-  misc_error_duration = 30000000;
-  max_nxdomain_validity = 3600000000;
-  max_nodata_validity = 3600000000;
-  max_delegation_validity = 1000000000000;
-  cache_truncated = false;
-}
 
 -- SERVFAIL and errors are deferred
 abbrev pub deferring : Settings

@@ -7,7 +7,8 @@ use Rattle.headline_whole.specs.Messages.{Octets}
 use Rattle.headline_whole.specs.machine.Served.{served}
 use Rattle.headline_whole.specs.machine.Client.{begun, IsRun}
 use Rattle.headline_whole.specs.examples.Messages.{plain_request}
-use Rattle.headline_whole.specs.examples.Rows.{by_datagrams, first_settings}
+use Rattle.headline_whole.specs.Settings.{first_settings}
+use Rattle.headline_whole.specs.examples.Rows.{by_datagrams}
 
 -- however requests are composed, if the plain one is
 abbrev pub IsARun : List Row → Type 0

@@ -12,7 +12,8 @@ use Rattle.headline_whole.specs.Validity.{is_deferred}
 use Rattle.headline_whole.specs.Replies.{OkIsRight}
 use Rattle.headline_whole.specs.Orderly.{MayClose}
 use Rattle.headline_whole.specs.examples.Messages.{plain_request, as_datagram, answer, failing}
-use Rattle.headline_whole.specs.examples.Rows.{at, so_far, two_servers, first_settings, deferring}
+use Rattle.headline_whole.specs.Settings.{first_settings}
+use Rattle.headline_whole.specs.examples.Rows.{at, so_far, two_servers, deferring}
 
 -- the server that was tried first is slow; the other one answers, and both places are closed
 abbrev pub slow_server : List Row

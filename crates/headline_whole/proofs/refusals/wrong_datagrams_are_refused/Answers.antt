@@ -1,6 +1,6 @@
 -- Each trace lacks what it owes at one point.
 use Rattle.std.specs.Prelude.{[]}
-use Rattle.headline_whole.specs.examples.Rows.{first_settings}
+use Rattle.headline_whole.specs.Settings.{first_settings}
 use Rattle.headline_whole.proofs.wrong.Dgrams as wrong
 use Rattle.headline_whole.proofs.wrong.Sends as sends
 use Rattle.headline_whole.proofs.refusals.wrong_datagrams_are_refused.Goals as goal
