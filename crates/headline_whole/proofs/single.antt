@@ -1,0 +1,5 @@
+pub mod Standing
+pub mod Alike
+pub mod Acting
+pub mod Meeting
+pub mod Running

@@ -1,0 +1,4 @@
+pub mod Dgrams
+pub mod Sends
+pub mod Streams
+pub mod Cache
