@@ -15,7 +15,7 @@ use Rattle.dns_base.specs.Answering.{question_items}
 use Rattle.dns_base.specs.Holding.{Contents, AskedReadsAs, ReadsAs}
 use Rattle.dns_base.proofs.Readings.{reading_laws}
 use Rattle.client_request.specs.Request.{Request}
-use Rattle.client_request.specs.Carries.{Carries, IsOfOctets, contents_of, records_of}
+use Rattle.client_request.specs.Carries.{Carries, SaysRequest, IsOfOctets, contents_of, records_of}
 use Rattle.client_request.specs.declared.error.Error.{Error}
 use Rattle.client_request.specs.declared.event.Via.TheVariants.{Dgram}
 use Rattle.client_request.proofs.Writable.{AreOctets}
@@ -43,15 +43,19 @@ two_of_four [] = refl
 two_of_four (a ∷ []) = refl
 two_of_four (a ∷ b ∷ more) = refl
 
--- the id of octets that carry a request, as two octets have it
-pub carried_id : (octets : Octets) (r : Request) (id : ℕ) → Carries octets r id → id_in octets ≡ from_be_bytes w16 (to_be_bytes w16 id)
+-- the id of octets that say a request under an id, as two octets have it
+pub said_id : (octets : Octets) (id : ℕ) (header : List ℕ) {r : Request} → SaysRequest octets r → r.header ≡ with_id id header → id_in octets ≡ from_be_bytes w16 (to_be_bytes w16 id)
 unfolding id_in
-carried_id octets r id carries =
-    let header : with_id id r.header ≡ take 4 octets = sym carries.header ∙ (read_parts octets carries.reading carries.read).0 in
-    sym (two_of_four octets) ∙ ap id_of (sym header)
+said_id octets id header says is =
+    let same : with_id id header ≡ take 4 octets = sym is ∙ (sym says.header ∙ (read_parts octets says.reading says.read).0) in
+    sym (two_of_four octets) ∙ ap id_of (sym same)
+
+-- two octets hold less than 65536
+pub two_octets : (id : ℕ) → from_be_bytes w16 (to_be_bytes w16 id) < 65536
+two_octets id = omega arith
 
 pub carried_by : (r : Request) (id : ℕ) (octets : Octets) → id < 65536 → Carries octets r id → CarriesBy Dgram octets r id
-carried_by r id octets small carries = (carries, carried_id octets r id carries ∙ from_be_bytes-to_be_bytes_2 id small)
+carried_by r id octets small carries = (carries, said_id octets id r.header carries refl ∙ from_be_bytes-to_be_bytes_2 id small)
 
 -- What is carried can be composed.
 

@@ -1,25 +1,25 @@
--- The cause of each error that a request may get, and when a request is overdue.
-use Rattle.std.specs.Prelude.{◌≡◌, ℕ, suc, ◌+◌, ◌≤◌, Bool, true, false, ◌&&◌, ◌==◌, ◌⊎◌, if◌then◌else◌, Option, Some, None, List, [], ◌∷◌, length}
+-- Why a server gives a request an error.
+use Rattle.std.specs.Prelude.{◌≡◌, ℕ, suc, ◌+◌, ◌≤◌, Bool, true, false, ◌&&◌, ◌==◌, ◌⊎◌, if◌then◌else◌, Option, Some, None, List, [], ◌∷◌}
 use Rattle.client_request.specs.Request.{Request}
 use Rattle.client_request.specs.declared.error.Error.{Error}
-use Rattle.client_request.specs.declared.error.Error.TheVariants as errors
-use Rattle.client_request.specs.declared.error.QueryError.TheVariants as query
 use Rattle.client_request.specs.declared.fault.Fault.{Fault}
-use Rattle.client_request.specs.declared.fault.Fault.TheVariants as fault
 use Rattle.client_request.specs.declared.event.What.{What}
 use Rattle.client_request.specs.declared.event.What.TheVariants.{OpenFailed, SendFailed, ShortSend, RecvFailed}
 use Rattle.client_request.specs.declared.event.Out.{Out}
 use Rattle.client_request.specs.declared.event.Out.TheVariants.{Send}
-use Rattle.client_request.specs.declared.event.Via.TheVariants.{Dgram}
+use Rattle.client_request.specs.declared.event.Via.TheVariants.{Dgram, Stream}
 use Rattle.headline.specs.Trace.{History, Conf, Came, Put}
-use Rattle.headline.specs.Time.{now, read_timeout}
-use Rattle.headline.specs.Messages.{Octets, CarriesBy, base_is_read, passes_count}
-use Rattle.headline.specs.Requests.{Asking, asking, is_asked_here, started}
-use Rattle.headline.specs.Places.{is_at, Unused, Opening, Alive, Gone, stand, is_live}
+use Rattle.headline.specs.Time.{now, newest, row_before, EarlierRow, read_timeout, stream_timeout}
+use Rattle.headline.specs.Messages.{Octets, CarriesBy, answers, base_is_read, passes_count}
+use Rattle.headline.specs.Requests.{Asking, asking, start, started}
+use Rattle.headline.specs.Places.{is_at, Unused, Opening, Alive, Gone, stand, is_live, closed_here}
+use Rattle.headline.specs.Timers.{ReadTimerIsDue}
+use Rattle.headline.specs.Exchanges.{Comes}
+use Rattle.client_request.specs.declared.error.Error.TheVariants as errors
+use Rattle.client_request.specs.declared.error.QueryError.TheVariants as query
+use Rattle.client_request.specs.declared.fault.Fault.TheVariants as fault
 
--- In what follows `past` is what happened before the row, `w` is the row's event, and `h` is what happened up to here, the row's event and its outs so far included.
-
--- Sends of a request
+-- In what follows `past` is what happened before the row, `w` is the row's event, `h` is what happened up to here, the row's event and its outs so far included, and `end` is what happened when the row is done.
 
 -- an out sends request k at a place of server s
 abbrev pub is_send_to : (k s : ℕ) → Out → History → Bool
@@ -67,8 +67,6 @@ named p k (Put o ∷ h) = named_by p k o (named p k h)
 abbrev pub IsOneOf : Named → List Named → Type 0
 IsOneOf n [] = ⊥
 IsOneOf n (x ∷ xs) = (x ≡ n) ⊎ IsOneOf n xs
-
--- What makes an error
 
 -- the timeout of the request has passed
 pub record DeadlineHasPassed (c : Conf) (k : ℕ) (h : History) : Type 0 where
@@ -118,19 +116,41 @@ pub record CannotBeComposed (is_so : Request → Bool) (value : Bool) (k : ℕ) 
   pub asked : asking k h ≡ Some asking_of
   pub reason : is_so asking_of.request ≡ value
 
--- An error that request k gets has its cause. No other error stands in a trace.
-pub data HasCause (c : Conf) (k : ℕ) (past : History) (w : What) (h : History) : Error → Type 0 where
-  Deadline : DeadlineHasPassed c k h → HasCause c k past w h errors.TimedOut
-  NoServer : length c.servers ≡ 0 → is_asked_here k h ≡ true → HasCause c k past w h errors.NoTransportAvailable
-  NotOpened : (f : Fault) → FailedToOpen k f past w h → HasCause c k past w h (errors.Dgram (query.Connect f))
-  NotSent : (f : Fault) → FailedAt (λ p. SendFailed p f) k past w → HasCause c k past w h (errors.Dgram (query.Send f))
-  SentShort : FailedAt ShortSend k past w → HasCause c k past w h (errors.Dgram (query.Send fault.ShortSend))
-  NotReceived : (f : Fault) → FailedAt (λ p. RecvFailed p f) k past w → HasCause c k past w h (errors.Dgram (query.Receive f))
-  NoAnswer : TriesAreUp k (now h) past h → HasCause c k past w h (errors.Dgram query.Timeout)
-  NotRead : CannotBeComposed base_is_read false k h → HasCause c k past w h errors.MessageParseError
-  NotComposed : CannotBeComposed passes_count true k h → HasCause c k past w h errors.MessageBuilderPushError
+-- a message came by stream on the request's exchange, and does not answer it
+pub record CameWrong (c : Conf) (k : ℕ) (past : History) (w : What) (h : History) : Type 0 where
+  pub request : Request
+  pub server : ℕ
+  pub place : ℕ
+  pub id : ℕ
+  pub message : Octets
+  pub comes : Comes c request Stream server place k id message past w h
+  pub differs : answers request id message ≡ false
 
--- At moment n, by the rows of h, the request is overdue.
-pub data IsOverdue (c : Conf) (k n : ℕ) (h : History) : Type 0 where
-  PastDeadline : (a : Asking) → asking k h ≡ Some a → a.moment + c.timeout ≤ n → IsOverdue c k n h
-  PastTries : TriesAreUp k n h h → IsOverdue c k n h
+-- in the row that is done here a message came by stream from server s for request k, and its place was not closed by its read timer
+pub record Heard (c : Conf) (k s : ℕ) (end : History) : Type 0 where
+  pub request : Request
+  pub place : ℕ
+  pub id : ℕ
+  pub message : Octets
+  pub comes : Comes c request Stream s place k id message (row_before end) (newest end) end
+  pub taken : (closed_here place end ≡ true) → ReadTimerIsDue place (now end) (row_before end) → ⊥
+
+-- by moment n 30 s passed since the request was handed to some server by stream, and no message has come since
+pub record StreamIsSilent (c : Conf) (k n : ℕ) (past : History) : Type 0 where
+  pub server : ℕ
+  pub begun : ℕ
+  pub is_begun : start k server Stream past ≡ Some begun
+  pub passed : begun + stream_timeout ≤ n
+  pub silent : (Heard c k server past ⊎ EarlierRow (Heard c k server) past) → ⊥
+
+-- An error that a server gives request k in this row has its cause in it.
+pub data ServerCause (c : Conf) (k : ℕ) (past : History) (w : What) (h : History) : Error → Type 0 where
+  NotOpened : (f : Fault) → FailedToOpen k f past w h → ServerCause c k past w h (errors.Dgram (query.Connect f))
+  NotSent : (f : Fault) → FailedAt (λ p. SendFailed p f) k past w → ServerCause c k past w h (errors.Dgram (query.Send f))
+  SentShort : FailedAt ShortSend k past w → ServerCause c k past w h (errors.Dgram (query.Send fault.ShortSend))
+  NotReceived : (f : Fault) → FailedAt (λ p. RecvFailed p f) k past w → ServerCause c k past w h (errors.Dgram (query.Receive f))
+  NoAnswer : TriesAreUp k (now h) past h → ServerCause c k past w h (errors.Dgram query.Timeout)
+  WrongReply : CameWrong c k past w h → ServerCause c k past w h errors.WrongReplyForQuery
+  StreamSilence : StreamIsSilent c k (now h) past → ServerCause c k past w h errors.StreamReadTimeout
+  NotRead : CannotBeComposed base_is_read false k h → ServerCause c k past w h errors.MessageParseError
+  NotComposed : CannotBeComposed passes_count true k h → ServerCause c k past w h errors.MessageBuilderPushError

@@ -1,24 +1,50 @@
--- When requests are handed on and sent, and places closed.
-use Rattle.std.specs.Prelude.{◌≡◌, ℕ, ◌+◌, ◌≤◌, ◌<◌, min, true, false, ◌==◌, if◌then◌else◌, Option, Some, None, [], ◌∷◌, length}
+-- When requests are handed on, and places opened and closed.
+use Rattle.std.specs.Prelude.{◌≡◌, ℕ, ◌+◌, ◌≤◌, min, true, false, Some, List, [], ◌∷◌, zero, suc, ◌==◌, if◌then◌else◌, Option, None}
 use Rattle.client_request.specs.Request.{Request}
 use Rattle.client_request.specs.declared.event.What.{What}
 use Rattle.client_request.specs.declared.event.Out.{Out}
 use Rattle.client_request.specs.declared.event.Out.TheVariants.{Send}
 use Rattle.client_request.specs.declared.event.Via.{Via}
-use Rattle.client_request.specs.declared.event.Via.TheVariants.{Dgram}
-use Rattle.headline.specs.Trace.{History, Conf, Came, Put}
-use Rattle.headline.specs.Time.{now, read_timeout}
-use Rattle.headline.specs.Messages.{Octets, CarriesBy, answers}
+use Rattle.client_request.specs.declared.event.Via.TheVariants.{Dgram, Stream}
+use Rattle.headline.specs.Trace.{History, Conf, Came, Put, Use, ByDatagrams, ByStreams}
+use Rattle.headline.specs.Time.{now, read_timeout, id_count}
+use Rattle.headline.specs.Messages.{Octets, CarriesBy, answers, truncated, is_valid}
 use Rattle.headline.specs.Requests.{Asking, asking, replied, started}
-use Rattle.headline.specs.Places.{Site, site, is_at, is_told, Alive, stand, live, demand}
+use Rattle.headline.specs.Places.{is_at, live, demand, Site, site, is_told, Opening, Alive, stand}
+use Rattle.headline.specs.Settings.{Settings, defers_nothing}
+use Rattle.headline.specs.Frames.{came, has_bad}
+use Rattle.headline.specs.Writes.{waiting_with, held_with}
+use Rattle.headline.specs.Timers.{ReadTimerIsDue, IdleTimerIsDue}
 use Rattle.headline.specs.Exchanges.{Comes}
-use Rattle.headline.specs.Causes.{sends}
 
 -- In what follows `past` is what happened before the row, `w` is the row's event, `h` is what happened up to here, and `end` is what happened when the row is done.
 
--- a request is handed to a server of the configuration once by datagram
-pub data MayStart (c : Conf) (k s : ℕ) (h : History) : Via → Type 0 where
-  FirstDatagram : s < length c.servers → started k s Dgram h ≡ false → MayStart c k s h Dgram
+-- how server number s is used
+abbrev pub use_at : ℕ → List Use → Option Use
+use_at s [] = None
+use_at zero (u ∷ us) = Some u
+use_at (suc s) (u ∷ us) = use_at s us
+
+-- a truncated datagram that answers the request came for it in this row
+pub record CutAnswerCame (c : Conf) (k s : ℕ) (past : History) (w : What) (h : History) : Type 0 where
+  pub request : Request
+  pub place : ℕ
+  pub id : ℕ
+  pub message : Octets
+  pub comes : Comes c request Dgram s place k id message past w h
+  pub agrees : answers request id message ≡ true
+  pub cut : truncated message ≡ true
+
+-- a request is handed to a server of the configuration once by each way: as the server is used, and by stream also once its answer was cut
+pub data MayStart (c : Conf) (k s : ℕ) (past : History) (w : What) (h : History) : Via → Type 0 where
+  FirstDatagram : use_at s c.servers ≡ Some ByDatagrams → started k s Dgram h ≡ false → MayStart c k s past w h Dgram
+  FirstStream : use_at s c.servers ≡ Some ByStreams → started k s Stream h ≡ false → MayStart c k s past w h Stream
+  AfterCutAnswer : use_at s c.servers ≡ Some ByDatagrams → started k s Stream h ≡ false → CutAnswerCame c k s past w h → MayStart c k s past w h Stream
+
+-- a stream place is opened only where none of the server opens and each that is alive holds all ids, the row's frames not counted
+pub record MayOpenStream (s : ℕ) (h : History) : Type 0 where
+  pub none_opens : (p : ℕ) → is_at Stream s p h ≡ true → stand p h ≡ Opening → ⊥
+  pub all_full : (p : ℕ) → is_at Stream s p h ≡ true → stand p h ≡ Alive → id_count ≤ held_with [] p h
 
 -- a send at a place: whose, and when
 pub record Sending : Type 0 where
@@ -35,18 +61,28 @@ sending p [] = None
 sending p (Came e ∷ h) = sending p h
 sending p (Put o ∷ h) = sending_of p o (now h) (sending p h)
 
--- What is sent stands at an alive datagram place where nothing was sent, of a server that has the request by datagram and was sent it less than six times. The request has no reply in an earlier row, and the octets carry it under this id.
+-- What is sent or written stands at a place that is alive at that point, of its kind and of a server that has the request so, and carries the request; a datagram place had no send, and nothing waits under the id of a write, no frame of the row counted ; the request has no reply in an earlier row.
 pub record MaySend (k p id : ℕ) (octets : Octets) (past h : History) : Type 0 where
+  pub waits : replied k past ≡ false
   pub server : ℕ
   pub at : site p h ≡ Some (record { via = Dgram; server = server })
   pub alive : stand p h ≡ Alive
-  pub unsent : sending p h ≡ None
-  pub has_it : started k server Dgram h ≡ true
-  pub few : sends k server h < 6
-  pub waited : replied k past ≡ false
-  pub asking_of : Asking
-  pub asked : asking k h ≡ Some asking_of
-  pub carries : CarriesBy Dgram octets asking_of.request id
+  pub begun : started k server Dgram h ≡ true
+  pub request : Request
+  pub asked : (t : ℕ) × (asking k h ≡ Some (record { request = request; moment = t }))
+  pub carries : CarriesBy Dgram octets request id
+  pub first : sending p h ≡ None
+
+pub record MayWrite (k p id : ℕ) (octets : Octets) (past h : History) : Type 0 where
+  pub waits : replied k past ≡ false
+  pub server : ℕ
+  pub at : site p h ≡ Some (record { via = Stream; server = server })
+  pub alive : stand p h ≡ Alive
+  pub begun : started k server Stream h ≡ true
+  pub request : Request
+  pub asked : (t : ℕ) × (asking k h ≡ Some (record { request = request; moment = t }))
+  pub carries : CarriesBy Stream octets request id
+  pub free : waiting_with [] p id h ≡ []
 
 -- the request has its reply in this row, here or later
 pub record RepliedHere (k : ℕ) (past end : History) : Type 0 where
@@ -69,11 +105,20 @@ pub data MayCloseDgram (c : Conf) (p : ℕ) (past : History) (w : What) (h end :
   ItsTimeout : (x : Sending) → sending p h ≡ Some x → x.moment + read_timeout ≤ now h → MayCloseDgram c p past w h end
   ItsReply : (x : Sending) → sending p h ≡ Some x → RepliedHere x.request past end → MayCloseDgram c p past w h end
   ReplyBeforeItsSend : (x : Site) → site p h ≡ Some x → sending p h ≡ None → (k : ℕ) → started k x.server Dgram h ≡ true → RepliedHere k past end → MayCloseDgram c p past w h end
+  InvalidBeforeItsSend : (x : Site) → site p h ≡ Some x → sending p h ≡ None → (k : ℕ) (a : Asking) → asking k h ≡ Some a → is_valid a.request ≡ false → started k x.server Dgram h ≡ true → MayCloseDgram c p past w h end
+
+-- why a stream place is closed
+pub data MayCloseStream (p : ℕ) (past : History) (w : What) (h : History) : Type 0 where
+  StreamFault : is_told p w ≡ true → MayCloseStream p past w h
+  BadFrame : has_bad (came p w past) ≡ true → MayCloseStream p past w h
+  ReadTimer : ReadTimerIsDue p (now h) past → MayCloseStream p past w h
+  IdleTimer : IdleTimerIsDue p h → MayCloseStream p past w h
 
 -- why a place is closed
 pub data MayClose (c : Conf) (p : ℕ) (past : History) (w : What) (h end : History) : Type 0 where
   OfDgram : (s : ℕ) → is_at Dgram s p h ≡ true → MayCloseDgram c p past w h end → MayClose c p past w h end
+  OfStream : (s : ℕ) → is_at Stream s p h ≡ true → MayCloseStream p past w h → MayClose c p past w h end
 
--- a row leaves as many datagram places of each server live as requests wait there, but for at most 100
-abbrev pub PlacesAreMet : (end : History) → Type 0
-PlacesAreMet end = (s : ℕ) → live s end ≡ min 100 (demand s end)
+-- At most as many datagram places of each server are live as requests wait there, and at most 100; just so many where nothing is deferred.
+abbrev pub PlacesAreMet : (s : Settings) (end : History) → Type 0
+PlacesAreMet s end = (i : ℕ) → (live i end ≤ min 100 (demand i end)) × (defers_nothing s ≡ true → live i end ≡ min 100 (demand i end))

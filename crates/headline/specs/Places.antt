@@ -1,14 +1,14 @@
 -- What a history tells of each place: its kind and server, and how it stands. A place is the number of one connection.
-use Rattle.std.specs.Prelude.{ℕ, suc, max, Bool, true, false, not, ◌&&◌, ◌==◌, if◌then◌else◌, Option, Some, None, [], ◌∷◌}
+use Rattle.std.specs.Prelude.{ℕ, Bool, ◌||◌, Option, Some, None, [], ◌∷◌, zero, suc, max, true, false, not, ◌&&◌, ◌==◌, if◌then◌else◌}
 use Rattle.client_request.specs.declared.event.What.{What}
-use Rattle.client_request.specs.declared.event.What.TheVariants.{Opened, OpenFailed, SendFailed, ShortSend, RecvFailed}
-use Rattle.client_request.specs.declared.event.Out.{Out}
-use Rattle.client_request.specs.declared.event.Out.TheVariants.{OpenDgram, OpenStream, Close}
-use Rattle.client_request.specs.declared.event.Via.{Via}
+use Rattle.client_request.specs.declared.event.What.TheVariants.{Ask, Opened, OpenFailed, SendFailed, ShortSend, Datagram, RecvFailed, Wrote, WriteFailed, Bytes, ReadFailed, Ended, Tick}
 use Rattle.client_request.specs.declared.event.Via.TheVariants.{Dgram, Stream}
 use Rattle.headline.specs.Trace.{History, Came, Put}
 use Rattle.headline.specs.Time.{newest, count_below}
-use Rattle.headline.specs.Requests.{same_via, started, waits, asks}
+use Rattle.headline.specs.Requests.{started, same_via, waits, asks}
+use Rattle.client_request.specs.declared.event.Out.{Out}
+use Rattle.client_request.specs.declared.event.Out.TheVariants.{OpenDgram, OpenStream, Close}
+use Rattle.client_request.specs.declared.event.Via.{Via}
 
 -- what a place is: of which kind, and of which server
 pub record Site : Type 0 where
@@ -98,6 +98,16 @@ abbrev pub is_alive : Stand → Bool
 is_alive Alive = true
 is_alive _ = false
 
+-- it was opened, and no event told how that ended
+abbrev pub is_opening : Stand → Bool
+is_opening Opening = true
+is_opening _ = false
+
+-- no out opened it
+abbrev pub is_unused : Stand → Bool
+is_unused Unused = true
+is_unused _ = false
+
 -- it is opening or alive
 abbrev pub is_live : Stand → Bool
 is_live Opening = true
@@ -109,6 +119,10 @@ abbrev pub is_told : (p : ℕ) → What → Bool
 is_told p (SendFailed q f) = q == p
 is_told p (ShortSend q) = q == p
 is_told p (RecvFailed q f) = q == p
+is_told p (WriteFailed q f) = q == p
+is_told p (ReadFailed q f) = q == p
+is_told p (Ended q) = q == p
+is_told p (Wrote q zero) = q == p
 is_told p _ = false
 
 -- an out opens a place of this number
@@ -130,3 +144,30 @@ live s h = count_below (λ p. is_at Dgram s p h && is_live (stand p h)) (reach h
 -- how many requests wait at server s by datagram, and not by stream
 abbrev pub demand : (s : ℕ) → History → ℕ
 demand s h = count_below (λ k. waits k h && (started k s Dgram h && not (started k s Stream h))) (asks h)
+
+-- an out closes place p
+abbrev pub is_close : (p : ℕ) → Out → Bool
+is_close p (Close q) = q == p
+is_close p _ = false
+
+-- the newest row closed place p
+abbrev pub closed_here : (p : ℕ) → History → Bool
+closed_here p [] = false
+closed_here p (Came e ∷ h) = false
+closed_here p (Put o ∷ h) = is_close p o || closed_here p h
+
+-- the place that an event names
+abbrev pub place_of : What → Option ℕ
+place_of (Opened p) = Some p
+place_of (OpenFailed p f) = Some p
+place_of (SendFailed p f) = Some p
+place_of (ShortSend p) = Some p
+place_of (Datagram p o) = Some p
+place_of (RecvFailed p f) = Some p
+place_of (Wrote p n) = Some p
+place_of (WriteFailed p f) = Some p
+place_of (Bytes p o) = Some p
+place_of (ReadFailed p f) = Some p
+place_of (Ended p) = Some p
+place_of (Ask r) = None
+place_of Tick = None

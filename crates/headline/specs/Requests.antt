@@ -1,13 +1,13 @@
 -- What a history tells of each request.
-use Rattle.std.specs.Prelude.{ℕ, suc, max, Bool, true, false, not, ◌&&◌, ◌||◌, ◌==◌, if◌then◌else◌, is_some, Option, Some, None, [], ◌∷◌}
-use Rattle.client_request.specs.Request.{Request}
+use Rattle.std.specs.Prelude.{ℕ, Bool, ◌||◌, Option, Some, None, [], ◌∷◌, suc, max, true, false, not, ◌&&◌, ◌==◌, if◌then◌else◌, is_some}
 use Rattle.client_request.specs.declared.event.What.{What}
 use Rattle.client_request.specs.declared.event.What.TheVariants.{Ask}
+use Rattle.client_request.specs.declared.event.Via.TheVariants.{Dgram, Stream}
+use Rattle.headline.specs.Trace.{History, Came, Put}
+use Rattle.client_request.specs.Request.{Request}
 use Rattle.client_request.specs.declared.event.Out.{Out}
 use Rattle.client_request.specs.declared.event.Out.TheVariants.{Start, Reply}
 use Rattle.client_request.specs.declared.event.Via.{Via}
-use Rattle.client_request.specs.declared.event.Via.TheVariants.{Dgram, Stream}
-use Rattle.headline.specs.Trace.{History, Came, Put}
 use Rattle.headline.specs.Time.{now}
 
 -- an event is an asking
@@ -78,3 +78,7 @@ start k s v (Put o ∷ h) = if is_start k s v o then Some (now h) else start k s
 -- request k was handed to server s so
 abbrev pub started : (k s : ℕ) → Via → History → Bool
 started k s v h = is_some (start k s v h)
+
+-- request k was handed to server s, by datagram or by stream
+abbrev pub handed : (k s : ℕ) → History → Bool
+handed k s h = started k s Dgram h || started k s Stream h

@@ -1,19 +1,58 @@
--- The theorem that the definitions lead up to.
-use Rattle.std.specs.Prelude.{nat_lt, List, length, map, Result}
+-- The theorems that the definitions lead up to.
+use Rattle.std.specs.Prelude.{◌≡◌, ℕ, ◌≤◌, nat_lt, Bool, true, false, Some, List, [], ◌∷◌, length, map, Result}
 use Rattle.client_request.specs.Request.{Request}
 use Rattle.client_request.specs.declared.error.Error.{Error}
+use Rattle.client_request.specs.declared.event.Event.{Event}
+use Rattle.client_request.specs.declared.event.What.{What}
+use Rattle.client_request.specs.declared.event.What.TheVariants.{Datagram}
 use Rattle.client_request.specs.declared.event.Row.{Row}
-use Rattle.headline.specs.Trace.{Conf}
-use Rattle.headline.specs.Messages.{Octets, Composes}
-use Rattle.headline.specs.Right.{AllAskedInOctets, NoneIsTruncated, Right, Timely}
-use Rattle.headline.specs.Machine.{fresh, IsRun}
+use Rattle.headline.specs.Trace.{Conf, Use, ByDatagrams}
+use Rattle.headline.specs.Messages.{Octets, Composes, truncated}
+use Rattle.headline.specs.Settings.{Settings, defers_nothing}
+use Rattle.headline.specs.Orderly.{use_at}
+use Rattle.headline.specs.Keys.{Key}
+use Rattle.headline.specs.Right.{Right}
+use Rattle.headline.specs.Timely.{AllAskedInOctets, Timely}
+use Rattle.headline.specs.Hit.{AllHit}
+use Rattle.headline.specs.machine.Served.{served}
+use Rattle.headline.specs.machine.Client.{begun, IsRun}
+use Rattle.headline.specs.machine.Exact.{RunCached}
+use Rattle.headline.specs.machine.Single as single
 
--- Every run of a client of one server by datagrams is right and timely, however messages are compressed and in whatever order timers that are due fire, where no datagram that comes is truncated.
+-- Every run of a client of any number of servers, by datagrams and streams, is right and timely, with deferring and the cache, however messages are composed, whatever happens and whatever is chosen.
 abbrev pub EveryRunIsRight : Type 0
-EveryRunIsRight =
-    (c : Conf) (compose : Request → Result Octets Error) (rows : List Row)
-    → Composes compose
-    → AllAskedInOctets (map (λ row. row.event) rows)
-    → NoneIsTruncated (map (λ row. row.event) rows)
-    → IsRun compose (nat_lt 0 (length c.servers)) c.timeout fresh rows
-    → Right c rows × Timely c rows
+EveryRunIsRight = (c : Conf) (s : Settings) (compose : Request → Result Octets Error) (rows : List Row)
+    → Composes compose → AllAskedInOctets (map (λ row. row.event) rows) → IsRun c s compose (served c) (begun c s compose (served c)) rows → Right c s rows × Timely c rows
+
+-- a test that tells equal keys
+pub record TellsKeys (eq : Key → Key → Bool) : Type 0 where
+  pub itself : (k : Key) → eq k k ≡ true
+  pub back : (a b : Key) → eq a b ≡ true → eq b a ≡ true
+  pub on : (a b d : Key) → eq a b ≡ true → eq b d ≡ true → eq a d ≡ true
+  pub equal : (a b : Key) → eq a b ≡ true → a ≡ b
+
+-- In every run whose cache is exact, an asking with the key of a message that is kept, few enough askings and replies later, is answered in its own row.
+abbrev pub EveryCachedRunHits : Type 0
+EveryCachedRunHits = (c : Conf) (s : Settings) (compose : Request → Result Octets Error) (eq : Key → Key → Bool) (cap : ℕ) (rows : List Row)
+    → Composes compose → TellsKeys eq → AllAskedInOctets (map (λ row. row.event) rows) → (run : IsRun c s compose (served c) (begun c s compose (served c)) rows) → RunCached c s compose (served c) eq cap (begun c s compose (served c)) rows run [] → AllHit c s compose cap [] rows
+
+-- no datagram of three octets or more has TC set
+abbrev pub IsUncut : What → Type 0
+IsUncut (Datagram p o) = 3 ≤ length o → truncated o ≡ false
+IsUncut _ = Unit {0}
+
+abbrev pub NoneIsTruncated : List Event → Type 0
+NoneIsTruncated [] = Unit {0}
+NoneIsTruncated (e ∷ es) = IsUncut e.what × NoneIsTruncated es
+
+-- A client of one server by datagrams makes only runs that the client of any number makes that defers nothing, where no datagram that comes is truncated.
+abbrev pub RunsOfOneServerAreRuns : Type 0
+RunsOfOneServerAreRuns = (c : Conf) (s : Settings) (compose : Request → Result Octets Error) (rows : List Row)
+    → Composes compose → defers_nothing s ≡ true → ((u : Use) → use_at 0 c.servers ≡ Some u → u ≡ ByDatagrams) → AllAskedInOctets (map (λ row. row.event) rows) → NoneIsTruncated (map (λ row. row.event) rows)
+    → single.IsRun compose (nat_lt 0 (length c.servers)) c.timeout single.fresh rows → IsRun c s compose (served c) (begun c s compose (served c)) rows
+
+-- So each of these is right and timely.
+abbrev pub EveryRunOfOneServerIsRight : Type 0
+EveryRunOfOneServerIsRight = (c : Conf) (s : Settings) (compose : Request → Result Octets Error) (rows : List Row)
+    → Composes compose → defers_nothing s ≡ true → ((u : Use) → use_at 0 c.servers ≡ Some u → u ≡ ByDatagrams) → AllAskedInOctets (map (λ row. row.event) rows) → NoneIsTruncated (map (λ row. row.event) rows)
+    → single.IsRun compose (nat_lt 0 (length c.servers)) c.timeout single.fresh rows → Right c s rows × Timely c rows

@@ -1,11 +1,19 @@
-//! What a right trace is, and that every plain trace is right: mathematics alone.
+//! What a right trace is, for any number of servers, by datagrams and streams, and that every run is right: mathematics
+//! alone.
 #![tactic(auto)]
 
+mod examples;
 mod laws;
 mod refusals;
 
-pub use laws::{composing_composes, every_run_is_right};
+pub use examples::{
+    worked_cache, worked_datagrams, worked_servers, worked_streams, worked_traces_are_runs,
+};
+pub use laws::{
+    composing_composes, covering_is_an_order, every_cached_run_hits, every_run_is_right,
+    no_ttl_falls_below_zero, runs_of_one_server_are_runs, views_compose,
+};
 pub use refusals::{
-    carried_can_be_composed, short_bases_are_refused, worked_facts, wrong_sends_are_refused,
-    wrong_traces_are_refused,
+    carried_can_be_composed, short_bases_are_refused, wrong_datagrams_are_refused,
+    wrong_replies_are_refused, wrong_sends_are_refused, wrong_streams_are_refused,
 };

@@ -1,44 +1,54 @@
-//! What the definitions refuse, and what they compute on a worked row.
+//! Traces that the definitions refuse: each lacks what it owes at one point.
 
-ghost use Rattle.std.specs.Prelude.{◌≡◌, ◌<◌, ◌≤◌, ℕ, List, true, false, length, take, slice_index};
-ghost use Rattle.client_request.specs.Request.{Request};
+ghost use Rattle.std.specs.Prelude.{◌<◌, ◌≡◌, ◌≢◌, ◌≤◌, ◌∷◌, List, [], ℕ, false, length, slice_index, take, true};
 ghost use Rattle.client_request.specs.Carries.{Carries, IsOfOctets};
+ghost use Rattle.client_request.specs.Request.{Request};
 ghost use Rattle.client_request.specs.declared.error.Error.{Error};
 ghost use Rattle.client_request.specs.declared.fault.Fault.{Fault};
+ghost use Rattle.client_request.specs.declared.event.Out.TheVariants.{Send};
 ghost use Rattle.client_request.specs.declared.event.Via.TheVariants.{Dgram};
-ghost use Rattle.headline.specs.Trace.{Conf, History};
-ghost use Rattle.headline.specs.Messages.{Octets, answers, is_valid, IsComposingFault};
-ghost use Rattle.headline.specs.Requests.{replied};
-ghost use Rattle.headline.specs.Places.{is_at};
+ghost use Rattle.client_request.specs.declared.event.What.{What};
 ghost use Rattle.headline.specs.Causes.{sends};
-ghost use Rattle.headline.specs.Orderly.{MaySend};
-ghost use Rattle.headline.specs.Right.{Right, Timely, HasServer};
-ghost use Rattle.headline.specs.Examples.{replied_twice, nothing_sent, sent_too_soon, sent_nowhere, sent_at_once, sent_elsewhere, blamed_unsent, blamed_when_closed};
-ghost use Rattle.headline.specs.Examples.{taken, taken_when_closed, timed_out_early, passed_over, still_waiting, IsAnswered, WorkedFacts};
+ghost use Rattle.headline.specs.Frames.{Length, fed, is_bad};
+ghost use Rattle.headline.specs.Messages.{IsComposingFault, Octets, answers, id_in, is_valid, truncated};
+ghost use Rattle.headline.specs.Orderly.{MaySend, MayWrite};
+ghost use Rattle.headline.specs.Places.{is_at};
+ghost use Rattle.headline.specs.Requests.{replied};
+ghost use Rattle.headline.specs.Right.{OutRight, Right};
+ghost use Rattle.headline.specs.Settings.{Settings, first_settings};
+ghost use Rattle.headline.specs.Timely.{Timely};
+ghost use Rattle.headline.specs.Trace.{Conf, History};
+ghost use Rattle.headline.specs.examples.Messages.{answer, plain_request, ad_request};
+ghost use Rattle.headline.specs.examples.Rows.{deferring, two_servers};
+ghost use Rattle.headline.specs.examples.Wrong.{IsItsAnswer, IsItsFrame, asked_then, blamed_unsent, blamed_when_closed, closed_for_nothing, failing_at_once, frame_passed_over, frame_taken, invented, nothing_sent, nothing_written, passed_over, refused_again, refused_thrice, replied_twice, second_while_open, second_while_opening, sent_at_once, sent_elsewhere, sent_nowhere, sent_too_soon, still_waiting, stream_closed_for_nothing, taken, taken_unwritten, taken_when_closed, timed_out_early, wrong_without_frame};
 
-/// Each of these traces lacks what it owes at one point.
-pub fn wrong_traces_are_refused()
-    ensures two_replies { (c : Conf) (r : Request) → Right c (replied_twice r) → ⊥ }
-    ensures nothing_sent { (c : Conf) (r : Request) → 0 < length c.servers → is_valid r ≡ true → Right c (nothing_sent r) → ⊥ }
-    ensures no_answer { (c : Conf) (r : Request) (o m : Octets) → answers r 7 (take 2000 m) ≡ false → Right c (taken 0 r o m) → ⊥ }
-    ensures past_5_seconds { (c : Conf) (r : Request) (o m : Octets) → Right c (taken 5000000 r o m) → ⊥ }
-    ensures closed_place { (c : Conf) (r : Request) (o m : Octets) → Right c (taken_when_closed r o m) → ⊥ }
-    ensures early_timeout { (c : Conf) (r : Request) (o : Octets) → 10 < c.timeout → Right c (timed_out_early r o) → ⊥ }
-    ensures too_soon { (c : Conf) (r : Request) (o : Octets) → Right c (sent_too_soon r o) → ⊥ }
-    ensures nowhere { (c : Conf) (o : Octets) → Right c (sent_nowhere o) → ⊥ }
-    ensures at_once { (c : Conf) (r : Request) (o : Octets) → Right c (sent_at_once r o) → ⊥ }
-    ensures elsewhere { (c : Conf) (r : Request) (o : Octets) → Right c (sent_elsewhere r o) → ⊥ }
-    ensures unsent { (c : Conf) (r : Request) (f : Fault) → Right c (blamed_unsent r f) → ⊥ }
-    ensures blamed_when_closed { (c : Conf) (r : Request) (o : Octets) (f : Fault) → Right c (blamed_when_closed r o f) → ⊥ }
-    ensures passed_over { (c : Conf) (r : Request) (o m : Octets) → HasServer c → 0 < c.timeout → IsAnswered r o m → Right c (passed_over r o m) → ⊥ }
+/// By datagram: replies, sends, closes and answers that are not owed, or that are owed and do not stand.
+pub fn wrong_datagrams_are_refused()
+    ensures two_replies { (c : Conf) (s : Settings) (r : Request) → Right c s (replied_twice r) → ⊥ }
+    ensures nothing_sent { (c : Conf) (s : Settings) (r : Request) → 0 < length c.servers → is_valid r ≡ true → Right c s (nothing_sent r) → ⊥ }
+    ensures no_answer { (c : Conf) (s : Settings) (r : Request) (o m : Octets) → answers r 7 (take 2000 m) ≡ false → Right c s (taken 0 r o m) → ⊥ }
+    ensures cut_answer { (c : Conf) (s : Settings) (r : Request) (o m : Octets) → truncated (take 2000 m) ≡ true → Right c s (taken 0 r o m) → ⊥ }
+    ensures past_5_seconds { (c : Conf) (s : Settings) (r : Request) (o m : Octets) → Right c s (taken 5000000 r o m) → ⊥ }
+    ensures closed_place { (c : Conf) (s : Settings) (r : Request) (o m : Octets) → Right c s (taken_when_closed r o m) → ⊥ }
+    ensures early_timeout { (c : Conf) (s : Settings) (r : Request) (o : Octets) → 10 < c.timeout → Right c s (timed_out_early r o) → ⊥ }
+    ensures passed_over { (c : Conf) (s : Settings) (r : Request) (o m : Octets) → IsItsAnswer c s r o m → Right c s (passed_over r o m) → ⊥ }
     ensures late { (c : Conf) (r : Request) (o : Octets) (n : ℕ) → c.timeout ≤ n → Timely c (still_waiting n r o) → ⊥ }
+    ensures closed_for_nothing { (c : Conf) (s : Settings) (r : Request) (o : Octets) → Right c s (closed_for_nothing r o) → ⊥ }
+    ensures too_soon { (c : Conf) (s : Settings) (r : Request) (o : Octets) → Right c s (sent_too_soon r o) → ⊥ }
+    ensures nowhere { (c : Conf) (s : Settings) (r : Request) (o : Octets) → Right c s (sent_nowhere r o) → ⊥ }
+    ensures six_at_once { (c : Conf) (s : Settings) (r : Request) (o : Octets) → Right c s (sent_at_once r o) → ⊥ }
+    ensures elsewhere { (c : Conf) (s : Settings) (r : Request) (o : Octets) → Right c s (sent_elsewhere r o) → ⊥ }
+    ensures unsent { (c : Conf) (s : Settings) (r : Request) (f : Fault) → Right c s (blamed_unsent r f) → ⊥ }
+    ensures blamed_when_closed { (c : Conf) (s : Settings) (r : Request) (o : Octets) (f : Fault) → Right c s (blamed_when_closed r o f) → ⊥ }
 {}
 
-/// No send is right that is the seventh, stands after the reply, or has an id past 16 bits.
+/// No send is right that is the seventh, and neither a send nor a write that stands after the reply or has an id past 16 bits.
 pub fn wrong_sends_are_refused()
-    ensures seventh { (past h : History) (p k id s : ℕ) (o : Octets) → is_at Dgram s p h ≡ true → 6 ≤ sends k s h → MaySend k p id o past h → ⊥ }
+    ensures seventh { (c : Conf) (t : Settings) (past : History) (w : What) (h end : History) (p k id s : ℕ) (o : Octets) → is_at Dgram s p h ≡ true → 6 ≤ sends k s h → OutRight c t past w h end (Send p k id o) → ⊥ }
     ensures replied { (past h : History) (p k id : ℕ) (o : Octets) → replied k past ≡ true → MaySend k p id o past h → ⊥ }
     ensures great_id { (past h : History) (p k id : ℕ) (o : Octets) → 65536 ≤ id → MaySend k p id o past h → ⊥ }
+    ensures written_when_replied { (past h : History) (p k id : ℕ) (o : Octets) → replied k past ≡ true → MayWrite k p id o past h → ⊥ }
+    ensures written_under_great_id { (past h : History) (p k id : ℕ) (o : Octets) → 65536 ≤ id → MayWrite k p id o past h → ⊥ }
 {}
 
 /// Octets that carry a request don't stand beside a cause that it can't be composed.
@@ -51,8 +61,29 @@ pub fn short_bases_are_refused()
     ensures { (r : Request) → length r.base < 12 → IsOfOctets r → ⊥ }
 {}
 
-/// What the definitions compute on a worked row.
-#[tactic(auto, using(crate::proofs::Worked::worked))]
-pub fn worked_facts()
-    ensures { WorkedFacts }
+/// By stream: frames that are nobody's, connections that open or close without a cause, and requests that wait for nothing.
+pub fn wrong_streams_are_refused()
+    ensures before_its_write { (c : Conf) (s : Settings) (r : Request) (piece m : Octets) → Right c s (taken_unwritten r piece m) → ⊥ }
+    ensures after_a_bad_frame { (c : Conf) (s : Settings) (r : Request) (o piece g m : Octets) (gs : List Octets) → (fed Length piece).frames ≡ g ∷ gs → is_bad g ≡ true → Right c s (frame_taken 1 r o piece m) → ⊥ }
+    ensures another_id { (c : Conf) (s : Settings) (r : Request) (o piece g m : Octets) → (fed Length piece).frames ≡ g ∷ [] → id_in g ≢ 7 → Right c s (frame_taken 1 r o piece m) → ⊥ }
+    ensures past_30_seconds { (c : Conf) (s : Settings) (r : Request) (o piece m : Octets) → Right c s (frame_taken 30000000 r o piece m) → ⊥ }
+    ensures no_answer { (c : Conf) (s : Settings) (r : Request) (o piece m : Octets) → answers r 7 m ≡ false → Right c s (frame_taken 1 r o piece m) → ⊥ }
+    ensures passed_over { (c : Conf) (s : Settings) (r : Request) (o piece m : Octets) → IsItsFrame c s r o piece m → Right c s (frame_passed_over r o piece) → ⊥ }
+    ensures second_while_opening { (c : Conf) (s : Settings) (r : Request) → Right c s (second_while_opening r) → ⊥ }
+    ensures second_while_open { (c : Conf) (s : Settings) (r : Request) (o : Octets) → Right c s (second_while_open r o) → ⊥ }
+    ensures closed_for_nothing { (c : Conf) (s : Settings) (r : Request) (o : Octets) → Right c s (stream_closed_for_nothing r o) → ⊥ }
+    ensures nothing_written { (c : Conf) (s : Settings) (r : Request) → 0 < length c.servers → is_valid r ≡ true → Right c s (nothing_written r) → ⊥ }
+    ensures wrong_without_frame { (c : Conf) (s : Settings) (r : Request) (o : Octets) → Right c s (wrong_without_frame r o) → ⊥ }
+{}
+
+/// With the cache and with two servers: views that are none, errors that are kept too long, and a deferred message given
+/// too early.
+pub fn wrong_replies_are_refused()
+    ensures invented { (c : Conf) (s : Settings) (r : Request) (m : Octets) → Right c s (invented r m) → ⊥ }
+    ensures first_ttls { (c : Conf) (s : Settings) → Right c s (asked_then 30000000 plain_request (answer 18 52 100)) → ⊥ }
+    ensures past_validity { (c : Conf) (s : Settings) (m : Octets) → Right c s (asked_then 101000000 plain_request m) → ⊥ }
+    ensures other_flags { (c : Conf) (s : Settings) (n : ℕ) (m : Octets) → Right c s (asked_then n ad_request m) → ⊥ }
+    ensures error_past_its_time { (c : Conf) → Right c first_settings (refused_again 30000001) → ⊥ }
+    ensures error_from_its_repeat { (c : Conf) → Right c first_settings refused_thrice → ⊥ }
+    ensures before_all_failed { Right two_servers deferring failing_at_once → ⊥ }
 {}

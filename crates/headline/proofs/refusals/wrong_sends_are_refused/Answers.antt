@@ -1,5 +1,13 @@
-use Rattle.headline.proofs.Wrong.{seventh, after_reply, great_id}
+-- Each send or write owes something.
+use Rattle.headline.proofs.wrong.Dgrams.{seventh}
+use Rattle.headline.proofs.wrong.Sends as sends
 use Rattle.headline.proofs.refusals.wrong_sends_are_refused.Goals as goal
 
 pub returns : goal.returns
-returns c = record { seventh = seventh; replied = after_reply; great_id = great_id }
+returns c = record {
+  seventh = seventh;
+  replied = sends.sent_after_reply;
+  great_id = sends.sent_great_id;
+  written_when_replied = sends.written_after_reply;
+  written_under_great_id = sends.written_great_id;
+}

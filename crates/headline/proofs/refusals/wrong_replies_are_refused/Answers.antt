@@ -1,0 +1,14 @@
+-- Each trace lacks what it owes at one point.
+use Rattle.headline.proofs.wrong.Cache as wrong
+use Rattle.headline.proofs.refusals.wrong_replies_are_refused.Goals as goal
+
+pub returns : goal.returns
+returns c = record {
+  invented = wrong.invents;
+  first_ttls = wrong.first_ttls;
+  past_validity = wrong.past_validity;
+  other_flags = wrong.other_flags;
+  error_past_its_time = wrong.error_past_its_time;
+  error_from_its_repeat = wrong.error_from_its_repeat;
+  before_all_failed = wrong.before_all_failed;
+}

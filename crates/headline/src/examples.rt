@@ -1,0 +1,40 @@
+//! What the definitions compute on worked traces.
+
+ghost use Rattle.headline.specs.examples.Cache.{asked_again, WorkedCache};
+ghost use Rattle.headline.specs.Right.{Right};
+ghost use Rattle.headline.specs.Timely.{Timely};
+ghost use Rattle.headline.specs.examples.Dgrams.{WorkedDatagrams};
+ghost use Rattle.headline.specs.Settings.{first_settings};
+ghost use Rattle.headline.specs.examples.Rows.{by_datagrams};
+ghost use Rattle.headline.specs.examples.Runs.{IsARun};
+ghost use Rattle.headline.specs.examples.Servers.{WorkedServers};
+ghost use Rattle.headline.specs.examples.Streams.{cut_goes_on, WorkedStreams};
+
+/// A request by datagram: its place, its send, what answers it, and of what a failure is blamed.
+pub fn worked_datagrams()
+    ensures { WorkedDatagrams }
+{}
+
+/// A cut answer, two requests on one connection, a bad frame, an answer to another question, a refused opening, and
+/// a frame behind an end.
+pub fn worked_streams()
+    ensures { WorkedStreams }
+{}
+
+/// Views at 30 and 100 seconds, a signed answer for requests with other flags, a kept error, and no server.
+pub fn worked_cache()
+    ensures { WorkedCache }
+{}
+
+/// A slow server, and one that fails, each beside another.
+pub fn worked_servers()
+    ensures { WorkedServers }
+{}
+
+/// The traces of a cut answer and of an answer that is given again are runs of the machine, so they are right.
+pub fn worked_traces_are_runs()
+    ensures cut_goes_on { IsARun cut_goes_on }
+    ensures asked_again { IsARun asked_again }
+    ensures cut_goes_on_is_right { Right by_datagrams first_settings cut_goes_on × Timely by_datagrams cut_goes_on }
+    ensures asked_again_is_right { Right by_datagrams first_settings asked_again × Timely by_datagrams asked_again }
+{}

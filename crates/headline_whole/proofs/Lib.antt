@@ -1,9 +1,0 @@
-pub mod Copying
-pub mod Carried
-pub mod Composing
-pub mod PartLaws
-pub mod server
-pub mod client
-pub mod worked
-pub mod wrong
-pub mod single

@@ -1,5 +1,0 @@
-use Rattle.headline_whole.proofs.client.Deriving.{views_compose, validity_composes}
-use Rattle.headline_whole.proofs.laws.views_compose.Goals as goal
-
-pub returns : goal.returns
-returns c = record { view = λ q m r age x a b. views_compose q m r age x a b; validity = λ s q m r x a b. validity_composes s q m r x a b }

@@ -1,5 +1,0 @@
-use Rattle.headline_whole.proofs.wrong.Sends.{too_short}
-use Rattle.headline_whole.proofs.refusals.short_bases_are_refused.Goals as goal
-
-pub returns : goal.returns
-returns c = too_short
