@@ -20,8 +20,8 @@ use Rattle.client_request.specs.Numbered.{frees, entry_at}
 use Rattle.client_dgram.specs.Plain as dgram
 use Rattle.headline.specs.Messages.{under}
 use Rattle.headline.specs.Messages as messages
-use Rattle.headline.specs.Machine.{Trying, Held, State, Done, nothing, then_do, loosen, forget, give, settle, finish, with_owner, with_held, opened_at, send_composed, failed_at, broken_at, message_at, dispatch}
-use Rattle.headline.specs.Machine as machine
+use Rattle.headline.specs.machine.Single.{Trying, Held, State, Done, nothing, then_do, loosen, forget, give, settle, finish, with_owner, with_held, opened_at, send_composed, failed_at, broken_at, message_at, dispatch}
+use Rattle.headline.specs.machine.Single as machine
 use Rattle.client_core.specs.Client.{Asked, result_of}
 use Rattle.client_core.specs.Whole.{Response, requests}
 use Rattle.client_core.proofs.Tables.{present_below, at_frees}

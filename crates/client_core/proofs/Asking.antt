@@ -14,7 +14,7 @@ use Rattle.client_dgram.specs.declared.job.Stage.TheVariants as at
 use Rattle.client_dgram.specs.Plain.{Tables, After}
 use Rattle.client_request.specs.Numbered.{puts, entry_at}
 use Rattle.client_dgram.specs.Plain as dgram
-use Rattle.headline.specs.Machine.{State, Done, with_at, try, admit, enter, newcomer, line_up}
+use Rattle.headline.specs.machine.Single.{State, Done, with_at, try, admit, enter, newcomer, line_up}
 use Rattle.client_core.specs.Client.{Asked, without_request}
 use Rattle.client_core.specs.Whole.{Response, requests}
 use Rattle.client_core.specs.declared.asked.Waiting.{Waiting}

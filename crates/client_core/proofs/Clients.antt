@@ -11,8 +11,8 @@ use Rattle.client_request.specs.Numbered.{entry_at}
 use Rattle.client_dgram.specs.Plain as dgram
 use Rattle.client_dgram.specs.Settings.{default_settings}
 use Rattle.headline.specs.Time.{read_timeout}
-use Rattle.headline.specs.Machine.{Held, State, Done, nothing, Fires, Rests, Fires_one, Quiet, DueLater, IsDue, Pick, act}
-use Rattle.headline.specs.Machine as machine
+use Rattle.headline.specs.machine.Single.{Held, State, Done, nothing, Fires, Rests, Fires_one, Quiet, DueLater, IsDue, Pick, act}
+use Rattle.headline.specs.machine.Single as machine
 use Rattle.client_core.specs.Client.{Asked, Client, client_of, replies, settles, hears, times_out, fire, fires_at, fires, fires_first}
 use Rattle.client_core.specs.First as first
 use Rattle.client_core.specs.Upstream as upstream

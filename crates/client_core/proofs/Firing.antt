@@ -17,8 +17,8 @@ use Rattle.client_dgram.specs.Plain.{Tables, After, leaves, closes}
 use Rattle.client_request.specs.Numbered.{frees, entry_at}
 use Rattle.client_dgram.specs.Plain as dgram
 use Rattle.headline.specs.Time.{read_timeout}
-use Rattle.headline.specs.Machine.{Loose, Trying, Held, State, Done, nothing, then_do, with_at, staged, loosen, lose, try, forget, put_back, give, finish, retry, expire, act_at, act, remove, Pick, IsDue}
-use Rattle.headline.specs.Machine as machine
+use Rattle.headline.specs.machine.Single.{Loose, Trying, Held, State, Done, nothing, then_do, with_at, staged, loosen, lose, try, forget, put_back, give, finish, retry, expire, act_at, act, remove, Pick, IsDue}
+use Rattle.headline.specs.machine.Single as machine
 use Rattle.client_core.specs.Client.{Asked}
 use Rattle.client_core.specs.Whole.{Response}
 use Rattle.client_core.specs.declared.asked.Waiting.{Waiting}

@@ -17,7 +17,7 @@ use Rattle.client_dgram.specs.Plain.{Tables, After}
 use Rattle.client_request.specs.Numbered.{entry_at}
 use Rattle.client_dgram.specs.Plain as dgram
 use Rattle.client_dgram.specs.Settings.{default_settings}
-use Rattle.headline.specs.Machine.{Held, State, Done, nothing, content, with_owner, enter, refuse, enter_or_refuse, refusal_of, opened_at, failed_at, broken_at, message_at}
+use Rattle.headline.specs.machine.Single.{Held, State, Done, nothing, content, with_owner, enter, refuse, enter_or_refuse, refusal_of, opened_at, failed_at, broken_at, message_at}
 use Rattle.client_core.specs.Client.{Asked, client_of, replies, hears, happens, asks_request, accepts, sends}
 use Rattle.client_core.specs.First as first
 use Rattle.client_core.specs.Upstream as upstream

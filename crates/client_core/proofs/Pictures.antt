@@ -10,7 +10,7 @@ use Rattle.client_dgram.specs.declared.job.Stage.TheVariants as at
 use Rattle.client_dgram.specs.Plain.{Tables, leaves}
 use Rattle.client_request.specs.Numbered.{puts, frees, entry_at}
 use Rattle.headline.specs.Messages.{under}
-use Rattle.headline.specs.Machine.{Held, State, with_at, loosen, try, forget, dispatch, remove}
+use Rattle.headline.specs.machine.Single.{Held, State, with_at, loosen, try, forget, dispatch, remove}
 use Rattle.client_core.specs.Client.{Asked, waits}
 use Rattle.client_core.specs.Whole.{Response}
 use Rattle.client_core.proofs.Tables.{Sorted, sorted_puts, sorted_frees, rises_below, more_by_puts, fewer_by_frees, absent_above, puts_path, frees_path}

@@ -12,7 +12,7 @@ use Rattle.client_dgram.specs.declared.job.Stage.TheVariants as at
 use Rattle.client_dgram.specs.Plain.{Tables, After}
 use Rattle.client_request.specs.Numbered.{frees, entry_at}
 use Rattle.client_dgram.specs.Plain as dgram
-use Rattle.headline.specs.Machine.{Loose, Trying, Held, State, Done, staged, try, put_back, give, give_to, give_held, remove}
+use Rattle.headline.specs.machine.Single.{Loose, Trying, Held, State, Done, staged, try, put_back, give, give_to, give_held, remove}
 use Rattle.client_core.specs.Client.{Asked}
 use Rattle.client_core.specs.Whole.{Response}
 use Rattle.client_core.proofs.Tables.{present_below, at_frees, at_puts}

@@ -3,9 +3,12 @@ use Rattle.std.specs.Prelude.{◌≡◌, ℕ, false, List, [], ◌∷◌, length
 use Rattle.client_request.specs.Composed.{composed}
 use Rattle.client_request.specs.declared.event.Event.{Event}
 use Rattle.client_request.specs.declared.event.Row.{Row}
-use Rattle.headline.specs.Machine.{fresh, IsRun}
+use Rattle.headline.specs.machine.Single.{fresh, IsRun}
 use Rattle.headline.specs.Trace.{Conf, ByDatagrams}
-use Rattle.headline.specs.Right.{Right, Timely, NoneIsTruncated, AllAskedInOctets}
+use Rattle.headline.specs.Settings.{first_settings}
+use Rattle.headline.specs.Right.{Right}
+use Rattle.headline.specs.Timely.{Timely, AllAskedInOctets}
+use Rattle.headline.specs.Theorem.{NoneIsTruncated}
 use Rattle.client_core.specs.Whole.{plain_trace}
 use Rattle.resolv_conf.specs.declared.conf.ResolvConf.{ResolvConf}
 use Rattle.resolv_conf.specs.declared.options.ResolvOptions.{ResolvOptions}
@@ -30,7 +33,7 @@ abbrev pub EveryPlainTraceIsRight : Type 0
 EveryPlainTraceIsRight =
     (conf : ResolvConf) (words : ℕ → ℕ) (events : List Event) (rows : List Row)
     → plain_trace conf words events ≡ Some rows → AllAskedInOctets events → AsksByDatagram conf → NoneIsTruncated events
-    → Right (conf_of conf) rows × Timely (conf_of conf) rows
+    → Right (conf_of conf) first_settings rows × Timely (conf_of conf) rows
 
 -- Every plain trace is a run of the machine of small moves.
 abbrev pub PlainTracesAreRuns : Type 0

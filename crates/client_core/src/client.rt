@@ -11,7 +11,10 @@ ghost use Rattle.client_core.specs.First.{holds_failed};
 ghost use Rattle.client_core.specs.Headline.{conf_of, AsksByDatagram};
 ghost use Rattle.client_core.specs.Upstream as upstream;
 ghost use Rattle.client_core.specs.Whole.{machine, started, first_upstream, plain_step, plain_trace, client_with};
-ghost use Rattle.headline.specs.Right.{Right, Timely, NoneIsTruncated};
+ghost use Rattle.headline.specs.Right.{Right};
+ghost use Rattle.headline.specs.Settings.{first_settings};
+ghost use Rattle.headline.specs.Timely.{Timely};
+ghost use Rattle.headline.specs.Theorem.{NoneIsTruncated};
 
 use crate::asked::Asked;
 use crate::calls::take_in;
@@ -203,7 +206,7 @@ impl Client {
     ) -> Result<Trace, Error>
         ensures plain { IfOk result (λ t. plain_trace conf.now (W.stream words.old) events.now ≡ Some t.rows) }
         ensures events { IfOk result (λ t. map (λ row. row.event) t.rows ≡ events.now) }
-        ensures right { IfOk result (λ t. AsksByDatagram conf.now → NoneIsTruncated events.now → Right (conf_of conf.now) t.rows) }
+        ensures right { IfOk result (λ t. AsksByDatagram conf.now → NoneIsTruncated events.now → Right (conf_of conf.now) first_settings t.rows) }
         ensures timely { IfOk result (λ t. AsksByDatagram conf.now → NoneIsTruncated events.now → Timely (conf_of conf.now) t.rows) }
         ensures numbers { IsErrOf result Error.NumbersUsed → plain_trace conf.now (W.stream words.old) events.now ≡ None }
         ensures refused { IfErr result IsWant }

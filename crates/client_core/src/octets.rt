@@ -1,6 +1,6 @@
 //! Requests are made of octets, whatever is asked.
 
-ghost use Rattle.headline.specs.Right.{IsAskedInOctets, AllAskedInOctets};
+ghost use Rattle.headline.specs.Timely.{IsAskedInOctets, AllAskedInOctets};
 
 use client_request::{Event, What};
 

@@ -7,7 +7,7 @@ use Rattle.client_request.specs.declared.event.Event.{Event}
 use Rattle.client_request.specs.declared.event.What.{What}
 use Rattle.client_request.specs.declared.event.What.TheVariants as what
 use Rattle.headline.specs.Messages.{truncated}
-use Rattle.headline.specs.Right.{IsUncut, NoneIsTruncated}
+use Rattle.headline.specs.Theorem.{IsUncut, NoneIsTruncated}
 use Rattle.dns_script.specs.Names.{script_names}
 use Rattle.dns_script.specs.Reading.{cut, named}
 use Rattle.dns_script.specs.ScriptReading.{IsScript, TakesLine, TakesLines, TakesNamed, TakesParts, TakesSkipped, begun_with, is_skipped}

@@ -12,7 +12,7 @@ use Rattle.client_request.specs.declared.event.Out.{Out}
 use Rattle.client_request.specs.declared.event.Out.TheVariants as out
 use Rattle.client_request.specs.declared.error.Error.{Error}
 use Rattle.client_request.specs.declared.event.Trace.{Trace}
-use Rattle.headline.specs.Right.{NoneIsTruncated}
+use Rattle.headline.specs.Theorem.{NoneIsTruncated}
 use Rattle.dns_script.specs.declared.script.Script.{Script}
 use Rattle.dns_script.specs.declared.script.ScriptFault.{ScriptFault}
 use Rattle.dns_script.specs.declared.script.ScriptFault.TheVariants as faults

@@ -8,7 +8,8 @@ use Rattle.client_request.specs.declared.event.Event.{Event}
 use Rattle.client_request.specs.declared.event.Row.{Row}
 use Rattle.client_core.specs.Headline.{conf_of}
 use Rattle.client_core.specs.Whole.{plain_trace}
-use Rattle.headline.specs.Right.{Right, Timely}
+use Rattle.headline.specs.Right.{Right}
+use Rattle.headline.specs.Timely.{Timely}
 use Rattle.dns_script.specs.ScriptReading.{IsScript, RefusesLine}
 use Rattle.dns_script.specs.TraceText.{trace_text_of}
 use Rattle.dns_script.specs.declared.script.Script.{Script}

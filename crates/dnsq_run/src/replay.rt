@@ -3,7 +3,9 @@
 ghost use Rattle.std.specs.Prelude.{◌≡◌, ◌≢◌, ◌≤◌, [], length, false, Some, None, IfSome, IfOk, IfErr};
 ghost use Rattle.dns_values.specs.Source.{Rose};
 ghost use Rattle.client_core.specs.Headline.{conf_of, AsksByDatagram};
-ghost use Rattle.headline.specs.Right.{Right, Timely, NoneIsTruncated};
+ghost use Rattle.headline.specs.Right.{Right};
+ghost use Rattle.headline.specs.Timely.{Timely};
+ghost use Rattle.headline.specs.Theorem.{NoneIsTruncated};
 ghost use Rattle.dns_script.specs.ScriptReading.{IsScript};
 ghost use Rattle.dnsq_run.specs.Program.{first_lane, rows_of, IsReplayed, IsRefused, StopsForNumbers, IsEarly, status_of, line_of, numbers_line};
 

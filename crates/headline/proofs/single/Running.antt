@@ -16,7 +16,7 @@ use Rattle.headline.specs.Requests.{is_ask}
 use Rattle.headline.specs.Settings.{Settings, defers_nothing}
 use Rattle.headline.specs.Orderly.{use_at}
 use Rattle.headline.specs.Timely.{IsAskedInOctets, AllAskedInOctets}
-use Rattle.headline.specs.Theorem.{IsUncut, NoneIsTruncated, RunsOfOneServerAreRuns}
+use Rattle.headline.specs.Theorem.{IsUncut, NoneIsTruncated, RunsOfOneServerAreRuns, EveryRunOfOneServerIsRight}
 use Rattle.headline.specs.machine.Streams.{Multi, unheard, begin_row}
 use Rattle.headline.specs.machine.Dgrams.{Dgrams, Tryer, IsIgnored}
 use Rattle.headline.specs.machine.Served.{Served, served, unserved, holds, RestsNow}
@@ -24,6 +24,7 @@ use Rattle.headline.specs.machine.Client.{Waiting, Upper, IsDone, IsStep, IsRun,
 use Rattle.headline.specs.machine.Dgrams as dgrams
 use Rattle.headline.specs.machine.Single as single
 use Rattle.headline.specs.machine.Single.{Stage, Queued, Loose, Trying, Sent, Held, State, Done, nothing, content, Quiet, Fires, Rests, Fires_one, IsDue}
+use Rattle.headline.proofs.server.Concrete.{every_run}
 use Rattle.headline.proofs.single.Standing.{Standing}
 use Rattle.headline.proofs.single.Alike.{stage_in, tryer_of, waiting_of, Still, Told, Alike, settled_all, leads_on, all_moves, Does}
 use Rattle.headline.proofs.single.Acting.{fires_stand, fires_do}
@@ -311,3 +312,6 @@ one_server_runs c st compose rows composes defers uses octets whole run = runs_s
       board = refl;
       leaving = refl;
     }
+
+pub every_run_of_one : EveryRunOfOneServerIsRight
+every_run_of_one c st compose rows composes defers uses octets whole run = every_run c st compose rows composes octets (one_server_runs c st compose rows composes defers uses octets whole run)
