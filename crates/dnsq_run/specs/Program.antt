@@ -9,6 +9,7 @@ use Rattle.client_request.specs.declared.event.Row.{Row}
 use Rattle.client_core.specs.Headline.{conf_of}
 use Rattle.client_core.specs.Whole.{plain_trace}
 use Rattle.headline.specs.Right.{Right}
+use Rattle.headline.specs.Settings.{first_settings}
 use Rattle.headline.specs.Timely.{Timely}
 use Rattle.dns_script.specs.ScriptReading.{IsScript, RefusesLine}
 use Rattle.dns_script.specs.TraceText.{trace_text_of}
@@ -41,7 +42,7 @@ pub record IsReplayed (text out : List ℕ) : Type 0 where
   pub is_script : IsScript false text script
   pub rows : List Row
   pub plain : rows_of script ≡ Some rows
-  pub right : Right (conf_of script.conf) rows
+  pub right : Right (conf_of script.conf) first_settings rows
   pub timely : Timely (conf_of script.conf) rows
   pub says : out ≡ trace_text_of rows
 

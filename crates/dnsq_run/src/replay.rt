@@ -4,6 +4,7 @@ ghost use Rattle.std.specs.Prelude.{◌≡◌, ◌≢◌, ◌≤◌, [], length,
 ghost use Rattle.dns_values.specs.Source.{Rose};
 ghost use Rattle.client_core.specs.Headline.{conf_of, AsksByDatagram};
 ghost use Rattle.headline.specs.Right.{Right};
+ghost use Rattle.headline.specs.Settings.{first_settings};
 ghost use Rattle.headline.specs.Timely.{Timely};
 ghost use Rattle.headline.specs.Theorem.{NoneIsTruncated};
 ghost use Rattle.dns_script.specs.ScriptReading.{IsScript};
@@ -70,7 +71,7 @@ fn first_lane(lanes: &Lanes) -> &[Event]
 /// The trace of a script with one lane.
 fn trace_of(alloc: Global, script: Script) -> Result<Trace, Ending>
     ensures plain { IfOk result (λ t. rows_of script ≡ Some t.rows) }
-    ensures right { IfOk result (λ t. AsksByDatagram script.conf → NoneIsTruncated (first_lane script.lanes) → Right (conf_of script.conf) t.rows) }
+    ensures right { IfOk result (λ t. AsksByDatagram script.conf → NoneIsTruncated (first_lane script.lanes) → Right (conf_of script.conf) first_settings t.rows) }
     ensures timely { IfOk result (λ t. AsksByDatagram script.conf → NoneIsTruncated (first_lane script.lanes) → Timely (conf_of script.conf) t.rows) }
     ensures early { IfErr result IsEarly }
     ensures numbers { IfErr result (λ e. status_of e ≡ 7 → rows_of script ≡ None) }
