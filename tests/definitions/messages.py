@@ -228,6 +228,16 @@ def sections_of(octets):
     return tuple(sections)
 
 
+def end_of(octets):
+    """The place behind the last record; nothing where that isn't read."""
+    at = 12
+    for one, place in ((question_at, 4), (record_at, 6), (record_at, 8), (record_at, 10)):
+        _, at = items_at(one, octets, u16_at(octets, place), at)
+        if at is None:
+            return None
+    return at
+
+
 def question_items(octets):
     return sections_of(octets)[0]
 

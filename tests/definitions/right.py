@@ -38,7 +38,8 @@ class Judge:
     def __init__(self, conf, settings, has_cache=True):
         self.conf, self.settings, self.has_cache = conf, settings, has_cache
         self.h = History(conf)
-        self.faults = {}
+        self.faults = {}            # the first of each clause
+        self.definitions = set()    # all that fail
         self.log = []               # askings and replies in order
         self.reply_place = {}       # request: the place in the log of its newest reply
         self.fresh = {}             # request: its fresh replies
@@ -51,12 +52,13 @@ class Judge:
         self.defers_nothing = not (settings.defers_errors or settings.defers_refused or settings.defers_servfail)
 
     def fails(self, clause, definition):
+        self.definitions.add(definition.split(":")[0])
         self.faults.setdefault(clause, Fault(self.h.row, self.out and self.out.text, definition))
 
     def judge(self, rows):
         for moment, what, outs in rows:
             self.row(moment, what, outs)
-        return self.faults
+        return self
 
     def row(self, moment, what, outs):
         h = self.h
@@ -468,6 +470,6 @@ class Judge:
 
 
 def judge(script, trace, has_cache=True):
-    """The first fault of each of the clauses `Right`, `Timely`, `Deferred` and `Hit` that fails, by its name."""
+    """`faults` has the first of each of the clauses `Right`, `Timely`, `Deferred` and `Hit` that fails, by its name."""
     conf, settings = script
     return Judge(conf, settings, has_cache).judge(trace)
