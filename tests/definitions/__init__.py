@@ -1,0 +1,1 @@
+"""The definitions of a right trace, read plainly over the rows of its text."""

@@ -1,0 +1,213 @@
+"""Judges traces by the definitions of a right trace, and compares that with a reference client's own judge.
+
+usage: python3 tests/judge_by_definitions.py REFERENCE_FOLDER [--profile P] [--stage N] [--traces N] [--mutated N]
+       python3 tests/judge_by_definitions.py REFERENCE_FOLDER --judge SCRIPT TRACE [--stage N]
+
+REFERENCE_FOLDER holds the package `plain`; without it nothing is compared, and that is said. Each trace is the
+reference client's own, on a script made by its generator from its number as the seed; a mutated one has one thing or
+two changed, by the same number. Without a profile all three are gone through, and mutated traces of all three. Traces
+that the two judges see differently are kept in the folder of --keep, where that is given. With --judge no reference
+is needed.
+"""
+
+import argparse
+import multiprocessing
+import os
+import random
+import re
+import sys
+from collections import Counter
+
+from definitions import texts
+from definitions.messages import end_of
+from definitions.mutations import mutated
+from definitions.right import judge
+
+STAGES = {"stream1": 6, "servers": 7, "all": 16}
+FIRST_WITH_CACHE = 8
+CLAUSES = ("Right", "Timely", "Deferred", "Hit")
+
+
+def told(faults):
+    lines = []
+    for clause in CLAUSES:
+        if clause in faults:
+            row, out, definition = faults[clause]
+            lines.append("%s: no: row %d, %s: %s" % (clause, row, out or "its end", definition))
+        else:
+            lines.append("%s: yes" % clause)
+    return lines
+
+
+def judge_files(script, trace, stage):
+    with open(script, "rb") as a, open(trace, "rb") as b:
+        faults = judge(texts.read_script(a.read()), texts.read_trace(b.read()), stage >= FIRST_WITH_CACHE).faults
+    print("\n".join(told(faults)))
+    return 1 if faults else 0
+
+
+class Reference:
+    """The reference client, in this process."""
+
+    def __init__(self, folder):
+        sys.path.insert(0, folder)
+        from plain import fuzz, script
+        from plain.tests.audit import audit
+        self.fuzz, self.script, self.audit, self.refusal = fuzz, script, audit, script.ScriptFault
+
+    def made(self, seed, events, profile, stage):
+        """A script and its trace."""
+        run = self.fuzz.make(seed, events, profile, stage)
+        return run.text(), self.script.trace_text(run.rows)
+
+    def judges(self, script, trace, stage):
+        try:
+            rows = self.script.read_trace(trace, stage)
+        except self.refusal as fault:
+            return "not read: line %d" % fault.line
+        return self.audit(self.script.read_script(script, False, stage), rows, stage > 16, stage >= FIRST_WITH_CACHE)
+
+
+def clear_of_tails(trace):
+    """Without the octets behind the last record of what is sent, written or given."""
+    lines = trace.decode().split("\n")
+    for n, line in enumerate(lines):
+        words = line.split(" ")
+        if words[:1] != [">"] or words[1] not in ("send", "write") and words[1:4:2] != ["reply", "ok"]:
+            continue
+        octets, framed = texts.octets_of(words[-1]), words[1] == "write"
+        whole = octets[2:] if framed else octets
+        end = end_of(whole) if len(whole) >= 12 else None
+        if end is not None and end < len(whole):
+            words[-1] = ((end.to_bytes(2, "big") if framed else b"") + whole[:end]).hex()
+            lines[n] = " ".join(words)
+    return "\n".join(lines).encode()
+
+
+def names_the_unasked(trace):
+    """A start of a request that nobody asked yet."""
+    asked = 0
+    for _, what, outs in texts.read_trace(trace):
+        asked += what.kind == "ask"
+        if any(out.kind == "start" and out.request >= asked for out in outs):
+            return True
+    return False
+
+
+def known_difference(theirs, judged, again):
+    """Where the two judges differ by what is decided, its name; `again` has the reference's word without tails."""
+    if theirs is None and judged.definitions - {"InTime"} <= {"MayOpenStream"}:
+        return "the reference doesn't ask why a stream place is opened"
+    if judged.faults.get("Right") or judged.faults.get("Hit"):
+        return None
+    tails, unasked = again()
+    if tails is None and theirs is not None:
+        return "the reference refuses octets behind the last record"
+    if theirs and theirs.startswith("names what isn't there") and unasked:
+        return "the reference refuses a start of what is asked later or never"
+    return None
+
+
+def compare(reference, seed, profile, stage, events, mutates):
+    """What both judges say of one trace: what was done to it, the reference's word, the judge, and the texts."""
+    script, trace = reference.made(seed, events, profile, stage)
+    done = "as made"
+    if mutates:
+        trace, done = mutated(random.Random("%s/%s" % (seed, profile)), trace)
+    theirs = reference.judges(script, trace, stage)
+    judged = judge(texts.read_script(script), texts.read_trace(trace), stage >= FIRST_WITH_CACHE)
+    return done, theirs, judged, script, trace
+
+
+def sees_alike(theirs, faults):
+    """The reference's judge has no clause on moments of timeouts nor on deferred results."""
+    return (theirs is None) == ("Right" not in faults and "Hit" not in faults)
+
+
+WORKER = {}
+
+
+def begin(folder):
+    WORKER["reference"] = Reference(folder)
+
+
+def work(job):
+    seed, profile, stage, events, mutates, keep = job
+    reference = WORKER["reference"]
+    done, theirs, judged, script, trace = compare(reference, seed, profile, stage, events, mutates)
+    alike, known = sees_alike(theirs, judged.faults), None
+    if not alike:
+        known = known_difference(theirs, judged, lambda: (
+            reference.judges(script, clear_of_tails(trace), stage), names_the_unasked(trace)))
+    if keep and not alike and not known:
+        name = os.path.join(keep, "%s-%s%s" % (profile, seed, "-mutated" if mutates else ""))
+        for kind, text in (("script", script), ("trace", trace)):
+            with open("%s.%s" % (name, kind), "wb") as it:
+                it.write(text)
+    return seed, profile, mutates, done, theirs, judged.faults, alike, known
+
+
+def plain_words(text):
+    """Without the numbers of this trace."""
+    return re.sub(r"\d+", "N", str(text))
+
+
+def go_through(jobs, options, name):
+    counts, by, known_ones = Counter(), Counter(), Counter()
+    with multiprocessing.Pool(options.processes, begin, (options.reference,)) as pool:
+        for seed, profile, mutates, done, theirs, faults, alike, known in pool.imap_unordered(work, jobs, 8):
+            counts["seen alike" if alike else "known difference" if known else "unlike"] += 1
+            counts["right by the reference"] += theirs is None
+            if known:
+                known_ones[known] += 1
+            for clause in ("Timely", "Deferred"):
+                if clause in faults and theirs is None and alike:
+                    counts["right but for " + clause] += 1
+            if theirs is not None and alike:
+                by[plain_words(faults.get("Right", faults.get("Hit")).definition)] += 1
+            if not (alike or known) or not mutates and faults:
+                print("%s, seed %s, %s: the reference: %s; the definitions: %s"
+                      % (profile, seed, done, theirs or "right", "; ".join(told(faults))), flush=True)
+    print("%s: %s" % (name, ", ".join("%d %s" % (n, word) for word, n in sorted(counts.items()))), flush=True)
+    for title, table in (("refused by both, here by", by), ("known difference:", known_ones)):
+        for word, n in table.most_common():
+            print("  %s %s: %d" % (title, word, n))
+    return counts
+
+
+def main():
+    parser = argparse.ArgumentParser()
+    parser.add_argument("reference")
+    parser.add_argument("--judge", nargs=2, metavar=("SCRIPT", "TRACE"))
+    parser.add_argument("--profile", choices=sorted(STAGES))
+    parser.add_argument("--stage", type=int)
+    parser.add_argument("--traces", type=int, default=100)
+    parser.add_argument("--mutated", type=int, default=500)
+    parser.add_argument("--events", type=int, default=200)
+    parser.add_argument("--mutated-events", type=int, default=60)
+    parser.add_argument("--first", type=int, default=1)
+    parser.add_argument("--processes", type=int, default=2)
+    parser.add_argument("--keep")
+    options = parser.parse_args()
+    if options.judge:
+        return judge_files(*options.judge, options.stage or 16)
+    if not os.path.isdir(os.path.join(options.reference, "plain")):
+        print("skipped: no reference client in", options.reference)
+        return 0
+    profiles = [options.profile] if options.profile else list(STAGES)
+    total = Counter()
+    for profile in profiles:
+        jobs = [(seed, profile, options.stage or STAGES[profile], options.events, False, options.keep)
+                for seed in range(options.first, options.first + options.traces)]
+        total += go_through(jobs, options, profile) if jobs else Counter()
+    jobs = [(seed, profile, options.stage or STAGES[profile], options.mutated_events, True, options.keep)
+            for seed in range(options.first, options.first + options.mutated)
+            for profile in [profiles[seed % len(profiles)]]]
+    total += go_through(jobs, options, "mutated") if jobs else Counter()
+    print("%d seen alike by both judges, %d by a known difference not, %d unlike"
+          % (total["seen alike"], total["known difference"], total["unlike"]))
+    return 1 if total["unlike"] else 0
+
+
+if __name__ == "__main__":
+    sys.exit(main())
