@@ -3,18 +3,19 @@ use Rattle.std.specs.Prelude.{◌≡◌, ℕ, true}
 use Rattle.client_request.specs.Request.{Request}
 use Rattle.client_request.specs.declared.event.What.{What}
 use Rattle.client_request.specs.declared.event.Via.{Via}
+use Rattle.client_request.specs.declared.event.Via.TheVariants.{Stream}
 use Rattle.headline.specs.Trace.{History, Conf}
 use Rattle.headline.specs.Time.{now, EarlierRow, OfRow}
 use Rattle.headline.specs.Messages.{Octets}
-use Rattle.headline.specs.Places.{closed_here}
+use Rattle.headline.specs.Places.{closed_here, site, is_of_kind}
 use Rattle.headline.specs.Timers.{ReadTimerIsDue}
 use Rattle.headline.specs.Exchanges.{Matches}
 
 -- In what follows `past` is what happened before the row, `w` is the row's event, `h` is what happened up to here, the row's event and its outs so far included, and `end` is what happened when the row is done.
 
--- The message's place was closed in this row, by h, and its read timer made it due: it may be passed over.
+-- The message's place, a stream place, was closed in this row, by h, and its read timer made it due: it may be passed over.
 unfoldable pub IsExcused : (p : ℕ) (past : History) (w : What) (h : History) → Type 0
-IsExcused p past w h = (closed_here p h ≡ true) × ReadTimerIsDue p (now h) past
+IsExcused p past w h = (closed_here p h ≡ true) × ReadTimerIsDue p (now h) past × (is_of_kind Stream (site p h) ≡ true)
 
 -- A message came for request k in this row on an exchange open for it, and matches it.
 pub record CameFor (c : Conf) (k : ℕ) (m : Octets) (past : History) (w : What) (h : History) : Type 0 where

@@ -2,7 +2,7 @@
 
 use crate::fault::WalkFault;
 use client_request::{
-    Board, ComposeRequest, Cx, Error, Event, ListWords, Moment, Out, Outs, RequestMessage, Row,
+    Board, Compose, Cx, Error, Event, ListWords, Moment, Out, Outs, Posted, RequestMessage, Row,
     Rows, SendRequest, Signal, Timers, Trace, What, WordList,
 };
 use client_stream::{Connection, Request};
@@ -145,15 +145,19 @@ fn tell(alloc: Global, walk: &mut Walk, what: &What) -> Result<(), Error> {
 /// Puts the results that stand on the board behind what was put out, in the order in which they came.
 fn reply(walk: &mut Walk) -> Result<(), NoMemory> {
     for _ in 0..walk.board.len() {
-        let Some(request) = walk.board.oldest() else {
+        let Some(posted) = walk.board.take_first() else {
             return Ok(());
         };
-        let result = match walk.board.take(request) {
-            Some(Ok(Some(message))) => Ok(message),
-            Some(Err(error)) => Err(error),
-            Some(Ok(None)) | None => return Ok(()),
+        let Posted { ticket, part } = posted;
+        let result = match part {
+            Ok(Some(message)) => Ok(message),
+            Err(error) => Err(error),
+            Ok(None) => return Ok(()),
         };
-        walk.outs.push(Out::Reply { request, result })?;
+        walk.outs.push(Out::Reply {
+            request: ticket,
+            result,
+        })?;
     }
     Ok(())
 }

@@ -1,8 +1,8 @@
 //! What the tests share: a connection, what is lent to it, and what it puts out and gives.
 
 use client_request::{
-    Board, Cx, Error, Fault, GetResponse, ListWords, Moment, Out, Outs, Poll, RequestMessage,
-    SendRequest, Signal, Timers, What, WordList,
+    Board, Cx, Error, Fault, GetResponse, ListWords, Moment, Out, Outs, Poll, Posted,
+    RequestMessage, SendRequest, Signal, Timers, What, WordList,
 };
 use client_stream::{Config, Connection, Request};
 use dns_base::{Duration, Message, Octets};
@@ -235,8 +235,7 @@ pub fn are_put_out(world: &World, deeds: &[Deed]) -> bool {
 
 /// The result that stands first on the board, which is taken.
 fn first_given(world: &mut World) -> Option<Given> {
-    let ticket = world.board.oldest()?;
-    let part = world.board.take(ticket)?;
+    let Posted { ticket, part } = world.board.take_first()?;
     match part {
         Ok(Some(message)) => Some((ticket, Ok(message.header().id()))),
         Ok(None) => None,

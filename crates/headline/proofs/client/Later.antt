@@ -21,6 +21,7 @@ use Rattle.headline.specs.Causes.{sends, last_try, is_send_to, ServerCause, NotO
 use Rattle.headline.specs.Settings.{Settings}
 use Rattle.headline.specs.Validity.{is_deferred}
 use Rattle.headline.specs.Owed.{AllAreDone}
+use Rattle.headline.proofs.server.Coming.{kind_on}
 use Rattle.headline.specs.Coming.{CameFor, IsExcused, SomeCame, CameFirst, FirstHere, FirstEarlier, NoneCame}
 use Rattle.headline.specs.Replies.{IsFresh, InThisRow, Deferred, IsFreshReply, CoversLater, Supplies, IsView, Fresh, View}
 use Rattle.headline.specs.Errors.{HereOrEarlier, Here, Earlier, CameWithoutValidity, CantBeViewed, DirectCause, Deadline, NoServer, ByServer, NoValidity, ViewNotKnown, IsErrorReply, IsKeptError, Own, Kept}
@@ -216,7 +217,7 @@ cause_put c k past w o h _ six (NotComposed x) = NotComposed (record { asking_of
 pub excused_on : (p : ℕ) (past : History) (w : What) (xs : List Out) (h : History) → IsExcused p past w h → IsExcused p past w (put_all xs h)
 unfolding IsExcused
 excused_on p past w [] h e = e
-excused_on p past w (x ∷ xs) h e = excused_on p past w xs (Put x ∷ h) (or_right (is_close p x) (closed_here p h) e.0, e.1)
+excused_on p past w (x ∷ xs) h e = excused_on p past w xs (Put x ∷ h) (or_right (is_close p x) (closed_here p h) e.0, e.1, kind_on p x (site p h) e.2)
 
 -- What holds of a row still holds when it has gone on.
 pub record Carried (c : Conf) (past : History) (w : What) (h h' : History) : Type 1 where

@@ -10,7 +10,7 @@ use Rattle.client_request.specs.declared.event.Out.{Out}
 use Rattle.client_request.specs.declared.event.Out.TheVariants.{Start, OpenDgram, OpenStream, Send, Write, Resume, Close, Reply}
 use Rattle.client_request.specs.declared.event.Via.{Via}
 use Rattle.client_request.specs.declared.event.Via.TheVariants.{Dgram, Stream}
-use Rattle.headline.specs.Trace.{History, Conf, Came, Put}
+use Rattle.headline.specs.Trace.{History, Conf, Came, Put, put_all}
 use Rattle.headline.specs.Time.{now, newest, row_before, stream_timeout}
 use Rattle.headline.specs.Messages.{Octets, answers, id_in}
 use Rattle.headline.specs.Requests.{asking, is_ask, replied, start}
@@ -52,6 +52,15 @@ site_kept p (Write q k i o) z = refl
 site_kept p (Resume q o) z = refl
 site_kept p (Close q) z = refl
 site_kept p (Reply k x) z = refl
+
+-- a stream place stays one
+pub kind_on : (p : ℕ) (o : Out) (z : Option Site) → is_of_kind Stream z ≡ true → is_of_kind Stream (site_on p o z) ≡ true
+kind_on p o None e = absurd (cc)
+kind_on p o (Some z) e = subst (λ x. is_of_kind Stream x ≡ true) (sym (site_kept p o z)) e
+
+pub kind_all : (p : ℕ) (outs : List Out) (h : History) → is_of_kind Stream (site p h) ≡ true → is_of_kind Stream (site p (put_all outs h)) ≡ true
+kind_all p [] h e = e
+kind_all p (o ∷ outs) h e = kind_all p outs (Put o ∷ h) (kind_on p o (site p h) e)
 
 pub site_past : (p : ℕ) (z : Site) (h : History) → site p (row_before h) ≡ Some z → site p h ≡ Some z
 site_past p z [] e = e

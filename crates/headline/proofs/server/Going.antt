@@ -7,10 +7,11 @@ use Rattle.client_request.specs.declared.error.Error.{Error}
 use Rattle.client_request.specs.declared.event.What.{What}
 use Rattle.client_request.specs.declared.event.What.TheVariants.{Datagram, Bytes}
 use Rattle.client_request.specs.declared.event.Out.TheVariants.{OpenStream, Write, Close}
+use Rattle.client_request.specs.declared.event.Via.TheVariants.{Stream}
 use Rattle.headline.specs.Trace.{History, Conf, Put, put_all}
 use Rattle.headline.specs.Time.{now, read_timeout, response_timeout, stream_timeout}
 use Rattle.headline.specs.Messages.{Octets, answers, truncated, id_in}
-use Rattle.headline.specs.Places.{is_told, reach}
+use Rattle.headline.specs.Places.{site, is_of_kind, is_told, reach}
 use Rattle.headline.specs.Writes.{Written}
 use Rattle.headline.specs.Frames.{is_bad, first_with, fed}
 use Rattle.headline.specs.Timers.{ReadTimerIsDue}
@@ -58,7 +59,11 @@ module _ (c : Conf) (s next : ℕ) (past : History) (w : What) (u : Served) (h :
   -- a place that its read timer closes
   excused : (p q : ℕ) (z : Conn) (since : ℕ) → q ≡ p → u.server.by_stream.conns q ≡ Some z → z.mode ≡ multi.Active since → since + response_timeout < now h → IsExcused p past w (Put (Close q) ∷ h)
   unfolding IsExcused
-  excused p q z since is conn mode late = (let t : (q == p) ≡ true = grind (arith, nat_tests) in rw t refl, subst (λ q. ReadTimerIsDue q (now h) past) is (f.streams.late q z conn since mode late))
+  excused p q z since is conn mode late = (
+    let t : (q == p) ≡ true = grind (arith, nat_tests) in rw t refl,
+    subst (λ q. ReadTimerIsDue q (now h) past) is (f.streams.late q z conn since mode late),
+    subst (λ q. is_of_kind Stream (site q h) ≡ true) is (subst (λ x. is_of_kind Stream x ≡ true) (sym (f.streams.conns q z conn).at) refl),
+  )
 
   module _ (p k id : ℕ) (m : Octets) (a : Asker) (x : IsUntaken u p k id m a) where
     abbrev Keeps : Multi → Type 0

@@ -22,7 +22,7 @@ use Rattle.headline.specs.machine.Served.{Served, holds, row_begun, Acts, RestsN
 use Rattle.headline.specs.Coming.{IsExcused}
 use Rattle.headline.specs.machine.Part.{Act as Step}
 use Rattle.headline.proofs.server.Kept.{stream_site}
-use Rattle.headline.proofs.server.Coming.{site_past}
+use Rattle.headline.proofs.server.Coming.{site_past, kind_all}
 use Rattle.headline.proofs.server.Ending.{at_is}
 use Rattle.headline.proofs.server.Views.{each_other, at_there}
 use Rattle.headline.proofs.server.Handing.{before_of}
@@ -69,7 +69,7 @@ closed_all p (o ∷ outs) h e = closed_all p outs (Put o ∷ h) (or_last (is_clo
 
 pub excused_all : (p : ℕ) (past : History) (w : What) (outs : List Out) (h : History) → IsExcused p past w h → IsExcused p past w (put_all outs h)
 unfolding IsExcused
-excused_all p past w outs h x = (closed_all p outs h x.0, subst (λ n. ReadTimerIsDue p n past) (sym (now_all outs h)) x.1)
+excused_all p past w outs h x = (closed_all p outs h x.0, subst (λ n. ReadTimerIsDue p n past) (sym (now_all outs h)) x.1, kind_all p outs h x.2)
 
 -- another server: nothing new comes there
 pub others_heard : (c : Conf) (t : ℕ) (past : History) (w : What) (v : Served) (h : History) (outs : List Out) → ((r : Request) (p k id : ℕ) (m : Octets) → Comes c r Stream t p k id m past w (put_all outs h) → Comes c r Stream t p k id m past w h) → HeardFits c t past w v h → HeardFits c t past w v (put_all outs h)
