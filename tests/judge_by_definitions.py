@@ -96,8 +96,8 @@ def names_the_unasked(trace):
 
 def known_difference(theirs, judged, again):
     """Where the two judges differ by what is decided, its name; `again` has the reference's word without tails."""
-    if theirs is None and judged.definitions - {"InTime"} <= {"MayOpenStream"}:
-        return "the reference doesn't ask why a stream place is opened"
+    if theirs is None and judged.definitions - {"InTime"} <= {"MayOpenStream", "MayStart"}:
+        return "the reference doesn't ask why a stream place is opened, nor why a server is handed a request by stream"
     if judged.faults.get("Right") or judged.faults.get("Hit"):
         return None
     tails, unasked = again()
@@ -158,6 +158,8 @@ def go_through(jobs, options, name):
         for seed, profile, mutates, done, theirs, faults, alike, known in pool.imap_unordered(work, jobs, 8):
             counts["seen alike" if alike else "known difference" if known else "unlike"] += 1
             counts["right by the reference"] += theirs is None
+            if (counts["seen alike"] + counts["known difference"] + counts["unlike"]) % 500 == 0:
+                print("%s, so far: %s" % (name, dict(counts)), flush=True)
             if known:
                 known_ones[known] += 1
             for clause in ("Timely", "Deferred"):
