@@ -426,8 +426,8 @@ class History:
         return [x for x in self.comes() if x.agrees and (x.via == "stream" or not dns.truncated(x.message))]
 
     def is_excused(self, p):
-        """Its place was closed in this row, by here, and its read timer made that due."""
-        return p in self.closed_here and self.read_timer_is_due(p)
+        """Its place, a stream place, was closed in this row, by here, and its read timer made that due."""
+        return p in self.closed_here and self.read_timer_is_due(p) and self.site[p].via == "stream"
 
     def is_left_open(self, k, s):
         """Some exchange of request k at server s is open when the row is done."""
