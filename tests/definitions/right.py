@@ -40,6 +40,7 @@ class Judge:
         self.h = History(conf)
         self.faults = {}            # the first of each clause
         self.definitions = set()    # all that fail
+        self.unkept = set()         # requests whose message came, has no validity and isn't given
         self.log = []               # askings and replies in order
         self.reply_place = {}       # request: the place in the log of its newest reply
         self.fresh = {}             # request: its fresh replies
@@ -373,11 +374,13 @@ class Judge:
         h = self.h
         for x in h.matching():
             k = x.request
-            if not is_final(self.settings, h.asking[k].request, x.message) or self.is_overdue(k):
-                continue
             given = any(o.kind == "reply" and o.request == k and o.result == x.message for o in self.outs)
-            if not given and not h.is_excused(x.place):
+            if given or self.is_overdue(k) or h.is_excused(x.place):
+                continue
+            if is_final(self.settings, h.asking[k].request, x.message):
                 self.fails("Right", "Prompt: request %d" % k)
+            elif not is_deferred(self.settings, x.message):
+                self.unkept.add(k)
 
     def is_overdue(self, k):
         asked = self.h.asking.past(k)
