@@ -103,9 +103,8 @@ def oddities(trace):
 def known_difference(theirs, judged, without_tails, trace):
     """Where the two judges differ by what is decided, its name; `without_tails` is the reference's word on such a trace."""
     if theirs is None:
-        strict = {"MayOpenStream", "MayStart", "ServerOutRight"}
-        if judged.definitions - {"InTime", "OkIsRight", "HasCause"} <= strict and \
-                judged.faults["Right"].definition.split(":")[0] in strict:
+        others = {"InTime: request", "AllAreDone", "CameFirst", "NoneCame"}
+        if judged.definitions - others <= {"MayOpenStream", "MayStart", "ServerOutRight: server"}:
             return "the reference asks less of the server of a start and of an opening, and of a stream's"
         return None
     if judged.faults.get("Right") or judged.faults.get("Hit"):

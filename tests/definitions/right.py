@@ -53,7 +53,7 @@ class Judge:
         self.defers_nothing = not (settings.defers_errors or settings.defers_refused or settings.defers_servfail)
 
     def fails(self, clause, definition):
-        self.definitions.add(definition.split(":")[0])
+        self.definitions.add(definition.rstrip(" 0123456789"))
         self.faults.setdefault(clause, Fault(self.h.row, self.out and self.out.text, definition))
 
     def judge(self, rows):
@@ -200,9 +200,9 @@ class Judge:
         if self.is_fresh(k, m):
             if is_deferred(self.settings, m):
                 if not self.h.all_are_done(k):
-                    self.fails("Deferred", "OkIsRight: AllAreDone")
+                    self.fails("Deferred", "AllAreDone")
                 elif not self.came_first(k, m):
-                    self.fails("Deferred", "OkIsRight: CameFirst")
+                    self.fails("Deferred", "CameFirst")
             return None
         return None if self.is_view(k, m) else "OkIsRight"
 
@@ -247,9 +247,9 @@ class Judge:
             waits = is_of_server(error) and self.settings.defers_errors
             if waits and not self.is_kept_error(k, error):
                 if not self.h.all_are_done(k):
-                    self.fails("Deferred", "HasCause: AllAreDone")
+                    self.fails("Deferred", "AllAreDone")
                 elif not self.none_came(k):
-                    self.fails("Deferred", "HasCause: NoneCame")
+                    self.fails("Deferred", "NoneCame")
             return None
         return None if self.is_kept_error(k, error) else "HasCause"
 
