@@ -114,7 +114,7 @@ def known_difference(theirs, judged, without_tails, trace):
         return "the reference refuses a start of what is asked later or never"
     if twice:
         return "the reference takes a place that is opened again for a new one"
-    if theirs.startswith("H5") and not judged.has_cache and judged.unkept:
+    if judged.unkept and not judged.has_cache:
         return "a client without a cache need not give a message without validity"
     return "the reference refuses octets behind the last record" if without_tails() is None else None
 
