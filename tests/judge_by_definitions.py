@@ -69,11 +69,14 @@ class Reference:
 
 
 def clear_of_tails(trace):
-    """Without the octets behind the last record of what is sent, written or given."""
-    lines = trace.decode().split("\n")
+    """Without the octets behind the last record of what is sent or written, and of a reply in its asking's row."""
+    lines, asked, own = trace.decode().split("\n"), 0, None
     for n, line in enumerate(lines):
         words = line.split(" ")
-        if words[:1] != [">"] or words[1] not in ("send", "write") and words[1:4:2] != ["reply", "ok"]:
+        if words[0] == "at":
+            own = ["reply", str(asked), "ok"] if words[2] == "ask" else None
+            asked += words[2] == "ask"
+        if words[0] != ">" or words[1] not in ("send", "write") and words[1:4] != own:
             continue
         octets, framed = texts.octets_of(words[-1]), words[1] == "write"
         whole = octets[2:] if framed else octets
@@ -84,28 +87,36 @@ def clear_of_tails(trace):
     return "\n".join(lines).encode()
 
 
-def names_the_unasked(trace):
-    """A start of a request that nobody asked yet."""
-    asked = 0
+def oddities(trace):
+    """Whether a start is of a request that nobody asked yet, and whether a place is opened twice."""
+    asked, opened, unasked, twice = 0, set(), False, False
     for _, what, outs in texts.read_trace(trace):
         asked += what.kind == "ask"
-        if any(out.kind == "start" and out.request >= asked for out in outs):
-            return True
-    return False
+        for out in outs:
+            unasked = unasked or out.kind == "start" and out.request >= asked
+            if out.kind in ("open-dgram", "open-stream"):
+                twice = twice or out.place in opened
+                opened.add(out.place)
+    return unasked, twice
 
 
-def known_difference(theirs, judged, again):
-    """Where the two judges differ by what is decided, its name; `again` has the reference's word without tails."""
-    if theirs is None and judged.definitions - {"InTime"} <= {"MayOpenStream", "MayStart"}:
-        return "the reference doesn't ask why a stream place is opened, nor why a server is handed a request by stream"
+def known_difference(theirs, judged, without_tails, trace):
+    """Where the two judges differ by what is decided, its name; `without_tails` is the reference's word on such a trace."""
+    if theirs is None:
+        others = {"InTime: request", "AllAreDone", "CameFirst", "NoneCame"}
+        if judged.definitions - others <= {"MayOpenStream", "MayStart", "ServerOutRight: server"}:
+            return "the reference asks less of the server of a start and of an opening, and of a stream's"
+        return None
     if judged.faults.get("Right") or judged.faults.get("Hit"):
         return None
-    tails, unasked = again()
-    if tails is None and theirs is not None:
-        return "the reference refuses octets behind the last record"
-    if theirs and theirs.startswith("names what isn't there") and unasked:
+    unasked, twice = oddities(trace)
+    if theirs.startswith("names what isn't there") and unasked:
         return "the reference refuses a start of what is asked later or never"
-    return None
+    if twice:
+        return "the reference takes a place that is opened again for a new one"
+    if judged.unkept and not judged.has_cache:
+        return "a client without a cache need not give a message without validity"
+    return "the reference refuses octets behind the last record" if without_tails() is None else None
 
 
 def compare(reference, seed, profile, stage, events, mutates):
@@ -137,8 +148,8 @@ def work(job):
     done, theirs, judged, script, trace = compare(reference, seed, profile, stage, events, mutates)
     alike, known = sees_alike(theirs, judged.faults), None
     if not alike:
-        known = known_difference(theirs, judged, lambda: (
-            reference.judges(script, clear_of_tails(trace), stage), names_the_unasked(trace)))
+        known = known_difference(
+            theirs, judged, lambda: reference.judges(script, clear_of_tails(trace), stage), trace)
     if keep and not alike and not known:
         name = os.path.join(keep, "%s-%s%s" % (profile, seed, "-mutated" if mutates else ""))
         for kind, text in (("script", script), ("trace", trace)):

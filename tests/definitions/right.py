@@ -40,6 +40,7 @@ class Judge:
         self.h = History(conf)
         self.faults = {}            # the first of each clause
         self.definitions = set()    # all that fail
+        self.unkept = set()         # requests whose message came, has no validity and isn't given
         self.log = []               # askings and replies in order
         self.reply_place = {}       # request: the place in the log of its newest reply
         self.fresh = {}             # request: its fresh replies
@@ -52,7 +53,7 @@ class Judge:
         self.defers_nothing = not (settings.defers_errors or settings.defers_refused or settings.defers_servfail)
 
     def fails(self, clause, definition):
-        self.definitions.add(definition.split(":")[0])
+        self.definitions.add(definition.rstrip(" 0123456789"))
         self.faults.setdefault(clause, Fault(self.h.row, self.out and self.out.text, definition))
 
     def judge(self, rows):
@@ -199,9 +200,9 @@ class Judge:
         if self.is_fresh(k, m):
             if is_deferred(self.settings, m):
                 if not self.h.all_are_done(k):
-                    self.fails("Deferred", "OkIsRight: AllAreDone")
+                    self.fails("Deferred", "AllAreDone")
                 elif not self.came_first(k, m):
-                    self.fails("Deferred", "OkIsRight: CameFirst")
+                    self.fails("Deferred", "CameFirst")
             return None
         return None if self.is_view(k, m) else "OkIsRight"
 
@@ -246,9 +247,9 @@ class Judge:
             waits = is_of_server(error) and self.settings.defers_errors
             if waits and not self.is_kept_error(k, error):
                 if not self.h.all_are_done(k):
-                    self.fails("Deferred", "HasCause: AllAreDone")
+                    self.fails("Deferred", "AllAreDone")
                 elif not self.none_came(k):
-                    self.fails("Deferred", "HasCause: NoneCame")
+                    self.fails("Deferred", "NoneCame")
             return None
         return None if self.is_kept_error(k, error) else "HasCause"
 
@@ -373,11 +374,13 @@ class Judge:
         h = self.h
         for x in h.matching():
             k = x.request
-            if not is_final(self.settings, h.asking[k].request, x.message) or self.is_overdue(k):
-                continue
             given = any(o.kind == "reply" and o.request == k and o.result == x.message for o in self.outs)
-            if not given and not h.is_excused(x.place):
+            if given or self.is_overdue(k) or h.is_excused(x.place):
+                continue
+            if is_final(self.settings, h.asking[k].request, x.message):
                 self.fails("Right", "Prompt: request %d" % k)
+            elif not is_deferred(self.settings, x.message):
+                self.unkept.add(k)
 
     def is_overdue(self, k):
         asked = self.h.asking.past(k)
