@@ -52,8 +52,8 @@ class Reference:
     def __init__(self, folder):
         sys.path.insert(0, folder)
         from plain import fuzz, script
-        from plain.tests.audit import audit
-        self.fuzz, self.script, self.audit, self.refusal = fuzz, script, audit, script.ScriptFault
+        from plain.tests import audit
+        self.fuzz, self.script, self.auditing, self.refusal = fuzz, script, audit, script.ScriptFault
 
     def made(self, seed, events, profile, stage):
         """A script and its trace."""
@@ -65,7 +65,17 @@ class Reference:
             rows = self.script.read_trace(trace, stage)
         except self.refusal as fault:
             return "not read: line %d" % fault.line
-        return self.audit(self.script.read_script(script, False, stage), rows, stage > 16, stage >= FIRST_WITH_CACHE)
+        return self.auditing.audit(
+            self.script.read_script(script, False, stage), rows, stage > 16, stage >= FIRST_WITH_CACHE)
+
+    def judges_without_case(self, script, trace, stage):
+        """The same, where a view may spell its names in another case (RFC 4343)."""
+        exact = self.auditing.same_message
+        self.auditing.same_message = lambda a, b, by_type, exact_case=False: exact(a, b, by_type)
+        try:
+            return self.judges(script, trace, stage)
+        finally:
+            self.auditing.same_message = exact
 
 
 def clear_of_tails(trace):
@@ -100,23 +110,29 @@ def oddities(trace):
     return unasked, twice
 
 
-def known_difference(theirs, judged, without_tails, trace):
-    """Where the two judges differ by what is decided, its name; `without_tails` is the reference's word on such a trace."""
+def known_difference(theirs, judged, without_tails, without_case, trace):
+    """Where the two judges differ by what is decided, its name; the reference's words on such traces are asked as need comes."""
+    unasked, twice = oddities(trace)
     if theirs is None:
+        if twice:
+            return "the reference takes a place that is opened again for a new one"
+        if "MayClose" in judged.definitions <= {"MayClose", "PlacesAreMet: server"}:
+            return "the reference lets a number be closed before it is opened"
         others = {"InTime: request", "AllAreDone", "CameFirst", "NoneCame"}
         if judged.definitions - others <= {"MayOpenStream", "MayStart", "ServerOutRight: server"}:
             return "the reference asks less of the server of a start and of an opening, and of a stream's"
         return None
     if judged.faults.get("Right") or judged.faults.get("Hit"):
         return None
-    unasked, twice = oddities(trace)
     if theirs.startswith("names what isn't there") and unasked:
         return "the reference refuses a start of what is asked later or never"
     if twice:
         return "the reference takes a place that is opened again for a new one"
     if judged.unkept and not judged.has_cache:
         return "a client without a cache need not give a message without validity"
-    return "the reference refuses octets behind the last record" if without_tails() is None else None
+    if without_tails() is None:
+        return "the reference refuses octets behind the last record"
+    return "the reference wants the names of a view in the very case" if without_case() is None else None
 
 
 def compare(reference, seed, profile, stage, events, mutates):
@@ -149,8 +165,10 @@ def work(job):
     alike, known = sees_alike(theirs, judged.faults), None
     if not alike:
         known = known_difference(
-            theirs, judged, lambda: reference.judges(script, clear_of_tails(trace), stage), trace)
+            theirs, judged, lambda: reference.judges(script, clear_of_tails(trace), stage),
+            lambda: reference.judges_without_case(script, trace, stage), trace)
     if keep and not alike and not known:
+        os.makedirs(keep, exist_ok=True)
         name = os.path.join(keep, "%s-%s%s" % (profile, seed, "-mutated" if mutates else ""))
         for kind, text in (("script", script), ("trace", trace)):
             with open("%s.%s" % (name, kind), "wb") as it:
