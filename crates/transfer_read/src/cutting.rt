@@ -8,10 +8,7 @@ use crate::fault::TransferFault;
 use dns_base::{Builder, Message, QuestionSection, Record, RecordSection, Section};
 use std::alloc::Global;
 
-fn push_questions(
-    target: &mut Builder,
-    questions: QuestionSection<'_>,
-) -> Result<(), TransferFault>
+fn push_questions(target: &mut Builder, questions: QuestionSection<'_>) -> Result<(), TransferFault>
     requires { HasNoRecords (counts_in target.old) }
     ensures { HasNoRecords (counts_in target.new) }
 {

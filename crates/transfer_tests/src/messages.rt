@@ -2,7 +2,7 @@
 
 use client_request::{Error, RequestMessageMulti};
 use client_transfer::{XfrState, check_stream};
-use dns_base::{Message, Octets};
+use dns_base::{Message, NoMemory, Octets};
 use std::alloc::Global;
 
 /// The question for a whole zone.
@@ -52,12 +52,16 @@ pub const FIVE_RECORDS: [u8; 12] = [0, 0, 0x84, 0, 0, 1, 0, 5, 0, 0, 0, 0];
 
 pub const SIX_RECORDS: [u8; 12] = [0, 0, 0x84, 0, 0, 1, 0, 6, 0, 0, 0, 0];
 
-fn message_of(alloc: Global, head: &[u8], parts: &[&[u8]]) -> Result<Message, Error> {
+fn octets_of(alloc: Global, head: &[u8], parts: &[&[u8]]) -> Result<Octets, NoMemory> {
     let mut octets = Vec::from_slice(alloc, head)?;
     for part in parts {
         octets.extend_from_slice(part)?;
     }
-    Ok(Message::from_octets(Octets::from_vec(octets)?)?)
+    Ok(Octets::from_vec(octets)?)
+}
+
+fn message_of(alloc: Global, head: &[u8], parts: &[&[u8]]) -> Result<Message, Error> {
+    Ok(Message::from_octets(octets_of(alloc, head, parts)?)?)
 }
 
 fn request_for(alloc: Global, question: &[u8]) -> Result<RequestMessageMulti, Error> {
