@@ -67,38 +67,43 @@ def query(qtype):
     return bytes([0, 0, 0, 0, 0, 1]) + bytes(6) + EXAMPLE + qtype.to_bytes(2, "big") + b"\0\1"
 
 
-def record(rng):
+def soa(serial):
+    return EXAMPLE + b"\0\6\0\1" + bytes(4) + b"\0\x16" + bytes(2) + serial.to_bytes(4, "big") + bytes(16)
+
+
+def record(rng, ways):
     """An SOA of one of few serials, or another record; now and then one whose data isn't whole."""
-    if rng.random() < 0.45:
-        rtype, data = 6, bytes(2) + rng.choice([7, 7, 7, 8, 9]).to_bytes(4, "big") + bytes(16)
-    else:
-        rtype, data = rng.choice([(1, rng.randbytes(4)), (28, rng.randbytes(16)), (16, b"\1a"), (46, rng.randbytes(9))])
-    if rng.random() < 0.02:
+    if rng.random() < ways["soas"]:
+        return soa(7 if rng.random() < ways["ends"] else rng.choice([8, 9]))
+    rtype, data = rng.choice([(1, rng.randbytes(4)), (28, rng.randbytes(16)), (16, b"\1a"), (46, rng.randbytes(9))])
+    if rng.random() < ways["faults"]:
         data = data[:-1] if rng.random() < 0.5 else data + b"\0"
     return EXAMPLE + rtype.to_bytes(2, "big") + b"\0\1" + bytes(4) + len(data).to_bytes(2, "big") + data
 
 
-def message(rng, qtype, first, steps):
-    flags = bytes([rng.choice([0x84] * 20 + [0x04]), rng.choice([0] * 20 + [5, 1])])
-    ident = rng.choice([bytes(2)] * 20 + [b"\0\1"])
-    questions = [] if not first and rng.random() < 0.5 or rng.random() < 0.03 else [qtype]
-    if rng.random() < 0.03:
+def message(rng, qtype, first, ways):
+    faulty = lambda: rng.random() < ways["faults"]
+    flags = bytes([0x04 if faulty() else 0x84, rng.choice([1, 5]) if faulty() else 0])
+    questions = [] if not first and rng.random() < 0.5 or faulty() else [qtype]
+    if faulty():
         questions = rng.choice([[AXFR], [IXFR], [qtype, qtype]])
-    body = b"".join(EXAMPLE + q.to_bytes(2, "big") + b"\0\1" for q in questions)
-    records = [record(rng) for _ in range(steps)]
-    if first and records and rng.random() < 0.8:
-        records[0] = EXAMPLE + b"\0\6\0\1" + bytes(4) + b"\0\x16" + bytes(5) + b"\7" + bytes(16)
-    counts = [len(questions), len(records) + rng.choice([0] * 30 + [1]), 0, 0]
-    octets = ident + flags + b"".join(n.to_bytes(2, "big") for n in counts) + body + b"".join(records)
-    return octets[:-1] if len(octets) > 12 and rng.random() < 0.02 else octets
+    records = [record(rng, ways) for _ in range(rng.choice([0, 1, 1, 2, 3, 4]))]
+    if first and not faulty():
+        records[:1] = [soa(7), soa(8)] if qtype == IXFR and rng.random() < 0.6 else [soa(7)]
+    asked = b"".join(EXAMPLE + q.to_bytes(2, "big") + b"\0\1" for q in questions)
+    counts = [len(questions), len(records) + faulty(), 0, 0]
+    head = (b"\0\1" if faulty() else bytes(2)) + flags + b"".join(n.to_bytes(2, "big") for n in counts)
+    octets = head + asked + b"".join(records)
+    return octets[:-1] if len(octets) > 12 and faulty() else octets
 
 
 def transfer(rng):
     """The lines of a transfer."""
     qtype = rng.choice([AXFR, IXFR])
+    ways = {"soas": rng.choice([0.05, 0.2, 0.5]), "ends": rng.choice([0.1, 0.9]), "faults": rng.choice([0, 0.02, 0.2])}
     lines = ["ask " + query(qtype).hex()]
     for at in range(rng.choice([1, 2, 3, 5, 8])):
-        lines.append(message(rng, qtype, at == 0, rng.choice([0, 1, 1, 2, 3, 4])).hex())
+        lines.append(message(rng, qtype, at == 0, ways).hex())
     return lines
 
 
