@@ -4,7 +4,7 @@ ghost use Rattle.client_stream.specs.Cutting.{CuttingLaw};
 ghost use Rattle.client_stream.specs.Frames.{FramesJoin};
 ghost use Rattle.client_stream.specs.Ids.{IdsLaw};
 
-use client_request::ComposeRequest;
+use client_request::{ComposeRequest, ComposeRequestMulti};
 
 /// The frames of octets are those of their pieces, wherever they are cut.
 #[tactic(auto, using(crate::proofs::Frames::frames_join))]
@@ -15,12 +15,12 @@ pub fn frames_law()
 /// An id that was written on a connection is not written again there until a frame with it came or the
 /// connection ended.
 #[tactic(auto, using(crate::proofs::IdMoves::ids_law))]
-pub fn ids_law<Req: ComposeRequest>()
-    ensures { IdsLaw Req.requests }
+pub fn ids_law<Req: ComposeRequest, ReqMulti: ComposeRequestMulti>()
+    ensures { IdsLaw Req.requests ReqMulti.requests }
 {}
 
 /// Octets that come in two pieces at one moment leave and give what they do in one.
 #[tactic(auto, using(crate::proofs::Cutting::cutting))]
-pub fn cutting_law<Req: ComposeRequest>()
-    ensures { CuttingLaw Req.requests }
+pub fn cutting_law<Req: ComposeRequest, ReqMulti: ComposeRequestMulti>()
+    ensures { CuttingLaw Req.requests ReqMulti.requests }
 {}

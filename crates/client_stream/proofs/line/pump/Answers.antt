@@ -11,12 +11,12 @@ use Rattle.client_stream.specs.declared.request.Waiting.{Waiting}
 use Rattle.client_stream.proofs.line.pump.Goals as goal
 
 -- While a frame is being written no request is taken.
-stays : {R : Type 0} (requests : Requests R) (place : ℕ) (settings : Settings) (queue : List (ℕ × Waiting R)) (s : Line R) (v : View) → is_some s.writing ≡ true → plain.pumps requests place settings queue s v ≡ Some (s, v)
-stays requests place settings [] s v h = refl
-stays requests place settings (entry ∷ queue) s v h = rw h refl
+stays : {R M : Type 0} (one : Requests R) (several : Requests M) (place : ℕ) (settings : Settings) (queue : List (ℕ × Waiting R M)) (s : Line R M) (v : View) → is_some s.writing ≡ true → plain.pumps one several place settings queue s v ≡ Some (s, v)
+stays one several place settings [] s v h = refl
+stays one several place settings (entry ∷ queue) s v h = rw h refl
 
 pub returns-clause-ok : goal.returns-clause-ok
 returns-clause-ok g c =
     let there : is_some c.loop-line.line.writing ≡ true = ap (λ s. is_some s.writing) (sym c.line.view_is) ∙ c.is_none.ensures ∙ ap not c.loop-line-test.false in
     sym c.loop-line.invariant.same
-    ∙ stays g.Req.Compose.requests c.args.place c.args.config.now c.loop-line.line.queue c.loop-line.line (view_of g.W.Words.stream c.loop-line.cx) there
+    ∙ stays g.Req.Compose.one several c.args.place c.args.config.now c.loop-line.line.queue c.loop-line.line (view_of g.W.Words.stream c.loop-line.cx) there
