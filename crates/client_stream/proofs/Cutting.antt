@@ -5,18 +5,20 @@ use Rattle.std.proofs.lemmas.Bool.Decides.{nat_tests}
 use Rattle.client_request.specs.Numbered.{entry_at}
 use Rattle.client_request.specs.Requests.{Requests}
 use Rattle.client_request.specs.Timers.{can_draw, with_timer}
-use Rattle.client_request.specs.View.{View, told, sets_timer, asks}
+use Rattle.client_request.specs.View.{View, told, sets_timer, asks, answers}
 use Rattle.client_request.specs.declared.error.Error.{Error}
 use Rattle.client_request.specs.declared.error.Error.TheVariants as errors
 use Rattle.client_request.specs.declared.event.What.TheVariants.{Bytes}
+use Rattle.client_transfer.specs.States.{checked}
+use Rattle.client_transfer.specs.Transfers.{part_given}
+use Rattle.client_transfer.specs.declared.state.XfrState.{XfrState}
 use Rattle.client_stream.specs.Cutting.{takes_more, brings, CuttingLaw}
 use Rattle.client_stream.specs.Frames.{body_size, has_frame}
 use Rattle.client_stream.specs.IdTable.{removed}
 use Rattle.client_stream.specs.Plain as plain
 use Rattle.client_stream.specs.Plain.{Line, Stream, After, AfterAll, has_ended, message_id, octets_left}
-use Rattle.client_stream.specs.Settings.{Settings}
 use Rattle.client_stream.specs.declared.request.Holder.{Holder}
-use Rattle.client_stream.specs.declared.request.Holder.TheVariants.{Waits, GivenUp}
+use Rattle.client_stream.specs.declared.request.Holder.TheVariants.{Waits, Transfers, GivenUp}
 use Rattle.client_stream.specs.declared.stage.Stage.{Stage}
 use Rattle.client_stream.specs.declared.stage.Stage.TheVariants as stage
 use Rattle.client_stream.proofs.Frames.{body, behind, whole, still_whole, same_body, same_behind}
@@ -34,7 +36,7 @@ set_more due u w e = go (can_draw u.timers.next) refl
 
 stop_more : (at : Stage) (v : View) → (plain.stops at v).more ≡ v.more
 stop_more stage.New v = refl
-stop_more (stage.Active timer) v = refl
+stop_more (stage.Active timer since) v = refl
 stop_more (stage.Idle timer) v = refl
 stop_more stage.Ended v = refl
 
@@ -61,9 +63,15 @@ module _ {R M : Type 0} where
       go false c = refl
 
 module _ {R M : Type 0} (one : Requests R) (several : Requests M) (place : ℕ) where
+  goes_on : (message : List ℕ) (ticket : ℕ) (request : M) (state : XfrState) (s : Line R M) (v : View) (ends : Bool) → (plain.goes_on message ticket request state s v ends).1.more ≡ v.more
+  goes_on message ticket request state s v true = refl
+  goes_on message ticket request state s v false = refl
+
   given : (message : List ℕ) (s : Line R M) (v : View) (holder : Holder R M) → (plain.given one several message s v holder).1.more ≡ v.more
   given message s v GivenUp = refl
   given message s v (Waits ticket request) = refl
+  given message s v (Transfers ticket request state) =
+      let c = checked several request state message in goes_on message ticket request c.1 s (answers ticket (part_given message c.2) v) c.0
 
   frees_id : (message : List ℕ) (s : Line R M) (v : View) (o : Option (Holder R M)) → SaysSame v.more (plain.frees_id one several place message s v o)
   frees_id message s v None = refl
@@ -78,15 +86,15 @@ module _ {R M : Type 0} (one : Requests R) (several : Requests M) (place : ℕ) 
   timed_then message to s m (Some w) h =
       subst (λ m. SaysSame m (plain.releases one several place message (record s { stage = to }) w)) (h w refl) (frees_id message (record s { stage = to }) w (entry_at (message_id message) s.held.held))
 
-  comes : (settings : Settings) (message : List ℕ) (s : Line R M) (v : View) → SaysSame v.more (plain.comes one several place settings message s v)
-  comes settings message s v = timed_then message (stage.Active v.timers.next) (record s { idle_time = _ }) v.more (sets_timer (v.now + settings.response_timeout + 1) (plain.stops s.stage v))
-      (λ w e. set_more (v.now + settings.response_timeout + 1) (plain.stops s.stage v) w e ∙ stop_more s.stage v)
+  comes : (message : List ℕ) (s : Line R M) (v : View) → SaysSame v.more (plain.comes one several place message s v)
+  comes message s v = timed_then message (stage.Active v.timers.next v.now) (record s { idle_time = _ }) v.more (sets_timer (v.now + s.timeout + 1) (plain.stops s.stage v))
+      (λ w e. set_more (v.now + s.timeout + 1) (plain.stops s.stage v) w e ∙ stop_more s.stage v)
 
-  frame_comes : (settings : Settings) (frame : List ℕ) (s : Line R M) (v : View) → SaysSame v.more (plain.frame_comes one several place settings frame s v)
-  frame_comes settings frame s v = go (nat_le 12 (length frame))
+  frame_comes : (frame : List ℕ) (s : Line R M) (v : View) → SaysSame v.more (plain.frame_comes one several place frame s v)
+  frame_comes frame s v = go (nat_le 12 (length frame))
     where
-      go : (b : Bool) → SaysSame v.more (if b then plain.comes one several place settings frame s v else plain.ends place errors.ShortMessage s v)
-      go true = comes settings frame s v
+      go : (b : Bool) → SaysSame v.more (if b then plain.comes one several place frame s v else plain.ends place errors.ShortMessage s v)
+      go true = comes frame s v
       go false = ends place errors.ShortMessage s v
 
 module _ {R M : Type 0} (one : Requests R) (several : Requests M) where
@@ -97,7 +105,7 @@ module _ {R M : Type 0} (one : Requests R) (several : Requests M) where
 
   -- what the first frame does
   abbrev framed : Stream R M → View → After R M
-  framed s v = plain.frame_comes one several s.place s.settings (body s.octets) s.line v
+  framed s v = plain.frame_comes one several s.place (body s.octets) s.line v
 
   abbrev moved : Stream R M → List ℕ → Line R M → Stream R M
   moved s octets line = record s { line = line; octets = octets_left line.stage octets }
@@ -200,7 +208,7 @@ module _ {R M : Type 0} (one : Requests R) (several : Requests M) where
 
       go : (b : Bool) → has_frame s.octets ≡ b → option_and_then (λ x. takes_more one several n x.0 x.1) (plain.reads one several s v) ≡ all_taken (suc n) s v
       go false h = ap (option_and_then (λ x. takes_more one several n x.0 x.1)) (reads_none s v h) ∙ idle_more n s v m ∙ sym (all_none (suc n) s v h)
-      go true h = ap (option_and_then (λ x. takes_more one several n x.0 x.1)) (reads_one s v h) ∙ taken h (framed s v) (frame_comes one several s.place s.settings (body s.octets) s.line v) ∙ sym (all_one n s v h)
+      go true h = ap (option_and_then (λ x. takes_more one several n x.0 x.1)) (reads_one s v h) ∙ taken h (framed s v) (frame_comes one several s.place (body s.octets) s.line v) ∙ sym (all_one n s v h)
 
   reads_all : (n : ℕ) → Reads n
   reads_all zero = reading zero (λ k e. absurd (omega arith))
@@ -243,8 +251,8 @@ module _ {R M : Type 0} (one : Requests R) (several : Requests M) where
           let s' : Stream R M = record s { octets = s.octets ++ b } in
           ap (λ c. all_taken (suc i) (if c then s else s') v) (going s c h)
           ∙ all_one i s' v (still_whole s.octets b h)
-          ∙ ap (λ o. option_and_then (λ x. all_taken i x.0 x.1) (plain.keeps s o (plain.frame_comes one several s.place s.settings (body (s.octets ++ b)) s.line v))) (same_behind s.octets b h)
-          ∙ ap (λ f. option_and_then (λ x. all_taken i x.0 x.1) (plain.keeps s (behind s.octets ++ b) (plain.frame_comes one several s.place s.settings f s.line v))) (same_body s.octets b h)
+          ∙ ap (λ o. option_and_then (λ x. all_taken i x.0 x.1) (plain.keeps s o (plain.frame_comes one several s.place (body (s.octets ++ b)) s.line v))) (same_behind s.octets b h)
+          ∙ ap (λ f. option_and_then (λ x. all_taken i x.0 x.1) (plain.keeps s (behind s.octets ++ b) (plain.frame_comes one several s.place f s.line v))) (same_body s.octets b h)
 
       go : (n m : ℕ) → ((j : ℕ) → n ≡ suc j → Adds j b) → length s.octets ≤ n → length s.octets + length b ≤ m → (x : Bool) → has_frame s.octets ≡ x
           → all_taken m (adds b s) v ≡ option_and_then (λ x. all_taken k (adds b x.0) x.1) (all_taken n s v)
@@ -277,7 +285,7 @@ module _ {R M : Type 0} (one : Requests R) (several : Requests M) where
 
       go : (b : Bool) → has_frame s.octets ≡ b → ((s : Stream R M) (v : View) → IsClean s → length s.octets ≤ k → v.more ≡ false → IfSome (all_taken n s v) (IsLeft k)) → IfSome (all_taken (suc n) s v) (IsLeft k)
       go false h ih = subst (λ o. IfSome o (IsLeft k)) (sym (all_none (suc n) s v h)) (record { clean = c; short = l; said = m })
-      go true h ih = subst (λ o. IfSome o (IsLeft k)) (sym (all_one n s v h)) (one h (framed s v) (frame_comes one several s.place s.settings (body s.octets) s.line v) ih)
+      go true h ih = subst (λ o. IfSome o (IsLeft k)) (sym (all_one n s v h)) (one h (framed s v) (frame_comes one several s.place (body s.octets) s.line v) ih)
 
   -- what a piece brings
   brings_ended : (b : List ℕ) (s : Stream R M) (v : View) → has_ended s.line.stage ≡ true → brings one several b s v ≡ Some (s, record v { more = false })

@@ -1,5 +1,5 @@
 -- What each step of a connection does to an id: it stays held, and is written only where it was free.
-use Rattle.std.proofs.Common.{◌≡◌, ℕ, ◌+◌, ◌<◌, ◌≤◌, Bool, true, false, Option, Some, None, List, [], ◌∷◌, ◌++◌, Err, length, drop, refl, sym, ◌∙◌, ap, subst, arith}
+use Rattle.std.proofs.Common.{◌≡◌, ℕ, ◌+◌, ◌<◌, ◌≤◌, Bool, true, false, Option, Some, None, List, [], ◌∷◌, ◌++◌, Result, Ok, Err, length, drop, refl, sym, ◌∙◌, ap, subst, arith}
 use Rattle.std.specs.Prelude.{if◌then◌else◌, ◌==◌, ◌&&◌, ◌||◌, not, nat_lt, nat_le, option_and_then, IfSome, is_some}
 use Rattle.std.proofs.lemmas.Bool.Decides.{nat_tests}
 use Rattle.client_request.specs.Numbered.{puts, frees, entry_at}
@@ -13,15 +13,20 @@ use Rattle.client_request.specs.declared.event.Out.{Out}
 use Rattle.client_request.specs.declared.event.Out.TheVariants.{Write, Resume, Close}
 use Rattle.client_request.specs.declared.event.What.{What}
 use Rattle.client_request.specs.declared.event.What.TheVariants as what
+use Rattle.client_transfer.specs.States.{checked}
+use Rattle.client_transfer.specs.Transfers.{part_given}
+use Rattle.client_transfer.specs.declared.state.XfrState.{XfrState}
 use Rattle.client_stream.specs.Frames.{first_frame, behind_frame, has_frame}
-use Rattle.client_stream.specs.IdTable.{IdTable, next_id, inserted, removed}
-use Rattle.client_stream.specs.Ids.{frame_heard, Act, asks_for, hears_of, gives_up_on, is_write, writes_of, writes_id, has_id, frame_told, frame_taken_by, open_after, does, WritesFreeIds, IdsLaw}
+use Rattle.client_stream.specs.IdTable.{IdTable, next_id, inserted, inserted_at, removed}
+use Rattle.client_stream.specs.Ids.{frame_heard, Act, asks_for, hears_of, gives_up_on, is_write, writes_of, writes_id, has_id, frame_told, frame_taken_by, is_held, open_after, does, WritesFreeIds, IdsLaw}
 use Rattle.client_stream.specs.Plain as plain
 use Rattle.client_stream.specs.Plain.{Line, Stream, After, AfterAll, has_ended, message_id, started}
 use Rattle.client_stream.specs.Settings.{Settings}
+use Rattle.client_stream.specs.declared.request.AnyRequest.{AnyRequest}
+use Rattle.client_stream.specs.declared.request.AnyRequest.TheVariants.{Single, Transfer}
 use Rattle.client_stream.specs.declared.request.Waiting.{Waiting}
 use Rattle.client_stream.specs.declared.request.Holder.{Holder}
-use Rattle.client_stream.specs.declared.request.Holder.TheVariants.{Waits, GivenUp}
+use Rattle.client_stream.specs.declared.request.Holder.TheVariants.{Waits, Transfers, GivenUp}
 use Rattle.client_stream.specs.declared.stage.Stage.{Stage}
 use Rattle.client_stream.specs.declared.stage.Stage.TheVariants as stage
 use Rattle.client_stream.proofs.HeldIds.{holds, IsTable, still_held, now_held, held_apart, held_over, next_free, table_new, table_inserted, table_removed, table_over}
@@ -46,7 +51,7 @@ ticket_outs v w e = go (can_draw v.ticket) refl
 
 stop_outs : (at : Stage) (v : View) → (plain.stops at v).outs ≡ v.outs
 stop_outs stage.New v = refl
-stop_outs (stage.Active timer) v = refl
+stop_outs (stage.Active timer since) v = refl
 stop_outs (stage.Idle timer) v = refl
 stop_outs stage.Ended v = refl
 
@@ -108,11 +113,18 @@ module _ {R M : Type 0} (place id : ℕ) where
   stays : (s : Line R M) (v : View) → KeepsAll s.held (written place id v) (Some (s, v))
   stays s v = same s.held s.held (written place id v) (written place id v) refl refl
 
-  wakes : (settings : Settings) (s : Line R M) (v : View) (at : Stage) → KeepsAll s.held (written place id v) (plain.wakes settings s v at)
-  wakes settings s v stage.New = becomes stage.Active (v.now + settings.response_timeout + 1) s v
-  wakes settings s v (stage.Idle _) = becomes stage.Active (v.now + settings.response_timeout + 1) s v
-  wakes settings s v (stage.Active _) = stays s v
-  wakes settings s v stage.Ended = stays s v
+  waits_from : (since : ℕ) (s : Line R M) (v : View) → KeepsAll s.held (written place id v) (plain.waits_from since s v)
+  waits_from since s v = becomes (λ timer. stage.Active timer since) (since + s.timeout + 1) s v
+
+  wakes : (timeout : ℕ) (s : Line R M) (v : View) (at : Stage) → KeepsAll s.held (written place id v) (plain.wakes timeout s v at)
+  wakes timeout s v stage.New = waits_from v.now (record s { timeout = timeout }) v
+  wakes timeout s v (stage.Idle _) = waits_from v.now (record s { timeout = timeout }) v
+  wakes timeout s v (stage.Active _ since) = go (timeout == s.timeout)
+    where
+      go : (b : Bool) → KeepsAll s.held (written place id v) (if b then Some (s, v) else plain.waits_from since (record s { timeout = timeout }) v)
+      go true = stays s v
+      go false = waits_from since (record s { timeout = timeout }) v
+  wakes timeout s v stage.Ended = stays s v
 
   -- An id that is held is not the one that comes next.
   apart : (t : IdTable (Holder R M)) → IsTable t → holds id t ≡ true → (id == next_id t) ≡ false
@@ -139,21 +151,32 @@ module _ {R M : Type 0} (place id : ℕ) where
   }
 
   module _ (one : Requests R) (several : Requests M) where
-    writes : (ticket number : ℕ) (request : R) (s : Line R M) (v : View) (o : Option (List ℕ))
-        → let x = plain.writes one several place ticket number (next_id s.held) request s v o in Keeps s.held (written place id v) x.0.held (written place id x.1)
-    writes ticket number request s v (Some octets) =
-        gives_id (Waits ticket request) s.held (written place id v) _ (writes_append place id v.outs (Write place number (next_id s.held) octets))
-    writes ticket number request s v None = frees_again GivenUp s.held (written place id v) (written place id v) refl
+    writes : (ticket number : ℕ) (holder : Holder R M) (s : Line R M) (v : View) (o : Option (List ℕ))
+        → let x = plain.writes one several place ticket number (next_id s.held) holder s v o in Keeps s.held (written place id v) x.0.held (written place id x.1)
+    writes ticket number holder s v (Some octets) = gives_id holder s.held (written place id v) _ (writes_append place id v.outs (Write place number (next_id s.held) octets))
+    writes ticket number holder s v None = frees_again GivenUp s.held (written place id v) (written place id v) refl
 
-    numbers : (ticket : ℕ) (waiting : Waiting R M) (s : Line R M) (v : View) (b : Bool)
-        → let x = plain.numbers one several place ticket waiting s v (if b then None else Some (next_id s.held)) in Keeps s.held (written place id v) x.0.held (written place id x.1)
-    numbers ticket waiting s v true = same s.held s.held (written place id v) (written place id v) refl refl
-    numbers ticket waiting s v false = writes ticket waiting.number _ (record s { had_keepalive = _ }) v _
+    module _ {T : Type 0} (requests : Requests T) (holding : T → Holder R M) where
+      numbers : (ticket number : ℕ) (request : T) (s : Line R M) (v : View) (b : Bool)
+          → let x = plain.numbers one several place requests holding ticket number request s v (if b then None else Some (next_id s.held)) in Keeps s.held (written place id v) x.0.held (written place id x.1)
+      numbers ticket number request s v true = same s.held s.held (written place id v) (written place id v) refl refl
+      numbers ticket number request s v false = writes ticket number _ (record s { had_keepalive = _ }) v _
+
+    begins : (ticket number : ℕ) (request : M) (s : Line R M) (v : View) (o : Result XfrState Error)
+        → let x = plain.begins one several place ticket number request s v o in Keeps s.held (written place id v) x.0.held (written place id x.1)
+    begins ticket number request s v (Err error) = same s.held s.held (written place id v) (written place id v) refl refl
+    begins ticket number request s v (Ok state) = numbers several (λ r. Transfers ticket r state) ticket number request s v (length s.held.held == 32768)
+
+    prepares : (ticket number : ℕ) (request : AnyRequest R M) (s : Line R M) (v : View)
+        → let x = plain.prepares one several place ticket number request s v in Keeps s.held (written place id v) x.0.held (written place id x.1)
+    prepares ticket number (Single request) s v = numbers one (λ r. Waits ticket r) ticket number request s v (length s.held.held == 32768)
+    prepares ticket number (Transfer request) s v = begins ticket number request s v (plain.first_state (several.composed request))
 
     takes : (settings : Settings) (ticket : ℕ) (waiting : Waiting R M) (s : Line R M) (v : View) → KeepsAll s.held (written place id v) (plain.takes one several place settings ticket waiting s v)
     takes settings ticket waiting s v =
-        chain s.held (written place id v) (plain.wakes settings s v s.stage) (λ s v. Some (plain.numbers one several place ticket waiting s v (plain.free_id one several place s))) (wakes settings s v s.stage)
-        (λ s v. numbers ticket waiting s v (length s.held.held == 32768))
+        let timeout = plain.timeout_by settings waiting.request in
+        chain s.held (written place id v) (plain.wakes timeout s v s.stage) (λ s v. Some (plain.prepares one several place ticket waiting.number waiting.request s v)) (wakes timeout s v s.stage)
+        (λ s v. prepares ticket waiting.number waiting.request s v)
 
     pumps : (settings : Settings) (queue : List (ℕ × Waiting R M)) (s : Line R M) (v : View) → KeepsAll s.held (written place id v) (plain.pumps one several place settings queue s v)
     pumps settings [] s v = stays s v
@@ -171,7 +194,7 @@ module _ {R M : Type 0} (place id : ℕ) where
         go true = same s.held s.held (written place id v) (written place id v) refl refl
         go false = pumps settings (puts ticket waiting s.queue) (record s { queue = puts ticket waiting s.queue }) v
 
-    takes_on : (settings : Settings) (request : R) (s : Line R M) (v : View) → KeepsAll s.held (written place id v) (plain.takes_on one several place settings request s v)
+    takes_on : (settings : Settings) (request : AnyRequest R M) (s : Line R M) (v : View) → KeepsAll s.held (written place id v) (plain.takes_on one several place settings request s v)
     takes_on settings request s v = go (draws_ticket v) refl
       where
         go : (o : Option View) → draws_ticket v ≡ o → KeepsAll s.held (written place id v) (option_and_then (λ w. plain.queues one several place settings v.ticket (record { number = v.request; request = request }) s w) o)
@@ -220,14 +243,40 @@ module _ {R M : Type 0} (place id : ℕ) where
     ends : (error : Error) (s : Line R M) (v : View) (frame : Option (List ℕ)) → StepsAll s v frame (plain.ends place error s v)
     ends error s v frame = quiet s v frame (plain.ended s) _ (λ t. table_new) (ended_writes error s v) (λ t h f e. absurd (cc))
 
-    -- Once the id of a frame is free, the rest neither writes nor frees.
-    given_held : (message : List ℕ) (s : Line R M) (v : View) (holder : Holder R M) → (plain.given one several message s v holder).0.held ≡ s.held
-    given_held message s v GivenUp = refl
-    given_held message s v (Waits ticket request) = refl
+    -- An id is freed, or another holds it from then on; all else that is held stays held.
+    record Passes (k : ℕ) (t t' : IdTable (Holder R M)) : Type 0 where
+      table : IsTable t → IsTable t'
+      kept : (id == k) ≡ false → holds id t ≡ true → holds id t' ≡ true
+
+    freed : (k : ℕ) (t : IdTable (Holder R M)) → Passes k t (removed k t)
+    freed k t = record { table = table_removed k t; kept = λ f h. held_apart id k t f ∙ h }
+
+    again : (k : ℕ) (x y : Holder R M) (t : IdTable (Holder R M)) → entry_at k t.held ≡ Some y → Passes k t (inserted_at k x (removed k t))
+    again k x y t e = record { table = λ table. table_over k x y t table e; kept = λ f h. held_over id k x t h }
+
+    goes_on : (message : List ℕ) (ticket : ℕ) (request : M) (state : XfrState) (y : Holder R M) (s : Line R M) (v : View) → entry_at (message_id message) s.held.held ≡ Some y → (ends : Bool)
+        → Passes (message_id message) s.held (plain.goes_on message ticket request state (record s { held = removed (message_id message) s.held }) v ends).0.held
+    goes_on message ticket request state y s v e true = freed (message_id message) s.held
+    goes_on message ticket request state y s v e false = again (message_id message) (Transfers ticket request state) y s.held e
+
+    goes_on_outs : (message : List ℕ) (ticket : ℕ) (request : M) (state : XfrState) (s : Line R M) (v : View) (ends : Bool) → (plain.goes_on message ticket request state s v ends).1.outs ≡ v.outs
+    goes_on_outs message ticket request state s v true = refl
+    goes_on_outs message ticket request state s v false = refl
+
+    -- Once the id of a frame is free, what is given writes nothing, and frees no other.
+    given_passes : (message : List ℕ) (s : Line R M) (v : View) (holder : Holder R M) → entry_at (message_id message) s.held.held ≡ Some holder
+        → Passes (message_id message) s.held (plain.given one several message (record s { held = removed (message_id message) s.held }) v holder).0.held
+    given_passes message s v GivenUp e = freed (message_id message) s.held
+    given_passes message s v (Waits ticket request) e = freed (message_id message) s.held
+    given_passes message s v (Transfers ticket request state) e =
+        let c = checked several request state message in
+        goes_on message ticket request c.1 (Transfers ticket request state) s (answers ticket (part_given message c.2) v) e c.0
 
     given_outs : (message : List ℕ) (s : Line R M) (v : View) (holder : Holder R M) → (plain.given one several message s v holder).1.outs ≡ v.outs
     given_outs message s v GivenUp = refl
     given_outs message s v (Waits ticket request) = refl
+    given_outs message s v (Transfers ticket request state) =
+        let c = checked several request state message in goes_on_outs message ticket request c.1 s (answers ticket (part_given message c.2) v) c.0
 
     -- nothing is written, and unless the connection ended all that is held stays held
     record Calm (t : IdTable (Holder R M)) (w : ℕ) (s' : Line R M) (v' : View) : Type 0 where
@@ -259,25 +308,25 @@ module _ {R M : Type 0} (place id : ℕ) where
         go true false = calm_becomes stage.Idle (v.now + s.idle_time) s v
         go false c = calm_same s v
 
-    -- a line that was freed of the id of a message, and what calmly follows
-    released : (message : List ℕ) (s : Line R M) (v : View) (after : After R M) → CalmAll (removed (message_id message) s.held) (written place id v) after → StepsAll s v (Some message) after
-    released message s v None c = tt
-    released message s v (Some x) c = quiet s v (Some message) x.0 x.1 (λ t. c.table (table_removed (message_id message) s.held t)) c.quiet
-        (λ t h f e. ap (holds id) (c.kept e) ∙ held_apart id (message_id message) s.held (grind (arith, nat_tests)) ∙ h)
+    -- a line whose id of a message was freed or is held again, and what calmly follows
+    released : (message : List ℕ) (s : Line R M) (v : View) (t : IdTable (Holder R M)) (after : After R M) → Passes (message_id message) s.held t → CalmAll t (written place id v) after → StepsAll s v (Some message) after
+    released message s v t None p c = tt
+    released message s v t (Some x) p c = quiet s v (Some message) x.0 x.1 (λ k. c.table (p.table k)) c.quiet
+        (λ k h f e. ap (holds id) (c.kept e) ∙ p.kept (grind (arith, nat_tests)) h)
 
     calm_steps : (message : List ℕ) (s : Line R M) (v : View) (after : After R M) → CalmAll s.held (written place id v) after → StepsAll s v (Some message) after
     calm_steps message s v None c = tt
     calm_steps message s v (Some x) c = quiet s v (Some message) x.0 x.1 c.table c.quiet (λ t h f e. ap (holds id) (c.kept e) ∙ h)
 
-    settles_given : (message : List ℕ) (s : Line R M) (v : View) (x : Line R M × View) → x.0.held ≡ removed (message_id message) s.held → x.1.outs ≡ v.outs → StepsAll s v (Some message) (plain.settles place x.0 x.1)
-    settles_given message s v x h o = released message s v (plain.settles place x.0 x.1)
-        (subst (λ t. CalmAll t (written place id v) (plain.settles place x.0 x.1)) h (subst (λ w. CalmAll x.0.held w (plain.settles place x.0 x.1)) (ap (writes_of place id) o) (calm_settles x.0 x.1)))
+    settles_given : (message : List ℕ) (s : Line R M) (v : View) (x : Line R M × View) → Passes (message_id message) s.held x.0.held → x.1.outs ≡ v.outs → StepsAll s v (Some message) (plain.settles place x.0 x.1)
+    settles_given message s v x p o = released message s v x.0.held (plain.settles place x.0 x.1) p
+        (subst (λ w. CalmAll x.0.held w (plain.settles place x.0 x.1)) (ap (writes_of place id) o) (calm_settles x.0 x.1))
 
-    frees_id : (message : List ℕ) (s : Line R M) (v : View) (o : Option (Holder R M)) → StepsAll s v (Some message) (plain.frees_id one several place message s v o)
-    frees_id message s v None = calm_steps message s v (Some (s, v)) (calm_same s v)
-    frees_id message s v (Some holder) =
+    frees_id : (message : List ℕ) (s : Line R M) (v : View) (o : Option (Holder R M)) → entry_at (message_id message) s.held.held ≡ o → StepsAll s v (Some message) (plain.frees_id one several place message s v o)
+    frees_id message s v None e = calm_steps message s v (Some (s, v)) (calm_same s v)
+    frees_id message s v (Some holder) e =
         settles_given message s v (plain.given one several message (record s { held = removed (message_id message) s.held }) v holder)
-        (given_held message (record s { held = removed (message_id message) s.held }) v holder) (given_outs message (record s { held = removed (message_id message) s.held }) v holder)
+        (given_passes message s v holder e) (given_outs message (record s { held = removed (message_id message) s.held }) v holder)
 
     -- after a calm step that has not ended
     after_calm : (s : Line R M) (v : View) (frame : Option (List ℕ)) (s' : Line R M) (v' : View) (after : After R M) → s'.held ≡ s.held → v'.outs ≡ v.outs → StepsAll s' v' frame after → StepsAll s v frame after
@@ -296,19 +345,19 @@ module _ {R M : Type 0} (place id : ℕ) where
     timed_then message to s v None h = tt
     timed_then message to s v (Some w) h =
         after_calm s v (Some message) (record s { stage = to }) w (plain.releases one several place message (record s { stage = to }) w) refl (h w refl)
-        (frees_id message (record s { stage = to }) w (entry_at (message_id message) s.held.held))
+        (frees_id message (record s { stage = to }) w (entry_at (message_id message) s.held.held) refl)
 
-    comes : (settings : Settings) (message : List ℕ) (s : Line R M) (v : View) → StepsAll s v (Some message) (plain.comes one several place settings message s v)
-    comes settings message s v =
+    comes : (message : List ℕ) (s : Line R M) (v : View) → StepsAll s v (Some message) (plain.comes one several place message s v)
+    comes message s v =
         after_calm s v (Some message) (record s { idle_time = _ }) v _ refl refl
-        (timed_then message (stage.Active v.timers.next) (record s { idle_time = _ }) v (sets_timer (v.now + settings.response_timeout + 1) (plain.stops s.stage v))
-        (λ w e. set_outs (v.now + settings.response_timeout + 1) (plain.stops s.stage v) w e ∙ stop_outs s.stage v))
+        (timed_then message (stage.Active v.timers.next v.now) (record s { idle_time = _ }) v (sets_timer (v.now + s.timeout + 1) (plain.stops s.stage v))
+        (λ w e. set_outs (v.now + s.timeout + 1) (plain.stops s.stage v) w e ∙ stop_outs s.stage v))
 
-    frame_comes : (settings : Settings) (frame : List ℕ) (s : Line R M) (v : View) → StepsAll s v (Some frame) (plain.frame_comes one several place settings frame s v)
-    frame_comes settings frame s v = go (nat_le 12 (length frame))
+    frame_comes : (frame : List ℕ) (s : Line R M) (v : View) → StepsAll s v (Some frame) (plain.frame_comes one several place frame s v)
+    frame_comes frame s v = go (nat_le 12 (length frame))
       where
-        go : (b : Bool) → StepsAll s v (Some frame) (if b then plain.comes one several place settings frame s v else plain.ends place errors.ShortMessage s v)
-        go true = comes settings frame s v
+        go : (b : Bool) → StepsAll s v (Some frame) (if b then plain.comes one several place frame s v else plain.ends place errors.ShortMessage s v)
+        go true = comes frame s v
         go false = ends errors.ShortMessage s v (Some frame)
 
     wrote_of : (settings : Settings) (count : ℕ) (s : Line R M) (v : View) (octets : List ℕ) → StepsAll s v None (plain.wrote_of one several place settings count s v octets)
@@ -329,7 +378,7 @@ module _ {R M : Type 0} (place id : ℕ) where
     unmoved s v frame = kept_steps s v frame (Some (s, v)) (stays s v)
 
     fires : (timer : ℕ) (s : Line R M) (v : View) (at : Stage) → StepsAll s v None (plain.fires place timer s v at)
-    fires timer s v (stage.Active own) = go (timer == own)
+    fires timer s v (stage.Active own since) = go (timer == own)
       where
         go : (b : Bool) → StepsAll s v None (if b then plain.ends place errors.StreamReadTimeout s v else Some (s, v))
         go true = ends errors.StreamReadTimeout s v None
@@ -383,7 +432,7 @@ module _ {R M : Type 0} (one : Requests R) (several : Requests M) (id : ℕ) whe
 
   takes_frame : (s : Stream R M) (v : View) (o : Option (List ℕ)) → Moves s v o (plain.takes_frame one several s v o)
   takes_frame s v None = stands s v None
-  takes_frame s v (Some frame) = keeps s v (behind_frame s.octets) (Some frame) (plain.frame_comes one several s.place s.settings frame s.line v) (frame_comes s.place id one several s.settings frame s.line v)
+  takes_frame s v (Some frame) = keeps s v (behind_frame s.octets) (Some frame) (plain.frame_comes one several s.place frame s.line v) (frame_comes s.place id one several frame s.line v)
 
   reads : (s : Stream R M) (v : View) → Moves s v (first_frame s.octets) (plain.reads one several s v)
   reads s v = says s v (first_frame s.octets) (plain.frame_taken one several s v) (takes_frame s v (first_frame s.octets))
@@ -424,7 +473,7 @@ module _ {R M : Type 0} (one : Requests R) (several : Requests M) (id : ℕ) whe
   sends s v None k = tt
   sends s v (Some x) k = k
 
-  given_up : (s : Stream R M) (v : View) (line : Line R M) → Keeps {R = R} s.place id s.line.held 0 line.held 0 → Steps s.place id one several s.line v None line v
+  given_up : (s : Stream R M) (v : View) (line : Line R M) → Keeps {R = R} {M = M} s.place id s.line.held 0 line.held 0 → Steps s.place id one several s.line v None line v
   given_up s v line k = record {
     table = k.table;
     free = λ t h. grind (arith, nat_tests);
@@ -443,15 +492,19 @@ module _ {R M : Type 0} (one : Requests R) (several : Requests M) (id : ℕ) whe
     held : is_open ≡ true → holds id s.line.held ≡ true
 
   still : (is_open : Bool) (act : Act R M) (s : Stream R M) (v : View) (x : Stream R M × View) → IsHeld is_open s → Steps s.place id one several s.line v (frame_taken_by act s) x.0.line x.1 → IsHeld (open_after id is_open act s v x.0 x.1) x.0
-  still is_open act s v x k m = record { table = m.table k.table; held = go is_open k.held (has_ended x.0.line.stage) refl (writes_id s.place id v x.1) refl (has_id id (frame_taken_by act s)) refl }
+  still is_open act s v x k m = record {
+    table = m.table k.table;
+    held = go is_open k.held (has_ended x.0.line.stage) refl (writes_id s.place id v x.1) refl (is_held id x.0.line) refl (has_id id (frame_taken_by act s)) refl;
+  }
     where
-      go : (o : Bool) → (o ≡ true → holds id s.line.held ≡ true) → (e : Bool) → has_ended x.0.line.stage ≡ e → (w : Bool) → writes_id s.place id v x.1 ≡ w → (f : Bool) → has_id id (frame_taken_by act s) ≡ f
-          → (not e && (w || (o && not f))) ≡ true → holds id x.0.line.held ≡ true
-      go o h true e w w' f f' y = absurd (cc)
-      go o h false e true w f f' y = m.wrote k.table w e
-      go true h false e false w false f y = m.kept k.table (h refl) f e
-      go true h false e false w true f y = absurd (cc)
-      go false h false e false w f f' y = absurd (cc)
+      go : (o : Bool) → (o ≡ true → holds id s.line.held ≡ true) → (e : Bool) → has_ended x.0.line.stage ≡ e → (w : Bool) → writes_id s.place id v x.1 ≡ w → (a : Bool) → is_held id x.0.line ≡ a
+          → (f : Bool) → has_id id (frame_taken_by act s) ≡ f → (not e && (w || (o && (a || not f)))) ≡ true → holds id x.0.line.held ≡ true
+      go o h true e w w' a a' f f' y = absurd (cc)
+      go o h false e true w a a' f f' y = m.wrote k.table w e
+      go o h false e false w true a f f' y = a
+      go true h false e false w false a false f y = m.kept k.table (h refl) f e
+      go true h false e false w false a true f y = absurd (cc)
+      go false h false e false w false a f f' y = absurd (cc)
 
   runs : (calls : List (Act R M × View)) (is_open : Bool) (s : Stream R M) → IsHeld is_open s → WritesFreeIds one several id is_open calls s
   runs [] is_open s k = tt

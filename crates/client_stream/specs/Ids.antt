@@ -1,5 +1,6 @@
 -- When an id is open on a connection, and that no open id is written again.
-use Rattle.std.specs.Prelude.{◌≡◌, ℕ, ◌+◌, ◌==◌, ◌&&◌, ◌||◌, not, nat_lt, Bool, true, false, if◌then◌else◌, List, [], ◌∷◌, ◌++◌, Option, Some, None, IfSome}
+use Rattle.std.specs.Prelude.{◌≡◌, ℕ, ◌+◌, ◌==◌, ◌&&◌, ◌||◌, not, nat_lt, Bool, true, false, if◌then◌else◌, List, [], ◌∷◌, ◌++◌, Option, Some, None, is_some, IfSome}
+use Rattle.client_request.specs.Numbered.{entry_at}
 use Rattle.client_request.specs.Requests.{Requests}
 use Rattle.client_request.specs.View.{View, Heard, told, more_at, due_timer}
 use Rattle.client_request.specs.declared.event.Out.{Out}
@@ -7,7 +8,7 @@ use Rattle.client_request.specs.declared.event.Out.TheVariants.{Write}
 use Rattle.client_request.specs.declared.event.What.{What}
 use Rattle.client_request.specs.declared.event.What.TheVariants.{Bytes}
 use Rattle.client_stream.specs.Frames.{first_frame}
-use Rattle.client_stream.specs.Plain.{Stream, AfterAll, has_ended, message_id, started, plain_send, plain_step, plain_cancel}
+use Rattle.client_stream.specs.Plain.{Line, Stream, AfterAll, has_ended, message_id, started, plain_send, plain_step, plain_cancel}
 use Rattle.client_stream.specs.Settings.{Settings}
 use Rattle.client_stream.specs.declared.request.AnyRequest.{AnyRequest}
 
@@ -51,9 +52,13 @@ module _ {R M : Type 0} where
   frame_taken_by (hears_of h) s = frame_heard h s
   frame_taken_by (gives_up_on ticket) s = None
 
-  -- An id is open from the call that writes it until a frame with it is taken or the connection ends.
+  -- something holds the id
+  abbrev pub is_held : ℕ → Line R M → Bool
+  is_held id line = is_some (entry_at id line.held.held)
+
+  -- An id is open from the call that writes it until a frame with it is taken that frees it, or the connection ends.
   abbrev pub open_after : ℕ → Bool → Act R M → Stream R M → View → Stream R M → View → Bool
-  open_after id is_open act s v s' v' = not (has_ended s'.line.stage) && (writes_id s.place id v v' || (is_open && not (has_id id (frame_taken_by act s))))
+  open_after id is_open act s v s' v' = not (has_ended s'.line.stage) && (writes_id s.place id v v' || (is_open && (is_held id s'.line || not (has_id id (frame_taken_by act s)))))
 
   module _ (one : Requests R) (several : Requests M) where
     abbrev pub does : Act R M → Stream R M → View → AfterAll R M
@@ -67,6 +72,6 @@ module _ {R M : Type 0} where
     WritesFreeIds id is_open (call ∷ calls) s = IfSome (does call.0 s call.1) (λ x.
         (is_open ≡ true → writes_id s.place id call.1 x.1 ≡ false) × WritesFreeIds id (open_after id is_open call.0 s call.1 x.0 x.1) calls x.0)
 
-    -- From the start on an id that was written is not written again until a frame with it came or the connection ended.
+    -- From the start on an id that was written is not written again until a frame with it freed it or the connection ended.
     abbrev pub IdsLaw : Type 0
     IdsLaw = (place : ℕ) (settings : Settings) (id : ℕ) (calls : List (Act R M × View)) → WritesFreeIds id false calls (started place settings)

@@ -12,8 +12,8 @@ pub fn frames_law()
     ensures { FramesJoin }
 {}
 
-/// An id that was written on a connection is not written again there until a frame with it came or the
-/// connection ended.
+/// An id that was written on a connection is not written again there until a frame with it freed it or the
+/// connection ended. A message of a transfer of which more are to come does not free it.
 #[tactic(auto, using(crate::proofs::IdMoves::ids_law))]
 pub fn ids_law<Req: ComposeRequest, ReqMulti: ComposeRequestMulti>()
     ensures { IdsLaw Req.requests ReqMulti.requests }

@@ -19,4 +19,4 @@ pub returns-clause-ok : goal.returns-clause-ok
 returns-clause-ok g c =
     let there : is_some c.loop-line.line.writing ≡ true = ap (λ s. is_some s.writing) (sym c.line.view_is) ∙ c.is_none.ensures ∙ ap not c.loop-line-test.false in
     sym c.loop-line.invariant.same
-    ∙ stays g.Req.Compose.one several c.args.place c.args.config.now c.loop-line.line.queue c.loop-line.line (view_of g.W.Words.stream c.loop-line.cx) there
+    ∙ stays g.Req.Compose.requests g.ReqMulti.Compose.requests c.args.place c.args.config.now c.loop-line.line.queue c.loop-line.line (view_of g.W.Words.stream c.loop-line.cx) there
