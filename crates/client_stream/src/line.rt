@@ -506,14 +506,12 @@ fn deliver_part<Req: ComposeRequest, ReqMulti: ComposeRequestMulti, W: Words>(
         let _ = line.ids.remove(&ticket);
         return cx.board.put(ticket, Ok(None));
     }
-    line.held.insert_at(
-        id,
-        Holder::Transfers {
-            ticket,
-            request,
-            state,
-        },
-    );
+    let holder = Holder::Transfers {
+        ticket,
+        request,
+        state,
+    };
+    line.held.insert_at(id, holder);
     Ok(())
 }
 
