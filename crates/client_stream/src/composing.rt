@@ -24,10 +24,7 @@ fn framed(alloc: Global, message: &[u8]) -> Result<Octets, NoMemory>
 }
 
 /// The frame of a request, unless its message can't be composed or is too long.
-pub(crate) fn frame_of<T: Compose>(
-    alloc: Global,
-    request: &T,
-) -> Result<Option<Octets>, NoMemory>
+pub(crate) fn frame_of<T: Compose>(alloc: Global, request: &T) -> Result<Option<Octets>, NoMemory>
     ensures { IfOk result (λ frame. frame ≡ plain.frame_of T.requests request.now) }
 {
     let message = match request.to_message() {
@@ -44,10 +41,7 @@ pub(crate) fn frame_of<T: Compose>(
 
 /// Adds the empty option edns-tcp-keepalive to a request (RFC 7828 3.2.1), unless one was added before
 /// or the request has no room for it. `had` says afterwards whether one was added by then.
-pub(crate) fn add_keepalive<T: Compose>(
-    had: &mut bool,
-    request: &mut T,
-) -> Result<(), NoMemory>
+pub(crate) fn add_keepalive<T: Compose>(had: &mut bool, request: &mut T) -> Result<(), NoMemory>
     ensures request { OnOk result (request.new ≡ plain.with_keepalive T.requests had.old request.old) }
     ensures had { OnOk result (had.new ≡ (had.old || plain.adds_keepalive T.requests had.old request.old)) }
 {

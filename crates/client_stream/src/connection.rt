@@ -10,8 +10,10 @@ ghost use Rattle.client_stream.specs.Settings.{default_settings};
 
 use crate::config::Config;
 use crate::framer::Framer;
-use crate::line::{Line, end, fire, give_up, hear_frame, take_on, wrote};
+use crate::hearing::hear_frame;
+use crate::line::{Line, end, fire, give_up};
 use crate::request::{AnyRequest, Request, RequestMulti};
+use crate::writing::{take_on, wrote};
 use client_request::{
     ComposeRequest, ComposeRequestMulti, Cx, Error, Fault, GetResponse, GetResponseMulti,
     SendRequest, SendRequestMulti, Signal, What, Words,
@@ -157,7 +159,13 @@ impl<Req: ComposeRequest, ReqMulti: ComposeRequestMulti> Connection<Req, ReqMult
         if self.failed {
             return Err(Error::Failed);
         }
-        match take_on(&mut self.line, self.place, &self.config, cx, AnyRequest::Single(request)) {
+        match take_on(
+            &mut self.line,
+            self.place,
+            &self.config,
+            cx,
+            AnyRequest::Single(request),
+        ) {
             Ok(ticket) => Ok(Request::of(ticket)),
             Err(error) => {
                 self.failed = true;
@@ -188,7 +196,13 @@ impl<Req: ComposeRequest, ReqMulti: ComposeRequestMulti> Connection<Req, ReqMult
         if self.failed {
             return Err(Error::Failed);
         }
-        match take_on(&mut self.line, self.place, &self.config, cx, AnyRequest::Transfer(request)) {
+        match take_on(
+            &mut self.line,
+            self.place,
+            &self.config,
+            cx,
+            AnyRequest::Transfer(request),
+        ) {
             Ok(ticket) => Ok(RequestMulti::of(ticket)),
             Err(error) => {
                 self.failed = true;
@@ -320,7 +334,8 @@ impl<Req: ComposeRequest, ReqMulti: ComposeRequestMulti> Connection<Req, ReqMult
     }
 }
 
-impl<Req: ComposeRequest, ReqMulti: ComposeRequestMulti> SendRequest<Req> for Connection<Req, ReqMulti> {
+impl<Req: ComposeRequest, ReqMulti: ComposeRequestMulti> SendRequest<Req>
+    for Connection<Req, ReqMulti> {
     type Response = Request;
 
     ghost has_failed = { λ c. c.failed };
@@ -358,8 +373,7 @@ impl<Req: ComposeRequest, ReqMulti: ComposeRequestMulti> SendRequest<Req> for Co
 }
 
 impl<Req: ComposeRequest, ReqMulti: ComposeRequestMulti> SendRequestMulti<ReqMulti>
-    for Connection<Req, ReqMulti>
-{
+    for Connection<Req, ReqMulti> {
     type Response = RequestMulti;
 
     ghost has_failed = { λ c. c.failed };

@@ -3,6 +3,7 @@
 ghost use Rattle.client_stream.specs.Cutting.{CuttingLaw};
 ghost use Rattle.client_stream.specs.Frames.{FramesJoin};
 ghost use Rattle.client_stream.specs.Ids.{IdsLaw};
+ghost use Rattle.client_stream.specs.Transfers.{TransferLaw};
 
 use client_request::{ComposeRequest, ComposeRequestMulti};
 
@@ -23,4 +24,10 @@ pub fn ids_law<Req: ComposeRequest, ReqMulti: ComposeRequestMulti>()
 #[tactic(auto, using(crate::proofs::Cutting::cutting))]
 pub fn cutting_law<Req: ComposeRequest, ReqMulti: ComposeRequestMulti>()
     ensures { CuttingLaw Req.requests ReqMulti.requests }
+{}
+
+/// What a transfer gets is the fold of what each message with its id gives, whatever else comes.
+#[tactic(auto, using(crate::proofs::Transferring::transfer_law))]
+pub fn transfer_law<Req: ComposeRequest, ReqMulti: ComposeRequestMulti>()
+    ensures { TransferLaw Req.requests ReqMulti.requests }
 {}

@@ -27,7 +27,10 @@ pub struct Waiting<Req, ReqMulti> {
 #[derive(Drop)]
 pub enum Holder<Req, ReqMulti> {
     /// A request that was written and waits for its answer.
-    Waits { ticket: u64, request: Req },
+    Waits {
+        ticket: u64,
+        request: Req,
+    },
     /// A transfer that was written and waits for its next message.
     Transfers {
         ticket: u64,

@@ -259,11 +259,7 @@ fn asked_by(alloc: Global, words: &str) -> Result<(Moment, Message), WalkFault> 
 }
 
 /// Asks a transfer, and tells what that does, as the text of the row of a tick.
-pub fn transfer_text(
-    alloc: Global,
-    walk: &mut Walk,
-    words: &str,
-) -> Result<Vec<u8>, WalkFault> {
+pub fn transfer_text(alloc: Global, walk: &mut Walk, words: &str) -> Result<Vec<u8>, WalkFault> {
     let (moment, message) = asked_by(alloc, words)?;
     let request = RequestMessageMulti::new(alloc, message)?;
     walk.now = moment;

@@ -1,46 +1,78 @@
 //! Transfers: messages one after another, and their end.
 
 use crate::rows::ANSWER;
+use crate::world::Deed::*;
 use crate::world::Told::*;
 use crate::world::{
-    Deed, Given, Told, World, are_given, are_put_out, connected_by, next_part, tell_all,
+    Deed, END, Given, Told, World, are_given, are_put_out, connected_by, next_part, tell_all,
 };
-use crate::world::Deed::*;
-use crate::world::END;
 use client_request::{Error, Fault};
 use client_stream::Config;
 use dns_base::Duration;
 use std::alloc::Global;
 
 /// A query for the whole zone example.com.
-const AXFR: [u8; 29] = [0, 0, 1, 0, 0, 1, 0, 0, 0, 0, 0, 0, 7, 101, 120, 97, 109, 112, 108, 101, 3, 99, 111, 109, 0, 0, 252, 0, 1];
+const AXFR: [u8; 29] = [
+    0, 0, 1, 0, 0, 1, 0, 0, 0, 0, 0, 0, 7, 101, 120, 97, 109, 112, 108, 101, 3, 99, 111, 109, 0, 0,
+    252, 0, 1,
+];
 
 /// A query for its changes.
-const IXFR: [u8; 29] = [0, 0, 1, 0, 0, 1, 0, 0, 0, 0, 0, 0, 7, 101, 120, 97, 109, 112, 108, 101, 3, 99, 111, 109, 0, 0, 251, 0, 1];
+const IXFR: [u8; 29] = [
+    0, 0, 1, 0, 0, 1, 0, 0, 0, 0, 0, 0, 7, 101, 120, 97, 109, 112, 108, 101, 3, 99, 111, 109, 0, 0,
+    251, 0, 1,
+];
 
 /// A query with the question twice.
-const TWO_QUESTIONS: [u8; 46] = [0, 0, 1, 0, 0, 2, 0, 0, 0, 0, 0, 0, 7, 101, 120, 97, 109, 112, 108, 101, 3, 99, 111, 109, 0, 0, 252, 0, 1, 7, 101, 120, 97, 109, 112, 108, 101, 3, 99, 111, 109, 0, 0, 252, 0, 1];
+const TWO_QUESTIONS: [u8; 46] = [
+    0, 0, 1, 0, 0, 2, 0, 0, 0, 0, 0, 0, 7, 101, 120, 97, 109, 112, 108, 101, 3, 99, 111, 109, 0, 0,
+    252, 0, 1, 7, 101, 120, 97, 109, 112, 108, 101, 3, 99, 111, 109, 0, 0, 252, 0, 1,
+];
 
 /// The first message of the zone: an SOA with serial 7, and an address.
-const BEGIN: [u8; 81] = [0, 79, 0, 0, 132, 0, 0, 1, 0, 2, 0, 0, 0, 0, 7, 101, 120, 97, 109, 112, 108, 101, 3, 99, 111, 109, 0, 0, 252, 0, 1, 192, 12, 0, 6, 0, 1, 0, 0, 0, 0, 0, 22, 0, 0, 0, 0, 0, 7, 0, 0, 0, 0, 0, 0, 0, 0, 0, 0, 0, 0, 0, 0, 0, 0, 192, 12, 0, 1, 0, 1, 0, 0, 0, 0, 0, 4, 192, 0, 2, 1];
+const BEGIN: [u8; 81] = [
+    0, 79, 0, 0, 132, 0, 0, 1, 0, 2, 0, 0, 0, 0, 7, 101, 120, 97, 109, 112, 108, 101, 3, 99, 111,
+    109, 0, 0, 252, 0, 1, 192, 12, 0, 6, 0, 1, 0, 0, 0, 0, 0, 22, 0, 0, 0, 0, 0, 7, 0, 0, 0, 0, 0,
+    0, 0, 0, 0, 0, 0, 0, 0, 0, 0, 0, 192, 12, 0, 1, 0, 1, 0, 0, 0, 0, 0, 4, 192, 0, 2, 1,
+];
 
 /// An address, without a question.
-const GO_ON: [u8; 29] = [0, 27, 0, 0, 132, 0, 0, 0, 0, 1, 0, 0, 0, 0, 0, 0, 1, 0, 1, 0, 0, 0, 0, 0, 4, 192, 0, 2, 1];
+const GO_ON: [u8; 29] = [
+    0, 27, 0, 0, 132, 0, 0, 0, 0, 1, 0, 0, 0, 0, 0, 0, 1, 0, 1, 0, 0, 0, 0, 0, 4, 192, 0, 2, 1,
+];
 
 /// An address and the SOA again, without a question.
-const FINISH: [u8; 62] = [0, 60, 0, 0, 132, 0, 0, 0, 0, 2, 0, 0, 0, 0, 0, 0, 1, 0, 1, 0, 0, 0, 0, 0, 4, 192, 0, 2, 1, 0, 0, 6, 0, 1, 0, 0, 0, 0, 0, 22, 0, 0, 0, 0, 0, 7, 0, 0, 0, 0, 0, 0, 0, 0, 0, 0, 0, 0, 0, 0, 0, 0];
+const FINISH: [u8; 62] = [
+    0, 60, 0, 0, 132, 0, 0, 0, 0, 2, 0, 0, 0, 0, 0, 0, 1, 0, 1, 0, 0, 0, 0, 0, 4, 192, 0, 2, 1, 0,
+    0, 6, 0, 1, 0, 0, 0, 0, 0, 22, 0, 0, 0, 0, 0, 7, 0, 0, 0, 0, 0, 0, 0, 0, 0, 0, 0, 0, 0, 0, 0,
+    0,
+];
 
 /// An answer for changes: the SOA alone.
-const NO_CHANGES: [u8; 65] = [0, 63, 0, 0, 132, 0, 0, 1, 0, 1, 0, 0, 0, 0, 7, 101, 120, 97, 109, 112, 108, 101, 3, 99, 111, 109, 0, 0, 251, 0, 1, 192, 12, 0, 6, 0, 1, 0, 0, 0, 0, 0, 22, 0, 0, 0, 0, 0, 7, 0, 0, 0, 0, 0, 0, 0, 0, 0, 0, 0, 0, 0, 0, 0, 0];
+const NO_CHANGES: [u8; 65] = [
+    0, 63, 0, 0, 132, 0, 0, 1, 0, 1, 0, 0, 0, 0, 7, 101, 120, 97, 109, 112, 108, 101, 3, 99, 111,
+    109, 0, 0, 251, 0, 1, 192, 12, 0, 6, 0, 1, 0, 0, 0, 0, 0, 22, 0, 0, 0, 0, 0, 7, 0, 0, 0, 0, 0,
+    0, 0, 0, 0, 0, 0, 0, 0, 0, 0, 0,
+];
 
 /// An answer that begins with an address.
-const NO_SOA: [u8; 47] = [0, 45, 0, 0, 132, 0, 0, 1, 0, 1, 0, 0, 0, 0, 7, 101, 120, 97, 109, 112, 108, 101, 3, 99, 111, 109, 0, 0, 252, 0, 1, 192, 12, 0, 1, 0, 1, 0, 0, 0, 0, 0, 4, 192, 0, 2, 1];
+const NO_SOA: [u8; 47] = [
+    0, 45, 0, 0, 132, 0, 0, 1, 0, 1, 0, 0, 0, 0, 7, 101, 120, 97, 109, 112, 108, 101, 3, 99, 111,
+    109, 0, 0, 252, 0, 1, 192, 12, 0, 1, 0, 1, 0, 0, 0, 0, 0, 4, 192, 0, 2, 1,
+];
 
 /// An answer that refuses the query.
-const REFUSED: [u8; 31] = [0, 29, 0, 0, 132, 5, 0, 1, 0, 0, 0, 0, 0, 0, 7, 101, 120, 97, 109, 112, 108, 101, 3, 99, 111, 109, 0, 0, 252, 0, 1];
+const REFUSED: [u8; 31] = [
+    0, 29, 0, 0, 132, 5, 0, 1, 0, 0, 0, 0, 0, 0, 7, 101, 120, 97, 109, 112, 108, 101, 3, 99, 111,
+    109, 0, 0, 252, 0, 1,
+];
 
 /// An SOA, and an address of three octets.
-const UNREADABLE: [u8; 80] = [0, 78, 0, 0, 132, 0, 0, 1, 0, 2, 0, 0, 0, 0, 7, 101, 120, 97, 109, 112, 108, 101, 3, 99, 111, 109, 0, 0, 252, 0, 1, 192, 12, 0, 6, 0, 1, 0, 0, 0, 0, 0, 22, 0, 0, 0, 0, 0, 7, 0, 0, 0, 0, 0, 0, 0, 0, 0, 0, 0, 0, 0, 0, 0, 0, 192, 12, 0, 1, 0, 1, 0, 0, 0, 0, 0, 3, 192, 0, 2];
+const UNREADABLE: [u8; 80] = [
+    0, 78, 0, 0, 132, 0, 0, 1, 0, 2, 0, 0, 0, 0, 7, 101, 120, 97, 109, 112, 108, 101, 3, 99, 111,
+    109, 0, 0, 252, 0, 1, 192, 12, 0, 6, 0, 1, 0, 0, 0, 0, 0, 22, 0, 0, 0, 0, 0, 7, 0, 0, 0, 0, 0,
+    0, 0, 0, 0, 0, 0, 0, 0, 0, 0, 0, 192, 12, 0, 1, 0, 1, 0, 0, 0, 0, 0, 3, 192, 0, 2,
+];
 
 const WRONG: Result<u16, Error> = Err(Error::WrongReplyForQuery);
 
@@ -50,19 +82,37 @@ type Run = (&'static [Told], &'static [Deed], &'static [Given]);
 const RUNS: [Run; 14] = [
     // A whole zone in two messages, and then the id is free.
     (
-        &[Transfer(&AXFR), Wrote(46), Bytes(&BEGIN), Bytes(&FINISH), Ask],
+        &[
+            Transfer(&AXFR),
+            Wrote(46),
+            Bytes(&BEGIN),
+            Bytes(&FINISH),
+            Ask,
+        ],
         &[Writes(0, 0), Writes(1, 0)],
         &[(0, Ok(0)), (0, Ok(0)), (0, END)],
     ),
     // While more are to come the id is held.
     (
-        &[Transfer(&AXFR), Wrote(46), Bytes(&BEGIN), Bytes(&GO_ON), Ask],
+        &[
+            Transfer(&AXFR),
+            Wrote(46),
+            Bytes(&BEGIN),
+            Bytes(&GO_ON),
+            Ask,
+        ],
         &[Writes(0, 0), Writes(1, 1)],
         &[(0, Ok(0)), (0, Ok(0))],
     ),
     // Behind the end nobody gets a message.
     (
-        &[Transfer(&AXFR), Wrote(46), Bytes(&BEGIN), Bytes(&FINISH), Bytes(&FINISH)],
+        &[
+            Transfer(&AXFR),
+            Wrote(46),
+            Bytes(&BEGIN),
+            Bytes(&FINISH),
+            Bytes(&FINISH),
+        ],
         &[Writes(0, 0)],
         &[(0, Ok(0)), (0, Ok(0)), (0, END)],
     ),
@@ -74,13 +124,26 @@ const RUNS: [Run; 14] = [
     ),
     // A zone begins with its SOA. After another record no message is taken, and the id stays held.
     (
-        &[Transfer(&AXFR), Wrote(46), Bytes(&NO_SOA), Bytes(&BEGIN), Bytes(&FINISH), Ask],
+        &[
+            Transfer(&AXFR),
+            Wrote(46),
+            Bytes(&NO_SOA),
+            Bytes(&BEGIN),
+            Bytes(&FINISH),
+            Ask,
+        ],
         &[Writes(0, 0), Writes(1, 1)],
         &[(0, WRONG), (0, WRONG), (0, WRONG)],
     ),
     // So it is with an answer to another query.
     (
-        &[Transfer(&AXFR), Wrote(46), Bytes(&NO_CHANGES), Bytes(&BEGIN), Ask],
+        &[
+            Transfer(&AXFR),
+            Wrote(46),
+            Bytes(&NO_CHANGES),
+            Bytes(&BEGIN),
+            Ask,
+        ],
         &[Writes(0, 0), Writes(1, 1)],
         &[(0, WRONG), (0, WRONG)],
     ),
@@ -201,7 +264,12 @@ const WAITS: [Run; 6] = [
     ),
     // A message makes the time begin anew.
     (
-        &[Transfer(&AXFR), Later(19_000_000), Bytes(&BEGIN), Later(20_000_000)],
+        &[
+            Transfer(&AXFR),
+            Later(19_000_000),
+            Bytes(&BEGIN),
+            Later(20_000_000),
+        ],
         &[Writes(0, 0)],
         &[(0, Ok(0))],
     ),

@@ -8,7 +8,7 @@ use Rattle.client_stream.specs.Plain as plain
 use Rattle.client_stream.specs.Plain.{Line}
 use Rattle.client_stream.specs.Settings.{Settings}
 use Rattle.client_stream.specs.declared.request.Waiting.{Waiting}
-use Rattle.client_stream.proofs.line.pump.Goals as goal
+use Rattle.client_stream.proofs.writing.pump.Goals as goal
 
 -- While a frame is being written no request is taken.
 stays : {R M : Type 0} (one : Requests R) (several : Requests M) (place : ℕ) (settings : Settings) (queue : List (ℕ × Waiting R M)) (s : Line R M) (v : View) → is_some s.writing ≡ true → plain.pumps one several place settings queue s v ≡ Some (s, v)

@@ -1,7 +1,7 @@
 use Rattle.std.proofs.Common.{◌≡◌, length}
 use Rattle.client_request.specs.Cx.{view_of, LendsTheSame}
 use Rattle.client_stream.specs.Plain as plain
-use Rattle.client_stream.proofs.line.pump.Given as goal
+use Rattle.client_stream.proofs.writing.pump.Given as goal
 
 abbrev pub invariant-loop-line : goal.invariant-loop-line
 invariant-loop-line g l =
