@@ -13,12 +13,12 @@ use dns_base::{Message, ParseError, Rcode, Record, RecordSection};
 fn take_record(state: XfrState, source: &Record<'_>) -> Result<XfrState, Refusal>
     ensures { result ≡ plain.takes_known state source.now }
 {
-    match source.data() {
-        Err(_) => Err(Refusal::Unreadable),
-        Ok(content) => match state.after(kind_of(state, &content)) {
-            None => Err(Refusal::Wrong),
-            Some(next) => Ok(next),
-        },
+    let Ok(content) = source.data() else {
+        return Err(Refusal::Unreadable);
+    };
+    match state.after(kind_of(state, &content)) {
+        None => Err(Refusal::Wrong),
+        Some(next) => Ok(next),
     }
 }
 

@@ -3,7 +3,7 @@
 ghost use Rattle.std.specs.Prelude.{◌≡◌};
 ghost use Rattle.client_transfer.specs.States.{kept_serial, next_state};
 
-use crate::kind::RecordKind;
+use crate::kind::RecordKind::{self, KeptSoa, NoSoa, OtherSoa};
 use dns_base::Serial;
 
 /// Where a transfer is: what was asked for, and what came of it. The serial is that of the first SOA,
@@ -62,31 +62,31 @@ impl XfrState {
         ensures { result ≡ next_state self kind }
     {
         match (self, kind) {
-            (XfrState::AxfrInit, RecordKind::KeptSoa(serial)) => Some(XfrState::AxfrFirstSoa(serial)),
-            (XfrState::AxfrInit, RecordKind::OtherSoa(serial)) => Some(XfrState::AxfrFirstSoa(serial)),
-            (XfrState::AxfrInit, RecordKind::NoSoa) => None,
+            (Self::AxfrInit, KeptSoa(serial)) => Some(Self::AxfrFirstSoa(serial)),
+            (Self::AxfrInit, OtherSoa(serial)) => Some(Self::AxfrFirstSoa(serial)),
+            (Self::AxfrInit, NoSoa) => None,
 
-            (XfrState::AxfrFirstSoa(_), RecordKind::KeptSoa(_)) => Some(XfrState::Done),
-            (XfrState::AxfrFirstSoa(_), RecordKind::OtherSoa(_)) => None,
-            (XfrState::AxfrFirstSoa(kept), RecordKind::NoSoa) => Some(XfrState::AxfrFirstSoa(kept)),
+            (Self::AxfrFirstSoa(_), KeptSoa(_)) => Some(Self::Done),
+            (Self::AxfrFirstSoa(_), OtherSoa(_)) => None,
+            (Self::AxfrFirstSoa(kept), NoSoa) => Some(Self::AxfrFirstSoa(kept)),
 
-            (XfrState::IxfrInit, RecordKind::KeptSoa(serial)) => Some(XfrState::IxfrFirstSoa(serial)),
-            (XfrState::IxfrInit, RecordKind::OtherSoa(serial)) => Some(XfrState::IxfrFirstSoa(serial)),
-            (XfrState::IxfrInit, RecordKind::NoSoa) => None,
+            (Self::IxfrInit, KeptSoa(serial)) => Some(Self::IxfrFirstSoa(serial)),
+            (Self::IxfrInit, OtherSoa(serial)) => Some(Self::IxfrFirstSoa(serial)),
+            (Self::IxfrInit, NoSoa) => None,
 
-            (XfrState::IxfrFirstSoa(_), RecordKind::KeptSoa(_)) => Some(XfrState::Done),
-            (XfrState::IxfrFirstSoa(kept), RecordKind::OtherSoa(_)) => Some(XfrState::IxfrFirstDiffSoa(kept)),
-            (XfrState::IxfrFirstSoa(kept), RecordKind::NoSoa) => Some(XfrState::AxfrFirstSoa(kept)),
+            (Self::IxfrFirstSoa(_), KeptSoa(_)) => Some(Self::Done),
+            (Self::IxfrFirstSoa(kept), OtherSoa(_)) => Some(Self::IxfrFirstDiffSoa(kept)),
+            (Self::IxfrFirstSoa(kept), NoSoa) => Some(Self::AxfrFirstSoa(kept)),
 
-            (XfrState::IxfrFirstDiffSoa(kept), RecordKind::KeptSoa(_)) => Some(XfrState::IxfrSecondDiffSoa(kept)),
-            (XfrState::IxfrFirstDiffSoa(kept), RecordKind::OtherSoa(_)) => Some(XfrState::IxfrSecondDiffSoa(kept)),
-            (XfrState::IxfrFirstDiffSoa(kept), RecordKind::NoSoa) => Some(XfrState::IxfrFirstDiffSoa(kept)),
+            (Self::IxfrFirstDiffSoa(kept), KeptSoa(_)) => Some(Self::IxfrSecondDiffSoa(kept)),
+            (Self::IxfrFirstDiffSoa(kept), OtherSoa(_)) => Some(Self::IxfrSecondDiffSoa(kept)),
+            (Self::IxfrFirstDiffSoa(kept), NoSoa) => Some(Self::IxfrFirstDiffSoa(kept)),
 
-            (XfrState::IxfrSecondDiffSoa(_), RecordKind::KeptSoa(_)) => Some(XfrState::Done),
-            (XfrState::IxfrSecondDiffSoa(kept), RecordKind::OtherSoa(_)) => Some(XfrState::IxfrFirstDiffSoa(kept)),
-            (XfrState::IxfrSecondDiffSoa(kept), RecordKind::NoSoa) => Some(XfrState::IxfrSecondDiffSoa(kept)),
+            (Self::IxfrSecondDiffSoa(_), KeptSoa(_)) => Some(Self::Done),
+            (Self::IxfrSecondDiffSoa(kept), OtherSoa(_)) => Some(Self::IxfrFirstDiffSoa(kept)),
+            (Self::IxfrSecondDiffSoa(kept), NoSoa) => Some(Self::IxfrSecondDiffSoa(kept)),
 
-            (XfrState::Done | XfrState::Error, _) => None,
+            (Self::Done | Self::Error, _) => None,
         }
     }
 }
