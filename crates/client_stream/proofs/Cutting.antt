@@ -239,10 +239,10 @@ module _ {R M : Type 0} (one : Requests R) (several : Requests M) where
   added : (n : ℕ) (b : List ℕ) → ((j : ℕ) → n ≡ suc j → Adds j b) → Adds n b
   added n b ih m k s v c p q r = go n m ih p q (has_frame s.octets) refl
     where
-      one : (j i : ℕ) → Adds j b → has_frame s.octets ≡ true → length s.octets ≤ suc j → length s.octets + length b ≤ suc i → (o : After R M)
+      first : (j i : ℕ) → Adds j b → has_frame s.octets ≡ true → length s.octets ≤ suc j → length s.octets + length b ≤ suc i → (o : After R M)
           → option_and_then (λ x. all_taken i x.0 x.1) (plain.keeps s (behind s.octets ++ b) o) ≡ option_and_then (λ x. all_taken k (adds b x.0) x.1) (option_and_then (λ x. all_taken j x.0 x.1) (plain.keeps s (behind s.octets) o))
-      one j i ih h p q None = refl
-      one j i ih h p q (Some y) =
+      first j i ih h p q None = refl
+      first j i ih h p q (Some y) =
           let l = behind_short s y.0 h in
           ap (λ s. all_taken i s y.1) (sym (adds_moved b s (behind s.octets) y.0)) ∙ ih i k (moved s (behind s.octets) y.0) y.1 (left_clean y.0.stage (behind s.octets)) (omega arith) (omega arith) (omega arith)
 
@@ -262,7 +262,7 @@ module _ {R M : Type 0} (one : Requests R) (several : Requests M) where
       go zero m ih p q true h = absurd (let w = whole s.octets h in omega arith)
       go (suc j) zero ih p q true h = absurd (let w = whole s.octets h in omega arith)
       go (suc j) (suc i) ih p q true h =
-          longer h i ∙ one j i (ih j refl) h p q (framed s v) ∙ sym (ap (option_and_then (λ x. all_taken k (adds b x.0) x.1)) (all_one j s v h))
+          longer h i ∙ first j i (ih j refl) h p q (framed s v) ∙ sym (ap (option_and_then (λ x. all_taken k (adds b x.0) x.1)) (all_one j s v h))
 
   adds_all : (n : ℕ) (b : List ℕ) → Adds n b
   adds_all zero b = added zero b (λ j e. absurd (omega arith))
@@ -278,14 +278,14 @@ module _ {R M : Type 0} (one : Requests R) (several : Requests M) where
   leaves zero k s v c l m = record { clean = c; short = l; said = m }
   leaves (suc n) k s v c l m = go (has_frame s.octets) refl (λ s v. leaves n k s v)
     where
-      one : has_frame s.octets ≡ true → (o : After R M) → SaysSame v.more o → ((s : Stream R M) (v : View) → IsClean s → length s.octets ≤ k → v.more ≡ false → IfSome (all_taken n s v) (IsLeft k))
+      first : has_frame s.octets ≡ true → (o : After R M) → SaysSame v.more o → ((s : Stream R M) (v : View) → IsClean s → length s.octets ≤ k → v.more ≡ false → IfSome (all_taken n s v) (IsLeft k))
           → IfSome (option_and_then (λ x. all_taken n x.0 x.1) (plain.keeps s (behind s.octets) o)) (IsLeft k)
-      one h None x ih = tt
-      one h (Some y) x ih = let b = behind_short s y.0 h in ih (moved s (behind s.octets) y.0) y.1 (left_clean y.0.stage (behind s.octets)) (omega arith) (x ∙ m)
+      first h None x ih = tt
+      first h (Some y) x ih = let b = behind_short s y.0 h in ih (moved s (behind s.octets) y.0) y.1 (left_clean y.0.stage (behind s.octets)) (omega arith) (x ∙ m)
 
       go : (b : Bool) → has_frame s.octets ≡ b → ((s : Stream R M) (v : View) → IsClean s → length s.octets ≤ k → v.more ≡ false → IfSome (all_taken n s v) (IsLeft k)) → IfSome (all_taken (suc n) s v) (IsLeft k)
       go false h ih = subst (λ o. IfSome o (IsLeft k)) (sym (all_none (suc n) s v h)) (record { clean = c; short = l; said = m })
-      go true h ih = subst (λ o. IfSome o (IsLeft k)) (sym (all_one n s v h)) (one h (framed s v) (frame_comes one several s.place (body s.octets) s.line v) ih)
+      go true h ih = subst (λ o. IfSome o (IsLeft k)) (sym (all_one n s v h)) (first h (framed s v) (frame_comes one several s.place (body s.octets) s.line v) ih)
 
   -- what a piece brings
   brings_ended : (b : List ℕ) (s : Stream R M) (v : View) → has_ended s.line.stage ≡ true → brings one several b s v ≡ Some (s, record v { more = false })
