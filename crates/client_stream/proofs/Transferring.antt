@@ -68,7 +68,7 @@ stop_board stage.Ended v = refl
 
 none_of : {A : Type 0} (xs : List A) → (length xs == 0) ≡ true → xs ≡ []
 none_of [] h = refl
-none_of (x ∷ xs) h = absurd (let l : (length xs + 1 == 0) ≡ false = grind (arith, nat_tests) in cc)
+none_of (x ∷ xs) h = absurd (let l : length (x ∷ xs) ≡ 0 = grind (arith, nat_tests) in omega arith)
 
 and_both : (a b : Bool) → (a && b) ≡ true → (a ≡ true) × (b ≡ true)
 and_both true true h = (refl, refl)
