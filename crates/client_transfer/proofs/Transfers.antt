@@ -1,6 +1,6 @@
 -- What messages give, one behind the other.
-use Rattle.std.proofs.Common.{◌≡◌, ℕ, Bool, true, false, List, [], ◌∷◌, ◌++◌, Ok, Err, refl, sym, ◌∙◌, ap}
-use Rattle.std.specs.Prelude.{Result}
+use Rattle.std.proofs.Common.{◌≡◌, ℕ, Bool, true, false, List, [], ◌∷◌, ◌++◌, length, Ok, Err, refl, sym, ◌∙◌, ap}
+use Rattle.std.specs.Prelude.{◌==◌, ◌&&◌, if◌then◌else◌, Result}
 use Rattle.dns_values.specs.declared.error.ParseError.{ParseError}
 use Rattle.dns_base.specs.Message.{Known}
 use Rattle.client_request.specs.Board.{Part}
@@ -10,16 +10,17 @@ use Rattle.client_transfer.specs.declared.state.XfrState.{XfrState}
 use Rattle.client_transfer.specs.declared.state.XfrState.TheVariants.{Error}
 use Rattle.client_transfer.specs.declared.kind.Refusal.{Refusal}
 use Rattle.client_transfer.specs.States.{Checked, checked, takes_item, takes_items, takes_then}
-use Rattle.client_transfer.specs.Transfers.{Transfer, TransferLaw, begun, goes_on, parts_given, part_given, brings, transferred, ends_once, EndsOnce}
+use Rattle.client_transfer.specs.Transfers.{Transfer, TransferLaw, begun, goes_on, parts_given, brings, transferred, ends_once, EndsOnce}
 
 -- records
 records : (state : XfrState) (a b : List (Result Known ParseError)) → takes_items state (a ++ b) ≡ takes_then (λ next. takes_items next b) (takes_items state a)
 records state [] b = refl
-records state (item ∷ a) b = go (takes_item state item)
+records state (item ∷ a) b = go (λ next. records next a b) (takes_item state item)
   where
-    go : (o : Result XfrState Refusal) → takes_then (λ next. takes_items next (a ++ b)) o ≡ takes_then (λ next. takes_items next b) (takes_then (λ next. takes_items next a) o)
-    go (Ok next) = records next a b
-    go (Err refusal) = refl
+    go : ((next : XfrState) → takes_items next (a ++ b) ≡ takes_then (λ last. takes_items last b) (takes_items next a)) → (o : Result XfrState Refusal)
+        → takes_then (λ next. takes_items next (a ++ b)) o ≡ takes_then (λ next. takes_items next b) (takes_then (λ next. takes_items next a) o)
+    go ih (Ok next) = ih next
+    go ih (Err refusal) = refl
 
 -- an end at the end
 one_end : (ps : List Part) (message : List ℕ) (c : Checked) → ends_once false ps ≡ true → ends_once c.0 (ps ++ parts_given message c) ≡ true
@@ -27,11 +28,12 @@ one_end [] message (true, state, true) e = refl
 one_end [] message (true, state, false) e = refl
 one_end [] message (false, state, true) e = refl
 one_end [] message (false, state, false) e = refl
-one_end (p ∷ ps) message c e = go (is_end p) refl
+one_end (p ∷ ps) message c e = go (one_end ps message c) (is_end p) e
   where
-    go : (b : Bool) → is_end p ≡ b → ends_once c.0 (p ∷ ps ++ parts_given message c) ≡ true
-    go true i = absurd (let no : false ≡ true = sym (rw i refl) ∙ e in cc)
-    go false i = rw i (one_end ps message c (sym (rw i refl) ∙ e))
+    go : (ends_once false ps ≡ true → ends_once c.0 (ps ++ parts_given message c) ≡ true) → (b : Bool) → (if b then false else ends_once false ps) ≡ true
+        → (if b then c.0 && length (ps ++ parts_given message c) == 0 else ends_once c.0 (ps ++ parts_given message c)) ≡ true
+    go ih true e = absurd (cc)
+    go ih false e = ih e
 
 module _ {R : Type 0} (requests : Requests R) where
   cut : (request : R) (t : Transfer) (a b : List (List ℕ)) → transferred requests request t (a ++ b) ≡ transferred requests request (transferred requests request t a) b
@@ -49,9 +51,9 @@ module _ {R : Type 0} (requests : Requests R) where
   once_more : (request : R) (t : Transfer) (message : List ℕ) → EndsOnce t → EndsOnce (brings requests request t message)
   once_more request t message o = go t.ended refl
     where
-      go : (b : Bool) → t.ended ≡ b → EndsOnce (brings requests request t message)
-      go true e = rw e o
-      go false e = rw e (one_end t.parts message (checked requests request t.state message) (ap (λ b. ends_once b t.parts) (sym e) ∙ o))
+      go : (b : Bool) → t.ended ≡ b → EndsOnce (if b then t else goes_on t message (checked requests request t.state message))
+      go true e = o
+      go false e = one_end t.parts message (checked requests request t.state message) (ap (λ b. ends_once b t.parts) (sym e) ∙ o)
 
   all_once : (request : R) (t : Transfer) (messages : List (List ℕ)) → EndsOnce t → EndsOnce (transferred requests request t messages)
   all_once request t [] o = o

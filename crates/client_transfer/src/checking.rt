@@ -24,7 +24,7 @@ fn take_record(state: XfrState, source: &Record<'_>) -> Result<XfrState, Refusal
 
 /// The state after what a reader of a section meets.
 fn take_item(state: XfrState, item: Result<Record<'_>, ParseError>) -> Result<XfrState, Refusal>
-    ensures { result ≡ plain.takes_item state item }
+    ensures { result ≡ plain.takes_item state item.entry }
 {
     match item {
         Err(_) => Err(Refusal::Unreadable),
