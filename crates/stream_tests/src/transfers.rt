@@ -12,7 +12,7 @@ use dns_base::Duration;
 use std::alloc::Global;
 
 /// A query for the whole zone example.com.
-const AXFR: [u8; 29] = [
+pub const AXFR: [u8; 29] = [
     0, 0, 1, 0, 0, 1, 0, 0, 0, 0, 0, 0, 7, 101, 120, 97, 109, 112, 108, 101, 3, 99, 111, 109, 0, 0,
     252, 0, 1,
 ];
@@ -315,33 +315,43 @@ fn the_request_taken_last_says_how_long_is_waited(rt: HostRuntime) {
     assert_eq!(rt; first_fault(rt.alloc(), &WAITS), None);
 }
 
-/// What is told, and what stands then for the results, one after another: None where nothing came yet.
-type Polled = (&'static [Told], &'static [Option<Result<u16, Error>>]);
+/// What is told, the ticket of a transfer, and what stands then for its results, one after another: None where nothing
+/// came yet.
+type Polled = (
+    &'static [Told],
+    usize,
+    &'static [Option<Result<u16, Error>>],
+);
 
 const CLOSED: Option<Result<u16, Error>> = Some(Err(Error::ConnectionClosed));
 
-const POLLED: [Polled; 8] = [
-    (&[Transfer(&AXFR)], &[None, None]),
+const POLLED: [Polled; 13] = [
+    (&[Transfer(&AXFR)], 0, &[None, None]),
     (
         &[Transfer(&AXFR), Wrote(46), Bytes(&BEGIN)],
+        0,
         &[Some(Ok(0)), None, None],
     ),
     (
         &[Transfer(&AXFR), Wrote(46), Bytes(&BEGIN), Bytes(&FINISH)],
+        0,
         &[Some(Ok(0)), Some(Ok(0)), Some(END), CLOSED, CLOSED],
     ),
     (
         &[Transfer(&IXFR), Wrote(46), Bytes(&NO_CHANGES)],
+        0,
         &[Some(Ok(0)), Some(END), CLOSED],
     ),
     // An error that is no end,
     (
         &[Transfer(&AXFR), Wrote(46), Bytes(&NO_SOA), Bytes(&BEGIN)],
+        0,
         &[Some(WRONG), Some(WRONG), None],
     ),
     // and those that are.
     (
         &[Transfer(&AXFR), Wrote(46), Bytes(&BEGIN), Ended],
+        0,
         &[
             Some(Ok(0)),
             Some(Err(Error::StreamReadError(Fault::EndOfData))),
@@ -349,20 +359,43 @@ const POLLED: [Polled; 8] = [
         ],
     ),
     (
-        &[Transfer(&TWO_QUESTIONS)],
-        &[Some(Err(Error::MessageParseError)), CLOSED],
+        &[Transfer(&AXFR), Bytes(&[0, 12, 0, 0]), Ended],
+        0,
+        &[Some(Err(Error::StreamUnexpectedEndOfData)), CLOSED],
+    ),
+    (
+        &[Transfer(&AXFR), WriteFailed],
+        0,
+        &[Some(Err(Error::StreamWriteError(Fault::Broken))), CLOSED],
+    ),
+    (
+        &[Transfer(&AXFR), Bytes(&[0, 0])],
+        0,
+        &[Some(Err(Error::ShortMessage)), CLOSED],
     ),
     (
         &[Transfer(&AXFR), Later(20_000_001)],
+        0,
         &[Some(Err(LATE)), CLOSED],
+    ),
+    (
+        &[Ask, Transfer(&AXFR), ReadFailed],
+        1,
+        &[Some(Err(Error::StreamReceiveError)), CLOSED],
+    ),
+    (&[ReadFailed, Transfer(&AXFR)], 0, &[CLOSED, CLOSED]),
+    (
+        &[Transfer(&TWO_QUESTIONS)],
+        0,
+        &[Some(Err(Error::MessageParseError)), CLOSED],
     ),
 ];
 
 fn polls_so(alloc: Global, row: &Polled) -> Result<bool, Error> {
     let mut world = patient(alloc)?;
     tell_all(alloc, &mut world, row.0)?;
-    for polled in row.1 {
-        if next_part(&mut world) != *polled {
+    for polled in row.2 {
+        if next_part(&mut world, row.1) != *polled {
             return Ok(false);
         }
     }

@@ -335,9 +335,9 @@ pub fn first_result(world: &mut World) -> Option<Result<u16, Error>> {
     }
 }
 
-/// The next result of the transfer that was asked first, by what stands for its results.
-pub fn next_part(world: &mut World) -> Option<Result<u16, Error>> {
-    let Some(Some(Response::Transfer(response))) = world.responses.get_mut(0) else {
+/// The next result of a transfer, by what stands for its results.
+pub fn next_part(world: &mut World, ticket: usize) -> Option<Result<u16, Error>> {
+    let Some(Some(Response::Transfer(response))) = world.responses.get_mut(ticket) else {
         return None;
     };
     match response.get_response(&mut world.board) {
