@@ -1,8 +1,7 @@
 //! What each kind of record does at each state: an SOA with the kept serial, one with another, and any other record.
 
-use crate::messages::{
-    ADDRESS, CHANGES, Given, ONE_RECORD, Row, SOA_7, SOA_8, TWO_RECORDS, WHOLE, gives,
-};
+use crate::messages::Part::{Address, Changes, Soa, Whole};
+use crate::messages::{Given, ONE_RECORD, Row, TWO_RECORDS, gives};
 use client_transfer::XfrState;
 use dns_base::Serial;
 
@@ -14,23 +13,23 @@ const ENDS: Given = (true, XfrState::Done, true);
 const AXFR_BEGINS: [Row; 3] = [
     (
         XfrState::AxfrInit,
-        WHOLE,
+        Whole,
         ONE_RECORD,
-        &[WHOLE, SOA_7],
+        &[Whole, Soa(7)],
         (false, XfrState::AxfrFirstSoa(Serial(7)), true),
     ),
     (
         XfrState::AxfrInit,
-        WHOLE,
+        Whole,
         ONE_RECORD,
-        &[WHOLE, SOA_8],
+        &[Whole, Soa(8)],
         (false, XfrState::AxfrFirstSoa(Serial(8)), true),
     ),
     (
         XfrState::AxfrInit,
-        WHOLE,
+        Whole,
         ONE_RECORD,
-        &[WHOLE, ADDRESS],
+        &[Whole, Address],
         WRONG,
     ),
 ];
@@ -39,23 +38,23 @@ const AXFR_BEGINS: [Row; 3] = [
 const AXFR_GOES_ON: [Row; 3] = [
     (
         XfrState::AxfrFirstSoa(Serial(7)),
-        WHOLE,
+        Whole,
         ONE_RECORD,
-        &[WHOLE, SOA_7],
+        &[Whole, Soa(7)],
         ENDS,
     ),
     (
         XfrState::AxfrFirstSoa(Serial(7)),
-        WHOLE,
+        Whole,
         ONE_RECORD,
-        &[WHOLE, SOA_8],
+        &[Whole, Soa(8)],
         WRONG,
     ),
     (
         XfrState::AxfrFirstSoa(Serial(7)),
-        WHOLE,
+        Whole,
         ONE_RECORD,
-        &[WHOLE, ADDRESS],
+        &[Whole, Address],
         (false, XfrState::AxfrFirstSoa(Serial(7)), true),
     ),
 ];
@@ -64,23 +63,23 @@ const AXFR_GOES_ON: [Row; 3] = [
 const IXFR_BEGINS: [Row; 3] = [
     (
         XfrState::IxfrInit,
-        CHANGES,
+        Changes,
         TWO_RECORDS,
-        &[CHANGES, SOA_7, ADDRESS],
+        &[Changes, Soa(7), Address],
         (false, XfrState::AxfrFirstSoa(Serial(7)), true),
     ),
     (
         XfrState::IxfrInit,
-        CHANGES,
+        Changes,
         TWO_RECORDS,
-        &[CHANGES, SOA_8, ADDRESS],
+        &[Changes, Soa(8), Address],
         (false, XfrState::AxfrFirstSoa(Serial(8)), true),
     ),
     (
         XfrState::IxfrInit,
-        CHANGES,
+        Changes,
         ONE_RECORD,
-        &[CHANGES, ADDRESS],
+        &[Changes, Address],
         WRONG,
     ),
 ];
@@ -89,23 +88,23 @@ const IXFR_BEGINS: [Row; 3] = [
 const BEHIND_THE_FIRST_SOA: [Row; 3] = [
     (
         XfrState::IxfrFirstSoa(Serial(7)),
-        CHANGES,
+        Changes,
         ONE_RECORD,
-        &[CHANGES, SOA_7],
+        &[Changes, Soa(7)],
         ENDS,
     ),
     (
         XfrState::IxfrFirstSoa(Serial(7)),
-        CHANGES,
+        Changes,
         ONE_RECORD,
-        &[CHANGES, SOA_8],
+        &[Changes, Soa(8)],
         (false, XfrState::IxfrFirstDiffSoa(Serial(7)), true),
     ),
     (
         XfrState::IxfrFirstSoa(Serial(7)),
-        CHANGES,
+        Changes,
         ONE_RECORD,
-        &[CHANGES, ADDRESS],
+        &[Changes, Address],
         (false, XfrState::AxfrFirstSoa(Serial(7)), true),
     ),
 ];
@@ -114,23 +113,23 @@ const BEHIND_THE_FIRST_SOA: [Row; 3] = [
 const DELETED_RECORDS: [Row; 3] = [
     (
         XfrState::IxfrFirstDiffSoa(Serial(7)),
-        CHANGES,
+        Changes,
         ONE_RECORD,
-        &[CHANGES, SOA_7],
+        &[Changes, Soa(7)],
         (false, XfrState::IxfrSecondDiffSoa(Serial(7)), true),
     ),
     (
         XfrState::IxfrFirstDiffSoa(Serial(7)),
-        CHANGES,
+        Changes,
         ONE_RECORD,
-        &[CHANGES, SOA_8],
+        &[Changes, Soa(8)],
         (false, XfrState::IxfrSecondDiffSoa(Serial(7)), true),
     ),
     (
         XfrState::IxfrFirstDiffSoa(Serial(7)),
-        CHANGES,
+        Changes,
         ONE_RECORD,
-        &[CHANGES, ADDRESS],
+        &[Changes, Address],
         (false, XfrState::IxfrFirstDiffSoa(Serial(7)), true),
     ),
 ];
@@ -139,23 +138,23 @@ const DELETED_RECORDS: [Row; 3] = [
 const ADDED_RECORDS: [Row; 3] = [
     (
         XfrState::IxfrSecondDiffSoa(Serial(7)),
-        CHANGES,
+        Changes,
         ONE_RECORD,
-        &[CHANGES, SOA_7],
+        &[Changes, Soa(7)],
         ENDS,
     ),
     (
         XfrState::IxfrSecondDiffSoa(Serial(7)),
-        CHANGES,
+        Changes,
         ONE_RECORD,
-        &[CHANGES, SOA_8],
+        &[Changes, Soa(8)],
         (false, XfrState::IxfrFirstDiffSoa(Serial(7)), true),
     ),
     (
         XfrState::IxfrSecondDiffSoa(Serial(7)),
-        CHANGES,
+        Changes,
         ONE_RECORD,
-        &[CHANGES, ADDRESS],
+        &[Changes, Address],
         (false, XfrState::IxfrSecondDiffSoa(Serial(7)), true),
     ),
 ];
@@ -164,34 +163,34 @@ const ADDED_RECORDS: [Row; 3] = [
 const BEHIND_THE_LAST_RECORD: [Row; 3] = [
     (
         XfrState::AxfrFirstSoa(Serial(7)),
-        WHOLE,
+        Whole,
         TWO_RECORDS,
-        &[WHOLE, SOA_7, SOA_7],
+        &[Whole, Soa(7), Soa(7)],
         WRONG,
     ),
     (
         XfrState::AxfrFirstSoa(Serial(7)),
-        WHOLE,
+        Whole,
         TWO_RECORDS,
-        &[WHOLE, SOA_7, SOA_8],
+        &[Whole, Soa(7), Soa(8)],
         WRONG,
     ),
     (
         XfrState::AxfrFirstSoa(Serial(7)),
-        WHOLE,
+        Whole,
         TWO_RECORDS,
-        &[WHOLE, SOA_7, ADDRESS],
+        &[Whole, Soa(7), Address],
         WRONG,
     ),
 ];
 
 /// A message behind the end, and one behind a refused one.
 const BEHIND_THE_END: [Row; 5] = [
-    (XfrState::Done, WHOLE, ONE_RECORD, &[WHOLE, SOA_7], WRONG),
-    (XfrState::Done, WHOLE, ONE_RECORD, &[WHOLE, ADDRESS], WRONG),
-    (XfrState::Error, WHOLE, ONE_RECORD, &[WHOLE, SOA_7], WRONG),
-    (XfrState::Error, WHOLE, ONE_RECORD, &[WHOLE, SOA_8], WRONG),
-    (XfrState::Error, WHOLE, ONE_RECORD, &[WHOLE, ADDRESS], WRONG),
+    (XfrState::Done, Whole, ONE_RECORD, &[Whole, Soa(7)], WRONG),
+    (XfrState::Done, Whole, ONE_RECORD, &[Whole, Address], WRONG),
+    (XfrState::Error, Whole, ONE_RECORD, &[Whole, Soa(7)], WRONG),
+    (XfrState::Error, Whole, ONE_RECORD, &[Whole, Soa(8)], WRONG),
+    (XfrState::Error, Whole, ONE_RECORD, &[Whole, Address], WRONG),
 ];
 
 #[test]

@@ -5,39 +5,28 @@ use client_transfer::{XfrState, check_stream};
 use dns_base::{Message, NoMemory, Octets};
 use std::alloc::Global;
 
-/// The question for a whole zone.
-pub const WHOLE: &[u8] = b"\x07example\x03com\0\0\xfc\0\x01";
-
-/// The question for the changes of a zone.
-pub const CHANGES: &[u8] = b"\x07example\x03com\0\0\xfb\0\x01";
-
-/// An SOA with the serial 7, and the same with 8 and 9.
-pub const SOA_7: &[u8] =
-    b"\xc0\x0c\0\x06\0\x01\0\0\0\x3c\0\x16\0\0\0\0\0\x07\0\0\0\0\0\0\0\0\0\0\0\0\0\0\0\0";
-
-pub const SOA_8: &[u8] =
-    b"\xc0\x0c\0\x06\0\x01\0\0\0\x3c\0\x16\0\0\0\0\0\x08\0\0\0\0\0\0\0\0\0\0\0\0\0\0\0\0";
-
-pub const SOA_9: &[u8] =
-    b"\xc0\x0c\0\x06\0\x01\0\0\0\x3c\0\x16\0\0\0\0\0\x09\0\0\0\0\0\0\0\0\0\0\0\0\0\0\0\0";
-
-/// An address.
-pub const ADDRESS: &[u8] = b"\xc0\x0c\0\x01\0\x01\0\0\0\x3c\0\x04\xc0\0\x02\x01";
-
-/// A record of a type that is not looked into.
-pub const UNKNOWN: &[u8] = b"\xc0\x0c\xff\0\0\x01\0\0\0\x3c\0\x02\x01\x02";
+/// What stands behind the head of a message.
+#[derive(Clone, Copy, Debug)]
+pub enum Part {
+    /// The question for a whole zone, or for its changes.
+    Whole,
+    Changes,
+    /// An SOA with a serial, one of the root, and one whose numbers are cut short.
+    Soa(u8),
+    RootSoa(u8),
+    ShortSoa,
+    /// An address, and one of three octets.
+    Address,
+    ShortAddress,
+    /// A record of a type that is not looked into.
+    Unknown,
+}
 
 /// What a message gives: whether the transfer ends, the state that is left, and whether the message belongs to it.
 pub type Given = (bool, XfrState, bool);
 
 /// A state, the question that was asked, a head and the parts behind it, and what that message gives.
-pub type Row = (
-    XfrState,
-    &'static [u8],
-    [u8; 12],
-    &'static [&'static [u8]],
-    Given,
-);
+pub type Row = (XfrState, Part, [u8; 12], &'static [Part], Given);
 
 /// The heads of answers with a question and so many records.
 pub const NO_RECORD: [u8; 12] = [0, 0, 0x84, 0, 0, 1, 0, 0, 0, 0, 0, 0];
@@ -52,19 +41,42 @@ pub const FIVE_RECORDS: [u8; 12] = [0, 0, 0x84, 0, 0, 1, 0, 5, 0, 0, 0, 0];
 
 pub const SIX_RECORDS: [u8; 12] = [0, 0, 0x84, 0, 0, 1, 0, 6, 0, 0, 0, 0];
 
-fn octets_of(alloc: Global, head: &[u8], parts: &[&[u8]]) -> Result<Octets, NoMemory> {
+/// The octets of a part, but for the serial of a whole SOA and what stands behind it.
+fn octets_of(part: Part) -> &'static [u8] {
+    match part {
+        Part::Whole => b"\x07example\x03com\0\0\xfc\0\x01",
+        Part::Changes => b"\x07example\x03com\0\0\xfb\0\x01",
+        Part::Soa(_) => b"\xc0\x0c\0\x06\0\x01\0\0\0\x3c\0\x16\0\0\0\0\0",
+        Part::RootSoa(_) => b"\0\0\x06\0\x01\0\0\0\x3c\0\x16\0\0\0\0\0",
+        Part::ShortSoa => b"\xc0\x0c\0\x06\0\x01\0\0\0\x3c\0\x06\0\0\0\0\0\x07",
+        Part::Address => b"\xc0\x0c\0\x01\0\x01\0\0\0\x3c\0\x04\xc0\0\x02\x01",
+        Part::ShortAddress => b"\xc0\x0c\0\x01\0\x01\0\0\0\x3c\0\x03\xc0\0\x02",
+        Part::Unknown => b"\xc0\x0c\xff\0\0\x01\0\0\0\x3c\0\x02\x01\x02",
+    }
+}
+
+fn push_part(octets: &mut Vec<u8>, part: Part) -> Result<(), NoMemory> {
+    octets.extend_from_slice(octets_of(part))?;
+    if let Part::Soa(serial) | Part::RootSoa(serial) = part {
+        octets.push(serial)?;
+        octets.extend_from_slice(&[0; 16])?;
+    }
+    Ok(())
+}
+
+fn all_octets(alloc: Global, head: &[u8], parts: &[Part]) -> Result<Octets, NoMemory> {
     let mut octets = Vec::from_slice(alloc, head)?;
     for part in parts {
-        octets.extend_from_slice(part)?;
+        push_part(&mut octets, *part)?;
     }
     Ok(Octets::from_vec(octets)?)
 }
 
-fn message_of(alloc: Global, head: &[u8], parts: &[&[u8]]) -> Result<Message, Error> {
-    Ok(Message::from_octets(octets_of(alloc, head, parts)?)?)
+fn message_of(alloc: Global, head: &[u8], parts: &[Part]) -> Result<Message, Error> {
+    Ok(Message::from_octets(all_octets(alloc, head, parts)?)?)
 }
 
-fn request_for(alloc: Global, question: &[u8]) -> Result<RequestMessageMulti, Error> {
+fn request_for(alloc: Global, question: Part) -> Result<RequestMessageMulti, Error> {
     let query = message_of(alloc, &[0, 0, 0, 0, 0, 1, 0, 0, 0, 0, 0, 0], &[question])?;
     RequestMessageMulti::new(alloc, query)
 }

@@ -1,9 +1,11 @@
 //! What messages give beside their records: what is an answer, response codes, octets that can't be read, and where the
 //! last record stands.
 
+use crate::messages::Part::{
+    Address, Changes, RootSoa, ShortAddress, ShortSoa, Soa, Unknown, Whole,
+};
 use crate::messages::{
-    ADDRESS, CHANGES, FIVE_RECORDS, Given, NO_RECORD, ONE_RECORD, Row, SIX_RECORDS, SOA_7, SOA_8,
-    SOA_9, THREE_RECORDS, TWO_RECORDS, UNKNOWN, WHOLE, gives,
+    FIVE_RECORDS, Given, NO_RECORD, ONE_RECORD, Row, SIX_RECORDS, THREE_RECORDS, TWO_RECORDS, gives,
 };
 use client_request::RequestMessageMulti;
 use client_transfer::{XfrState, transfer_law};
@@ -28,37 +30,39 @@ const OTHER_ID: [u8; 12] = [0, 1, 0x84, 0, 0, 1, 0, 1, 0, 0, 0, 0];
 
 const UNASKED: [u8; 12] = [0, 0, 0x84, 0, 0, 0, 0, 1, 0, 0, 0, 0];
 
-/// An SOA of the root with the serial 7, for messages without a question.
-const ROOT_SOA_7: &[u8] =
-    b"\0\0\x06\0\x01\0\0\0\x3c\0\x16\0\0\0\0\0\x07\0\0\0\0\0\0\0\0\0\0\0\0\0\0\0\0";
-
 /// The first message must be an answer; later ones are not asked for that.
 const ANSWERS: [Row; 9] = [
-    (XfrState::AxfrInit, WHOLE, QUERY, &[WHOLE, SOA_7], WRONG),
-    (XfrState::AxfrInit, WHOLE, OTHER_ID, &[WHOLE, SOA_7], WRONG),
+    (XfrState::AxfrInit, Whole, QUERY, &[Whole, Soa(7)], WRONG),
+    (XfrState::AxfrInit, Whole, OTHER_ID, &[Whole, Soa(7)], WRONG),
     (
         XfrState::AxfrInit,
-        WHOLE,
+        Whole,
         ONE_RECORD,
-        &[CHANGES, SOA_7],
+        &[Changes, Soa(7)],
         WRONG,
     ),
     (
         XfrState::AxfrInit,
-        WHOLE,
+        Whole,
         UNASKED,
-        &[ROOT_SOA_7],
+        &[RootSoa(7)],
         (false, AXFR, true),
     ),
-    (XfrState::IxfrInit, CHANGES, QUERY, &[CHANGES, SOA_7], WRONG),
-    (XfrState::IxfrInit, CHANGES, UNASKED, &[ROOT_SOA_7], WRONG),
-    (AXFR, WHOLE, OTHER_ID, &[WHOLE, SOA_7], ENDS),
-    (ADDED, CHANGES, UNASKED, &[ROOT_SOA_7], ENDS),
+    (
+        XfrState::IxfrInit,
+        Changes,
+        QUERY,
+        &[Changes, Soa(7)],
+        WRONG,
+    ),
+    (XfrState::IxfrInit, Changes, UNASKED, &[RootSoa(7)], WRONG),
+    (AXFR, Whole, OTHER_ID, &[Whole, Soa(7)], ENDS),
+    (ADDED, Changes, UNASKED, &[RootSoa(7)], ENDS),
     (
         DELETED,
-        CHANGES,
+        Changes,
         QUERY,
-        &[WHOLE, ADDRESS],
+        &[Whole, Address],
         (false, DELETED, true),
     ),
 ];
@@ -74,123 +78,118 @@ const REFUSED_WITH_A_RECORD: [u8; 12] = [0, 0, 0x84, 5, 0, 1, 0, 1, 0, 0, 0, 0];
 const CODES: [Row; 9] = [
     (
         XfrState::AxfrInit,
-        WHOLE,
+        Whole,
         REFUSED,
-        &[WHOLE],
+        &[Whole],
         (true, XfrState::AxfrInit, true),
     ),
     (
         XfrState::IxfrInit,
-        CHANGES,
+        Changes,
         REFUSED_BARE,
         &[],
         (true, XfrState::IxfrInit, true),
     ),
-    (AXFR, WHOLE, REFUSED, &[WHOLE], (true, AXFR, true)),
-    (DELETED, CHANGES, REFUSED_BARE, &[], (true, DELETED, true)),
+    (AXFR, Whole, REFUSED, &[Whole], (true, AXFR, true)),
+    (DELETED, Changes, REFUSED_BARE, &[], (true, DELETED, true)),
     (
         ADDED,
-        CHANGES,
+        Changes,
         REFUSED_WITH_A_RECORD,
-        &[CHANGES, SOA_7],
+        &[Changes, Soa(7)],
         (true, ADDED, true),
     ),
-    (XfrState::IxfrInit, CHANGES, REFUSED, &[WHOLE], WRONG),
-    (AXFR, WHOLE, REFUSED, &[CHANGES], WRONG),
-    (XfrState::Done, WHOLE, REFUSED, &[WHOLE], WRONG),
-    (XfrState::Error, WHOLE, REFUSED, &[WHOLE], WRONG),
+    (XfrState::IxfrInit, Changes, REFUSED, &[Whole], WRONG),
+    (AXFR, Whole, REFUSED, &[Changes], WRONG),
+    (XfrState::Done, Whole, REFUSED, &[Whole], WRONG),
+    (XfrState::Error, Whole, REFUSED, &[Whole], WRONG),
 ];
 
 /// The head of a message with two questions and a record.
 const TWO_QUESTIONS: [u8; 12] = [0, 0, 0x84, 0, 0, 2, 0, 1, 0, 0, 0, 0];
 
-/// An address of three octets, and an SOA whose numbers are cut short.
-const SHORT_ADDRESS: &[u8] = b"\xc0\x0c\0\x01\0\x01\0\0\0\x3c\0\x03\xc0\0\x02";
-
-const SHORT_SOA: &[u8] = b"\xc0\x0c\0\x06\0\x01\0\0\0\x3c\0\x06\0\0\0\0\0\x07";
-
 /// What can't be read ends a transfer, unless a record before it is wrong.
 const UNREADABLE: [Row; 9] = [
     (
         XfrState::AxfrInit,
-        WHOLE,
+        Whole,
         ONE_RECORD,
-        &[WHOLE, SHORT_SOA],
+        &[Whole, ShortSoa],
         UNREAD,
     ),
     (
         XfrState::AxfrInit,
-        WHOLE,
+        Whole,
         TWO_RECORDS,
-        &[WHOLE, SOA_7],
+        &[Whole, Soa(7)],
         UNREAD,
     ),
     (
         XfrState::IxfrInit,
-        CHANGES,
+        Changes,
         ONE_RECORD,
-        &[CHANGES, SHORT_ADDRESS],
+        &[Changes, ShortAddress],
         UNREAD,
     ),
-    (AXFR, WHOLE, ONE_RECORD, &[WHOLE, SHORT_ADDRESS], UNREAD),
-    (AXFR, WHOLE, TWO_QUESTIONS, &[WHOLE], UNREAD),
-    (DELETED, CHANGES, ONE_RECORD, &[CHANGES, SHORT_SOA], UNREAD),
+    (AXFR, Whole, ONE_RECORD, &[Whole, ShortAddress], UNREAD),
+    (AXFR, Whole, TWO_QUESTIONS, &[Whole], UNREAD),
+    (DELETED, Changes, ONE_RECORD, &[Changes, ShortSoa], UNREAD),
     (
         ADDED,
-        CHANGES,
+        Changes,
         TWO_RECORDS,
-        &[CHANGES, SOA_7, SHORT_ADDRESS],
+        &[Changes, Soa(7), ShortAddress],
         UNREAD,
     ),
     (
         AXFR,
-        WHOLE,
+        Whole,
         TWO_RECORDS,
-        &[WHOLE, SOA_8, SHORT_ADDRESS],
+        &[Whole, Soa(8), ShortAddress],
         WRONG,
     ),
-    (XfrState::AxfrInit, WHOLE, TWO_QUESTIONS, &[WHOLE], WRONG),
+    (XfrState::AxfrInit, Whole, TWO_QUESTIONS, &[Whole], WRONG),
 ];
 
 /// Where the last record leaves the transfer.
 const LAST: [Row; 9] = [
-    (XfrState::AxfrInit, WHOLE, NO_RECORD, &[WHOLE], WRONG),
-    (XfrState::IxfrInit, CHANGES, NO_RECORD, &[CHANGES], WRONG),
+    (XfrState::AxfrInit, Whole, NO_RECORD, &[Whole], WRONG),
+    (XfrState::IxfrInit, Changes, NO_RECORD, &[Changes], WRONG),
     (
         XfrState::IxfrInit,
-        CHANGES,
+        Changes,
         ONE_RECORD,
-        &[CHANGES, SOA_7],
+        &[Changes, Soa(7)],
         ENDS,
     ),
     (
         XfrState::IxfrFirstSoa(Serial(7)),
-        CHANGES,
+        Changes,
         NO_RECORD,
-        &[CHANGES],
+        &[Changes],
         ENDS,
     ),
-    (AXFR, WHOLE, NO_RECORD, &[WHOLE], (false, AXFR, true)),
+    (AXFR, Whole, NO_RECORD, &[Whole], (false, AXFR, true)),
     (
         DELETED,
-        CHANGES,
+        Changes,
         NO_RECORD,
-        &[CHANGES],
+        &[Changes],
         (false, DELETED, true),
     ),
-    (ADDED, CHANGES, NO_RECORD, &[CHANGES], (false, ADDED, true)),
+    (ADDED, Changes, NO_RECORD, &[Changes], (false, ADDED, true)),
     (
         AXFR,
-        WHOLE,
+        Whole,
         ONE_RECORD,
-        &[WHOLE, UNKNOWN],
+        &[Whole, Unknown],
         (false, AXFR, true),
     ),
     (
         XfrState::AxfrInit,
-        WHOLE,
+        Whole,
         THREE_RECORDS,
-        &[WHOLE, SOA_7, ADDRESS, SOA_7],
+        &[Whole, Soa(7), Address, Soa(7)],
         ENDS,
     ),
 ];
@@ -199,30 +198,30 @@ const LAST: [Row; 9] = [
 const CHANGED: [Row; 4] = [
     (
         XfrState::IxfrInit,
-        CHANGES,
+        Changes,
         THREE_RECORDS,
-        &[CHANGES, SOA_9, SOA_7, ADDRESS],
+        &[Changes, Soa(9), Soa(7), Address],
         (false, XfrState::IxfrFirstDiffSoa(Serial(9)), true),
     ),
     (
         XfrState::IxfrInit,
-        CHANGES,
+        Changes,
         FIVE_RECORDS,
-        &[CHANGES, SOA_9, SOA_7, ADDRESS, SOA_8, ADDRESS],
+        &[Changes, Soa(9), Soa(7), Address, Soa(8), Address],
         (false, XfrState::IxfrSecondDiffSoa(Serial(9)), true),
     ),
     (
         XfrState::IxfrInit,
-        CHANGES,
+        Changes,
         SIX_RECORDS,
-        &[CHANGES, SOA_9, SOA_7, SOA_8, SOA_8, SOA_9, SOA_9],
+        &[Changes, Soa(9), Soa(7), Soa(8), Soa(8), Soa(9), Soa(9)],
         ENDS,
     ),
     (
         XfrState::IxfrInit,
-        CHANGES,
+        Changes,
         SIX_RECORDS,
-        &[CHANGES, SOA_9, SOA_7, SOA_8, SOA_7, SOA_9, SOA_8],
+        &[Changes, Soa(9), Soa(7), Soa(8), Soa(7), Soa(9), Soa(8)],
         (false, XfrState::IxfrFirstDiffSoa(Serial(9)), true),
     ),
 ];
