@@ -23,6 +23,13 @@ module _ {R M : Type 0} where
   abbrev KeepsQueue : Line R M → After R M → Type 0
   KeepsQueue s after = IfSome after (λ x. x.0.queue ≡ s.queue)
 
+  -- with other requests queued, and other ids held
+  abbrev pub with_queue : List (ℕ × Waiting R M) → Line R M → Line R M
+  with_queue queue s = record s { queue = queue }
+
+  abbrev with_held : IdTable (Holder R M) → Line R M → Line R M
+  with_held held s = record s { held = held }
+
   timed : (to : Stage) (s : Line R M) (o : Option View) → KeepsQueue s (option_and_then (λ w. Some (record s { stage = to }, w)) o)
   timed to s None = tt
   timed to s (Some w) = refl
@@ -67,7 +74,7 @@ module _ {R M : Type 0} (one : Requests R) (several : Requests M) (place : ℕ) 
 
   -- Once the first request was taken the others are to be.
   pub goes_on : (settings : Settings) (s : Line R M) (v : View) (entry : ℕ × Waiting R M) (rest : List (ℕ × Waiting R M)) (t : Line R M) (x : Line R M × View) → is_some s.writing ≡ false → s.queue ≡ entry ∷ rest
-      → t ≡ record s { queue = rest } → plain.takes one several place settings entry.0 entry.1 t v ≡ Some x → plain.pumps one several place settings x.0.queue x.0 x.1 ≡ plain.pumps one several place settings s.queue s v
+      → t ≡ with_queue rest s → plain.takes one several place settings entry.0 entry.1 t v ≡ Some x → plain.pumps one several place settings x.0.queue x.0 x.1 ≡ plain.pumps one several place settings s.queue s v
   goes_on settings s v entry rest t x w q e k =
       let kept : IfSome (Some x) (λ x. x.0.queue ≡ t.queue) = subst (λ o. KeepsQueue t o) k (takes settings entry.0 entry.1 t v) in
       let taken : plain.takes one several place settings entry.0 entry.1 (record s { queue = rest }) v ≡ Some x = ap (λ t. plain.takes one several place settings entry.0 entry.1 t v) (sym e) ∙ k in
@@ -81,7 +88,7 @@ module _ {R M : Type 0} (one : Requests R) (several : Requests M) (place : ℕ) 
       → held ≡ removed id t.held → plain.given one several message (record t { held = held }) v holder ≡ x → plain.releases one several place message s v ≡ plain.settles place x.0 x.1
   releases message s t v id held holder x e i h r g =
       let there : entry_at (message_id message) s.held.held ≡ Some holder = ap (λ s. entry_at (message_id message) s.held.held) (sym e) ∙ ap (λ id. entry_at id t.held.held) (sym i) ∙ sym h in
-      let freed : record s { held = removed (message_id message) s.held } ≡ record t { held = held } =
-          ap (λ s. record s { held = removed (message_id message) s.held }) (sym e) ∙ ap (λ id. record t { held = removed id t.held }) (sym i) ∙ ap (λ held. record t { held = held }) (sym r) in
+      let freed : with_held (removed (message_id message) s.held) s ≡ with_held held t =
+          ap (λ s. with_held (removed (message_id message) s.held) s) (sym e) ∙ ap (λ id. with_held (removed id t.held) t) (sym i) ∙ ap (λ held. with_held held t) (sym r) in
       ap (plain.frees_id one several place message s v) there
       ∙ ap (λ x. plain.settles place x.0 x.1) (ap (λ s. plain.given one several message s v holder) freed ∙ g)

@@ -8,7 +8,7 @@ use Rattle.client_stream.specs.Plain as plain
 use Rattle.client_stream.specs.Plain.{Line}
 use Rattle.client_stream.specs.Settings.{Settings}
 use Rattle.client_stream.specs.declared.request.Waiting.{Waiting}
-use Rattle.client_stream.proofs.Taking.{goes_on}
+use Rattle.client_stream.proofs.Taking.{with_queue, goes_on}
 use Rattle.client_stream.proofs.writing.pump.Goals as goal
 
 -- While a frame is being written no request is taken.
@@ -37,6 +37,6 @@ loop-line-preserved g c =
       };
       same = (
         goes_on g.Req.Compose.requests g.ReqMulti.Compose.requests c.args.place c.args.config.now c.loop-line.line (view_of g.W.Words.stream c.loop-line.cx) (c.in-Some.ticket, c.in-Some.waiting) c.pop_first.new.self.entries _ _
-            free first (ap (λ s. record s { queue = c.pop_first.new.self.entries }) c.line.view_is) taken.ok
+            free first (ap (with_queue c.pop_first.new.self.entries) c.line.view_is) taken.ok
         ∙ before.same);
     }
