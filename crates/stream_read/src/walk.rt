@@ -244,16 +244,16 @@ fn row_text(alloc: Global, row: Row) -> Result<Vec<u8>, WalkFault> {
 
 /// The moment and the message of a line `MOMENT BASE`, read as those of octets that come then.
 fn asked_by(alloc: Global, words: &str) -> Result<(Moment, Message), WalkFault> {
-    let Some((moment, digits)) = words.split_once(' ') else {
+    let Some((asked, digits)) = words.split_once(' ') else {
         return Err(WalkFault::Refused);
     };
-    let line = format!(in alloc; "at {moment} bytes 0 {digits}")?;
-    let event = event_of(alloc, line.as_str())?;
-    let What::Bytes { octets, .. } = event.what else {
+    let line = format!(in alloc; "at {asked} bytes 0 {digits}")?;
+    let Event { moment, what } = event_of(alloc, line.as_str())?;
+    let What::Bytes { octets, .. } = what else {
         return Err(WalkFault::Refused);
     };
     match Message::from_octets(octets) {
-        Ok(message) => Ok((event.moment, message)),
+        Ok(message) => Ok((moment, message)),
         Err(_) => Err(WalkFault::Refused),
     }
 }
