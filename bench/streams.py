@@ -32,23 +32,23 @@ def asked(count):
 def in_flight(count, rounds):
     lines = []
     for _ in range(rounds):
-        lines += ["walk 600000000 3600000000"] + asked(count) + answered(range(count - 1, -1, -1))
+        lines += ["walk 600000000 600000000 3600000000"] + asked(count) + answered(range(count - 1, -1, -1))
     return lines
 
 
 def scattered(count):
     """Every other request is answered, and as many are asked again."""
-    return ["walk 600000000 3600000000"] + asked(count) + answered(range(0, count, 2)) + asked(count // 2)
+    return ["walk 600000000 600000000 3600000000"] + asked(count) + answered(range(0, count, 2)) + asked(count // 2)
 
 
 def many_frames(count):
     frame = "0033" + "ffff8180" + "00" * 47
-    return ["walk 600000000 3600000000", "at 0 bytes 0 " + frame * count]
+    return ["walk 600000000 600000000 3600000000", "at 0 bytes 0 " + frame * count]
 
 
 def one_by_one(count):
     octets = "%04x" % (count - 2) + "ffff8180" + "00" * (count - 6)
-    return ["walk 600000000 3600000000"] + ["at 0 bytes 0 " + octets[i:i + 2] for i in range(0, 2 * count, 2)]
+    return ["walk 600000000 600000000 3600000000"] + ["at 0 bytes 0 " + octets[i:i + 2] for i in range(0, 2 * count, 2)]
 
 
 MEASURES = (

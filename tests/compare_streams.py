@@ -3,9 +3,9 @@
     python3 tests/compare_streams.py REFERENCE_FOLDER PROGRAM [COUNT [SEED]]
 
 REFERENCE_FOLDER has the package `plain`; without it nothing is compared, and that is said. PROGRAM is the built
-`stream_read`, and COUNT the number of walks, 2000 if it is left out. A walk asks, writes, cuts frames into
-pieces, answers rightly and wrongly, tells faults, gives requests up and lets time pass. Outs, results in order,
-timers with their numbers, and whether the connection is closed are compared after each line.
+`stream_read`, and COUNT the number of walks, 2000 if it is left out. A walk asks, also for transfers, writes, cuts
+frames into pieces, answers rightly and wrongly, tells faults, gives requests up and lets time pass. Outs, results in
+order, timers with their numbers, and whether the connection is closed are compared after each line.
 """
 
 import random
@@ -35,6 +35,33 @@ def base(rng):
         record = b"\0\xff\0\0\1\0\0\0\0" + len(data).to_bytes(2, "big") + data
         return b"\0\0\1\0\0\1" + bytes([0, rng.choice((1, 2))]) + bytes(4) + question(rng) + record * 2
     return b"\0\0\1\0\0\1" + bytes(6) + question(rng)
+
+
+def zone_base(rng):
+    """A base message that asks for a zone or its changes, now and then with more than that."""
+    asked = question(rng)[:-3] + bytes([rng.choice((252, 252, 251))]) + b"\0\1"
+    shape = rng.random()
+    if shape < 0.03:
+        return b"\0\0\1\0\0\2" + bytes(6) + asked * 2
+    if shape < 0.06:
+        return b"\0\0\1\0\0\1\0\1" + bytes(4) + asked
+    if shape < 0.09:
+        record = b"\0\xff\0\0\1\0\0\0\0" + (40000).to_bytes(2, "big") + bytes(40000)
+        return b"\0\0\1\0\0\1" + bytes([0, 0, 0, 2, 0, 0]) + asked + record * 2
+    return b"\0\0\1\0\0\1" + bytes(6) + asked
+
+
+def zone_record(rng, serials):
+    """A record of a zone: an SOA, an address, one whose data can't be read, or one of a type of its own."""
+    kind = rng.random()
+    if kind < 0.45:
+        data = b"\0\0" + bytes(3) + bytes([rng.choice(serials)]) + bytes(16)
+        return b"\0\0\6\0\1\0\0\0\0" + len(data).to_bytes(2, "big") + data
+    if kind < 0.95:
+        return b"\0\0\1\0\1\0\0\0\0\0\4\xc0\0\2\1"
+    if kind < 0.97:
+        return b"\0\0\1\0\1\0\0\0\0\0\3\xc0\0\2"
+    return b"\0\xff\0\0\1\0\0\0\0\0\1\1"
 
 
 def opt_words(rng):
@@ -67,15 +94,18 @@ class Walker:
         config = modules.settings.StreamConfig()
         response = rng.choice((19000000, 19000000, 1000, 5000000))
         idle = rng.choice((10000000, 10000000, 10000000, 0, 1000000))
+        streaming = rng.choice((response, 19000000, 7000000, 1000))
         config.set("response_timeout", response)
+        config.set("streaming_response_timeout", streaming)
         config.set("idle_timeout", idle)
-        self.lines = ["walk %d %d" % (response, idle)]
+        self.lines = ["walk %d %d %d" % (response, streaming, idle)]
         self.expected = []
         self.connection = modules.stream.StreamConnection(0, config)
         self.cx = modules.machine.Cx(modules.machine.ListWords())
         self.cx.place = 1
         self.pieces = b""       # octets that the server wrote and that did not come yet
         self.asked = 0
+        self.zones = rng.choice((0, 0.05, 0.12, 0.25))     # how often what is asked is a transfer
         self.hurry = rng.choice((0, 0, 0.01, 0.06))
         self.rude = rng.choice((0, 0, 0.3, 1))     # how often what ends a connection comes
 
@@ -107,13 +137,26 @@ class Walker:
             while cx.more:
                 cx.more = False
                 self.connection.step(cx, ("more", what[1]))
+        self.tell(self.m.script.event_line((cx.now, what)), what)
+
+    def tell(self, line, what):
+        """A line, and the row of an event that is printed for it. The end of a transfer is told as `AlreadyDone`."""
+        cx = self.cx
         for ticket, result in self.connection.take_results():
-            cx.outs.append(("reply", ticket, result))
+            cx.outs.append(("reply", ticket, self.m.request.err("AlreadyDone") if result is None else result))
         event = (cx.now, what)
-        self.lines.append(self.m.script.event_line(event))
+        self.lines.append(line)
         text = self.m.script.trace_text([(event, cx.outs)]).decode()
         self.expected.append(text + self.state() + "\n")
         cx.outs = []
+
+    def transfer(self, octets):
+        cx = self.cx
+        self.fire()
+        cx.request = cx.ticket
+        self.connection.get_streaming_request(cx, self.m.request.RequestMessageMulti(octets))
+        self.asked += 1
+        self.tell("transfer %d %s" % (cx.now, octets.hex()), ("tick",))
 
     def cancel(self, ticket):
         self.connection.cancel(self.cx, ticket)
@@ -133,6 +176,8 @@ class Walker:
             if len(asked) > 200:
                 asked = bytes(8)
         flags = bytes([rng.choice((0x81, 0x81, 0x81, 0x81, 1)), rng.choice((0x80, 0x80, 0x80, 0x82))])
+        if r is not None and r.multi:
+            asked = self.zone_part(r, asked)
         message = bytearray(ident.to_bytes(2, "big") + flags + asked)
         if rng.random() < 0.3:
             message[11:12] = b"\1"
@@ -140,6 +185,18 @@ class Walker:
         if rng.random() < 0.04 * self.rude:
             message = message[:rng.randrange(12)]
         return len(message).to_bytes(2, "big") + bytes(message)
+
+    def zone_part(self, r, asked):
+        """Counts, question and records of a message for a transfer, with or without the question."""
+        rng = self.rng
+        begins = r.state[0] in ("AxfrInit", "IxfrInit")
+        records = [zone_record(rng, (7, 7, 8)) for _ in range(rng.choice((0, 1, 1, 2, 3)))]
+        if begins and rng.random() < 0.8:
+            records.insert(0, b"\0\0\6\0\1\0\0\0\0\0\x16" + bytes(5) + b"\7" + bytes(16))
+        count = len(records) + (rng.random() < 0.02)
+        if rng.random() < (0.2 if begins else 0.6):
+            return bytes([0, 0, 0, count, 0, 0, 0, 0]) + b"".join(records)
+        return asked[:2] + bytes([0, count, 0, 0, 0, 0]) + asked[8:] + b"".join(records)
 
     def step(self):
         rng, cx = self.rng, self.cx
@@ -152,6 +209,8 @@ class Walker:
         if 0.85 <= kind < 0.88 and rng.random() >= self.rude:
             kind = 0.3
         writing = self.connection.writing
+        if kind < self.zones:
+            return self.transfer(zone_base(rng))
         if kind < 0.25:
             opt = opt_words(rng)
             record = self.m.wire.OptRecord.from_octets(opt) if opt is not None else None

@@ -1,5 +1,5 @@
 -- What a table of ids holds after each change.
-use Rattle.std.proofs.Common.{◌≡◌, ℕ, ◌<◌, Bool, true, false, Option, Some, None, List, [], ◌∷◌, ◌++◌, length, set, refl, sym, ◌∙◌, ap, subst, arith, length-append, inl, inr, ◌⊎◌}
+use Rattle.std.proofs.Common.{◌≡◌, ℕ, zero, suc, ◌<◌, Bool, true, false, Option, Some, None, List, [], ◌∷◌, ◌++◌, length, get_or, set, refl, sym, ◌∙◌, ap, subst, arith, length-append, inl, inr, ◌⊎◌}
 use Rattle.std.specs.Prelude.{if◌then◌else◌, ◌==◌, nat_lt}
 use Rattle.std.specs.Option.{is_some}
 use Rattle.std.specs.Ordering.{nat_cmp, is_eq}
@@ -37,7 +37,7 @@ pub record IsTable {T : Type 0} (t : IdTable T) : Type 0 where
   pub is : table_of slots ≡ t
 
 module _ {T : Type 0} where
-  put_entry : (id k : ℕ) (x : T) (es : List (ℕ × T)) → entry_at id (puts k x es) ≡ (if id == k then Some x else entry_at id es)
+  pub put_entry : (id k : ℕ) (x : T) (es : List (ℕ × T)) → entry_at id (puts k x es) ≡ (if id == k then Some x else entry_at id es)
   put_entry id k x [] = rw (at_test id k) refl
   put_entry id k x (e ∷ es) = go (cmp_cases k e.0) (put_entry id k x es)
     where
@@ -58,7 +58,7 @@ module _ {T : Type 0} where
               rw (h.1, at_same id e.0 s, o) refl
           test false t = rw (h.1, at_other id e.0 t) ih
 
-  freed_entry : (id k : ℕ) (es : List (ℕ × T)) → (id == k) ≡ false → entry_at id (frees k es) ≡ entry_at id es
+  pub freed_entry : (id k : ℕ) (es : List (ℕ × T)) → (id == k) ≡ false → entry_at id (frees k es) ≡ entry_at id es
   freed_entry id k [] h = refl
   freed_entry id k (e ∷ es) h = go (k == e.0) refl (freed_entry id k es h)
     where
@@ -68,6 +68,15 @@ module _ {T : Type 0} where
           let o : (id == e.0) ≡ false = grind (arith, nat_tests) in
           rw (at_same k e.0 s, at_other id e.0 o) refl
       go false t ih = rw (at_other k e.0 t) (ap (λ o. if is_eq (nat_cmp id e.0) then Some e.1 else o) ih)
+
+  set_none : (k : ℕ) (s : List (Option T)) → get_or (set s k None) k None ≡ None
+  set_none k [] = refl
+  set_none zero (x ∷ s) = refl
+  set_none (suc k) (x ∷ s) = set_none k s
+
+  pub freed_same : (k : ℕ) (t : IdTable T) → IsTable t → entry_at k (removed k t).held ≡ None
+  freed_same k t table = subst (λ t. entry_at k (removed k t).held ≡ None) table.is
+      (ap (entry_at k) (sym (free_slot k table.slots)) ∙ at_slot k (set table.slots k None) ∙ set_none k table.slots)
 
   -- an id that is held stays held when another item gets an id
   pub still_held : (id : ℕ) (x : T) (t : IdTable T) → holds id t ≡ true → holds id (inserted x t) ≡ true

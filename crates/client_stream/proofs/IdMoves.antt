@@ -1,5 +1,5 @@
 -- What each step of a connection does to an id: it stays held, and is written only where it was free.
-use Rattle.std.proofs.Common.{◌≡◌, ℕ, ◌+◌, ◌<◌, ◌≤◌, Bool, true, false, Option, Some, None, List, [], ◌∷◌, ◌++◌, Err, length, drop, refl, sym, ◌∙◌, ap, subst, arith}
+use Rattle.std.proofs.Common.{◌≡◌, ℕ, ◌+◌, ◌<◌, ◌≤◌, Bool, true, false, Option, Some, None, List, [], ◌∷◌, ◌++◌, Result, Ok, Err, length, drop, refl, sym, ◌∙◌, ap, subst, arith}
 use Rattle.std.specs.Prelude.{if◌then◌else◌, ◌==◌, ◌&&◌, ◌||◌, not, nat_lt, nat_le, option_and_then, IfSome, is_some}
 use Rattle.std.proofs.lemmas.Bool.Decides.{nat_tests}
 use Rattle.client_request.specs.Numbered.{puts, frees, entry_at}
@@ -13,15 +13,20 @@ use Rattle.client_request.specs.declared.event.Out.{Out}
 use Rattle.client_request.specs.declared.event.Out.TheVariants.{Write, Resume, Close}
 use Rattle.client_request.specs.declared.event.What.{What}
 use Rattle.client_request.specs.declared.event.What.TheVariants as what
+use Rattle.client_transfer.specs.States.{checked}
+use Rattle.client_transfer.specs.Transfers.{part_given}
+use Rattle.client_transfer.specs.declared.state.XfrState.{XfrState}
 use Rattle.client_stream.specs.Frames.{first_frame, behind_frame, has_frame}
-use Rattle.client_stream.specs.IdTable.{IdTable, next_id, inserted, removed}
-use Rattle.client_stream.specs.Ids.{frame_heard, Act, asks_for, hears_of, gives_up_on, is_write, writes_of, writes_id, has_id, frame_told, frame_taken_by, open_after, does, WritesFreeIds, IdsLaw}
+use Rattle.client_stream.specs.IdTable.{IdTable, next_id, inserted, inserted_at, removed}
+use Rattle.client_stream.specs.Ids.{frame_heard, Act, asks_for, hears_of, gives_up_on, is_write, writes_of, writes_id, has_id, frame_told, frame_taken_by, is_held, open_after, does, WritesFreeIds, IdsLaw}
 use Rattle.client_stream.specs.Plain as plain
 use Rattle.client_stream.specs.Plain.{Line, Stream, After, AfterAll, has_ended, message_id, started}
 use Rattle.client_stream.specs.Settings.{Settings}
+use Rattle.client_stream.specs.declared.request.AnyRequest.{AnyRequest}
+use Rattle.client_stream.specs.declared.request.AnyRequest.TheVariants.{Single, Transfer}
 use Rattle.client_stream.specs.declared.request.Waiting.{Waiting}
 use Rattle.client_stream.specs.declared.request.Holder.{Holder}
-use Rattle.client_stream.specs.declared.request.Holder.TheVariants.{Waits, GivenUp}
+use Rattle.client_stream.specs.declared.request.Holder.TheVariants.{Waits, Transfers, GivenUp}
 use Rattle.client_stream.specs.declared.stage.Stage.{Stage}
 use Rattle.client_stream.specs.declared.stage.Stage.TheVariants as stage
 use Rattle.client_stream.proofs.HeldIds.{holds, IsTable, still_held, now_held, held_apart, held_over, next_free, table_new, table_inserted, table_removed, table_over}
@@ -46,7 +51,7 @@ ticket_outs v w e = go (can_draw v.ticket) refl
 
 stop_outs : (at : Stage) (v : View) → (plain.stops at v).outs ≡ v.outs
 stop_outs stage.New v = refl
-stop_outs (stage.Active timer) v = refl
+stop_outs (stage.Active timer since) v = refl
 stop_outs (stage.Idle timer) v = refl
 stop_outs stage.Ended v = refl
 
@@ -54,15 +59,15 @@ module _ (place id : ℕ) where
   abbrev written : View → ℕ
   written v = writes_of place id v.outs
 
-module _ {R : Type 0} (place id : ℕ) where
+module _ {R M : Type 0} (place id : ℕ) where
   -- Nothing is freed: what is held stays held and is not written, and what is written place id is held.
-  record Keeps (t : IdTable (Holder R)) (w : ℕ) (t' : IdTable (Holder R)) (w' : ℕ) : Type 0 where
+  record Keeps (t : IdTable (Holder R M)) (w : ℕ) (t' : IdTable (Holder R M)) (w' : ℕ) : Type 0 where
     table : IsTable t → IsTable t'
     grows : w ≤ w'
     held : IsTable t → holds id t ≡ true → (holds id t' ≡ true) × (w' ≡ w)
     wrote : IsTable t → w < w' → holds id t' ≡ true
 
-  same : (t t' : IdTable (Holder R)) (w w' : ℕ) → t' ≡ t → w' ≡ w → Keeps t w t' w'
+  same : (t t' : IdTable (Holder R M)) (w w' : ℕ) → t' ≡ t → w' ≡ w → Keeps t w t' w'
   same t t' w w' h o = record {
     table = λ k. subst (λ t. IsTable t) (sym h) k;
     grows = omega arith;
@@ -70,14 +75,14 @@ module _ {R : Type 0} (place id : ℕ) where
     wrote = λ k l. absurd (omega arith);
   }
 
-  later : (t t' t'' : IdTable (Holder R)) (w w' w'' : ℕ) → Keeps t w t' w' → Keeps t' w' t'' w'' → IsTable t → w < w'' → (c : Bool) → nat_lt w' w'' ≡ c → holds id t'' ≡ true
+  later : (t t' t'' : IdTable (Holder R M)) (w w' w'' : ℕ) → Keeps t w t' w' → Keeps t' w' t'' w'' → IsTable t → w < w'' → (c : Bool) → nat_lt w' w'' ≡ c → holds id t'' ≡ true
   later t t' t'' w w' w'' a b k l true e = b.wrote (a.table k) (grind (arith, nat_tests))
   later t t' t'' w w' w'' a b k l false e =
       let g = b.grows in
       let first : w < w' = grind (arith, nat_tests) in
       (b.held (a.table k) (a.wrote k first)).0
 
-  then_keeps : (t t' t'' : IdTable (Holder R)) (w w' w'' : ℕ) → Keeps t w t' w' → Keeps t' w' t'' w'' → Keeps t w t'' w''
+  then_keeps : (t t' t'' : IdTable (Holder R M)) (w w' w'' : ℕ) → Keeps t w t' w' → Keeps t' w' t'' w'' → Keeps t w t'' w''
   then_keeps t t' t'' w w' w'' a b = record {
     table = λ k. b.table (a.table k);
     grows = (let p = a.grows in let q = b.grows in omega arith);
@@ -86,43 +91,50 @@ module _ {R : Type 0} (place id : ℕ) where
   }
 
   -- after a step that may have no result
-  abbrev KeepsAll : IdTable (Holder R) → ℕ → After R → Type 0
+  abbrev KeepsAll : IdTable (Holder R M) → ℕ → After R M → Type 0
   KeepsAll t w after = IfSome after (λ x. Keeps t w x.0.held (written place id x.1))
 
-  go_on : (t : IdTable (Holder R)) (w : ℕ) (s' : Line R) (v' : View) (r : After R) → Keeps t w s'.held (written place id v') → KeepsAll s'.held (written place id v') r → KeepsAll t w r
+  go_on : (t : IdTable (Holder R M)) (w : ℕ) (s' : Line R M) (v' : View) (r : After R M) → Keeps t w s'.held (written place id v') → KeepsAll s'.held (written place id v') r → KeepsAll t w r
   go_on t w s' v' None a k = tt
   go_on t w s' v' (Some y) a k = then_keeps t s'.held y.0.held w (written place id v') (written place id y.1) a k
 
-  chain : (t : IdTable (Holder R)) (w : ℕ) (after : After R) (f : Line R → View → After R) → KeepsAll t w after → ((s' : Line R) (v' : View) → KeepsAll s'.held (written place id v') (f s' v'))
+  chain : (t : IdTable (Holder R M)) (w : ℕ) (after : After R M) (f : Line R M → View → After R M) → KeepsAll t w after → ((s' : Line R M) (v' : View) → KeepsAll s'.held (written place id v') (f s' v'))
       → KeepsAll t w (option_and_then (λ x. f x.0 x.1) after)
   chain t w None f a b = tt
   chain t w (Some x) f a b = go_on t w x.0 x.1 (f x.0 x.1) a (b x.0 x.1)
 
-  timed : (to : Stage) (s : Line R) (v : View) (o : Option View) → ((w : View) → o ≡ Some w → w.outs ≡ v.outs) → KeepsAll s.held (written place id v) (option_and_then (λ w. Some (record s { stage = to }, w)) o)
+  timed : (to : Stage) (s : Line R M) (v : View) (o : Option View) → ((w : View) → o ≡ Some w → w.outs ≡ v.outs) → KeepsAll s.held (written place id v) (option_and_then (λ w. Some (record s { stage = to }, w)) o)
   timed to s v None h = tt
   timed to s v (Some w) h = same s.held s.held (written place id v) (written place id w) refl (ap (writes_of place id) (h w refl))
 
-  becomes : (to : ℕ → Stage) (due : ℕ) (s : Line R) (v : View) → KeepsAll s.held (written place id v) (plain.becomes to due s v)
+  becomes : (to : ℕ → Stage) (due : ℕ) (s : Line R M) (v : View) → KeepsAll s.held (written place id v) (plain.becomes to due s v)
   becomes to due s v = timed (to v.timers.next) s v (sets_timer due (plain.stops s.stage v)) (λ w e. set_outs due (plain.stops s.stage v) w e ∙ stop_outs s.stage v)
 
-  stays : (s : Line R) (v : View) → KeepsAll s.held (written place id v) (Some (s, v))
+  stays : (s : Line R M) (v : View) → KeepsAll s.held (written place id v) (Some (s, v))
   stays s v = same s.held s.held (written place id v) (written place id v) refl refl
 
-  wakes : (settings : Settings) (s : Line R) (v : View) (at : Stage) → KeepsAll s.held (written place id v) (plain.wakes settings s v at)
-  wakes settings s v stage.New = becomes stage.Active (v.now + settings.response_timeout + 1) s v
-  wakes settings s v (stage.Idle _) = becomes stage.Active (v.now + settings.response_timeout + 1) s v
-  wakes settings s v (stage.Active _) = stays s v
-  wakes settings s v stage.Ended = stays s v
+  waits_from : (since : ℕ) (s : Line R M) (v : View) → KeepsAll s.held (written place id v) (plain.waits_from since s v)
+  waits_from since s v = becomes (λ timer. stage.Active timer since) (since + s.timeout + 1) s v
+
+  wakes : (timeout : ℕ) (s : Line R M) (v : View) (at : Stage) → KeepsAll s.held (written place id v) (plain.wakes timeout s v at)
+  wakes timeout s v stage.New = waits_from v.now (record s { timeout = timeout }) v
+  wakes timeout s v (stage.Idle _) = waits_from v.now (record s { timeout = timeout }) v
+  wakes timeout s v (stage.Active _ since) = go (timeout == s.timeout)
+    where
+      go : (b : Bool) → KeepsAll s.held (written place id v) (if b then Some (s, v) else plain.waits_from since (record s { timeout = timeout }) v)
+      go true = stays s v
+      go false = waits_from since (record s { timeout = timeout }) v
+  wakes timeout s v stage.Ended = stays s v
 
   -- An id that is held is not the one that comes next.
-  apart : (t : IdTable (Holder R)) → IsTable t → holds id t ≡ true → (id == next_id t) ≡ false
+  apart : (t : IdTable (Holder R M)) → IsTable t → holds id t ≡ true → (id == next_id t) ≡ false
   apart t k h = go (id == next_id t) refl
     where
       go : (b : Bool) → (id == next_id t) ≡ b → b ≡ false
       go false e = refl
       go true e = absurd (let is : id ≡ next_id t = grind (arith, nat_tests) in let free = next_free t k in let x : holds (next_id t) t ≡ true = subst (λ id. holds id t ≡ true) is h in cc)
 
-  gives_id : (holder : Holder R) (t : IdTable (Holder R)) (w w' : ℕ) → w' ≡ w + (if place == place && id == next_id t then 1 else 0) → Keeps t w (inserted holder t) w'
+  gives_id : (holder : Holder R M) (t : IdTable (Holder R M)) (w w' : ℕ) → w' ≡ w + (if place == place && id == next_id t then 1 else 0) → Keeps t w (inserted holder t) w'
   gives_id holder t w w' e = record {
     table = λ k. table_inserted holder t k;
     grows = omega arith;
@@ -130,7 +142,7 @@ module _ {R : Type 0} (place id : ℕ) where
     wrote = λ k l. (let is : id ≡ next_id t = grind (arith, nat_tests) in subst (λ id. holds id (inserted holder t) ≡ true) (sym is) (now_held holder t));
   }
 
-  frees_again : (holder : Holder R) (t : IdTable (Holder R)) (w w' : ℕ) → w' ≡ w → Keeps t w (removed (next_id t) (inserted holder t)) w'
+  frees_again : (holder : Holder R M) (t : IdTable (Holder R M)) (w w' : ℕ) → w' ≡ w → Keeps t w (removed (next_id t) (inserted holder t)) w'
   frees_again holder t w w' e = record {
     table = λ k. table_removed (next_id t) (inserted holder t) (table_inserted holder t k);
     grows = omega arith;
@@ -138,58 +150,69 @@ module _ {R : Type 0} (place id : ℕ) where
     wrote = λ k l. absurd (omega arith);
   }
 
-  module _ (requests : Requests R) where
-    writes : (ticket number : ℕ) (request : R) (s : Line R) (v : View) (o : Option (List ℕ))
-        → let x = plain.writes requests place ticket number (next_id s.held) request s v o in Keeps s.held (written place id v) x.0.held (written place id x.1)
-    writes ticket number request s v (Some octets) =
-        gives_id (Waits ticket request) s.held (written place id v) _ (writes_append place id v.outs (Write place number (next_id s.held) octets))
-    writes ticket number request s v None = frees_again GivenUp s.held (written place id v) (written place id v) refl
+  module _ (one : Requests R) (several : Requests M) where
+    writes : (ticket number : ℕ) (holder : Holder R M) (s : Line R M) (v : View) (o : Option (List ℕ))
+        → let x = plain.writes one several place ticket number (next_id s.held) holder s v o in Keeps s.held (written place id v) x.0.held (written place id x.1)
+    writes ticket number holder s v (Some octets) = gives_id holder s.held (written place id v) _ (writes_append place id v.outs (Write place number (next_id s.held) octets))
+    writes ticket number holder s v None = frees_again GivenUp s.held (written place id v) (written place id v) refl
 
-    numbers : (ticket : ℕ) (waiting : Waiting R) (s : Line R) (v : View) (b : Bool)
-        → let x = plain.numbers requests place ticket waiting s v (if b then None else Some (next_id s.held)) in Keeps s.held (written place id v) x.0.held (written place id x.1)
-    numbers ticket waiting s v true = same s.held s.held (written place id v) (written place id v) refl refl
-    numbers ticket waiting s v false = writes ticket waiting.number _ (record s { had_keepalive = _ }) v _
+    module _ {T : Type 0} (requests : Requests T) (holding : T → Holder R M) where
+      numbers : (ticket number : ℕ) (request : T) (s : Line R M) (v : View) (b : Bool)
+          → let x = plain.numbers one several place requests holding ticket number request s v (if b then None else Some (next_id s.held)) in Keeps s.held (written place id v) x.0.held (written place id x.1)
+      numbers ticket number request s v true = same s.held s.held (written place id v) (written place id v) refl refl
+      numbers ticket number request s v false = writes ticket number _ (record s { had_keepalive = _ }) v _
 
-    takes : (settings : Settings) (ticket : ℕ) (waiting : Waiting R) (s : Line R) (v : View) → KeepsAll s.held (written place id v) (plain.takes requests place settings ticket waiting s v)
+    begins : (ticket number : ℕ) (request : M) (s : Line R M) (v : View) (o : Result XfrState Error)
+        → let x = plain.begins one several place ticket number request s v o in Keeps s.held (written place id v) x.0.held (written place id x.1)
+    begins ticket number request s v (Err error) = same s.held s.held (written place id v) (written place id v) refl refl
+    begins ticket number request s v (Ok state) = numbers several (λ r. Transfers ticket r state) ticket number request s v (length s.held.held == 32768)
+
+    prepares : (ticket number : ℕ) (request : AnyRequest R M) (s : Line R M) (v : View)
+        → let x = plain.prepares one several place ticket number request s v in Keeps s.held (written place id v) x.0.held (written place id x.1)
+    prepares ticket number (Single request) s v = numbers one (λ r. Waits ticket r) ticket number request s v (length s.held.held == 32768)
+    prepares ticket number (Transfer request) s v = begins ticket number request s v (plain.first_state (several.composed request))
+
+    takes : (settings : Settings) (ticket : ℕ) (waiting : Waiting R M) (s : Line R M) (v : View) → KeepsAll s.held (written place id v) (plain.takes one several place settings ticket waiting s v)
     takes settings ticket waiting s v =
-        chain s.held (written place id v) (plain.wakes settings s v s.stage) (λ s v. Some (plain.numbers requests place ticket waiting s v (plain.free_id requests place s))) (wakes settings s v s.stage)
-        (λ s v. numbers ticket waiting s v (length s.held.held == 32768))
+        let timeout = plain.timeout_by settings waiting.request in
+        chain s.held (written place id v) (plain.wakes timeout s v s.stage) (λ s v. Some (plain.prepares one several place ticket waiting.number waiting.request s v)) (wakes timeout s v s.stage)
+        (λ s v. prepares ticket waiting.number waiting.request s v)
 
-    pumps : (settings : Settings) (queue : List (ℕ × Waiting R)) (s : Line R) (v : View) → KeepsAll s.held (written place id v) (plain.pumps requests place settings queue s v)
+    pumps : (settings : Settings) (queue : List (ℕ × Waiting R M)) (s : Line R M) (v : View) → KeepsAll s.held (written place id v) (plain.pumps one several place settings queue s v)
     pumps settings [] s v = stays s v
     pumps settings (entry ∷ queue) s v = go (is_some s.writing) (λ s v. pumps settings queue s v)
       where
-        go : (b : Bool) → ((s : Line R) (v : View) → KeepsAll s.held (written place id v) (plain.pumps requests place settings queue s v))
-            → KeepsAll s.held (written place id v) (if b then Some (s, v) else option_and_then (λ x. plain.pumps requests place settings queue x.0 x.1) (plain.takes requests place settings entry.0 entry.1 (record s { queue = queue }) v))
+        go : (b : Bool) → ((s : Line R M) (v : View) → KeepsAll s.held (written place id v) (plain.pumps one several place settings queue s v))
+            → KeepsAll s.held (written place id v) (if b then Some (s, v) else option_and_then (λ x. plain.pumps one several place settings queue x.0 x.1) (plain.takes one several place settings entry.0 entry.1 (record s { queue = queue }) v))
         go true ih = stays s v
-        go false ih = chain s.held (written place id v) (plain.takes requests place settings entry.0 entry.1 (record s { queue = queue }) v) (λ s v. plain.pumps requests place settings queue s v) (takes settings entry.0 entry.1 (record s { queue = queue }) v) ih
+        go false ih = chain s.held (written place id v) (plain.takes one several place settings entry.0 entry.1 (record s { queue = queue }) v) (λ s v. plain.pumps one several place settings queue s v) (takes settings entry.0 entry.1 (record s { queue = queue }) v) ih
 
-    queues : (settings : Settings) (ticket : ℕ) (waiting : Waiting R) (s : Line R) (v : View) → KeepsAll s.held (written place id v) (plain.queues requests place settings ticket waiting s v)
+    queues : (settings : Settings) (ticket : ℕ) (waiting : Waiting R M) (s : Line R M) (v : View) → KeepsAll s.held (written place id v) (plain.queues one several place settings ticket waiting s v)
     queues settings ticket waiting s v = go (has_ended s.stage)
       where
-        go : (b : Bool) → KeepsAll s.held (written place id v) (if b then Some (s, answers ticket (Err errors.ConnectionClosed) v) else plain.pumps requests place settings (puts ticket waiting s.queue) (record s { queue = puts ticket waiting s.queue }) v)
+        go : (b : Bool) → KeepsAll s.held (written place id v) (if b then Some (s, answers ticket (Err errors.ConnectionClosed) v) else plain.pumps one several place settings (puts ticket waiting s.queue) (record s { queue = puts ticket waiting s.queue }) v)
         go true = same s.held s.held (written place id v) (written place id v) refl refl
         go false = pumps settings (puts ticket waiting s.queue) (record s { queue = puts ticket waiting s.queue }) v
 
-    takes_on : (settings : Settings) (request : R) (s : Line R) (v : View) → KeepsAll s.held (written place id v) (plain.takes_on requests place settings request s v)
+    takes_on : (settings : Settings) (request : AnyRequest R M) (s : Line R M) (v : View) → KeepsAll s.held (written place id v) (plain.takes_on one several place settings request s v)
     takes_on settings request s v = go (draws_ticket v) refl
       where
-        go : (o : Option View) → draws_ticket v ≡ o → KeepsAll s.held (written place id v) (option_and_then (λ w. plain.queues requests place settings v.ticket (record { number = v.request; request = request }) s w) o)
+        go : (o : Option View) → draws_ticket v ≡ o → KeepsAll s.held (written place id v) (option_and_then (λ w. plain.queues one several place settings v.ticket (record { number = v.request; request = request }) s w) o)
         go None e = tt
-        go (Some w) e = subst (λ n. KeepsAll s.held n (plain.queues requests place settings v.ticket (record { number = v.request; request = request }) s w)) (ap (writes_of place id) (ticket_outs v w e))
+        go (Some w) e = subst (λ n. KeepsAll s.held n (plain.queues one several place settings v.ticket (record { number = v.request; request = request }) s w)) (ap (writes_of place id) (ticket_outs v w e))
             (queues settings v.ticket (record { number = v.request; request = request }) s w)
 
     -- What one call does: an id that is held is not written, and stays held unless a frame with it was taken or the connection ended.
-    record Steps (s : Line R) (v : View) (frame : Option (List ℕ)) (s' : Line R) (v' : View) : Type 0 where
+    record Steps (s : Line R M) (v : View) (frame : Option (List ℕ)) (s' : Line R M) (v' : View) : Type 0 where
       table : IsTable s.held → IsTable s'.held
       free : IsTable s.held → holds id s.held ≡ true → nat_lt (written place id v) (written place id v') ≡ false
       wrote : IsTable s.held → nat_lt (written place id v) (written place id v') ≡ true → has_ended s'.stage ≡ false → holds id s'.held ≡ true
       kept : IsTable s.held → holds id s.held ≡ true → has_id id frame ≡ false → has_ended s'.stage ≡ false → holds id s'.held ≡ true
 
-    abbrev StepsAll : Line R → View → Option (List ℕ) → After R → Type 0
+    abbrev StepsAll : Line R M → View → Option (List ℕ) → After R M → Type 0
     StepsAll s v frame after = IfSome after (λ x. Steps s v frame x.0 x.1)
 
-    kept_step : (s : Line R) (v : View) (frame : Option (List ℕ)) (s' : Line R) (v' : View) → Keeps s.held (written place id v) s'.held (written place id v') → Steps s v frame s' v'
+    kept_step : (s : Line R M) (v : View) (frame : Option (List ℕ)) (s' : Line R M) (v' : View) → Keeps s.held (written place id v) s'.held (written place id v') → Steps s v frame s' v'
     kept_step s v frame s' v' k = record {
       table = k.table;
       free = λ t h. (let e = (k.held t h).1 in grind (arith, nat_tests));
@@ -197,12 +220,12 @@ module _ {R : Type 0} (place id : ℕ) where
       kept = λ t h f e. (k.held t h).0;
     }
 
-    kept_steps : (s : Line R) (v : View) (frame : Option (List ℕ)) (after : After R) → KeepsAll s.held (written place id v) after → StepsAll s v frame after
+    kept_steps : (s : Line R M) (v : View) (frame : Option (List ℕ)) (after : After R M) → KeepsAll s.held (written place id v) after → StepsAll s v frame after
     kept_steps s v frame None k = tt
     kept_steps s v frame (Some x) k = kept_step s v frame x.0 x.1 k
 
     -- Nothing is written by a frame or an end.
-    quiet : (s : Line R) (v : View) (frame : Option (List ℕ)) (s' : Line R) (v' : View) → (IsTable s.held → IsTable s'.held) → written place id v' ≡ written place id v
+    quiet : (s : Line R M) (v : View) (frame : Option (List ℕ)) (s' : Line R M) (v' : View) → (IsTable s.held → IsTable s'.held) → written place id v' ≡ written place id v
         → (IsTable s.held → holds id s.held ≡ true → has_id id frame ≡ false → has_ended s'.stage ≡ false → holds id s'.held ≡ true) → Steps s v frame s' v'
     quiet s v frame s' v' t o k = record {
       table = t;
@@ -214,44 +237,70 @@ module _ {R : Type 0} (place id : ℕ) where
     closed_writes : (v w : View) → w.outs ≡ v.outs ++ Close place ∷ [] → written place id w ≡ written place id v
     closed_writes v w e = ap (writes_of place id) e ∙ writes_append place id v.outs (Close place) ∙ (omega arith)
 
-    ended_writes : (error : Error) (s : Line R) (v : View) → written place id (plain.ends_with place error s v).1 ≡ written place id v
+    ended_writes : (error : Error) (s : Line R M) (v : View) → written place id (plain.ends_with place error s v).1 ≡ written place id v
     ended_writes error s v = ap (writes_of place id) (stop_outs s.stage (asks (Close place) v)) ∙ closed_writes v (asks (Close place) v) refl
 
-    ends : (error : Error) (s : Line R) (v : View) (frame : Option (List ℕ)) → StepsAll s v frame (plain.ends place error s v)
+    ends : (error : Error) (s : Line R M) (v : View) (frame : Option (List ℕ)) → StepsAll s v frame (plain.ends place error s v)
     ends error s v frame = quiet s v frame (plain.ended s) _ (λ t. table_new) (ended_writes error s v) (λ t h f e. absurd (cc))
 
-    -- Once the id of a frame is free, the rest neither writes nor frees.
-    given_held : (message : List ℕ) (s : Line R) (v : View) (holder : Holder R) → (plain.given requests message s v holder).0.held ≡ s.held
-    given_held message s v GivenUp = refl
-    given_held message s v (Waits ticket request) = refl
+    -- An id is freed, or another holds it from then on; all else that is held stays held.
+    record Passes (k : ℕ) (t t' : IdTable (Holder R M)) : Type 0 where
+      table : IsTable t → IsTable t'
+      kept : (id == k) ≡ false → holds id t ≡ true → holds id t' ≡ true
 
-    given_outs : (message : List ℕ) (s : Line R) (v : View) (holder : Holder R) → (plain.given requests message s v holder).1.outs ≡ v.outs
+    freed : (k : ℕ) (t : IdTable (Holder R M)) → Passes k t (removed k t)
+    freed k t = record { table = table_removed k t; kept = λ f h. held_apart id k t f ∙ h }
+
+    again : (k : ℕ) (x y : Holder R M) (t : IdTable (Holder R M)) → entry_at k t.held ≡ Some y → Passes k t (inserted_at k x (removed k t))
+    again k x y t e = record { table = λ table. table_over k x y t table e; kept = λ f h. held_over id k x t h }
+
+    goes_on : (message : List ℕ) (ticket : ℕ) (request : M) (state : XfrState) (y : Holder R M) (s : Line R M) (v : View) → entry_at (message_id message) s.held.held ≡ Some y → (ends : Bool)
+        → Passes (message_id message) s.held (plain.goes_on message ticket request state (record s { held = removed (message_id message) s.held }) v ends).0.held
+    goes_on message ticket request state y s v e true = freed (message_id message) s.held
+    goes_on message ticket request state y s v e false = again (message_id message) (Transfers ticket request state) y s.held e
+
+    goes_on_outs : (message : List ℕ) (ticket : ℕ) (request : M) (state : XfrState) (s : Line R M) (v : View) (ends : Bool) → (plain.goes_on message ticket request state s v ends).1.outs ≡ v.outs
+    goes_on_outs message ticket request state s v true = refl
+    goes_on_outs message ticket request state s v false = refl
+
+    -- Once the id of a frame is free, what is given writes nothing, and frees no other.
+    given_passes : (message : List ℕ) (s : Line R M) (v : View) (holder : Holder R M) → entry_at (message_id message) s.held.held ≡ Some holder
+        → Passes (message_id message) s.held (plain.given one several message (record s { held = removed (message_id message) s.held }) v holder).0.held
+    given_passes message s v GivenUp e = freed (message_id message) s.held
+    given_passes message s v (Waits ticket request) e = freed (message_id message) s.held
+    given_passes message s v (Transfers ticket request state) e =
+        let c = checked several request state message in
+        goes_on message ticket request c.1 (Transfers ticket request state) s (answers ticket (part_given message c.2) v) e c.0
+
+    given_outs : (message : List ℕ) (s : Line R M) (v : View) (holder : Holder R M) → (plain.given one several message s v holder).1.outs ≡ v.outs
     given_outs message s v GivenUp = refl
     given_outs message s v (Waits ticket request) = refl
+    given_outs message s v (Transfers ticket request state) =
+        let c = checked several request state message in goes_on_outs message ticket request c.1 s (answers ticket (part_given message c.2) v) c.0
 
     -- nothing is written, and unless the connection ended all that is held stays held
-    record Calm (t : IdTable (Holder R)) (w : ℕ) (s' : Line R) (v' : View) : Type 0 where
+    record Calm (t : IdTable (Holder R M)) (w : ℕ) (s' : Line R M) (v' : View) : Type 0 where
       table : IsTable t → IsTable s'.held
       quiet : written place id v' ≡ w
       kept : has_ended s'.stage ≡ false → s'.held ≡ t
 
-    abbrev CalmAll : IdTable (Holder R) → ℕ → After R → Type 0
+    abbrev CalmAll : IdTable (Holder R M) → ℕ → After R M → Type 0
     CalmAll t w after = IfSome after (λ x. Calm t w x.0 x.1)
 
-    calm_end : (error : Error) (s : Line R) (v : View) → CalmAll s.held (written place id v) (plain.ends place error s v)
+    calm_end : (error : Error) (s : Line R M) (v : View) → CalmAll s.held (written place id v) (plain.ends place error s v)
     calm_end error s v = record { table = λ t. table_new; quiet = ended_writes error s v; kept = λ e. absurd (cc) }
 
-    calm_same : (s : Line R) (v : View) → CalmAll s.held (written place id v) (Some (s, v))
+    calm_same : (s : Line R M) (v : View) → CalmAll s.held (written place id v) (Some (s, v))
     calm_same s v = record { table = λ t. t; quiet = refl; kept = λ e. refl }
 
-    calm_timed : (to : Stage) (s : Line R) (v : View) (o : Option View) → ((w : View) → o ≡ Some w → w.outs ≡ v.outs) → CalmAll s.held (written place id v) (option_and_then (λ w. Some (record s { stage = to }, w)) o)
+    calm_timed : (to : Stage) (s : Line R M) (v : View) (o : Option View) → ((w : View) → o ≡ Some w → w.outs ≡ v.outs) → CalmAll s.held (written place id v) (option_and_then (λ w. Some (record s { stage = to }, w)) o)
     calm_timed to s v None h = tt
     calm_timed to s v (Some w) h = record { table = λ t. t; quiet = ap (writes_of place id) (h w refl); kept = λ e. refl }
 
-    calm_becomes : (to : ℕ → Stage) (due : ℕ) (s : Line R) (v : View) → CalmAll s.held (written place id v) (plain.becomes to due s v)
+    calm_becomes : (to : ℕ → Stage) (due : ℕ) (s : Line R M) (v : View) → CalmAll s.held (written place id v) (plain.becomes to due s v)
     calm_becomes to due s v = calm_timed (to v.timers.next) s v (sets_timer due (plain.stops s.stage v)) (λ w e. set_outs due (plain.stops s.stage v) w e ∙ stop_outs s.stage v)
 
-    calm_settles : (s : Line R) (v : View) → CalmAll s.held (written place id v) (plain.settles place s v)
+    calm_settles : (s : Line R M) (v : View) → CalmAll s.held (written place id v) (plain.settles place s v)
     calm_settles s v = go (plain.has_nothing s) (s.idle_time == 0)
       where
         go : (b c : Bool) → CalmAll s.held (written place id v) (if b then (if c then plain.ends place errors.StreamReceiveError s v else plain.rests s v) else Some (s, v))
@@ -259,28 +308,28 @@ module _ {R : Type 0} (place id : ℕ) where
         go true false = calm_becomes stage.Idle (v.now + s.idle_time) s v
         go false c = calm_same s v
 
-    -- a line that was freed of the id of a message, and what calmly follows
-    released : (message : List ℕ) (s : Line R) (v : View) (after : After R) → CalmAll (removed (message_id message) s.held) (written place id v) after → StepsAll s v (Some message) after
-    released message s v None c = tt
-    released message s v (Some x) c = quiet s v (Some message) x.0 x.1 (λ t. c.table (table_removed (message_id message) s.held t)) c.quiet
-        (λ t h f e. ap (holds id) (c.kept e) ∙ held_apart id (message_id message) s.held (grind (arith, nat_tests)) ∙ h)
+    -- a line whose id of a message was freed or is held again, and what calmly follows
+    released : (message : List ℕ) (s : Line R M) (v : View) (t : IdTable (Holder R M)) (after : After R M) → Passes (message_id message) s.held t → CalmAll t (written place id v) after → StepsAll s v (Some message) after
+    released message s v t None p c = tt
+    released message s v t (Some x) p c = quiet s v (Some message) x.0 x.1 (λ k. c.table (p.table k)) c.quiet
+        (λ k h f e. ap (holds id) (c.kept e) ∙ p.kept (grind (arith, nat_tests)) h)
 
-    calm_steps : (message : List ℕ) (s : Line R) (v : View) (after : After R) → CalmAll s.held (written place id v) after → StepsAll s v (Some message) after
+    calm_steps : (message : List ℕ) (s : Line R M) (v : View) (after : After R M) → CalmAll s.held (written place id v) after → StepsAll s v (Some message) after
     calm_steps message s v None c = tt
     calm_steps message s v (Some x) c = quiet s v (Some message) x.0 x.1 c.table c.quiet (λ t h f e. ap (holds id) (c.kept e) ∙ h)
 
-    settles_given : (message : List ℕ) (s : Line R) (v : View) (x : Line R × View) → x.0.held ≡ removed (message_id message) s.held → x.1.outs ≡ v.outs → StepsAll s v (Some message) (plain.settles place x.0 x.1)
-    settles_given message s v x h o = released message s v (plain.settles place x.0 x.1)
-        (subst (λ t. CalmAll t (written place id v) (plain.settles place x.0 x.1)) h (subst (λ w. CalmAll x.0.held w (plain.settles place x.0 x.1)) (ap (writes_of place id) o) (calm_settles x.0 x.1)))
+    settles_given : (message : List ℕ) (s : Line R M) (v : View) (x : Line R M × View) → Passes (message_id message) s.held x.0.held → x.1.outs ≡ v.outs → StepsAll s v (Some message) (plain.settles place x.0 x.1)
+    settles_given message s v x p o = released message s v x.0.held (plain.settles place x.0 x.1) p
+        (subst (λ w. CalmAll x.0.held w (plain.settles place x.0 x.1)) (ap (writes_of place id) o) (calm_settles x.0 x.1))
 
-    frees_id : (message : List ℕ) (s : Line R) (v : View) (o : Option (Holder R)) → StepsAll s v (Some message) (plain.frees_id requests place message s v o)
-    frees_id message s v None = calm_steps message s v (Some (s, v)) (calm_same s v)
-    frees_id message s v (Some holder) =
-        settles_given message s v (plain.given requests message (record s { held = removed (message_id message) s.held }) v holder)
-        (given_held message (record s { held = removed (message_id message) s.held }) v holder) (given_outs message (record s { held = removed (message_id message) s.held }) v holder)
+    frees_id : (message : List ℕ) (s : Line R M) (v : View) (o : Option (Holder R M)) → entry_at (message_id message) s.held.held ≡ o → StepsAll s v (Some message) (plain.frees_id one several place message s v o)
+    frees_id message s v None e = calm_steps message s v (Some (s, v)) (calm_same s v)
+    frees_id message s v (Some holder) e =
+        settles_given message s v (plain.given one several message (record s { held = removed (message_id message) s.held }) v holder)
+        (given_passes message s v holder e) (given_outs message (record s { held = removed (message_id message) s.held }) v holder)
 
     -- after a calm step that has not ended
-    after_calm : (s : Line R) (v : View) (frame : Option (List ℕ)) (s' : Line R) (v' : View) (after : After R) → s'.held ≡ s.held → v'.outs ≡ v.outs → StepsAll s' v' frame after → StepsAll s v frame after
+    after_calm : (s : Line R M) (v : View) (frame : Option (List ℕ)) (s' : Line R M) (v' : View) (after : After R M) → s'.held ≡ s.held → v'.outs ≡ v.outs → StepsAll s' v' frame after → StepsAll s v frame after
     after_calm s v frame s' v' None h o k = tt
     after_calm s v frame s' v' (Some x) h o k =
         let w : written place id v' ≡ written place id v = ap (writes_of place id) o in
@@ -291,45 +340,45 @@ module _ {R : Type 0} (place id : ℕ) where
           kept = λ t x f e. k.kept (subst (λ t. IsTable t) (sym h) t) (ap (holds id) h ∙ x) f e;
         }
 
-    timed_then : (message : List ℕ) (to : Stage) (s : Line R) (v : View) (o : Option View) → ((w : View) → o ≡ Some w → w.outs ≡ v.outs)
-        → StepsAll s v (Some message) (option_and_then (λ (x : Line R × View). plain.releases requests place message x.0 x.1) (option_and_then (λ w. Some (record s { stage = to }, w)) o))
+    timed_then : (message : List ℕ) (to : Stage) (s : Line R M) (v : View) (o : Option View) → ((w : View) → o ≡ Some w → w.outs ≡ v.outs)
+        → StepsAll s v (Some message) (option_and_then (λ (x : Line R M × View). plain.releases one several place message x.0 x.1) (option_and_then (λ w. Some (record s { stage = to }, w)) o))
     timed_then message to s v None h = tt
     timed_then message to s v (Some w) h =
-        after_calm s v (Some message) (record s { stage = to }) w (plain.releases requests place message (record s { stage = to }) w) refl (h w refl)
-        (frees_id message (record s { stage = to }) w (entry_at (message_id message) s.held.held))
+        after_calm s v (Some message) (record s { stage = to }) w (plain.releases one several place message (record s { stage = to }) w) refl (h w refl)
+        (frees_id message (record s { stage = to }) w (entry_at (message_id message) s.held.held) refl)
 
-    comes : (settings : Settings) (message : List ℕ) (s : Line R) (v : View) → StepsAll s v (Some message) (plain.comes requests place settings message s v)
-    comes settings message s v =
+    comes : (message : List ℕ) (s : Line R M) (v : View) → StepsAll s v (Some message) (plain.comes one several place message s v)
+    comes message s v =
         after_calm s v (Some message) (record s { idle_time = _ }) v _ refl refl
-        (timed_then message (stage.Active v.timers.next) (record s { idle_time = _ }) v (sets_timer (v.now + settings.response_timeout + 1) (plain.stops s.stage v))
-        (λ w e. set_outs (v.now + settings.response_timeout + 1) (plain.stops s.stage v) w e ∙ stop_outs s.stage v))
+        (timed_then message (stage.Active v.timers.next v.now) (record s { idle_time = _ }) v (sets_timer (v.now + s.timeout + 1) (plain.stops s.stage v))
+        (λ w e. set_outs (v.now + s.timeout + 1) (plain.stops s.stage v) w e ∙ stop_outs s.stage v))
 
-    frame_comes : (settings : Settings) (frame : List ℕ) (s : Line R) (v : View) → StepsAll s v (Some frame) (plain.frame_comes requests place settings frame s v)
-    frame_comes settings frame s v = go (nat_le 12 (length frame))
+    frame_comes : (frame : List ℕ) (s : Line R M) (v : View) → StepsAll s v (Some frame) (plain.frame_comes one several place frame s v)
+    frame_comes frame s v = go (nat_le 12 (length frame))
       where
-        go : (b : Bool) → StepsAll s v (Some frame) (if b then plain.comes requests place settings frame s v else plain.ends place errors.ShortMessage s v)
-        go true = comes settings frame s v
+        go : (b : Bool) → StepsAll s v (Some frame) (if b then plain.comes one several place frame s v else plain.ends place errors.ShortMessage s v)
+        go true = comes frame s v
         go false = ends errors.ShortMessage s v (Some frame)
 
-    wrote_of : (settings : Settings) (count : ℕ) (s : Line R) (v : View) (octets : List ℕ) → StepsAll s v None (plain.wrote_of requests place settings count s v octets)
+    wrote_of : (settings : Settings) (count : ℕ) (s : Line R M) (v : View) (octets : List ℕ) → StepsAll s v None (plain.wrote_of one several place settings count s v octets)
     wrote_of settings count s v octets = go (count == 0) (nat_le (length octets) count)
       where
-        go : (b c : Bool) → StepsAll s v None (if b then plain.ends place (errors.StreamWriteError fault.NothingTaken) s v else if c then plain.pumps requests place settings s.queue (record s { writing = None }) v
+        go : (b c : Bool) → StepsAll s v None (if b then plain.ends place (errors.StreamWriteError fault.NothingTaken) s v else if c then plain.pumps one several place settings s.queue (record s { writing = None }) v
             else Some (record s { writing = Some (drop count octets) }, asks (Resume place (drop count octets)) v))
         go true c = ends (errors.StreamWriteError fault.NothingTaken) s v None
-        go false true = kept_steps s v None (plain.pumps requests place settings s.queue (record s { writing = None }) v) (pumps settings s.queue (record s { writing = None }) v)
+        go false true = kept_steps s v None (plain.pumps one several place settings s.queue (record s { writing = None }) v) (pumps settings s.queue (record s { writing = None }) v)
         go false false = kept_step s v None (record s { writing = Some (drop count octets) }) (asks (Resume place (drop count octets)) v)
             (same s.held s.held _ _ refl (writes_append place id v.outs (Resume place (drop count octets)) ∙ (omega arith)))
 
-    wrote : (settings : Settings) (count : ℕ) (s : Line R) (v : View) (o : Option (List ℕ)) → StepsAll s v None (plain.wrote requests place settings count s v o)
+    wrote : (settings : Settings) (count : ℕ) (s : Line R M) (v : View) (o : Option (List ℕ)) → StepsAll s v None (plain.wrote one several place settings count s v o)
     wrote settings count s v None = kept_steps s v None (Some (s, v)) (stays s v)
     wrote settings count s v (Some octets) = wrote_of settings count s v octets
 
-    unmoved : (s : Line R) (v : View) (frame : Option (List ℕ)) → StepsAll s v frame (Some (s, v))
+    unmoved : (s : Line R M) (v : View) (frame : Option (List ℕ)) → StepsAll s v frame (Some (s, v))
     unmoved s v frame = kept_steps s v frame (Some (s, v)) (stays s v)
 
-    fires : (timer : ℕ) (s : Line R) (v : View) (at : Stage) → StepsAll s v None (plain.fires place timer s v at)
-    fires timer s v (stage.Active own) = go (timer == own)
+    fires : (timer : ℕ) (s : Line R M) (v : View) (at : Stage) → StepsAll s v None (plain.fires place timer s v at)
+    fires timer s v (stage.Active own since) = go (timer == own)
       where
         go : (b : Bool) → StepsAll s v None (if b then plain.ends place errors.StreamReadTimeout s v else Some (s, v))
         go true = ends errors.StreamReadTimeout s v None
@@ -342,7 +391,7 @@ module _ {R : Type 0} (place id : ℕ) where
     fires timer s v stage.New = unmoved s v None
     fires timer s v stage.Ended = unmoved s v None
 
-    left : (ticket : ℕ) (s : Line R) (k : ℕ) (o : Option (Holder R)) → entry_at k s.held.held ≡ o → Keeps s.held 0 (plain.leaves_id k s.held o) 0
+    left : (ticket : ℕ) (s : Line R M) (k : ℕ) (o : Option (Holder R M)) → entry_at k s.held.held ≡ o → Keeps s.held 0 (plain.leaves_id k s.held o) 0
     left ticket s k None e = same s.held s.held 0 0 refl refl
     left ticket s k (Some holder) e = record {
       table = λ t. table_over k GivenUp holder s.held t e;
@@ -351,7 +400,7 @@ module _ {R : Type 0} (place id : ℕ) where
       wrote = λ t w. absurd (omega arith);
     }
 
-    gives_up : (ticket : ℕ) (s : Line R) → Keeps s.held 0 (plain.gives_up ticket s).held 0
+    gives_up : (ticket : ℕ) (s : Line R M) → Keeps s.held 0 (plain.gives_up ticket s).held 0
     gives_up ticket s = go (is_some (entry_at ticket s.queue)) (entry_at ticket s.ids)
       where
         go : (b : Bool) (o : Option ℕ) → Keeps s.held 0 (if b then record s { queue = frees ticket s.queue } else plain.gives_up_id ticket s o).held 0
@@ -360,40 +409,40 @@ module _ {R : Type 0} (place id : ℕ) where
         go false (Some k) = left ticket s k (entry_at k s.held.held) refl
 
 -- the whole connection
-module _ {R : Type 0} (requests : Requests R) (id : ℕ) where
-  abbrev Moves : Stream R → View → Option (List ℕ) → AfterAll R → Type 0
-  Moves s v frame after = IfSome after (λ x. Steps s.place id requests s.line v frame x.0.line x.1)
+module _ {R M : Type 0} (one : Requests R) (several : Requests M) (id : ℕ) where
+  abbrev Moves : Stream R M → View → Option (List ℕ) → AfterAll R M → Type 0
+  Moves s v frame after = IfSome after (λ x. Steps s.place id one several s.line v frame x.0.line x.1)
 
-  keeps : (s : Stream R) (v : View) (octets : List ℕ) (frame : Option (List ℕ)) (after : After R) → StepsAll s.place id requests s.line v frame after → Moves s v frame (plain.keeps s octets after)
+  keeps : (s : Stream R M) (v : View) (octets : List ℕ) (frame : Option (List ℕ)) (after : After R M) → StepsAll s.place id one several s.line v frame after → Moves s v frame (plain.keeps s octets after)
   keeps s v octets frame None k = tt
   keeps s v octets frame (Some x) k = k
 
   -- a step whose view differs in what is said of frames alone
-  said : (s : Stream R) (v : View) (frame : Option (List ℕ)) (x : Stream R × View) (b : Bool) → Steps s.place id requests s.line v frame x.0.line x.1
-      → Steps s.place id requests s.line v frame x.0.line (if b then record x.1 { more = true } else x.1)
+  said : (s : Stream R M) (v : View) (frame : Option (List ℕ)) (x : Stream R M × View) (b : Bool) → Steps s.place id one several s.line v frame x.0.line x.1
+      → Steps s.place id one several s.line v frame x.0.line (if b then record x.1 { more = true } else x.1)
   said s v frame x true k = record { table = k.table; free = k.free; wrote = k.wrote; kept = k.kept }
   said s v frame x false k = k
 
-  says : (s : Stream R) (v : View) (frame : Option (List ℕ)) (after : AfterAll R) → Moves s v frame after → Moves s v frame (plain.says after)
+  says : (s : Stream R M) (v : View) (frame : Option (List ℕ)) (after : AfterAll R M) → Moves s v frame after → Moves s v frame (plain.says after)
   says s v frame None k = tt
   says s v frame (Some x) k = said s v frame x (has_frame x.0.octets) k
 
-  stands : (s : Stream R) (v : View) (frame : Option (List ℕ)) → Moves s v frame (Some (s, v))
-  stands s v frame = unmoved s.place id requests s.line v frame
+  stands : (s : Stream R M) (v : View) (frame : Option (List ℕ)) → Moves s v frame (Some (s, v))
+  stands s v frame = unmoved s.place id one several s.line v frame
 
-  takes_frame : (s : Stream R) (v : View) (o : Option (List ℕ)) → Moves s v o (plain.takes_frame requests s v o)
+  takes_frame : (s : Stream R M) (v : View) (o : Option (List ℕ)) → Moves s v o (plain.takes_frame one several s v o)
   takes_frame s v None = stands s v None
-  takes_frame s v (Some frame) = keeps s v (behind_frame s.octets) (Some frame) (plain.frame_comes requests s.place s.settings frame s.line v) (frame_comes s.place id requests s.settings frame s.line v)
+  takes_frame s v (Some frame) = keeps s v (behind_frame s.octets) (Some frame) (plain.frame_comes one several s.place frame s.line v) (frame_comes s.place id one several frame s.line v)
 
-  reads : (s : Stream R) (v : View) → Moves s v (first_frame s.octets) (plain.reads requests s v)
-  reads s v = says s v (first_frame s.octets) (plain.frame_taken requests s v) (takes_frame s v (first_frame s.octets))
+  reads : (s : Stream R M) (v : View) → Moves s v (first_frame s.octets) (plain.reads one several s v)
+  reads s v = says s v (first_frame s.octets) (plain.frame_taken one several s v) (takes_frame s v (first_frame s.octets))
 
-  closes : (error : Error) (s : Stream R) (v : View) (frame : Option (List ℕ)) → Moves s v frame (plain.closes error s v)
-  closes error s v frame = keeps s v s.octets frame (plain.ends s.place error s.line v) (ends s.place id requests error s.line v frame)
+  closes : (error : Error) (s : Stream R M) (v : View) (frame : Option (List ℕ)) → Moves s v frame (plain.closes error s v)
+  closes error s v frame = keeps s v s.octets frame (plain.ends s.place error s.line v) (ends s.place id one several error s.line v frame)
 
-  at_own : (s : Stream R) (v : View) (h : What) → (b : Bool) → plain.is_at s.place h ≡ b → Moves s v (frame_told h s) (if b then plain.tells requests h s v else Some (s, v))
-  at_own s v (what.Bytes at octets) true e = subst (λ b. Moves s v (if b then first_frame (s.octets ++ octets) else None) (plain.reads requests (record s { octets = s.octets ++ octets }) v)) (sym e) (reads (record s { octets = s.octets ++ octets }) v)
-  at_own s v (what.Wrote at count) true e = keeps s v s.octets None (plain.wrote requests s.place s.settings count s.line v s.line.writing) (wrote s.place id requests s.settings count s.line v s.line.writing)
+  at_own : (s : Stream R M) (v : View) (h : What) → (b : Bool) → plain.is_at s.place h ≡ b → Moves s v (frame_told h s) (if b then plain.tells one several h s v else Some (s, v))
+  at_own s v (what.Bytes at octets) true e = subst (λ b. Moves s v (if b then first_frame (s.octets ++ octets) else None) (plain.reads one several (record s { octets = s.octets ++ octets }) v)) (sym e) (reads (record s { octets = s.octets ++ octets }) v)
+  at_own s v (what.Wrote at count) true e = keeps s v s.octets None (plain.wrote one several s.place s.settings count s.line v s.line.writing) (wrote s.place id one several s.settings count s.line v s.line.writing)
   at_own s v (what.WriteFailed at f) true e = closes (errors.StreamWriteError f) s v None
   at_own s v (what.ReadFailed at f) true e = closes (errors.StreamReadError f) s v None
   at_own s v (what.Ended at) true e = closes (plain.end_error s.octets) s v None
@@ -407,24 +456,24 @@ module _ {R : Type 0} (requests : Requests R) (id : ℕ) where
   at_own s v what.Tick true e = stands s v None
   at_own s v h false e = stands s v (frame_told h s)
 
-  more : (s : Stream R) (v : View) (b : Bool) → Moves s v (if b then first_frame s.octets else None) (if b then plain.reads requests s v else Some (s, v))
+  more : (s : Stream R M) (v : View) (b : Bool) → Moves s v (if b then first_frame s.octets else None) (if b then plain.reads one several s v else Some (s, v))
   more s v true = reads s v
   more s v false = stands s v None
 
-  hears : (s : Stream R) (v : View) (h : Heard) → Moves s v (frame_heard h s) (plain.hears requests h s v)
+  hears : (s : Stream R M) (v : View) (h : Heard) → Moves s v (frame_heard h s) (plain.hears one several h s v)
   hears s v (told h) = at_own s v h (plain.is_at s.place h) refl
   hears s v (more_at place) = more s v (s.place == place)
-  hears s v (due_timer timer) = keeps s v s.octets None (plain.fires s.place timer s.line v s.line.stage) (fires s.place id requests timer s.line v s.line.stage)
+  hears s v (due_timer timer) = keeps s v s.octets None (plain.fires s.place timer s.line v s.line.stage) (fires s.place id one several timer s.line v s.line.stage)
 
-  steps : (s : Stream R) (v : View) (h : Heard) (b : Bool) → Moves s v (frame_heard h s) (if b then Some (s, v) else plain.hears requests h s v)
+  steps : (s : Stream R M) (v : View) (h : Heard) (b : Bool) → Moves s v (frame_heard h s) (if b then Some (s, v) else plain.hears one several h s v)
   steps s v h true = stands s v (frame_heard h s)
   steps s v h false = hears s v h
 
-  sends : (s : Stream R) (v : View) (after : After R) → StepsAll s.place id requests s.line v None after → Moves s v None (option_and_then (λ x. Some (record s { line = x.0 }, x.1)) after)
+  sends : (s : Stream R M) (v : View) (after : After R M) → StepsAll s.place id one several s.line v None after → Moves s v None (option_and_then (λ x. Some (record s { line = x.0 }, x.1)) after)
   sends s v None k = tt
   sends s v (Some x) k = k
 
-  given_up : (s : Stream R) (v : View) (line : Line R) → Keeps {R = R} s.place id s.line.held 0 line.held 0 → Steps s.place id requests s.line v None line v
+  given_up : (s : Stream R M) (v : View) (line : Line R M) → Keeps {R = R} {M = M} s.place id s.line.held 0 line.held 0 → Steps s.place id one several s.line v None line v
   given_up s v line k = record {
     table = k.table;
     free = λ t h. grind (arith, nat_tests);
@@ -432,35 +481,39 @@ module _ {R : Type 0} (requests : Requests R) (id : ℕ) where
     kept = λ t h f e. (k.held t h).0;
   }
 
-  call : (act : Act R) (s : Stream R) (v : View) → Moves s v (frame_taken_by act s) (does requests act s v)
-  call (asks_for request) s v = sends s v (plain.takes_on requests s.place s.settings request s.line v) (kept_steps s.place id requests s.line v None (plain.takes_on requests s.place s.settings request s.line v) (takes_on s.place id requests s.settings request s.line v))
+  call : (act : Act R M) (s : Stream R M) (v : View) → Moves s v (frame_taken_by act s) (does one several act s v)
+  call (asks_for request) s v = sends s v (plain.takes_on one several s.place s.settings request s.line v) (kept_steps s.place id one several s.line v None (plain.takes_on one several s.place s.settings request s.line v) (takes_on s.place id one several s.settings request s.line v))
   call (hears_of h) s v = steps s v h (has_ended s.line.stage)
-  call (gives_up_on ticket) s v = given_up s v (plain.gives_up ticket s.line) (gives_up s.place id requests ticket s.line)
+  call (gives_up_on ticket) s v = given_up s v (plain.gives_up ticket s.line) (gives_up s.place id one several ticket s.line)
 
   -- An id that is open is held.
-  record IsHeld (is_open : Bool) (s : Stream R) : Type 0 where
+  record IsHeld (is_open : Bool) (s : Stream R M) : Type 0 where
     table : IsTable s.line.held
     held : is_open ≡ true → holds id s.line.held ≡ true
 
-  still : (is_open : Bool) (act : Act R) (s : Stream R) (v : View) (x : Stream R × View) → IsHeld is_open s → Steps s.place id requests s.line v (frame_taken_by act s) x.0.line x.1 → IsHeld (open_after id is_open act s v x.0 x.1) x.0
-  still is_open act s v x k m = record { table = m.table k.table; held = go is_open k.held (has_ended x.0.line.stage) refl (writes_id s.place id v x.1) refl (has_id id (frame_taken_by act s)) refl }
+  still : (is_open : Bool) (act : Act R M) (s : Stream R M) (v : View) (x : Stream R M × View) → IsHeld is_open s → Steps s.place id one several s.line v (frame_taken_by act s) x.0.line x.1 → IsHeld (open_after id is_open act s v x.0 x.1) x.0
+  still is_open act s v x k m = record {
+    table = m.table k.table;
+    held = go is_open k.held (has_ended x.0.line.stage) refl (writes_id s.place id v x.1) refl (is_held id x.0.line) refl (has_id id (frame_taken_by act s)) refl;
+  }
     where
-      go : (o : Bool) → (o ≡ true → holds id s.line.held ≡ true) → (e : Bool) → has_ended x.0.line.stage ≡ e → (w : Bool) → writes_id s.place id v x.1 ≡ w → (f : Bool) → has_id id (frame_taken_by act s) ≡ f
-          → (not e && (w || (o && not f))) ≡ true → holds id x.0.line.held ≡ true
-      go o h true e w w' f f' y = absurd (cc)
-      go o h false e true w f f' y = m.wrote k.table w e
-      go true h false e false w false f y = m.kept k.table (h refl) f e
-      go true h false e false w true f y = absurd (cc)
-      go false h false e false w f f' y = absurd (cc)
+      go : (o : Bool) → (o ≡ true → holds id s.line.held ≡ true) → (e : Bool) → has_ended x.0.line.stage ≡ e → (w : Bool) → writes_id s.place id v x.1 ≡ w → (a : Bool) → is_held id x.0.line ≡ a
+          → (f : Bool) → has_id id (frame_taken_by act s) ≡ f → (not e && (w || (o && (a || not f)))) ≡ true → holds id x.0.line.held ≡ true
+      go o h true e w w' a a' f f' y = absurd (cc)
+      go o h false e true w a a' f f' y = m.wrote k.table w e
+      go o h false e false w true a f f' y = a
+      go true h false e false w false a false f y = m.kept k.table (h refl) f e
+      go true h false e false w false a true f y = absurd (cc)
+      go false h false e false w false a f f' y = absurd (cc)
 
-  runs : (calls : List (Act R × View)) (is_open : Bool) (s : Stream R) → IsHeld is_open s → WritesFreeIds requests id is_open calls s
+  runs : (calls : List (Act R M × View)) (is_open : Bool) (s : Stream R M) → IsHeld is_open s → WritesFreeIds one several id is_open calls s
   runs [] is_open s k = tt
-  runs (c ∷ calls) is_open s k = go (does requests c.0 s c.1) (call c.0 s c.1) (λ is_open s k. runs calls is_open s k)
+  runs (c ∷ calls) is_open s k = go (does one several c.0 s c.1) (call c.0 s c.1) (λ is_open s k. runs calls is_open s k)
     where
-      go : (after : AfterAll R) → Moves s c.1 (frame_taken_by c.0 s) after → ((is_open : Bool) (s : Stream R) → IsHeld is_open s → WritesFreeIds requests id is_open calls s)
-          → IfSome after (λ x. (is_open ≡ true → writes_id s.place id c.1 x.1 ≡ false) × WritesFreeIds requests id (open_after id is_open c.0 s c.1 x.0 x.1) calls x.0)
+      go : (after : AfterAll R M) → Moves s c.1 (frame_taken_by c.0 s) after → ((is_open : Bool) (s : Stream R M) → IsHeld is_open s → WritesFreeIds one several id is_open calls s)
+          → IfSome after (λ x. (is_open ≡ true → writes_id s.place id c.1 x.1 ≡ false) × WritesFreeIds one several id (open_after id is_open c.0 s c.1 x.0 x.1) calls x.0)
       go None m ih = tt
       go (Some x) m ih = (λ o. m.free k.table (k.held o), ih (open_after id is_open c.0 s c.1 x.0 x.1) x.0 (still is_open c.0 s c.1 x k m))
 
-pub ids_law : {R : Type 0} (requests : Requests R) → IdsLaw requests
-ids_law requests place settings id calls = runs requests id calls false (started place settings) (record { table = table_new; held = λ e. absurd (cc) })
+pub ids_law : {R M : Type 0} (one : Requests R) (several : Requests M) → IdsLaw one several
+ids_law one several place settings id calls = runs one several id calls false (started place settings) (record { table = table_new; held = λ e. absurd (cc) })

@@ -4,7 +4,7 @@ ghost use Rattle.std.specs.Prelude.{◌≡◌, ◌≤◌, ◌||◌, length, IfOk
 ghost use Rattle.client_stream.specs.Plain as plain;
 
 use crate::keepalive::KEEPALIVE;
-use client_request::{ComposeRequest, Error};
+use client_request::{Compose, Error};
 use dns_base::{NoMemory, Octets};
 use std::alloc::Global;
 
@@ -24,11 +24,8 @@ fn framed(alloc: Global, message: &[u8]) -> Result<Octets, NoMemory>
 }
 
 /// The frame of a request, unless its message can't be composed or is too long.
-pub(crate) fn frame_of<Req: ComposeRequest>(
-    alloc: Global,
-    request: &Req,
-) -> Result<Option<Octets>, NoMemory>
-    ensures { IfOk result (λ frame. frame ≡ plain.frame_of Req.requests request.now) }
+pub(crate) fn frame_of<T: Compose>(alloc: Global, request: &T) -> Result<Option<Octets>, NoMemory>
+    ensures { IfOk result (λ frame. frame ≡ plain.frame_of T.requests request.now) }
 {
     let message = match request.to_message() {
         Ok(message) => message,
@@ -44,12 +41,9 @@ pub(crate) fn frame_of<Req: ComposeRequest>(
 
 /// Adds the empty option edns-tcp-keepalive to a request (RFC 7828 3.2.1), unless one was added before
 /// or the request has no room for it. `had` says afterwards whether one was added by then.
-pub(crate) fn add_keepalive<Req: ComposeRequest>(
-    had: &mut bool,
-    request: &mut Req,
-) -> Result<(), NoMemory>
-    ensures request { OnOk result (request.new ≡ plain.with_keepalive Req.requests had.old request.old) }
-    ensures had { OnOk result (had.new ≡ (had.old || plain.adds_keepalive Req.requests had.old request.old)) }
+pub(crate) fn add_keepalive<T: Compose>(had: &mut bool, request: &mut T) -> Result<(), NoMemory>
+    ensures request { OnOk result (request.new ≡ plain.with_keepalive T.requests had.old request.old) }
+    ensures had { OnOk result (had.new ≡ (had.old || plain.adds_keepalive T.requests had.old request.old)) }
 {
     if *had {
         return Ok(());
@@ -62,4 +56,20 @@ pub(crate) fn add_keepalive<Req: ComposeRequest>(
         Err(Error::OptTooLong) => Ok(()),
         Err(_) => Err(NoMemory),
     }
+}
+
+/// Gives a request its id and, where it is due, the option, and makes its frame, unless that is too long.
+pub(crate) fn ready<T: Compose>(
+    alloc: Global,
+    had: &mut bool,
+    id: u16,
+    request: &mut T,
+) -> Result<Option<Octets>, NoMemory>
+    ensures request { OnOk result (request.new ≡ plain.readied T.requests id had.old request.old) }
+    ensures had { OnOk result (had.new ≡ plain.had_by T.requests id had.old request.old) }
+    ensures frame { IfOk result (λ frame. frame ≡ plain.frame_of T.requests request.new) }
+{
+    request.set_id(id);
+    add_keepalive(had, request)?;
+    frame_of(alloc, request)
 }

@@ -5,14 +5,18 @@ ghost use Rattle.client_request.specs.Cx.{view_of, heard, LendsTheSame};
 ghost use Rattle.client_request.specs.Timers.{IsWant};
 ghost use Rattle.client_request.specs.Response.{response_of, IsRefusal};
 ghost use Rattle.client_stream.specs.Plain as plain;
+ghost use Rattle.client_stream.specs.declared.request.AnyRequest.TheVariants as any;
 ghost use Rattle.client_stream.specs.Settings.{default_settings};
 
 use crate::config::Config;
 use crate::framer::Framer;
-use crate::line::{Line, end, fire, give_up, hear_frame, take_on, wrote};
-use crate::request::Request;
+use crate::hearing::hear_frame;
+use crate::line::{Line, end, fire, give_up};
+use crate::request::{AnyRequest, Request, RequestMulti};
+use crate::writing::{take_on, wrote};
 use client_request::{
-    ComposeRequest, Cx, Error, Fault, GetResponse, SendRequest, Signal, What, Words,
+    ComposeRequest, ComposeRequestMulti, Cx, Error, Fault, GetResponse, GetResponseMulti,
+    SendRequest, SendRequestMulti, Signal, What, Words,
 };
 use dns_base::NoMemory;
 use std::alloc::Global;
@@ -25,20 +29,20 @@ const MAX_HELD: usize = 32768;
 /// under an id of its own, and answers come in any order. Once it has ended each request that is taken on
 /// gets `ConnectionClosed`.
 #[derive(Drop)]
-pub struct Connection<Req> {
+pub struct Connection<Req, ReqMulti> {
     alloc: Global,
     place: u64,
     config: Config,
-    line: Line<Req>,
+    line: Line<Req, ReqMulti>,
     /// The octets that no frame has taken.
     framer: Framer,
     failed: bool,
 }
 
-impl<Req> Model for Connection<Req> {
+impl<Req, ReqMulti> Model for Connection<Req, ReqMulti> {
     ghost use Rattle.client_stream.specs.Plain.{Stream};
 
-    ghost Value = { Stream Req };
+    ghost Value = { Stream Req ReqMulti };
 
     ghost view = { λ c. record {
       place = c.place;
@@ -63,9 +67,9 @@ fn is_at(place: u64, what: &What) -> bool
     }
 }
 
-impl<Req: Drop> Connection<Req> {
+impl<Req: Drop, ReqMulti: Drop> Connection<Req, ReqMulti> {
     /// A connection at a place, with the default settings. It takes no memory.
-    pub fn new(alloc: Global, place: u64) -> Result<Connection<Req>, NoMemory>
+    pub fn new(alloc: Global, place: u64) -> Result<Connection<Req, ReqMulti>, NoMemory>
         ensures { IsOkAnd result (λ c. c ≡ plain.started place default_settings) }
     {
         Connection::with_config(alloc, place, Config::new())
@@ -76,7 +80,7 @@ impl<Req: Drop> Connection<Req> {
         alloc: Global,
         place: u64,
         config: Config,
-    ) -> Result<Connection<Req>, NoMemory>
+    ) -> Result<Connection<Req, ReqMulti>, NoMemory>
         ensures { IsOkAnd result (λ c. c ≡ plain.started place config) }
     {
         Ok(Connection {
@@ -134,7 +138,7 @@ impl<Req: Drop> Connection<Req> {
     }
 }
 
-impl<Req: ComposeRequest> Connection<Req> {
+impl<Req: ComposeRequest, ReqMulti: ComposeRequestMulti> Connection<Req, ReqMulti> {
     /// Takes a request on, as `send_request` does. Its result will stand on the board under the
     /// response's ticket.
     pub fn get_request<W: Words>(
@@ -143,9 +147,9 @@ impl<Req: ComposeRequest> Connection<Req> {
         request: Req,
     ) -> Result<Request, Error>
         ensures lends { LendsTheSame cx.old cx.new }
-        ensures ok { OnOk result (plain.plain_send Req.requests request self.old (view_of W.stream cx.old) ≡ Some (self.new, view_of W.stream cx.new)) }
+        ensures ok { OnOk result (plain.plain_send Req.requests ReqMulti.requests (any.Single request) self.old (view_of W.stream cx.old) ≡ Some (self.new, view_of W.stream cx.new)) }
         ensures response { IfOk result (λ r. r ≡ plain.asked cx.old.ticket) }
-        ensures numbers { IsErrOf result Error.NumbersUsed → plain.plain_send Req.requests request self.old (view_of W.stream cx.old) ≡ None }
+        ensures numbers { IsErrOf result Error.NumbersUsed → plain.plain_send Req.requests ReqMulti.requests (any.Single request) self.old (view_of W.stream cx.old) ≡ None }
         ensures keeps { OnOk result (self.new.failed ≡ self.old.failed) }
         ensures refused { IfErr result IsRefusal }
         ensures err { OnErr result (self.new.failed ≡ true) }
@@ -155,8 +159,51 @@ impl<Req: ComposeRequest> Connection<Req> {
         if self.failed {
             return Err(Error::Failed);
         }
-        match take_on(&mut self.line, self.place, &self.config, cx, request) {
+        match take_on(
+            &mut self.line,
+            self.place,
+            &self.config,
+            cx,
+            AnyRequest::Single(request),
+        ) {
             Ok(ticket) => Ok(Request::of(ticket)),
+            Err(error) => {
+                self.failed = true;
+                Err(error)
+            }
+        }
+    }
+
+    /// Takes a transfer on, as `SendRequestMulti::send_request` does. Its results will stand on the board
+    /// under the response's ticket: messages, then None. `WrongReplyForQuery` is no end. `FormError` where
+    /// the request asks for no zone and no changes, and `MessageParseError` where its one question can't be
+    /// read; the errors of a single request end it too.
+    pub fn get_streaming_request<W: Words>(
+        &mut self,
+        cx: &mut Cx<'_, W>,
+        request: ReqMulti,
+    ) -> Result<RequestMulti, Error>
+        ensures lends { LendsTheSame cx.old cx.new }
+        ensures ok { OnOk result (plain.plain_send Req.requests ReqMulti.requests (any.Transfer request) self.old (view_of W.stream cx.old) ≡ Some (self.new, view_of W.stream cx.new)) }
+        ensures response { IfOk result (λ r. r ≡ plain.begun cx.old.ticket) }
+        ensures numbers { IsErrOf result Error.NumbersUsed → plain.plain_send Req.requests ReqMulti.requests (any.Transfer request) self.old (view_of W.stream cx.old) ≡ None }
+        ensures keeps { OnOk result (self.new.failed ≡ self.old.failed) }
+        ensures refused { IfErr result IsRefusal }
+        ensures err { OnErr result (self.new.failed ≡ true) }
+        ensures failed { self.old.failed ≡ true → (result ≡ Err Error.Failed) × (self.new ≡ self.old) × (view_of W.stream cx.new ≡ view_of W.stream cx.old) }
+        ensures failed_only { IsErrOf result Error.Failed → self.old.failed ≡ true }
+    {
+        if self.failed {
+            return Err(Error::Failed);
+        }
+        match take_on(
+            &mut self.line,
+            self.place,
+            &self.config,
+            cx,
+            AnyRequest::Transfer(request),
+        ) {
+            Ok(ticket) => Ok(RequestMulti::of(ticket)),
             Err(error) => {
                 self.failed = true;
                 Err(error)
@@ -167,15 +214,15 @@ impl<Req: ComposeRequest> Connection<Req> {
     /// Takes the first frame, if it is whole.
     fn take_frame<W: Words>(&mut self, cx: &mut Cx<'_, W>) -> Result<(), Error>
         ensures lends { LendsTheSame cx.old cx.new }
-        ensures ok { OnOk result (plain.frame_taken Req.requests self.old (view_of W.stream cx.old) ≡ Some (self.new, view_of W.stream cx.new)) }
-        ensures numbers { IsErrOf result Error.NumbersUsed → plain.frame_taken Req.requests self.old (view_of W.stream cx.old) ≡ None }
+        ensures ok { OnOk result (plain.frame_taken Req.requests ReqMulti.requests self.old (view_of W.stream cx.old) ≡ Some (self.new, view_of W.stream cx.new)) }
+        ensures numbers { IsErrOf result Error.NumbersUsed → plain.frame_taken Req.requests ReqMulti.requests self.old (view_of W.stream cx.old) ≡ None }
         ensures keeps { self.new.failed ≡ self.old.failed }
         ensures want { IfErr result IsWant }
     {
         let Some(frame) = self.framer.next_frame()? else {
             return Ok(());
         };
-        hear_frame(&mut self.line, self.place, &self.config, cx, frame)?;
+        hear_frame(&mut self.line, self.place, cx, frame)?;
         self.drop_octets();
         Ok(())
     }
@@ -183,8 +230,8 @@ impl<Req: ComposeRequest> Connection<Req> {
     /// Takes the first frame, and says whether another whole one stands.
     fn read<W: Words>(&mut self, cx: &mut Cx<'_, W>) -> Result<(), Error>
         ensures lends { LendsTheSame cx.old cx.new }
-        ensures ok { OnOk result (plain.reads Req.requests self.old (view_of W.stream cx.old) ≡ Some (self.new, view_of W.stream cx.new)) }
-        ensures numbers { IsErrOf result Error.NumbersUsed → plain.reads Req.requests self.old (view_of W.stream cx.old) ≡ None }
+        ensures ok { OnOk result (plain.reads Req.requests ReqMulti.requests self.old (view_of W.stream cx.old) ≡ Some (self.new, view_of W.stream cx.new)) }
+        ensures numbers { IsErrOf result Error.NumbersUsed → plain.reads Req.requests ReqMulti.requests self.old (view_of W.stream cx.old) ≡ None }
         ensures keeps { self.new.failed ≡ self.old.failed }
         ensures want { IfErr result IsWant }
     {
@@ -209,8 +256,8 @@ impl<Req: ComposeRequest> Connection<Req> {
     /// What an event at its own place does.
     fn told<W: Words>(&mut self, cx: &mut Cx<'_, W>, what: &What) -> Result<(), Error>
         ensures lends { LendsTheSame cx.old cx.new }
-        ensures ok { OnOk result (plain.tells Req.requests what.now self.old (view_of W.stream cx.old) ≡ Some (self.new, view_of W.stream cx.new)) }
-        ensures numbers { IsErrOf result Error.NumbersUsed → plain.tells Req.requests what.now self.old (view_of W.stream cx.old) ≡ None }
+        ensures ok { OnOk result (plain.tells Req.requests ReqMulti.requests what.now self.old (view_of W.stream cx.old) ≡ Some (self.new, view_of W.stream cx.new)) }
+        ensures numbers { IsErrOf result Error.NumbersUsed → plain.tells Req.requests ReqMulti.requests what.now self.old (view_of W.stream cx.old) ≡ None }
         ensures keeps { self.new.failed ≡ self.old.failed }
         ensures want { IfErr result IsWant }
     {
@@ -255,8 +302,8 @@ impl<Req: ComposeRequest> Connection<Req> {
     /// What a signal does.
     fn hear<W: Words>(&mut self, cx: &mut Cx<'_, W>, signal: Signal<'_>) -> Result<(), Error>
         ensures lends { LendsTheSame cx.old cx.new }
-        ensures ok { OnOk result (plain.plain_step Req.requests (heard signal.entry) self.old (view_of W.stream cx.old) ≡ Some (self.new, view_of W.stream cx.new)) }
-        ensures numbers { IsErrOf result Error.NumbersUsed → plain.plain_step Req.requests (heard signal.entry) self.old (view_of W.stream cx.old) ≡ None }
+        ensures ok { OnOk result (plain.plain_step Req.requests ReqMulti.requests (heard signal.entry) self.old (view_of W.stream cx.old) ≡ Some (self.new, view_of W.stream cx.new)) }
+        ensures numbers { IsErrOf result Error.NumbersUsed → plain.plain_step Req.requests ReqMulti.requests (heard signal.entry) self.old (view_of W.stream cx.old) ≡ None }
         ensures keeps { self.new.failed ≡ self.old.failed }
         ensures want { IfErr result IsWant }
     {
@@ -287,14 +334,15 @@ impl<Req: ComposeRequest> Connection<Req> {
     }
 }
 
-impl<Req: ComposeRequest> SendRequest<Req> for Connection<Req> {
+impl<Req: ComposeRequest, ReqMulti: ComposeRequestMulti> SendRequest<Req>
+    for Connection<Req, ReqMulti> {
     type Response = Request;
 
     ghost has_failed = { λ c. c.failed };
 
     ghost holds_failed = { λ c. c.failed };
 
-    ghost transport = { plain.transport Req.requests };
+    ghost transport = { plain.transport Req.requests ReqMulti.requests };
 
     fn send_request<W: Words>(
         &mut self,
@@ -316,6 +364,41 @@ impl<Req: ComposeRequest> SendRequest<Req> for Connection<Req> {
     }
 
     fn cancel<W: Words>(&mut self, cx: &mut Cx<'_, W>, response: Request) -> Result<(), Error> {
+        if self.failed {
+            return Err(Error::Failed);
+        }
+        give_up(&mut self.line, response.ticket());
+        Ok(())
+    }
+}
+
+impl<Req: ComposeRequest, ReqMulti: ComposeRequestMulti> SendRequestMulti<ReqMulti>
+    for Connection<Req, ReqMulti> {
+    type Response = RequestMulti;
+
+    ghost has_failed = { λ c. c.failed };
+
+    ghost holds_failed = { λ c. c.failed };
+
+    ghost transport = { plain.transfers Req.requests ReqMulti.requests };
+
+    fn send_request<W: Words>(
+        &mut self,
+        cx: &mut Cx<'_, W>,
+        request: ReqMulti,
+    ) -> Result<RequestMulti, Error> {
+        self.get_streaming_request(cx, request)
+    }
+
+    fn step<W: Words>(&mut self, cx: &mut Cx<'_, W>, signal: Signal<'_>) -> Result<(), Error> {
+        SendRequest::step(self, cx, signal)
+    }
+
+    fn cancel<W: Words>(
+        &mut self,
+        cx: &mut Cx<'_, W>,
+        response: RequestMulti,
+    ) -> Result<(), Error> {
         if self.failed {
             return Err(Error::Failed);
         }

@@ -1,23 +1,27 @@
 //! One connection to a server by stream, at a place that was opened: requests go out one behind the
-//! other, and answers come in any order (RFC 7766).
+//! other, and answers come in any order (RFC 7766); of a transfer several messages come (RFC 5936, RFC 1995).
 #![tactic(auto)]
 
 mod composing;
 mod config;
 mod connection;
 mod framer;
+mod hearing;
 mod keepalive;
 mod laws;
 mod line;
 mod queries;
 mod request;
 mod stage;
+mod transfer;
+mod writing;
 
+pub use client_transfer::{XfrState, check_stream};
 pub use config::Config;
 pub use connection::Connection;
 pub use framer::Framer;
-pub use laws::{cutting_law, frames_law, ids_law};
+pub use laws::{cutting_law, frames_law, ids_law, transfer_law};
 pub use line::Line;
 pub use queries::{InsertFault, Queries};
-pub use request::{Holder, Request, Waiting};
+pub use request::{AnyRequest, Holder, Request, RequestMulti, Waiting};
 pub use stage::Stage;

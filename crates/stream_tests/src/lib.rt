@@ -16,4 +16,8 @@ mod runs;
 #[cfg(test)]
 mod settings;
 #[cfg(test)]
+mod transfers;
+#[cfg(test)]
+mod transport_of_transfers;
+#[cfg(test)]
 mod world;

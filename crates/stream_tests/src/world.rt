@@ -1,10 +1,11 @@
 //! What the tests share: a connection, what is lent to it, and what it puts out and gives.
 
+use crate::transport_of_transfers::{Tested, cancel_transfer, send_transfer, step_transfers};
 use client_request::{
-    Board, Cx, Error, Fault, GetResponse, ListWords, Moment, Out, Outs, Poll, Posted,
-    RequestMessage, SendRequest, Signal, Timers, What, WordList,
+    Board, Cx, Error, Fault, GetResponse, GetResponseMulti, ListWords, Moment, Out, Outs, Poll,
+    Posted, RequestMessage, RequestMessageMulti, SendRequest, Signal, Timers, What, WordList,
 };
-use client_stream::{Config, Connection, Request};
+use client_stream::{Config, Connection, Request, RequestMulti};
 use dns_base::{Duration, Message, Octets};
 use std::alloc::Global;
 
@@ -19,6 +20,8 @@ pub const QUERY: [u8; 29] = [
 pub enum Told {
     /// The query is asked.
     Ask,
+    /// A transfer is asked of what a message asks.
+    Transfer(&'static [u8]),
     /// So many octets were written.
     Wrote(u64),
     WriteFailed,
@@ -44,28 +47,46 @@ pub enum Deed {
     Other,
 }
 
-/// The results that come, by ticket: the id of the answer, or the error.
+/// Stands for the end of a transfer among the results: no connection puts this error on a board.
+pub const END: Result<u16, Error> = Err(Error::AlreadyDone);
+
+/// The results that come, by ticket: the id of the answer, the end of a transfer, or the error.
 pub type Given = (u64, Result<u16, Error>);
+
+/// What stands for the results of what was asked.
+#[derive(Drop)]
+pub enum Response {
+    Single(Request),
+    Transfer(RequestMulti),
+}
 
 #[derive(Drop)]
 pub struct World {
-    pub connection: Connection<RequestMessage>,
+    pub connection: Tested,
+    /// Whether it hears signals as a transport of transfers; that makes no difference.
+    pub as_transfers: bool,
     pub outs: Outs,
-    words: ListWords,
     board: Board,
+    words: ListWords,
     timers: Timers,
     now: u64,
     ticket: u64,
-    responses: Vec<Option<Request>>,
+    responses: Vec<Option<Response>>,
 }
 
 /// A connection with an idle time in microseconds.
 pub fn connected(alloc: Global, idle: u64) -> Result<World, Error> {
     let mut config = Config::new();
     config.set_idle_timeout(Duration::from_micros(idle));
+    connected_by(alloc, config)
+}
+
+/// A connection with settings.
+pub fn connected_by(alloc: Global, config: Config) -> Result<World, Error> {
     let connection = Connection::with_config(alloc, 0, config)?;
     Ok(World {
         connection,
+        as_transfers: false,
         outs: Outs::new(alloc),
         words: ListWords::new(WordList::new(alloc)),
         board: Board::new(alloc),
@@ -95,7 +116,11 @@ fn step(world: &mut World, signal: Signal<'_>) -> Result<bool, Error> {
         request: 0,
         more: false,
     };
-    world.connection.step(&mut cx, signal)?;
+    if world.as_transfers {
+        step_transfers(&mut world.connection, &mut cx, signal)?;
+    } else {
+        world.connection.step(&mut cx, signal)?;
+    }
     Ok(cx.more)
 }
 
@@ -114,10 +139,32 @@ pub fn ask(world: &mut World, request: RequestMessage) -> Result<(), Error> {
     };
     let response = world.connection.send_request(&mut cx, request)?;
     world.ticket = cx.ticket;
+    keep(world, Response::Single(response))
+}
+
+fn keep(world: &mut World, response: Response) -> Result<(), Error> {
     match world.responses.push(Some(response)) {
         Ok(()) => Ok(()),
         Err(_) => Err(Error::NoMemory),
     }
+}
+
+/// Asks a transfer.
+pub fn ask_transfer(world: &mut World, request: RequestMessageMulti) -> Result<(), Error> {
+    let mut cx = Cx {
+        now: Moment(world.now),
+        words: &mut world.words,
+        outs: &mut world.outs,
+        board: &mut world.board,
+        timers: &mut world.timers,
+        ticket: world.ticket,
+        place: 1,
+        request: world.ticket,
+        more: false,
+    };
+    let response = send_transfer(&mut world.connection, &mut cx, request)?;
+    world.ticket = cx.ticket;
+    keep(world, Response::Transfer(response))
 }
 
 fn cancel(world: &mut World, ticket: usize) -> Result<(), Error> {
@@ -135,13 +182,24 @@ fn cancel(world: &mut World, ticket: usize) -> Result<(), Error> {
         request: 0,
         more: false,
     };
-    world.connection.cancel(&mut cx, response)
+    match response {
+        Response::Single(response) => world.connection.cancel(&mut cx, response),
+        Response::Transfer(response) => {
+            cancel_transfer(&mut world.connection, &mut cx, response)
+        }
+    }
 }
 
 /// A request for what a message asks.
 pub fn request(alloc: Global, octets: &[u8]) -> Result<RequestMessage, Error> {
     let octets = Octets::from_slice(alloc, octets)?;
     RequestMessage::new(alloc, Message::from_octets(octets)?)
+}
+
+/// A transfer of what a message asks.
+pub fn transfer(alloc: Global, octets: &[u8]) -> Result<RequestMessageMulti, Error> {
+    let octets = Octets::from_slice(alloc, octets)?;
+    RequestMessageMulti::new(alloc, Message::from_octets(octets)?)
 }
 
 /// Tells that octets came at a place, and takes each whole frame.
@@ -179,6 +237,10 @@ pub fn tell(alloc: Global, world: &mut World, told: Told) -> Result<(), Error> {
         Told::Ask => {
             let request = request(alloc, &QUERY)?;
             ask(world, request)
+        }
+        Told::Transfer(base) => {
+            let request = transfer(alloc, base)?;
+            ask_transfer(world, request)
         }
         Told::Wrote(count) => event(world, What::Wrote { place: 0, count }),
         Told::WriteFailed => event(
@@ -238,7 +300,7 @@ fn first_given(world: &mut World) -> Option<Given> {
     let Posted { ticket, part } = world.board.take_first()?;
     match part {
         Ok(Some(message)) => Some((ticket, Ok(message.header().id()))),
-        Ok(None) => None,
+        Ok(None) => Some((ticket, END)),
         Err(error) => Some((ticket, Err(error))),
     }
 }
@@ -263,12 +325,25 @@ pub fn first_write(world: &World) -> Option<&[u8]> {
 
 /// The result of the first request, by what stands for it.
 pub fn first_result(world: &mut World) -> Option<Result<u16, Error>> {
-    let Some(Some(response)) = world.responses.get_mut(0) else {
+    let Some(Some(Response::Single(response))) = world.responses.get_mut(0) else {
         return None;
     };
     match response.get_response(&mut world.board) {
         Poll::Pending => None,
         Poll::Ready(Ok(message)) => Some(Ok(message.header().id())),
+        Poll::Ready(Err(error)) => Some(Err(error)),
+    }
+}
+
+/// The next result of a transfer, by what stands for its results.
+pub fn next_part(world: &mut World, ticket: usize) -> Option<Result<u16, Error>> {
+    let Some(Some(Response::Transfer(response))) = world.responses.get_mut(ticket) else {
+        return None;
+    };
+    match response.get_response(&mut world.board) {
+        Poll::Pending => None,
+        Poll::Ready(Ok(Some(message))) => Some(Ok(message.header().id())),
+        Poll::Ready(Ok(None)) => Some(END),
         Poll::Ready(Err(error)) => Some(Err(error)),
     }
 }

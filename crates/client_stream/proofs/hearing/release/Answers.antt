@@ -1,0 +1,21 @@
+use Rattle.std.proofs.Common.{◌≡◌, Some, sym, ◌∙◌, ap, subst}
+use Rattle.std.specs.Prelude.{OnOk}
+use Rattle.dns_base.specs.Header.{id_of}
+use Rattle.client_request.specs.Cx.{view_of}
+use Rattle.client_stream.specs.Plain as plain
+use Rattle.client_stream.proofs.Taking.{releases}
+use Rattle.client_stream.proofs.hearing.release.Goals as goal
+
+pub returns-clause-ok : goal.returns-clause-ok
+returns-clause-ok g c =
+    let id : c.id-id.result ≡ plain.message_id c.args.message = c.id-id.ensures ∙ ap id_of c.header.ensures in
+    let step = releases g.Req.Compose.requests g.ReqMulti.Compose.requests c.args.place c.args.message c.args.line.now _ (view_of g.W.Words.stream c.args.cx.now) _ _ c.in-Some.holder _
+        c.line.view_is id c.in-Some.ensures.item c.in-Some.ensures.removed c.in_ok-deliver.ensures.ok in
+    subst (λ after. OnOk c.settle.result (after ≡ Some (c.settle.new.line, view_of g.W.Words.stream c.settle.new.cx))) (sym step) c.settle.ensures.ok
+
+pub returns-clause-numbers : goal.returns-clause-numbers
+returns-clause-numbers g c =
+    let id : c.id-id.result ≡ plain.message_id c.args.message = c.id-id.ensures ∙ ap id_of c.header.ensures in
+    let step = releases g.Req.Compose.requests g.ReqMulti.Compose.requests c.args.place c.args.message c.args.line.now _ (view_of g.W.Words.stream c.args.cx.now) _ _ c.in-Some.holder _
+        c.line.view_is id c.in-Some.ensures.item c.in-Some.ensures.removed c.in_ok-deliver.ensures.ok in
+    λ e. step ∙ c.settle.ensures.numbers e

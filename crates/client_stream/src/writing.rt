@@ -1,0 +1,246 @@
+//! Requests that are taken and written.
+
+ghost use Rattle.std.specs.Prelude.{◌≡◌, None, Some, Ok, OnOk, IsErrOf, IfErr, IfOk};
+ghost use Rattle.client_request.specs.Cx.{view_of, LendsTheSame};
+ghost use Rattle.client_request.specs.View.{asks};
+ghost use Rattle.client_request.specs.Timers.{IsWant};
+ghost use Rattle.client_stream.specs.declared.request.AnyRequest.TheVariants as any;
+ghost use Rattle.client_stream.specs.Plain as plain;
+
+use crate::composing::ready;
+use crate::config::Config;
+use crate::line::{Line, end, timeout_by, wake};
+use crate::request::{AnyRequest, Holder, Waiting};
+use crate::transfer::first_state;
+use client_request::{ComposeRequest, ComposeRequestMulti, Cx, Error, Fault, Out, Words};
+use client_transfer::XfrState;
+use dns_base::{NoMemory, Octets};
+
+/// Writes a frame for who is to hold an id, or gives the result where there is none since the message is
+/// too long. The id is free again then.
+fn write<Req: ComposeRequest, ReqMulti: ComposeRequestMulti, W: Words>(
+    line: &mut Line<Req, ReqMulti>,
+    place: u64,
+    cx: &mut Cx<'_, W>,
+    ticket: u64,
+    number: u64,
+    id: u16,
+    holder: Holder<Req, ReqMulti>,
+    frame: Option<Octets>,
+) -> Result<(), NoMemory>
+    ensures lends { LendsTheSame cx.old cx.new }
+    ensures ok { OnOk result (plain.writes Req.requests ReqMulti.requests place ticket number id holder line.old (view_of W.stream cx.old) frame ≡ (line.new, view_of W.stream cx.new)) }
+{
+    let Some(frame) = frame else {
+        if line.held.insert(Holder::GivenUp).is_err() {
+            return Err(NoMemory);
+        }
+        let _ = line.held.try_remove(id);
+        return cx.board.put(ticket, Err(Error::StreamLongMessage));
+    };
+    line.writing = Some(frame.try_clone()?);
+    if line.held.insert(holder).is_err() {
+        return Err(NoMemory);
+    }
+    if line.ids.insert(ticket, id).is_err() {
+        return Err(NoMemory);
+    }
+    cx.outs.push(Out::Write {
+        place,
+        request: number,
+        id,
+        octets: frame,
+    })
+}
+
+/// Writes a request that one message answers, if there is an id for it.
+fn write_single<Req: ComposeRequest, ReqMulti: ComposeRequestMulti, W: Words>(
+    line: &mut Line<Req, ReqMulti>,
+    place: u64,
+    cx: &mut Cx<'_, W>,
+    ticket: u64,
+    number: u64,
+    mut request: Req,
+) -> Result<(), NoMemory>
+    ensures lends { LendsTheSame cx.old cx.new }
+    ensures ok { OnOk result (plain.prepares Req.requests ReqMulti.requests place ticket number (any.Single request) line.old (view_of W.stream cx.old) ≡ (line.new, view_of W.stream cx.new)) }
+{
+    let Some(id) = line.held.next_id() else {
+        return cx
+            .board
+            .put(ticket, Err(Error::StreamTooManyOutstandingQueries));
+    };
+    let frame = ready(line.alloc, &mut line.had_keepalive, id, &mut request)?;
+    let holder = Holder::Waits { ticket, request };
+    write(line, place, cx, ticket, number, id, holder, frame)
+}
+
+/// Writes a transfer, if there is an id for it.
+fn write_transfer<Req: ComposeRequest, ReqMulti: ComposeRequestMulti, W: Words>(
+    line: &mut Line<Req, ReqMulti>,
+    place: u64,
+    cx: &mut Cx<'_, W>,
+    ticket: u64,
+    number: u64,
+    mut request: ReqMulti,
+    state: XfrState,
+) -> Result<(), NoMemory>
+    ensures lends { LendsTheSame cx.old cx.new }
+    ensures ok { OnOk result (plain.begins Req.requests ReqMulti.requests place ticket number request line.old (view_of W.stream cx.old) (Ok state) ≡ (line.new, view_of W.stream cx.new)) }
+{
+    let Some(id) = line.held.next_id() else {
+        return cx
+            .board
+            .put(ticket, Err(Error::StreamTooManyOutstandingQueries));
+    };
+    let frame = ready(line.alloc, &mut line.had_keepalive, id, &mut request)?;
+    let holder = Holder::Transfers {
+        ticket,
+        request,
+        state,
+    };
+    write(line, place, cx, ticket, number, id, holder, frame)
+}
+
+/// Begins a transfer, or gives the result where it asks for none.
+fn begin<Req: ComposeRequest, ReqMulti: ComposeRequestMulti, W: Words>(
+    line: &mut Line<Req, ReqMulti>,
+    place: u64,
+    cx: &mut Cx<'_, W>,
+    ticket: u64,
+    number: u64,
+    request: ReqMulti,
+) -> Result<(), NoMemory>
+    ensures lends { LendsTheSame cx.old cx.new }
+    ensures ok { OnOk result (plain.prepares Req.requests ReqMulti.requests place ticket number (any.Transfer request) line.old (view_of W.stream cx.old) ≡ (line.new, view_of W.stream cx.new)) }
+{
+    match first_state(&request)? {
+        Ok(state) => write_transfer(line, place, cx, ticket, number, request, state),
+        Err(error) => cx.board.put(ticket, Err(error)),
+    }
+}
+
+/// A request is taken from the queue: it is written, if there is an id for it.
+fn take_next<Req: ComposeRequest, ReqMulti: ComposeRequestMulti, W: Words>(
+    line: &mut Line<Req, ReqMulti>,
+    place: u64,
+    config: &Config,
+    cx: &mut Cx<'_, W>,
+    ticket: u64,
+    waiting: Waiting<Req, ReqMulti>,
+) -> Result<(), Error>
+    ensures lends { LendsTheSame cx.old cx.new }
+    ensures ok { OnOk result (plain.takes Req.requests ReqMulti.requests place config.now ticket waiting line.old (view_of W.stream cx.old) ≡ Some (line.new, view_of W.stream cx.new)) }
+    ensures numbers { IsErrOf result Error.NumbersUsed → plain.takes Req.requests ReqMulti.requests place config.now ticket waiting line.old (view_of W.stream cx.old) ≡ None }
+    ensures want { IfErr result IsWant }
+{
+    wake(line, cx, timeout_by(config, &waiting.request))?;
+    let Waiting { number, request } = waiting;
+    match request {
+        AnyRequest::Single(request) => write_single(line, place, cx, ticket, number, request)?,
+        AnyRequest::Transfer(request) => begin(line, place, cx, ticket, number, request)?,
+    }
+    Ok(())
+}
+
+/// Takes requests from the queue in order until one is being written.
+fn pump<Req: ComposeRequest, ReqMulti: ComposeRequestMulti, W: Words>(
+    line: &mut Line<Req, ReqMulti>,
+    place: u64,
+    config: &Config,
+    cx: &mut Cx<'_, W>,
+) -> Result<(), Error>
+    ensures lends { LendsTheSame cx.old cx.new }
+    ensures ok { OnOk result (plain.pumps Req.requests ReqMulti.requests place config.now line.old.queue line.old (view_of W.stream cx.old) ≡ Some (line.new, view_of W.stream cx.new)) }
+    ensures numbers { IsErrOf result Error.NumbersUsed → plain.pumps Req.requests ReqMulti.requests place config.now line.old.queue line.old (view_of W.stream cx.old) ≡ None }
+    ensures want { IfErr result IsWant }
+{
+    while line.writing.is_none() {
+        let Some((ticket, waiting)) = line.queue.pop_first() else {
+            return Ok(());
+        };
+        take_next(line, place, config, cx, ticket, waiting)?;
+    }
+    Ok(())
+}
+
+/// Takes a request on: it is queued, and written where nothing else is.
+pub(crate) fn take_on<Req: ComposeRequest, ReqMulti: ComposeRequestMulti, W: Words>(
+    line: &mut Line<Req, ReqMulti>,
+    place: u64,
+    config: &Config,
+    cx: &mut Cx<'_, W>,
+    request: AnyRequest<Req, ReqMulti>,
+) -> Result<u64, Error>
+    ensures lends { LendsTheSame cx.old cx.new }
+    ensures ok { OnOk result (plain.takes_on Req.requests ReqMulti.requests place config.now request line.old (view_of W.stream cx.old) ≡ Some (line.new, view_of W.stream cx.new)) }
+    ensures ticket { IfOk result (λ ticket. ticket ≡ cx.old.ticket) }
+    ensures numbers { IsErrOf result Error.NumbersUsed → plain.takes_on Req.requests ReqMulti.requests place config.now request line.old (view_of W.stream cx.old) ≡ None }
+    ensures want { IfErr result IsWant }
+{
+    let ticket = cx.ticket;
+    let Some(next) = ticket.checked_add(1) else {
+        return Err(Error::NumbersUsed);
+    };
+    let waiting = Waiting {
+        number: cx.request,
+        request,
+    };
+    cx.ticket = next;
+    if line.has_ended() {
+        cx.board.put(ticket, Err(Error::ConnectionClosed))?;
+        return Ok(ticket);
+    }
+    if line.queue.insert(ticket, waiting).is_err() {
+        return Err(Error::NoMemory);
+    }
+    pump(line, place, config, cx)?;
+    Ok(ticket)
+}
+
+/// The rest of what was outstanding is written on.
+fn resume<Req: ComposeRequest, ReqMulti: ComposeRequestMulti, W: Words>(
+    line: &mut Line<Req, ReqMulti>,
+    place: u64,
+    cx: &mut Cx<'_, W>,
+    rest: Octets,
+) -> Result<(), NoMemory>
+    ensures lends { LendsTheSame cx.old cx.new }
+    ensures line { OnOk result (line.new ≡ record line.old { writing = Some rest }) }
+    ensures view { OnOk result (view_of W.stream cx.new ≡ asks (Out.Resume place rest) (view_of W.stream cx.old)) }
+{
+    line.writing = Some(rest.try_clone()?);
+    cx.outs.push(Out::Resume {
+        place,
+        octets: rest,
+    })
+}
+
+/// So many octets of what was outstanding were taken. None at all is a fault.
+pub(crate) fn wrote<Req: ComposeRequest, ReqMulti: ComposeRequestMulti, W: Words>(
+    line: &mut Line<Req, ReqMulti>,
+    place: u64,
+    config: &Config,
+    cx: &mut Cx<'_, W>,
+    count: u64,
+) -> Result<(), Error>
+    ensures lends { LendsTheSame cx.old cx.new }
+    ensures ok { OnOk result (plain.wrote Req.requests ReqMulti.requests place config.now count line.old (view_of W.stream cx.old) line.old.writing ≡ Some (line.new, view_of W.stream cx.new)) }
+    ensures numbers { IsErrOf result Error.NumbersUsed → plain.wrote Req.requests ReqMulti.requests place config.now count line.old (view_of W.stream cx.old) line.old.writing ≡ None }
+    ensures want { IfErr result IsWant }
+{
+    let Some(octets) = line.writing.take() else {
+        return Ok(());
+    };
+    if count == 0 {
+        let error = Error::StreamWriteError(Fault::NothingTaken);
+        end(line, place, cx, error)?;
+        return Ok(());
+    }
+    if octets.as_slice().len() as u64 <= count {
+        return pump(line, place, config, cx);
+    }
+    let rest = Octets::from_slice(line.alloc, &octets.as_slice()[count as usize..])?;
+    resume(line, place, cx, rest)?;
+    Ok(())
+}

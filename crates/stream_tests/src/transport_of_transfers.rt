@@ -1,0 +1,33 @@
+//! A connection as a transport of transfers, by its trait.
+
+use client_request::{
+    Cx, Error, ListWords, RequestMessage, RequestMessageMulti, SendRequestMulti, Signal,
+};
+use client_stream::{Connection, RequestMulti};
+
+/// The connection that is tested.
+pub type Tested = Connection<RequestMessage, RequestMessageMulti>;
+
+pub fn send_transfer(
+    connection: &mut Tested,
+    cx: &mut Cx<'_, ListWords>,
+    request: RequestMessageMulti,
+) -> Result<RequestMulti, Error> {
+    connection.send_request(cx, request)
+}
+
+pub fn step_transfers(
+    connection: &mut Tested,
+    cx: &mut Cx<'_, ListWords>,
+    signal: Signal<'_>,
+) -> Result<(), Error> {
+    connection.step(cx, signal)
+}
+
+pub fn cancel_transfer(
+    connection: &mut Tested,
+    cx: &mut Cx<'_, ListWords>,
+    response: RequestMulti,
+) -> Result<(), Error> {
+    connection.cancel(cx, response)
+}
