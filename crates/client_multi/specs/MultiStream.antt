@@ -81,6 +81,10 @@ abbrev pub is_number : ℕ → Option ℕ → Bool
 is_number n None = false
 is_number n (Some own) = n == own
 
+-- it backs off once more
+abbrev pub once_more : {R : Type 0} → Job R → Job R
+once_more job = record job { back_offs = one_more job.back_offs }
+
 module _ {R S : Type 0} where
   -- A request waits for the connection that opens.
   abbrev pub waits : ℕ → Job R → Tables R S → Tables R S
@@ -89,9 +93,6 @@ module _ {R S : Type 0} where
   -- It backs off, for a time that the next word gives.
   abbrev pub rests : ℕ → Job R → ℕ → Tables R S → Tables R S
   rests ticket job timer s = record s { jobs = puts ticket (record job { stage = Resting timer }) s.jobs; timers = puts timer ticket s.timers }
-
-  abbrev pub once_more : Job R → Job R
-  once_more job = record job { back_offs = one_more job.back_offs }
 
   abbrev pub backs_off : ℕ → Job R → Tables R S → View → After R S
   backs_off ticket job s v =
@@ -131,6 +132,11 @@ module _ {R S : Type 0} where
   each f [] s v = Some (s, v)
   each f (ticket ∷ tickets) s v = option_and_then (λ x. each f tickets x.0 x.1) (at_ticket f ticket s v)
 
+  -- the tables once a connection that was found was taken out
+  abbrev pub without_found : Option (ℕ × S) → Tables R S → Tables R S
+  without_found None s = s
+  without_found (Some found) s = record s { connections = frees found.0 s.connections }
+
   -- No connection could be opened: none is to be opened for a time, and those that wait back off in order of tickets.
   abbrev pub refused : Tables R S → View → Tables R S
   refused s v = record s { waiting = []; opening = None; refusals = one_more s.refusals; calm = v.now + retry_time s.refusals (word v) }
@@ -147,11 +153,6 @@ module _ {R S : Type 0} (below : OneStream R S) where
   -- the connection that a request is handed to, with its place
   abbrev pub with_room : List (ℕ × S) → Option (ℕ × S)
   with_room connections = option_and_then (λ place. option_map (λ c. (place, c)) (entry_at place connections)) (newest None connections)
-
-  -- the tables once it was taken out
-  abbrev pub without_found : Option (ℕ × S) → Tables R S → Tables R S
-  without_found None s = s
-  without_found (Some found) s = record s { connections = frees found.0 s.connections }
 
   -- A connection is put back, unless it has ended.
   abbrev pub puts_back : ℕ → S → List (ℕ × S) → List (ℕ × S)
@@ -179,11 +180,15 @@ module _ {R S : Type 0} (below : OneStream R S) where
       option_and_then (returns place (record s { jobs = puts ticket (record job { stage = Held place (asked v.ticket) }) s.jobs; inner = puts v.ticket ticket s.inner }) v)
       (below.calls.send job.request c (lent (record v { request = job.number })))
 
+  -- A request is given up at the connection that has it.
+  abbrev pub gives_up_at : ℕ → Asked → Tables R S → View → After R S
+  gives_up_at place response s v = calls_at place (below.calls.cancel response) (record s { inner = frees response.ticket s.inner }) v
+
   -- A request is given up where it is.
   abbrev pub leaves : ℕ → Stage → Tables R S → View → After R S
   leaves ticket Waiting s v = Some (record s { waiting = remove_key (is_at (nat_cmp ticket)) s.waiting }, v)
   leaves ticket (Resting timer) s v = Some (record s { timers = frees timer s.timers }, drops_timer timer v)
-  leaves ticket (Held place response) s v = calls_at place (below.calls.cancel response) (record s { inner = frees response.ticket s.inner }) v
+  leaves ticket (Held place response) s v = gives_up_at place response s v
 
   abbrev pub drops_job : ℕ → Job R → Tables R S → View → After R S
   drops_job ticket job s v = leaves ticket job.stage (record s { timers = frees job.end s.timers }) (drops_timer job.end v)

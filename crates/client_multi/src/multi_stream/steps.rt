@@ -17,7 +17,7 @@ use client_request::{
 };
 use dns_base::NoMemory;
 use std::alloc::Global;
-use std::collections::BTreeSet;
+use std::collections::{BTreeSet, VecDeque};
 use std::mem;
 
 /// Of the connections that have room the place of the one that was opened last.
@@ -248,15 +248,15 @@ fn back_off_waiting<Req: ComposeRequest, S: OneStream<Req>, W: Words>(
 fn back_off_each<Req: ComposeRequest, S: OneStream<Req>, W: Words>(
     tables: &mut Tables<Req, S>,
     cx: &mut Cx<'_, W>,
-    waiting: BTreeSet<u64>,
+    tired: BTreeSet<u64>,
 ) -> Result<(), Error>
     ensures lends { LendsTheSame cx.old cx.new }
-    ensures ok { Steps result (plain.each plain.backs_off waiting.keys tables.old (view_of W.stream cx.old)) (tables.new, view_of W.stream cx.new) }
-    ensures numbers { NumbersRunOut result (plain.each plain.backs_off waiting.keys tables.old (view_of W.stream cx.old)) }
+    ensures ok { Steps result (plain.each plain.backs_off tired.keys tables.old (view_of W.stream cx.old)) (tables.new, view_of W.stream cx.new) }
+    ensures numbers { NumbersRunOut result (plain.each plain.backs_off tired.keys tables.old (view_of W.stream cx.old)) }
     ensures want { IfErr result IsWant }
 {
-    let mut waiting = waiting;
-    while let Some(ticket) = waiting.pop_first() {
+    let mut tired = tired;
+    while let Some(ticket) = tired.pop_first() {
         back_off_waiting(tables, cx, ticket)?;
     }
     Ok(())
@@ -349,10 +349,11 @@ fn give_up_at<Req: ComposeRequest, S: OneStream<Req>, W: Words>(
     response: client_stream::Request,
 ) -> Result<(), Error>
     ensures lends { LendsTheSame cx.old cx.new }
-    ensures ok { Steps result (plain.calls_at S.machine place (S.machine.calls.cancel response) tables.old (view_of W.stream cx.old)) (tables.new, view_of W.stream cx.new) }
-    ensures numbers { NumbersRunOut result (plain.calls_at S.machine place (S.machine.calls.cancel response) tables.old (view_of W.stream cx.old)) }
+    ensures ok { Steps result (plain.gives_up_at S.machine place response tables.old (view_of W.stream cx.old)) (tables.new, view_of W.stream cx.new) }
+    ensures numbers { NumbersRunOut result (plain.gives_up_at S.machine place response tables.old (view_of W.stream cx.old)) }
     ensures want { IfErr result IsWant }
 {
+    let _ = tables.inner.remove(&response.ticket());
     let Some(connection) = tables.connections.remove(&place) else {
         return Ok(());
     };
@@ -383,10 +384,7 @@ fn leave<Req: ComposeRequest, S: OneStream<Req>, W: Words>(
             cx.timers.cancel(TimerId(timer));
             Ok(())
         }
-        Stage::Held { place, response } => {
-            let _ = tables.inner.remove(&response.ticket());
-            give_up_at(tables, cx, place, response)
-        }
+        Stage::Held { place, response } => give_up_at(tables, cx, place, response),
     }
 }
 
@@ -452,12 +450,12 @@ fn fire<Req: ComposeRequest, S: OneStream<Req>, W: Words>(
 /// The places of the connections, in the order in which they were opened.
 fn places<Req: ComposeRequest, S: OneStream<Req>>(
     tables: &Tables<Req, S>,
-) -> Result<Vec<u64>, NoMemory>
+) -> Result<VecDeque<u64>, NoMemory>
     ensures { IfOk result (λ places. places.items ≡ map (λ e. e.0) tables.now.connections) }
 {
-    let mut places = Vec::new(tables.alloc);
+    let mut places = VecDeque::new(tables.alloc);
     for (place, _) in &tables.connections {
-        if places.push(*place).is_err() {
+        if places.push_back(*place).is_err() {
             return Err(NoMemory);
         }
     }
@@ -469,15 +467,16 @@ fn hear_each<Req: ComposeRequest, S: OneStream<Req>, W: Words>(
     tables: &mut Tables<Req, S>,
     cx: &mut Cx<'_, W>,
     timer: u64,
-    places: &Vec<u64>,
+    places: VecDeque<u64>,
 ) -> Result<(), Error>
     ensures lends { LendsTheSame cx.old cx.new }
-    ensures ok { Steps result (plain.each_hears S.machine (due_timer timer) places.now.items tables.old (view_of W.stream cx.old)) (tables.new, view_of W.stream cx.new) }
-    ensures numbers { NumbersRunOut result (plain.each_hears S.machine (due_timer timer) places.now.items tables.old (view_of W.stream cx.old)) }
+    ensures ok { Steps result (plain.each_hears S.machine (due_timer timer) places.items tables.old (view_of W.stream cx.old)) (tables.new, view_of W.stream cx.new) }
+    ensures numbers { NumbersRunOut result (plain.each_hears S.machine (due_timer timer) places.items tables.old (view_of W.stream cx.old)) }
     ensures want { IfErr result IsWant }
 {
-    for place in places {
-        hear_at(tables, cx, *place, Signal::Due(TimerId(timer)))?;
+    let mut places = places;
+    while let Some(place) = places.pop_front() {
+        hear_at(tables, cx, place, Signal::Due(TimerId(timer)))?;
     }
     Ok(())
 }
@@ -498,7 +497,7 @@ fn due<Req: ComposeRequest, S: OneStream<Req>, W: Words>(
         Some(ticket) => fire(tables, server, cx, timer, ticket),
         None => {
             let places = places(tables)?;
-            hear_each(tables, cx, timer, &places)
+            hear_each(tables, cx, timer, places)
         }
     }
 }

@@ -7,8 +7,8 @@ abbrev pub invariant-loop-ticket : goal.invariant-loop-ticket
 invariant-loop-ticket g l =
     record {
       lends : LendsTheSame l.fn.cx l.cx;
-      same : plain.each plain.backs_off l.waiting.keys l.tables (view_of g.W.Words.stream l.cx) ≡ plain.each plain.backs_off l.initial.waiting.keys l.fn.tables (view_of g.W.Words.stream l.fn.cx);
+      same : plain.each plain.backs_off l.tired.keys l.tables (view_of g.W.Words.stream l.cx) ≡ plain.each plain.backs_off l.initial.tired.keys l.fn.tables (view_of g.W.Words.stream l.fn.cx);
     }
 
 abbrev pub decreases-loop-ticket : goal.decreases-loop-ticket
-decreases-loop-ticket g l = length l.waiting.keys
+decreases-loop-ticket g l = length l.tired.keys

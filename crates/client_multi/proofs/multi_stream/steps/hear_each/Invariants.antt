@@ -1,4 +1,4 @@
-use Rattle.std.proofs.Common.{◌≡◌, drop}
+use Rattle.std.proofs.Common.{◌≡◌, length}
 use Rattle.client_request.specs.Cx.{view_of, LendsTheSame}
 use Rattle.client_request.specs.View.{due_timer}
 use Rattle.client_multi.specs.MultiStream as plain
@@ -9,5 +9,8 @@ invariant-loop-place g l =
     let hears = plain.each_hears g.S.OneStream.machine (due_timer l.timer) in
     record {
       lends : LendsTheSame l.fn.cx l.cx;
-      same : hears (drop l.place-index l.places.items) l.tables (view_of g.W.Words.stream l.cx) ≡ hears l.places.items l.fn.tables (view_of g.W.Words.stream l.fn.cx);
+      same : hears l.places.items l.tables (view_of g.W.Words.stream l.cx) ≡ hears l.initial.places.items l.fn.tables (view_of g.W.Words.stream l.fn.cx);
     }
+
+abbrev pub decreases-loop-place : goal.decreases-loop-place
+decreases-loop-place g l = length l.places.items
