@@ -1,0 +1,4 @@
+pub mod Links
+pub mod MultiStream
+pub mod Retry
+pub mod Settings
