@@ -1,12 +1,12 @@
 -- What taking the first request, or the holder of an id, does is what the plain machine does.
-use Rattle.std.proofs.Common.{◌≡◌, ℕ, ◌+◌, Bool, true, false, Option, Some, None, List, [], ◌∷◌, Result, Ok, Err, refl, sym, ◌∙◌, ap, subst}
-use Rattle.std.specs.Prelude.{if◌then◌else◌, ◌==◌, IfSome, option_and_then, is_some, length}
+use Rattle.std.proofs.Common.{◌≡◌, ℕ, ◌+◌, Bool, true, false, Option, Some, None, List, ◌∷◌, Result, Ok, Err, refl, sym, ◌∙◌, ap, subst}
+use Rattle.std.specs.Prelude.{if◌then◌else◌, ◌==◌, IfSome, option_and_then, is_some}
 use Rattle.client_request.specs.Numbered.{entry_at}
 use Rattle.client_request.specs.Requests.{Requests}
 use Rattle.client_request.specs.View.{View, sets_timer}
 use Rattle.client_request.specs.declared.error.Error.{Error}
 use Rattle.client_transfer.specs.declared.state.XfrState.{XfrState}
-use Rattle.client_stream.specs.IdTable.{IdTable, next_id, removed}
+use Rattle.client_stream.specs.IdTable.{IdTable, removed}
 use Rattle.client_stream.specs.Plain as plain
 use Rattle.client_stream.specs.Plain.{Line, After, message_id}
 use Rattle.client_stream.specs.Settings.{Settings}
@@ -89,6 +89,6 @@ module _ {R M : Type 0} (one : Requests R) (several : Requests M) (place : ℕ) 
   releases message s t v id held holder x e i h r g =
       let there : entry_at (message_id message) s.held.held ≡ Some holder = ap (λ s. entry_at (message_id message) s.held.held) (sym e) ∙ ap (λ id. entry_at id t.held.held) (sym i) ∙ sym h in
       let freed : with_held (removed (message_id message) s.held) s ≡ with_held held t =
-          ap (λ s. with_held (removed (message_id message) s.held) s) (sym e) ∙ ap (λ id. with_held (removed id t.held) t) (sym i) ∙ ap (λ held. with_held held t) (sym r) in
+      ap (λ s. with_held (removed (message_id message) s.held) s) (sym e) ∙ ap (λ id. with_held (removed id t.held) t) (sym i) ∙ ap (λ held. with_held held t) (sym r) in
       ap (plain.frees_id one several place message s v) there
       ∙ ap (λ x. plain.settles place x.0 x.1) (ap (λ s. plain.given one several message s v holder) freed ∙ g)

@@ -1,5 +1,5 @@
 -- Of the messages that come a transfer gets what those with its id give.
-use Rattle.std.proofs.Common.{◌≡◌, ℕ, ◌+◌, Bool, true, false, Option, Some, None, List, [], ◌∷◌, ◌++◌, Ok, Err, length, map, refl, sym, ◌∙◌, ap, subst, arith, append_assoc}
+use Rattle.std.proofs.Common.{◌≡◌, ℕ, ◌+◌, Bool, true, false, Option, Some, None, List, [], ◌∷◌, ◌++◌, Ok, length, map, refl, sym, ◌∙◌, ap, subst, arith, append_assoc}
 use Rattle.std.specs.Prelude.{if◌then◌else◌, ◌==◌, ◌&&◌, IfSome, option_and_then}
 use Rattle.std.proofs.lemmas.Bool.Decides.{nat_tests}
 use Rattle.client_request.specs.Board.{Part, posted}
@@ -15,10 +15,10 @@ use Rattle.client_transfer.specs.States.{Checked, checked}
 use Rattle.client_transfer.specs.Transfers as fold
 use Rattle.client_transfer.specs.Transfers.{Transfer, part_given, begun, transferred, brings}
 use Rattle.client_transfer.specs.declared.state.XfrState.{XfrState}
-use Rattle.client_stream.specs.IdTable.{IdTable, inserted_at, removed}
+use Rattle.client_stream.specs.IdTable.{inserted_at, removed}
 use Rattle.client_stream.specs.Plain as plain
 use Rattle.client_stream.specs.Plain.{Line, After, message_id}
-use Rattle.client_stream.specs.Transfers.{parts_for, with_id, is_under, IsUnderWay, all_come, TransferLaw}
+use Rattle.client_stream.specs.Transfers.{parts_for, with_id, is_under, all_come, TransferLaw}
 use Rattle.client_stream.specs.declared.request.Holder.{Holder}
 use Rattle.client_stream.specs.declared.request.Holder.TheVariants.{Waits, Transfers, GivenUp}
 use Rattle.client_stream.specs.declared.request.Waiting.{Waiting}

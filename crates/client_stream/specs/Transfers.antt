@@ -1,5 +1,5 @@
 -- What a transfer gets of the messages that come on its connection, whatever else comes between them.
-use Rattle.std.specs.Prelude.{◌≡◌, ℕ, ◌==◌, Bool, true, false, if◌then◌else◌, List, [], ◌∷◌, ◌++◌, length, Option, Some, None, IfSome, option_and_then}
+use Rattle.std.specs.Prelude.{◌≡◌, ℕ, ◌==◌, Bool, false, if◌then◌else◌, List, [], ◌∷◌, ◌++◌, length, Option, Some, None, IfSome, option_and_then}
 use Rattle.client_request.specs.Board.{Part}
 use Rattle.client_request.specs.Numbered.{entry_at}
 use Rattle.client_request.specs.Requests.{Requests}

@@ -36,7 +36,7 @@ loop-line-preserved g c =
         timers = taken.lends.timers ∙ before.lends.timers;
       };
       same = (
-        goes_on g.Req.Compose.requests g.ReqMulti.Compose.requests c.args.place c.args.config.now c.loop-line.line (view_of g.W.Words.stream c.loop-line.cx) (c.in-Some.ticket, c.in-Some.waiting) c.pop_first.new.self.entries _ _
-            free first (ap (with_queue c.pop_first.new.self.entries) c.line.view_is) taken.ok
-        ∙ before.same);
+          goes_on g.Req.Compose.requests g.ReqMulti.Compose.requests c.args.place c.args.config.now c.loop-line.line (view_of g.W.Words.stream c.loop-line.cx) (c.in-Some.ticket, c.in-Some.waiting) c.pop_first.new.self.entries _ _
+          free first (ap (with_queue c.pop_first.new.self.entries) c.line.view_is) taken.ok
+          ∙ before.same);
     }
