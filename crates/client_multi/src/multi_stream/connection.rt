@@ -38,10 +38,10 @@ pub struct Connection<Req> {
 pub type Transport<Req> = Connection<Req>;
 
 impl<Req> Model for Connection<Req> {
-    ghost use Rattle.client_stream.specs.Plain.{Stream};
+    ghost use Rattle.client_multi.specs.Links.{Link};
     ghost use Rattle.client_multi.specs.MultiStream.{MultiStream};
 
-    ghost Value = { MultiStream Req (Stream Req) };
+    ghost Value = { MultiStream Req (Link Req) };
 
     ghost view = { λ c. record {
       server = c.server;

@@ -9,7 +9,8 @@ ghost use Rattle.client_multi.specs.MultiStream.{OneStream as Plain};
 ghost use Rattle.client_multi.specs.Links.{one_stream};
 
 use client_request::{
-    Board, ComposeRequest, Cx, Error, Signal, Words, cancel_below, send_below, step_below,
+    Board, ComposeRequest, Cx, Error, RequestMessageMulti, Signal, Words, cancel_below, send_below,
+    step_below,
 };
 use dns_base::NoMemory;
 use std::alloc::Global;
@@ -74,17 +75,17 @@ pub trait OneStream<Req>: Drop {
         ensures want { IfErr result IsWant };
 }
 
-/// A stream connection that never gave up.
+/// A stream connection that never gave up, for requests that one message answers: no transfer goes by it.
 #[derive(Drop)]
 pub struct Link<Req> {
-    connection: client_stream::Connection<Req>,
+    connection: client_stream::Connection<Req, RequestMessageMulti>,
 }
 
 impl<Req> Model for Link<Req> {
     ghost use Rattle.std.specs.Prelude.{◌≡◌, false};
-    ghost use Rattle.client_stream.specs.Plain.{Stream};
+    ghost use Rattle.client_multi.specs.Links as links;
 
-    ghost Value = { Stream Req };
+    ghost Value = { links.Link Req };
 
     ghost view = { λ l. l.connection };
 
