@@ -65,42 +65,47 @@ module _ {R P Q : Type 0} where
   without by_dgram by_stream ticket t =
       without_job (lower_of by_dgram by_stream) (entry_at ticket t.jobs) (record t { jobs = frees ticket t.jobs })
 
-module _ {R S P Q : Type 0} (server : ℕ) (stream : Transport R S Q) where
-  -- what is left of the stream, of the tables and of what the stream posted
-  abbrev pub Later : Type 0
-  Later = Option ((S × (Tables R P Q × List Posted)) × View)
+-- what is left of the stream, of the tables and of what the stream posted
+abbrev pub Later : (R S P Q : Type 0) → Type 0
+Later R S P Q = Option ((S × (Tables R P Q × List Posted)) × View)
 
+-- what is left of both transports and of the tables
+abbrev pub After : (R D S P Q : Type 0) → Type 0
+After R D S P Q = Option ((D × (S × Tables R P Q)) × View)
+
+-- the request goes to the server by a stream
+abbrev pub starts : (server number : ℕ) → View → View
+starts server number v = record (asks (Start number server via.Stream) v) { request = number }
+
+module _ {R S P Q : Type 0} (server : ℕ) (stream : Transport R S Q) where
   -- A request whose datagram was truncated goes to the stream.
-  abbrev pub follows_below : ℕ → R → S → Tables R P Q → List Posted → View → Later
+  abbrev pub follows_below : ℕ → R → S → Tables R P Q → List Posted → View → Later R S P Q
   follows_below ticket request s t b v =
       option_map
       (λ x. ((x.0, (admits ticket v.ticket (Stream (stream.response request s (onto b v))) t, x.1.board)), onto v.board x.1))
       (stream.send request s (onto b v))
 
-  abbrev pub starts : ℕ → View → View
-  starts number v = record (asks (Start number server via.Stream) v) { request = number }
-
-  abbrev pub follows : ℕ → ℕ → R → S → Tables R P Q → List Posted → View → Later
-  follows ticket number request s t b v = follows_below ticket request s t b (starts number v)
+  abbrev pub follows : ℕ → ℕ → R → S → Tables R P Q → List Posted → View → Later R S P Q
+  follows ticket number request s t b v = follows_below ticket request s t b (starts server number v)
 
   -- What the datagrams posted is a result; a request whose datagram was truncated goes to the stream.
-  abbrev pub settles_truncated : ℕ → ℕ → R → Part → S → Tables R P Q → List Posted → View → Bool → Later
+  abbrev pub settles_truncated : ℕ → ℕ → R → Part → S → Tables R P Q → List Posted → View → Bool → Later R S P Q
   settles_truncated ticket number request part s t b v true = follows ticket number request s t b v
   settles_truncated ticket number request part s t b v false = Some ((s, (t, b)), answers ticket part v)
 
-  abbrev pub settles_job : ℕ → Part → S → Tables R P Q → List Posted → View → Job R P Q → Later
+  abbrev pub settles_job : ℕ → Part → S → Tables R P Q → List Posted → View → Job R P Q → Later R S P Q
   settles_job ticket part s t b v (Dgram number request response) = settles_truncated ticket number request part s t b v (is_truncated part)
   settles_job ticket part s t b v (Stream response) = Some ((s, (t, b)), answers ticket part v)
 
-  abbrev pub settles_at : Part → S → Tables R P Q → List Posted → View → Option (ℕ × Job R P Q) → Later
+  abbrev pub settles_at : Part → S → Tables R P Q → List Posted → View → Option (ℕ × Job R P Q) → Later R S P Q
   settles_at part s t b v None = Some ((s, (t, b)), v)
   settles_at part s t b v (Some waiting) = settles_job waiting.0 part s t b v waiting.1
 
-  abbrev pub settles : Posted → S → Tables R P Q → List Posted → View → Later
+  abbrev pub settles : Posted → S → Tables R P Q → List Posted → View → Later R S P Q
   settles p s t b v =
       settles_at p.part s (without_below p.ticket t) b v (waiting_below p.ticket t)
 
-  abbrev pub settles_all : List Posted → S → Tables R P Q → List Posted → View → Later
+  abbrev pub settles_all : List Posted → S → Tables R P Q → List Posted → View → Later R S P Q
   settles_all [] s t b v = Some ((s, (t, b)), v)
   settles_all (p ∷ more) s t b v = option_and_then (λ x. settles_all more x.0.0 x.0.1.0 x.0.1.1 x.1) (settles p s t b v)
 
@@ -127,47 +132,43 @@ module _ {R S P Q : Type 0} (server : ℕ) (stream : Transport R S Q) where
       option_and_then (λ x. gives_rest x.0.0 x.0.1.0 x.0.1.1 x.1) (settles_all server stream from_dgram s t from_stream v)
 
 module _ {R D S P Q : Type 0} (server : ℕ) (dgram : Transport R D P) (stream : Transport R S Q) where
-  -- what is left of both transports and of the tables
-  abbrev pub After : Type 0
-  After = Option ((D × (S × Tables R P Q)) × View)
-
   -- the parts are settled, and the datagrams stay
-  abbrev pub settled : D → Option ((S × Tables R P Q) × View) → After
+  abbrev pub settled : D → Option ((S × Tables R P Q) × View) → After R D S P Q
   settled d after = option_map (λ x. ((d, x.0), x.1)) after
 
   -- A request is taken on: it goes to the datagrams.
-  abbrev pub takes_below : ℕ → R → D → S → Tables R P Q → View → After
+  abbrev pub takes_below : ℕ → R → D → S → Tables R P Q → View → After R D S P Q
   takes_below ticket request d s t v =
       option_and_then
       (λ x. settled x.0 (collects server stream x.1.board [] s (admits ticket v.ticket (Dgram v.request request (dgram.response request d (onto [] v))) t) (onto v.board x.1)))
       (dgram.send request d (onto [] v))
 
-  abbrev pub takes : R → D → S → Tables R P Q → View → After
+  abbrev pub takes : R → D → S → Tables R P Q → View → After R D S P Q
   takes request d s t v = option_and_then (takes_below v.ticket request d s t) (draws_ticket v)
 
   -- Both transports hear what happened, the datagrams first.
-  abbrev pub hears_stream : Heard → List Posted → D → S → Tables R P Q → View → After
+  abbrev pub hears_stream : Heard → List Posted → D → S → Tables R P Q → View → After R D S P Q
   hears_stream h from_dgram d s t v =
       option_and_then (λ x. settled d (collects server stream from_dgram x.1.board x.0 t (onto v.board x.1))) (stream.step h s (onto [] v))
 
-  abbrev pub hears : Heard → D → S → Tables R P Q → View → After
+  abbrev pub hears : Heard → D → S → Tables R P Q → View → After R D S P Q
   hears h d s t v = option_and_then (λ x. hears_stream h x.1.board x.0 s t (onto v.board x.1)) (dgram.step h d (onto [] v))
 
   -- A request is given up, where it waits.
-  abbrev pub drops_dgram : P → D → S → Tables R P Q → View → After
+  abbrev pub drops_dgram : P → D → S → Tables R P Q → View → After R D S P Q
   drops_dgram response d s t v =
       option_and_then (λ x. settled x.0 (collects server stream x.1.board [] s t (onto v.board x.1))) (dgram.cancel response d (onto [] v))
 
-  abbrev pub drops_stream : Q → D → S → Tables R P Q → View → After
+  abbrev pub drops_stream : Q → D → S → Tables R P Q → View → After R D S P Q
   drops_stream response d s t v =
       option_and_then (λ x. settled d (collects server stream [] x.1.board x.0 t (onto v.board x.1))) (stream.cancel response s (onto [] v))
 
-  abbrev pub drops_at : D → S → Tables R P Q → View → Option (Job R P Q) → After
+  abbrev pub drops_at : D → S → Tables R P Q → View → Option (Job R P Q) → After R D S P Q
   drops_at d s t v None = Some ((d, (s, t)), v)
   drops_at d s t v (Some (Dgram number request response)) = drops_dgram response d s t v
   drops_at d s t v (Some (Stream response)) = drops_stream response d s t v
 
-  abbrev pub drops : (P → ℕ) → (Q → ℕ) → ℕ → D → S → Tables R P Q → View → After
+  abbrev pub drops : (P → ℕ) → (Q → ℕ) → ℕ → D → S → Tables R P Q → View → After R D S P Q
   drops by_dgram by_stream ticket d s t v = drops_at d s (without by_dgram by_stream ticket t) v (entry_at ticket t.jobs)
 
 -- the whole machine: a server's number, both transports and the requests; and whether it gave up
@@ -190,7 +191,7 @@ module _ {R D S P Q : Type 0} where
   abbrev pub holds_failed : (D → Bool) → (S → Bool) → Fallback R D S P Q → Bool
   holds_failed by_dgram by_stream f = f.failed || (by_dgram f.dgram || by_stream f.stream)
 
-  abbrev pub with_parts : Fallback R D S P Q → Option ((D × (S × Tables R P Q)) × View) → Option (Fallback R D S P Q × View)
+  abbrev pub with_parts : Fallback R D S P Q → After R D S P Q → Option (Fallback R D S P Q × View)
   with_parts f after = option_map (λ x. (record f { dgram = x.0.0; stream = x.0.1.0; tables = x.0.1.1 }, x.1)) after
 
   abbrev pub transport : (P → ℕ) → (Q → ℕ) → Transport R D P → Transport R S Q → Transport R (Fallback R D S P Q) Asked

@@ -267,18 +267,24 @@ pub(crate) fn give_up<
     ticket: u64,
 ) -> Result<(), Error>
     ensures lends { LendsTheSame cx.old cx.new }
-    ensures ok { Steps result (plain.drops server D.Response.ticket_of S.Response.ticket_of D.transport S.transport ticket dgram.old stream.old tables.old (view_of W.stream cx.old)) ((dgram.new, (stream.new, tables.new)), view_of W.stream cx.new) }
-    ensures numbers { NumbersRunOut result (plain.drops server D.Response.ticket_of S.Response.ticket_of D.transport S.transport ticket dgram.old stream.old tables.old (view_of W.stream cx.old)) }
+    ensures ok { Steps result (plain.drops server D.transport S.transport D.Response.ticket_of S.Response.ticket_of ticket dgram.old stream.old tables.old (view_of W.stream cx.old)) ((dgram.new, (stream.new, tables.new)), view_of W.stream cx.new) }
+    ensures numbers { NumbersRunOut result (plain.drops server D.transport S.transport D.Response.ticket_of S.Response.ticket_of ticket dgram.old stream.old tables.old (view_of W.stream cx.old)) }
     ensures dgram_keeps { OnOk result (D.holds_failed dgram.new ≡ D.holds_failed dgram.old) }
     ensures stream_keeps { OnOk result (S.holds_failed stream.new ≡ S.holds_failed stream.old) }
     ensures refused { IfErr result IsRefusal }
     ensures failed_only { IsErrOf result Error.Failed → D.holds_failed dgram.old || S.holds_failed stream.old ≡ true }
 {
     let (mut from_dgram, mut from_stream) = (Board::new(alloc), Board::new(alloc));
-    match tables.take(ticket) {
-        None => return Ok(()),
-        Some(Job::Dgram { response, .. }) => cancel_below(dgram, &mut from_dgram, cx, response)?,
-        Some(Job::Stream { response }) => cancel_below(stream, &mut from_stream, cx, response)?,
+    let Some(job) = tables.take(ticket) else {
+        return Ok(());
+    };
+    match job {
+        Job::Dgram {
+            number: _number,
+            request: _request,
+            response,
+        } => cancel_below(dgram, &mut from_dgram, cx, response)?,
+        Job::Stream { response } => cancel_below(stream, &mut from_stream, cx, response)?,
     }
     collect(stream, tables, server, from_dgram, from_stream, cx)
 }
