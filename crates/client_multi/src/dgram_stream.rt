@@ -15,4 +15,4 @@ mod tables;
 
 pub use fallback::{Fallback, Request};
 pub use job::Job;
-pub use tables::Tables;
+pub use tables::{Parts, Tables};

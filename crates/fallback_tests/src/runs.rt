@@ -20,12 +20,7 @@ const RUNS: [Run; 11] = [
         &[(0, Ok(false))],
     ),
     // So is an error.
-    (
-        9,
-        &[Ask, Refused(0)],
-        &[Opens(0)],
-        &[(0, Err(REFUSED))],
-    ),
+    (9, &[Ask, Refused(0)], &[Opens(0)], &[(0, Err(REFUSED))]),
     // After a truncated datagram the request goes to the second transport, whose answer is the result.
     (
         9,
@@ -73,7 +68,14 @@ const RUNS: [Run; 11] = [
     // What waits for the second transport is given up.
     (
         9,
-        &[Ask, Opened(0), Truncated(0), Opened(1), Cancel(0), Answer(1)],
+        &[
+            Ask,
+            Opened(0),
+            Truncated(0),
+            Opened(1),
+            Cancel(0),
+            Answer(1),
+        ],
         &[
             Opens(0),
             Sends(0, 0),
@@ -111,7 +113,15 @@ const RUNS: [Run; 11] = [
     // Each request is named by its own number, whichever was asked last.
     (
         9,
-        &[Ask, Ask, Opened(1), Opened(0), Truncated(0), Truncated(1), Answer(1)],
+        &[
+            Ask,
+            Ask,
+            Opened(1),
+            Opened(0),
+            Truncated(0),
+            Truncated(1),
+            Answer(1),
+        ],
         &[
             Opens(0),
             Opens(1),
@@ -129,7 +139,15 @@ const RUNS: [Run; 11] = [
     // Timers of both transports fire.
     (
         9,
-        &[Ask, Opened(0), Later(5_000_000), Opened(1), Truncated(1), Opened(2), Later(5_000_000)],
+        &[
+            Ask,
+            Opened(0),
+            Later(5_000_000),
+            Opened(1),
+            Truncated(1),
+            Opened(2),
+            Later(5_000_000),
+        ],
         &[
             Opens(0),
             Sends(0, 0),

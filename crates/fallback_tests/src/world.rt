@@ -56,8 +56,7 @@ pub enum Deed {
 /// The results that come: the number of the request, and whether its answer is truncated, or the error.
 pub type Given = (u64, Result<bool, Error>);
 
-type Server =
-    Fallback<RequestMessage, Connection<RequestMessage>, Connection<RequestMessage>>;
+type Server = Fallback<RequestMessage, Connection<RequestMessage>, Connection<RequestMessage>>;
 
 #[derive(Drop)]
 pub struct World {

@@ -4,7 +4,7 @@ ghost use Rattle.std.specs.Prelude.{◌≡◌, true, false};
 ghost use Rattle.client_multi.specs.Fallback as plain;
 
 use crate::dgram_stream::steps::{give_up, hear, take_on};
-use crate::dgram_stream::tables::Tables;
+use crate::dgram_stream::tables::{Parts, Tables};
 use client_request::{
     Board, ComposeRequest, Cx, Error, GetResponse, Poll, SendRequest, Signal, Words, take_response,
 };
@@ -19,16 +19,14 @@ use std::marker::Model;
 pub struct Fallback<Req, D: SendRequest<Req>, S: SendRequest<Req>> {
     alloc: Global,
     server: u32,
-    dgram: D,
-    stream: S,
-    tables: Tables<Req, D::Response, S::Response>,
+    parts: Parts<Req, D, S>,
     failed: bool,
 }
 
 impl<Req, D: SendRequest<Req>, S: SendRequest<Req>> Model for Fallback<Req, D, S> {
     ghost Value = { plain.Fallback Req D S D.Response S.Response };
 
-    ghost view = { λ f. record { server = f.server; dgram = f.dgram; stream = f.stream; tables = f.tables; failed = f.failed } };
+    ghost view = { λ f. record { server = f.server; parts = f.parts; failed = f.failed } };
 }
 
 impl<Req, D: SendRequest<Req>, S: SendRequest<Req>> Fallback<Req, D, S> {
@@ -39,9 +37,11 @@ impl<Req, D: SendRequest<Req>, S: SendRequest<Req>> Fallback<Req, D, S> {
         Fallback {
             alloc,
             server,
-            dgram,
-            stream,
-            tables: Tables::new(alloc),
+            parts: Parts {
+                dgram,
+                stream,
+                tables: Tables::new(alloc),
+            },
             failed: false,
         }
     }
@@ -104,15 +104,14 @@ impl GetResponse for Request {
 }
 
 impl<Req: ComposeRequest, D: SendRequest<Req>, S: SendRequest<Req>> SendRequest<Req>
-    for Fallback<Req, D, S>
-{
+    for Fallback<Req, D, S> {
     type Response = Request;
 
     ghost has_failed = { λ f. f.failed };
 
     ghost holds_failed = { plain.holds_failed D.holds_failed S.holds_failed };
 
-    ghost transport = { plain.transport D.Response.ticket_of S.Response.ticket_of D.transport S.transport };
+    ghost transport = { plain.transport D.transport S.transport };
 
     fn send_request<W: Words>(
         &mut self,
@@ -122,15 +121,7 @@ impl<Req: ComposeRequest, D: SendRequest<Req>, S: SendRequest<Req>> SendRequest<
         if self.failed {
             return Err(Error::Failed);
         }
-        let result = take_on(
-            &mut self.dgram,
-            &mut self.stream,
-            &mut self.tables,
-            self.server,
-            self.alloc,
-            cx,
-            request,
-        );
+        let result = take_on(&mut self.parts, self.server, self.alloc, cx, request);
         match result {
             Ok(ticket) => Ok(Request {
                 ticket,
@@ -147,15 +138,7 @@ impl<Req: ComposeRequest, D: SendRequest<Req>, S: SendRequest<Req>> SendRequest<
         if self.failed {
             return Err(Error::Failed);
         }
-        let result = hear(
-            &mut self.dgram,
-            &mut self.stream,
-            &mut self.tables,
-            self.server,
-            self.alloc,
-            cx,
-            signal,
-        );
+        let result = hear(&mut self.parts, self.server, self.alloc, cx, signal);
         if result.is_err() {
             self.failed = true;
         }
@@ -167,9 +150,7 @@ impl<Req: ComposeRequest, D: SendRequest<Req>, S: SendRequest<Req>> SendRequest<
             return Err(Error::Failed);
         }
         let result = give_up(
-            &mut self.dgram,
-            &mut self.stream,
-            &mut self.tables,
+            &mut self.parts,
             self.server,
             self.alloc,
             cx,

@@ -3,30 +3,30 @@
 ghost use Rattle.std.specs.Prelude.{◌≡◌};
 ghost use Rattle.client_multi.specs.Fallback as plain;
 
-use client_request::GetResponse;
-
-/// A request that waits for its result.
+/// A request that waits for its result, which comes from below under the ticket `lower`.
 #[derive(Drop)]
 pub enum Job<Req, P, Q> {
     /// It was handed to the datagrams. It is kept for the stream, with the number that its outs name.
     Dgram {
+        lower: u64,
         number: u64,
         request: Req,
         response: P,
     },
     /// The message of a datagram was truncated, and the stream has it.
-    Stream { response: Q },
+    Stream {
+        lower: u64,
+        response: Q,
+    },
 }
 
-impl<Req: Drop, P: GetResponse, Q: GetResponse> Job<Req, P, Q> {
+impl<Req, P, Q> Job<Req, P, Q> {
     /// The ticket under which its result comes from below.
     pub(crate) fn lower(&self) -> u64
-        ensures { result ≡ plain.lower_of P.ticket_of Q.ticket_of self.now }
+        ensures { result ≡ plain.lower_of self.now }
     {
         match self {
-            Job::Dgram { response, .. } => response.ticket(),
-            Job::Stream { response } => response.ticket(),
+            Job::Dgram { lower, .. } | Job::Stream { lower, .. } => *lower,
         }
     }
 }
-

@@ -1,11 +1,11 @@
-//! The requests of a fallback.
+//! The requests of a fallback, and what is below it.
 
 ghost use Rattle.std.specs.Prelude.{◌≡◌, OnOk, IfErr};
 ghost use Rattle.client_request.specs.Numbered.{entry_at};
 ghost use Rattle.client_multi.specs.Fallback as plain;
 
 use crate::dgram_stream::job::Job;
-use client_request::{Error, GetResponse};
+use client_request::{Error, SendRequest};
 use std::alloc::Global;
 use std::collections::BTreeMap;
 use std::marker::Model;
@@ -38,12 +38,13 @@ impl<Req, P, Q> Tables<Req, P, Q> {
     }
 }
 
-impl<Req: Drop, P: GetResponse, Q: GetResponse> Tables<Req, P, Q> {
-    /// Keeps a request whose result comes under a ticket from below.
-    pub(crate) fn admit(&mut self, ticket: u64, lower: u64, job: Job<Req, P, Q>) -> Result<(), Error>
-        ensures ok { OnOk result (self.new ≡ plain.admits ticket lower job self.old) }
+impl<Req: Drop, P: Drop, Q: Drop> Tables<Req, P, Q> {
+    /// Keeps a request that waits.
+    pub(crate) fn admit(&mut self, ticket: u64, job: Job<Req, P, Q>) -> Result<(), Error>
+        ensures ok { OnOk result (self.new ≡ plain.admits ticket job self.old) }
         ensures want { IfErr result (λ e. e ≡ Error.NoMemory) }
     {
+        let lower = job.lower();
         if self.jobs.insert(ticket, job).is_err() {
             return Err(Error::NoMemory);
         }
@@ -66,7 +67,7 @@ impl<Req: Drop, P: GetResponse, Q: GetResponse> Tables<Req, P, Q> {
     /// Takes a request out.
     pub(crate) fn take(&mut self, ticket: u64) -> Option<Job<Req, P, Q>>
         ensures value { result ≡ entry_at ticket self.old.jobs }
-        ensures after { self.new ≡ plain.without P.ticket_of Q.ticket_of ticket self.old }
+        ensures after { self.new ≡ plain.without ticket self.old }
     {
         let job = self.jobs.remove(&ticket)?;
         let _ = self.tickets.remove(&job.lower());
@@ -74,3 +75,18 @@ impl<Req: Drop, P: GetResponse, Q: GetResponse> Tables<Req, P, Q> {
     }
 }
 
+/// Both transports, and the requests that wait for them.
+#[derive(Drop)]
+pub struct Parts<Req, D: SendRequest<Req>, S: SendRequest<Req>> {
+    pub(crate) dgram: D,
+    pub(crate) stream: S,
+    pub(crate) tables: Tables<Req, D::Response, S::Response>,
+}
+
+impl<Req, D: SendRequest<Req>, S: SendRequest<Req>> Model for Parts<Req, D, S> {
+    ghost use Rattle.client_multi.specs.Fallback.{Parts};
+
+    ghost Value = { Parts Req D S D.Response S.Response };
+
+    ghost view = { λ p. record { dgram = p.dgram; stream = p.stream; tables = p.tables } };
+}

@@ -8,9 +8,11 @@ invariant-loop-posted g l =
     record {
       lends : LendsTheSame l.fn.cx l.cx;
       same :
-          plain.settles_all l.server g.S.SendRequest.transport l.from_dgram l.stream l.tables l.from_stream (view_of g.W.Words.stream l.cx)
-          ≡ plain.settles_all l.server g.S.SendRequest.transport l.fn.from_dgram l.fn.stream l.fn.tables l.fn.from_stream (view_of g.W.Words.stream l.fn.cx);
-      keeps : g.S.SendRequest.holds_failed l.stream ≡ g.S.SendRequest.holds_failed l.fn.stream;
+          plain.settles_all l.server g.S.SendRequest.transport l.from_dgram l.parts l.from_stream (view_of g.W.Words.stream l.cx)
+          ≡ plain.settles_all l.server g.S.SendRequest.transport l.fn.from_dgram l.fn.parts l.fn.from_stream (view_of g.W.Words.stream l.fn.cx);
+      keeps :
+          plain.holds_below g.D.SendRequest.holds_failed g.S.SendRequest.holds_failed l.parts
+          ≡ plain.holds_below g.D.SendRequest.holds_failed g.S.SendRequest.holds_failed l.fn.parts;
     }
 
 abbrev pub decreases-loop-posted : goal.decreases-loop-posted
