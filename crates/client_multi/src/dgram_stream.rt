@@ -8,11 +8,15 @@
 //!
 //! An error of the datagrams is the result: the stream is for truncated messages alone.
 
+mod config;
+mod connection;
 mod fallback;
 mod job;
 mod steps;
 mod tables;
 
+pub use config::Config;
+pub use connection::Connection;
 pub use fallback::{Fallback, Request};
 pub use job::Job;
 pub use tables::{Parts, Tables};

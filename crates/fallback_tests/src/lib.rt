@@ -1,4 +1,4 @@
-//! Tests of the fallback from datagrams to a stream, over two transports that are not what it is tied to.
+//! Tests of a server by datagrams and streams, through its public calls.
 #![tactic(auto)]
 
 #[cfg(test)]

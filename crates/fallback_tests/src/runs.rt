@@ -2,7 +2,10 @@
 
 use crate::world::Deed::*;
 use crate::world::Told::*;
-use crate::world::{Deed, Given, Told, are_given, are_put_out, first_result, server, tell_all};
+use crate::world::{
+    Deed, FRAME, FRAMES, Given, TRUNCATED_FRAME, Told, WRONG_FRAME, are_given, are_put_out,
+    first_result, server, tell_all,
+};
 use client_request::{Error, Fault, QueryError};
 use std::alloc::Global;
 
@@ -11,8 +14,8 @@ type Run = (usize, &'static [Told], &'static [Deed], &'static [Given]);
 
 const REFUSED: Error = Error::Dgram(QueryError::Connect(Fault::Refused));
 
-const RUNS: [Run; 11] = [
-    // An answer by datagram is the result, and no second transport is tried.
+const RUNS: [Run; 12] = [
+    // An answer by datagram is the result, and no stream is opened.
     (
         9,
         &[Ask, Opened(0), Answer(0)],
@@ -21,42 +24,74 @@ const RUNS: [Run; 11] = [
     ),
     // So is an error.
     (9, &[Ask, Refused(0)], &[Opens(0)], &[(0, Err(REFUSED))]),
-    // After a truncated datagram the request goes to the second transport, whose answer is the result.
+    // After a truncated datagram the request is written to a stream, whose answer is the result.
     (
         9,
-        &[Ask, Opened(0), Truncated(0), Opened(1), Answer(1)],
+        &[
+            Ask,
+            Opened(0),
+            Truncated(0),
+            Opened(1),
+            Wrote(1, 46),
+            Bytes(1, &FRAME),
+        ],
         &[
             Opens(0),
             Sends(0, 0),
             Closes(0),
             Starts(0),
-            Opens(1),
-            Sends(1, 0),
-            Closes(1),
+            OpensStream(1),
+            Writes(1, 0),
         ],
         &[(0, Ok(false))],
     ),
-    // The error of the second transport is the result.
+    // A truncated message of the stream is the result.
     (
         9,
-        &[Ask, Opened(0), Truncated(0), Refused(1)],
-        &[Opens(0), Sends(0, 0), Closes(0), Starts(0), Opens(1)],
-        &[(0, Err(REFUSED))],
-    ),
-    // A truncated message of the second transport is the result.
-    (
-        9,
-        &[Ask, Opened(0), Truncated(0), Opened(1), Truncated(1)],
+        &[
+            Ask,
+            Opened(0),
+            Truncated(0),
+            Opened(1),
+            Wrote(1, 46),
+            Bytes(1, &TRUNCATED_FRAME),
+        ],
         &[
             Opens(0),
             Sends(0, 0),
             Closes(0),
             Starts(0),
-            Opens(1),
-            Sends(1, 0),
-            Closes(1),
+            OpensStream(1),
+            Writes(1, 0),
         ],
         &[(0, Ok(true))],
+    ),
+    // So are its errors: what is no answer came under its id, or its time is over.
+    (
+        9,
+        &[
+            Ask,
+            Opened(0),
+            Truncated(0),
+            Opened(1),
+            Wrote(1, 46),
+            Bytes(1, &WRONG_FRAME),
+        ],
+        &[
+            Opens(0),
+            Sends(0, 0),
+            Closes(0),
+            Starts(0),
+            OpensStream(1),
+            Writes(1, 0),
+        ],
+        &[(0, Err(Error::WrongReplyForQuery))],
+    ),
+    (
+        9,
+        &[Ask, Opened(0), Truncated(0), Later(30_000_000)],
+        &[Opens(0), Sends(0, 0), Closes(0), Starts(0), OpensStream(1)],
+        &[(0, Err(Error::StreamReadTimeout))],
     ),
     // What waits for a datagram is given up.
     (
@@ -65,7 +100,7 @@ const RUNS: [Run; 11] = [
         &[Opens(0), Sends(0, 0), Closes(0)],
         &[],
     ),
-    // What waits for the second transport is given up.
+    // What waits for the stream is given up.
     (
         9,
         &[
@@ -74,16 +109,15 @@ const RUNS: [Run; 11] = [
             Truncated(0),
             Opened(1),
             Cancel(0),
-            Answer(1),
+            Bytes(1, &FRAME),
         ],
         &[
             Opens(0),
             Sends(0, 0),
             Closes(0),
             Starts(0),
-            Opens(1),
-            Sends(1, 0),
-            Closes(1),
+            OpensStream(1),
+            Writes(1, 0),
         ],
         &[],
     ),
@@ -104,13 +138,13 @@ const RUNS: [Run; 11] = [
             Closes(0),
             Opens(1),
             Starts(0),
-            Opens(2),
+            OpensStream(2),
             Sends(1, 1),
             Closes(1),
         ],
         &[(1, Ok(false))],
     ),
-    // Each request is named by its own number, whichever was asked last.
+    // Two requests share the stream; each is named by its own number. Two frames come in one piece.
     (
         9,
         &[
@@ -120,7 +154,10 @@ const RUNS: [Run; 11] = [
             Opened(0),
             Truncated(0),
             Truncated(1),
-            Answer(1),
+            Opened(2),
+            Wrote(2, 46),
+            Wrote(2, 31),
+            Bytes(2, &FRAMES),
         ],
         &[
             Opens(0),
@@ -129,25 +166,18 @@ const RUNS: [Run; 11] = [
             Sends(0, 0),
             Closes(0),
             Starts(0),
-            Opens(2),
+            OpensStream(2),
             Closes(1),
             Starts(1),
-            Opens(3),
+            Writes(2, 0),
+            Writes(2, 1),
         ],
-        &[],
+        &[(1, Ok(false)), (0, Ok(true))],
     ),
-    // Timers of both transports fire.
+    // The timers of the tries fire.
     (
         9,
-        &[
-            Ask,
-            Opened(0),
-            Later(5_000_000),
-            Opened(1),
-            Truncated(1),
-            Opened(2),
-            Later(5_000_000),
-        ],
+        &[Ask, Opened(0), Later(5_000_000), Opened(1), Truncated(1)],
         &[
             Opens(0),
             Sends(0, 0),
@@ -156,10 +186,7 @@ const RUNS: [Run; 11] = [
             Sends(1, 0),
             Closes(1),
             Starts(0),
-            Opens(2),
-            Sends(2, 0),
-            Closes(2),
-            Opens(3),
+            OpensStream(2),
         ],
         &[],
     ),
@@ -190,13 +217,13 @@ fn result_of(alloc: Global, told: &[Told]) -> Result<Option<Result<bool, Error>>
 }
 
 #[test]
-fn the_response_has_the_result_of_the_second_transport(rt: HostRuntime) {
-    let told = [Ask, Opened(0), Truncated(0), Opened(1), Answer(1)];
+fn the_response_has_the_result_of_the_stream(rt: HostRuntime) {
+    let told = [Ask, Opened(0), Truncated(0), Opened(1), Bytes(1, &FRAME)];
     assert_eq!(rt; result_of(rt.alloc(), &told), Ok(Some(Ok(false))));
 }
 
 #[test]
-fn the_response_waits_for_the_second_transport(rt: HostRuntime) {
+fn the_response_waits_for_the_stream(rt: HostRuntime) {
     let told = [Ask, Opened(0), Truncated(0), Opened(1)];
     assert_eq!(rt; result_of(rt.alloc(), &told), Ok(None));
 }

@@ -1,10 +1,6 @@
-//! What the tests share: a server that is asked by datagrams, with a second transport to fall back to, and what it
-//! puts out and gives.
-//!
-//! The second transport is one by datagrams too: the fallback knows of it no more than that it takes requests.
+//! What the tests share: a server that is asked by datagrams and streams, and what it puts out and gives.
 
-use client_dgram::{Config, Connection};
-use client_multi::dgram_stream::{Fallback, Request};
+use client_multi::dgram_stream::{Config, Connection, Request};
 use client_request::{
     Board, Cx, Error, Fault, GetResponse, ListWords, Moment, Out, Outs, Poll, Posted,
     RequestMessage, SendRequest, Signal, Timers, Via, What, WordList,
@@ -23,6 +19,19 @@ const ANSWER: [u8; 12] = [0, 0, 0x81, 0x82, 0, 0, 0, 0, 0, 0, 0, 0];
 
 const TRUNCATED: [u8; 12] = [0, 0, 0x83, 0x82, 0, 0, 0, 0, 0, 0, 0, 0];
 
+/// Frames with an answer under id 0, with one that is truncated, with what is no answer, and with answers under ids 1
+/// and 0.
+pub const FRAME: [u8; 14] = [0, 12, 0, 0, 0x81, 0x82, 0, 0, 0, 0, 0, 0, 0, 0];
+
+pub const TRUNCATED_FRAME: [u8; 14] = [0, 12, 0, 0, 0x83, 0x82, 0, 0, 0, 0, 0, 0, 0, 0];
+
+pub const WRONG_FRAME: [u8; 14] = [0, 12, 0, 0, 0x01, 0x82, 0, 0, 0, 0, 0, 0, 0, 0];
+
+pub const FRAMES: [u8; 28] = [
+    0, 12, 0, 1, 0x81, 0x82, 0, 0, 0, 0, 0, 0, 0, 0, 0, 12, 0, 0, 0x83, 0x82, 0, 0, 0, 0, 0, 0, 0,
+    0,
+];
+
 /// What the server is told.
 #[derive(Clone, Copy, Debug)]
 pub enum Told {
@@ -36,19 +45,25 @@ pub enum Told {
     Answer(u64),
     /// A truncated answer came at a place.
     Truncated(u64),
+    /// A stream took so many octets.
+    Wrote(u64, u64),
+    /// A stream gave these octets.
+    Bytes(u64, &'static [u8]),
     /// The request that was asked so many requests after the first is given up.
     Cancel(usize),
     /// It is so many microseconds later.
     Later(u64),
 }
 
-/// What is put out: a request goes to the second transport, a place is opened, a request is sent there, or the place
-/// is closed.
+/// What is put out: a request goes to the server by a stream, a place is opened for datagrams or for a stream, a request
+/// is sent or written there, or the place is closed.
 #[derive(Clone, Copy, Debug, PartialEq, Eq)]
 pub enum Deed {
     Starts(u64),
     Opens(u64),
+    OpensStream(u64),
     Sends(u64, u64),
+    Writes(u64, u64),
     Closes(u64),
     Other,
 }
@@ -56,11 +71,9 @@ pub enum Deed {
 /// The results that come: the number of the request, and whether its answer is truncated, or the error.
 pub type Given = (u64, Result<bool, Error>);
 
-type Server = Fallback<RequestMessage, Connection<RequestMessage>, Connection<RequestMessage>>;
-
 #[derive(Drop)]
 pub struct World {
-    server: Server,
+    server: Connection<RequestMessage>,
     outs: Outs,
     words: ListWords,
     board: Board,
@@ -76,11 +89,9 @@ pub struct World {
 /// A server to which so many requests go at a time by datagrams.
 pub fn server(alloc: Global, max_parallel: usize) -> Result<World, Error> {
     let mut config = Config::new();
-    config.set_max_parallel(max_parallel);
-    let dgram = Connection::with_config(alloc, 7, config)?;
-    let stream = Connection::new(alloc, 7)?;
+    config.dgram_mut().set_max_parallel(max_parallel);
     Ok(World {
-        server: Fallback::over(alloc, 7, dgram, stream),
+        server: Connection::with_config(alloc, 7, config)?,
         outs: Outs::new(alloc),
         words: ListWords::new(WordList::new(alloc)),
         board: Board::new(alloc),
@@ -94,7 +105,8 @@ pub fn server(alloc: Global, max_parallel: usize) -> Result<World, Error> {
     })
 }
 
-fn step(world: &mut World, signal: Signal<'_>) -> Result<(), Error> {
+/// Lets the server hear a signal, and tells whether another whole frame stands.
+fn step(world: &mut World, signal: Signal<'_>) -> Result<bool, Error> {
     let mut cx = Cx {
         now: Moment(world.now),
         words: &mut world.words,
@@ -106,9 +118,22 @@ fn step(world: &mut World, signal: Signal<'_>) -> Result<(), Error> {
         request: 0,
         more: false,
     };
-    let result = world.server.step(&mut cx, signal);
+    world.server.step(&mut cx, signal)?;
+    let more = cx.more;
     (world.ticket, world.place) = (cx.ticket, cx.place);
-    result
+    Ok(more)
+}
+
+/// Tells an event, and takes each whole frame that stands at a place then.
+fn event(world: &mut World, place: u64, what: What) -> Result<(), Error> {
+    let mut more = step(world, Signal::Told(&what))?;
+    for _ in 0..u64::MAX {
+        if !more {
+            return Ok(());
+        }
+        more = step(world, Signal::More { place })?;
+    }
+    Ok(())
 }
 
 fn keep(world: &mut World, response: Request) -> Result<(), Error> {
@@ -164,7 +189,12 @@ fn cancel(world: &mut World, number: usize) -> Result<(), Error> {
 
 fn datagram(alloc: Global, world: &mut World, place: u64, octets: &[u8]) -> Result<(), Error> {
     let octets = Octets::from_slice(alloc, octets)?;
-    step(world, Signal::Told(&What::Datagram { place, octets }))
+    event(world, place, What::Datagram { place, octets })
+}
+
+fn bytes(alloc: Global, world: &mut World, place: u64, octets: &[u8]) -> Result<(), Error> {
+    let octets = Octets::from_slice(alloc, octets)?;
+    event(world, place, What::Bytes { place, octets })
 }
 
 fn later(world: &mut World, micros: u64) -> Result<(), Error> {
@@ -173,7 +203,7 @@ fn later(world: &mut World, micros: u64) -> Result<(), Error> {
         let Some(timer) = world.timers.fire(Moment(world.now)) else {
             return Ok(());
         };
-        step(world, Signal::Due(timer))?;
+        let _ = step(world, Signal::Due(timer))?;
     }
     Ok(())
 }
@@ -181,16 +211,15 @@ fn later(world: &mut World, micros: u64) -> Result<(), Error> {
 fn tell(alloc: Global, world: &mut World, told: Told) -> Result<(), Error> {
     match told {
         Told::Ask => ask(alloc, world),
-        Told::Opened(place) => step(world, Signal::Told(&What::Opened { place })),
-        Told::Refused(place) => step(
-            world,
-            Signal::Told(&What::OpenFailed {
-                place,
-                fault: Fault::Refused,
-            }),
-        ),
+        Told::Opened(place) => event(world, place, What::Opened { place }),
+        Told::Refused(place) => {
+            let fault = Fault::Refused;
+            event(world, place, What::OpenFailed { place, fault })
+        }
         Told::Answer(place) => datagram(alloc, world, place, &ANSWER),
         Told::Truncated(place) => datagram(alloc, world, place, &TRUNCATED),
+        Told::Wrote(place, count) => event(world, place, What::Wrote { place, count }),
+        Told::Bytes(place, octets) => bytes(alloc, world, place, octets),
         Told::Cancel(number) => cancel(world, number),
         Told::Later(micros) => later(world, micros),
     }
@@ -211,6 +240,8 @@ fn deed_of(out: &Out) -> Deed {
             via: Via::Stream,
         } => Deed::Starts(*request),
         Out::OpenDgram { place, server: 7 } => Deed::Opens(*place),
+        Out::OpenStream { place, server: 7 } => Deed::OpensStream(*place),
+        Out::Write { place, request, .. } => Deed::Writes(*place, *request),
         Out::Send { place, request, .. } => Deed::Sends(*place, *request),
         Out::Close { place } => Deed::Closes(*place),
         _ => Deed::Other,
