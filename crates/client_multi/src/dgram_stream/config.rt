@@ -1,8 +1,11 @@
 //! The settings of a server by datagrams and streams.
 
 ghost use Rattle.std.specs.Prelude.{◌≡◌, Ok};
-ghost use Rattle.std.specs.Borrow.{sem};
-ghost use Rattle.client_multi.specs.DgramStream.{default_settings, LendsDgram, LendsStream};
+ghost use Rattle.std.specs.Borrow.{Lends, sem};
+ghost use Rattle.client_multi.specs.DgramStream.{default_settings, with_dgram, with_stream};
+ghost use Rattle.client_dgram.specs.contracts.config.Config.{the_row as dgram_row};
+ghost use Rattle.client_multi.specs.contracts.multi_stream.config.Config.{the_row as stream_row};
+ghost use Rattle.client_multi.specs.contracts.dgram_stream.config.Config.{the_row};
 
 use crate::multi_stream;
 use dns_base::NoMemory;
@@ -67,7 +70,7 @@ impl Config {
 
     /// The settings of the datagrams, to be changed.
     pub fn dgram_mut(&mut self) -> &mut client_dgram::Config
-        ensures* writes_back { sem 𝓛 (LendsDgram self.entry result) }
+        ensures* writes_back { sem 𝓛 (Lends the_row dgram_row self.entry result (with_dgram self.old)) }
         ensures value { result.now ≡ self.old.dgram }
     {
         &mut self.dgram
@@ -89,7 +92,7 @@ impl Config {
 
     /// The settings of the streams, to be changed.
     pub fn stream_mut(&mut self) -> &mut multi_stream::Config
-        ensures* writes_back { sem 𝓛 (LendsStream self.entry result) }
+        ensures* writes_back { sem 𝓛 (Lends the_row stream_row self.entry result (with_stream self.old)) }
         ensures value { result.now ≡ self.old.stream }
     {
         &mut self.multi_stream
