@@ -1,3 +1,5 @@
+pub mod DgramStream
+pub mod Fallback
 pub mod Links
 pub mod MultiStream
 pub mod Retry
