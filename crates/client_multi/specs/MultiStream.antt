@@ -158,9 +158,12 @@ module _ {R S : Type 0} (below : OneStream R S) where
   abbrev pub puts_back : ℕ → S → List (ℕ × S) → List (ℕ × S)
   puts_back place c connections = if below.has_ended c then connections else puts place c connections
 
+  abbrev pub with_connection : ℕ → S → Tables R S → Tables R S
+  with_connection place c s = record s { connections = puts_back place c s.connections }
+
   -- A call of a connection, which was taken out of the tables, is over.
   abbrev pub returns : ℕ → Tables R S → View → S × View → After R S
-  returns place s v x = collects x.1.board (record s { connections = puts_back place x.0 s.connections }) (taken_back v x.1)
+  returns place s v x = collects x.1.board (with_connection place x.0 s) (taken_back v x.1)
 
   abbrev pub calls : ℕ → Step S → Tables R S → View → Option S → After R S
   calls place step s v None = Some (s, v)

@@ -218,8 +218,8 @@ pub(crate) fn put_back<Req: ComposeRequest, S: OneStream<Req>, W: Words>(
     board: &mut Board,
 ) -> Result<(), Error>
     ensures lends { LendsTheSame cx.old cx.new }
-    ensures ok { Steps result (plain.collects board.old (record tables.old { connections = plain.puts_back S.machine place connection tables.old.connections }) (view_of W.stream cx.old)) (tables.new, view_of W.stream cx.new) }
-    ensures numbers { NumbersRunOut result (plain.collects board.old (record tables.old { connections = plain.puts_back S.machine place connection tables.old.connections }) (view_of W.stream cx.old)) }
+    ensures ok { Steps result (plain.collects board.old (plain.with_connection S.machine place connection tables.old) (view_of W.stream cx.old)) (tables.new, view_of W.stream cx.new) }
+    ensures numbers { NumbersRunOut result (plain.collects board.old (plain.with_connection S.machine place connection tables.old) (view_of W.stream cx.old)) }
     ensures want { IfErr result IsWant }
 {
     if !connection.is_closed() {
