@@ -9,7 +9,7 @@
 --                  at any stage ──its time is over──► result
 --   a connection   OpenStream ──Opened──► in the table until it ends
 --                       └──OpenFailed──► none is opened until a moment
-use Rattle.std.specs.Prelude.{ℕ, ◌+◌, ◌==◌, nat_lt, Bool, true, false, if◌then◌else◌, List, [], ◌∷◌, map, Option, None, Some, option_and_then, option_map, Result, Ok, Err}
+use Rattle.std.specs.Prelude.{ℕ, ◌+◌, ◌==◌, nat_lt, Bool, true, false, if◌then◌else◌, List, [], ◌∷◌, map, Option, None, Some, option_and_then, option_map, Ok, Err}
 use Rattle.std.specs.Ordering.{nat_cmp}
 use Rattle.std.specs.BTreeMap.{is_at}
 use Rattle.std.specs.BTreeSet.{insert_key}
@@ -19,7 +19,6 @@ use Rattle.client_request.specs.Board.{Part}
 use Rattle.client_request.specs.Numbered.{puts, frees, entry_at}
 use Rattle.client_request.specs.View.{View, Heard, Step, Transport, told, more_at, due_timer, word, drawn, asks, answers, sets_timer, drops_timer, draws_ticket, draws_place}
 use Rattle.client_request.specs.declared.board.Posted.{Posted}
-use Rattle.client_request.specs.declared.error.Error.{Error}
 use Rattle.client_request.specs.declared.error.Error.TheVariants as errors
 use Rattle.client_request.specs.declared.event.Out.TheVariants.{OpenStream}
 use Rattle.client_request.specs.declared.event.What.{What}
