@@ -1,0 +1,6 @@
+pub mod DgramStream
+pub mod Fallback
+pub mod Links
+pub mod MultiStream
+pub mod Retry
+pub mod Settings

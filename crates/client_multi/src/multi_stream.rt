@@ -1,0 +1,17 @@
+//! Reconnection: requests go to the newest stream that is open and has room, and back off where none
+//! can be opened.
+
+mod config;
+mod connection;
+mod job;
+mod one_stream;
+mod retry;
+mod steps;
+mod tables;
+
+pub use config::Config;
+pub use connection::{Connection, Request};
+pub use job::{Job, Stage};
+pub use one_stream::{Link, OneStream};
+pub use retry::retry_time;
+pub use tables::Tables;

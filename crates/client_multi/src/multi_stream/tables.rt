@@ -1,0 +1,231 @@
+//! The requests that wait for their results, where each is, and the connections.
+
+ghost use Rattle.std.specs.Prelude.{◌≡◌, ◌+◌, Some, Err, IfErr, IfOk, OnOk, Option, Result, Ok, option_map, map};
+ghost use Rattle.client_request.specs.Calls.{Steps, NumbersRunOut};
+ghost use Rattle.client_request.specs.Cx.{view_of, view_below, heard, LendsTheSame};
+ghost use Rattle.client_request.specs.Numbered.{entry_at};
+ghost use Rattle.client_request.specs.Timers.{IsWant};
+ghost use Rattle.client_multi.specs.MultiStream as plain;
+
+use crate::multi_stream::job::{Job, Stage};
+use crate::multi_stream::one_stream::OneStream;
+use crate::multi_stream::retry::retry_due;
+use client_request::{Board, ComposeRequest, Cx, Error, Posted, TimerId, Words};
+use dns_base::{Message, NoMemory};
+use std::alloc::Global;
+use std::collections::{BTreeMap, BTreeSet};
+use std::marker::Model;
+
+/// The requests by ticket; the ticket of each timer, and of each ticket at a connection; those that wait
+/// for a connection to open; and the connections by place. Tickets and places rise, so the least ticket
+/// came first, and the greatest place was opened last.
+#[derive(Drop)]
+pub struct Tables<Req, S> {
+    pub(crate) alloc: Global,
+    pub(crate) jobs: BTreeMap<u64, Job<Req>>,
+    pub(crate) timers: BTreeMap<u64, u64>,
+    pub(crate) inner: BTreeMap<u64, u64>,
+    pub(crate) waiting: BTreeSet<u64>,
+    pub(crate) connections: BTreeMap<u64, S>,
+    /// The place that opens.
+    pub(crate) opening: Option<u64>,
+    /// How often none was opened since one was; the count stands still at its last value.
+    pub(crate) refusals: u64,
+    /// The moment before which none is to be opened, in microseconds.
+    pub(crate) calm: u128,
+}
+
+impl<Req, S> Model for Tables<Req, S> {
+    ghost use Rattle.client_multi.specs.MultiStream.{Tables};
+
+    ghost Value = { Tables Req S };
+
+    ghost view = { λ s. record {
+      jobs = s.jobs.entries;
+      timers = s.timers.entries;
+      inner = s.inner.entries;
+      waiting = s.waiting.keys;
+      connections = s.connections.entries;
+      opening = s.opening;
+      refusals = s.refusals;
+      calm = s.calm;
+    } };
+}
+
+impl<Req, S> Tables<Req, S> {
+    /// No request waits, and no connection is open. It takes no memory.
+    pub fn new(alloc: Global) -> Tables<Req, S>
+        ensures { result ≡ plain.fresh }
+    {
+        Tables {
+            alloc,
+            jobs: BTreeMap::new(alloc),
+            timers: BTreeMap::new(alloc),
+            inner: BTreeMap::new(alloc),
+            waiting: BTreeSet::new(alloc),
+            connections: BTreeMap::new(alloc),
+            opening: None,
+            refusals: 0,
+            calm: 0,
+        }
+    }
+}
+
+/// A request waits for the connection that opens.
+pub(crate) fn wait<Req: ComposeRequest, S: OneStream<Req>>(
+    tables: &mut Tables<Req, S>,
+    ticket: u64,
+    mut job: Job<Req>,
+) -> Result<(), NoMemory>
+    ensures { OnOk result (tables.new ≡ plain.waits ticket job tables.old) }
+{
+    job.stage = Stage::Waiting;
+    if tables.jobs.insert(ticket, job).is_err() {
+        return Err(NoMemory);
+    }
+    if tables.waiting.insert(ticket).is_err() {
+        return Err(NoMemory);
+    }
+    Ok(())
+}
+
+/// A request that backs off once more.
+fn once_more<Req>(mut job: Job<Req>) -> Job<Req>
+    ensures { result ≡ plain.once_more job }
+{
+    job.back_offs = job.back_offs.saturating_add(1);
+    job
+}
+
+/// A request backs off until a timer fires.
+fn rest<Req: ComposeRequest, S: OneStream<Req>>(
+    tables: &mut Tables<Req, S>,
+    ticket: u64,
+    mut job: Job<Req>,
+    timer: u64,
+) -> Result<(), NoMemory>
+    ensures { OnOk result (tables.new ≡ plain.rests ticket job timer tables.old) }
+{
+    job.stage = Stage::Resting { timer };
+    if tables.jobs.insert(ticket, job).is_err() {
+        return Err(NoMemory);
+    }
+    if tables.timers.insert(timer, ticket).is_err() {
+        return Err(NoMemory);
+    }
+    Ok(())
+}
+
+/// A request backs off.
+pub(crate) fn back_off<Req: ComposeRequest, S: OneStream<Req>, W: Words>(
+    tables: &mut Tables<Req, S>,
+    cx: &mut Cx<'_, W>,
+    ticket: u64,
+    job: Job<Req>,
+) -> Result<(), Error>
+    ensures lends { LendsTheSame cx.old cx.new }
+    ensures ok { Steps result (plain.backs_off ticket job tables.old (view_of W.stream cx.old)) (tables.new, view_of W.stream cx.new) }
+    ensures numbers { NumbersRunOut result (plain.backs_off ticket job tables.old (view_of W.stream cx.old)) }
+    ensures want { IfErr result IsWant }
+{
+    let job = once_more(job);
+    let word = cx.words.next();
+    let timer = cx.timers.set(retry_due(cx.now, job.back_offs, word))?;
+    rest(tables, ticket, job, timer.0)?;
+    Ok(())
+}
+
+/// Whether what a connection posted is the result of its request.
+fn is_result(part: &Result<Option<Message>, Error>) -> bool
+    ensures { result ≡ plain.is_result part.now }
+{
+    match part {
+        Ok(_) | Err(Error::WrongReplyForQuery) => true,
+        Err(_) => false,
+    }
+}
+
+/// A connection posted something for a request, which is in no table any more.
+fn get_part<Req: ComposeRequest, S: OneStream<Req>, W: Words>(
+    tables: &mut Tables<Req, S>,
+    cx: &mut Cx<'_, W>,
+    ticket: u64,
+    job: Job<Req>,
+    part: Result<Option<Message>, Error>,
+) -> Result<(), Error>
+    ensures lends { LendsTheSame cx.old cx.new }
+    ensures ok { Steps result (plain.gets_part (plain.is_result part) ticket job part tables.old (view_of W.stream cx.old)) (tables.new, view_of W.stream cx.new) }
+    ensures numbers { NumbersRunOut result (plain.gets_part (plain.is_result part) ticket job part tables.old (view_of W.stream cx.old)) }
+    ensures want { IfErr result IsWant }
+{
+    if is_result(&part) {
+        let _ = tables.timers.remove(&job.end);
+        cx.timers.cancel(TimerId(job.end));
+        cx.board.put(ticket, part)?;
+        return Ok(());
+    }
+    back_off(tables, cx, ticket, job)
+}
+
+/// Takes one of the parts that a connection posted.
+fn collect_one<Req: ComposeRequest, S: OneStream<Req>, W: Words>(
+    tables: &mut Tables<Req, S>,
+    cx: &mut Cx<'_, W>,
+    posted: Posted,
+) -> Result<(), Error>
+    ensures lends { LendsTheSame cx.old cx.new }
+    ensures ok { Steps result (plain.collects_one posted tables.old (view_of W.stream cx.old)) (tables.new, view_of W.stream cx.new) }
+    ensures numbers { NumbersRunOut result (plain.collects_one posted tables.old (view_of W.stream cx.old)) }
+    ensures want { IfErr result IsWant }
+{
+    let Posted {
+        ticket: inner,
+        part,
+    } = posted;
+    let Some(ticket) = tables.inner.remove(&inner) else {
+        return Ok(());
+    };
+    let Some(job) = tables.jobs.remove(&ticket) else {
+        return Ok(());
+    };
+    get_part(tables, cx, ticket, job, part)
+}
+
+/// Takes what a connection posted, in order.
+fn collect<Req: ComposeRequest, S: OneStream<Req>, W: Words>(
+    tables: &mut Tables<Req, S>,
+    cx: &mut Cx<'_, W>,
+    board: &mut Board,
+) -> Result<(), Error>
+    ensures lends { LendsTheSame cx.old cx.new }
+    ensures ok { Steps result (plain.collects board.old tables.old (view_of W.stream cx.old)) (tables.new, view_of W.stream cx.new) }
+    ensures numbers { NumbersRunOut result (plain.collects board.old tables.old (view_of W.stream cx.old)) }
+    ensures want { IfErr result IsWant }
+{
+    while let Some(posted) = board.take_first() {
+        collect_one(tables, cx, posted)?;
+    }
+    Ok(())
+}
+
+/// A call of a connection, which was taken out of the tables, is over: what it posted is taken, and it is
+/// put back unless it has ended.
+pub(crate) fn put_back<Req: ComposeRequest, S: OneStream<Req>, W: Words>(
+    tables: &mut Tables<Req, S>,
+    cx: &mut Cx<'_, W>,
+    place: u64,
+    connection: S,
+    board: &mut Board,
+) -> Result<(), Error>
+    ensures lends { LendsTheSame cx.old cx.new }
+    ensures ok { Steps result (plain.collects board.old (plain.with_connection S.machine place connection tables.old) (view_of W.stream cx.old)) (tables.new, view_of W.stream cx.new) }
+    ensures numbers { NumbersRunOut result (plain.collects board.old (plain.with_connection S.machine place connection tables.old) (view_of W.stream cx.old)) }
+    ensures want { IfErr result IsWant }
+{
+    if !connection.is_closed() {
+        if tables.connections.insert(place, connection).is_err() {
+            return Err(Error::NoMemory);
+        }
+    }
+    collect(tables, cx, board)
+}
