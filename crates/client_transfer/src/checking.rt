@@ -1,6 +1,6 @@
 //! What a message does to a transfer.
 
-ghost use Rattle.std.specs.Prelude.{◌≡◌};
+ghost use Rattle.std.specs.Prelude.{◌≡◌, List, Result, Bool};
 ghost use Rattle.dns_base.specs.Message.{answer_items};
 ghost use Rattle.client_transfer.specs.States as plain;
 
