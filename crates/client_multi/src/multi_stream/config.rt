@@ -24,7 +24,7 @@ fn response_timeout_limits() -> DefMinMax<Duration>
 }
 
 /// The settings of reconnection, and of each connection.
-#[derive(Clone, Copy, Debug)]
+#[derive(Debug, Drop)]
 pub struct Config {
     response_timeout: Duration,
     stream: client_stream::Config,
@@ -36,8 +36,6 @@ impl Model for Config {
     ghost Value = { Settings };
 
     ghost view = { λ c. record { response_timeout = c.response_timeout; stream = c.stream } };
-
-    ghost inverse = { λ s. record { response_timeout = s.response_timeout; stream = s.stream } };
 }
 
 impl Default for Config {
@@ -74,7 +72,10 @@ impl Config {
     pub fn try_clone(&self) -> Result<Config, NoMemory>
         ensures { result ≡ Ok self.now }
     {
-        Ok(*self)
+        Ok(Config {
+            response_timeout: self.response_timeout,
+            stream: self.stream,
+        })
     }
 
     /// How long a request waits for its result, over all connections and times of backing off: 1
