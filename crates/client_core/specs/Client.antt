@@ -4,7 +4,7 @@ use Rattle.client_request.specs.Board.{Part}
 use Rattle.client_request.specs.Numbered.{puts, frees, entry_at}
 use Rattle.client_request.specs.Request.{Request}
 use Rattle.client_request.specs.Timers.{can_draw, due_now, fired}
-use Rattle.client_request.specs.View.{View, Heard, Step, told, due_timer, asks, sets_timer, drops_timer}
+use Rattle.client_request.specs.View.{View, Heard, Step, told, more_at, due_timer, asks, sets_timer, drops_timer}
 use Rattle.client_request.specs.declared.board.Posted.{Posted}
 use Rattle.client_request.specs.declared.error.Error.{Error}
 use Rattle.client_request.specs.declared.error.Error.TheVariants.{TimedOut, ConnectionClosed}
@@ -12,7 +12,7 @@ use Rattle.client_request.specs.declared.event.Event.{Event}
 use Rattle.client_request.specs.declared.event.Out.TheVariants.{Reply}
 use Rattle.client_request.specs.declared.event.Row.{Row}
 use Rattle.client_request.specs.declared.event.What.{What}
-use Rattle.client_request.specs.declared.event.What.TheVariants.{Ask, Tick}
+use Rattle.client_request.specs.declared.event.What.TheVariants.{Ask, Bytes, Tick}
 use Rattle.client_request.specs.declared.timers.Timer.{Timer}
 use Rattle.client_core.specs.declared.asked.Waiting.{Waiting}
 
@@ -99,6 +99,10 @@ module _ {U P : Type 0} where
   abbrev pub rested : Client U P → Client U P
   rested c = record c { view = record c.view { outs = []; request = 0; more = false } }
 
+  -- no frame is known to stand
+  abbrev pub calm : Client U P → Client U P
+  calm c = record c { view = record c.view { more = false } }
+
   abbrev pub row_of : Event → Client U P → Row
   row_of e c = record { event = e; outs = c.view.outs }
 
@@ -140,6 +144,25 @@ module _ {U P : Type 0} where
     abbrev pub fires_all : Client U P → Option (Client U P)
     fires_all c = fires (length c.view.timers.set) c
 
+    -- The transport is told what happened, or takes the next frame of a place.
+    abbrev pub tells : What → Client U P → Option (Client U P)
+    tells what c = hears (told what) (calm c)
+
+    abbrev pub next_frame : ℕ → Client U P → Option (Client U P)
+    next_frame place c = hears (more_at place) (calm c)
+
+    -- The frames behind the first are taken one by one, and timers that are due fire before each, until no whole frame stands; at most so many.
+    abbrev pub more_frames : ℕ → ℕ → Client U P → Option (Client U P)
+    more_frames place zero c = Some c
+    more_frames place (suc n) c =
+        if c.view.more
+        then option_and_then (more_frames place n) (option_and_then (next_frame place) (fires_all c))
+        else Some c
+
+    -- Octets come at a place: each frame that they complete has at least one of them.
+    abbrev pub brings : ℕ → List ℕ → Client U P → Option (Client U P)
+    brings place octets c = option_and_then (more_frames place (length octets)) (tells (Bytes place octets) c)
+
     -- A request is asked: it gets the next number and a deadline, and goes to the transport.
     abbrev pub accepts : ℕ → ℕ → P → Asked P → U × View → Client U P
     accepts timer number response a x =
@@ -159,8 +182,9 @@ module _ {U P : Type 0} where
     -- what an event does
     abbrev pub happens : What → Client U P → Option (Client U P)
     happens (Ask request) c = asks_request request c
+    happens (Bytes place octets) c = brings m place octets c
     happens Tick c = Some c
-    happens what c = hears m (told what) c
+    happens what c = tells m what c
 
     -- Timers that are due fire, then the event happens, and timers that are due fire again.
     abbrev pub client_step : Event → Client U P → Option (Client U P)
