@@ -29,6 +29,17 @@ module _ {R : Type 0} where
   has_failed (server.Stream c) = c.failed
   has_failed (server.DgramStream c) = c.failed
 
+  -- the number that its outs name, and by which kind of transport a request is tried first
+  abbrev pub server_of : Upstream R → ℕ
+  server_of (server.Dgram c) = c.server
+  server_of (server.Stream c) = c.server
+  server_of (server.DgramStream c) = c.server
+
+  abbrev pub via_of : Upstream R → Via
+  via_of (server.Dgram c) = via.Dgram
+  via_of (server.Stream c) = via.Stream
+  via_of (server.DgramStream c) = via.Dgram
+
   -- whether it, or a transport that it holds, gave up
   abbrev pub holds_failed : Upstream R → Bool
   holds_failed (server.Dgram c) = c.failed

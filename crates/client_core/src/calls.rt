@@ -107,6 +107,70 @@ fn fire_all<L: SendRequest<RequestMessage>, W: Words>(
     Ok(())
 }
 
+/// The transport is told what happened.
+fn tell<L: SendRequest<RequestMessage>, W: Words>(
+    layer: &mut L,
+    asked: &mut Asked<L::Response>,
+    cx: &mut Cx<'_, W>,
+    what: &What,
+) -> Result<(), Error>
+    ensures lends { LendsTheSame cx.old cx.new }
+    ensures ok { Steps result (plain.tells (machine_of L.transport L.Response.ticket_of) what.now (client_in layer.old asked.old W.stream cx.old)) (client_in layer.new asked.new W.stream cx.new) }
+    ensures numbers { NumbersRunOut result (plain.tells (machine_of L.transport L.Response.ticket_of) what.now (client_in layer.old asked.old W.stream cx.old)) }
+    ensures keeps { OnOk result (L.holds_failed layer.new ≡ L.holds_failed layer.old) }
+    ensures refused { IfErr result IsRefusal }
+    ensures failed_only { IsErrOf result Error.Failed → L.holds_failed layer.old ≡ true }
+{
+    cx.more = false;
+    hear(layer, asked, cx, Signal::Told(what))
+}
+
+/// The transport takes the next frame of a place.
+fn take_frame<L: SendRequest<RequestMessage>, W: Words>(
+    layer: &mut L,
+    asked: &mut Asked<L::Response>,
+    cx: &mut Cx<'_, W>,
+    place: u64,
+) -> Result<(), Error>
+    ensures lends { LendsTheSame cx.old cx.new }
+    ensures ok { Steps result (plain.next_frame (machine_of L.transport L.Response.ticket_of) place (client_in layer.old asked.old W.stream cx.old)) (client_in layer.new asked.new W.stream cx.new) }
+    ensures numbers { NumbersRunOut result (plain.next_frame (machine_of L.transport L.Response.ticket_of) place (client_in layer.old asked.old W.stream cx.old)) }
+    ensures keeps { OnOk result (L.holds_failed layer.new ≡ L.holds_failed layer.old) }
+    ensures refused { IfErr result IsRefusal }
+    ensures failed_only { IsErrOf result Error.Failed → L.holds_failed layer.old ≡ true }
+{
+    cx.more = false;
+    hear(layer, asked, cx, Signal::More { place })
+}
+
+/// The frames that stand at a place are taken one by one, at most so many. Timers that are due fire before
+/// each.
+fn take_frames<L: SendRequest<RequestMessage>, W: Words>(
+    layer: &mut L,
+    asked: &mut Asked<L::Response>,
+    cx: &mut Cx<'_, W>,
+    place: u64,
+    most: usize,
+) -> Result<(), Error>
+    ensures lends { LendsTheSame cx.old cx.new }
+    ensures ok { Steps result (plain.more_frames (machine_of L.transport L.Response.ticket_of) place most (client_in layer.old asked.old W.stream cx.old)) (client_in layer.new asked.new W.stream cx.new) }
+    ensures numbers { NumbersRunOut result (plain.more_frames (machine_of L.transport L.Response.ticket_of) place most (client_in layer.old asked.old W.stream cx.old)) }
+    ensures keeps { OnOk result (L.holds_failed layer.new ≡ L.holds_failed layer.old) }
+    ensures refused { IfErr result IsRefusal }
+    ensures failed_only { IsErrOf result Error.Failed → L.holds_failed layer.old ≡ true }
+{
+    let mut left = most;
+    while left > 0 {
+        if !cx.more {
+            return Ok(());
+        }
+        fire_all(layer, asked, cx)?;
+        take_frame(layer, asked, cx, place)?;
+        left -= 1;
+    }
+    Ok(())
+}
+
 /// A request is asked: it gets the next number and a deadline, and goes to the transport.
 fn ask<L: SendRequest<RequestMessage>, W: Words>(
     layer: &mut L,
@@ -168,8 +232,12 @@ fn happen<L: SendRequest<RequestMessage>, W: Words>(
             let request = request.try_clone(alloc)?;
             ask(layer, asked, cx, timeout, request)
         }
+        What::Bytes { place, octets } => {
+            tell(layer, asked, cx, what)?;
+            take_frames(layer, asked, cx, *place, octets.as_slice().len())
+        }
         What::Tick => Ok(()),
-        _ => hear(layer, asked, cx, Signal::Told(what)),
+        _ => tell(layer, asked, cx, what),
     }
 }
 

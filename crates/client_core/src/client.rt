@@ -10,7 +10,7 @@ ghost use Rattle.client_core.specs.Machines.{client_in};
 ghost use Rattle.client_core.specs.First.{holds_failed};
 ghost use Rattle.client_core.specs.Headline.{conf_of, AsksByDatagram};
 ghost use Rattle.client_core.specs.Upstream as upstream;
-ghost use Rattle.client_core.specs.Whole.{machine, started, first_upstream, plain_step, plain_trace, client_with};
+ghost use Rattle.client_core.specs.Whole.{machine, started, first_upstream, asks_by_streams, upstream_at, plain_step, plain_trace, client_with};
 ghost use Rattle.headline.specs.Right.{Right};
 ghost use Rattle.headline.specs.Settings.{first_settings};
 ghost use Rattle.headline.specs.Timely.{Timely};
@@ -21,14 +21,14 @@ use crate::calls::take_in;
 use crate::first::{FirstServer, Passed};
 use crate::laws::every_plain_trace_is_right;
 use crate::octets::all_asked_in_octets;
-use crate::upstream::Upstream;
+use crate::upstream::{Handed, Upstream};
 use crate::{cache, redundant};
-use client_dgram::{Connection, Request};
+use client_multi::{dgram_stream, multi_stream};
 use client_request::{
     Board, Cx, Error, Event, Moment, Outs, RequestMessage, Row, Rows, Timers, Trace, Words,
 };
 use dns_base::{Duration, NoMemory};
-use resolv_conf::ResolvConf;
+use resolv_conf::{ResolvConf, ResolvOptions, ServerConf, Transport};
 use std::alloc::Global;
 use std::marker::Model;
 
@@ -39,7 +39,7 @@ use std::marker::Model;
 pub struct Client {
     alloc: Global,
     layer: FirstServer<Upstream<RequestMessage>>,
-    asked: Asked<Passed<Request>>,
+    asked: Asked<Passed<Handed>>,
     timeout: Duration,
     now: Moment,
     board: Board,
@@ -72,23 +72,50 @@ impl Model for Client {
     ghost invariant = { λ c. c.failed ≡ false → holds_failed upstream.has_failed c.layer ≡ false };
 }
 
+/// Whether a server is asked by streams alone.
+fn asks_by_streams(options: &ResolvOptions, server: &ServerConf) -> bool
+    ensures { result ≡ asks_by_streams options.now server.now }
+{
+    options.use_vc || server.transport == Transport::Tcp
+}
+
+/// A server by its number, with the default settings.
+fn upstream_at(
+    alloc: Global,
+    number: u32,
+    by_streams: bool,
+) -> Result<Upstream<RequestMessage>, NoMemory>
+    ensures { IsOkAnd result (λ u. u ≡ upstream_at number by_streams) }
+{
+    if by_streams {
+        let connection = multi_stream::Connection::new(alloc, number)?;
+        Ok(Upstream::Stream(connection))
+    } else {
+        let connection = dgram_stream::Connection::new(alloc, number)?;
+        Ok(Upstream::DgramStream(connection))
+    }
+}
+
 /// The first server of a configuration, if it has one.
 fn first_upstream(
     alloc: Global,
     conf: &ResolvConf,
 ) -> Result<Option<Upstream<RequestMessage>>, NoMemory>
-    ensures { IsOkAnd result (λ u. u ≡ first_upstream conf.now.servers) }
+    ensures { IsOkAnd result (λ u. u ≡ first_upstream conf.now.options conf.now.servers) }
 {
     match conf.servers.as_slice() {
         [] => Ok(None),
-        _ => Ok(Some(Upstream::Dgram(Connection::new(alloc, 0)?))),
+        [server, ..] => {
+            let by_streams = asks_by_streams(&conf.options, server);
+            Ok(Some(upstream_at(alloc, 0, by_streams)?))
+        }
     }
 }
 
 /// A step over this very transport.
 fn turn<W: Words>(
     layer: &mut FirstServer<Upstream<RequestMessage>>,
-    asked: &mut Asked<Passed<Request>>,
+    asked: &mut Asked<Passed<Handed>>,
     cx: &mut Cx<'_, W>,
     alloc: Global,
     timeout: Duration,
@@ -105,8 +132,9 @@ fn turn<W: Words>(
 }
 
 impl Client {
-    /// A client of the first server of a configuration, with the default settings. `redundant` and
-    /// `cache` have no effect yet.
+    /// A client of the first server of a configuration, with the default settings. It asks by streams alone
+    /// where the server or `use_vc` says so, and else by datagrams, with a stream where an answer is
+    /// truncated. `redundant` and `cache` have no effect yet.
     pub fn new(
         alloc: Global,
         conf: &ResolvConf,
@@ -132,6 +160,8 @@ impl Client {
     }
 
     /// Takes an event in: timers that are due fire, then it happens, and timers that are due fire again.
+    /// Several messages that a stream brings at once are taken one by one, and timers that are due fire before
+    /// each.
     ///
     /// `NoMemory`, or `NumbersUsed` where a number would pass the greatest `u64`; after either each
     /// further step answers `Failed` and changes nothing.
@@ -194,8 +224,8 @@ impl Client {
     /// The trace of a client that is told these events and draws these words: a row for each event, in
     /// order. `NoMemory`, or `NumbersUsed` where a number would pass the greatest `u64`.
     ///
-    /// A first server that is to be asked by a stream alone is asked by datagrams all the same, until streams
-    /// are there. What is `right` and `timely` says nothing of such a configuration.
+    /// What is `right` and `timely` says nothing yet of a first server that is asked by streams alone, nor of
+    /// events that bring a truncated answer.
     pub fn replay<W: Words>(
         alloc: Global,
         conf: &ResolvConf,

@@ -25,4 +25,4 @@ pub use edge::Edge;
 pub use first::{FirstServer, Passed};
 pub use laws::{every_plain_trace_is_right, plain_traces_are_runs};
 pub use list_edge::ListEdge;
-pub use upstream::Upstream;
+pub use upstream::{Handed, Upstream};
