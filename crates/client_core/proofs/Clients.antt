@@ -15,11 +15,8 @@ use Rattle.headline.specs.machine.Single.{Held, State, Done, nothing, Fires, Res
 use Rattle.headline.specs.machine.Single as machine
 use Rattle.client_core.specs.Client.{Asked, Client, client_of, replies, settles, hears, times_out, fire, fires_at, fires, fires_first}
 use Rattle.client_core.specs.First as first
-use Rattle.client_core.specs.Upstream as upstream
-use Rattle.client_core.specs.Whole.{Layer, Response, requests}
-use Rattle.client_core.specs.Whole as whole
-use Rattle.client_core.specs.declared.upstream.Upstream.{Upstream}
-use Rattle.client_core.specs.declared.upstream.Upstream.TheVariants.{Dgram}
+use Rattle.client_core.proofs.Alone.{Layer, Response, requests, server_of, layer_of}
+use Rattle.client_core.proofs.Alone as alone
 use Rattle.client_core.proofs.Tables.{frees_nothing}
 use Rattle.client_core.proofs.TimerLaws.{due_of, fires_now, rests_now, due_listed, listed_due, fewer_without, Listed}
 use Rattle.client_core.proofs.Tied.{StageFits, AtLoose, AtQueued, AtOpening, AtSent, IsHeld, Ties}
@@ -35,15 +32,6 @@ answer_wait = default_settings.read_timeout
 
 abbrev pub PlainClient : Type 0
 PlainClient = Client Layer Response
-
--- the transport of a server, with these tables
-abbrev pub server_of : Tables Request → Upstream Request
-server_of t = Dgram (record { server = 0; settings = default_settings; tables = t; failed = false })
-
--- the layers of a client with a server, and without one
-abbrev pub layer_of : (has : Bool) → Tables Request → Layer
-layer_of true t = record { upstream = Some (server_of t); failed = false }
-layer_of false t = record { upstream = None; failed = false }
 
 -- a client is tied to a state
 pub record TiedClient (timeout : ℕ) (has : Bool) (c : PlainClient) (s : State) : Type 0 where
@@ -76,7 +64,7 @@ pub record Goes (timeout : ℕ) (has : Bool) (outs : List Out) (count : ℕ) (d 
 
 -- what the transport leaves, in its layers
 abbrev pub lifted : Tables Request → After Request → Option (Layer × View)
-lifted t r = first.with_upstream (layer_of true t) (first.handed (upstream.by_dgram (dgram.with_tables (record { server = 0; settings = default_settings; tables = t; failed = false }) r)))
+lifted t r = first.with_upstream (layer_of true t) (first.handed (dgram.with_tables (server_of t) r))
 
 pub through : (P : PlainClient → Type 0) (a : Asked Response) (t : Tables Request) (r : After Request) → Leads (λ t v. P (client_of (layer_of true t) (replies (a, v)))) r → Comes P (settles a (lifted t r))
 through P a t None l = tt
@@ -104,7 +92,7 @@ module _ (timeout : ℕ) where
 
   pub hears_with : (t : Tables Request) (a : Asked Response) (v : View) (outs : List Out) (count : ℕ) (h : Heard) (d : Done) → v.ticket ≡ a.next
       → Leads (Heeds timeout answer_wait a outs v.ticket count d) (dgram.hears requests 0 default_settings h t v)
-      → Comes (Goes timeout true outs count d) (hears whole.machine h (client_of (layer_of true t) (a, v)))
+      → Comes (Goes timeout true outs count d) (hears alone.machine h (client_of (layer_of true t) (a, v)))
   hears_with t a v outs count h d drawn heeds =
       through (Goes timeout true outs count d) a t (dgram.hears requests 0 default_settings h t v)
       (leads_on (Heeds timeout answer_wait a outs v.ticket count d) (λ t v. Goes timeout true outs count d (client_of (layer_of true t) (replies (a, v)))) (dgram.hears requests 0 default_settings h t v)
@@ -124,7 +112,7 @@ module _ (timeout : ℕ) where
   module _ (t : Tables Request) (a : Asked Response) (v : View) (s : State) (o : Orderly t a v.ticket v.place v.timers) (ties : Ties timeout answer_wait 0 (picture t a v) s) (board : v.board ≡ []) (drawn : v.ticket ≡ a.next)
       (i due : ℕ) (set : due_of i v.timers.set ≡ Some due) (passed : due ≤ v.now) where
     fires_late : entry_at i a.deadlines ≡ None → answer_wait ≡ read_timeout → (has : Bool) → (has ≡ false → t ≡ dgram.fresh)
-        → FiresOne s has v.outs (length (without_timer i v.timers.set)) (hears whole.machine (due_timer i) (with_fired has t a v i))
+        → FiresOne s has v.outs (length (without_timer i v.timers.set)) (hears alone.machine (due_timer i) (with_fired has t a v i))
     fires_late none is_wait true bare =
         let f = late_fires timeout answer_wait t a v s o ties board i due is_wait set passed none in
         record {
@@ -143,7 +131,7 @@ module _ (timeout : ℕ) where
             both (Some x) y p q e = cc
 
     fires_deadline : (k : ℕ) → entry_at i a.deadlines ≡ Some k → (has : Bool) → (has ≡ false → t ≡ dgram.fresh)
-        → FiresOne s has v.outs (length (without_timer i v.timers.set)) (fires_at whole.machine i (with_fired has t a v i) (Some k))
+        → FiresOne s has v.outs (length (without_timer i v.timers.set)) (fires_at alone.machine i (with_fired has t a v i) (Some k))
     fires_deadline k dl has bare = by has bare
       where
         f : Expired timeout answer_wait t a v s o ties board k i
@@ -166,11 +154,11 @@ module _ (timeout : ℕ) where
           fewer = g.fewer;
         }
 
-        by : (has : Bool) → (has ≡ false → t ≡ dgram.fresh) → FiresOne s has v.outs (length (without_timer i v.timers.set)) (fires_at whole.machine i (with_fired has t a v i) (Some k))
+        by : (has : Bool) → (has ≡ false → t ≡ dgram.fresh) → FiresOne s has v.outs (length (without_timer i v.timers.set)) (fires_at alone.machine i (with_fired has t a v i) (Some k))
         by true bare = record {
           pick = pick;
           is_due = f.is_due;
-          comes = subst (λ x. Comes (Goes timeout true v.outs (length (without_timer i v.timers.set)) (act pick s)) (times_out whole.machine (client_of (layer_of true t) (late, record v { timers = cancelled i v.timers })) x)) (sym f.waits)
+          comes = subst (λ x. Comes (Goes timeout true v.outs (length (without_timer i v.timers.set)) (act pick s)) (times_out alone.machine (client_of (layer_of true t) (late, record v { timers = cancelled i v.timers })) x)) (sym f.waits)
               (through_still (Goes timeout true v.outs (length (without_timer i v.timers.set)) (act pick s)) late t (dgram.drops 0 k t reply)
               (leads_on (Does timeout answer_wait 0 late None v.outs v.ticket [] (length (without_timer i v.timers.set)) (act pick s)) (λ t v'. Goes timeout true v.outs (length (without_timer i v.timers.set)) (act pick s) (client_of (layer_of true t) (late, v'))) (dgram.drops 0 k t reply)
               (λ t v'. goes_so true t v' (λ e. absurd (no_server e))) f.does));
@@ -178,16 +166,16 @@ module _ (timeout : ℕ) where
         by false bare = record {
           pick = pick;
           is_due = f.is_due;
-          comes = subst (λ x. Comes (Goes timeout false v.outs (length (without_timer i v.timers.set)) (act pick s)) (times_out whole.machine (client_of (layer_of false t) (late, record v { timers = cancelled i v.timers })) x)) (sym f.waits)
+          comes = subst (λ x. Comes (Goes timeout false v.outs (length (without_timer i v.timers.set)) (act pick s)) (times_out alone.machine (client_of (layer_of false t) (late, record v { timers = cancelled i v.timers })) x)) (sym f.waits)
               (goes_so false t reply bare (f.alone (ap (λ (t : Tables Request). entry_at k t.jobs) (bare refl))));
         }
 
-    pub fires_there : answer_wait ≡ read_timeout → (has : Bool) → (has ≡ false → t ≡ dgram.fresh) → FiresOne s has v.outs (length (without_timer i v.timers.set)) (fire whole.machine i (with_fired has t a v i))
+    pub fires_there : answer_wait ≡ read_timeout → (has : Bool) → (has ≡ false → t ≡ dgram.fresh) → FiresOne s has v.outs (length (without_timer i v.timers.set)) (fire alone.machine i (with_fired has t a v i))
     fires_there is_wait has bare = by (entry_at i a.deadlines) refl
       where
-        by : (x : Option ℕ) → entry_at i a.deadlines ≡ x → FiresOne s has v.outs (length (without_timer i v.timers.set)) (fires_at whole.machine i (with_fired has t a v i) x)
+        by : (x : Option ℕ) → entry_at i a.deadlines ≡ x → FiresOne s has v.outs (length (without_timer i v.timers.set)) (fires_at alone.machine i (with_fired has t a v i) x)
         by (Some k) e = fires_deadline k e has bare
-        by None e = subst (λ ds. FiresOne s has v.outs (length (without_timer i v.timers.set)) (hears whole.machine (due_timer i) (client_of (layer_of has t) (record a { deadlines = ds }, record v { timers = cancelled i v.timers }))))
+        by None e = subst (λ ds. FiresOne s has v.outs (length (without_timer i v.timers.set)) (hears alone.machine (due_timer i) (client_of (layer_of has t) (record a { deadlines = ds }, record v { timers = cancelled i v.timers }))))
             (sym (frees_nothing i a.deadlines e)) (fires_late e is_wait has bare)
 
   -- Where no timer is due, the machine is quiet.
@@ -231,17 +219,17 @@ module _ (timeout : ℕ) where
     rests_there c s tied later = record { done = nothing s; fires_so = Rests s (quiet_there tied.tables c.asked c.view s is_wait tied.ties later); tied = tied; put = sym (append-nil c.view.outs) }
 
     -- the layer of a client may be written out
-    with_layer : (c : PlainClient) (l : Layer) → c.layer ≡ l → (i : ℕ) → fire whole.machine i (client_of l (c.asked, record c.view { timers = cancelled i c.view.timers })) ≡ fire whole.machine i (record c { view = record c.view { timers = cancelled i c.view.timers } })
-    with_layer c l e i = ap (λ l. fire whole.machine i (client_of l (c.asked, record c.view { timers = cancelled i c.view.timers }))) (sym e)
+    with_layer : (c : PlainClient) (l : Layer) → c.layer ≡ l → (i : ℕ) → fire alone.machine i (client_of l (c.asked, record c.view { timers = cancelled i c.view.timers })) ≡ fire alone.machine i (record c { view = record c.view { timers = cancelled i c.view.timers } })
+    with_layer c l e i = ap (λ l. fire alone.machine i (client_of l (c.asked, record c.view { timers = cancelled i c.view.timers }))) (sym e)
 
     one_fires : (c : PlainClient) (s : State) → TiedClient timeout has c s → (x : Timer) → due_now c.view.now c.view.timers.set ≡ Some x
-        → FiresOne s has c.view.outs (length (without_timer x.id c.view.timers.set)) (fire whole.machine x.id (record c { view = record c.view { timers = cancelled x.id c.view.timers } }))
+        → FiresOne s has c.view.outs (length (without_timer x.id c.view.timers.set)) (fire alone.machine x.id (record c { view = record c.view { timers = cancelled x.id c.view.timers } }))
     one_fires c s tied x e =
         let first = fires_now c.view.now c.view.timers.set x e in
         subst (FiresOne s has c.view.outs (length (without_timer x.id c.view.timers.set))) (with_layer c (layer_of has tied.tables) tied.layer x.id)
         (fires_there tied.tables c.asked c.view s tied.orderly tied.ties tied.board tied.drawn x.id x.due (due_listed x 0 c.view.timers.next c.view.timers.set tied.orderly.timers first.0) first.1 is_wait has tied.bare)
 
-    pub fires_does : (n : ℕ) (c : PlainClient) (s : State) → TiedClient timeout has c s → length c.view.timers.set ≤ n → Comes (FiresTo s has c.view.outs) (fires whole.machine n c)
+    pub fires_does : (n : ℕ) (c : PlainClient) (s : State) → TiedClient timeout has c s → length c.view.timers.set ≤ n → Comes (FiresTo s has c.view.outs) (fires alone.machine n c)
     fires_does zero c s tied le = rests_there c s tied (λ x l. absurd (empty c.view.timers.set le x l))
       where
         empty : (ts : List Timer) → length ts ≤ 0 → (x : Timer) → Listed x ts → ⊥
@@ -249,17 +237,17 @@ module _ (timeout : ℕ) where
         empty (t ∷ ts) le x l = absurd (omega arith)
     fires_does (suc n) c s tied le = by (due_now c.view.now c.view.timers.set) refl (fires_does n)
       where
-        by : (y : Option Timer) → due_now c.view.now c.view.timers.set ≡ y → ((c : PlainClient) (s : State) → TiedClient timeout has c s → length c.view.timers.set ≤ n → Comes (FiresTo s has c.view.outs) (fires whole.machine n c))
-            → Comes (FiresTo s has c.view.outs) (fires_first whole.machine (fires whole.machine n) c y)
+        by : (y : Option Timer) → due_now c.view.now c.view.timers.set ≡ y → ((c : PlainClient) (s : State) → TiedClient timeout has c s → length c.view.timers.set ≤ n → Comes (FiresTo s has c.view.outs) (fires alone.machine n c))
+            → Comes (FiresTo s has c.view.outs) (fires_first alone.machine (fires alone.machine n) c y)
         by None e ih = rests_there c s tied (rests_now c.view.now c.view.timers.set e)
         by (Some x) e ih =
             let one = one_fires c s tied x e in
             let first = fires_now c.view.now c.view.timers.set x e in
             let fewer = fewer_without x.id x.due c.view.timers.set (due_listed x 0 c.view.timers.next c.view.timers.set tied.orderly.timers first.0) in
-            subst (λ y. Comes (FiresTo s has c.view.outs) (option_and_then (fires whole.machine n) (fire whole.machine x.id (record c { view = record c.view { timers = fired_at c.view.timers y } })))) (sym e)
-            (comes_then (Goes timeout has c.view.outs (length (without_timer x.id c.view.timers.set)) (act one.pick s)) (FiresTo s has c.view.outs) (fires whole.machine n)
-            (fire whole.machine x.id (record c { view = record c.view { timers = cancelled x.id c.view.timers } })) one.comes
-            (λ c1 g. comes_on (FiresTo (act one.pick s).state has c1.view.outs) (FiresTo s has c.view.outs) (fires whole.machine n c1)
+            subst (λ y. Comes (FiresTo s has c.view.outs) (option_and_then (fires alone.machine n) (fire alone.machine x.id (record c { view = record c.view { timers = fired_at c.view.timers y } })))) (sym e)
+            (comes_then (Goes timeout has c.view.outs (length (without_timer x.id c.view.timers.set)) (act one.pick s)) (FiresTo s has c.view.outs) (fires alone.machine n)
+            (fire alone.machine x.id (record c { view = record c.view { timers = cancelled x.id c.view.timers } })) one.comes
+            (λ c1 g. comes_on (FiresTo (act one.pick s).state has c1.view.outs) (FiresTo s has c.view.outs) (fires alone.machine n c1)
             (λ c2 f. record {
               done = record { state = f.done.state; outs = (act one.pick s).outs ++ f.done.outs };
               fires_so = Fires_one s one.pick f.done one.is_due f.fires_so;

@@ -1,7 +1,9 @@
+pub mod Alone
 pub mod Arms
 pub mod AskedOctets
 pub mod Asking
 pub mod Clients
+pub mod Events
 pub mod EveryTrace
 pub mod Firing
 pub mod Fuel

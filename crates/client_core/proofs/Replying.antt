@@ -10,7 +10,7 @@ use Rattle.client_dgram.specs.Plain.{Tables}
 use Rattle.client_request.specs.Numbered.{entry_at}
 use Rattle.headline.specs.machine.Single.{Done}
 use Rattle.client_core.specs.Client.{Asked, result_of, replies, replies_many, replies_one, replies_to, without_request}
-use Rattle.client_core.specs.Whole.{Response}
+use Rattle.client_core.proofs.Alone.{Response}
 use Rattle.client_core.specs.declared.asked.Waiting.{Waiting}
 use Rattle.client_core.proofs.TimerLaws.{no_more_without}
 use Rattle.client_core.proofs.Tied.{waiting_of, Ties}

@@ -1,6 +1,5 @@
 -- Every plain trace is a run of the machine.
-use Rattle.std.proofs.Common.{◌≡◌, ℕ, suc, ◌%◌, ◌<◌, max, Bool, true, false, ltb, List, [], ◌∷◌, ◌++◌, length, map, Option, Some, None, refl, sym, ap, subst, ◌∙◌, arith, le_refl}
-use Rattle.std.proofs.lemmas.Bool.Decides.{nat_tests}
+use Rattle.std.proofs.Common.{◌≡◌, ℕ, suc, ◌%◌, ◌<◌, max, Bool, List, [], ◌∷◌, ◌++◌, length, Option, Some, None, refl, sym, ap, subst, ◌∙◌, arith, le_refl}
 use Rattle.std.specs.Prelude.{option_and_then, option_map}
 use Rattle.client_request.specs.Composed.{composed}
 use Rattle.client_request.specs.View.{word}
@@ -12,15 +11,13 @@ use Rattle.client_dgram.specs.Plain.{fresh as no_tables}
 use Rattle.headline.specs.Time.{read_timeout}
 use Rattle.headline.specs.machine.Single.{State, content, fresh, IsStep, IsRun, Ends, Goes_on}
 use Rattle.client_core.specs.Client.{client_of, at_moment, rested, row_of, row_and_rest, then_rows, fires_all, happens, client_step, plain_rows}
-use Rattle.client_core.specs.Whole.{Layer, plain_trace, client_with, started}
-use Rattle.client_core.specs.Whole as whole
+use Rattle.client_core.proofs.Alone.{Layer, layer_of, begun}
+use Rattle.client_core.proofs.Alone as alone
 use Rattle.client_core.proofs.Tied.{Away}
 use Rattle.client_core.proofs.Moves.{clocks}
 use Rattle.client_core.proofs.Pictures.{picture}
-use Rattle.client_core.proofs.Clients.{answer_wait, PlainClient, layer_of, TiedClient, Comes, comes_on, comes_then, Goes, FiresTo, fires_does}
+use Rattle.client_core.proofs.Clients.{answer_wait, PlainClient, TiedClient, Comes, comes_on, comes_then, Goes, FiresTo, fires_does}
 use Rattle.client_core.proofs.Happening.{happens_there}
-use Rattle.resolv_conf.specs.declared.conf.ResolvConf.{ResolvConf}
-use Rattle.resolv_conf.specs.declared.server.ServerConf.{ServerConf}
 
 -- how long the settings wait for an answer
 waits_so : answer_wait ≡ read_timeout
@@ -45,12 +42,12 @@ module _ (timeout : ℕ) (has : Bool) where
   rested_client c s tied = record { tables = tied.tables; layer = tied.layer; bare = tied.bare; orderly = tied.orderly; ties = tied.ties; board = tied.board; drawn = tied.drawn }
 
   happens_does : (w : What) (c : PlainClient) (s : State) → TiedClient timeout has c s
-      → Comes (Goes timeout has c.view.outs (suc (length c.view.timers.set)) (content composed has w (word c.view % 65536) s)) (happens whole.machine timeout w c)
+      → Comes (Goes timeout has c.view.outs (suc (length c.view.timers.set)) (content composed has w (word c.view % 65536) s)) (happens alone.machine timeout w c)
   happens_does w c s tied =
-      subst (λ (l : Layer). Comes (Goes timeout has c.view.outs (suc (length c.view.timers.set)) (content composed has w (word c.view % 65536) s)) (happens whole.machine timeout w (client_of l (c.asked, c.view))))
+      subst (λ (l : Layer). Comes (Goes timeout has c.view.outs (suc (length c.view.timers.set)) (content composed has w (word c.view % 65536) s)) (happens alone.machine timeout w (client_of l (c.asked, c.view))))
       (sym tied.layer) (happens_there timeout tied.tables c.asked c.view s tied.orderly tied.ties tied.board tied.drawn w has tied.bare)
 
-  fires_all_does : (c : PlainClient) (s : State) → TiedClient timeout has c s → Comes (FiresTo timeout s has c.view.outs) (fires_all whole.machine c)
+  fires_all_does : (c : PlainClient) (s : State) → TiedClient timeout has c s → Comes (FiresTo timeout s has c.view.outs) (fires_all alone.machine c)
   fires_all_does c s tied = fires_does timeout waits_so has (length c.view.timers.set) c s tied (le_refl (length c.view.timers.set))
 
   -- what a step of the plain client is to the machine
@@ -67,17 +64,17 @@ module _ (timeout : ℕ) (has : Bool) where
     pub fired : FiresTo timeout s has outs first
     pub goes : Goes timeout has first.view.outs (suc (length first.view.timers.set)) (content composed has w id fired.done.state) c
 
-  pub steps_does : (e : Event) (c : PlainClient) (s : State) → TiedClient timeout has c s → c.view.outs ≡ [] → Comes (StepsTo s e) (client_step whole.machine timeout e c)
+  pub steps_does : (e : Event) (c : PlainClient) (s : State) → TiedClient timeout has c s → c.view.outs ≡ [] → Comes (StepsTo s e) (client_step alone.machine timeout e c)
   steps_does e c s tied none =
       let c0 : PlainClient = at_moment e.moment.0 c in
       let s0 : State = record s { now = max e.moment.0 s.now } in
-      comes_then (Happened e.what s0 c0.view.outs) (StepsTo s e) (fires_all whole.machine) (option_and_then (happens whole.machine timeout e.what) (fires_all whole.machine c0))
-      (comes_then (FiresTo timeout s0 has c0.view.outs) (Happened e.what s0 c0.view.outs) (happens whole.machine timeout e.what) (fires_all whole.machine c0)
+      comes_then (Happened e.what s0 c0.view.outs) (StepsTo s e) (fires_all alone.machine) (option_and_then (happens alone.machine timeout e.what) (fires_all alone.machine c0))
+      (comes_then (FiresTo timeout s0 has c0.view.outs) (Happened e.what s0 c0.view.outs) (happens alone.machine timeout e.what) (fires_all alone.machine c0)
       (fires_all_does c0 s0 (clocked_client c s e.moment.0 tied))
-      (λ c1 f. comes_on (Goes timeout has c1.view.outs (suc (length c1.view.timers.set)) (content composed has e.what (word c1.view % 65536) f.done.state)) (Happened e.what s0 c0.view.outs) (happens whole.machine timeout e.what c1)
+      (λ c1 f. comes_on (Goes timeout has c1.view.outs (suc (length c1.view.timers.set)) (content composed has e.what (word c1.view % 65536) f.done.state)) (Happened e.what s0 c0.view.outs) (happens alone.machine timeout e.what c1)
       (λ c2 g. record { id = word c1.view % 65536; small = omega arith; first = c1; fired = f; goes = record { tied = g.tied; put = g.put; fewer = g.fewer } })
       (happens_does e.what c1 f.done.state f.tied)))
-      (λ c2 h. comes_on (FiresTo timeout (content composed has e.what h.id h.fired.done.state).state has c2.view.outs) (StepsTo s e) (fires_all whole.machine c2)
+      (λ c2 h. comes_on (FiresTo timeout (content composed has e.what h.id h.fired.done.state).state has c2.view.outs) (StepsTo s e) (fires_all alone.machine c2)
       (λ c3 f. record {
         state = f.done.state;
         step = record {
@@ -99,24 +96,24 @@ module _ (timeout : ℕ) (has : Bool) where
   RunsFrom s None = Unit {0}
   RunsFrom s (Some rows) = IsRun composed has timeout s rows
 
-  pub rows_run : (es : List Event) (c : PlainClient) (s : State) → TiedClient timeout has c s → c.view.outs ≡ [] → RunsFrom s (plain_rows whole.machine timeout es c)
+  pub rows_run : (es : List Event) (c : PlainClient) (s : State) → TiedClient timeout has c s → c.view.outs ≡ [] → RunsFrom s (plain_rows alone.machine timeout es c)
   rows_run [] c s tied none = Ends s
-  rows_run (e ∷ es) c s tied none = by (client_step whole.machine timeout e c) (steps_does e c s tied none) (rows_run es)
+  rows_run (e ∷ es) c s tied none = by (client_step alone.machine timeout e c) (steps_does e c s tied none) (rows_run es)
     where
-      by : (o : Option PlainClient) → Comes (StepsTo s e) o → ((c : PlainClient) (s : State) → TiedClient timeout has c s → c.view.outs ≡ [] → RunsFrom s (plain_rows whole.machine timeout es c))
-          → RunsFrom s (option_and_then (then_rows (plain_rows whole.machine timeout es)) (option_map (row_and_rest e) o))
+      by : (o : Option PlainClient) → Comes (StepsTo s e) o → ((c : PlainClient) (s : State) → TiedClient timeout has c s → c.view.outs ≡ [] → RunsFrom s (plain_rows alone.machine timeout es c))
+          → RunsFrom s (option_and_then (then_rows (plain_rows alone.machine timeout es)) (option_map (row_and_rest e) o))
       by None f ih = tt
-      by (Some d) f ih = rest (plain_rows whole.machine timeout es (rested d)) (ih (rested d) f.state f.tied refl)
+      by (Some d) f ih = rest (plain_rows alone.machine timeout es (rested d)) (ih (rested d) f.state f.tied refl)
         where
           rest : (o : Option (List Row)) → RunsFrom f.state o → RunsFrom s (option_map (λ rows. row_of e d ∷ rows) o)
           rest None r = tt
           rest (Some rows) r = Goes_on s (row_of e d) f.state rows f.step r
 
 -- nothing is tied to nothing
-starts : (timeout : ℕ) (has : Bool) (layer : Layer) (words : ℕ → ℕ) (conf : ResolvConf) → (started conf).layer ≡ layer_of has no_tables → TiedClient timeout has (client_with words (started conf)) fresh
-starts timeout has layer words conf e = record {
+pub starts : (timeout : ℕ) (has : Bool) (words : ℕ → ℕ) → TiedClient timeout has (begun has words) fresh
+starts timeout has words = record {
   tables = no_tables;
-  layer = e;
+  layer = refl;
   bare = λ none. refl;
   orderly = record { jobs = tt; places = tt; reads = tt; queue = tt; waiting = tt; deadlines = tt; timers = tt };
   ties = record {
@@ -139,42 +136,6 @@ starts timeout has layer words conf e = record {
   drawn = refl;
 }
 
-layers : (servers : List ServerConf) → record { upstream = whole.first_upstream servers; failed = false } ≡ layer_of (ltb 0 (length servers)) no_tables
-layers [] = refl
-layers (s ∷ ss) = ap (λ has. layer_of has no_tables) (some (length ss))
-  where
-    some : (n : ℕ) → true ≡ ltb 0 (suc n)
-    some n = grind (arith, nat_tests)
-
--- every plain trace is a run
-pub plain_traces_run : (conf : ResolvConf) (words : ℕ → ℕ) (events : List Event) (rows : List Row) → plain_trace conf words events ≡ Some rows
-    → IsRun composed (ltb 0 (length conf.servers)) conf.options.timeout fresh rows
-plain_traces_run conf words events rows e =
-    let has : Bool = ltb 0 (length conf.servers) in
-    subst (RunsFrom conf.options.timeout has fresh) e
-    (rows_run conf.options.timeout has events (client_with words (started conf)) fresh (starts conf.options.timeout has (started conf).layer words conf (layers conf.servers)) refl)
-
--- each row has its event
-rows_of_events : (timeout : ℕ) (es : List Event) (c : PlainClient) (rows : List Row) → plain_rows whole.machine timeout es c ≡ Some rows → map (λ row. row.event) rows ≡ es
-rows_of_events timeout [] c rows e = sym (ap (λ (o : Option (List Row)). events_of o) e)
-  where
-    events_of : Option (List Row) → List Event
-    events_of None = []
-    events_of (Some rows) = map (λ row. row.event) rows
-rows_of_events timeout (e ∷ es) c rows is = by (client_step whole.machine timeout e c) is (rows_of_events timeout es)
-  where
-    events_of : Option (List Row) → List Event
-    events_of None = []
-    events_of (Some rows) = map (λ row. row.event) rows
-
-    by : (o : Option PlainClient) → option_and_then (then_rows (plain_rows whole.machine timeout es)) (option_map (row_and_rest e) o) ≡ Some rows
-        → ((c : PlainClient) (rows : List Row) → plain_rows whole.machine timeout es c ≡ Some rows → map (λ row. row.event) rows ≡ es) → map (λ row. row.event) rows ≡ e ∷ es
-    by None f ih = absurd (cc)
-    by (Some d) f ih = rest (plain_rows whole.machine timeout es (rested d)) refl f
-      where
-        rest : (o : Option (List Row)) → plain_rows whole.machine timeout es (rested d) ≡ o → option_map (λ rows. row_of e d ∷ rows) o ≡ Some rows → map (λ row. row.event) rows ≡ e ∷ es
-        rest None g f = absurd (cc)
-        rest (Some more) g f = sym (ap events_of f) ∙ ap (λ (xs : List Event). e ∷ xs) (ih (rested d) more g)
-
-pub plain_rows_of_events : (conf : ResolvConf) (words : ℕ → ℕ) (events : List Event) (rows : List Row) → plain_trace conf words events ≡ Some rows → map (λ row. row.event) rows ≡ events
-plain_rows_of_events conf words events rows e = rows_of_events conf.options.timeout events (client_with words (started conf)) rows e
+-- every trace is a run
+pub traces_run : (has : Bool) (timeout : ℕ) (words : ℕ → ℕ) (events : List Event) (rows : List Row) → alone.trace has timeout words events ≡ Some rows → IsRun composed has timeout fresh rows
+traces_run has timeout words events rows e = subst (RunsFrom timeout has fresh) e (rows_run timeout has events (begun has words) fresh (starts timeout has words) refl)

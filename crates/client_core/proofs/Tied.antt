@@ -8,7 +8,7 @@ use Rattle.client_dgram.specs.declared.job.Stage.TheVariants as at
 use Rattle.headline.specs.Messages.{under}
 use Rattle.headline.specs.machine.Single.{Loose, Trying, Held, State, with_at}
 use Rattle.headline.specs.machine.Single as machine
-use Rattle.client_core.specs.Whole.{Response}
+use Rattle.client_core.proofs.Alone.{Response}
 use Rattle.client_core.specs.declared.asked.Waiting.{Waiting}
 use Rattle.client_core.specs.declared.first.Passed.TheVariants.{Below}
 use Rattle.client_core.proofs.Queues.{IsQueued}

@@ -1,5 +1,6 @@
-use Rattle.client_core.proofs.Runs.{plain_traces_run, plain_rows_of_events}
+use Rattle.client_core.proofs.Runs.{traces_run}
+use Rattle.client_core.proofs.Events.{rows_of_events}
 use Rattle.client_core.proofs.laws.plain_traces_are_runs.Goals as goal
 
 pub returns : goal.returns
-returns c = record { runs = plain_traces_run; events = plain_rows_of_events }
+returns c = ?
