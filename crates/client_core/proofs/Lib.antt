@@ -1,3 +1,5 @@
+pub mod Alike
+pub mod AlikeCalls
 pub mod Alone
 pub mod Arms
 pub mod AskedOctets
@@ -12,12 +14,16 @@ pub mod Moves
 pub mod Pictures
 pub mod Prepared
 pub mod Queues
+pub mod Renamed
+pub mod RenamedDgram
 pub mod Replaying
 pub mod Replying
 pub mod Rightness
 pub mod Runs
 pub mod Steps
 pub mod Tables
+pub mod Tickets
 pub mod Tied
 pub mod TimerLaws
+pub mod Uncut
 pub mod Faults

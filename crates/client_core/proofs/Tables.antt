@@ -20,10 +20,10 @@ module _ {A : Type 0} (key : A → ℕ) where
   rises_below lo hi hi' [] le r = tt
   rises_below lo hi hi' (x ∷ xs) le r = (r.0, lt_of_lt_of_le r.1 le, rises_below (suc (key x)) hi hi' xs le r.2)
 
-is_here : (k x : ℕ) (b : Bool) → is_eq (nat_cmp k x) ≡ b → b ≡ true → k ≡ x
+pub is_here : (k x : ℕ) (b : Bool) → is_eq (nat_cmp k x) ≡ b → b ≡ true → k ≡ x
 is_here k x b h t = grind (arith, nat_tests)
 
-is_not_here : (k x : ℕ) (b : Bool) → is_eq (nat_cmp k x) ≡ b → b ≡ false → k ≡ x → ⊥
+pub is_not_here : (k x : ℕ) (b : Bool) → is_eq (nat_cmp k x) ≡ b → b ≡ false → k ≡ x → ⊥
 is_not_here k x b h t e = grind (arith, nat_tests)
 
 module _ {A : Type 0} where
