@@ -178,11 +178,11 @@ module _ (outer : ℕ → ℕ) where
     abbrev pub collected : List Posted → Holdings → dgram.Tables Request → View → Option (Parts × View)
     collected from_dgram held t v = fallback.collects 0 by_stream from_dgram [] (parts_of held t) v
 
+    abbrev and_rest : Option ((Parts × List Posted) × View) → Option (Parts × View)
+    and_rest o = option_map (λ x. fallback.gives_rest 0 by_stream x.0.1 x.0.0 x.1) (option_and_then (λ x. fallback.settles_all 0 by_stream [] x.0.0 x.0.1 x.1) o)
+
     pub collects_one : (k : ℕ) (part : Part) (held : Holdings) (t : dgram.Tables Request) (v : View) (x : ℕ × Request) → entry_at k held ≡ Some x → fallback.is_truncated part ≡ false
         → collected (record { ticket = lower k; part = part } ∷ []) held t v ≡ Some (parts_of (frees k held) t, answers (outer k) part v)
     collects_one k part held t v x e uncut =
-        ap₂ (λ ts w. rest (fallback.settles_at 0 by_stream part (fallback.with_tables ts (parts_of held t)) [] v w)) (without_there k held x e) (waiting_there k held x e)
-        ∙ ap (λ b. rest (fallback.settles_whole 0 by_stream (outer k) x.0 x.1 part (parts_of (frees k held) t) [] v b)) uncut
-      where
-        abbrev rest : Option ((Parts × List Posted) × View) → Option (Parts × View)
-        rest o = option_map (λ x. fallback.gives_rest 0 by_stream x.0.1 x.0.0 x.1) (option_and_then (λ x. fallback.settles_all 0 by_stream [] x.0.0 x.0.1 x.1) o)
+        ap₂ (λ ts w. and_rest (fallback.settles_at 0 by_stream part (fallback.with_tables ts (parts_of held t)) [] v w)) (without_there k held x e) (waiting_there k held x e)
+        ∙ ap (λ b. and_rest (fallback.settles_whole 0 by_stream (outer k) x.0 x.1 part (parts_of (frees k held) t) [] v b)) uncut

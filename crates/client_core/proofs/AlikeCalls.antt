@@ -211,6 +211,6 @@ draws_below n m le e = below n m (2 ^ 64) le e
 module _ (outer : ℕ → ℕ) (keeps : Keeps outer) (a : Asked Response) where
   -- A request waits
 
-  waits_same : (n timer : ℕ) (w : Waiting Response) → waits (outer n) timer (waiting_as outer w) (asked_as outer a) ≡ asked_as outer (waits n timer w a)
+  pub waits_same : (n timer : ℕ) (w : Waiting Response) → waits (outer n) timer (waiting_as outer w) (asked_as outer a) ≡ asked_as outer (waits n timer w a)
   waits_same n timer w =
       ap₂ (λ waiting deadlines. record { waiting = waiting; deadlines = deadlines; next = w.number + 1 }) (puts_renamed outer (λ k w. waiting_as outer w) keeps n w a.waiting) (put_ticket outer timer n a.deadlines)

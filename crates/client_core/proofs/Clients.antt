@@ -222,7 +222,7 @@ module _ (timeout : ℕ) where
     with_layer : (c : PlainClient) (l : Layer) → c.layer ≡ l → (i : ℕ) → fire alone.machine i (client_of l (c.asked, record c.view { timers = cancelled i c.view.timers })) ≡ fire alone.machine i (record c { view = record c.view { timers = cancelled i c.view.timers } })
     with_layer c l e i = ap (λ l. fire alone.machine i (client_of l (c.asked, record c.view { timers = cancelled i c.view.timers }))) (sym e)
 
-    one_fires : (c : PlainClient) (s : State) → TiedClient timeout has c s → (x : Timer) → due_now c.view.now c.view.timers.set ≡ Some x
+    pub one_fires : (c : PlainClient) (s : State) → TiedClient timeout has c s → (x : Timer) → due_now c.view.now c.view.timers.set ≡ Some x
         → FiresOne s has c.view.outs (length (without_timer x.id c.view.timers.set)) (fire alone.machine x.id (record c { view = record c.view { timers = cancelled x.id c.view.timers } }))
     one_fires c s tied x e =
         let first = fires_now c.view.now c.view.timers.set x e in

@@ -1,5 +1,7 @@
 pub mod Alike
+pub mod AlikeAsking
 pub mod AlikeCalls
+pub mod AlikeSteps
 pub mod Alone
 pub mod Arms
 pub mod AskedOctets

@@ -20,13 +20,13 @@ use Rattle.client_core.proofs.Clients.{answer_wait, PlainClient, TiedClient, Com
 use Rattle.client_core.proofs.Happening.{happens_there}
 
 -- how long the settings wait for an answer
-waits_so : answer_wait ≡ read_timeout
+pub waits_so : answer_wait ≡ read_timeout
 unfolding read_timeout
 waits_so = refl
 
 module _ (timeout : ℕ) (has : Bool) where
   -- the clock goes on
-  clocked_client : (c : PlainClient) (s : State) (moment : ℕ) → TiedClient timeout has c s → TiedClient timeout has (at_moment moment c) (record s { now = max moment s.now })
+  pub clocked_client : (c : PlainClient) (s : State) (moment : ℕ) → TiedClient timeout has c s → TiedClient timeout has (at_moment moment c) (record s { now = max moment s.now })
   clocked_client c s moment tied = record {
     tables = tied.tables;
     layer = tied.layer;
@@ -38,16 +38,16 @@ module _ (timeout : ℕ) (has : Bool) where
   }
 
   -- a new row begins
-  rested_client : (c : PlainClient) (s : State) → TiedClient timeout has c s → TiedClient timeout has (rested c) s
+  pub rested_client : (c : PlainClient) (s : State) → TiedClient timeout has c s → TiedClient timeout has (rested c) s
   rested_client c s tied = record { tables = tied.tables; layer = tied.layer; bare = tied.bare; orderly = tied.orderly; ties = tied.ties; board = tied.board; drawn = tied.drawn }
 
-  happens_does : (w : What) (c : PlainClient) (s : State) → TiedClient timeout has c s
+  pub happens_does : (w : What) (c : PlainClient) (s : State) → TiedClient timeout has c s
       → Comes (Goes timeout has c.view.outs (suc (length c.view.timers.set)) (content composed has w (word c.view % 65536) s)) (happens alone.machine timeout w c)
   happens_does w c s tied =
       subst (λ (l : Layer). Comes (Goes timeout has c.view.outs (suc (length c.view.timers.set)) (content composed has w (word c.view % 65536) s)) (happens alone.machine timeout w (client_of l (c.asked, c.view))))
       (sym tied.layer) (happens_there timeout tied.tables c.asked c.view s tied.orderly tied.ties tied.board tied.drawn w has tied.bare)
 
-  fires_all_does : (c : PlainClient) (s : State) → TiedClient timeout has c s → Comes (FiresTo timeout s has c.view.outs) (fires_all alone.machine c)
+  pub fires_all_does : (c : PlainClient) (s : State) → TiedClient timeout has c s → Comes (FiresTo timeout s has c.view.outs) (fires_all alone.machine c)
   fires_all_does c s tied = fires_does timeout waits_so has (length c.view.timers.set) c s tied (le_refl (length c.view.timers.set))
 
   -- what a step of the plain client is to the machine
