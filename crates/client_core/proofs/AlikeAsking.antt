@@ -63,7 +63,7 @@ module _ (outer : ℕ → ℕ) (keeps : Keeps outer) (rises : (n : ℕ) → n �
         tables = t;
         held = held;
         is_so =
-            ap₂ (λ as n. client_of (layer_of outer has held t) (replies (as, answers (outer v.ticket) (Err e) (record (view_as outer dated) { ticket = n }))))
+            ap₂ (λ asked n. client_of (layer_of outer has held t) (replies (asked, answers (outer v.ticket) (Err e) (record (view_as outer dated) { ticket = n }))))
             (waits_same outer keeps a v.ticket v.timers.next w) (plus_none (outer v.ticket) ∙ sym next)
             ∙ ap (client_of (layer_of outer has held t)) (replies_same outer keeps (a1, refused_view e));
         layer = refl;
@@ -122,7 +122,7 @@ module _ (outer : ℕ → ℕ) (keeps : Keeps outer) (rises : (n : ℕ) → n �
       (record {
         tables = x.0;
         held = more;
-        is_so = ap (λ as. client_of (layer_of outer true more x.0) (as, fallback.onto [] (view_as outer x.1))) (waits_same outer keeps a v.ticket v.timers.next w);
+        is_so = ap (λ asked. client_of (layer_of outer true more x.0) (asked, fallback.onto [] (view_as outer x.1))) (waits_same outer keeps a v.ticket v.timers.next w);
         layer = refl;
         ticket = f.1;
         holds = holds_more v.ticket w (a.next, r) a.waiting held holds;

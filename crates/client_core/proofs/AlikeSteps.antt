@@ -153,8 +153,8 @@ module _ (outer : ℕ → ℕ) (keeps : Keeps outer) (rises : (n : ℕ) → n �
             (sym (free_ticket outer i a.deadlines ∙ ap (valued outer) same)) (sym same) (late_alike i due set passed e has)
         by (Some k) e =
             let f = deadline_fires timeout answer_wait t a v s o ties board k i due set passed e in
-            subst₂ (λ as x. Matches (Alike outer has v.ticket)
-            (times_out whole.machine (client_of (layer_of outer has held t) (as, view_as outer (record v { timers = cancelled i v.timers }))) x)
+            subst₂ (λ asked x. Matches (Alike outer has v.ticket)
+            (times_out whole.machine (client_of (layer_of outer has held t) (asked, view_as outer (record v { timers = cancelled i v.timers }))) x)
             (times_out alone.machine (client_of (alone.layer_of has t) (without_asked k i a, record v { timers = cancelled i v.timers })) (entry_at k a.waiting)))
             (sym (ap₂ (λ waiting deadlines. record (asked_as outer a) { waiting = waiting; deadlines = deadlines }) (frees_renamed outer (λ k w. waiting_as outer w) keeps k a.waiting) (free_ticket outer i a.deadlines)))
             (sym (entry_renamed outer (λ k w. waiting_as outer w) keeps k a.waiting ∙ ap (option_map (waiting_as outer)) f.waits))

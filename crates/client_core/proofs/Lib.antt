@@ -1,6 +1,7 @@
 pub mod Alike
 pub mod AlikeAsking
 pub mod AlikeCalls
+pub mod AlikeRuns
 pub mod AlikeSteps
 pub mod Alone
 pub mod Arms

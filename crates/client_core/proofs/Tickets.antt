@@ -18,7 +18,7 @@ tickets (b ∷ bs) (suc n) = suc (second b + tickets bs n)
 abbrev pub Agrees : (ℕ → ℕ) → ℕ → List Bool → Type 0
 Agrees outer n bs = (i : ℕ) → outer (n + i) ≡ outer n + tickets bs i
 
-none_yet : (bs : List Bool) → tickets bs 0 ≡ 0
+pub none_yet : (bs : List Bool) → tickets bs 0 ≡ 0
 none_yet [] = refl
 none_yet (b ∷ bs) = refl
 
