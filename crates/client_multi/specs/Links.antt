@@ -2,7 +2,7 @@
 use Rattle.std.specs.Prelude.{◌==◌, length}
 use Rattle.client_request.specs.Request.{Request}
 use Rattle.client_request.specs.Requests.{Requests, for_several}
-use Rattle.client_stream.specs.Plain.{Stream, started, has_ended, transport}
+use Rattle.client_stream.specs.Plain.{Stream, started, has_ended, timer_at, transport}
 use Rattle.client_multi.specs.MultiStream.{OneStream}
 
 abbrev pub Link : Type 0 → Type 0
@@ -14,4 +14,5 @@ one_stream requests = record {
   opened = started;
   has_ended = λ c. has_ended c.line.stage;
   is_full = λ c. length c.line.held.held == 32768;
+  timer_of = λ c. timer_at c.line.stage;
 }

@@ -9,7 +9,7 @@
 --                  at any stage ──its time is over──► result
 --   a connection   OpenStream ──Opened──► in the table until it ends
 --                       └──OpenFailed──► none is opened until a moment
-use Rattle.std.specs.Prelude.{ℕ, ◌+◌, ◌==◌, nat_lt, Bool, true, false, if◌then◌else◌, List, [], ◌∷◌, map, Option, None, Some, option_and_then, option_map, Ok, Err}
+use Rattle.std.specs.Prelude.{ℕ, ◌+◌, ◌==◌, nat_lt, Bool, true, false, if◌then◌else◌, List, [], ◌∷◌, Option, None, Some, option_and_then, option_map, Ok, Err}
 use Rattle.std.specs.Ordering.{nat_cmp}
 use Rattle.std.specs.BTreeMap.{is_at}
 use Rattle.std.specs.BTreeSet.{insert_key}
@@ -31,21 +31,24 @@ use Rattle.client_multi.specs.declared.multi_stream.job.Job.{Job}
 use Rattle.client_multi.specs.declared.multi_stream.job.Stage.{Stage}
 use Rattle.client_multi.specs.declared.multi_stream.job.Stage.TheVariants.{Waiting, Resting, Held}
 
--- What reconnection asks of one connection: its calls, what it is at a place that was opened, whether it has ended, and whether it has no room.
+-- What reconnection asks of one connection: its calls, what it is at a place that was opened, whether it has ended, whether it has no room, and the timer
+-- that it has set.
 pub record OneStream (R S : Type 0) : Type 0 where
   pub calls : Transport R S Asked
   pub opened : ℕ → StreamSettings → S
   pub has_ended : S → Bool
   pub is_full : S → Bool
+  pub timer_of : S → Option ℕ
 
 -- The requests by ticket; the ticket of each timer, and of each ticket at a connection; those that wait for a connection to open; the connections by
--- place, and the place that opens; how often none was opened since one was; and the moment before which none is to be opened.
+-- place, the place of each timer of a connection, and the place that opens; how often none was opened since one was; and the moment before which none is to be opened.
 pub record Tables (R S : Type 0) : Type 0 where
   pub jobs : List (ℕ × Job R)
   pub timers : List (ℕ × ℕ)
   pub inner : List (ℕ × ℕ)
   pub waiting : List ℕ
   pub connections : List (ℕ × S)
+  pub watches : List (ℕ × ℕ)
   pub opening : Option ℕ
   pub refusals : ℕ
   pub calm : ℕ
@@ -79,6 +82,15 @@ stream_place _ = None
 abbrev pub is_number : ℕ → Option ℕ → Bool
 is_number n None = false
 is_number n (Some own) = n == own
+
+-- the place of a timer is kept, or no more
+abbrev pub watched : ℕ → Option ℕ → List (ℕ × ℕ) → List (ℕ × ℕ)
+watched place None watches = watches
+watched place (Some timer) watches = puts timer place watches
+
+abbrev pub unwatched : Option ℕ → List (ℕ × ℕ) → List (ℕ × ℕ)
+unwatched None watches = watches
+unwatched (Some timer) watches = frees timer watches
 
 -- it backs off once more
 abbrev pub once_more : {R : Type 0} → Job R → Job R
@@ -131,11 +143,6 @@ module _ {R S : Type 0} where
   each f [] s v = Some (s, v)
   each f (ticket ∷ tickets) s v = option_and_then (λ x. each f tickets x.0 x.1) (at_ticket f ticket s v)
 
-  -- the tables once a connection that was found was taken out
-  abbrev pub without_found : Option (ℕ × S) → Tables R S → Tables R S
-  without_found None s = s
-  without_found (Some found) s = record s { connections = frees found.0 s.connections }
-
   -- No connection could be opened: none is to be opened for a time, and those that wait back off in order of tickets.
   abbrev pub refused : Tables R S → View → Tables R S
   refused s v = record s { waiting = []; opening = None; refusals = one_more s.refusals; calm = v.now + retry_time s.refusals (word v) }
@@ -153,12 +160,25 @@ module _ {R S : Type 0} (below : OneStream R S) where
   abbrev pub with_room : List (ℕ × S) → Option (ℕ × S)
   with_room connections = option_and_then (λ place. option_map (λ c. (place, c)) (entry_at place connections)) (newest None connections)
 
-  -- A connection is put back, unless it has ended.
-  abbrev pub puts_back : ℕ → S → List (ℕ × S) → List (ℕ × S)
-  puts_back place c connections = if below.has_ended c then connections else puts place c connections
+  -- a connection is kept at its place, and taken out
+  abbrev pub keeps : ℕ → S → Tables R S → Tables R S
+  keeps place c s = record s { connections = puts place c s.connections; watches = watched place (below.timer_of c) s.watches }
 
+  abbrev pub taken : ℕ → S → Tables R S → Tables R S
+  taken place c s = record s { connections = frees place s.connections; watches = unwatched (below.timer_of c) s.watches }
+
+  -- the tables once the connection of a place, or one that was found, was taken out, if there was one
+  abbrev pub without_at : ℕ → Option S → Tables R S → Tables R S
+  without_at place None s = s
+  without_at place (Some c) s = taken place c s
+
+  abbrev pub without_found : Option (ℕ × S) → Tables R S → Tables R S
+  without_found None s = s
+  without_found (Some found) s = taken found.0 found.1 s
+
+  -- A connection is put back, unless it has ended.
   abbrev pub with_connection : ℕ → S → Tables R S → Tables R S
-  with_connection place c s = record s { connections = puts_back place c s.connections }
+  with_connection place c s = if below.has_ended c then s else keeps place c s
 
   -- A call of a connection, which was taken out of the tables, is over.
   abbrev pub returns : ℕ → Tables R S → View → S × View → After R S
@@ -166,15 +186,15 @@ module _ {R S : Type 0} (below : OneStream R S) where
 
   abbrev pub calls : ℕ → Step S → Tables R S → View → Option S → After R S
   calls place step s v None = Some (s, v)
-  calls place step s v (Some c) = option_and_then (returns place (record s { connections = frees place s.connections }) v) (step c (lent v))
+  calls place step s v (Some c) = option_and_then (returns place (taken place c s) v) (step c (lent v))
 
   abbrev pub calls_at : ℕ → Step S → Tables R S → View → After R S
   calls_at place step s v = calls place step s v (entry_at place s.connections)
 
-  -- Each connection hears of a timer that is no request's, in the order in which they were opened.
-  abbrev pub each_hears : Heard → List ℕ → Tables R S → View → After R S
-  each_hears h [] s v = Some (s, v)
-  each_hears h (place ∷ places) s v = option_and_then (λ x. each_hears h places x.0 x.1) (calls_at place (below.calls.step h) s v)
+  -- The connection of a place hears what happened, if there is one.
+  abbrev pub hears_at : Heard → Tables R S → View → Option ℕ → After R S
+  hears_at h s v None = Some (s, v)
+  hears_at h s v (Some place) = calls_at place (below.calls.step h) s v
 
   -- A connection takes a request on.
   abbrev pub holds : ℕ → Job R → ℕ → S → Tables R S → View → After R S
@@ -218,41 +238,35 @@ module _ {R S : Type 0} (below : OneStream R S) (server : ℕ) where
 
   -- A request is handed to the newest connection that has room.
   abbrev pub hands : ℕ → Job R → Tables R S → View → After R S
-  hands ticket job s v = hands_at ticket job (without_found (with_room below s.connections) s) v (with_room below s.connections)
+  hands ticket job s v = hands_at ticket job (without_found below (with_room below s.connections) s) v (with_room below s.connections)
 
   -- A connection is open: those that wait are handed on in order of tickets.
   abbrev pub opened : StreamSettings → ℕ → Tables R S → Tables R S
-  opened settings place s =
-      record s { waiting = []; connections = puts place (below.opened place settings) s.connections; opening = None; refusals = 0; calm = 0 }
+  opened settings place s = record (keeps below place (below.opened place settings) s) { waiting = []; opening = None; refusals = 0; calm = 0 }
 
   abbrev pub is_open : StreamSettings → ℕ → Tables R S → View → After R S
   is_open settings place s v = if is_number place s.opening then each hands s.waiting (opened settings place s) v else Some (s, v)
 
-  -- A timer fired: a request's time is over, or it backed off long enough.
+  -- A timer fired: a request's time is over, or it backed off long enough; or it is the one of a connection.
   abbrev pub fires : ℕ → ℕ → Job R → Tables R S → View → After R S
   fires timer ticket job s v = if timer == job.end then times_out below ticket job s v else hands ticket job s v
 
   abbrev pub due_at : ℕ → Tables R S → View → Option ℕ → After R S
-  due_at timer s v None = each_hears below (due_timer timer) (map (λ e. e.0) s.connections) s v
+  due_at timer s v None = hears_at below (due_timer timer) s v (entry_at timer s.watches)
   due_at timer s v (Some ticket) = at_ticket (fires timer) ticket (record s { timers = frees timer s.timers }) v
 
   abbrev pub due : ℕ → Tables R S → View → After R S
   due timer s v = due_at timer s v (entry_at timer s.timers)
 
-  -- An event of a stream goes to the connection of its place.
-  abbrev pub hears_at : Heard → Tables R S → View → Option ℕ → After R S
-  hears_at h s v None = Some (s, v)
-  hears_at h s v (Some place) = calls_at below place (below.calls.step h) s v
-
   module _ (settings : Settings) where
     abbrev pub tells : What → Tables R S → View → After R S
     tells (Opened place) s v = is_open settings.stream place s v
     tells (OpenFailed place _) s v = open_fails place s v
-    tells what s v = hears_at (told what) s v (stream_place what)
+    tells what s v = hears_at below (told what) s v (stream_place what)
 
     abbrev pub hears : Heard → Tables R S → View → After R S
     hears (told what) s v = tells what s v
-    hears (more_at place) s v = hears_at (more_at place) s v (Some place)
+    hears (more_at place) s v = hears_at below (more_at place) s v (Some place)
     hears (due_timer timer) s v = due timer s v
 
     -- A request is taken on, and its time runs, unless no more are.
@@ -278,7 +292,7 @@ pub record MultiStream (R S : Type 0) : Type 0 where
 
 module _ {R S : Type 0} where
   abbrev pub fresh : Tables R S
-  fresh = record { jobs = []; timers = []; inner = []; waiting = []; connections = []; opening = None; refusals = 0; calm = 0 }
+  fresh = record { jobs = []; timers = []; inner = []; waiting = []; connections = []; watches = []; opening = None; refusals = 0; calm = 0 }
 
   abbrev pub started : ℕ → Settings → MultiStream R S
   started server settings = record { server = server; settings = settings; tables = fresh; shut = false; failed = false }

@@ -10,7 +10,7 @@ mod steps;
 mod tables;
 
 pub use config::Config;
-pub use connection::{Connection, Request};
+pub use connection::{Connection, Request, Transport};
 pub use job::{Job, Stage};
 pub use one_stream::{Link, OneStream};
 pub use retry::retry_time;

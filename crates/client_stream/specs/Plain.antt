@@ -64,7 +64,14 @@ has_ended stage.New = false
 has_ended (stage.Active _ _) = false
 has_ended (stage.Idle _) = false
 
--- the timer that is set at a stage is dropped
+-- the timer that is set at a stage
+abbrev pub timer_at : Stage → Option ℕ
+timer_at stage.New = None
+timer_at (stage.Active timer _) = Some timer
+timer_at (stage.Idle timer) = Some timer
+timer_at stage.Ended = None
+
+-- it is dropped
 abbrev pub stops : Stage → View → View
 stops stage.New v = v
 stops (stage.Active timer _) v = drops_timer timer v

@@ -114,6 +114,13 @@ impl<Req: Drop, ReqMulti: Drop> Connection<Req, ReqMulti> {
         self.line.count() == MAX_HELD
     }
 
+    /// The number of the timer that ends the connection once it is due, if one is set. It takes no memory.
+    pub fn timer(&self) -> Option<u64>
+        ensures { result ≡ plain.timer_at self.now.line.stage }
+    {
+        self.line.timer()
+    }
+
     /// Whether an earlier call found no memory or no number.
     pub fn has_failed(&self) -> bool
         ensures { result ≡ self.now.failed }

@@ -79,6 +79,16 @@ impl<Req: Drop, ReqMulti: Drop> Line<Req, ReqMulti> {
         }
     }
 
+    /// The number of the timer that is set, if one is.
+    pub(crate) fn timer(&self) -> Option<u64>
+        ensures { result ≡ plain.timer_at self.now.stage }
+    {
+        match self.stage {
+            Stage::Active { timer, .. } | Stage::Idle { timer } => Some(timer),
+            Stage::New | Stage::Ended => None,
+        }
+    }
+
     /// How many ids are held.
     pub(crate) fn count(&self) -> usize
         ensures { result ≡ length self.now.held.held }

@@ -34,6 +34,10 @@ pub trait OneStream<Req>: Drop {
     fn is_full(&self) -> bool
         ensures { result ≡ machine.is_full self.now };
 
+    /// The number of the timer that it has set, if it has one.
+    fn timer(&self) -> Option<u64>
+        ensures { result ≡ machine.timer_of self.now };
+
     /// Takes a request on.
     fn send_request<W: Words>(
         self,
@@ -110,6 +114,10 @@ impl<Req: ComposeRequest> OneStream<Req> for Link<Req> {
 
     fn is_full(&self) -> bool {
         self.connection.is_full()
+    }
+
+    fn timer(&self) -> Option<u64> {
+        self.connection.timer()
     }
 
     fn send_request<W: Words>(

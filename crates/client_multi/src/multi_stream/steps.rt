@@ -1,23 +1,21 @@
 //! What happens to the requests and to the connections.
 
-ghost use Rattle.std.specs.Prelude.{◌≡◌, Some, None, Err, IfErr, IfOk, map};
+ghost use Rattle.std.specs.Prelude.{◌≡◌, Some, None, Err, IfErr, IfOk};
 ghost use Rattle.client_request.specs.Calls.{Steps, NumbersRunOut};
 ghost use Rattle.client_request.specs.Cx.{view_of, heard, LendsTheSame};
 ghost use Rattle.client_request.specs.Timers.{IsWant};
-ghost use Rattle.client_request.specs.View.{due_timer};
 ghost use Rattle.client_multi.specs.MultiStream as plain;
 
 use crate::multi_stream::config::Config;
 use crate::multi_stream::job::{Job, Stage};
 use crate::multi_stream::one_stream::OneStream;
 use crate::multi_stream::retry::retry_due;
-use crate::multi_stream::tables::{Tables, back_off, put_back, wait};
+use crate::multi_stream::tables::{Tables, back_off, keep, put_back, take_at, wait};
 use client_request::{
     Board, ComposeRequest, Cx, Error, GetResponse, Out, Signal, TimerId, What, Words,
 };
-use dns_base::NoMemory;
 use std::alloc::Global;
-use std::collections::{BTreeSet, VecDeque};
+use std::collections::BTreeSet;
 use std::mem;
 
 /// Of the connections that have room the place of the one that was opened last.
@@ -38,10 +36,10 @@ fn take_with_room<Req: ComposeRequest, S: OneStream<Req>>(
     tables: &mut Tables<Req, S>,
 ) -> Option<(u64, S)>
     ensures found { result ≡ plain.with_room S.machine tables.old.connections }
-    ensures taken { tables.new ≡ plain.without_found result tables.old }
+    ensures taken { tables.new ≡ plain.without_found S.machine result tables.old }
 {
     let place = newest(tables)?;
-    let connection = tables.connections.remove(&place)?;
+    let connection = take_at(tables, place)?;
     Some((place, connection))
 }
 
@@ -289,9 +287,7 @@ fn opened<Req: ComposeRequest, S: OneStream<Req>, W: Words>(
         return Ok(());
     }
     let connection = S::open(tables.alloc, place, *config.stream())?;
-    if tables.connections.insert(place, connection).is_err() {
-        return Err(Error::NoMemory);
-    }
+    keep(tables, place, connection)?;
     tables.opening = None;
     tables.refusals = 0;
     tables.calm = 0;
@@ -333,7 +329,7 @@ fn hear_at<Req: ComposeRequest, S: OneStream<Req>, W: Words>(
     ensures numbers { NumbersRunOut result (plain.calls_at S.machine place (S.machine.calls.step (heard signal.entry)) tables.old (view_of W.stream cx.old)) }
     ensures want { IfErr result IsWant }
 {
-    let Some(connection) = tables.connections.remove(&place) else {
+    let Some(connection) = take_at(tables, place) else {
         return Ok(());
     };
     let mut board = Board::new(tables.alloc);
@@ -354,7 +350,7 @@ fn give_up_at<Req: ComposeRequest, S: OneStream<Req>, W: Words>(
     ensures want { IfErr result IsWant }
 {
     let _ = tables.inner.remove(&response.ticket());
-    let Some(connection) = tables.connections.remove(&place) else {
+    let Some(connection) = take_at(tables, place) else {
         return Ok(());
     };
     let mut board = Board::new(tables.alloc);
@@ -447,41 +443,7 @@ fn fire<Req: ComposeRequest, S: OneStream<Req>, W: Words>(
     }
 }
 
-/// The places of the connections, in the order in which they were opened.
-fn places<Req: ComposeRequest, S: OneStream<Req>>(
-    tables: &Tables<Req, S>,
-) -> Result<VecDeque<u64>, NoMemory>
-    ensures { IfOk result (λ places. places.items ≡ map (λ e. e.0) tables.now.connections) }
-{
-    let mut places = VecDeque::new(tables.alloc);
-    for (place, _) in &tables.connections {
-        if places.push_back(*place).is_err() {
-            return Err(NoMemory);
-        }
-    }
-    Ok(places)
-}
-
-/// The connections at some places hear of a timer.
-fn hear_each<Req: ComposeRequest, S: OneStream<Req>, W: Words>(
-    tables: &mut Tables<Req, S>,
-    cx: &mut Cx<'_, W>,
-    timer: u64,
-    places: VecDeque<u64>,
-) -> Result<(), Error>
-    ensures lends { LendsTheSame cx.old cx.new }
-    ensures ok { Steps result (plain.each_hears S.machine (due_timer timer) places.items tables.old (view_of W.stream cx.old)) (tables.new, view_of W.stream cx.new) }
-    ensures numbers { NumbersRunOut result (plain.each_hears S.machine (due_timer timer) places.items tables.old (view_of W.stream cx.old)) }
-    ensures want { IfErr result IsWant }
-{
-    let mut places = places;
-    while let Some(place) = places.pop_front() {
-        hear_at(tables, cx, place, Signal::Due(TimerId(timer)))?;
-    }
-    Ok(())
-}
-
-/// A timer fired: one of a request, or any that a connection may have set.
+/// A timer fired: one of a request, or of a connection.
 fn due<Req: ComposeRequest, S: OneStream<Req>, W: Words>(
     tables: &mut Tables<Req, S>,
     server: u32,
@@ -495,10 +457,10 @@ fn due<Req: ComposeRequest, S: OneStream<Req>, W: Words>(
 {
     match tables.timers.remove(&timer) {
         Some(ticket) => fire(tables, server, cx, timer, ticket),
-        None => {
-            let places = places(tables)?;
-            hear_each(tables, cx, timer, places)
-        }
+        None => match tables.watches.get(&timer).copied() {
+            None => Ok(()),
+            Some(place) => hear_at(tables, cx, place, Signal::Due(TimerId(timer))),
+        },
     }
 }
 

@@ -17,7 +17,7 @@ use std::collections::{BTreeMap, BTreeSet};
 use std::marker::Model;
 
 /// The requests by ticket; the ticket of each timer, and of each ticket at a connection; those that wait
-/// for a connection to open; and the connections by place. Tickets and places rise, so the least ticket
+/// for a connection to open; the connections by place, and the place of each timer of one. Tickets and places rise, so the least ticket
 /// came first, and the greatest place was opened last.
 #[derive(Drop)]
 pub struct Tables<Req, S> {
@@ -27,6 +27,7 @@ pub struct Tables<Req, S> {
     pub(crate) inner: BTreeMap<u64, u64>,
     pub(crate) waiting: BTreeSet<u64>,
     pub(crate) connections: BTreeMap<u64, S>,
+    pub(crate) watches: BTreeMap<u64, u64>,
     /// The place that opens.
     pub(crate) opening: Option<u64>,
     /// How often none was opened since one was; the count stands still at its last value.
@@ -46,6 +47,7 @@ impl<Req, S> Model for Tables<Req, S> {
       inner = s.inner.entries;
       waiting = s.waiting.keys;
       connections = s.connections.entries;
+      watches = s.watches.entries;
       opening = s.opening;
       refusals = s.refusals;
       calm = s.calm;
@@ -64,6 +66,7 @@ impl<Req, S> Tables<Req, S> {
             inner: BTreeMap::new(alloc),
             waiting: BTreeSet::new(alloc),
             connections: BTreeMap::new(alloc),
+            watches: BTreeMap::new(alloc),
             opening: None,
             refusals: 0,
             calm: 0,
@@ -208,6 +211,40 @@ fn collect<Req: ComposeRequest, S: OneStream<Req>, W: Words>(
     Ok(())
 }
 
+/// Keeps a connection at its place.
+pub(crate) fn keep<Req: ComposeRequest, S: OneStream<Req>>(
+    tables: &mut Tables<Req, S>,
+    place: u64,
+    connection: S,
+) -> Result<(), NoMemory>
+    ensures { OnOk result (tables.new ≡ plain.keeps S.machine place connection tables.old) }
+{
+    if let Some(timer) = connection.timer() {
+        if tables.watches.insert(timer, place).is_err() {
+            return Err(NoMemory);
+        }
+    }
+    if tables.connections.insert(place, connection).is_err() {
+        return Err(NoMemory);
+    }
+    Ok(())
+}
+
+/// Takes the connection of a place out of the tables.
+pub(crate) fn take_at<Req: ComposeRequest, S: OneStream<Req>>(
+    tables: &mut Tables<Req, S>,
+    place: u64,
+) -> Option<S>
+    ensures found { result ≡ entry_at place tables.old.connections }
+    ensures taken { tables.new ≡ plain.without_at S.machine place result tables.old }
+{
+    let connection = tables.connections.remove(&place)?;
+    if let Some(timer) = connection.timer() {
+        let _ = tables.watches.remove(&timer);
+    }
+    Some(connection)
+}
+
 /// A call of a connection, which was taken out of the tables, is over: what it posted is taken, and it is
 /// put back unless it has ended.
 pub(crate) fn put_back<Req: ComposeRequest, S: OneStream<Req>, W: Words>(
@@ -223,9 +260,7 @@ pub(crate) fn put_back<Req: ComposeRequest, S: OneStream<Req>, W: Words>(
     ensures want { IfErr result IsWant }
 {
     if !connection.is_closed() {
-        if tables.connections.insert(place, connection).is_err() {
-            return Err(Error::NoMemory);
-        }
+        keep(tables, place, connection)?;
     }
     collect(tables, cx, board)
 }
