@@ -102,7 +102,7 @@ struct Asker {
     words: ListWords,
 }
 
-fn asker(alloc: Global, transport: Transport, use_vc: bool) -> Result<Asker, Error> {
+fn asker_of(alloc: Global, transport: Transport, use_vc: bool) -> Result<Asker, Error> {
     let conf = conf(alloc, transport, use_vc)?;
     let client = Client::new(alloc, &conf, redundant::Config::new(), cache::Config::new())?;
     let mut words = WordList::new(alloc);
@@ -144,14 +144,14 @@ fn follows(alloc: Global, asker: &mut Asker, run: &[Told]) -> Result<bool, Error
 
 /// Whether a client of a server by streams alone goes through a run.
 fn goes_by_streams(alloc: Global, run: &[Told]) -> Result<bool, Error> {
-    let mut first = asker(alloc, Transport::Tcp, false)?;
-    let mut second = asker(alloc, Transport::UdpTcp, true)?;
+    let mut first = asker_of(alloc, Transport::Tcp, false)?;
+    let mut second = asker_of(alloc, Transport::UdpTcp, true)?;
     Ok(follows(alloc, &mut first, run)? && follows(alloc, &mut second, run)?)
 }
 
 #[test]
 fn a_truncated_datagram_is_followed_by_a_stream(rt: HostRuntime) -> Result<(), Fail> {
-    let mut asker = asker(rt.alloc(), Transport::UdpTcp, false)?;
+    let mut asker = asker_of(rt.alloc(), Transport::UdpTcp, false)?;
     assert!(rt; follows(rt.alloc(), &mut asker, &TRUNCATED_RUN)?);
     Ok(())
 }
@@ -173,7 +173,7 @@ fn a_connection_may_be_idle_for_no_time(rt: HostRuntime) -> Result<(), Fail> {
 
 /// Whether answers that are cut behind each octet are taken once each is whole.
 fn are_taken_by_octets(alloc: Global) -> Result<bool, Error> {
-    let mut asker = asker(alloc, Transport::Tcp, false)?;
+    let mut asker = asker_of(alloc, Transport::Tcp, false)?;
     let mut good = follows(alloc, &mut asker, &TWO_WRITTEN)?;
     for i in 0..BOTH_ANSWERS.len() {
         let deeds: &[Deed] = match i {
@@ -194,7 +194,7 @@ fn are_taken_by_octets(alloc: Global) -> Result<bool, Error> {
 
 #[test]
 fn two_answers_are_taken_however_they_are_cut(rt: HostRuntime) -> Result<(), Fail> {
-    let mut asker = asker(rt.alloc(), Transport::Tcp, false)?;
+    let mut asker = asker_of(rt.alloc(), Transport::Tcp, false)?;
     assert!(rt; follows(rt.alloc(), &mut asker, &TWO_WRITTEN)?);
     assert!(rt; follows(rt.alloc(), &mut asker, &BOTH_AT_ONCE)?);
     assert!(rt; are_taken_by_octets(rt.alloc())?);
