@@ -1,11 +1,11 @@
 -- Steps that are made so many times.
-use Rattle.std.proofs.Common.{◌≡◌, ℕ, zero, suc, ◌-◌, ◌<◌, refl, ap, sym, ◌∙◌, Option, Some, None, arith, sub-one}
+use Rattle.std.proofs.Common.{◌≡◌, ℕ, zero, suc, ◌-◌, ◌<◌, Bool, true, false, if◌then◌else◌, refl, ap, sym, ◌∙◌, Option, Some, None, arith, sub-one}
 use Rattle.client_request.specs.View.{View}
 use Rattle.std.specs.Prelude.{option_and_then, option_map}
 use Rattle.client_request.specs.Timers.{TimerList, due_now, fired}
 use Rattle.client_request.specs.declared.timers.Timer.{Timer}
 use Rattle.client_request.specs.declared.timers.TimerId.{TimerId}
-use Rattle.client_core.specs.Client.{Asked, Client, Machine, replies_many, replies_first, fires, fires_first, fire}
+use Rattle.client_core.specs.Client.{Asked, Client, Machine, replies_many, replies_first, fires, fires_all, fires_first, fire, more_frames, next_frame}
 
 pub replies_many_suc : {P : Type 0} (n : ℕ) (x : Asked P × View) → 0 < n → replies_many n x ≡ replies_many (n - 1) (replies_first x)
 replies_many_suc zero x h = absurd (omega arith)
@@ -39,3 +39,32 @@ module _ {U P : Type 0} (m : Machine U P) where
   fires_some n c d timer ts h e s f =
       fires_suc n c h
       ∙ first_some (fires m (n - 1)) c d timer (due_now c.view.now c.view.timers.set) e (ap (λ (x : TimerList). fire m timer.0 (with_timers x c)) (sym s) ∙ f)
+
+  -- the frames behind this one
+  abbrev pub goes_on : ℕ → ℕ → Client U P → Option (Client U P) → Option (Client U P)
+  goes_on place n c fired = option_and_then (more_frames m place (n - 1)) (option_and_then (next_frame m place) fired)
+
+  frames_suc : (place n : ℕ) (c : Client U P) → 0 < n → more_frames m place n c ≡ (if c.view.more then goes_on place n c (fires_all m c) else Some c)
+  frames_suc place zero c h = absurd (omega arith)
+  frames_suc place (suc n) c h = rw sub-one refl
+
+  frames_more : (place n : ℕ) (c : Client U P) → 0 < n → c.view.more ≡ true → more_frames m place n c ≡ goes_on place n c (fires_all m c)
+  frames_more place n c h is = frames_suc place n c h ∙ ap (λ (b : Bool). if b then goes_on place n c (fires_all m c) else Some c) is
+
+  -- No frame stands.
+  pub frames_over : (place n : ℕ) (c : Client U P) → 0 < n → c.view.more ≡ false → more_frames m place n c ≡ Some c
+  frames_over place n c h is = frames_suc place n c h ∙ ap (λ (b : Bool). if b then goes_on place n c (fires_all m c) else Some c) is
+
+  -- A frame is taken, and one less is left.
+  pub frames_some : (place n : ℕ) (c d e : Client U P) → 0 < n → c.view.more ≡ true → fires_all m c ≡ Some d → next_frame m place d ≡ Some e
+      → more_frames m place n c ≡ more_frames m place (n - 1) e
+  frames_some place n c d e h is f g =
+      frames_more place n c h is ∙ ap (goes_on place n c) f ∙ ap (option_and_then (more_frames m place (n - 1))) g
+
+  -- Numbers run out.
+  pub frames_unfired : (place n : ℕ) (c : Client U P) → 0 < n → c.view.more ≡ true → fires_all m c ≡ None → more_frames m place n c ≡ None
+  frames_unfired place n c h is f = frames_more place n c h is ∙ ap (goes_on place n c) f
+
+  pub frames_untaken : (place n : ℕ) (c d : Client U P) → 0 < n → c.view.more ≡ true → fires_all m c ≡ Some d → next_frame m place d ≡ None → more_frames m place n c ≡ None
+  frames_untaken place n c d h is f g =
+      frames_more place n c h is ∙ ap (goes_on place n c) f ∙ ap (option_and_then (more_frames m place (n - 1))) g

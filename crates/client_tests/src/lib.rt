@@ -1,7 +1,11 @@
-//! Tests of requests, of the transport by datagrams and of a client's edge and clock in memory, through their public
-//! calls.
+//! Tests of requests, of the transport by datagrams, of a client of one server and of its edge and clock in memory,
+//! through their public calls.
 #![tactic(auto)]
 
+#[cfg(test)]
+mod client_rows;
+#[cfg(test)]
+mod client_runs;
 #[cfg(test)]
 mod datagram_rows;
 #[cfg(test)]
@@ -24,3 +28,5 @@ mod requests;
 mod results;
 #[cfg(test)]
 mod settings;
+#[cfg(test)]
+mod upstreams;

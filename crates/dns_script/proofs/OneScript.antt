@@ -9,8 +9,8 @@ use Rattle.dns_names.proofs.Heads.{none_some}
 use Rattle.dns_values.specs.declared.address.IpAddr.TheVariants.{V4}
 use Rattle.resolv_conf.specs.declared.conf.ResolvConf.{ResolvConf}
 use Rattle.resolv_conf.specs.Conf.{default_options, name_server}
-use Rattle.resolv_conf.specs.Script.{script_address, script_seconds, TakesScriptLine, takes_server, takes_timeout}
-use Rattle.resolv_conf.proofs.Scripts.{server_refused}
+use Rattle.resolv_conf.specs.Script.{script_address, script_seconds, TakesScriptLine, takes_server, takes_timeout, takes_use_vc}
+use Rattle.resolv_conf.proofs.Scripts.{no_seconds, not_a_server, server_refused}
 use Rattle.client_request.specs.declared.event.Event.{Event}
 use Rattle.client_settings.specs.Settings.{default_cache, default_redundant}
 use Rattle.dns_script.specs.declared.names.ScriptName.{ScriptName}
@@ -73,6 +73,11 @@ conf_is_one line old _ _ (takes_server t o e dotted none) (takes_timeout n f) = 
 conf_is_one line old _ _ (takes_timeout n f) (takes_server t o e dotted none) = absurd (address_or_seconds line t n e f)
 conf_is_one line old _ _ (takes_timeout m e) (takes_timeout n f) =
     ap (λ seconds. record old { options = record old.options { timeout = seconds * 1000000 } }) (same_Some m n (sym e ∙ f))
+conf_is_one line old _ _ (takes_server t o e dotted none) (takes_use_vc is) = absurd (not_a_server line t e is)
+conf_is_one line old _ _ (takes_use_vc is) (takes_server t o e dotted none) = absurd (not_a_server line t e is)
+conf_is_one line old _ _ (takes_timeout n f) (takes_use_vc is) = absurd (no_seconds line n f is)
+conf_is_one line old _ _ (takes_use_vc is) (takes_timeout n f) = absurd (no_seconds line n f is)
+conf_is_one line old _ _ (takes_use_vc e) (takes_use_vc f) = refl
 
 named_is_one : (kind : Option ScriptName) (text : List ℕ) (s t u : ScriptReader) → TakesNamed kind text s t → TakesNamed kind text s u → t ≡ u
 named_is_one None text s t u h k = absurd h

@@ -3,8 +3,8 @@ pub mod Lines
 pub mod Names
 pub mod Reading
 pub mod ScriptReading
-pub mod Stage
 pub mod TextLaws
+pub mod Told
 pub mod TraceReading
 pub mod TraceText
 pub mod Words

@@ -16,7 +16,7 @@ use Rattle.dns_script.specs.declared.script_lines.ScriptReader.{ScriptReader}
 use Rattle.dns_script.specs.Grammar.{event_at, whole}
 use Rattle.dns_script.specs.Names.{script_names}
 use Rattle.dns_script.specs.Reading.{◌>>=◌, cut, named, numbers_of, words_of}
-use Rattle.dns_script.specs.Stage.{takes_what}
+use Rattle.dns_script.specs.Told.{tells_well}
 use Rattle.client_settings.specs.Settings.{default_redundant, default_cache}
 
 -- what stands behind `conf `, before any event
@@ -37,11 +37,11 @@ pub record TakesWords (text : List ℕ) (s t : ScriptReader) : Type 0 where
 abbrev pub event_of : List ℕ → Option Event
 event_of text = event_at (words_of text) >>= whole
 
--- the moment and the event behind `at `, in a lane
+-- the moment and the event behind `at `, in a lane; it has no fault but those of a socket
 pub record TakesEvent (text : List ℕ) (s t : ScriptReader) : Type 0 where
   pub event : Event
   pub read : event_of text ≡ Some event
-  pub form : takes_what event.what ≡ true
+  pub told : tells_well event.what ≡ true
   pub events : List Event
   pub lane : s.lane ≡ Some events
   pub after : t ≡ record s { lane = Some (events ++ event ∷ []); begun = true }

@@ -1,5 +1,5 @@
 -- What is read is the text of it, and what is printed is read back.
-use Rattle.std.specs.Prelude.{◌≡◌, ◌<◌, ◌^◌, ℕ, List, ◌≤◌, IfSome, IsTrue, All, Bool, false, length, Result, Ok, Err, MatchResult}
+use Rattle.std.specs.Prelude.{◌≡◌, ◌<◌, ◌^◌, ℕ, List, ◌≤◌, IfSome, IsTrue, Bool, false, length, Result, Ok, Err, MatchResult}
 use Rattle.std.specs.List.{AllByRecursion}
 use Rattle.dns_base.specs.Data.{are_options}
 use Rattle.dns_base.specs.OptRecord.{OptFields}
@@ -12,7 +12,6 @@ use Rattle.client_request.specs.declared.event.Out.{Out}
 use Rattle.client_request.specs.declared.event.Out.TheVariants as out
 use Rattle.client_request.specs.declared.error.Error.{Error}
 use Rattle.client_request.specs.declared.event.Trace.{Trace}
-use Rattle.headline.specs.Theorem.{NoneIsTruncated}
 use Rattle.dns_script.specs.declared.script.Script.{Script}
 use Rattle.dns_script.specs.declared.script.ScriptFault.{ScriptFault}
 use Rattle.dns_script.specs.declared.script.ScriptFault.TheVariants as faults
@@ -102,12 +101,10 @@ pub record TextLaws : Type 0 where
   pub trace_is_taken : (text : List ℕ) (rows : List Row) (n : ℕ) → IsTrace text rows → RefusesTraceLine text n → ⊥
   pub trace_is_refused_once : (text : List ℕ) (m n : ℕ) → RefusesTraceLine text m → RefusesTraceLine text n → m ≡ n
 
--- A text is one script at most. It is then taken, unless memory ran out, and not refused; any other is refused at one line. No script
--- brings a truncated datagram.
+-- A text is one script at most. It is then taken, unless memory ran out, and not refused; any other is refused at one line.
 pub record ScriptLaws : Type 0 where
   pub script_is_one : (many : Bool) (text : List ℕ) (one other : Script) → IsScript many text one → IsScript many text other → one ≡ other
   pub script_is_taken : (many : Bool) (text : List ℕ) (script : Script) (n : ℕ) → IsScript many text script → RefusesLine many text n → ⊥
   pub script_is_read : (many : Bool) (text : List ℕ) (script : Script) (result : Result Script ScriptFault) → IsScript many text script → ReadsScript many text result
       → MatchResult result (λ s. s ≡ script) (λ e. e ≡ faults.NoMemory)
   pub script_is_refused_once : (many : Bool) (text : List ℕ) (m n : ℕ) → RefusesLine many text m → RefusesLine many text n → m ≡ n
-  pub script_is_uncut : (many : Bool) (text : List ℕ) (script : Script) → IsScript many text script → All NoneIsTruncated script.lanes

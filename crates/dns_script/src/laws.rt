@@ -7,7 +7,7 @@ pub fn text_laws()
     ensures { TextLaws }
 {}
 
-/// A text is one script at most, and is refused only where it is none; no script brings a truncated datagram.
+/// A text is one script at most, and is refused only where it is none.
 pub fn script_laws()
     ensures { ScriptLaws }
 {}

@@ -20,7 +20,7 @@ mod printing;
 mod reading;
 mod script;
 mod script_lines;
-mod stage;
+mod told;
 mod trace_lines;
 mod words;
 

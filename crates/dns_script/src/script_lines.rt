@@ -10,7 +10,7 @@ use crate::line::{LineFault, Lines, Words, split_first};
 use crate::names::{ScriptName, script_named};
 use crate::reading::event;
 use crate::script::{Lanes, Script, ScriptFault};
-use crate::stage::check_what;
+use crate::told::check_what;
 use client_request::{Event, Events, WordList};
 use client_settings::{cache, redundant};
 use resolv_conf::ResolvConf;
@@ -155,6 +155,10 @@ impl ScriptReader {
 }
 
 /// Reads a script. Where `lanes`, its events stand in lanes, of which there is one at least.
+///
+/// Its events are those of a trace, but that a fault is one that a socket tells: `expired`, `short-send`,
+/// `nothing-taken` and `end-of-data` are found by the client itself. Its configuration has one IPv4 server
+/// at most, `options timeout:N` and `options use-vc`.
 ///
 /// A text that is no script gives the first line that is refused, or the line after the last where a
 /// lane is wanted and none came.

@@ -135,7 +135,8 @@ impl TraceReader {
     }
 }
 
-/// Reads the text of a trace, as [`trace_text`](crate::trace_text) writes it.
+/// Reads the text of a trace, as [`trace_text`](crate::trace_text) writes it: each event and each out, by
+/// datagrams and by streams, with any fault.
 ///
 /// Any other text gives the first line at which no text of a trace can go on, or the line after the
 /// last whole one where the text ends early.

@@ -10,7 +10,7 @@ use Rattle.dns_values.specs.declared.address.IpAddr.TheVariants.{V4}
 use Rattle.resolv_conf.specs.declared.conf.ResolvConf.{ResolvConf}
 use Rattle.resolv_conf.specs.Conf.{name_server}
 use Rattle.resolv_conf.specs.Number.{number_of}
-use Rattle.resolv_conf.specs.Script.{behind, script_address, script_seconds, TakesScriptLine, takes_server, takes_timeout}
+use Rattle.resolv_conf.specs.Script.{behind, script_address, script_seconds, TakesScriptLine, takes_server, takes_timeout, takes_use_vc}
 
 pub on_ok : {T E : Type 0} {P Q : Type 0} (r : Result T E) → OnOk r P → (P → Q) → OnOk r Q
 on_ok (Ok x) h f = f h
@@ -34,11 +34,19 @@ and_then_none : {A B : Type 0} (o : Option A) (f : A → Option B) (b : B) → o
 and_then_none (Some a) f b e = (a, refl)
 and_then_none None f b e = absurd cc
 
+pub no_seconds : (line : List ℕ) (seconds : ℕ) → script_seconds line ≡ Some seconds → line ≡ codes "options use-vc" → ⊥
+unfolding behind
+no_seconds line seconds e is = let none : script_seconds (codes "options use-vc") ≡ Some seconds = sym (ap script_seconds is) ∙ e in absurd cc
+
 pub server_taken : (line text : List ℕ) (old new : ResolvConf) → script_address line ≡ Some text
     → ((octets : List ℕ) × IsDotted text octets × (old.servers ≡ []) × (new ≡ record old { servers = name_server (V4 octets) ∷ [] }))
     → TakesScriptLine line old new
 server_taken line text old new e (octets, dotted, none, is) =
     let P : ResolvConf → Type 0 = TakesScriptLine line old in subst P (sym is) (takes_server text octets e dotted none)
+
+pub not_a_server : (line text : List ℕ) → script_address line ≡ Some text → line ≡ codes "options use-vc" → ⊥
+unfolding behind
+not_a_server line text e is = let none : script_address (codes "options use-vc") ≡ Some text = sym (ap script_address is) ∙ e in absurd cc
 
 pub server_refused : (line text : List ℕ) (old new : ResolvConf) → script_address line ≡ Some text
     → ((octets : List ℕ) → IsDotted text octets → old.servers ≡ [] → ⊥) → TakesScriptLine line old new → ⊥
@@ -50,6 +58,7 @@ server_refused line text old new e denied (takes_timeout seconds f) =
     let two = word_before (codes "options") 32 line found.0 found.1 in
     let both : codes "nameserver" ≡ codes "options" = sym one ∙ two in
     cc
+server_refused line text old new e denied (takes_use_vc is) = not_a_server line text e is
 
 pub timeout_taken : (line option value : List ℕ) (seconds micros : ℕ) (old : ResolvConf) → behind (codes "options") 32 line ≡ Some option
     → behind (codes "timeout") 58 option ≡ Some value → Some seconds ≡ number_of value → micros ≡ seconds * 1000000
@@ -59,3 +68,7 @@ timeout_taken line option value seconds micros old e f g m =
     ap (option_and_then (λ t. option_and_then number_of (behind (codes "timeout") 58 t))) e ∙ ap (option_and_then number_of) f ∙ sym g in
     let P : ℕ → Type 0 = λ t. TakesScriptLine line old (record old { options = record old.options { timeout = t } }) in
     subst P (sym m) (takes_timeout seconds told)
+
+pub use_vc_taken : (line : List ℕ) (old : ResolvConf) → true ≡ bytes_eq line (codes "options use-vc")
+    → TakesScriptLine line old (record old { options = record old.options { use_vc = true } })
+use_vc_taken line old e = takes_use_vc (grind (arith, nat_tests, bytes_eq-Decides line (codes "options use-vc")))

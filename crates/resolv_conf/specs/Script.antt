@@ -1,5 +1,5 @@
 -- The lines of a configuration that scripts take.
-use Rattle.std.specs.Prelude.{◌≡◌, ◌==◌, ℕ, ◌*◌, List, [], ◌∷◌, length, codes, Option, Some, None, option_and_then, nat_lt, ◌&&◌, if◌then◌else◌}
+use Rattle.std.specs.Prelude.{◌≡◌, ◌==◌, ℕ, ◌*◌, List, [], ◌∷◌, length, codes, true, Option, Some, None, option_and_then, nat_lt, ◌&&◌, if◌then◌else◌}
 use Rattle.std.specs.List.{position_or_len, before_first, after_first}
 use Rattle.std.specs.Str.{bytes_eq}
 use Rattle.std.specs.Net.Grammar.{IsDotted}
@@ -24,10 +24,11 @@ abbrev pub script_seconds : List ℕ → Option ℕ
 script_seconds line =
     option_and_then (λ text. option_and_then number_of (behind (codes "timeout") 58 text)) (behind (codes "options") 32 line)
 
--- A line of a script makes this of a configuration: an IPv4 address is the first server, and the
--- seconds are the timeout.
+-- A line of a script makes this of a configuration: an IPv4 address is the first server, the seconds are
+-- the timeout, and `use-vc` asks for streams alone.
 pub data TakesScriptLine (line : List ℕ) (conf : ResolvConf) : ResolvConf → Type 0 where
   takes_server : (text octets : List ℕ) → script_address line ≡ Some text → IsDotted text octets → conf.servers ≡ []
       → TakesScriptLine line conf (record conf { servers = name_server (V4 octets) ∷ [] })
   takes_timeout : (seconds : ℕ) → script_seconds line ≡ Some seconds
       → TakesScriptLine line conf (record conf { options = record conf.options { timeout = seconds * 1000000 } })
+  takes_use_vc : line ≡ codes "options use-vc" → TakesScriptLine line conf (record conf { options = record conf.options { use_vc = true } })

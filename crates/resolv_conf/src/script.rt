@@ -12,9 +12,9 @@ use crate::server::{DNS_PORT, ServerConf, Transport};
 use dns_values::{Duration, IpAddr, SocketAddr, address_laws};
 
 impl ResolvConf {
-    /// Takes `nameserver` and an IPv4 address where there is no server yet, or `options timeout:`
-    /// and a number of seconds, with a single blank. Any other line is refused. An error changes
-    /// nothing.
+    /// Takes `nameserver` and an IPv4 address where there is no server yet, `options timeout:` and a
+    /// number of seconds, or `options use-vc`, with a single blank. Any other line is refused. An
+    /// error changes nothing.
     pub fn script_conf_line(&mut self, line: &str) -> Result<(), LineFault>
         ensures taken { OnOk result (TakesScriptLine line.now self.old self.new) }
         ensures refused { result ≡ Err LineFault.Parse → (new : ResolvConf) → ¬ (TakesScriptLine line.now self.old new) }
@@ -22,6 +22,10 @@ impl ResolvConf {
     {
         if let Some(address) = behind(line, "nameserver", ' ') {
             return self.script_server(address);
+        }
+        if line == "options use-vc" {
+            self.options.use_vc = true;
+            return Ok(());
         }
         let Some(option) = behind(line, "options", ' ') else {
             return Err(LineFault::Parse);

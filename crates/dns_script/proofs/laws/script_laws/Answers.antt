@@ -1,5 +1,4 @@
 use Rattle.dns_script.proofs.OneScript.{script_is_one, script_is_read, script_is_refused_once, script_is_taken}
-use Rattle.dns_script.proofs.Uncut.{script_uncut}
 use Rattle.dns_script.proofs.laws.script_laws.Goals as goal
 
 pub returns : goal.returns
@@ -8,5 +7,4 @@ returns c = record {
   script_is_taken = script_is_taken;
   script_is_read = script_is_read;
   script_is_refused_once = script_is_refused_once;
-  script_is_uncut = script_uncut;
 }
