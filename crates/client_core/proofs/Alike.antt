@@ -1,8 +1,8 @@
 -- The client of one server by datagrams and streams beside the one by datagrams alone: the same, but for the tickets, as long as no stream is used.
-use Rattle.std.proofs.Common.{◌≡◌, ℕ, zero, suc, ◌+◌, Bool, true, false, is_some, List, [], ◌∷◌, length, map, Option, Some, None, refl, sym, ap, ap₂, ◌∙◌}
+use Rattle.std.proofs.Common.{◌≡◌, ℕ, zero, suc, ◌+◌, Bool, true, false, is_some, List, [], ◌∷◌, length, Option, Some, None, refl, ap, ap₂, ◌∙◌}
 use Rattle.std.proofs.lemmas.List.{length-map}
 use Rattle.std.specs.Prelude.{option_map, option_and_then}
-use Rattle.client_request.specs.Board.{Part, posted}
+use Rattle.client_request.specs.Board.{Part}
 use Rattle.client_request.specs.Numbered.{puts, frees, entry_at}
 use Rattle.client_request.specs.Request.{Request}
 use Rattle.client_request.specs.View.{View, Heard, Transport, told, more_at, due_timer, asks, answers, drops_timer}
@@ -144,16 +144,13 @@ module _ (outer : ℕ → ℕ) where
 
     -- The fallback's tables
 
+    pub job_there : (k : ℕ) (held : Holdings) (x : ℕ × Request) → entry_at k held ≡ Some x → entry_at (outer k) (renamed outer job_of held) ≡ Some (job_of k x)
+    job_there k held x e = entry_renamed outer job_of keeps k held ∙ ap (option_map (job_of k)) e
+
     waiting_there : (k : ℕ) (held : Holdings) (x : ℕ × Request) → entry_at k held ≡ Some x → fallback.waiting_below (lower k) (tables_of held) ≡ Some (outer k, job_of k x)
     waiting_there k held x e =
         ap (fallback.waiting_at (tables_of held)) (entry_renamed lower (λ k x. outer k) lower_keeps k held ∙ ap (option_map (λ (x : ℕ × Request). outer k)) e)
         ∙ ap (option_map (λ (j : Job Request dgram.Asked stream.Asked). (outer k, j))) (job_there k held x e)
-      where
-        job_there : (k : ℕ) (held : Holdings) (x : ℕ × Request) → entry_at k held ≡ Some x → entry_at (outer k) (renamed outer job_of held) ≡ Some (job_of k x)
-        job_there k held x e = entry_renamed outer job_of keeps k held ∙ ap (option_map (job_of k)) e
-
-    pub job_there : (k : ℕ) (held : Holdings) (x : ℕ × Request) → entry_at k held ≡ Some x → entry_at (outer k) (renamed outer job_of held) ≡ Some (job_of k x)
-    job_there k held x e = entry_renamed outer job_of keeps k held ∙ ap (option_map (job_of k)) e
 
     freed_held : (k : ℕ) (held : Holdings) → record { jobs = frees (outer k) (renamed outer job_of held); tickets = frees (lower k) (renamed lower (λ k x. outer k) held) } ≡ tables_of (frees k held)
     freed_held k held = ap₂ (λ jobs tickets. record { jobs = jobs; tickets = tickets }) (frees_renamed outer job_of keeps k held) (frees_renamed lower (λ k x. outer k) lower_keeps k held)

@@ -1,11 +1,10 @@
 -- A request is asked, at the client by datagrams and streams and at the one by datagrams alone.
-use Rattle.std.proofs.Common.{◌≡◌, ℕ, suc, ◌+◌, ◌<◌, ◌≤◌, ◌^◌, Bool, true, false, is_some, if◌then◌else◌, List, [], ◌∷◌, ◌++◌, length, Option, Some, None, Result, Ok, Err, ltb, refl, sym, ap, ap₂, subst, subst₂, ◌∙◌, arith}
-use Rattle.std.proofs.lemmas.Bool.Decides.{nat_tests}
+use Rattle.std.proofs.Common.{◌≡◌, ℕ, ◌+◌, ◌≤◌, Bool, true, false, is_some, if◌then◌else◌, List, [], Option, Some, None, Result, Ok, Err, refl, sym, ap, ap₂, subst, subst₂, ◌∙◌, arith}
 use Rattle.std.specs.Prelude.{option_map, option_and_then, nat_lt}
 use Rattle.client_request.specs.Composed.{composed}
 use Rattle.client_request.specs.Numbered.{puts, frees, entry_at}
 use Rattle.client_request.specs.Request.{Request}
-use Rattle.client_request.specs.Timers.{can_draw, with_timer}
+use Rattle.client_request.specs.Timers.{can_draw}
 use Rattle.client_request.specs.View.{View, answers}
 use Rattle.client_request.specs.declared.error.Error.{Error}
 use Rattle.client_request.specs.declared.error.Error.TheVariants as errors
@@ -13,7 +12,6 @@ use Rattle.client_dgram.specs.Plain.{Tables, After}
 use Rattle.client_dgram.specs.Plain as dgram
 use Rattle.client_dgram.specs.Settings.{default_settings}
 use Rattle.client_multi.specs.Fallback as fallback
-use Rattle.headline.specs.machine.Single.{State, enter}
 use Rattle.client_core.specs.Client.{Asked, client_of, replies, accepts, sends, waits, asks_request}
 use Rattle.client_core.specs.First as first
 use Rattle.client_core.specs.Upstream as upstream
@@ -22,14 +20,13 @@ use Rattle.client_core.specs.declared.asked.Waiting.{Waiting}
 use Rattle.client_core.specs.declared.first.Passed.TheVariants.{Here, Below}
 use Rattle.client_core.proofs.Alone.{Response, requests}
 use Rattle.client_core.proofs.Alone as alone
-use Rattle.client_core.proofs.Alike.{Holdings, by_dgram, by_stream, lower, job_of, parts_of, layer_of, response_of, waiting_as, asked_as, view_as, both_as, client_as, Alike, lower_keeps, replies_same, admits_there, collected}
+use Rattle.client_core.proofs.Alike.{Holdings, by_dgram, by_stream, lower, parts_of, layer_of, response_of, asked_as, view_as, client_as, Alike, lower_keeps, replies_same, admits_there, collected}
 use Rattle.client_core.proofs.AlikeCalls.{Matches, HoldsAll, lifted_as, Posts_nothing, draws_below, holds_more, waits_same}
 use Rattle.client_core.proofs.Asking.{with_deadline, started_at}
 use Rattle.client_core.proofs.Clients.{lifted}
 use Rattle.client_core.proofs.Renamed.{Keeps, freed_other, put_here, put_there}
 use Rattle.client_core.proofs.RenamedDgram.{boarded, tables, after, takes_at_same}
-use Rattle.client_core.proofs.Replying.{replied, replies_once}
-use Rattle.client_core.proofs.Steps.{Leads}
+use Rattle.client_core.proofs.Replying.{replies_once}
 use Rattle.client_core.proofs.Tables.{Sorted, at_frees}
 use Rattle.client_core.proofs.Tickets.{second}
 use Rattle.client_core.proofs.Tied.{each_number, with_here}

@@ -1,37 +1,35 @@
 -- The calls of the transport, at the client by datagrams and streams and at the one by datagrams alone.
-use Rattle.std.proofs.Common.{◌≡◌, ℕ, suc, ◌+◌, ◌<◌, ◌≤◌, Bool, true, false, is_some, if◌then◌else◌, List, [], ◌∷◌, ◌++◌, Option, Some, None, Ok, Err, ◌^◌, ltb, refl, sym, ap, ap₂, subst, subst₂, ◌∙◌, arith}
+use Rattle.std.proofs.Common.{◌≡◌, ℕ, ◌+◌, ◌≤◌, true, false, is_some, List, [], Option, Some, None, ◌^◌, ltb, refl, sym, ap, ap₂, subst, subst₂, ◌∙◌, arith}
 use Rattle.std.proofs.lemmas.Bool.Decides.{nat_tests}
-use Rattle.std.specs.Prelude.{option_map, option_and_then, nat_lt}
-use Rattle.client_request.specs.Board.{Part, posted}
+use Rattle.std.specs.Prelude.{option_and_then}
+use Rattle.client_request.specs.Board.{Part}
 use Rattle.client_request.specs.Numbered.{puts, frees, entry_at}
 use Rattle.client_request.specs.Request.{Request}
-use Rattle.client_request.specs.Timers.{can_draw, with_timer}
-use Rattle.client_request.specs.View.{View, Heard, asks, answers}
+use Rattle.client_request.specs.Timers.{can_draw}
+use Rattle.client_request.specs.View.{View, Heard}
 use Rattle.client_request.specs.declared.board.Posted.{Posted}
-use Rattle.client_request.specs.declared.error.Error.{Error}
 use Rattle.client_request.specs.declared.event.Out.{Out}
 use Rattle.client_dgram.specs.Plain.{Tables, After}
 use Rattle.client_dgram.specs.Plain as dgram
 use Rattle.client_dgram.specs.Settings.{default_settings}
 use Rattle.client_multi.specs.Fallback as fallback
-use Rattle.client_multi.specs.declared.dgram_stream.job.Job.{Job}
-use Rattle.headline.specs.machine.Single.{State, Done}
-use Rattle.client_core.specs.Client.{Asked, Client, client_of, replies, settles, hears, accepts, waits}
+use Rattle.headline.specs.machine.Single.{Done}
+use Rattle.client_core.specs.Client.{Asked, client_of, replies, settles, hears, waits}
 use Rattle.client_core.specs.First as first
 use Rattle.client_core.specs.Upstream as upstream
 use Rattle.client_core.specs.Whole as whole
 use Rattle.client_core.specs.declared.asked.Waiting.{Waiting}
-use Rattle.client_core.specs.declared.first.Passed.TheVariants.{Here, Below}
+use Rattle.client_core.specs.declared.first.Passed.TheVariants.{Below}
 use Rattle.client_core.specs.declared.upstream.Upstream.TheVariants as server
 use Rattle.client_core.proofs.Alone.{Response, requests}
 use Rattle.client_core.proofs.Alone as alone
-use Rattle.client_core.proofs.Alike.{Holdings, Parts, by_dgram, by_stream, no_stream, stream_rests, lower, job_of, tables_of, parts_of, fallback_of, layer_of, response_of, waiting_as, asked_as, view_as, client_as, Alike, lower_keeps, replies_same, job_there, without_job, admits_there, collected, collects_one}
+use Rattle.client_core.proofs.Alike.{Holdings, Parts, by_dgram, by_stream, stream_rests, lower, parts_of, fallback_of, layer_of, response_of, waiting_as, asked_as, view_as, client_as, Alike, lower_keeps, replies_same, job_there, without_job, collected, collects_one}
 use Rattle.client_core.proofs.Arms.{Heeds, Silent, Posts}
 use Rattle.client_core.proofs.Clients.{answer_wait, lifted}
 use Rattle.client_core.proofs.Renamed.{Keeps, puts_renamed, freed_other, put_here, put_there}
-use Rattle.client_core.proofs.RenamedDgram.{boarded, seen, tables, after, put_ticket, hears_same, drops_same, takes_at_same}
-use Rattle.client_core.proofs.Replying.{only, replied, replies_once}
-use Rattle.client_core.proofs.Steps.{Leads, leads_on, Does}
+use Rattle.client_core.proofs.RenamedDgram.{boarded, tables, after, put_ticket, hears_same, drops_same}
+use Rattle.client_core.proofs.Replying.{only, replies_once}
+use Rattle.client_core.proofs.Steps.{Leads}
 use Rattle.client_core.proofs.Tables.{Sorted, at_frees}
 use Rattle.client_core.proofs.Tied.{waiting_of, each_number, with_here}
 use Rattle.client_core.proofs.Uncut.{AllWhole, LeavesWhole}
@@ -130,9 +128,6 @@ module _ (outer : ℕ → ℕ) (keeps : Keeps outer) (timeout : ℕ) (t : Tables
       → Matches (Alike outer true v.ticket) (hears whole.machine h (client_as outer true held t (a, fallback.onto b v))) (hears alone.machine h (client_of (alone.layer_of true t) (a, fallback.onto b v))))
       (sym board) quiet
     where
-      u : View
-      u = record v { board = [] }
-
       quiet : Leads (Hears timeout a v.ticket) (dgram.hears requests 0 default_settings h t (fallback.onto [] v)) → LeavesWhole (dgram.hears requests 0 default_settings h t (fallback.onto [] v))
           → Matches (Alike outer true v.ticket) (hears whole.machine h (client_as outer true held t (a, fallback.onto [] v))) (hears alone.machine h (client_of (alone.layer_of true t) (a, fallback.onto [] v)))
       quiet f w =
@@ -180,9 +175,6 @@ module _ (outer : ℕ → ℕ) (keeps : Keeps outer) (t : Tables Request) (held 
       (option_and_then (λ x. Some (client_of x.0 (a, x.1))) (alone.machine.cancel (Below (record { ticket = k; given = false })) (alone.layer_of true t) (fallback.onto b v))))
       (sym board) (quiet (some_there (entry_at k held) there))
     where
-      u : View
-      u = fallback.onto [] v
-
       quiet : (x : ℕ × Request) × (entry_at k held ≡ Some x) → Posts_nothing v.ticket (dgram.drops 0 k t (fallback.onto [] v))
           → Matches (Alike outer true v.ticket)
           (option_and_then (λ x. Some (client_of x.0 (asked_as outer a, x.1))) (whole.machine.cancel (response_of outer (Below (record { ticket = k; given = false }))) (layer_of outer true held t) (view_as outer (fallback.onto [] v))))

@@ -1,26 +1,22 @@
 -- Where no stream is used, a plain trace of the client is one of the client by datagrams alone; and so it is a run of the machine.
-use Rattle.std.proofs.Common.{◌≡◌, ℕ, zero, suc, ◌+◌, ◌≤◌, Bool, true, false, ◌||◌, ltb, List, [], ◌∷◌, length, map, Option, Some, None, refl, sym, ap, ap₂, subst, ◌∙◌, arith}
+use Rattle.std.proofs.Common.{◌≡◌, ℕ, suc, ◌≤◌, Bool, true, false, ◌||◌, ltb, List, [], ◌∷◌, length, Option, Some, None, refl, sym, ap, ap₂, ◌∙◌, arith}
 use Rattle.std.proofs.lemmas.Bool.Decides.{nat_tests}
 use Rattle.std.specs.Prelude.{option_map, option_and_then}
-use Rattle.client_request.specs.Composed.{composed}
-use Rattle.client_request.specs.Request.{Request}
-use Rattle.client_request.specs.View.{View}
 use Rattle.client_request.specs.declared.event.Event.{Event}
 use Rattle.client_request.specs.declared.event.Row.{Row}
 use Rattle.client_request.specs.declared.event.What.{What}
 use Rattle.client_request.specs.declared.event.What.TheVariants.{Ask, Opened, OpenFailed, SendFailed, ShortSend, Datagram, RecvFailed, Wrote, WriteFailed, Bytes, ReadFailed, Ended, Tick}
 use Rattle.client_dgram.specs.Plain as dgram
-use Rattle.headline.specs.machine.Single.{fresh, IsRun}
+use Rattle.headline.specs.machine.Single.{fresh}
 use Rattle.headline.specs.Theorem.{NoneIsTruncated}
-use Rattle.client_core.specs.Client.{client_of, nothing_asked, rested, row_of, row_and_rest, then_rows, client_step, plain_rows}
+use Rattle.client_core.specs.Client.{nothing_asked, rested, row_of, row_and_rest, then_rows, client_step, plain_rows}
 use Rattle.client_core.specs.Headline.{AsksFirst, AsksByDatagram, PlainTracesAreRuns, PlainTracesKeepTheirEvents}
 use Rattle.client_core.specs.Whole as whole
 use Rattle.client_core.proofs.Alone as alone
-use Rattle.client_core.proofs.Alike.{layer_of, client_as, Alike}
+use Rattle.client_core.proofs.Alike.{layer_of}
 use Rattle.client_core.proofs.AlikeAsking.{is_refused}
 use Rattle.client_core.proofs.AlikeCalls.{Matches}
 use Rattle.client_core.proofs.AlikeSteps.{next_number, IsNumbered, Both, step_both}
-use Rattle.client_core.proofs.Clients.{TiedClient}
 use Rattle.client_core.proofs.Events.{rows_of_events}
 use Rattle.client_core.proofs.Renamed.{Keeps}
 use Rattle.client_core.proofs.Runs.{rested_client, starts, traces_run}
@@ -28,8 +24,6 @@ use Rattle.client_core.proofs.Tickets.{tickets, Agrees, agrees_now, agrees_later
 use Rattle.resolv_conf.specs.declared.conf.ResolvConf.{ResolvConf}
 use Rattle.resolv_conf.specs.declared.options.ResolvOptions.{ResolvOptions}
 use Rattle.resolv_conf.specs.declared.server.ServerConf.{ServerConf}
-use Rattle.resolv_conf.specs.declared.server.Transport.{Transport}
-use Rattle.resolv_conf.specs.declared.server.Transport.TheVariants.{UdpTcp}
 
 -- which of the requests that are asked are refused at once
 abbrev pub with_flag : (has : Bool) → What → List Bool → List Bool

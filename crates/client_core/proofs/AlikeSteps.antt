@@ -1,7 +1,7 @@
 -- The steps of the client by datagrams and streams, beside those of the one by datagrams alone.
-use Rattle.std.proofs.Common.{◌≡◌, ℕ, zero, suc, ◌+◌, ◌≤◌, ◌%◌, Bool, true, false, is_some, List, [], ◌∷◌, length, take, Option, Some, None, Err, max, refl, sym, ap, ap₂, subst, subst₂, ◌∙◌, le_refl, arith}
+use Rattle.std.proofs.Common.{◌≡◌, ℕ, zero, suc, ◌+◌, ◌≤◌, ◌%◌, Bool, true, false, is_some, List, [], length, Option, Some, None, max, refl, sym, ap, ap₂, subst, subst₂, ◌∙◌, le_refl, arith}
 use Rattle.std.specs.Prelude.{option_map, option_and_then}
-use Rattle.client_request.specs.Numbered.{puts, frees, entry_at}
+use Rattle.client_request.specs.Numbered.{frees, entry_at}
 use Rattle.client_request.specs.Request.{Request}
 use Rattle.client_request.specs.Timers.{due_now, cancelled, fired_at, without_timer}
 use Rattle.client_request.specs.View.{View, told, due_timer, word}
@@ -17,33 +17,31 @@ use Rattle.client_request.specs.declared.timers.Timer.{Timer}
 use Rattle.client_dgram.specs.Plain.{Tables, After}
 use Rattle.client_dgram.specs.Plain as dgram
 use Rattle.client_dgram.specs.Settings.{default_settings}
-use Rattle.headline.specs.Time.{read_timeout}
 use Rattle.headline.specs.Theorem.{IsUncut}
-use Rattle.headline.specs.machine.Single.{State, Done, act, content, nothing}
-use Rattle.client_core.specs.Client.{Asked, client_of, at_moment, hears, tells, brings, more_frames, times_out, fire, fires_at, fires, fires_first, fires_all, happens, client_step}
+use Rattle.headline.specs.machine.Single.{State, Done, act, content}
+use Rattle.client_core.specs.Client.{Asked, client_of, at_moment, hears, tells, more_frames, times_out, fire, fires_at, fires, fires_first, fires_all, happens, client_step}
 use Rattle.client_core.specs.Whole as whole
-use Rattle.client_core.specs.declared.asked.Waiting.{Waiting}
-use Rattle.client_core.specs.declared.first.Passed.TheVariants.{Here, Below}
+use Rattle.client_core.specs.declared.first.Passed.TheVariants.{Here}
 use Rattle.client_core.proofs.Alone.{Response, requests}
 use Rattle.client_core.proofs.Alone as alone
 use Rattle.client_core.proofs.Alike.{Holdings, layer_of, waiting_as, asked_as, view_as, client_as, Alike}
 use Rattle.client_core.proofs.AlikeAsking.{is_refused, asks_alike}
-use Rattle.client_core.proofs.AlikeCalls.{Matches, HoldsAll, Hears, holds_less, hears_alike, hears_nothing, Posts_nothing, drops_alike}
+use Rattle.client_core.proofs.AlikeCalls.{Matches, HoldsAll, Hears, holds_less, hears_alike, hears_nothing, drops_alike}
 use Rattle.client_core.proofs.Arms.{Heeds, opens_does, open_fails_does, breaks_does, comes_does, stays}
 use Rattle.client_core.proofs.Asking.{orderly_waiting, takes_does, asked_so}
-use Rattle.client_core.proofs.Clients.{answer_wait, TiedClient, Comes, comes_on, Goes, FiresTo, one_fires, FiresOne}
+use Rattle.client_core.proofs.Clients.{answer_wait, TiedClient, Comes, comes_on, Goes, one_fires}
 use Rattle.client_core.proofs.Firing.{late_fires, deadline_fires, left_after, with_reply}
 use Rattle.client_core.proofs.Happening.{IsTold, frames_rest}
 use Rattle.client_core.proofs.Pictures.{picture, Orderly, without_asked}
 use Rattle.client_core.proofs.Renamed.{Keeps, entry_renamed, frees_renamed}
 use Rattle.client_core.proofs.RenamedDgram.{valued, ticket_at, free_ticket}
-use Rattle.client_core.proofs.Runs.{clocked_client, happens_does, fires_all_does, waits_so}
+use Rattle.client_core.proofs.Runs.{clocked_client, happens_does, waits_so}
 use Rattle.client_core.proofs.Steps.{Leads, leads_on, Does}
 use Rattle.client_core.proofs.Tables.{frees_nothing}
 use Rattle.client_core.proofs.Tickets.{second}
 use Rattle.client_core.proofs.Tied.{waiting_of, Ties}
 use Rattle.client_core.proofs.TimerLaws.{due_of, fires_now, due_listed}
-use Rattle.client_core.proofs.Uncut.{AllWhole, LeavesWhole, tells_whole, due_whole}
+use Rattle.client_core.proofs.Uncut.{AllWhole, tells_whole, due_whole}
 
 -- the number of the next request after an event
 abbrev pub next_number : What → ℕ → ℕ

@@ -1,8 +1,7 @@
 -- The datagram transport under other tickets does the same.
-use Rattle.std.proofs.Common.{◌≡◌, ℕ, zero, suc, ◌+◌, ◌-◌, ◌%◌, Bool, true, false, if◌then◌else◌, List, [], ◌∷◌, ◌++◌, map, take, Option, Some, None, Result, Ok, Err, nat_cmp, refl, sym, ap, ap₂, ◌∙◌}
+use Rattle.std.proofs.Common.{◌≡◌, ℕ, zero, suc, ◌+◌, ◌%◌, Bool, true, false, if◌then◌else◌, List, [], ◌∷◌, map, take, Option, Some, None, Result, Ok, Err, nat_cmp, refl, sym, ap, ap₂, ◌∙◌}
 use Rattle.std.proofs.lemmas.List.{map-append}
-use Rattle.std.specs.Prelude.{option_map, option_and_then, nat_lt}
-use Rattle.std.specs.BTreeSet.{insert_key}
+use Rattle.std.specs.Prelude.{option_map, option_and_then}
 use Rattle.client_request.specs.Board.{Part}
 use Rattle.client_request.specs.Numbered.{puts, frees, entry_at}
 use Rattle.client_request.specs.Requests.{Requests}
@@ -201,9 +200,6 @@ module _ {R : Type 0} (f shift : ℕ → ℕ) (keeps : Keeps f) where
           → Plain.sends_composed requests server settings p (f k) id j r (T s) (seen f shift v) c ≡ A (Plain.sends_composed requests server settings p k id j r s v c)
       sends_composed_same p k id j r s v (Ok octets) = by (can_draw v.timers.next)
         where
-          w : View
-          w = record v { timers = with_timer (v.now + settings.read_timeout) v.timers }
-
           by : (b : Bool) → option_and_then (λ w. Some (Plain.sent_at requests server settings p (f k) id j r octets (T s) v.timers.next w)) (if b then Some (record (seen f shift v) { timers = with_timer (v.now + settings.read_timeout) v.timers }) else None)
               ≡ A (option_and_then (λ w. Some (Plain.sent_at requests server settings p k id j r octets s v.timers.next w)) (if b then Some (record v { timers = with_timer (v.now + settings.read_timeout) v.timers }) else None))
           by true =

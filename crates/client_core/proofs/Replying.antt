@@ -1,5 +1,5 @@
 -- Results are taken off the board as replies.
-use Rattle.std.proofs.Common.{◌≡◌, ℕ, ◌+◌, ◌≤◌, List, [], ◌∷◌, ◌++◌, length, Some, refl, sym, ap, subst, ◌∙◌, append_assoc, le_trans}
+use Rattle.std.proofs.Common.{◌≡◌, ℕ, ◌≤◌, List, [], ◌∷◌, ◌++◌, length, Some, refl, sym, ap, subst, ◌∙◌, append_assoc, le_trans}
 use Rattle.client_request.specs.Board.{Part}
 use Rattle.client_request.specs.Request.{Request}
 use Rattle.client_request.specs.View.{View, asks, drops_timer}

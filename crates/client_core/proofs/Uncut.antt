@@ -1,13 +1,13 @@
 -- What the datagram transport posts is no truncated message, where none came.
-use Rattle.std.proofs.Common.{◌≡◌, ℕ, zero, suc, ◌+◌, ◌%◌, ◌≤◌, Bool, true, false, ◌&&◌, if◌then◌else◌, List, [], ◌∷◌, ◌++◌, length, take, Option, Some, None, Result, Ok, Err, leb, refl, ◌∙◌, arith}
+use Rattle.std.proofs.Common.{◌≡◌, ℕ, zero, suc, ◌+◌, ◌%◌, ◌≤◌, Bool, true, false, ◌&&◌, if◌then◌else◌, List, [], ◌∷◌, length, take, Option, Some, None, Result, Ok, Err, leb, refl, ◌∙◌, arith}
 use Rattle.std.proofs.lemmas.Bool.Decides.{nat_tests}
 use Rattle.std.specs.Prelude.{option_and_then}
 use Rattle.dns_base.specs.Header.{tc_of}
 use Rattle.client_request.specs.Board.{Part, posted}
-use Rattle.client_request.specs.Numbered.{puts, frees, entry_at}
+use Rattle.client_request.specs.Numbered.{frees, entry_at}
 use Rattle.client_request.specs.Request.{Request}
 use Rattle.client_request.specs.Timers.{can_draw, with_timer}
-use Rattle.client_request.specs.View.{View, Heard, told, more_at, due_timer, word, drawn, asks, answers}
+use Rattle.client_request.specs.View.{View, due_timer, word, drawn, asks, answers}
 use Rattle.client_request.specs.declared.board.Posted.{Posted}
 use Rattle.client_request.specs.declared.error.Error.{Error}
 use Rattle.client_request.specs.declared.error.Error.TheVariants as errors

@@ -2,7 +2,8 @@
 
 ghost use Rattle.client_core.specs.Headline.{EveryPlainTraceIsRight, PlainTracesAreRuns, PlainTracesKeepTheirEvents};
 
-/// Every plain trace is a run of the machine of small moves, and has a row for each event.
+/// Every plain trace has a row for each event. Where the first server is asked by datagrams, and no datagram
+/// that comes is truncated, it is a run of the machine of small moves of one server by datagrams.
 pub fn plain_traces_are_runs()
     ensures runs { PlainTracesAreRuns }
     ensures events { PlainTracesKeepTheirEvents }
