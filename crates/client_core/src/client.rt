@@ -69,7 +69,7 @@ impl Model for Client {
       failed = c.failed;
     } };
 
-    ghost invariant = { λ c. c.failed ≡ false → holds_failed upstream.has_failed c.layer ≡ false };
+    ghost invariant = { λ c. c.failed ≡ false → holds_failed upstream.holds_failed c.layer ≡ false };
 }
 
 /// Whether a server is asked by streams alone.
@@ -124,9 +124,9 @@ fn turn<W: Words>(
     ensures lends { LendsTheSame cx.old cx.new }
     ensures ok { Steps result (plain.client_step machine timeout event.now (client_in layer.old asked.old W.stream cx.old)) (client_in layer.new asked.new W.stream cx.new) }
     ensures numbers { NumbersRunOut result (plain.client_step machine timeout event.now (client_in layer.old asked.old W.stream cx.old)) }
-    ensures keeps { OnOk result (holds_failed upstream.has_failed layer.new ≡ holds_failed upstream.has_failed layer.old) }
+    ensures keeps { OnOk result (holds_failed upstream.holds_failed layer.new ≡ holds_failed upstream.holds_failed layer.old) }
     ensures refused { IfErr result IsRefusal }
-    ensures failed_only { IsErrOf result Error.Failed → holds_failed upstream.has_failed layer.old ≡ true }
+    ensures failed_only { IsErrOf result Error.Failed → holds_failed upstream.holds_failed layer.old ≡ true }
 {
     take_in(layer, asked, cx, alloc, timeout, event)
 }
