@@ -1,6 +1,4 @@
-pub mod ByDatagram
 pub mod Delivery
 pub mod Inputs
 pub mod Outcomes
 pub mod Refusals
-pub mod Replays

@@ -2,13 +2,12 @@
 
 ghost use Rattle.std.specs.Prelude.{◌≡◌, ◌≢◌, ◌≤◌, [], length, false, Some, None, IfSome, IfOk, IfErr};
 ghost use Rattle.dns_values.specs.Source.{Rose};
-ghost use Rattle.client_core.specs.Headline.{conf_of, AsksByDatagram};
+ghost use Rattle.client_core.specs.Headline.{conf_of};
 ghost use Rattle.headline.specs.Right.{Right};
 ghost use Rattle.headline.specs.Settings.{first_settings};
 ghost use Rattle.headline.specs.Timely.{Timely};
-ghost use Rattle.headline.specs.Theorem.{NoneIsTruncated};
 ghost use Rattle.dns_script.specs.ScriptReading.{IsScript};
-ghost use Rattle.dnsq_run.specs.Program.{first_lane, rows_of, IsReplayed, IsRefused, StopsForNumbers, IsEarly, status_of, line_of, numbers_line};
+ghost use Rattle.dnsq_run.specs.Program.{first_lane, rows_of, Premised, IsReplayed, IsRefused, StopsForNumbers, IsEarly, status_of, line_of, numbers_line};
 
 use crate::ending::Ending;
 use crate::lines::{refused_line, says};
@@ -16,7 +15,7 @@ use crate::statuses::{NO_MEMORY, NUMBERS_USED, REFUSED, SOURCE_FAULT};
 use crate::usage::Command;
 use client_core::Client;
 use client_request::{Error, Event, ListWords, Trace};
-use dns_script::{Lanes, Script, ScriptFault, read_script, script_laws, trace_text};
+use dns_script::{Lanes, Script, ScriptFault, read_script, trace_text};
 use dns_values::{ReadFault, Source, read_to_end};
 use std::alloc::Global;
 
@@ -44,13 +43,10 @@ fn input<S: Source>(alloc: Global, source: &mut S) -> Result<Vec<u8>, Ending>
 /// The script that a text is.
 fn script_of(alloc: Global, text: &[u8]) -> Result<Script, Ending>
     ensures script { IfOk result (λ script. IsScript false text.now script) }
-    ensures uncut { IfOk result (λ script. NoneIsTruncated (first_lane script.lanes)) }
-    ensures by_datagram { IfOk result (λ script. AsksByDatagram script.conf) }
     ensures early { IfErr result IsEarly }
     ensures refused { IfErr result (λ e. length text.now ≤ 16777216 → status_of e ≡ 1 → IsRefused Command.Replay text.now (line_of e)) }
     ensures no_fault { IfErr result (λ e. (status_of e ≢ 3) × (status_of e ≢ 7)) }
 {
-    script_laws();
     match read_script(alloc, text, false) {
         Ok(script) => Ok(script),
         Err(ScriptFault::Line(line)) => Err(refused_line(alloc, line)),
@@ -71,8 +67,8 @@ fn first_lane(lanes: &Lanes) -> &[Event]
 /// The trace of a script with one lane.
 fn trace_of(alloc: Global, script: Script) -> Result<Trace, Ending>
     ensures plain { IfOk result (λ t. rows_of script ≡ Some t.rows) }
-    ensures right { IfOk result (λ t. AsksByDatagram script.conf → NoneIsTruncated (first_lane script.lanes) → Right (conf_of script.conf) first_settings t.rows) }
-    ensures timely { IfOk result (λ t. AsksByDatagram script.conf → NoneIsTruncated (first_lane script.lanes) → Timely (conf_of script.conf) t.rows) }
+    ensures right { IfOk result (λ t. Premised script (Right (conf_of script.conf) first_settings t.rows)) }
+    ensures timely { IfOk result (λ t. Premised script (Timely (conf_of script.conf) t.rows)) }
     ensures early { IfErr result IsEarly }
     ensures numbers { IfErr result (λ e. status_of e ≡ 7 → rows_of script ≡ None) }
     ensures numbers_line { IfErr result (λ e. status_of e ≡ 7 → line_of e ≡ numbers_line) }
