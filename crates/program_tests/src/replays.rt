@@ -62,3 +62,34 @@ fn a_question_has_its_reply(rt: HostRuntime) -> Result<(), Fail> {
     }
     Ok(())
 }
+
+/// Moments that go back, and a place that is not there; the deadline is five seconds behind the greatest moment at the asking.
+const BACK: &str = "conf nameserver 192.0.2.53
+words 4660
+at 10 tick
+at 5 tick
+at 5 datagram 9 00
+at 0 ask 000001000001000000000000076578616d706c6503636f6d0000010001 00000100 -
+at 5000009 tick
+at 5000010 tick
+";
+
+const BACK_TRACED: &str = "trace 1
+at 10 tick
+at 5 tick
+at 5 datagram 9 00
+at 0 ask 000001000001000000000000076578616d706c6503636f6d0000010001 00000100 -
+> start 0 0 dgram
+> open-dgram 0 0
+at 5000009 tick
+at 5000010 tick
+> reply 0 err TimedOut
+> close 0
+end
+";
+
+#[test]
+fn moments_never_go_back(rt: HostRuntime) -> Result<(), Fail> {
+    assert!(rt; writes(rt.alloc(), BACK, BACK_TRACED)?);
+    Ok(())
+}

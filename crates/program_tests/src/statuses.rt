@@ -39,8 +39,8 @@ const ENDINGS: [(&str, &str, [u64; 2], u8, &str); 9] = [
         "replay",
         "conf nameserver 192.0.2.53\nat 0 bytes 0 00\n",
         [9, 9],
-        1,
-        "line 2 refused\n",
+        0,
+        "trace 1\nat 0 bytes 0 00\nend\n",
     ),
     (
         "help",

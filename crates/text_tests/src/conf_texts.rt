@@ -118,7 +118,7 @@ fn numbers_are_unsigned_and_fit(rt: HostRuntime) {
 }
 
 /// The lines of a script's configuration, one after the other, and what each answers.
-const SCRIPTED: [(&str, Result<(), LineFault>); 10] = [
+const SCRIPTED: [(&str, Result<(), LineFault>); 15] = [
     ("nameserver 2001:db8::53", Err(LineFault::Parse)),
     ("nameserver  192.0.2.53", Err(LineFault::Parse)),
     ("nameserver 192.0.2.53", Ok(())),
@@ -127,6 +127,11 @@ const SCRIPTED: [(&str, Result<(), LineFault>); 10] = [
     ("options timeout:", Err(LineFault::Parse)),
     ("options timeout:1 rotate", Err(LineFault::Parse)),
     ("options rotate", Err(LineFault::Parse)),
+    ("options  use-vc", Err(LineFault::Parse)),
+    ("options use-vc ", Err(LineFault::Parse)),
+    ("options use-vc:1", Err(LineFault::Parse)),
+    ("options use-vc", Ok(())),
+    ("options timeout:20 use-vc", Err(LineFault::Parse)),
     ("# x", Err(LineFault::Parse)),
     ("", Err(LineFault::Parse)),
 ];
@@ -136,7 +141,7 @@ fn takes(conf: &mut ResolvConf, row: &(&str, Result<(), LineFault>)) -> bool {
 }
 
 #[test]
-fn scripts_take_two_lines(rt: HostRuntime) {
+fn scripts_take_three_lines(rt: HostRuntime) {
     let mut conf = ResolvConf::new(rt.alloc());
     for row in &SCRIPTED {
         assert!(rt; takes(&mut conf, row), "{}", row.0);
@@ -145,7 +150,7 @@ fn scripts_take_two_lines(rt: HostRuntime) {
         shows(
             rt.alloc(),
             &conf,
-            "nameserver 192.0.2.53\noptions timeout:10\n"
+            "nameserver 192.0.2.53\noptions timeout:10 use-vc\n"
         )
     );
 }

@@ -8,12 +8,17 @@ use std::alloc::Global;
 use std::test::Fail;
 
 /// A script with comments, a line that is empty, and none behind its last.
-const SCRIPT: &str = "# a script\r\n\nconf nameserver 192.0.2.1\nwords 1 2\nwords 3
+const SCRIPT: &str =
+    "# a script\r\n\nconf nameserver 192.0.2.1\nconf options use-vc\nwords 1 2\nwords 3
 at 0 ask 000001000001000000000000026831076578616d706c6503636f6d0000010001 00000100 -
 at 5 opened 0\nat 6 datagram 0 00\n#\nat 7 tick";
 
 fn has_its_parts(script: &Script) -> bool {
-    script.words.len() == 3 && script.lanes.len() == 1 && script.conf.servers.len() == 1
+    let conf = &script.conf;
+    script.words.len() == 3
+        && script.lanes.len() == 1
+        && conf.servers.len() == 1
+        && conf.options.use_vc
 }
 
 #[test]
@@ -56,6 +61,58 @@ fn fault_of(alloc: Global, base: &[&str; 3]) -> Result<Option<ScriptFault>, Fail
 fn a_whole_zone_and_no_question_are_refused(rt: HostRuntime) -> Result<(), Fail> {
     for (base, fault) in &BASES {
         assert!(rt; fault_of(rt.alloc(), base)? == *fault);
+    }
+    Ok(())
+}
+
+/// Lines behind an event, and whether a script has them: what happens at a stream, a truncated datagram, what lacks a part
+/// or has one too many, faults that the client finds itself, what was put out, and what stands before every event.
+const LINES: [(&str, bool); 28] = [
+    ("at 1 wrote 0 46", true),
+    ("at 1 wrote 0 0", true),
+    ("at 1 write-failed 0 broken", true),
+    ("at 1 bytes 0 001d00", true),
+    ("at 1 bytes 0 -", true),
+    ("at 1 read-failed 0 reset", true),
+    ("at 1 ended 18446744073709551615", true),
+    ("at 1 datagram 0 000083800000000000000000", true),
+    ("at 1 open-failed 0 other", true),
+    ("at 1 wrote 0", false),
+    ("at 1 wrote 0 18446744073709551616", false),
+    ("at 1 write-failed 0", false),
+    ("at 1 bytes 0", false),
+    ("at 1 bytes 0 0", false),
+    ("at 1 bytes 0 0A", false),
+    ("at 1 read-failed 0 reset 1", false),
+    ("at 1 ended", false),
+    ("at 1 ended 0 0", false),
+    ("at 1 open-failed 0 expired", false),
+    ("at 1 send-failed 0 short-send", false),
+    ("at 1 recv-failed 0 expired", false),
+    ("at 1 write-failed 0 nothing-taken", false),
+    ("at 1 read-failed 0 end-of-data", false),
+    ("at 1 resume 0 00", false),
+    ("> resume 0 00", false),
+    ("conf options use-vc", false),
+    ("words 1", false),
+    ("lane", false),
+];
+
+/// Why a script with this line behind an event is not read.
+fn fault_behind(alloc: Global, line: &str) -> Result<Option<ScriptFault>, Fail> {
+    let text = text_of(alloc, &["conf options use-vc\nat 0 tick\n", line, "\n"])?;
+    Ok(read_script(alloc, text.as_slice(), false).err())
+}
+
+#[test]
+fn a_script_has_each_event_of_the_outside(rt: HostRuntime) -> Result<(), Fail> {
+    for (line, taken) in LINES {
+        let fault = if taken {
+            None
+        } else {
+            Some(ScriptFault::Line(3))
+        };
+        assert!(rt; fault_behind(rt.alloc(), line)? == fault, "{line}");
     }
     Ok(())
 }
