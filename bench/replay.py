@@ -2,16 +2,18 @@
 
 usage: python3 bench/replay.py PROGRAM [REFERENCE_FOLDER]
 
-PROGRAM is the built dnsq. Up to 100 short questions are asked at a time, and each is answered. The replay
-of 100,000 events and of 200,000 is timed, and the ratio of the two told. With a folder that holds the package
-`plain`, the reference client replays the 100,000 events too, and that ratio is told. All run in turn, five times;
-the least time of each counts.
+PROGRAM is the built dnsq. Up to 100 short questions are asked at a time, and each is answered: by datagrams, and on one
+connection by stream with 100 in flight all the time, which are answered in any order. The replay of 100,000 events and of
+200,000 is timed, and the ratio of the two told. With a folder that holds the package `plain`, the reference client replays
+the 100,000 events too, and that ratio is told. All run in turn, five times; the least time of each counts. Before that the
+replies are counted, so that nothing else is timed.
 
 Then 1,000, 10,000 and 100,000 requests wait at once, in three scripts: all are asked and one tick comes past their
 deadline; all are asked and each is answered; all are asked and as many ticks come. How many times as long ten times
 as many take is told. More than 14 times is too long, and ends with status 1.
 """
 
+import random
 import subprocess
 import sys
 import tempfile
@@ -37,11 +39,11 @@ def answer(moment, place):
     return "at %d datagram %d 000081800001000000000000%s" % (moment, place, QUESTION)
 
 
-def text_of(lines):
-    return "\n".join(["conf nameserver 192.0.2.53"] + lines) + "\n"
+def text_of(lines, conf=()):
+    return "\n".join(["conf nameserver 192.0.2.53", *conf] + lines) + "\n"
 
 
-def script(events):
+def by_datagrams(events):
     lines = []
     first = 0
     moment = 0
@@ -54,6 +56,49 @@ def script(events):
         moment += 20
         first += AT_A_TIME
     return text_of(lines[:events])
+
+
+class Ids:
+    """The ids of one connection by stream: the least free one below a mark where the mark is at least twice their count,
+    else the mark, which rises by one."""
+
+    def __init__(self):
+        self.held = set()
+        self.mark = 0
+
+    def take(self):
+        if self.mark >= 2 * len(self.held) and len(self.held) < self.mark:
+            ident = next(one for one in range(self.mark) if one not in self.held)
+        else:
+            ident = self.mark
+            self.mark += 1
+        self.held.add(ident)
+        return ident
+
+
+def wrote(moment, count):
+    return "at %d wrote 0 %d" % (moment, count)
+
+
+def framed(moment, ident):
+    return "at %d bytes 0 0011%04x81800001000000000000%s" % (moment, ident, QUESTION)
+
+
+def by_stream(events):
+    """Each request is written whole before the next is asked; the first one carries the keepalive option, 15 octets."""
+    rng = random.Random(1)
+    ids = Ids()
+    flying = [ids.take()]
+    lines = [ask(1), "at 1 opened 0", wrote(1, 34)]
+    while len(lines) < events:
+        moment = 1 + len(lines)
+        if len(flying) == AT_A_TIME:
+            answered = flying.pop(rng.randrange(AT_A_TIME))
+            ids.held.remove(answered)
+            lines.append(framed(moment, answered))
+        flying.append(ids.take())
+        lines += [ask(moment), wrote(moment, 19)]
+    return text_of(lines[:events], ["conf options use-vc"])
 
 
 def late(requests):
@@ -89,10 +134,22 @@ def write(path, text):
         file.write(text)
 
 
-def time_events(program, room):
+def check_replies(program, path):
+    """Each answer in a script must be a reply in its trace."""
+    with open(path, "rb") as text:
+        answers = sum(b" datagram " in line or b" bytes " in line for line in text)
+    with open(path, "rb") as text:
+        trace = subprocess.run(program, stdin=text, stdout=subprocess.PIPE, check=True).stdout
+    replies = sum(line.startswith(b"> reply ") and b" ok " in line for line in trace.splitlines())
+    if replies != answers:
+        sys.exit("%d answers, and %d replies" % (answers, replies))
+
+
+def time_events(program, room, name, script):
     took = {}
     for events in (100_000, 200_000):
         write("%s/%d" % (room, events), script(events))
+    check_replies(program, room + "/100000")
     for _ in range(RUNS):
         for events in (100_000, 200_000):
             took.setdefault(events, []).append(seconds(program, "%s/%d" % (room, events)))
@@ -100,7 +157,7 @@ def time_events(program, room):
             reference = [sys.executable, "-m", "plain.dnsq", "replay"]
             took.setdefault("reference", []).append(seconds(reference, room + "/100000", sys.argv[2]))
     least = {key: min(times) for key, times in took.items()}
-    print("100000 events: %.2f s; 200000 events: %.2f s" % (least[100_000], least[200_000]))
+    print("%s: 100000 events: %.2f s; 200000 events: %.2f s" % (name, least[100_000], least[200_000]))
     print("twice as many events take %.2f times as long" % (least[200_000] / least[100_000]))
     if "reference" in least:
         print("the reference client: %.2f s, %.1f times as long" % (least["reference"], least["reference"] / least[100_000]))
@@ -126,7 +183,8 @@ def main():
         sys.exit(__doc__)
     program = [sys.argv[1], "replay"]
     with tempfile.TemporaryDirectory() as room:
-        time_events(program, room)
+        time_events(program, room, "by datagrams", by_datagrams)
+        time_events(program, room, "by stream", by_stream)
         if time_waiting(program, room) > MOST:
             sys.exit("ten times as many requests take more than %d times as long" % MOST)
 

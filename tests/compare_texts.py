@@ -44,7 +44,7 @@ def changed(rng, text):
 def script_of(text):
     """The events of a trace as a script, with a server before them."""
     lines = [line for line in text.split(b"\n") if line.startswith(b"at ")]
-    return b"# events\nconf nameserver 192.0.2.1\nwords 1 2\n" + b"\n".join(lines) + b"\n"
+    return b"# events\nconf nameserver 192.0.2.1\nconf options use-vc\nwords 1 2\n" + b"\n".join(lines) + b"\n"
 
 
 def main():
@@ -78,7 +78,7 @@ def main():
             cases.append((changed(rng, script_of(text)), True))
     wrong = 0
     for text, script in cases:
-        want = expected(module, text, script, 3)
+        want = expected(module, text, script, 6)
         got = answer(program, text, script)
         if want != got:
             wrong += 1

@@ -1,11 +1,15 @@
 """Compares the traces of the built program dnsq with a reference client.
 
-usage: python3 tests/compare_traces.py REFERENCE_FOLDER PROGRAM [--profile P] [--stage N] [--scripts N] [--events N]
+usage: python3 tests/compare_traces.py REFERENCE_FOLDER PROGRAM [--profile P] [--stage N] [--judge J] [--scripts N]
+           [--events N] [--first SEED]
 
-REFERENCE_FOLDER holds the package `plain`; PROGRAM is the built dnsq. Without the folder nothing is
-compared, and that is said. Each script is made by the reference's own generator from its number as the
-seed, so a failure can be made again. The stage, how much of the client is built, counts for the generator and
-for the judge.
+REFERENCE_FOLDER holds the package `plain`; PROGRAM is the built dnsq. Without the folder nothing is compared, and that is
+said. Each script is made by the reference's own generator from its number as the seed, so a failure can be made again.
+
+Profiles: `dgram1`, `dgram2`, `dgram3` and `dgram` have one server by datagrams, `stream1` one with streams too, `servers`
+several, and `all` everything. The stage, how much of the client is built, counts for the generator and for the judge; it
+is the profile's own where none is given. Judges: `check_trace` compares with the reference client step by step, and
+`check_right` says whether a trace is right by the reference's reading of the definitions.
 """
 
 import argparse
@@ -13,6 +17,8 @@ import os
 import subprocess
 import sys
 import tempfile
+
+STAGES = {"dgram1": 1, "dgram2": 2, "dgram3": 3, "dgram": 3, "stream1": 6, "servers": 7, "all": 17}
 
 
 def reference(folder, *words, **how):
@@ -39,13 +45,15 @@ def main():
     parser = argparse.ArgumentParser()
     parser.add_argument("reference")
     parser.add_argument("program")
-    parser.add_argument("--profile", default="dgram1")
-    parser.add_argument("--stage", type=int, default=1)
+    parser.add_argument("--profile", default="dgram1", choices=STAGES)
+    parser.add_argument("--stage", type=int)
     parser.add_argument("--scripts", type=int, default=200)
     parser.add_argument("--events", type=int, default=200)
     parser.add_argument("--first", type=int, default=1)
     parser.add_argument("--judge", default="check_trace", choices=("check_trace", "check_right"))
     options = parser.parse_args()
+    if options.stage is None:
+        options.stage = STAGES[options.profile]
     if not os.path.isdir(os.path.join(options.reference, "plain")):
         print("skipped: no reference client in", options.reference)
         return 0
