@@ -1,12 +1,14 @@
 #!/usr/bin/env bash
 # Lets one allocation fail, once for each number given, and says what came out.
 #
-#     bash tests/fail_alloc.sh example|flood|dgram N..      N is a number or a range, as 1-50
+#     bash tests/fail_alloc.sh example|flood|fallback|use_vc|back_off|dgram N..      N is a number or a range, as 1-50
 #
-# `example` and `flood` are runs of `dnsq replay`, on the script crates/dnsq/stdin and on one that asks 101 times where
-# 100 may be at work and then opens one place in vain. Status 6 and no output are wanted, and status 0 past the last
-# allocation. `dgram` is the test of client_tests that runs three requests over two slots: it passes where the want of
-# memory was told and each later call answers `Failed`; that other tests of the crate then fail is of no account.
+# All but `dgram` are runs of `dnsq replay`: on the script crates/dnsq/stdin; on one that asks 101 times where 100 may be at
+# work and then opens one place in vain; and on examples/NAME.script, where a truncated datagram goes on by a stream, where
+# two requests share a stream, and where streams fail and others are opened. Status 6 and no output are wanted, and status 0
+# and the trace of that example past the last allocation. `dgram` is the test of client_tests that runs three requests over
+# two slots: it passes where the want of memory was told and each later call answers `Failed`; that other tests of the crate
+# then fail is of no account.
 # Each number builds anew, in half a minute or more. JOBS of them (2) run at a time.
 set -u
 cd "$(dirname "$0")/../crates" || exit 2
@@ -29,6 +31,7 @@ replay() { # NUMBER
     status=$?
     grep -q '^run=ended ' "$work/said.$1" || status="no end"
     [ "$status" = 6 ] && [ -s "$work/out.$1" ] && status="6, but something was written"
+    [ "$status" = 0 ] && [ -e "$work/trace" ] && ! cmp -s "$work/trace" "$work/out.$1" && status="0, but another trace was written"
     echo "$status"
 }
 dgram() { # NUMBER
@@ -43,9 +46,11 @@ one() { # NUMBER
 case $what in
     example) run=replay && cp dnsq/stdin "$work/script" && cd dnsq ;;
     flood) run=replay && flood > "$work/script" && cd dnsq ;;
+    fallback | use_vc | back_off)
+        run=replay && cp "../examples/$what.script" "$work/script" && cp "../examples/$what.trace" "$work/trace" && cd dnsq ;;
     dgram) run=dgram && cd client_tests ;;
     *) false ;;
-esac && [ $# -gt 1 ] || { echo "usage: bash tests/fail_alloc.sh example|flood|dgram N.." >&2; exit 2; }
+esac && [ $# -gt 1 ] || { echo "usage: bash tests/fail_alloc.sh example|flood|fallback|use_vc|back_off|dgram N.." >&2; exit 2; }
 shift
 export run work
 export -f one replay dgram
