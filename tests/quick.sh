@@ -1,5 +1,5 @@
 #!/usr/bin/env bash
-# Quick checks that prove and build nothing. Where `rt ci` or `./run` left the built program, the shipped example must give
+# Quick checks that prove and build nothing. Where `rt ci` or `./run` left the built program, each shipped example must give
 # its trace; else that is skipped.
 set -u
 cd "$(dirname "$0")/.." || exit 2
@@ -21,9 +21,13 @@ built() { # whether the program is there, and no older than what it is made of
     [ -x crates/dnsq/out/dnsq ] &&
         [ -z "$(find crates crates.txt \( -name '*.rt' -o -name crates.txt \) -newer crates/dnsq/out/dnsq | head -1)" ]
 }
-example() {
+examples() {
+    local bad=0 script
     built || return 77
-    crates/dnsq/out/dnsq replay < examples/first.script | cmp -s - examples/first.trace
+    for script in examples/*.script; do
+        crates/dnsq/out/dnsq replay < "$script" | cmp -s - "${script%script}trace" || { echo "another trace: $script"; bad=1; }
+    done
+    return $bad
 }
 stored() { cmp -s examples/first.script crates/dnsq/stdin && cmp -s examples/first.trace crates/dnsq/stdout; }
 handles() { [ "$(cat HANDLES)" = "Handles allowed: Threads, Wait, Net." ]; }
@@ -50,7 +54,7 @@ for path in sys.argv[1:]:
 PYTHON
     return $bad
 }
-check "the example's trace" example
+check "the examples' traces" examples
 check "the stored run is the example" stored
 check "the handles" handles
 check "paths in documents" documents

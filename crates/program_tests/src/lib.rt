@@ -9,3 +9,5 @@ mod runs;
 mod sinks;
 #[cfg(test)]
 mod statuses;
+#[cfg(test)]
+mod streams;

@@ -8,7 +8,8 @@ use std::alloc::Global;
 use std::test::Fail;
 
 /// A script with comments, a line that is empty, and none behind its last.
-const SCRIPT: &str = "# a script\r\n\nconf nameserver 192.0.2.1\nconf options use-vc\nwords 1 2\nwords 3
+const SCRIPT: &str =
+    "# a script\r\n\nconf nameserver 192.0.2.1\nconf options use-vc\nwords 1 2\nwords 3
 at 0 ask 000001000001000000000000026831076578616d706c6503636f6d0000010001 00000100 -
 at 5 opened 0\nat 6 datagram 0 00\n#\nat 7 tick";
 
@@ -106,7 +107,11 @@ fn fault_behind(alloc: Global, line: &str) -> Result<Option<ScriptFault>, Fail> 
 #[test]
 fn a_script_has_each_event_of_the_outside(rt: HostRuntime) -> Result<(), Fail> {
     for (line, taken) in LINES {
-        let fault = if taken { None } else { Some(ScriptFault::Line(3)) };
+        let fault = if taken {
+            None
+        } else {
+            Some(ScriptFault::Line(3))
+        };
         assert!(rt; fault_behind(rt.alloc(), line)? == fault, "{line}");
     }
     Ok(())
