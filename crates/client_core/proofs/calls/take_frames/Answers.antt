@@ -1,0 +1,21 @@
+use Rattle.std.proofs.Common.{rules, ◌∙◌}
+use Rattle.client_request.specs.Cx.{view_of}
+use Rattle.client_core.specs.Client.{client_of}
+use Rattle.client_core.specs.Machines.{machine_of}
+use Rattle.client_core.proofs.Fuel.{frames_some}
+use Rattle.client_core.proofs.calls.take_frames.Goals as goal
+
+pub loop-left-preserved : goal.loop-left-preserved
+loop-left-preserved g c =
+    let layer = g.L.SendRequest in
+    let m = machine_of layer.transport g.L.Response.GetResponse.ticket_of in
+    let before = client_of c.loop-left.layer (c.loop-left.asked, view_of g.W.Words.stream c.loop-left.cx) in
+    let fired = client_of c.fire_all.new.layer (c.fire_all.new.asked, view_of g.W.Words.stream c.fire_all.new.cx) in
+    let after = client_of c.take_frame.new.layer (c.take_frame.new.asked, view_of g.W.Words.stream c.take_frame.new.cx) in
+    record {
+      lends = search rules;
+      same =
+          c.loop-left.invariant.same
+          ∙ frames_some m c.args.place c.loop-left.left before fired after c.loop-left-test.true (search rules) c.in_ok-fire_all.ensures.ok c.in_ok-take_frame.ensures.ok;
+      keeps = search rules;
+    }
