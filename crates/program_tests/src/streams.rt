@@ -120,14 +120,16 @@ fn two_requests_share_a_connection(rt: HostRuntime) -> Result<(), Fail> {
     Ok(())
 }
 
-/// Octets that come one by one.
-fn push_octets(rows: &mut String, octets: &str) -> Result<(), AllocError> {
-    let mut left = octets;
-    while let Some((octet, behind)) = left.split_at_checked(2) {
-        rows.push_str("at 0 bytes 0 ")?;
-        rows.push_str(octet)?;
-        rows.push_str("\n")?;
-        left = behind;
+/// Octets that come one by one, of two digits each.
+fn push_octets(rows: &mut String, digits: &str) -> Result<(), AllocError> {
+    for (place, digit) in digits.chars().enumerate() {
+        if place % 2 == 0 {
+            rows.push_str("at 0 bytes 0 ")?;
+            rows.push(digit)?;
+        } else {
+            rows.push(digit)?;
+            rows.push_str("\n")?;
+        }
     }
     Ok(())
 }
