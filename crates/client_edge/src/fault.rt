@@ -1,15 +1,19 @@
 //! The system's errors as faults.
 
-ghost use Rattle.std.specs.Prelude.{◌≡◌, Ok, IfOk};
+ghost use Rattle.std.specs.Prelude.{◌≡◌, ◌≤◌, Ok, IfOk, OnErr};
+ghost use Rattle.dns_values.specs.Source.{Rose};
 ghost use Rattle.client_dgram.specs.Sockets.{after_answer};
-ghost use Rattle.client_edge.specs.Fault.{fault_of};
 
 use client_request::Fault;
 use std::io::{self, ErrorKind};
 
 /// The fault that a kind of error is.
 pub fn fault_of(kind: ErrorKind) -> Fault
-    ensures { result ≡ fault_of kind }
+    ensures refused { kind ≡ ErrorKind.ConnectionRefused → result ≡ Fault.Refused }
+    ensures reset { kind ≡ ErrorKind.ConnectionReset → result ≡ Fault.Reset }
+    ensures in_use { kind ≡ ErrorKind.AddrInUse → result ≡ Fault.InUse }
+    ensures late { kind ≡ ErrorKind.TimedOut → result ≡ Fault.Expired }
+    ensures nothing_yet { kind ≡ ErrorKind.WouldBlock → result ≡ Fault.Expired }
 {
     match kind {
         ErrorKind::ConnectionRefused => Fault::Refused,
@@ -33,6 +37,8 @@ pub fn is_for_later(kind: ErrorKind) -> bool {
 /// An answer of the system, whose error is counted and becomes a fault.
 pub fn count_fault<T>(faults: &mut u64, answer: io::Result<T>) -> Result<T, Fault>
     ensures same { IfOk result (λ value. answer ≡ Ok value) }
+    ensures count { faults.old ≤ faults.new }
+    ensures failed { OnErr result (Rose faults.old faults.new) }
     ensures counted { faults.new ≡ after_answer result faults.old }
 {
     match answer {

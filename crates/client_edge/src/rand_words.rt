@@ -1,11 +1,20 @@
 //! Random words of a generator.
 
 ghost use Rattle.std.specs.Prelude.{◌≡◌, None};
+ghost use Rattle.client_request.specs.Words.{rest_of};
 ghost use Rattle.client_edge.specs.RandWords.{words_of, words-told};
 
 use client_request::Words;
 use rand::Rng;
 use std::marker::Model;
+
+/// The generator's next word.
+fn draw<R: Rng>(generator: &mut R) -> u64
+    ensures word { result ≡ words_of (R.stream generator.old) 0 }
+    ensures rest { words_of (R.stream generator.new) ≡ rest_of (words_of (R.stream generator.old)) }
+{
+    generator.next_u64()
+}
 
 /// The words of a generator, which are a function of its state.
 ///
@@ -39,7 +48,7 @@ impl<R: Rng + Drop> Words for RandWords<R> {
     ghost given = { λ _. None };
 
     fn next(&mut self) -> u64 {
-        self.generator.next_u64()
+        draw(&mut self.generator)
     }
 
     ghost told = { λ w. words-told (R.stream w) };
