@@ -8,7 +8,7 @@ use rand::rngs::StdRng;
 use resolv_conf::OpenFile;
 use std::test::Fail;
 use std::time::Duration;
-use std::{fs, process, thread};
+use std::{env, fs, process, thread};
 
 #[test]
 fn a_clock_goes_with_the_time(rt: HostRuntime) -> Result<(), Fail> {
@@ -38,7 +38,8 @@ fn words_differ(rt: HostRuntime) -> Result<(), Fail> {
 
 #[test]
 fn a_file_is_read_from_its_start(rt: HostRuntime) -> Result<(), Fail> {
-    let path = format!(in rt.alloc(); "edge_tests.{}", process::id(rt.process()))?;
+    let name = format!(in rt.alloc(); "edge_tests.{}", process::id(rt.process()))?;
+    let path = env::temp_dir(&rt)?.join(rt.alloc(), name.as_str())?;
     fs::write(&rt, path.as_str(), b"nameserver")?;
     let mut files = FileOpener::new(rt);
     let mut buf = [0u8; 4];
