@@ -1,6 +1,6 @@
 -- A word that is drawn, and those behind it.
-use Rattle.std.proofs.Common.{rules, refl, ap, ◌∙◌, ◌≡◌, ℕ, zero, suc, ◌+◌, List, [], ◌∷◌}
-use Rattle.rand_core.specs.Stream.{Stream, next_u64, after, u64_call}
+use Rattle.std.proofs.Common.{ap, ◌≡◌, ℕ, suc, ◌+◌}
+use Rattle.rand_core.specs.Stream.{Stream, next_u64}
 use Rattle.client_edge.specs.RandWords.{words_of}
 use native.Mathlib.Numerals.{unary_clauses}
 

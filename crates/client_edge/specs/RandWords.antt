@@ -1,6 +1,6 @@
 -- The words of a generator.
 use Rattle.std.specs.Prelude.{◌≡◌, ℕ, List, Option, Some, None, replicate, slice_index}
-use Rattle.rand_core.specs.Stream.{Stream, Call, u64_call}
+use Rattle.rand_core.specs.Stream.{Stream, u64_call}
 
 -- what the generator answers to its calls for words, one after another
 abbrev pub words_of : Stream → ℕ → ℕ
