@@ -1,0 +1,2 @@
+pub mod RandWords
+pub mod SocketEdge

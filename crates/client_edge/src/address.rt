@@ -1,0 +1,22 @@
+//! Addresses as the system takes them.
+
+use dns_base::{IpAddr, SocketAddr};
+use std::net::{self, Ipv4Addr, Ipv6Addr};
+
+/// The address as the system takes it.
+pub fn system_address(addr: SocketAddr) -> net::SocketAddr {
+    let ip = match addr.ip {
+        IpAddr::V4(octets) => net::IpAddr::V4(Ipv4Addr::from(octets)),
+        IpAddr::V6(groups) => net::IpAddr::V6(Ipv6Addr::from(groups)),
+    };
+    net::SocketAddr::new(ip, addr.port)
+}
+
+/// Any address of this host of the same family, at a port that the system picks.
+pub fn any_local(addr: net::SocketAddr) -> net::SocketAddr {
+    let ip = match addr {
+        net::SocketAddr::V4(_) => net::IpAddr::V4(Ipv4Addr::UNSPECIFIED),
+        net::SocketAddr::V6(_) => net::IpAddr::V6(Ipv6Addr::UNSPECIFIED),
+    };
+    net::SocketAddr::new(ip, 0)
+}

@@ -1,0 +1,83 @@
+//! Streams over the system's sockets.
+
+ghost use Rattle.std.specs.Prelude.{◌≡◌, ◌≤◌, OnErr};
+ghost use Rattle.dns_values.specs.Source.{Rose};
+ghost use Rattle.client_dgram.specs.Sockets.{after_answer};
+
+use crate::address::{any_local, system_address};
+use crate::fault::count_fault;
+use client_dgram::Connect;
+use client_request::Fault;
+use dns_base::SocketAddr;
+use std::io::{self, ErrorKind};
+use std::marker::Model;
+use std::net::{Net, Shutdown, TcpListener, TcpStream, UdpSocket};
+use std::os::fd::OwnedFd;
+
+/// Connects streams to one address. What contracts see is the count of its faults.
+///
+/// It does not wait for the peer: a stream that it gives may still be connecting, and takes and gives octets once it is
+/// connected. No call of the stream waits.
+#[derive(Drop)]
+pub struct TcpConnect<R: Net<Listener = TcpListener, Stream = TcpStream> + Drop> {
+    rt: R,
+    addr: SocketAddr,
+    faults: u64,
+}
+
+impl<R: Net<Listener = TcpListener, Stream = TcpStream> + Drop> Model for TcpConnect<R> {
+    ghost use Rattle.std.specs.Prelude.{ℕ};
+
+    ghost Value = { ℕ };
+
+    ghost view = { λ c. c.faults };
+}
+
+impl<R: Net<Listener = TcpListener, Stream = TcpStream> + Drop> TcpConnect<R> {
+    /// A connector to this address.
+    pub fn new(rt: R, addr: SocketAddr) -> TcpConnect<R>
+        ensures { result ≡ 0 }
+    {
+        TcpConnect {
+            rt,
+            addr,
+            faults: 0,
+        }
+    }
+
+    /// A stream that is not connected. The standard library makes none, but a listener that is shut down is one.
+    fn unconnected(&self) -> io::Result<TcpStream> {
+        let local = any_local(system_address(self.addr));
+        let listener = TcpListener::bind(&self.rt, local)?;
+        let stream = TcpStream::from(OwnedFd::from(listener));
+        stream.shutdown(Shutdown::Read)?;
+        stream.set_nonblocking(true)?;
+        stream.set_nodelay(true)?;
+        Ok(stream)
+    }
+
+    /// A stream whose connecting has begun. The call that begins it is that of `UdpSocket`, whose `connect` is the
+    /// system's and takes a descriptor of any kind.
+    fn begin(&self) -> io::Result<TcpStream> {
+        let socket = UdpSocket::from(OwnedFd::from(self.unconnected()?));
+        match socket.connect(system_address(self.addr)) {
+            Err(error) if error.kind() != ErrorKind::InProgress => Err(error),
+            _ => Ok(TcpStream::from(OwnedFd::from(socket))),
+        }
+    }
+}
+
+impl<R: Net<Listener = TcpListener, Stream = TcpStream> + Drop> Connect for TcpConnect<R> {
+    type Connection = TcpStream;
+
+    ghost connect_faults = { λ c. c };
+
+    fn connect(&mut self) -> Result<TcpStream, Fault>
+        ensures count { self.old ≤ self.new }
+        ensures failed { OnErr result (Rose self.old self.new) }
+        ensures counted { self.new ≡ after_answer result self.old }
+    {
+        let begun = self.begin();
+        count_fault(&mut self.faults, begun)
+    }
+}
