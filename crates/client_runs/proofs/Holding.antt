@@ -1,0 +1,88 @@
+-- The plain client beside the machine's: what agrees between two calls.
+use Rattle.std.proofs.Common.{◌≡◌, ℕ, ◌<◌, Bool, false, true, List, [], length, Option, Some, None, refl, sym, ap, subst, ◌∙◌}
+use mathlib.Core.Path.{fun_ext}
+use Rattle.client_request.specs.Numbered.{entry_at, frees}
+use Rattle.client_request.specs.Timers.{TimerList, cancelled, without_timer}
+use Rattle.client_request.specs.View.{View}
+use Rattle.client_request.specs.declared.event.What.{What}
+use Rattle.headline.specs.machine.Client.{Upper, Waiting as Held}
+use Rattle.headline.specs.machine.Streams.{with_at}
+use Rattle.client_ties.specs.PartTie.{Phase}
+use Rattle.client_ties.specs.Sights.{sight, due_of, IsFair}
+use Rattle.client_runs.specs.Above.{Tying}
+use Rattle.client_core.specs.Client.{Asked, without_request}
+use Rattle.client_core.specs.declared.asked.Waiting.{Waiting}
+use Rattle.client_core.specs.declared.first.Passed.{Passed}
+use Rattle.client_core.specs.declared.first.Passed.TheVariants.{Below}
+use Rattle.client_core.proofs.Tables.{Sorted, at_frees, frees_path, sorted_frees}
+use Rattle.client_core.proofs.TimerLaws.{due_without, order_without}
+use Rattle.client_runs.proofs.Desk.{Desk, AreKept, one_goes, kept_so, was_there}
+
+module _ (g : Tying) where
+  abbrev pub Requests : Type 0
+  Requests = Asked (Passed g.Q)
+
+  abbrev pub State : Type 0
+  State = Upper g.P.State
+
+  -- what stands for the result of a request that was handed on
+  abbrev pub IsFor : (ticket : ℕ) → Passed g.Q → Type 0
+  IsFor i p = (r : g.R) × (p ≡ Below (g.down r)) × (g.ticket r ≡ i)
+
+  abbrev pub desk_of : (ℕ → Option ℕ) → Requests → View → State → Desk (Passed g.Q)
+  desk_of named a v x = record { waiting = λ i. entry_at i a.waiting; deadlines = λ i. entry_at i a.deadlines; names = named; held = x.held; dues = λ i. due_of i v.timers.set }
+
+  -- What agrees, but for the transport. `named` has the number of each ticket's request whose result is to come; e is the event as the machine has it.
+  pub record Holds (e : What) (named : ℕ → Option ℕ) (u : g.U) (a : Requests) (v : View) (x : State) : Type 0 where
+    pub now : x.now ≡ v.now
+    pub asked : x.asked ≡ a.next
+    pub pending : x.pending ≡ e
+    pub leaving : x.leaving ≡ []
+    pub idle : (i : ℕ) → (0 ≡ i → ⊥) → g.Idle (x.ups i)
+    pub kept : AreKept (g.c).timeout IsFor a.next (desk_of named a v x)
+    pub waiting : (hi : ℕ) × Sorted 0 hi a.waiting
+    pub deadlines : (hi : ℕ) × Sorted 0 hi a.deadlines
+    pub foreign : (i t : ℕ) → entry_at i a.deadlines ≡ Some t → g.Owns u i → ⊥
+
+  pub record Fits (phase : Phase) (e : What) (named : ℕ → Option ℕ) (u : g.U) (a : Requests) (v : View) (x : State) : Type 0 where
+    pub holds : Holds e named u a v x
+    pub place : x.place ≡ v.place
+    pub fair : IsFair v
+    pub tied : g.Tied phase u (sight v) (x.ups 0)
+
+  -- Of v and x, v1 and x1 differ by a request that has gone.
+  pub record HasGone (w : Waiting (Passed g.Q)) (v : View) (x : State) (v1 : View) (x1 : State) : Type 0 where
+    pub now : v1.now ≡ v.now
+    pub timers : v1.timers ≡ cancelled w.timer v.timers
+    pub clock : x1.now ≡ x.now
+    pub asked : x1.asked ≡ x.asked
+    pub pending : x1.pending ≡ x.pending
+    pub leaving : x1.leaving ≡ []
+    pub held : x1.held ≡ with_at w.number None x.held
+    pub ups : x1.ups ≡ x.ups
+
+  pub dues_without : (v : View) (i : ℕ) → IsFair v → (λ (j : ℕ). due_of j (without_timer i v.timers.set)) ≡ with_at i None (λ j. due_of j v.timers.set)
+  dues_without v i fair = fun_ext (λ j. due_without i j 0 v.timers.next v.timers.set fair.order)
+
+  pub fair_without : (v : View) (i : ℕ) → IsFair v → IsFair (record v { timers = cancelled i v.timers })
+  fair_without v i fair = record { order = order_without i 0 v.timers.next v.timers.set fair.order; words = fair.words }
+
+  -- a request has gone
+  pub holds_without : (e : What) (named : ℕ → Option ℕ) (u : g.U) (a : Requests) (v : View) (x : State) (i : ℕ) (w : Waiting (Passed g.Q)) (v1 : View) (x1 : State)
+      → IsFair v → Holds e named u a v x → entry_at i a.waiting ≡ Some w → HasGone w v x v1 x1 → Holds e (with_at i None named) u (without_request i (Some w) a) v1 x1
+  holds_without e named u a v x i w v1 x1 fair h is f = record {
+    now = f.clock ∙ (h.now ∙ sym f.now);
+    asked = f.asked ∙ h.asked;
+    pending = f.pending ∙ h.pending;
+    leaving = f.leaving;
+    idle = λ j ne. subst (λ (ups : ℕ → g.P.State). g.Idle (ups j)) (sym f.ups) (h.idle j ne);
+    kept = kept_so (g.c).timeout IsFor a.next (with_at i None named) _ _ _ _ _ _ _ _
+        (frees_path i 0 h.waiting.0 a.waiting h.waiting.1)
+        (frees_path w.timer 0 h.deadlines.0 a.deadlines h.deadlines.1)
+        f.held
+        (ap {B = ℕ → Option ℕ} (λ (ts : TimerList). λ (j : ℕ). due_of j ts.set) f.timers ∙ dues_without v w.timer fair)
+        (one_goes (g.c).timeout IsFor a.next (desk_of named a v x) i w h.kept is);
+    waiting = (h.waiting.0, sorted_frees i 0 h.waiting.0 a.waiting h.waiting.1);
+    deadlines = (h.deadlines.0, sorted_frees w.timer 0 h.deadlines.0 a.deadlines h.deadlines.1);
+    foreign = λ j t d. h.foreign j t (was_there w.timer (λ (j : ℕ). entry_at j a.deadlines) j t (sym (at_frees w.timer j 0 h.deadlines.0 a.deadlines h.deadlines.1) ∙ d)).1;
+  }

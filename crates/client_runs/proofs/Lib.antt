@@ -1,0 +1,14 @@
+pub mod Desk
+pub mod Leading
+pub mod Holding
+pub mod Giving
+pub mod Calling
+pub mod Firing
+pub mod Looping
+pub mod Hearing
+pub mod Asking
+pub mod Rows
+pub mod Serverless
+pub mod Idling
+pub mod Fitting
+pub mod Silence

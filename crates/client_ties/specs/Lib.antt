@@ -1,0 +1,12 @@
+pub mod Sights
+pub mod Chains
+pub mod PartTie
+pub mod Silent
+pub mod Reading
+pub mod Framed
+pub mod Seats
+pub mod Lines
+pub mod Runs
+pub mod Connections
+pub mod Octets
+pub mod Servers

@@ -1,0 +1,44 @@
+//! What holds of transports beside the parts that they are.
+
+ghost use Rattle.client_ties.specs.Connections.{LinesAreTied};
+ghost use Rattle.client_ties.specs.Framed.{FramesCarry};
+ghost use Rattle.client_ties.specs.Octets.{LinksRead};
+ghost use Rattle.client_ties.specs.Reading.{BackOffIsShort, IdleIsTold, KeptIsRead};
+ghost use Rattle.client_ties.specs.Silent.{SilenceIsTied};
+
+/// The laws of a tie can be met: a transport that gives every request an error meets them.
+#[tactic(auto, using(crate::proofs::Silence::silence_is_tied))]
+pub fn silence_is_tied()
+    ensures { SilenceIsTied }
+{}
+
+/// Octets that are kept until a frame of them is taken are those that were read one by one.
+#[tactic(auto, using(crate::proofs::FrameReads::kept_is_read))]
+pub fn kept_is_read()
+    ensures { KeptIsRead }
+{}
+
+/// The idle time that a frame tells, and the moment at which a back-off ends, are those of the machine.
+#[tactic(auto, using(crate::proofs::Waits::idle_is_told, crate::proofs::Waits::back_off_is_short))]
+pub fn waits_are_told()
+    ensures idle { IdleIsTold }
+    ensures back_off { BackOffIsShort }
+{}
+
+/// What a connection writes carries the request under its id, and a request that is valid is written.
+#[tactic(auto, using(crate::proofs::Framing::frames_carry))]
+pub fn frames_carry()
+    ensures { FramesCarry }
+{}
+
+/// What each call of a connection leaves is what moves of the machine leave at its place.
+#[tactic(auto, using(crate::proofs::LinesTied::lines_are_tied))]
+pub fn lines_are_tied()
+    ensures { LinesAreTied }
+{}
+
+/// Octets that come to a connection, and frames that are taken one by one, are those of the machine.
+#[tactic(auto, using(crate::proofs::Linking::links_read))]
+pub fn links_read()
+    ensures { LinksRead }
+{}
