@@ -1,14 +1,13 @@
 -- A request is asked: it is refused at once, or handed on.
-use Rattle.std.proofs.Common.{◌≡◌, ℕ, suc, ◌+◌, ◌<◌, ◌≤◌, ◌⊎◌, inl, inr, Bool, true, false, if◌then◌else◌, List, [], ◌∷◌, ◌++◌, length, Option, Some, None, Result, Ok, Err, refl, sym, ap, subst, ◌∙◌, arith, le_refl, add-one}
+use Rattle.std.proofs.Common.{◌≡◌, ℕ, suc, ◌+◌, ◌<◌, ◌≤◌, inl, inr, Bool, true, false, if◌then◌else◌, List, [], ◌∷◌, ◌++◌, length, Option, Some, None, Result, Ok, Err, refl, sym, ap, subst, ◌∙◌, arith, le_refl, add-one}
 use Rattle.std.proofs.lemmas.Bool.Decides.{nat_tests}
 use Rattle.std.specs.Prelude.{option_and_then, option_map}
 use mathlib.Core.Path.{fun_ext}
-use Rattle.client_request.specs.Board.{posted}
 use Rattle.client_request.specs.Carries.{IsOfOctets}
 use Rattle.client_request.specs.Composed.{composed}
 use Rattle.client_request.specs.Numbered.{entry_at, puts, frees}
 use Rattle.client_request.specs.Request.{Request}
-use Rattle.client_request.specs.Timers.{can_draw, with_timer, without_timer, cancelled}
+use Rattle.client_request.specs.Timers.{can_draw, with_timer, without_timer}
 use Rattle.client_request.specs.View.{View, asks, answers, drops_timer, sets_timer}
 use Rattle.client_request.specs.declared.board.Posted.{Posted as OnBoard}
 use Rattle.client_request.specs.declared.error.Error.{Error}
@@ -17,10 +16,10 @@ use Rattle.client_request.specs.declared.event.Out.TheVariants.{Reply, Start}
 use Rattle.client_request.specs.declared.event.What.{What}
 use Rattle.client_request.specs.declared.event.What.TheVariants.{Ask, Tick}
 use Rattle.headline.specs.Requests.{is_ask}
-use Rattle.headline.specs.machine.Client.{Leaving, Move, Answers, Takes_on, Replies, Refused, Waiting as Held, answer, take_on, newcomer, hand, handing, with_held, store, unmade}
+use Rattle.headline.specs.machine.Client.{Leaving, Answers, Takes_on, Replies, Refused, Waiting as Held, answer, take_on, newcomer, hand, handing, with_held, store, unmade}
 use Rattle.headline.specs.machine.Streams.{with_at}
 use Rattle.client_ties.specs.Chains.{Chain, Begins}
-use Rattle.client_ties.specs.PartTie.{Phase, Untold, Told, Leaves, Leads as IfLeft}
+use Rattle.client_ties.specs.PartTie.{Untold, Told, Leaves, Leads as IfLeft}
 use Rattle.client_ties.specs.Sights.{sight, due_of, IsFair}
 use Rattle.client_runs.specs.Above.{Tying, machine, lifted}
 use Rattle.client_core.specs.Client.{client_of, asks_request, sends, accepts, waits, without_request, replies, replies_many, replies_to}
@@ -30,8 +29,8 @@ use Rattle.client_core.specs.declared.first.Passed.{Passed}
 use Rattle.client_core.specs.declared.first.Passed.TheVariants.{Here, Below}
 use Rattle.client_core.proofs.Tables.{Sorted, rises_below, at_puts, puts_path, frees_path, sorted_puts, sorted_frees}
 use Rattle.client_core.proofs.TimerLaws.{due_set, order_set, due_without, order_without, unset_above}
-use Rattle.client_runs.proofs.Calling.{Called, after_call, PlainClient, layer_of, IsTied}
-use Rattle.client_runs.proofs.Desk.{Desk, AreKept, at_it, at_other, is_or_was, none_is, one_comes, and_one, kept_so, kept_more}
+use Rattle.client_runs.proofs.Calling.{after_call, PlainClient, layer_of, IsTied}
+use Rattle.client_runs.proofs.Desk.{AreKept, at_it, at_other, is_or_was, none_is, one_comes, kept_so, kept_more}
 use Rattle.client_runs.proofs.Firing.{IfSome, left_on}
 use Rattle.client_runs.proofs.Holding.{Requests, State, IsFor, Holds, Fits, desk_of}
 use Rattle.client_runs.proofs.Leading.{Leads, Then, Reaches, one_move, start_moves}

@@ -1,5 +1,5 @@
 -- A timer fires: a deadline, or one of the transport.
-use Rattle.std.proofs.Common.{◌≡◌, ℕ, ◌+◌, ◌<◌, ◌≤◌, inl, Bool, true, false, List, [], ◌∷◌, ◌++◌, length, Option, Some, None, Result, Err, refl, sym, ap, ap₂, subst, subst₂, ◌∙◌, le_refl}
+use Rattle.std.proofs.Common.{◌≡◌, ℕ, ◌+◌, ◌≤◌, inl, false, List, [], ◌∷◌, ◌++◌, length, Option, Some, None, Err, refl, sym, ap, ap₂, subst, subst₂, ◌∙◌, le_refl}
 use Rattle.std.specs.Prelude.{option_and_then}
 use Rattle.client_request.specs.Composed.{composed}
 use Rattle.client_request.specs.Numbered.{entry_at, frees}
@@ -10,7 +10,7 @@ use Rattle.client_request.specs.declared.error.Error.TheVariants.{TimedOut}
 use Rattle.client_request.specs.declared.event.Out.TheVariants.{Reply}
 use Rattle.client_request.specs.declared.event.What.{What}
 use Rattle.headline.specs.machine.Part.{Post, Act}
-use Rattle.headline.specs.machine.Client.{Leaving, Move, Times_out, Replies, leave, store, unmade}
+use Rattle.headline.specs.machine.Client.{Leaving, Times_out, Replies, leave, store, unmade}
 use Rattle.headline.specs.machine.Streams.{with_at}
 use Rattle.client_ties.specs.Chains.{Chain, Begins, Gives}
 use Rattle.client_ties.specs.PartTie.{Phase, Leaves, Leads as IfLeft}
@@ -20,13 +20,12 @@ use Rattle.client_core.specs.Client.{client_of, settles, hears, times_out, fire,
 use Rattle.client_core.specs.First as first
 use Rattle.client_core.specs.declared.asked.Waiting.{Waiting}
 use Rattle.client_core.specs.declared.first.Passed.{Passed}
-use Rattle.client_core.specs.declared.first.Passed.TheVariants.{Below}
 use Rattle.client_core.proofs.Tables.{frees_nothing}
 use Rattle.client_core.proofs.TimerLaws.{due_without}
-use Rattle.client_runs.proofs.Calling.{Called, after_call, PlainClient, layer_of, IsTied, Comes, comes_of, comes_then}
+use Rattle.client_runs.proofs.Calling.{Called, after_call, PlainClient, layer_of, Comes, comes_of, comes_then}
 use Rattle.client_runs.proofs.Desk.{IsKept, at_it, at_other, both_are, none_is, dues_go}
-use Rattle.client_runs.proofs.Holding.{Requests, State, IsFor, Holds, Fits, HasGone, holds_without, fair_without, desk_of}
-use Rattle.client_runs.proofs.Leading.{Leads, Then, Reaches, one_move, chain_moves, cancel_moves}
+use Rattle.client_runs.proofs.Holding.{Requests, State, IsFor, Holds, Fits, holds_without, fair_without, desk_of}
+use Rattle.client_runs.proofs.Leading.{Leads, Then, one_move, chain_moves, cancel_moves}
 
 -- where no results are given the board is as it was
 no_posts : (named : ℕ → Option ℕ) (board : List OnBoard) (posts : List Post) (left : ℕ → Option ℕ) → posts ≡ [] → Gives named board posts left → board ≡ []

@@ -26,7 +26,7 @@ use Rattle.client_core.specs.declared.asked.Waiting.{Waiting}
 use Rattle.client_core.specs.declared.first.Passed.{Passed}
 use Rattle.client_core.proofs.TimerLaws.{due_without}
 use Rattle.client_runs.proofs.Desk.{IsKept, was_there, at_other}
-use Rattle.client_runs.proofs.Holding.{Requests, State, IsFor, Fits, HasGone, holds_without, fair_without, desk_of}
+use Rattle.client_runs.proofs.Holding.{Requests, State, IsFor, Fits, holds_without, fair_without, desk_of}
 use Rattle.client_runs.proofs.Leading.{Leads, Arrives, Then, leads_on, one_move}
 
 -- Where nothing is deferred, no result waits for others.

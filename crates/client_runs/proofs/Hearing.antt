@@ -1,5 +1,5 @@
 -- The transport is told what happened, and takes frames.
-use Rattle.std.proofs.Common.{◌≡◌, ℕ, zero, suc, ◌<◌, ◌≤◌, Bool, true, false, if◌then◌else◌, List, [], ◌∷◌, ◌++◌, length, Option, Some, None, refl, sym, ap, subst, ◌∙◌, arith, le_refl}
+use Rattle.std.proofs.Common.{◌≡◌, ℕ, zero, suc, ◌≤◌, Bool, true, false, if◌then◌else◌, List, length, Option, Some, refl, sym, subst, ◌∙◌, arith}
 use Rattle.std.proofs.lemmas.Bool.Decides.{nat_tests}
 use Rattle.std.specs.Prelude.{option_and_then, nat_lt}
 use Rattle.client_request.specs.Composed.{composed}
@@ -15,7 +15,6 @@ use Rattle.client_core.specs.Client.{client_of, calm, hears, tells, next_frame, 
 use Rattle.client_runs.proofs.Calling.{after_call, PlainClient, layer_of, IsTied, Comes, comes_of, comes_then}
 use Rattle.client_runs.proofs.Desk.{AreKept}
 use Rattle.client_runs.proofs.Firing.{IfSome, some_then, some_on, heard, left_on}
-use Rattle.client_runs.proofs.Giving.{IsOn, on_then}
 use Rattle.client_runs.proofs.Holding.{Requests, State, IsFor, Holds, desk_of}
 use Rattle.client_runs.proofs.Leading.{chain_moves}
 use Rattle.client_runs.proofs.Looping.{Rested, stays, all_fire}

@@ -1,11 +1,11 @@
 -- The plain client beside the machine's: what agrees between two calls.
-use Rattle.std.proofs.Common.{◌≡◌, ℕ, ◌<◌, Bool, false, true, List, [], length, Option, Some, None, refl, sym, ap, subst, ◌∙◌}
+use Rattle.std.proofs.Common.{◌≡◌, ℕ, [], Option, Some, None, sym, ap, subst, ◌∙◌}
 use mathlib.Core.Path.{fun_ext}
-use Rattle.client_request.specs.Numbered.{entry_at, frees}
+use Rattle.client_request.specs.Numbered.{entry_at}
 use Rattle.client_request.specs.Timers.{TimerList, cancelled, without_timer}
 use Rattle.client_request.specs.View.{View}
 use Rattle.client_request.specs.declared.event.What.{What}
-use Rattle.headline.specs.machine.Client.{Upper, Waiting as Held}
+use Rattle.headline.specs.machine.Client.{Upper}
 use Rattle.headline.specs.machine.Streams.{with_at}
 use Rattle.client_ties.specs.PartTie.{Phase}
 use Rattle.client_ties.specs.Sights.{sight, due_of, IsFair}

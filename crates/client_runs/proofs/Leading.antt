@@ -1,5 +1,5 @@
 -- Chains of moves of the client, over any part.
-use Rattle.std.proofs.Common.{◌≡◌, ℕ, ◌<◌, Bool, true, false, if◌then◌else◌, ◌==◌, List, [], ◌∷◌, ◌++◌, length, map, Some, None, Result, refl, sym, ap, subst, subst₂, ◌∙◌, arith, append_assoc, append-nil}
+use Rattle.std.proofs.Common.{◌≡◌, ℕ, ◌<◌, true, false, List, [], ◌++◌, length, map, Some, None, Result, refl, sym, ap, subst, subst₂, ◌∙◌, arith, append_assoc, append-nil}
 use Rattle.std.proofs.lemmas.Bool.Decides.{nat_tests}
 use Rattle.std.proofs.lemmas.List.{map-append}
 use Rattle.client_request.specs.Request.{Request}
@@ -8,7 +8,7 @@ use Rattle.client_request.specs.declared.event.Out.{Out}
 use Rattle.headline.specs.Trace.{Conf}
 use Rattle.headline.specs.Messages.{Octets}
 use Rattle.headline.specs.Settings.{Settings}
-use Rattle.headline.specs.machine.Part.{Post, Act, ServerPart}
+use Rattle.headline.specs.machine.Part.{Act, ServerPart}
 use Rattle.headline.specs.machine.Client.{Posted, Waiting, Upper, Made, Move, Moves, IsDone, Server_moves, Hands_on, Gives_up, moved, hand, tag, with_up}
 use Rattle.client_ties.specs.Chains.{Chain, Stays, Goes, Begins, Calls, then_act}
 

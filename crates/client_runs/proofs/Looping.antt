@@ -1,5 +1,5 @@
 -- Timers fire until none is due.
-use Rattle.std.proofs.Common.{◌≡◌, ℕ, zero, suc, ◌<◌, ◌≤◌, ◌⊎◌, inl, inr, Bool, true, false, if◌then◌else◌, ◌==◌, List, [], ◌∷◌, ◌++◌, length, map, Option, Some, None, refl, sym, ap, subst, ◌∙◌, arith, append-nil, le_refl}
+use Rattle.std.proofs.Common.{◌≡◌, ℕ, zero, suc, ◌<◌, ◌≤◌, ◌⊎◌, inl, inr, Bool, true, false, if◌then◌else◌, ◌==◌, List, [], ◌∷◌, length, map, Option, Some, None, refl, sym, ap, subst, ◌∙◌, arith, append-nil}
 use Rattle.std.proofs.lemmas.Bool.Decides.{nat_tests}
 use Rattle.std.specs.Prelude.{option_and_then}
 use Rattle.client_request.specs.Timers.{due_now, fired_at, cancelled}
@@ -12,7 +12,7 @@ use Rattle.client_ties.specs.Sights.{due_of, IsEarly}
 use Rattle.client_runs.specs.Above.{Tying, machine}
 use Rattle.client_core.specs.Client.{client_of, fire, fires, fires_first, fires_all}
 use Rattle.client_core.proofs.TimerLaws.{due_without, due_listed, listed_due, fires_now, rests_now}
-use Rattle.client_runs.proofs.Calling.{PlainClient, layer_of, IsTied, Comes, comes_then}
+use Rattle.client_runs.proofs.Calling.{PlainClient, IsTied, Comes, comes_then}
 use Rattle.client_runs.proofs.Desk.{was_there}
 use Rattle.client_runs.proofs.Firing.{IfSome, some_then, some_on, one_fires}
 use Rattle.client_runs.proofs.Giving.{IsOn, on_then, on_without}

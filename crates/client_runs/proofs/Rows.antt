@@ -7,11 +7,11 @@ use Rattle.client_request.specs.declared.event.Event.{Event}
 use Rattle.client_request.specs.declared.event.Out.{Out}
 use Rattle.client_request.specs.declared.event.Row.{Row}
 use Rattle.client_request.specs.declared.event.What.{What}
-use Rattle.client_request.specs.declared.event.What.TheVariants.{Ask, Opened, OpenFailed, SendFailed, ShortSend, Datagram, RecvFailed, Wrote, WriteFailed, Bytes, ReadFailed, Ended, Tick}
+use Rattle.client_request.specs.declared.event.What.TheVariants.{Ask, Bytes, Tick}
 use Rattle.headline.specs.Requests.{is_ask}
 use Rattle.headline.specs.Timely.{IsAskedInOctets, AllAskedInOctets}
 use Rattle.headline.specs.machine.Client.{IsDone, IsStep, IsRun, Ends, Goes_on, row_begins, begun, Waiting as Held}
-use Rattle.client_ties.specs.PartTie.{Phase, Untold, Told, MayLeave}
+use Rattle.client_ties.specs.PartTie.{Untold, Told, MayLeave}
 use Rattle.client_ties.specs.Sights.{sight, IsEarly}
 use Rattle.client_runs.specs.Above.{Tying, machine, begins_with, AreWords, ClientsAboveTiesRun}
 use Rattle.client_core.specs.Client.{client_of, at_moment, rested, row_of, row_and_rest, then_rows, asks_request, fires_all, tells, brings, happens, client_step, plain_rows}
@@ -20,8 +20,8 @@ use Rattle.client_runs.proofs.Calling.{PlainClient, IsTied, Comes}
 use Rattle.client_runs.proofs.Desk.{both_are}
 use Rattle.client_runs.proofs.Firing.{IfSome, some_then, some_on}
 use Rattle.client_runs.proofs.Hearing.{IsHeard, tells_it, bytes_do, holds_as}
-use Rattle.client_runs.proofs.Holding.{State, Holds, Fits}
-use Rattle.client_runs.proofs.Leading.{Leads, Arrives, leads_on, all_moves}
+use Rattle.client_runs.proofs.Holding.{State}
+use Rattle.client_runs.proofs.Leading.{Arrives, leads_on, all_moves}
 use Rattle.client_runs.proofs.Looping.{Rested, all_fire}
 
 either_way : (a b : ℕ) → max a b ≡ max b a
