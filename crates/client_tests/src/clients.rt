@@ -1,0 +1,62 @@
+//! A client of one server by streams, stepped by hand.
+
+use crate::queries::{QUERY, request};
+use client_core::{Client, Row, cache, redundant};
+use client_request::{Error, Event, ListWords, Moment, Out, Via, What, WordList};
+use dns_base::{IpAddr, SocketAddr};
+use resolv_conf::{ResolvConf, ServerConf, Transport};
+use std::alloc::Global;
+use std::test::Fail;
+
+/// A configuration of one server that is asked by streams alone.
+fn conf(alloc: Global) -> Result<ResolvConf, Error> {
+    let addr = SocketAddr {
+        ip: IpAddr::V4([192, 0, 2, 53]),
+        port: 53,
+    };
+    let mut conf = ResolvConf::new(alloc);
+    conf.servers.push(ServerConf::new(addr, Transport::Tcp))?;
+    Ok(conf)
+}
+
+fn client(alloc: Global) -> Result<Client, Error> {
+    let conf = conf(alloc)?;
+    Client::new(alloc, &conf, redundant::Config::new(), cache::Config::new())
+}
+
+/// What a client puts out where the query is asked 7 microseconds after its start.
+fn asked(alloc: Global, client: &mut Client) -> Result<Row, Error> {
+    let request = request(alloc, &QUERY)?;
+    let event = Event {
+        moment: Moment(7),
+        what: What::Ask { request },
+    };
+    client.step(&mut ListWords::new(WordList::new(alloc)), event)
+}
+
+/// Whether a request goes to the server by a stream, which is to be opened.
+fn opens_a_stream(outs: &[Out]) -> bool {
+    matches!(
+        outs,
+        [
+            Out::Start {
+                request: 0,
+                server: 0,
+                via: Via::Stream,
+            },
+            Out::OpenStream {
+                place: 0,
+                server: 0,
+            },
+        ]
+    )
+}
+
+#[test]
+fn a_client_asks_and_waits_for_five_seconds(rt: HostRuntime) -> Result<(), Fail> {
+    let mut client = client(rt.alloc())?;
+    let row = asked(rt.alloc(), &mut client)?;
+    assert!(rt; opens_a_stream(row.outs.as_slice()));
+    assert_eq!(rt; client.next_due(), Some(5_000_007));
+    Ok(())
+}

@@ -1,0 +1,105 @@
+//! Sockets, an edge and a clock in memory, by their lists.
+
+use client_core::{Clock, Deed, Edge, ListClock, ListEdge};
+use client_dgram::{Connect, DgramRecv, DgramSend, ListConnect, ListDgram};
+use client_request::{Fault, Moment, Out, What};
+use dns_base::{IpAddr, Octets, SocketAddr};
+use resolv_conf::{ServerConf, Transport};
+use std::alloc::Global;
+use std::test::Fail;
+
+#[test]
+fn a_connector_has_its_faults_and_then_connects(rt: HostRuntime) -> Result<(), Fail> {
+    let mut connector = ListConnect::new(rt.alloc(), vec![in rt.alloc(); Some(Fault::Refused)]?);
+    assert!(rt; connector.connect().err() == Some(Fault::Refused));
+    assert!(rt; connector.connect().is_ok_and(is_silent));
+    Ok(())
+}
+
+/// Whether a socket receives no octet and sends all.
+fn is_silent(mut socket: ListDgram) -> bool {
+    let mut buf = [9u8; 4];
+    socket.recv(&mut buf) == Ok(0) && socket.send(&buf) == Ok(4)
+}
+
+fn socket(alloc: Global) -> Result<ListDgram, Fail> {
+    let six = Octets::from_slice(alloc, &[1, 2, 3, 4, 5, 6])?;
+    let received = vec![in alloc; Ok(six), Err(Fault::Reset)]?;
+    Ok(ListDgram::new(received, vec![in alloc; None, Some(Fault::Broken)]?))
+}
+
+#[test]
+fn a_socket_receives_its_list(rt: HostRuntime) -> Result<(), Fail> {
+    let mut socket = socket(rt.alloc())?;
+    let mut buf = [9u8; 4];
+    assert_eq!(rt; socket.recv(&mut buf), Ok(4));
+    assert_eq!(rt; buf, [1, 2, 3, 4]);
+    assert_eq!(rt; socket.recv(&mut buf), Err(Fault::Reset));
+    Ok(())
+}
+
+#[test]
+fn a_socket_sends_by_its_list(rt: HostRuntime) -> Result<(), Fail> {
+    let mut socket = socket(rt.alloc())?;
+    assert_eq!(rt; socket.send(&[9; 4]), Ok(4));
+    assert_eq!(rt; socket.send(&[9; 4]), Err(Fault::Broken));
+    Ok(())
+}
+
+/// The next two moments of a clock.
+fn two_moments<C: Clock>(clock: &mut C) -> [u64; 2] {
+    let first = clock.now();
+    [first.0, clock.now().0]
+}
+
+#[test]
+fn a_clock_gives_its_list_and_then_its_last_moment(rt: HostRuntime) -> Result<(), Fail> {
+    let moments = vec![in rt.alloc(); Moment(5), Moment(4)]?;
+    assert_eq!(rt; two_moments(&mut ListClock::new(moments)), [5, 4]);
+    assert_eq!(rt;
+        two_moments(&mut ListClock::new(Vec::new(rt.alloc()))),
+        [0, 0]
+    );
+    Ok(())
+}
+
+/// Lets an edge learn a server and close a place, and answers whether its two polls give an opened place and none.
+fn is_served<E: Edge>(edge: &mut E, server: &ServerConf) -> Result<bool, Fail> {
+    edge.learn_server(server)?;
+    edge.act(&Out::Close { place: 3 })?;
+    Ok(matches!(edge.poll()?, Some(What::Opened { place: 3 })) && edge.poll()?.is_none())
+}
+
+fn server() -> ServerConf {
+    let address = SocketAddr {
+        ip: IpAddr::V4([192, 0, 2, 53]),
+        port: 53,
+    };
+    ServerConf::new(address, Transport::UdpTcp)
+}
+
+fn edge(alloc: Global) -> Result<ListEdge, Fail> {
+    let mut events = Vec::new(alloc);
+    events.push(Some(What::Opened { place: 3 }))?;
+    Ok(ListEdge::new(alloc, events))
+}
+
+fn were_done(deeds: &[Deed]) -> bool {
+    matches!(
+        deeds,
+        [
+            Deed::Learned(_),
+            Deed::Acted(Out::Close { place: 3 }),
+            Deed::Polled(Some(What::Opened { place: 3 })),
+            Deed::Polled(None),
+        ]
+    )
+}
+
+#[test]
+fn an_edge_gives_its_list_and_keeps_what_was_done(rt: HostRuntime) -> Result<(), Fail> {
+    let mut edge = edge(rt.alloc())?;
+    assert!(rt; is_served(&mut edge, &server())?);
+    assert!(rt; were_done(edge.deeds()));
+    Ok(())
+}
