@@ -48,7 +48,7 @@ case $what in
     flood) run=replay && flood > "$work/script" && cd dnsq ;;
     fallback | use_vc | back_off)
         run=replay && cp "../examples/$what.script" "$work/script" && cp "../examples/$what.trace" "$work/trace" && cd dnsq ;;
-    dgram) [ -d client_tests ] || { echo "skipped: client_tests is out for now" >&2; exit 77; }; run=dgram && cd client_tests ;;
+    dgram) run=dgram && cd client_tests ;;
     *) false ;;
 esac && [ $# -gt 1 ] || { echo "usage: bash tests/fail_alloc.sh example|flood|fallback|use_vc|back_off|dgram N.." >&2; exit 2; }
 shift
