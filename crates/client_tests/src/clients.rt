@@ -1,8 +1,8 @@
 //! A client of one server by streams, stepped by hand.
 
-use crate::queries::{QUERY, request};
+use crate::lent::{request, words};
 use client_core::{Client, Row, cache, redundant};
-use client_request::{Error, Event, ListWords, Moment, Out, Via, What, WordList};
+use client_request::{Error, Event, ListWords, Moment, Out, Via, What};
 use dns_base::{IpAddr, SocketAddr};
 use resolv_conf::{ResolvConf, ServerConf, Transport};
 use std::alloc::Global;
@@ -25,13 +25,13 @@ fn client(alloc: Global) -> Result<Client, Error> {
 }
 
 /// What a client puts out where the query is asked 7 microseconds after its start.
-fn asked(alloc: Global, client: &mut Client) -> Result<Row, Error> {
-    let request = request(alloc, &QUERY)?;
+fn asked(alloc: Global, client: &mut Client, words: &mut ListWords) -> Result<Row, Error> {
+    let request = request(alloc)?;
     let event = Event {
         moment: Moment(7),
         what: What::Ask { request },
     };
-    client.step(&mut ListWords::new(WordList::new(alloc)), event)
+    client.step(words, event)
 }
 
 /// Whether a request goes to the server by a stream, which is to be opened.
@@ -55,7 +55,7 @@ fn opens_a_stream(outs: &[Out]) -> bool {
 #[test]
 fn a_client_asks_and_waits_for_five_seconds(rt: HostRuntime) -> Result<(), Fail> {
     let mut client = client(rt.alloc())?;
-    let row = asked(rt.alloc(), &mut client)?;
+    let row = asked(rt.alloc(), &mut client, &mut words(rt.alloc())?)?;
     assert!(rt; opens_a_stream(row.outs.as_slice()));
     assert_eq!(rt; client.next_due(), Some(5_000_007));
     Ok(())

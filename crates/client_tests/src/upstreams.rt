@@ -1,7 +1,6 @@
 //! A server by each of its transports, over the trait that they share.
 
-use crate::datagrams::{cx_of, lend};
-use crate::queries::{QUERY, request};
+use crate::lent::{cx_of, lend, request};
 use client_core::Upstream;
 use client_multi::{dgram_stream, multi_stream};
 use client_request::{
@@ -81,7 +80,7 @@ fn ask<S: SendRequest<RequestMessage>>(
     server: &mut S,
     cx: &mut Cx<'_, ListWords>,
 ) -> Result<S::Response, Error> {
-    let request = request(alloc, &QUERY)?;
+    let request = request(alloc)?;
     server.send_request(cx, request)
 }
 
