@@ -1,118 +1,110 @@
 //! A connection by datagrams, whose requests go through the rows of `datagram_rows`, and where composing fails.
 
+use crate::datagram_rows::Heard::Opened;
 use crate::datagram_rows::{Cell, DONE, Deed, Found, STAGES, Told};
 use crate::datagrams::{
-    are_put_out, ask, asked, connection, cx_of, found, lend, tell, tell_all, tell_row,
+    are_put_out, ask, asked, connection, cx_of, found, lend, tell_all, tell_row,
 };
 use crate::queries::{request, short_of_a_question};
 use client_dgram::{Connection, Request};
-use client_request::{Cx, Error, ListWords, Moment, Outs, RequestMessage, What};
+use client_request::{Board, Cx, Error, ListWords, Outs, RequestMessage};
 use std::alloc::Global;
-use std::test::Fail;
 
-/// A connection with one slot, and the two requests that it has.
+/// What stands for the results of two requests, of which the first has the only slot.
 #[derive(Drop)]
 struct Pair {
-    connection: Connection<RequestMessage>,
     first: Request,
     second: Request,
 }
 
-/// A pair of two requests like one another.
-fn pair_of(alloc: Global, cx: &mut Cx<'_, ListWords>) -> Result<Pair, Error> {
-    let mut connection = connection(alloc, 1)?;
-    let first = asked(alloc, &mut connection, cx)?;
-    let second = asked(alloc, &mut connection, cx)?;
-    Ok(Pair {
-        connection,
-        first,
-        second,
-    })
+/// Asks two requests like one another.
+fn ask_both(
+    alloc: Global,
+    connection: &mut Connection<RequestMessage>,
+    cx: &mut Cx<'_, ListWords>,
+) -> Result<Pair, Error> {
+    let first = asked(alloc, connection, cx)?;
+    let second = asked(alloc, connection, cx)?;
+    Ok(Pair { first, second })
 }
 
 /// Whether the first request's result is the one that is due, and is given once, and the second's is to come.
-fn has_result(pair: &mut Pair, cx: &mut Cx<'_, ListWords>, due: Found) -> bool {
+fn has_result(pair: &mut Pair, board: &mut Board, due: Found) -> bool {
     let again = if due.is_some() { DONE } else { None };
-    found(&mut pair.first, cx.board) == due
-        && found(&mut pair.first, cx.board) == again
-        && found(&mut pair.second, cx.board).is_none()
-}
-
-/// Whether one event does what a cell says, in a run that came to its stage.
-fn does(
-    alloc: Global,
-    pair: &mut Pair,
-    cx: &mut Cx<'_, ListWords>,
-    moment: u64,
-    cell: &Cell,
-) -> Result<bool, Error> {
-    let (heard, place, deeds, due) = *cell;
-    tell_row(alloc, &mut pair.connection, cx, (moment, heard, place))?;
-    Ok(are_put_out(cx.outs, deeds) && has_result(pair, cx, due))
-}
-
-/// Whether a run to a stage has come to its result there.
-fn comes(
-    alloc: Global,
-    pair: &mut Pair,
-    cx: &mut Cx<'_, ListWords>,
-    before: &[Told],
-    earlier: Found,
-) -> Result<bool, Error> {
-    tell_all(alloc, &mut pair.connection, cx, before)?;
-    *cx.outs = Outs::new(alloc);
-    Ok(found(&mut pair.first, cx.board) == earlier)
+    found(&mut pair.first, board) == due
+        && found(&mut pair.first, board) == again
+        && found(&mut pair.second, board).is_none()
 }
 
 type Stage = (&'static [Told], Found, u64, &'static [Cell]);
 
-fn holds(alloc: Global, stage: &Stage, cell: &Cell) -> Result<bool, Error> {
-    let mut lent = lend(alloc)?;
-    let mut cx = cx_of(&mut lent);
-    let mut pair = pair_of(alloc, &mut cx)?;
-    if !comes(alloc, &mut pair, &mut cx, stage.0, stage.1)? {
+/// Whether one event does what a cell says, in a run that came to its stage.
+fn does(
+    alloc: Global,
+    connection: &mut Connection<RequestMessage>,
+    cx: &mut Cx<'_, ListWords>,
+    pair: &mut Pair,
+    told: Told,
+    cell: &Cell,
+) -> Result<bool, Error> {
+    tell_row(alloc, connection, cx, told)?;
+    Ok(are_put_out(cx.outs, cell.2) && has_result(pair, cx.board, cell.3))
+}
+
+/// Whether a run to a stage comes to its result there, and a cell then holds.
+fn goes(
+    alloc: Global,
+    connection: &mut Connection<RequestMessage>,
+    cx: &mut Cx<'_, ListWords>,
+    stage: &Stage,
+    cell: &Cell,
+) -> Result<bool, Error> {
+    let mut pair = ask_both(alloc, connection, cx)?;
+    tell_all(alloc, connection, cx, stage.0)?;
+    *cx.outs = Outs::new(alloc);
+    if found(&mut pair.first, cx.board) != stage.1 {
         return Ok(false);
     }
-    does(alloc, &mut pair, &mut cx, stage.2, cell)
+    does(
+        alloc,
+        connection,
+        cx,
+        &mut pair,
+        (stage.2, cell.0, cell.1),
+        cell,
+    )
+}
+
+fn holds(alloc: Global, stage: &Stage, cell: &Cell) -> Result<bool, Error> {
+    let mut lent = lend(alloc)?;
+    let mut connection = connection(alloc, 1)?;
+    goes(alloc, &mut connection, &mut cx_of(&mut lent), stage, cell)
 }
 
 /// Whether each cell of a stage holds.
-fn all_hold(alloc: Global, stage: &Stage) -> Result<bool, Error> {
-    for cell in stage.3 {
-        if !holds(alloc, stage, cell)? {
-            return Ok(false);
-        }
-    }
-    Ok(true)
+fn all_hold(alloc: Global, stage: &Stage) -> bool {
+    stage
+        .3
+        .iter()
+        .all(|cell| holds(alloc, stage, cell).is_ok_and(|holds| holds))
 }
 
 #[test]
-fn an_event_counts_at_its_stage_alone(rt: HostRuntime) -> Result<(), Fail> {
+fn an_event_counts_at_its_stage_alone(rt: HostRuntime) {
     for stage in &STAGES {
-        assert!(rt; all_hold(rt.alloc(), stage)?, "after {:?}", stage.0);
+        assert!(rt; all_hold(rt.alloc(), stage), "after {:?}", stage.0);
     }
-    Ok(())
 }
 
-/// A pair whose first request cannot be composed.
-fn uneven_pair(alloc: Global, cx: &mut Cx<'_, ListWords>) -> Result<Pair, Error> {
-    let mut connection = connection(alloc, 1)?;
-    let first = ask(&mut connection, cx, request(alloc, &short_of_a_question())?)?;
-    let second = asked(alloc, &mut connection, cx)?;
-    Ok(Pair {
-        connection,
-        first,
-        second,
-    })
-}
-
-fn opens(pair: &mut Pair, cx: &mut Cx<'_, ListWords>, place: u64) -> Result<(), Error> {
-    tell(
-        &mut pair.connection,
-        cx,
-        Moment(10),
-        &What::Opened { place },
-    )
+/// Asks two requests of which the first cannot be composed.
+fn ask_uneven(
+    alloc: Global,
+    connection: &mut Connection<RequestMessage>,
+    cx: &mut Cx<'_, ListWords>,
+) -> Result<Pair, Error> {
+    let first = ask(connection, cx, request(alloc, &short_of_a_question())?)?;
+    let second = asked(alloc, connection, cx)?;
+    Ok(Pair { first, second })
 }
 
 /// What is put out where the first request is not composed: a word is drawn for it all the same.
@@ -123,18 +115,26 @@ const UNEVEN: [Deed; 4] = [
     Deed::Sends(1, 1, 8),
 ];
 
+/// The first request's result then.
+const UNREAD: Found = Some(Err(Error::MessageParseError));
+
+fn draws_for_both(
+    alloc: Global,
+    connection: &mut Connection<RequestMessage>,
+    cx: &mut Cx<'_, ListWords>,
+) -> Result<bool, Error> {
+    let mut pair = ask_uneven(alloc, connection, cx)?;
+    tell_all(alloc, connection, cx, &[(10, Opened, 0), (10, Opened, 1)])?;
+    Ok(are_put_out(cx.outs, &UNEVEN) && has_result(&mut pair, cx.board, UNREAD))
+}
+
 fn draws(alloc: Global) -> Result<bool, Error> {
     let mut lent = lend(alloc)?;
-    let mut cx = cx_of(&mut lent);
-    let mut pair = uneven_pair(alloc, &mut cx)?;
-    opens(&mut pair, &mut cx, 0)?;
-    opens(&mut pair, &mut cx, 1)?;
-    let unread = Some(Err(Error::MessageParseError));
-    Ok(are_put_out(cx.outs, &UNEVEN) && has_result(&mut pair, &mut cx, unread))
+    let mut connection = connection(alloc, 1)?;
+    draws_for_both(alloc, &mut connection, &mut cx_of(&mut lent))
 }
 
 #[test]
-fn a_word_is_drawn_where_composing_fails(rt: HostRuntime) -> Result<(), Fail> {
-    assert!(rt; draws(rt.alloc())?);
-    Ok(())
+fn a_word_is_drawn_where_composing_fails(rt: HostRuntime) {
+    assert!(rt; draws(rt.alloc()) == Ok(true));
 }

@@ -9,8 +9,10 @@ use crate::datagrams::{Lent, are_put_out, ask, connection, cx_of, found, lend, t
 use crate::queries::{QUERY, request};
 use client_dgram::{Connection, Request};
 use client_request::{
-    Cx, Error, Event, Events, ListWords, Moment, RequestMessage, SendRequest, Signal, TimerId,
+    Board, Cx, Error, Event, Events, ListWords, Moment, Posted, RequestMessage, SendRequest,
+    Signal, TimerId,
 };
+use dns_base::NoMemory;
 use std::alloc::Global;
 use std::test::Fail;
 
@@ -49,13 +51,19 @@ struct Supplies {
     requests: Vec<RequestMessage>,
 }
 
-fn events(alloc: Global) -> Result<Events, Error> {
+fn event(alloc: Global, told: Told) -> Result<Event, NoMemory> {
+    let (moment, heard, place) = told;
+    let what = what(alloc, heard, place)?;
+    Ok(Event {
+        moment: Moment(moment),
+        what,
+    })
+}
+
+fn events(alloc: Global) -> Result<Events, NoMemory> {
     let mut events = Events::new(alloc);
-    for (moment, heard, place) in RUN {
-        events.push(Event {
-            moment: Moment(moment),
-            what: what(alloc, heard, place)?,
-        })?;
+    for told in RUN {
+        events.push(event(alloc, told)?)?;
     }
     Ok(events)
 }
@@ -71,8 +79,8 @@ fn requests(alloc: Global) -> Result<Vec<RequestMessage>, Error> {
 }
 
 fn supplied(alloc: Global) -> Result<Supplies, Error> {
-    let events = events(alloc)?;
     let requests = requests(alloc)?;
+    let events = events(alloc)?;
     Ok(Supplies {
         events,
         lent: lend(alloc)?,
@@ -92,53 +100,48 @@ fn ask_next(
     }
 }
 
-#[derive(Drop)]
-struct Asked {
-    first: Request,
-    second: Request,
-    third: Request,
-}
-
-fn ask_all(
+fn ask_three(
     connection: &mut Connection<RequestMessage>,
     cx: &mut Cx<'_, ListWords>,
     requests: &mut Vec<RequestMessage>,
-) -> Result<Asked, Error> {
-    let first = ask_next(connection, cx, requests)?;
-    let second = ask_next(connection, cx, requests)?;
-    let third = ask_next(connection, cx, requests)?;
-    Ok(Asked {
-        first,
-        second,
-        third,
-    })
+) -> Result<(), Error> {
+    for _ in 0..3 {
+        let _ = ask_next(connection, cx, requests)?;
+    }
+    Ok(())
 }
 
-fn hear_all(
+/// Three requests hear these events.
+fn run(
     connection: &mut Connection<RequestMessage>,
     cx: &mut Cx<'_, ListWords>,
+    requests: &mut Vec<RequestMessage>,
     events: &Events,
 ) -> Result<(), Error> {
+    ask_three(connection, cx, requests)?;
     for event in events.as_slice() {
         tell(connection, cx, event.moment, &event.what)?;
     }
     Ok(())
 }
 
-/// The results of three requests that hear these events.
-fn run(
-    connection: &mut Connection<RequestMessage>,
-    cx: &mut Cx<'_, ListWords>,
-    requests: &mut Vec<RequestMessage>,
-    events: &Events,
-) -> Result<[Found; 3], Error> {
-    let mut asked = ask_all(connection, cx, requests)?;
-    hear_all(connection, cx, events)?;
-    Ok([
-        found(&mut asked.first, cx.board),
-        found(&mut asked.second, cx.board),
-        found(&mut asked.third, cx.board),
-    ])
+/// The result that stands first, with its ticket. It is taken.
+fn first_given(board: &mut Board) -> Option<(u64, Found)> {
+    let Posted { ticket, part } = board.take_first()?;
+    match part {
+        Ok(Some(message)) => Some((ticket, Some(Ok(message.header().id())))),
+        Ok(None) => Some((ticket, None)),
+        Err(error) => Some((ticket, Some(Err(error)))),
+    }
+}
+
+/// The results, in the order in which they come.
+const RESULTS: [(u64, Found); 3] = [(0, BROKEN), (1, Some(Ok(8))), (2, REFUSED)];
+
+fn are_given(board: &mut Board) -> bool {
+    RESULTS
+        .iter()
+        .all(|given| first_given(board) == Some(*given))
 }
 
 /// How much was put out, stands on the board and is set, and the next numbers.
@@ -165,6 +168,19 @@ fn hears_nothing(
     stays
 }
 
+/// Whether a further request, a timer and giving a request up are answered with `Failed`.
+fn refuses(
+    connection: &mut Connection<RequestMessage>,
+    cx: &mut Cx<'_, ListWords>,
+    late: RequestMessage,
+    response: Request,
+) -> bool {
+    let given_up = connection.cancel(cx, response);
+    let fired = connection.step(cx, Signal::Due(TimerId(0)));
+    let asked = ask(connection, cx, late).err();
+    given_up == Err(Error::Failed) && fired == Err(Error::Failed) && asked == Some(Error::Failed)
+}
+
 /// Whether each further call answers `Failed` and changes nothing of what is lent.
 fn stays_failed(
     connection: &mut Connection<RequestMessage>,
@@ -174,14 +190,21 @@ fn stays_failed(
     response: Request,
 ) -> bool {
     let before = seen(cx);
-    ask(connection, cx, late).err() == Some(Error::Failed)
-        && hears_nothing(connection, cx, events)
-        && connection.step(cx, Signal::Due(TimerId(0))) == Err(Error::Failed)
-        && connection.cancel(cx, response) == Err(Error::Failed)
-        && seen(cx) == before
+    let refused = refuses(connection, cx, late, response);
+    hears_nothing(connection, cx, events) && refused && seen(cx) == before
 }
 
-/// Whether a connection that found no memory answers `Failed` from then on. The response is another connection's.
+/// What stands for a request of another connection.
+fn asked_elsewhere(
+    alloc: Global,
+    cx: &mut Cx<'_, ListWords>,
+    requests: &mut Vec<RequestMessage>,
+) -> Result<Request, Error> {
+    let mut other = connection(alloc, 1)?;
+    ask_next(&mut other, cx, requests)
+}
+
+/// Whether a connection that found no memory answers `Failed` from then on.
 fn has_failed_for_good(
     alloc: Global,
     connection: &mut Connection<RequestMessage>,
@@ -189,7 +212,7 @@ fn has_failed_for_good(
     requests: &mut Vec<RequestMessage>,
     events: &Events,
 ) -> Result<bool, Error> {
-    let response = ask_next(&mut self::connection(alloc, 1)?, cx, requests)?;
+    let response = asked_elsewhere(alloc, cx, requests)?;
     match requests.pop() {
         Some(late) => Ok(stays_failed(connection, cx, events, late, response)),
         None => Ok(false),
@@ -197,23 +220,29 @@ fn has_failed_for_good(
 }
 
 /// Whether the run has its results, or found no memory and told it.
-fn is_run(alloc: Global, supplies: &mut Supplies) -> Result<bool, Error> {
-    let Supplies {
-        events,
-        lent,
-        requests,
-    } = supplies;
-    let mut cx = cx_of(lent);
-    let mut connection = connection(alloc, 2)?;
-    match run(&mut connection, &mut cx, requests, events) {
-        Ok(results) => {
-            Ok(results == [BROKEN, Some(Ok(8)), REFUSED] && are_put_out(cx.outs, &DEEDS))
-        }
-        Err(Error::NoMemory) => {
-            has_failed_for_good(alloc, &mut connection, &mut cx, requests, events)
-        }
+fn goes(
+    alloc: Global,
+    connection: &mut Connection<RequestMessage>,
+    cx: &mut Cx<'_, ListWords>,
+    requests: &mut Vec<RequestMessage>,
+    events: &Events,
+) -> Result<bool, Error> {
+    match run(connection, cx, requests, events) {
+        Ok(()) => Ok(are_put_out(cx.outs, &DEEDS) && are_given(cx.board)),
+        Err(Error::NoMemory) => has_failed_for_good(alloc, connection, cx, requests, events),
         Err(error) => Err(error),
     }
+}
+
+fn is_run(alloc: Global, supplies: &mut Supplies) -> Result<bool, Error> {
+    let mut connection = connection(alloc, 2)?;
+    goes(
+        alloc,
+        &mut connection,
+        &mut cx_of(&mut supplies.lent),
+        &mut supplies.requests,
+        &supplies.events,
+    )
 }
 
 #[test]
