@@ -543,7 +543,7 @@ module _ (compose : Request → Result Octets Error) (o : Octets) (r : Request) 
 
 -- The worked traces
 
-cut_is : (answers plain_request 4660 (cut_answer 18 52) ≡ true) × (truncated (cut_answer 18 52) ≡ true) × (is_bad (answer 0 0 100) ≡ false) × (id_in (answer 0 0 100) ≡ 0) × (answers plain_request 0 (answer 0 0 100) ≡ true)
+pub cut_is : (answers plain_request 4660 (cut_answer 18 52) ≡ true) × (truncated (cut_answer 18 52) ≡ true) × (is_bad (answer 0 0 100) ≡ false) × (id_in (answer 0 0 100) ≡ 0) × (answers plain_request 0 (answer 0 0 100) ≡ true)
 unfolding name_at walk head_at data_at data_spelling question_at record_at list_at items_at questions_of answer_of authority_of additional_of answer_items authority_items additional_items first_question sole_question reads knows opt_of opt_rcode contents_of is_answer answers truncated is_bad id_in
 cut_is = (refl, refl, refl, refl, refl)
 
