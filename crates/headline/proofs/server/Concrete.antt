@@ -1,5 +1,5 @@
 -- One server by datagrams and streams is a part of a client of several.
-use Rattle.std.proofs.Common.{◌≡◌, ℕ, ◌<◌, length, Some, [], ◌∷◌, is_some, Bool, ◌||◌, inl, inr, ◌∙◌, ap, arith, ◌+◌, ◌≤◌, subst, subst₂, false, true, refl}
+use Rattle.std.proofs.Common.{◌≡◌, ℕ, ◌<◌, length, Some, [], ◌∷◌, is_some, Bool, ◌||◌, inl, inr, ◌∙◌, ap, ◌+◌, ◌≤◌, subst, subst₂, false, true, refl}
 use Rattle.client_request.specs.declared.event.What.{What}
 use Rattle.client_request.specs.declared.event.What.TheVariants.{Tick}
 use Rattle.client_request.specs.declared.event.Event.{Event}
@@ -15,9 +15,7 @@ use Rattle.headline.specs.Places.{reach}
 use Rattle.headline.specs.machine.Streams.{Gives, Moves}
 use Rattle.headline.specs.Right.{ServerOutsRight}
 use Rattle.headline.proofs.server.Handing.{or_left}
-use Rattle.headline.proofs.server.DgramKept.{StageFits, KeptD}
-use Rattle.headline.specs.machine.Dgrams.{Tryer, Cut}
-use Rattle.headline.specs.Orderly.{AfterCutAnswer}
+use Rattle.headline.specs.machine.Dgrams.{Tryer}
 use Rattle.headline.specs.machine.Served.{Served, outs_of, frames_left, unserved, holds, row_begun, Acts, Starts, Cancels, RestsNow}
 use Rattle.headline.proofs.server.Expecting.{Expects}
 use Rattle.headline.specs.machine.Part.{Act}

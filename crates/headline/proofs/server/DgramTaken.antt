@@ -1,38 +1,34 @@
 -- An event that datagrams take, for one server's part.
-use Rattle.std.proofs.Common.{◌≡◌, ◌≢◌, ℕ, ◌≤◌, ◌<◌, Bool, true, false, ◌||◌, ◌⊎◌, inl, inr, Option, Some, None, List, [], ◌∷◌, is_some, refl, arith, ◌∙◌, sym, subst, ap, ◌==◌, length}
-use Rattle.std.specs.Prelude.{if◌then◌else◌, Result}
+use Rattle.std.proofs.Common.{◌≡◌, ◌≢◌, ℕ, ◌≤◌, ◌<◌, true, false, ◌⊎◌, inl, inr, Option, Some, None, List, [], ◌∷◌, refl, arith, ◌∙◌, sym, subst, ap, ◌==◌, length}
+use Rattle.std.specs.Prelude.{Result}
 use Rattle.std.proofs.lemmas.Bool.{cases_eq, eqb-true}
 use Rattle.std.proofs.lemmas.Bool.Decides.{nat_tests}
 use Rattle.client_request.specs.declared.error.Error.{Error}
 use Rattle.client_request.specs.declared.event.What.{What}
 use Rattle.client_request.specs.declared.event.What.TheVariants.{Bytes, Tick}
 use Rattle.client_request.specs.declared.event.Out.{Out}
-use Rattle.client_request.specs.declared.event.Out.TheVariants.{Start, Send, Close}
+use Rattle.client_request.specs.declared.event.Out.TheVariants.{Send, Close}
 use Rattle.client_request.specs.declared.event.Via.TheVariants.{Dgram, Stream}
 use Rattle.headline.specs.Trace.{History, Conf, ByDatagrams, Put, put_all}
 use Rattle.headline.specs.Time.{now}
 use Rattle.headline.specs.Messages.{Octets}
-use Rattle.headline.specs.Requests.{start, started, is_start, replied, handed}
+use Rattle.headline.specs.Requests.{start, replied, handed}
 use Rattle.headline.specs.Places.{site, is_told, Opening, on_event, reach}
 use Rattle.headline.specs.Frames.{came}
 use Rattle.headline.specs.Causes.{Heard, sends}
 use Rattle.headline.specs.Orderly.{use_at}
-use Rattle.headline.specs.machine.Streams.{Act, Puts, Asker, Conn, Multi, IsForeign, with_at}
+use Rattle.headline.specs.machine.Streams.{Act, Puts, Asker, Conn, IsForeign, with_at}
 use Rattle.headline.specs.machine.Dgrams.{Meets, Stage, Ending, Cut, Tryer, Dgrams, leave, forget}
 use Rattle.headline.specs.machine.Served.{Served, IsSettled, IsInTime, Settles, AsItIs, WithResult, has_taken_it, outs_of, place_after}
 use Rattle.headline.specs.machine.Part.{Act as Step}
-use Rattle.headline.proofs.PartLaws.{Keeps, none_more, this_one}
+use Rattle.headline.proofs.PartLaws.{Keeps, none_more}
 use Rattle.headline.proofs.server.Kept.{Kept}
 use Rattle.headline.proofs.server.DgramKept.{dgram_site, placed, KeptD}
-use Rattle.headline.proofs.server.DgramMoves.{place_below, standing, forgets, kept_put_d}
-use Rattle.headline.proofs.server.Views.{each_at, each_other, at_there}
+use Rattle.headline.proofs.server.DgramMoves.{place_below, standing, forgets}
+use Rattle.headline.proofs.server.Views.{each_other, at_there}
 use Rattle.headline.proofs.server.Fitting.{OneId, BegunBy, UnsentBy, Fits, no_frames_came}
 use Rattle.headline.proofs.server.Moved.{AreOf, others_all, reach_all, now_all, earlier_all, not_heard}
-use Rattle.headline.proofs.server.Keeping.{quiet_other}
-use Rattle.headline.proofs.server.Handing.{handed_put, none_started}
-use Rattle.headline.specs.machine.Streams as multi
 use Rattle.headline.specs.machine.Dgrams as dgrams
-use Rattle.headline.proofs.server.Opening as opening
 use Rattle.headline.proofs.server.Meeting as meeting
 use Rattle.headline.proofs.server.Late as late
 use Rattle.headline.proofs.server.Taken as taken

@@ -1,5 +1,5 @@
 -- A request whose answer was cut goes on by stream, in one server's part.
-use Rattle.std.proofs.Common.{◌≡◌, ℕ, ◌<◌, Bool, true, false, ◌&&◌, ◌||◌, ◌⊎◌, inl, inr, Option, Some, None, [], ◌∷◌, is_some, refl, arith, ◌∙◌, sym, subst, ap, ◌==◌, length}
+use Rattle.std.proofs.Common.{◌≡◌, ℕ, ◌<◌, Bool, true, false, ◌||◌, ◌⊎◌, inl, inr, Some, None, [], ◌∷◌, is_some, refl, arith, ◌∙◌, sym, subst, ap, length}
 use Rattle.std.specs.Prelude.{if◌then◌else◌}
 use Rattle.std.proofs.lemmas.Bool.Decides.{nat_tests}
 use Rattle.client_request.specs.declared.event.What.{What}
@@ -9,7 +9,7 @@ use Rattle.headline.specs.Trace.{History, Conf, Put}
 use Rattle.headline.specs.Time.{now}
 use Rattle.headline.specs.Requests.{start, started, is_start, replied, handed}
 use Rattle.headline.specs.Places.{reach}
-use Rattle.headline.specs.Orderly.{CutAnswerCame, AfterCutAnswer}
+use Rattle.headline.specs.Orderly.{AfterCutAnswer}
 use Rattle.headline.specs.Right.{ServerOutsRight}
 use Rattle.headline.specs.machine.Streams.{Puts, Asker, with_at}
 use Rattle.headline.specs.machine.Dgrams.{Cut, Tryer, forget}
@@ -19,10 +19,10 @@ use Rattle.headline.proofs.server.Kept.{Kept}
 use Rattle.headline.proofs.server.DgramKept.{placed, StageFits}
 use Rattle.headline.proofs.server.DgramMoves.{forgets, kept_put_d}
 use Rattle.headline.proofs.server.Views.{each_at, each_other}
-use Rattle.headline.proofs.server.Fitting.{BegunBy, UnsentBy, Fits}
+use Rattle.headline.proofs.server.Fitting.{BegunBy, Fits}
 use Rattle.headline.proofs.server.Moved.{Moved, fits_after, others_all}
 use Rattle.headline.proofs.server.Keeping.{quiet_other, same_conns, settled_less, by_dgram_less}
-use Rattle.headline.proofs.server.Handing.{or_parts, handed_put, none_started}
+use Rattle.headline.proofs.server.Handing.{handed_put, none_started}
 use Rattle.headline.specs.machine.Streams as multi
 use Rattle.headline.specs.machine.Server as server
 use Rattle.headline.proofs.server.Opening as opening

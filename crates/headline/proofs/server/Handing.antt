@@ -18,7 +18,7 @@ use Rattle.headline.specs.Writes.{waiting_with}
 use Rattle.headline.specs.Exchanges.{octets_for, is_before, waited_for, IsAmong, Comes}
 use Rattle.headline.specs.Orderly.{use_at, FirstDatagram, FirstStream}
 use Rattle.headline.specs.machine.Streams.{Act, Puts, Asker, Multi, with_at}
-use Rattle.headline.specs.machine.Dgrams.{Queued, Ending, Cut, Tryer}
+use Rattle.headline.specs.machine.Dgrams.{Queued, Ending, Tryer}
 use Rattle.headline.specs.machine.Server.{Server}
 use Rattle.headline.specs.machine.Served.{Served, holds, has_moved, does, Starts, IsHanded}
 use Rattle.headline.proofs.server.Expecting.{Expects, ByDatagram, ByOctets, InFrames}

@@ -24,7 +24,6 @@ use Rattle.headline.specs.Owed.{IsOwed}
 use Rattle.headline.specs.machine.Part.{Act as Step}
 use Rattle.headline.proofs.server.Kept.{stream_site}
 use Rattle.headline.proofs.server.DgramKept.{dgram_site}
-use Rattle.headline.proofs.server.Views.{each_at}
 use Rattle.headline.proofs.server.Ending.{at_is}
 use Rattle.headline.proofs.server.Keeping.{at_site}
 use Rattle.headline.proofs.server.Handing.{or_left, before_of, waited_start}

@@ -1,8 +1,7 @@
 -- A slot is given on before the request whose answer was cut goes on by stream.
-use Rattle.std.proofs.Common.{◌≡◌, ◌≢◌, ℕ, ◌+◌, ◌<◌, ◌≤◌, true, false, Option, Some, None, [], ◌∷◌, refl, take, ap, sym, subst, ◌∙◌}
+use Rattle.std.proofs.Common.{◌≡◌, ℕ, Some, None, refl, take, ap}
 use Rattle.std.specs.Prelude.{Result, if◌then◌else◌}
 use Rattle.headline.specs.Time.{read_timeout}
-use Rattle.headline.specs.Messages.{truncated}
 use Rattle.client_request.specs.declared.event.Out.TheVariants.{Start, OpenDgram, Close}
 use Rattle.client_request.specs.declared.event.Via.TheVariants.{Stream}
 use Rattle.headline.specs.machine.Streams.{Puts, no_connection}
@@ -14,7 +13,7 @@ use Rattle.headline.specs.machine.Served as served
 use Rattle.headline.specs.machine.Served.{does, has_moved, has_taken_it, AsItIs}
 use Rattle.headline.specs.examples.Messages.{cut_answer}
 use Rattle.headline.specs.examples.Slots.{sent_first, queued_behind, all_slots_taken, SlotIsGivenOn}
-use Rattle.headline.proofs.worked.Resting.{nobody, away, below, at_most, StageSettled, StageInTime, cut_settled, in_time_by, datagram_foreign}
+use Rattle.headline.proofs.worked.Resting.{nobody, below, at_most, StageSettled, StageInTime, cut_settled, in_time_by, datagram_foreign}
 use Rattle.headline.proofs.server.Views.{each_at}
 use Rattle.headline.proofs.worked.Runs.{cut_is}
 
