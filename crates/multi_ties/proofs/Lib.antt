@@ -1,0 +1,9 @@
+pub mod Desks
+pub mod Waitings
+pub mod Changing
+pub mod Placing
+pub mod Opening
+pub mod Going
+pub mod Hands
+pub mod Resting
+pub mod Expecting
