@@ -11,7 +11,7 @@ use Rattle.client_ties.specs.Connections.{timer_of, IsPostedTo}
 use Rattle.client_ties.specs.Octets.{IsLinkAt}
 use Rattle.client_ties.specs.Seats.{IsAway}
 use Rattle.client_ties.proofs.Keys.{each_number}
-use Rattle.multi_ties.specs.Servers.{Desk, names_at, UnderWay, IsListed, IsLoose, IsThere, under, StageFits, AtWaiting, AtResting, AtHeld, HasFailed, IsToHand, JobFits, LinkFits, IsNone, IsSome, IsBroken, IsServer}
+use Rattle.multi_ties.specs.Servers.{Desk, names_at, UnderWay, IsListed, IsLoose, IsThere, under, StageFits, AtWaiting, AtResting, AtHeld, HasFailed, IsToHand, JobFits, LinkFits, IsNone, IsSome, IsBroken, AreTables}
 use Rattle.multi_ties.proofs.Desks.{StaysThere, not_both, link_stays, name_of, name_is, names_apart}
 
 -- What a call changes of ticket t alone, whose request has number k: f and g say when each timer is due, before and after.
@@ -41,7 +41,7 @@ pub record Change (t k : ℕ) (y z : UnderWay) (d e : Desk) (m n : Multi) (f g :
   pub opening : e.opening ≡ n.opening
   pub calm : e.calm ≤ n.calm
 
-module _ (t k : ℕ) (y z : UnderWay) (d e : Desk) (m n : Multi) (frames : ℕ → List Octets) (f g : ℕ → Option ℕ) (ticket next : ℕ) (s : IsServer y d m frames f ticket) (c : Change t k y z d e m n f g) where
+module _ (t k : ℕ) (y z : UnderWay) (d e : Desk) (m n : Multi) (frames : ℕ → List Octets) (f g : ℕ → Option ℕ) (ticket next : ℕ) (s : AreTables y d m f) (c : Change t k y z d e m n f g) where
   -- it is that ticket, or another
   same_or : (u : ℕ) → (t ≡ u) ⊎ (t ≡ u → ⊥)
   same_or u = each_number (λ u. (t ≡ u) ⊎ (t ≡ u → ⊥)) t (inl refl) (λ j ne. inr ne) u
@@ -119,9 +119,9 @@ module _ (t k : ℕ) (y z : UnderWay) (d e : Desk) (m n : Multi) (frames : ℕ �
       (link_stays p l (names_at d) (names_at e) m n x (frames p) f g ticket next link conns (asks_stay p before after)
       (λ i j b nm is there. name_stays i j (number_there p j b before is there) nm) apart_now (λ i own. due l i a own) later))
 
-  -- the server again
-  pub changed : (fs : ℕ → List Octets) → ((p : ℕ) → LinkFits e n fs g next p) → ((p : ℕ) (l : Link Request) (i : ℕ) → e.links p ≡ Some l → timer_of l.line.stage ≡ Some i → (e.watches i ≡ Some p) × (e.timers i ≡ None)) → IsServer z e n fs g next
-  changed fs links watched = record {
+  -- the tables again
+  pub changed : AreTables z e n g
+  changed = record {
     jobs = λ u job is. elim (same_or u) [
       | inl tu ↦ subst (λ u. JobFits z e n g u job) tu (c.fits job (ap e.jobs tu ∙ is)).0
       | inr ne ↦ other_fits u job ne (old_job u job ne is)
@@ -141,8 +141,6 @@ module _ (t k : ℕ) (y z : UnderWay) (d e : Desk) (m n : Multi) (frames : ℕ �
       | inl tu ↦ (let o = c.own_todo phase (subst (λ u. IsLoose u phase z.todo) (sym tu) is) in (o.0, o.1, ap e.jobs (sym tu) ∙ o.2, o.3, o.4, o.5, o.6))
       | inr ne ↦ (let o = s.todo u phase (c.todo_back u phase ne is) in (o.0, o.1, new_job u o.0 ne o.2, o.3, c.asks (o.0).number (other_number u o.0 ne o.2) ∙ o.4, o.5, o.6))
     ];
-    links = links;
-    watched = watched;
     failing = c.failing;
     opening = c.opening;
     calm = c.calm;

@@ -8,7 +8,8 @@ use Rattle.client_request.specs.Timers.{can_draw}
 use Rattle.client_request.specs.View.{View, asks}
 use Rattle.client_request.specs.declared.board.Posted.{Posted}
 use Rattle.client_request.specs.declared.event.Out.TheVariants.{OpenStream}
-use Rattle.client_multi.specs.Links.{Link}
+use Rattle.client_request.specs.Requests.{for_one}
+use Rattle.client_multi.specs.Links.{Link, one_stream}
 use Rattle.client_multi.specs.MultiStream.{waits, opens, goes_on, backs_off}
 use Rattle.client_multi.specs.declared.multi_stream.job.Job.{Job}
 use Rattle.headline.specs.Messages.{Octets}
@@ -93,7 +94,7 @@ module _ (server : ℕ) (frames : ℕ → List Octets) (t : ℕ) (job : Job Requ
       own_todo = λ phase l. absurd (once phase l);
       failing = λ i j posted named. failing i j posted named;
       opening = same;
-      calm = st.server.calm;
+      calm = st.server.tables.calm;
     }
       where
         failing : (i j : ℕ) → IsPostedTo i failed → names_at (desk_of to) i ≡ Some j → IsBroken j n
@@ -101,14 +102,16 @@ module _ (server : ℕ) (frames : ℕ → List Octets) (t : ℕ) (job : Job Requ
             let q = name_of (desk_of to) i j named in
             let other : t ≡ q.0 → ⊥ = λ e. h.inner i (q.2 ∙ ap Some (sym e)) in
             let was : d.jobs q.0 ≡ Some q.1 = sym (puts_beside t job2 (Some job2) s.jobs q.0 other) ∙ q.3 in
-            let b = st.server.failing i j posted (name_is d i q.0 q.1 q.2 was ∙ ap Some q.4) in
+            let b = st.server.tables.failing i j posted (name_is d i q.0 q.1 q.2 was ∙ ap Some q.4) in
             (b.0, with_there job.number (Some (moved a Expecting)) m.asks j (λ e. other (h.own q.0 q.1 was (q.4 ∙ sym e))) ∙ b.1, b.2)
 
     server_waits : IsServer z (desk_of to) n frames (dues v) v.ticket
-    server_waits = changed t job.number y z d (desk_of to) m n frames (dues v) (dues v) v.ticket v.ticket st.server change frames
-        (λ p. kept_link t job.number y z d (desk_of to) m n frames (dues v) (dues v) v.ticket v.ticket st.server change frames p refl refl refl (h.away p)
-        (away_so p (n.asks job.number) (moved a Expecting) (with_here job.number (Some (moved a Expecting)) m.asks) (λ q. q)) (λ l i is own. refl) (le_refl v.ticket) (st.server.links p))
-        st.server.watched
+    server_waits = record {
+      tables = changed t job.number y z d (desk_of to) m n frames (dues v) (dues v) v.ticket v.ticket st.server.tables change;
+      links = λ p. kept_link t job.number y z d (desk_of to) m n frames (dues v) (dues v) v.ticket v.ticket st.server.tables change frames p refl refl refl (h.away p)
+          (away_so p (n.asks job.number) (moved a Expecting) (with_here job.number (Some (moved a Expecting)) m.asks) (λ q. q)) (λ l i is own. refl) (le_refl v.ticket) (st.server.links p);
+      watched = st.server.watched;
+    }
 
     names : (u : ℕ) → numbers (desk_of to) u ≡ numbers d u
     names u = numbers_stay t d (desk_of to) (λ u ne. puts_beside t job2 (Some job2) s.jobs u ne) job2 job2 h.here (puts_here t job2 s.jobs) refl u
@@ -131,17 +134,17 @@ module _ (server : ℕ) (frames : ℕ → List Octets) (t : ℕ) (job : Job Requ
   expects_so : (p : ℕ) → s.opening ≡ Some p → Went server frames z d m v (waits t job s) v
   expects_so p is = record {
     made = _;
-    runs = runs_one server v.now v.place m Nothing (n s.opening m.opening st.server.opening) (Expects job.number a p h.its.is h.phase (sym st.server.opening ∙ is));
+    runs = runs_one server v.now v.place m Nothing (n s.opening m.opening st.server.tables.opening) (Expects job.number a p h.its.is h.phase (sym st.server.tables.opening ∙ is));
     posts = refl;
     outs = sym (append-nil v.outs);
     place = refl;
     board = refl;
     more = refl;
-    stands = record { server = server_waits s.opening m.opening st.server.opening; order = jobs_order s.opening m.opening st.server.opening st.order v.place (le_refl v.place) st.order.opening; fair = st.fair };
+    stands = record { server = server_waits s.opening m.opening st.server.tables.opening; order = jobs_order s.opening m.opening st.server.tables.opening st.order v.place (le_refl v.place) st.order.opening; fair = st.fair };
     on = goes_nowhere v st.fair;
     owned = λ i own. inl own;
     others = λ i due none is. is;
-    named = names s.opening m.opening st.server.opening;
+    named = names s.opening m.opening st.server.tables.opening;
     quiet = λ q. q;
   }
 
@@ -150,7 +153,7 @@ module _ (server : ℕ) (frames : ℕ → List Octets) (t : ℕ) (job : Job Requ
       → Went server frames z d m v (record (waits t job s) { opening = Some v.place }) (asks (OpenStream v.place server) (record v { place = v.place + 1 }))
   opens_one none full = record {
     made = _;
-    runs = runs_one server v.now v.place m (Puts (OpenStream v.place server)) (n (Some v.place) (Some v.place) refl) (Opens job.number a h.its.is h.phase (sym st.server.opening ∙ none) full);
+    runs = runs_one server v.now v.place m (Puts (OpenStream v.place server)) (n (Some v.place) (Some v.place) refl) (Opens job.number a h.its.is h.phase (sym st.server.tables.opening ∙ none) full);
     posts = refl;
     outs = refl;
     place = next v.place;
@@ -179,21 +182,21 @@ module _ (server : ℕ) (frames : ℕ → List Octets) (t : ℕ) (job : Job Requ
       over n = omega arith
 
   -- no connection has room
-  pub goes_on_so : ((p : ℕ) (x : Conn) → m.conns p ≡ Some x → IsFull x) → Leads (Went server frames z d m v) (goes_on server t job s v s.opening)
+  pub goes_on_so : ((p : ℕ) (x : Conn) → m.conns p ≡ Some x → IsFull x) → Leads (Went server frames z d m v) (goes_on (one_stream for_one) server t job s v s.opening)
   goes_on_so full = by s.opening refl
     where
       by_room : (b : Bool) → s.opening ≡ None → Leads (Went server frames z d m v) (option_and_then (λ w. Some (record (waits t job s) { opening = Some v.place }, asks (OpenStream v.place server) w)) (if b then Some (record v { place = v.place + 1 }) else None))
       by_room true e = opens_one e full
       by_room false e = tt
 
-      calm_before : (a b c : ℕ) → nat_lt a b ≡ true → b ≤ c → a < c
-      calm_before a b c e le = grind (arith, nat_tests)
+      calm_before : (i j k : ℕ) → nat_lt i j ≡ true → j ≤ k → i < k
+      calm_before i j k e le = grind (arith, nat_tests)
 
-      by_calm : (b : Bool) → nat_lt v.now s.calm ≡ b → s.opening ≡ None → Leads (Went server frames z d m v) (if b then backs_off t job s v else opens server t job s v)
-      by_calm true f e = rests_so server frames t job Free todo failed s m v st below once (inr (refl, calm_before v.now s.calm m.calm f st.server.calm))
+      by_calm : (b : Bool) → nat_lt v.now s.calm ≡ b → s.opening ≡ None → Leads (Went server frames z d m v) (if b then backs_off t job s v else opens (one_stream for_one) server t job s v)
+      by_calm true f e = rests_so server frames t job Free todo failed s m v st below once (inr (refl, calm_before v.now s.calm m.calm f st.server.tables.calm))
       by_calm false f e = by_room (can_draw v.place) e
 
-      by : (o : Option ℕ) → s.opening ≡ o → Leads (Went server frames z d m v) (goes_on server t job s v o)
+      by : (o : Option ℕ) → s.opening ≡ o → Leads (Went server frames z d m v) (goes_on (one_stream for_one) server t job s v o)
       by (Some p) e = expects_so p e
       by None e = by_calm (nat_lt v.now s.calm) refl e
 

@@ -124,7 +124,7 @@ module _ (server : ℕ) (frames : ℕ → List Octets) where
       → Leads (Went server frames nothing_under_way (desk_of s) m v) (each f ts s v)
   each_goes to f goes [] lo hi r s m v st quiet = went_nowhere nothing_under_way s m v st
   each_goes to f goes (t ∷ ts) lo hi r s m v st quiet =
-      let o = st.server.todo t to (inl (refl, refl)) in
+      let o = st.server.tables.todo t to (inl (refl, refl)) in
       let is : desk_of s ≡ desk_with t o.0 (less t s) = taken_out t o.0 s 0 v.ticket st.order.jobs o.2 in
       let same : o.0 ≡ waits_now o.0 = ap (λ at. record o.0 { stage = at }) o.3 in
       let hand : Stands (record { todo = all_as to (t ∷ ts); failed = [] }) (desk_with t (waits_now o.0) (less t s)) (less t s) m frames v

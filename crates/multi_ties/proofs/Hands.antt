@@ -86,10 +86,10 @@ module _ (frames : ℕ → List Octets) (t : ℕ) (job : Job Request) (ph : Phas
   here = with_here t (Some (waits_now job)) (λ j. entry_at j s.jobs)
 
   its : JobFits y d m (dues v) t (waits_now job)
-  its = st.server.jobs t (waits_now job) here
+  its = st.server.tables.jobs t (waits_now job) here
 
   todo_of : (j : Job Request) × (a : Asker) × (d.jobs t ≡ Some j) × (j.stage ≡ Waiting) × (m.asks j.number ≡ Some a) × (a.phase ≡ ph) × ((ph ≡ Free) ⊎ (ph ≡ Broken))
-  todo_of = st.server.todo t ph (subst (λ (xs : List (ℕ × Phase)). IsLoose t ph xs) (sym is_y) (inl (refl, refl)))
+  todo_of = st.server.tables.todo t ph (subst (λ (xs : List (ℕ × Phase)). IsLoose t ph xs) (sym is_y) (inl (refl, refl)))
 
   phase : its.ask.phase ≡ ph
   phase =
@@ -107,15 +107,15 @@ module _ (frames : ℕ → List Octets) (t : ℕ) (job : Job Request) (ph : Phas
     phase = phase;
     loose = todo_of.6;
     away = none_there;
-    ends = λ i is. (let o = st.server.timers i t is in let j = same_job (d.jobs t) o.0 (waits_now job) o.1 here in
+    ends = λ i is. (let o = st.server.tables.timers i t is in let j = same_job (d.jobs t) o.0 (waits_now job) o.1 here in
         elim o.2 [ inl e ↦ sym (ap (λ (j : Job Request). j.end) j) ∙ e | inr e ↦ absurd (let z : Waiting ≡ Resting i = sym (ap (λ (j : Job Request). j.stage) j) ∙ e in cc) ]);
-    inner = λ i is. (let o = st.server.inner i t is in let j = same_job (d.jobs t) o.0 (waits_now job) o.2 here in let z : Waiting ≡ Held o.1 (under i) = sym (ap (λ (j : Job Request). j.stage) j) ∙ o.3 in cc);
-    waiting = λ l. (let o = st.server.waiting t l in
+    inner = λ i is. (let o = st.server.tables.inner i t is in let j = same_job (d.jobs t) o.0 (waits_now job) o.2 here in let z : Waiting ≡ Held o.1 (under i) = sym (ap (λ (j : Job Request). j.stage) j) ∙ o.3 in cc);
+    waiting = λ l. (let o = st.server.tables.waiting t l in
         let j : o.0 ≡ waits_now job = same_job (d.jobs t) o.0 (waits_now job) o.2 here in
         let a : its.ask ≡ o.1 = same_asker (m.asks job.number) its.ask o.1 its.is (ap (λ (j : Job Request). m.asks j.number) (sym j) ∙ o.4) in
         let e : ph ≡ Expecting = sym phase ∙ (ap (λ (a : Asker). a.phase) a ∙ o.5) in
         elim todo_of.6 [ inl b ↦ (let z : Free ≡ Expecting = sym b ∙ e in cc) | inr b ↦ (let z : Broken ≡ Expecting = sym b ∙ e in cc) ]);
-    own = λ u other is same. st.server.apart t u (waits_now job) other here is (sym same);
+    own = λ u other is same. st.server.tables.apart t u (waits_now job) other here is (sym same);
     number = λ other is. ap (λ (j : Job Request). j.number) (same_job (d.jobs t) other (waits_now job) is here);
   }
 

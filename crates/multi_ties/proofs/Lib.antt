@@ -7,3 +7,5 @@ pub mod Going
 pub mod Hands
 pub mod Resting
 pub mod Expecting
+pub mod Calling
+pub mod Collecting

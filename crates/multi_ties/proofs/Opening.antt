@@ -10,7 +10,7 @@ use Rattle.headline.specs.machine.Streams.{Phase, Free, Expecting, Lined, Holdin
 use Rattle.client_ties.specs.Connections.{timer_of, IsPostedTo}
 use Rattle.client_ties.specs.Octets.{IsLinkAt}
 use Rattle.client_ties.specs.Seats.{IsAway}
-use Rattle.multi_ties.specs.Servers.{Desk, names_at, UnderWay, nothing_under_way, IsListed, IsLoose, IsThere, under, StageFits, AtWaiting, AtResting, AtHeld, HasFailed, IsToHand, JobFits, LinkFits, IsNone, IsSome, IsBroken, IsServer}
+use Rattle.multi_ties.specs.Servers.{Desk, names_at, UnderWay, nothing_under_way, IsListed, IsLoose, IsThere, under, StageFits, AtWaiting, AtResting, AtHeld, HasFailed, IsToHand, JobFits, LinkFits, IsNone, IsSome, IsBroken, AreTables}
 use Rattle.multi_ties.proofs.Desks.{StaysThere, away_so, link_stays, names_apart}
 
 -- those who are to be handed on, all in one phase
@@ -61,7 +61,7 @@ module _ (to : Phase) (loose : (to ≡ Free) ⊎ (to ≡ Broken)) where
   pub away_still : (q : ℕ) (o : Option Asker) → IsAway q o → IsAway q (every (expected to) o)
   away_still q o away = elim (stays_so q o) [ inl e ↦ subst (IsAway q) (sym e) away | inr h ↦ h.1 ]
 
-  module _ (d e : Desk) (m n : Multi) (frames : ℕ → List Octets) (f g : ℕ → Option ℕ) (ticket : ℕ) (s : IsServer nothing_under_way d m frames f ticket)
+  module _ (d e : Desk) (m n : Multi) (frames : ℕ → List Octets) (f g : ℕ → Option ℕ) (ticket : ℕ) (s : AreTables nothing_under_way d m f)
       (jobs : e.jobs ≡ d.jobs) (timers : e.timers ≡ d.timers) (inner : e.inner ≡ d.inner) (waiting : e.waiting ≡ []) (asks : (k : ℕ) → n.asks k ≡ every (expected to) (m.asks k)) (same_dues : (i : ℕ) → g i ≡ f i)
       (opening : e.opening ≡ n.opening) (calm : e.calm ≤ n.calm) where
     abbrev z : UnderWay
@@ -103,8 +103,8 @@ module _ (to : Phase) (loose : (to ≡ Free) ⊎ (to ≡ Broken)) where
     stage t at phase (HasFailed p i x b o h) = absurd h
     stage t at phase (IsToHand l w h) = absurd l
 
-    pub opens_so : ((q : ℕ) → LinkFits e n frames g ticket q) → ((q : ℕ) (l : Link Request) (i : ℕ) → e.links q ≡ Some l → timer_of l.line.stage ≡ Some i → (e.watches i ≡ Some q) × (e.timers i ≡ None)) → IsServer z e n frames g ticket
-    opens_so links watched = record {
+    pub opens_so : AreTables z e n g
+    opens_so = record {
       jobs = λ t job is. (let j = s.jobs t job (old_job t job is) in record {
         ask = moved j.ask (expected to j.ask.phase);
         is = asks job.number ∙ ap (every (expected to)) j.is;
@@ -121,8 +121,6 @@ module _ (to : Phase) (loose : (to ≡ Free) ⊎ (to ≡ Broken)) where
       waiting = λ t l. absurd (subst (IsListed t) waiting l);
       todo = λ t phase l. (let x = as_loose t phase to d.waiting l in let o = s.waiting t x.0 in
           (o.0, moved o.1 (expected to (o.1).phase), new_job t o.0 o.2, o.3, asks (o.0).number ∙ ap (every (expected to)) o.4, ap (expected to) o.5 ∙ x.1, elim loose [ inl b ↦ inl (sym x.1 ∙ b) | inr b ↦ inr (sym x.1 ∙ b) ]));
-      links = links;
-      watched = watched;
       failing = λ i k h named. absurd h;
       opening = opening;
       calm = calm;

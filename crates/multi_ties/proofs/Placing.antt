@@ -12,7 +12,7 @@ use Rattle.client_ties.specs.Connections.{timer_of, IsPostedTo}
 use Rattle.client_ties.specs.Octets.{IsLinkAt}
 use Rattle.client_ties.specs.Seats.{IsAway}
 use Rattle.client_ties.proofs.Keys.{each_number}
-use Rattle.multi_ties.specs.Servers.{Desk, names_at, UnderWay, IsListed, IsLoose, IsThere, under, StageFits, AtWaiting, AtResting, AtHeld, HasFailed, IsToHand, JobFits, LinkFits, IsNone, IsSome, IsBroken, IsServer}
+use Rattle.multi_ties.specs.Servers.{Desk, names_at, UnderWay, IsListed, IsLoose, IsThere, under, StageFits, AtWaiting, AtResting, AtHeld, HasFailed, IsToHand, JobFits, LinkFits, IsNone, IsSome, IsBroken, AreTables}
 use Rattle.multi_ties.proofs.Desks.{StaysThere, there_or_away, away_none, away_so, one_place, not_both, link_stays, name_is, names_apart}
 
 -- What a call of the connection at p changes, which posted something: f and g say when each timer is due, before and after.
@@ -33,7 +33,7 @@ pub record PlaceChange (p : ℕ) (posts : List Posted) (y z : UnderWay) (d e : D
   pub opening : e.opening ≡ n.opening
   pub calm : e.calm ≤ n.calm
 
-module _ (p : ℕ) (posts : List Posted) (y z : UnderWay) (d e : Desk) (m n : Multi) (frames : ℕ → List Octets) (f g : ℕ → Option ℕ) (ticket next : ℕ) (s : IsServer y d m frames f ticket) (c : PlaceChange p posts y z d e m n f g) where
+module _ (p : ℕ) (posts : List Posted) (y z : UnderWay) (d e : Desk) (m n : Multi) (frames : ℕ → List Octets) (f g : ℕ → Option ℕ) (ticket next : ℕ) (s : AreTables y d m f) (c : PlaceChange p posts y z d e m n f g) where
   -- a request is there, or away
   either_way : (k : ℕ) → IsAway p (m.asks k) ⊎ ((a : Asker) × (m.asks k ≡ Some a) × IsThere p a.phase)
   either_way k = by (m.asks k) refl
@@ -147,9 +147,9 @@ module _ (p : ℕ) (posts : List Posted) (y z : UnderWay) (d e : Desk) (m n : Mu
           same_as : (b : Asker) (ph : Phase) → n.asks job.number ≡ Some (moved j.ask ph) → n.asks job.number ≡ Some b → b.phase ≡ ph
           same_as b ph is e = let q : Some (moved j.ask ph) ≡ Some b = sym is ∙ e in let r : moved j.ask ph ≡ b = cc in sym (ap (λ (a : Asker). a.phase) r)
 
-  -- the server again
-  pub placed : (fs : ℕ → List Octets) → ((q : ℕ) → LinkFits e n fs g next q) → ((q : ℕ) (l : Link Request) (i : ℕ) → e.links q ≡ Some l → timer_of l.line.stage ≡ Some i → (e.watches i ≡ Some q) × (e.timers i ≡ None)) → IsServer z e n fs g next
-  placed fs links watched = record {
+  -- the tables again
+  pub placed : AreTables z e n g
+  placed = record {
     jobs = λ t job is. job_fits t job (old_job t job is);
     asked = λ k a is. asked k a is;
     apart = apart;
@@ -158,8 +158,6 @@ module _ (p : ℕ) (posts : List Posted) (y z : UnderWay) (d e : Desk) (m n : Mu
     waiting = λ t is. (let o = s.waiting t (subst (IsListed t) c.waiting is) in (o.0, o.1, new_job t o.0 o.2, o.3, c.aside (o.0).number (away_so p (m.asks (o.0).number) o.1 o.4 (λ h. subst (IsThere p) o.5 h)) ∙ o.4, o.5));
     todo = λ t phase is. (let o = s.todo t phase (subst (λ (xs : List (ℕ × Phase)). IsLoose t phase xs) c.todo is) in
         (o.0, o.1, new_job t o.0 o.2, o.3, c.aside (o.0).number (away_so p (m.asks (o.0).number) o.1 o.4 (λ h. elim o.6 [ inl b ↦ subst (IsThere p) (o.5 ∙ b) h | inr b ↦ subst (IsThere p) (o.5 ∙ b) h ])) ∙ o.4, o.5, o.6));
-    links = links;
-    watched = watched;
     failing = λ i k post named. c.failing i k (subst (IsPostedTo i) c.failed post) (ap (λ (f : ℕ → Option ℕ). f i) (sym same_names) ∙ named);
     opening = c.opening;
     calm = c.calm;

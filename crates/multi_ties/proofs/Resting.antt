@@ -141,8 +141,8 @@ module _ (server : ℕ) (frames : ℕ → List Octets) (t : ℕ) (job : Job Requ
     own_waiting = λ l. absurd (h.waiting l);
     own_todo = λ phase l. absurd (once phase l);
     failing = λ i j posted named. failing i j posted named;
-    opening = st.server.opening;
-    calm = st.server.calm;
+    opening = st.server.tables.opening;
+    calm = st.server.tables.calm;
   }
     where
       failing : (i j : ℕ) → IsPostedTo i failed → names_at (desk_of to) i ≡ Some j → IsBroken j n
@@ -150,7 +150,7 @@ module _ (server : ℕ) (frames : ℕ → List Octets) (t : ℕ) (job : Job Requ
           let o = name_of (desk_of to) i j named in
           let other : t ≡ o.0 → ⊥ = λ e. h.inner i (o.2 ∙ ap Some (sym e)) in
           let was : d.jobs o.0 ≡ Some o.1 = sym (puts_beside t job2 (Some (waits_now job)) s.jobs o.0 other) ∙ o.3 in
-          let b = st.server.failing i j posted (name_is d i o.0 o.1 o.2 was ∙ ap Some o.4) in
+          let b = st.server.tables.failing i j posted (name_is d i o.0 o.1 o.2 was ∙ ap Some o.4) in
           (b.0, with_there job.number (Some (moved a (BackingOff due))) m.asks j (λ e. other (h.own o.0 o.1 was (o.4 ∙ sym e))) ∙ b.1, b.2)
 
   moves : (next : ℕ) → Moves server v.now next m Nothing n
@@ -163,13 +163,16 @@ module _ (server : ℕ) (frames : ℕ → List Octets) (t : ℕ) (job : Job Requ
   not_own p l i is own = let o = link_due d m frames (dues v) v.ticket p l i (st.server.links p) is own in not_next v i o.0 st.fair o.1
 
   links : (p : ℕ) → LinkFits (desk_of to) n frames (dues w) v.ticket p
-  links p = kept_link t job.number y z d (desk_of to) m n frames (dues v) (dues w) v.ticket v.ticket st.server change frames p refl refl refl (h.away p)
+  links p = kept_link t job.number y z d (desk_of to) m n frames (dues v) (dues w) v.ticket v.ticket st.server.tables change frames p refl refl refl (h.away p)
       (away_so p (n.asks job.number) (moved a (BackingOff due)) (with_here job.number (Some (moved a (BackingOff due))) m.asks) (λ q. q))
       (λ l i is own. due_there i (not_own p l i is own)) (le_refl v.ticket) (st.server.links p)
 
   server_rests : IsServer z (desk_of to) n frames (dues w) v.ticket
-  server_rests = changed t job.number y z d (desk_of to) m n frames (dues v) (dues w) v.ticket v.ticket st.server change frames links
-      (λ p l i is own. (let o = st.server.watched p l i is own in (o.0, puts_there i0 t s.timers i (not_own p l i is own) ∙ o.1)))
+  server_rests = record {
+    tables = changed t job.number y z d (desk_of to) m n frames (dues v) (dues w) v.ticket v.ticket st.server.tables change;
+    links = links;
+    watched = λ p l i is own. (let o = st.server.watched p l i is own in (o.0, puts_there i0 t s.timers i (not_own p l i is own) ∙ o.1));
+  }
 
   up : (n : ℕ) → n ≤ n + 1
   up n = omega arith

@@ -109,8 +109,8 @@ pub data LinkFits (d : Desk) (m : Multi) (frames : ℕ → List Octets) (due : �
 abbrev pub IsBroken : (k : ℕ) → Multi → Type 0
 IsBroken k m = (a : Asker) × (m.asks k ≡ Some a) × (a.phase ≡ Broken)
 
--- The tables and the machine agree, but for what is under way.
-pub record IsServer (y : UnderWay) (d : Desk) (m : Multi) (frames : ℕ → List Octets) (due : ℕ → Option ℕ) (ticket : ℕ) : Type 0 where
+-- The tables of requests and the machine agree, but for what is under way.
+pub record AreTables (y : UnderWay) (d : Desk) (m : Multi) (due : ℕ → Option ℕ) : Type 0 where
   pub jobs : (t : ℕ) (job : Job Request) → d.jobs t ≡ Some job → JobFits y d m due t job
   pub asked : (k : ℕ) (a : Asker) → m.asks k ≡ Some a → (t : ℕ) × (job : Job Request) × (d.jobs t ≡ Some job) × (job.number ≡ k)
   pub apart : (t u : ℕ) (job other : Job Request) → d.jobs t ≡ Some job → d.jobs u ≡ Some other → job.number ≡ other.number → t ≡ u
@@ -118,11 +118,15 @@ pub record IsServer (y : UnderWay) (d : Desk) (m : Multi) (frames : ℕ → List
   pub inner : (i t : ℕ) → d.inner i ≡ Some t → (job : Job Request) × (p : ℕ) × (d.jobs t ≡ Some job) × (job.stage ≡ Held p (under i))
   pub waiting : (t : ℕ) → IsListed t d.waiting → (job : Job Request) × (a : Asker) × (d.jobs t ≡ Some job) × (job.stage ≡ Waiting) × (m.asks job.number ≡ Some a) × (a.phase ≡ Expecting)
   pub todo : (t : ℕ) (phase : Phase) → IsLoose t phase y.todo → (job : Job Request) × (a : Asker) × (d.jobs t ≡ Some job) × (job.stage ≡ Waiting) × (m.asks job.number ≡ Some a) × (a.phase ≡ phase) × ((phase ≡ Free) ⊎ (phase ≡ Broken))
-  pub links : (p : ℕ) → LinkFits d m frames due ticket p
-  pub watched : (p : ℕ) (l : Link Request) (i : ℕ) → d.links p ≡ Some l → timer_of l.line.stage ≡ Some i → (d.watches i ≡ Some p) × (d.timers i ≡ None)
   pub failing : (i k : ℕ) → IsPostedTo i y.failed → names_at d i ≡ Some k → IsBroken k m
   pub opening : d.opening ≡ m.opening
   pub calm : d.calm ≤ m.calm
+
+-- So do the connections: the place and the timer of each are known, and its timer is no request's.
+pub record IsServer (y : UnderWay) (d : Desk) (m : Multi) (frames : ℕ → List Octets) (due : ℕ → Option ℕ) (ticket : ℕ) : Type 0 where
+  pub tables : AreTables y d m due
+  pub links : (p : ℕ) → LinkFits d m frames due ticket p
+  pub watched : (p : ℕ) (l : Link Request) (i : ℕ) → d.links p ≡ Some l → timer_of l.line.stage ≡ Some i → (d.watches i ≡ Some p) × (d.timers i ≡ None)
 
 -- The keys of each table rise, and are numbers that were drawn.
 pub record AreOrderly (s : Server) (x : Sight) : Type 0 where
