@@ -29,7 +29,7 @@ use Rattle.client_ties.proofs.Keys.{with_here, with_there, is_or_was, was_there,
 use Rattle.client_ties.proofs.Tables.{at_puts, at_frees, sorted_puts, sorted_frees, rises_below, present_below}
 use Rattle.multi_ties.specs.Servers.{Desk, Server, desk_of, numbers, names_at, UnderWay, IsThere, StageFits, AtWaiting, AtResting, AtHeld, HasFailed, IsToHand, LinkFits, IsNone, IsSome, IsBroken, AreTables, IsServer, AreOrderly, NoneHeard, Owns, Stands}
 use Rattle.multi_ties.proofs.Going.{Went}
-use Rattle.multi_ties.proofs.Hands.{link_due, same_link, puts_here, puts_there}
+use Rattle.multi_ties.proofs.Hands.{link_due, line_due, same_link, puts_here, puts_there}
 use Rattle.multi_ties.proofs.Placing.{PlaceChange, kept_place, placed}
 
 -- the timer of a request is set
@@ -99,7 +99,7 @@ module _ (server p : ℕ) (posts : List Posted) (frames fs : ℕ → List Octets
       ne (cc)
 
   due_stays : (i due : ℕ) → (timer_of l.line.stage ≡ Some i → ⊥) → dues v i ≡ Some due → dues w i ≡ dues v i
-  due_stays i due no set = x.timed.others i due no set ∙ sym set
+  due_stays i due free set = x.timed.others i due free set ∙ sym set
 
   job_due : (i t : ℕ) → entry_at i s.timers ≡ Some t → dues w i ≡ dues v i
   job_due i t at = let o = timer_due y (desk_of s) m (dues v) i t tables at in
@@ -201,10 +201,86 @@ module _ (server p : ℕ) (posts : List Posted) (frames fs : ℕ → List Octets
       stands = record { server = subst (λ n. IsServer z (desk_of to) n fs (dues w) w.ticket) (sym state) server_left; order = order_left; fair = record { order = x.timed.on.fair.order; words = x.timed.on.fair.words } };
       on = record { fair = record { order = x.timed.on.fair.order; words = x.timed.on.fair.words }; now = x.timed.on.now; timer = x.timed.on.timer; ticket = le_trans le x.timed.on.ticket; place = x.timed.on.place; later = x.timed.on.later };
       owned = owned_left;
-      others = λ i due no set. x.timed.others i due (λ mine. no (inr (p, l, is, mine))) set;
+      others = λ i due free set. x.timed.others i due (λ mine. free (inr (p, l, is, mine))) set;
       named = λ u. refl;
       quiet = λ q. subst NoneHeard (sym state) (quiet q);
     }
+
+  -- Tables of watches
+
+  dropped : (i : ℕ) (o : Option ℕ) → (o ≡ Some i → ⊥) → entry_at i (unwatched o s.watches) ≡ entry_at i s.watches
+  dropped i None ne = refl
+  dropped i (Some j) ne = at_frees j i 0 v.timers.next s.watches order.watches ∙ with_there j None (λ j. entry_at j s.watches) i (λ e. ne (ap Some e))
+
+  sorted_dropped : (o : Option ℕ) → Sorted 0 v.timers.next (unwatched o s.watches)
+  sorted_dropped None = order.watches
+  sorted_dropped (Some j) = sorted_frees j 0 v.timers.next s.watches order.watches
+
+  added : (i : ℕ) (o : Option ℕ) (es : List (ℕ × ℕ)) → (o ≡ Some i → ⊥) → entry_at i (watched p o es) ≡ entry_at i es
+  added i None es ne = refl
+  added i (Some j) es ne = puts_there j p es i (λ e. ne (ap Some e))
+
+  added_here : (i : ℕ) (o : Option ℕ) (es : List (ℕ × ℕ)) → o ≡ Some i → entry_at i (watched p o es) ≡ Some p
+  added_here i None es e = absurd (cc)
+  added_here i (Some j) es e = ap (λ i. entry_at i (puts j p es)) (let s : j ≡ i = cc in sym s) ∙ puts_here j p es
+
+  sorted_added : (o : Option ℕ) (hi : ℕ) (es : List (ℕ × ℕ)) → ((j : ℕ) → o ≡ Some j → j < hi) → Sorted 0 hi es → Sorted 0 hi (watched p o es)
+  sorted_added None hi es lt r = r
+  sorted_added (Some j) hi es lt r = sorted_puts j p 0 hi es (least j) (lt j refl) r
+    where
+      least : (n : ℕ) → 0 ≤ n
+      least n = omega arith
+
+  freed_there : (q : ℕ) → (p ≡ q → ⊥) → entry_at q (frees p s.connections) ≡ entry_at q s.connections
+  freed_there q ne = at_frees p q 0 v.place s.connections order.connections ∙ with_there p None (λ j. entry_at j s.connections) q ne
+
+  freed_here : entry_at p (frees p s.connections) ≡ None
+  freed_here = at_frees p p 0 v.place s.connections order.connections ∙ with_here p None (λ j. entry_at j s.connections)
+
+  below_next : (i due : ℕ) → dues w i ≡ Some due → i < w.timers.next
+  below_next i due set = elim (either i w.timers.next) [ inl lt ↦ lt | inr le ↦ absurd (let z : None ≡ Some due = sym (none_next w i x.timed.on.fair le) ∙ set in cc) ]
+    where
+      either : (a b : ℕ) → (a < b) ⊎ (b ≤ a)
+      either a b = grind arith
+
+  module _ (made : Act Multi) (state : made.state ≡ n) (runs : Runs server v.now v.place m made) (nothing : made.posts ≡ []) (outs : w.outs ≡ v.outs ++ made.outs) (place : w.place ≡ made.place) (more : w.more ≡ v.more) (le : v.ticket ≤ tk) (quiet : NoneHeard m → NoneHeard n) where
+    ended_so : has_ended c.line.stage ≡ true → Went server fs z (desk_of s) m v (taken (one_stream for_one) p l s) (taken_back v w)
+    ended_so e = left_so (frees p s.connections) (unwatched (timer_at l.line.stage) s.watches) freed_there
+        (elim x.new [ inl f ↦ absurd (let z : false ≡ true = sym f.0 ∙ e in cc) | inr f ↦ IsNone freed_here f.1 f.2 ])
+        (λ k i at own. absurd (let z : None ≡ Some k = sym freed_here ∙ at in cc))
+        (λ i own. absurd (let z : None ≡ Some i = sym (ended_timer c.line.stage e) ∙ own in cc))
+        (λ i mine other. dropped i (timer_at l.line.stage) (λ e. mine (sym (same_timer l.line.stage) ∙ e)))
+        (sorted_frees p 0 v.place s.connections order.connections)
+        (rises_below (λ (e : ℕ × ℕ). e.0) 0 v.timers.next w.timers.next (unwatched (timer_at l.line.stage) s.watches) x.timed.on.timer (sorted_dropped (timer_at l.line.stage)))
+        made state runs nothing outs place more le quiet
+
+    kept_so : has_ended c.line.stage ≡ false → Went server fs z (desk_of s) m v (keeps (one_stream for_one) p c (taken (one_stream for_one) p l s)) (taken_back v w)
+    kept_so e = left_so (puts p c (frees p s.connections)) (watched p (timer_at c.line.stage) (unwatched (timer_at l.line.stage) s.watches))
+        (λ q ne. puts_there p c (frees p s.connections) q ne ∙ freed_there q ne)
+        (elim x.new [ inl f ↦ IsSome c f.1 (puts_here p c (frees p s.connections)) f.2 | inr f ↦ absurd (let z : true ≡ false = sym f.0 ∙ e in cc) ])
+        (λ k i at own. ap (λ (l : Link Request). timer_of l.line.stage) (same_link (entry_at p (puts p c (frees p s.connections))) c k (puts_here p c (frees p s.connections)) at) ∙ own)
+        (λ i own. added_here i (timer_at c.line.stage) (unwatched (timer_at l.line.stage) s.watches) (same_timer c.line.stage ∙ own))
+        (λ i mine other. added i (timer_at c.line.stage) (unwatched (timer_at l.line.stage) s.watches) (λ e. other (sym (same_timer c.line.stage) ∙ e)) ∙ dropped i (timer_at l.line.stage) (λ e. mine (sym (same_timer l.line.stage) ∙ e)))
+        (sorted_puts p c 0 v.place (frees p s.connections) (least p) (present_below p 0 v.place l s.connections order.connections is) (sorted_frees p 0 v.place s.connections order.connections))
+        (sorted_added (timer_at c.line.stage) w.timers.next (unwatched (timer_at l.line.stage) s.watches) (λ j own. small j (sym (same_timer c.line.stage) ∙ own))
+        (rises_below (λ (e : ℕ × ℕ). e.0) 0 v.timers.next w.timers.next (unwatched (timer_at l.line.stage) s.watches) x.timed.on.timer (sorted_dropped (timer_at l.line.stage))))
+        made state runs nothing outs place more le quiet
+      where
+        least : (n : ℕ) → 0 ≤ n
+        least n = omega arith
+
+        small : (j : ℕ) → timer_of c.line.stage ≡ Some j → j < w.timers.next
+        small j own = elim x.new [
+          | inl f ↦ (let o = line_due (dues w) c.line.idle_time c.line.stage (f.1).mode j (f.2).line.fits.stage own in below_next j o.0 o.1)
+          | inr f ↦ absurd (let z : true ≡ false = sym f.0 ∙ e in cc)
+        ]
+
+    pub call_so : Went server fs z (desk_of s) m v (with_connection (one_stream for_one) p c (taken (one_stream for_one) p l s)) (taken_back v w)
+    call_so = by (has_ended c.line.stage) refl
+      where
+        by : (b : Bool) → has_ended c.line.stage ≡ b → Went server fs z (desk_of s) m v (if b then taken (one_stream for_one) p l s else keeps (one_stream for_one) p c (taken (one_stream for_one) p l s)) (taken_back v w)
+        by true e = ended_so e
+        by false e = kept_so e
 
 pub eighth : (d : Desk) → Unit {0}
 eighth d = tt

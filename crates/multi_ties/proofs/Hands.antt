@@ -48,7 +48,7 @@ numbers_stay t d e beside a b was is same u = each_number (λ u. numbers e u ≡
     (ap (option_map (λ (job : Job Request). job.number)) is ∙ (ap Some same ∙ sym (ap (option_map (λ (job : Job Request). job.number)) was)))
     (λ u ne. ap (option_map (λ (job : Job Request). job.number)) (beside u ne)) u
 
-line_due : (f : ℕ → Option ℕ) (idle : ℕ) (at : LineStage) (mode : Mode) (i : ℕ) → LineStageFits f idle at mode → timer_of at ≡ Some i → (due : ℕ) × (f i ≡ Some due)
+pub line_due : (f : ℕ → Option ℕ) (idle : ℕ) (at : LineStage) (mode : Mode) (i : ℕ) → LineStageFits f idle at mode → timer_of at ≡ Some i → (due : ℕ) × (f i ≡ Some due)
 line_due f idle at mode i (IsNew e g) own = absurd (let z = sym (ap timer_of e) ∙ own in cc)
 line_due f idle at mode i (IsActive timer since e g h) own = (_, ap f (let z : Some timer ≡ Some i = sym (ap timer_of e) ∙ own in let s : timer ≡ i = cc in sym s) ∙ h)
 line_due f idle at mode i (IsIdle timer since e g h) own = (_, ap f (let z : Some timer ≡ Some i = sym (ap timer_of e) ∙ own in let s : timer ≡ i = cc in sym s) ∙ h)

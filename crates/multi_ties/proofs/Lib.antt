@@ -9,3 +9,7 @@ pub mod Resting
 pub mod Expecting
 pub mod Calling
 pub mod Collecting
+pub mod Rooms
+pub mod Seated
+pub mod Returning
+pub mod Holding
