@@ -46,6 +46,11 @@ timer_due y d m f i t s is =
     resting at phase e (HasFailed p k a b own h) = absurd (let z = sym a ∙ e in cc)
     resting at phase e (IsToHand l w h) = absurd (let z = sym w ∙ e in cc)
 
+-- each timer that the server owns is set
+pub owned_set : (y : UnderWay) (d : Desk) (m : Multi) (frames : ℕ → List Octets) (f : ℕ → Option ℕ) (ticket : ℕ) → IsServer y d m frames f ticket → (i : ℕ) → Owns d i → (due : ℕ) × (f i ≡ Some due)
+owned_set y d m frames f ticket s i (inl o) = timer_due y d m f i o.0 s.tables o.1
+owned_set y d m frames f ticket s i (inr o) = link_due d m frames f ticket o.0 o.1 i (s.links o.0) o.2 o.3
+
 pub same_timer : (st : LineStage) → timer_at st ≡ timer_of st
 same_timer at.New = refl
 same_timer (at.Active timer since) = refl
@@ -188,7 +193,7 @@ module _ (server p : ℕ) (posts : List Posted) (frames fs : ℕ → List Octets
         (λ q ne k at own. inl (inr (q, k, sym (beside q ne) ∙ at, own)))
         o.0 o.1 o.2 o.3
 
-    pub left_so : (made : Act Multi) → made.state ≡ n → Runs server v.now v.place m made → made.posts ≡ [] → w.outs ≡ v.outs ++ made.outs → w.place ≡ made.place → w.more ≡ v.more → v.ticket ≤ tk → (NoneHeard m → NoneHeard n)
+    abbrev pub left_so : (made : Act Multi) → made.state ≡ n → Runs server v.now v.place m made → made.posts ≡ [] → w.outs ≡ v.outs ++ made.outs → w.place ≡ made.place → w.more ≡ v.more → v.ticket ≤ tk → (NoneHeard m → NoneHeard n)
         → Went server fs z (desk_of s) m v to (taken_back v w)
     left_so made state runs nothing outs place more le quiet = record {
       made = made;
@@ -244,18 +249,18 @@ module _ (server p : ℕ) (posts : List Posted) (frames fs : ℕ → List Octets
       either a b = grind arith
 
   module _ (made : Act Multi) (state : made.state ≡ n) (runs : Runs server v.now v.place m made) (nothing : made.posts ≡ []) (outs : w.outs ≡ v.outs ++ made.outs) (place : w.place ≡ made.place) (more : w.more ≡ v.more) (le : v.ticket ≤ tk) (quiet : NoneHeard m → NoneHeard n) where
-    ended_so : has_ended c.line.stage ≡ true → Went server fs z (desk_of s) m v (taken (one_stream for_one) p l s) (taken_back v w)
-    ended_so e = left_so (frees p s.connections) (unwatched (timer_at l.line.stage) s.watches) freed_there
+    ended_so : has_ended c.line.stage ≡ true → (x : Went server fs z (desk_of s) m v (taken (one_stream for_one) p l s) (taken_back v w)) × (x.made ≡ made)
+    ended_so e = (left_so (frees p s.connections) (unwatched (timer_at l.line.stage) s.watches) freed_there
         (elim x.new [ inl f ↦ absurd (let z : false ≡ true = sym f.0 ∙ e in cc) | inr f ↦ IsNone freed_here f.1 f.2 ])
         (λ k i at own. absurd (let z : None ≡ Some k = sym freed_here ∙ at in cc))
         (λ i own. absurd (let z : None ≡ Some i = sym (ended_timer c.line.stage e) ∙ own in cc))
         (λ i mine other. dropped i (timer_at l.line.stage) (λ e. mine (sym (same_timer l.line.stage) ∙ e)))
         (sorted_frees p 0 v.place s.connections order.connections)
         (rises_below (λ (e : ℕ × ℕ). e.0) 0 v.timers.next w.timers.next (unwatched (timer_at l.line.stage) s.watches) x.timed.on.timer (sorted_dropped (timer_at l.line.stage)))
-        made state runs nothing outs place more le quiet
+        made state runs nothing outs place more le quiet, refl)
 
-    kept_so : has_ended c.line.stage ≡ false → Went server fs z (desk_of s) m v (keeps (one_stream for_one) p c (taken (one_stream for_one) p l s)) (taken_back v w)
-    kept_so e = left_so (puts p c (frees p s.connections)) (watched p (timer_at c.line.stage) (unwatched (timer_at l.line.stage) s.watches))
+    kept_so : has_ended c.line.stage ≡ false → (x : Went server fs z (desk_of s) m v (keeps (one_stream for_one) p c (taken (one_stream for_one) p l s)) (taken_back v w)) × (x.made ≡ made)
+    kept_so e = (left_so (puts p c (frees p s.connections)) (watched p (timer_at c.line.stage) (unwatched (timer_at l.line.stage) s.watches))
         (λ q ne. puts_there p c (frees p s.connections) q ne ∙ freed_there q ne)
         (elim x.new [ inl f ↦ IsSome c f.1 (puts_here p c (frees p s.connections)) f.2 | inr f ↦ absurd (let z : true ≡ false = sym f.0 ∙ e in cc) ])
         (λ k i at own. ap (λ (l : Link Request). timer_of l.line.stage) (same_link (entry_at p (puts p c (frees p s.connections))) c k (puts_here p c (frees p s.connections)) at) ∙ own)
@@ -264,7 +269,7 @@ module _ (server p : ℕ) (posts : List Posted) (frames fs : ℕ → List Octets
         (sorted_puts p c 0 v.place (frees p s.connections) (least p) (present_below p 0 v.place l s.connections order.connections is) (sorted_frees p 0 v.place s.connections order.connections))
         (sorted_added (timer_at c.line.stage) w.timers.next (unwatched (timer_at l.line.stage) s.watches) (λ j own. small j (sym (same_timer c.line.stage) ∙ own))
         (rises_below (λ (e : ℕ × ℕ). e.0) 0 v.timers.next w.timers.next (unwatched (timer_at l.line.stage) s.watches) x.timed.on.timer (sorted_dropped (timer_at l.line.stage))))
-        made state runs nothing outs place more le quiet
+        made state runs nothing outs place more le quiet, refl)
       where
         least : (n : ℕ) → 0 ≤ n
         least n = omega arith
@@ -275,10 +280,10 @@ module _ (server p : ℕ) (posts : List Posted) (frames fs : ℕ → List Octets
           | inr f ↦ absurd (let z : true ≡ false = sym f.0 ∙ e in cc)
         ]
 
-    pub call_so : Went server fs z (desk_of s) m v (with_connection (one_stream for_one) p c (taken (one_stream for_one) p l s)) (taken_back v w)
+    pub call_so : (x : Went server fs z (desk_of s) m v (with_connection (one_stream for_one) p c (taken (one_stream for_one) p l s)) (taken_back v w)) × (x.made ≡ made)
     call_so = by (has_ended c.line.stage) refl
       where
-        by : (b : Bool) → has_ended c.line.stage ≡ b → Went server fs z (desk_of s) m v (if b then taken (one_stream for_one) p l s else keeps (one_stream for_one) p c (taken (one_stream for_one) p l s)) (taken_back v w)
+        by : (b : Bool) → has_ended c.line.stage ≡ b → (x : Went server fs z (desk_of s) m v (if b then taken (one_stream for_one) p l s else keeps (one_stream for_one) p c (taken (one_stream for_one) p l s)) (taken_back v w)) × (x.made ≡ made)
         by true e = ended_so e
         by false e = kept_so e
 

@@ -52,6 +52,7 @@ no_result errors.NoMemory ne = refl
 no_result errors.NumbersUsed ne = refl
 no_result errors.TimedOut ne = refl
 no_result errors.AlreadyDone ne = refl
+no_result errors.Failed ne = refl
 no_result errors.WrongReplyForQuery ne = absurd (ne refl)
 
 -- each is an error that is no result

@@ -47,6 +47,14 @@ pub record Went (server : ℕ) (frames : ℕ → List Octets) (z : UnderWay) (d 
 abbrev pub waits_now : Job Request → Job Request
 waits_now job = record job { stage = Waiting }
 
+pub leads_on : (P Q : Server → View → Type 0) (f : Server → View → Option (Server × View)) (o : Option (Server × View)) → Leads P o → ((t : Server) (u : View) → P t u → Leads Q (f t u)) → Leads Q (option_and_then (λ y. f y.0 y.1) o)
+leads_on P Q f None l g = tt
+leads_on P Q f (Some y) l g = g y.0 y.1 l
+
+pub leads_as : (P Q : Server → View → Type 0) (o : Option (Server × View)) → Leads P o → ((t : Server) (u : View) → P t u → Q t u) → Leads Q o
+leads_as P Q None l g = tt
+leads_as P Q (Some y) l g = g y.0 y.1 l
+
 module _ (server : ℕ) (frames : ℕ → List Octets) where
   -- nothing was done
   pub went_nowhere : (z : UnderWay) (s : Server) (m : Multi) (v : View) → Stands z (desk_of s) s m frames v → Went server frames z (desk_of s) m v s v
@@ -83,14 +91,6 @@ module _ (server : ℕ) (frames : ℕ → List Octets) where
     named = λ x. b.named x ∙ a.named x;
     quiet = λ q. b.quiet (a.quiet q);
   }
-
-  pub leads_on : (P Q : Server → View → Type 0) (f : Server → View → Option (Server × View)) (o : Option (Server × View)) → Leads P o → ((t : Server) (u : View) → P t u → Leads Q (f t u)) → Leads Q (option_and_then (λ y. f y.0 y.1) o)
-  leads_on P Q f None l g = tt
-  leads_on P Q f (Some y) l g = g y.0 y.1 l
-
-  pub leads_as : (P Q : Server → View → Type 0) (o : Option (Server × View)) → Leads P o → ((t : Server) (u : View) → P t u → Q t u) → Leads Q o
-  leads_as P Q None l g = tt
-  leads_as P Q (Some y) l g = g y.0 y.1 l
 
   -- A job is taken out of its table
 

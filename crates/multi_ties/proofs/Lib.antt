@@ -13,3 +13,4 @@ pub mod Rooms
 pub mod Seated
 pub mod Returning
 pub mod Holding
+pub mod Leaving

@@ -31,7 +31,7 @@ module _ (server p : ℕ) (posts : List Posted) (frames fs : ℕ → List Octets
   r = with_connection (one_stream for_one) p c (taken (one_stream for_one) p l s)
 
   first_half : Went server fs (record { todo = y.todo; failed = posts }) (desk_of s) m v r (taken_back v w)
-  first_half = call_so server p posts frames fs y s l m n v w rq tk c none_failed same_frames tables links watched_now order fair own_due is x made state runs nothing outs place more le quiet
+  first_half = (call_so server p posts frames fs y s l m n v w rq tk c none_failed same_frames tables links watched_now order fair own_due is x made state runs nothing outs place more le quiet).0
 
   pub returns_so : w.board ≡ posts → Leads (Went server fs (record { todo = y.todo; failed = [] }) (desk_of s) m v) (returns (one_stream for_one) p (taken (one_stream for_one) p l s) v (c, w))
   returns_so board = subst (λ ps. Leads (Went server fs (record { todo = y.todo; failed = [] }) (desk_of s) m v) (collects ps r (taken_back v w))) (sym board)
