@@ -6,6 +6,7 @@ use Rattle.client_request.specs.Request.{Request}
 use Rattle.client_request.specs.Requests.{for_one}
 use Rattle.client_request.specs.View.{View}
 use Rattle.client_request.specs.declared.board.Posted.{Posted}
+use Rattle.client_request.specs.declared.event.Out.{Out}
 use Rattle.client_multi.specs.Links.{Link, one_stream}
 use Rattle.client_multi.specs.MultiStream.{keeps, taken, with_connection, taken_back, watched, unwatched}
 use Rattle.client_multi.specs.declared.multi_stream.job.Job.{Job}
@@ -90,7 +91,7 @@ module _ (server p : ℕ) (posts : List Posted) (frames fs : ℕ → List Octets
     (tables : AreTables y (desk_of s) m (dues v))
     (links : (q : ℕ) → (p ≡ q → ⊥) → LinkFits (desk_of s) m frames (dues v) tk q)
     (watched_now : (q : ℕ) (k : Link Request) (i : ℕ) → (desk_of s).links q ≡ Some k → timer_of k.line.stage ≡ Some i → ((desk_of s).watches i ≡ Some q) × ((desk_of s).timers i ≡ None))
-    (order : AreOrderly s (record (sight v) { ticket = tk })) (fair : IsFair v) (own_due : (i : ℕ) → timer_of l.line.stage ≡ Some i → (due : ℕ) × (dues v i ≡ Some due))
+    (order : AreOrderly s (record (sight v) { ticket = tk })) (fair : IsFair v)
     (is : (desk_of s).links p ≡ Some l) (x : CallLeft p posts fs s l m n (record v { board = []; request = rq; ticket = tk }) w c) where
   abbrev z : UnderWay
   z = record { todo = y.todo; failed = posts }
@@ -193,9 +194,9 @@ module _ (server p : ℕ) (posts : List Posted) (frames fs : ℕ → List Octets
         (λ q ne k at own. inl (inr (q, k, sym (beside q ne) ∙ at, own)))
         o.0 o.1 o.2 o.3
 
-    abbrev pub left_so : (made : Act Multi) → made.state ≡ n → Runs server v.now v.place m made → made.posts ≡ [] → w.outs ≡ v.outs ++ made.outs → w.place ≡ made.place → w.more ≡ v.more → v.ticket ≤ tk → (NoneHeard m → NoneHeard n)
-        → Went server fs z (desk_of s) m v to (taken_back v w)
-    left_so made state runs nothing outs place more le quiet = record {
+    abbrev left_so : (m0 : Multi) (outs0 : List Out) (made : Act Multi) → made.state ≡ n → Runs server v.now v.place m0 made → made.posts ≡ [] → w.outs ≡ outs0 ++ made.outs → w.place ≡ made.place → w.more ≡ v.more → v.ticket ≤ tk → (NoneHeard m0 → NoneHeard n)
+        → Went server fs z (desk_of s) m0 (record v { outs = outs0 }) to (taken_back v w)
+    left_so m0 outs0 made state runs nothing outs place more le quiet = record {
       made = made;
       runs = runs;
       posts = nothing;
@@ -248,8 +249,9 @@ module _ (server p : ℕ) (posts : List Posted) (frames fs : ℕ → List Octets
       either : (a b : ℕ) → (a < b) ⊎ (b ≤ a)
       either a b = grind arith
 
-  module _ (made : Act Multi) (state : made.state ≡ n) (runs : Runs server v.now v.place m made) (nothing : made.posts ≡ []) (outs : w.outs ≡ v.outs ++ made.outs) (place : w.place ≡ made.place) (more : w.more ≡ v.more) (le : v.ticket ≤ tk) (quiet : NoneHeard m → NoneHeard n) where
-    ended_so : has_ended c.line.stage ≡ true → (x : Went server fs z (desk_of s) m v (taken (one_stream for_one) p l s) (taken_back v w)) × (x.made ≡ made)
+  -- it is reached from machine m0, where what was put out before is outs0
+  module _ (m0 : Multi) (outs0 : List Out) (made : Act Multi) (state : made.state ≡ n) (runs : Runs server v.now v.place m0 made) (nothing : made.posts ≡ []) (outs : w.outs ≡ outs0 ++ made.outs) (place : w.place ≡ made.place) (more : w.more ≡ v.more) (le : v.ticket ≤ tk) (quiet : NoneHeard m0 → NoneHeard n) where
+    ended_so : has_ended c.line.stage ≡ true → (x : Went server fs z (desk_of s) m0 (record v { outs = outs0 }) (taken (one_stream for_one) p l s) (taken_back v w)) × (x.made ≡ made)
     ended_so e = (left_so (frees p s.connections) (unwatched (timer_at l.line.stage) s.watches) freed_there
         (elim x.new [ inl f ↦ absurd (let z : false ≡ true = sym f.0 ∙ e in cc) | inr f ↦ IsNone freed_here f.1 f.2 ])
         (λ k i at own. absurd (let z : None ≡ Some k = sym freed_here ∙ at in cc))
@@ -257,9 +259,9 @@ module _ (server p : ℕ) (posts : List Posted) (frames fs : ℕ → List Octets
         (λ i mine other. dropped i (timer_at l.line.stage) (λ e. mine (sym (same_timer l.line.stage) ∙ e)))
         (sorted_frees p 0 v.place s.connections order.connections)
         (rises_below (λ (e : ℕ × ℕ). e.0) 0 v.timers.next w.timers.next (unwatched (timer_at l.line.stage) s.watches) x.timed.on.timer (sorted_dropped (timer_at l.line.stage)))
-        made state runs nothing outs place more le quiet, refl)
+        m0 outs0 made state runs nothing outs place more le quiet, refl)
 
-    kept_so : has_ended c.line.stage ≡ false → (x : Went server fs z (desk_of s) m v (keeps (one_stream for_one) p c (taken (one_stream for_one) p l s)) (taken_back v w)) × (x.made ≡ made)
+    kept_so : has_ended c.line.stage ≡ false → (x : Went server fs z (desk_of s) m0 (record v { outs = outs0 }) (keeps (one_stream for_one) p c (taken (one_stream for_one) p l s)) (taken_back v w)) × (x.made ≡ made)
     kept_so e = (left_so (puts p c (frees p s.connections)) (watched p (timer_at c.line.stage) (unwatched (timer_at l.line.stage) s.watches))
         (λ q ne. puts_there p c (frees p s.connections) q ne ∙ freed_there q ne)
         (elim x.new [ inl f ↦ IsSome c f.1 (puts_here p c (frees p s.connections)) f.2 | inr f ↦ absurd (let z : true ≡ false = sym f.0 ∙ e in cc) ])
@@ -269,7 +271,7 @@ module _ (server p : ℕ) (posts : List Posted) (frames fs : ℕ → List Octets
         (sorted_puts p c 0 v.place (frees p s.connections) (least p) (present_below p 0 v.place l s.connections order.connections is) (sorted_frees p 0 v.place s.connections order.connections))
         (sorted_added (timer_at c.line.stage) w.timers.next (unwatched (timer_at l.line.stage) s.watches) (λ j own. small j (sym (same_timer c.line.stage) ∙ own))
         (rises_below (λ (e : ℕ × ℕ). e.0) 0 v.timers.next w.timers.next (unwatched (timer_at l.line.stage) s.watches) x.timed.on.timer (sorted_dropped (timer_at l.line.stage))))
-        made state runs nothing outs place more le quiet, refl)
+        m0 outs0 made state runs nothing outs place more le quiet, refl)
       where
         least : (n : ℕ) → 0 ≤ n
         least n = omega arith
@@ -280,10 +282,10 @@ module _ (server p : ℕ) (posts : List Posted) (frames fs : ℕ → List Octets
           | inr f ↦ absurd (let z : true ≡ false = sym f.0 ∙ e in cc)
         ]
 
-    pub call_so : (x : Went server fs z (desk_of s) m v (with_connection (one_stream for_one) p c (taken (one_stream for_one) p l s)) (taken_back v w)) × (x.made ≡ made)
+    pub call_so : (x : Went server fs z (desk_of s) m0 (record v { outs = outs0 }) (with_connection (one_stream for_one) p c (taken (one_stream for_one) p l s)) (taken_back v w)) × (x.made ≡ made)
     call_so = by (has_ended c.line.stage) refl
       where
-        by : (b : Bool) → has_ended c.line.stage ≡ b → (x : Went server fs z (desk_of s) m v (if b then taken (one_stream for_one) p l s else keeps (one_stream for_one) p c (taken (one_stream for_one) p l s)) (taken_back v w)) × (x.made ≡ made)
+        by : (b : Bool) → has_ended c.line.stage ≡ b → (x : Went server fs z (desk_of s) m0 (record v { outs = outs0 }) (if b then taken (one_stream for_one) p l s else keeps (one_stream for_one) p c (taken (one_stream for_one) p l s)) (taken_back v w)) × (x.made ≡ made)
         by true e = ended_so e
         by false e = kept_so e
 

@@ -195,9 +195,6 @@ module _ (server : ℕ) (frames : ℕ → List Octets) (t : ℕ) (job : Job Requ
     pumped_so : Leads (HasPumped server p (with_at i0 (Some k) (names_at d)) m1 x lined (record u { ticket = u.ticket + 1 })) (takes_on for_one for_several p c.settings (Single a.request) c.line u)
     pumped_so = queues_so server p c.settings link.timeout (names_at d) m x c.line u link.line fair_u k a h.its.is (h.away p) new alone refl h.its.octets heard
 
-    own_due : (i : ℕ) → timer_of c.line.stage ≡ Some i → (due : ℕ) × (dues v i ≡ Some due)
-    own_due i own = link_due d m frames (dues v) v.ticket p c i (st.server.links p) is own
-
     -- what it leaves
     module _ (l : SingleLine) (w : View) (pumped : HasPumped server p (with_at i0 (Some k) (names_at d)) m1 x lined (record u { ticket = u.ticket + 1 }) l w) where
       abbrev n : Multi
@@ -240,8 +237,8 @@ module _ (server : ℕ) (frames : ℕ → List Octets) (t : ℕ) (job : Job Requ
           same_conn o a b e f = let g : Some a ≡ Some b = sym e ∙ f in cc
 
       returned : Leads (Went server frames z (desk_of s2) m1 v) (returns (one_stream for_one) p (taken (one_stream for_one) p c s2) v (c2, w))
-      returned = returns_so server p pumped.taken.posts frames frames z s2 c m1 n v w k (v.ticket + 1) c2 refl (λ q ne. refl) tables1 links1 st.server.watched order1 st.fair own_due is left
-          pumped.taken.made refl pumped.taken.runs pumped.taken.nothing pumped.taken.outs (pumped.taken.at_place ∙ sym pumped.taken.place) pumped.taken.more (up v.ticket) quiet_left pumped.taken.put
+      returned = returns_so server p pumped.taken.posts frames frames z s2 c m1 n v w k (v.ticket + 1) c2 refl (λ q ne. refl) tables1 links1 st.server.watched order1 st.fair is left
+          m1 v.outs pumped.taken.made refl pumped.taken.runs pumped.taken.nothing pumped.taken.outs (pumped.taken.at_place ∙ sym pumped.taken.place) pumped.taken.more (up v.ticket) quiet_left pumped.taken.put
 
     -- the move by which it joins comes before
     joined : (r : Server) (w : View) → Went server frames z (desk_of s2) m1 v r w → Went server frames z d m v r w

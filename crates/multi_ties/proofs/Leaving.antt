@@ -375,8 +375,7 @@ module _ (server : ℕ) (frames : ℕ → List Octets) (s : Server) (m : Multi) 
 
     went : (x : Went server frames nothing_under_way (desk_of s2) n v r (taken_back v (lent v))) × (x.made ≡ still v.place n)
     went = call_so server p [] frames frames nothing_under_way s2 l n n v (lent v) v.request v.ticket l2 refl (λ q ne. refl) tables2 links2 watched2 order2 fair_v
-        (λ i mine. (let o = link_due d m frames (dues v0) v0.ticket p l i (st.server.links p) at_p mine in (o.0, link_dues p l i at_p mine ∙ o.1)))
-        at_p left (still v.place n) refl (Rests v.place n) refl (sym (append-nil v.outs)) refl refl (le_refl v.ticket) (λ q. q)
+        at_p left n v.outs (still v.place n) refl (Rests v.place n) refl (sym (append-nil v.outs)) refl refl (le_refl v.ticket) (λ q. q)
 
     stands : Stands nothing_under_way (desk_of r) r n frames v
     stands = subst (λ (a : Act Multi). Stands nothing_under_way (desk_of r) r a.state frames v) went.1 went.0.stands

@@ -14,3 +14,5 @@ pub mod Seated
 pub mod Returning
 pub mod Holding
 pub mod Leaving
+pub mod Serving
+pub mod Stepping
