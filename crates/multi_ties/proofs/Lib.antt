@@ -16,3 +16,8 @@ pub mod Holding
 pub mod Leaving
 pub mod Serving
 pub mod Stepping
+pub mod Retimed
+pub mod Firing
+pub mod Openings
+pub mod Telling
+pub mod Sending

@@ -170,16 +170,21 @@ module _ (server p : ℕ) (l : Link Request) (x : Conn) (s : Server) (m : Multi)
       })
       m0 outs0 made state runs nothing outs (at_place ∙ sym place) more (le_refl v.ticket) quiet board
 
--- it took requests from its queue
-pub pumped_call : (server p : ℕ) (l : Link Request) (x : Conn) (s : Server) (m : Multi) (frames : ℕ → List Octets) (v : View) → AtWork p l x s m frames v (dues v) → (old : SingleLine) → old.stage ≡ l.line.stage → ((i : ℕ) → IsAt l.line i → IsAt old i)
-    → (t : SingleLine) (w : View) → (pumped : HasPumped server p (names_at (desk_of s)) m x old (lent v) t w) → x.heard ≡ false
-    → Leads (Went server frames nothing_under_way (desk_of s) m v) (returns (one_stream for_one) p (taken (one_stream for_one) p l s) v (record l { line = t }, w))
-pumped_call server p l x s m frames v a old stage seats t w pumped heard = returns_so server p pumped.taken.posts frames frames nothing_under_way s l m pumped.taken.made.state v w v.request v.ticket (record l { line = t }) refl (λ q ne. refl) a.tables a.links a.watched a.order a.fair a.is
+-- It took requests from its queue, once the machine changed at its place alone: what was put out before is outs0.
+pub pumped_call : (server p : ℕ) (l : Link Request) (x y : Conn) (s : Server) (m n : Multi) (frames : ℕ → List Octets) (v : View) → AtWork p l x s m frames v (dues v) → n.asks ≡ m.asks → ((q : ℕ) → (p ≡ q → ⊥) → n.conns q ≡ m.conns q) → n.opening ≡ m.opening → n.calm ≡ m.calm → y.got ≡ x.got
+    → (old : SingleLine) → old.stage ≡ l.line.stage → ((i : ℕ) → IsAt l.line i → IsAt old i) → (t : SingleLine) (w : View) → (pumped : HasPumped server p (names_at (desk_of s)) n y old (lent v) t w) → y.heard ≡ false → (outs0 : List Out) → w.outs ≡ outs0 ++ pumped.taken.made.outs
+    → Leads (Went server frames nothing_under_way (desk_of s) n (record v { outs = outs0 })) (returns (one_stream for_one) p (taken (one_stream for_one) p l s) v (record l { line = t }, w))
+pumped_call server p l x y s m n frames v a asks conns opening calm got old stage seats t w pumped heard outs0 outs =
+    let c = same_tables p (desk_of s) m n (dues v) asks conns opening calm a.tables in
+    returns_so server p pumped.taken.posts frames frames nothing_under_way s l n pumped.taken.made.state v w v.request v.ticket (record l { line = t }) refl (λ q ne. refl)
+    (placed p [] nothing_under_way nothing_under_way (desk_of s) (desk_of s) m n frames (dues v) (dues v) v.ticket v.ticket a.tables c)
+    (λ q ne. kept_place p [] nothing_under_way nothing_under_way (desk_of s) (desk_of s) m n frames (dues v) (dues v) v.ticket v.ticket a.tables c frames q ne refl refl (λ k i at own. refl) (le_refl v.ticket) (a.links q ne))
+    a.watched a.order a.fair a.is
     (record {
       aside = pumped.taken.beside.aside;
       going = pumped.taken.beside.going;
       conns = pumped.taken.beside.conns;
-      there = λ i j b named at th. elim (pumped.taken.seats i (seats i (is_at p (names_at (desk_of s)) l.line m x (dues v) v.ticket a.link.line i j b named at th))) [
+      there = λ i j b named at th. elim (pumped.taken.seats i (seats i (is_at p (names_at (desk_of s)) l.line m x (dues v) v.ticket a.link.line i j b named (ap (λ (g : ℕ → Option Asker). g j) (sym asks) ∙ at) th))) [
         | inl g ↦ inl (there_at p (names_at (desk_of s)) t pumped.taken.made.state pumped.taken.conn (dues w) w.ticket pumped.taken.line i j named g)
         | inr g ↦ inr g
       ];
@@ -192,12 +197,12 @@ pumped_call server p l x s m frames v a old stage seats t w pumped heard = retur
         timeout = a.link.timeout;
         line = pumped.taken.line;
         settled = pumped.settled;
-        keeps = subst (Keeps l.octets (frames p)) (sym pumped.taken.got) a.link.keeps;
+        keeps = subst (Keeps l.octets (frames p)) (sym (pumped.taken.got ∙ got)) a.link.keeps;
       });
     })
-    m v.outs pumped.taken.made refl pumped.taken.runs pumped.taken.nothing pumped.taken.outs (pumped.taken.at_place ∙ sym pumped.taken.place) pumped.taken.more (le_refl v.ticket) quiet_left pumped.taken.put
+    n outs0 pumped.taken.made refl pumped.taken.runs pumped.taken.nothing outs (pumped.taken.at_place ∙ sym pumped.taken.place) pumped.taken.more (le_refl v.ticket) quiet_left pumped.taken.put
   where
-    quiet_left : NoneHeard m → NoneHeard pumped.taken.made.state
+    quiet_left : NoneHeard n → NoneHeard pumped.taken.made.state
     quiet_left q r conn at = each_number (λ r. (conn : Conn) → (pumped.taken.made.state).conns r ≡ Some conn → conn.heard ≡ false) p
         (λ conn at. ap (λ (x : Conn). x.heard) (same_conn ((pumped.taken.made.state).conns p) conn pumped.taken.conn at pumped.taken.line.conn) ∙ (pumped.taken.heard ∙ heard))
         (λ r ne conn at. q r conn (sym (pumped.taken.beside.conns r ne) ∙ at)) r conn at

@@ -1,0 +1,208 @@
+-- An event is told, but for octets that come.
+use Rattle.std.proofs.Common.{◌≡◌, ◌≢◌, ℕ, suc, ◌+◌, ◌<◌, ◌≤◌, ◌⊎◌, inl, inr, Bool, true, false, ◌==◌, List, [], ◌∷◌, ◌++◌, Option, Some, None, refl, sym, ap, ap₂, subst, ◌∙◌, arith, le_refl, le_trans, append-nil}
+use Rattle.std.specs.Prelude.{if◌then◌else◌, option_and_then}
+use Rattle.std.proofs.lemmas.Bool.Decides.{nat_tests}
+use Rattle.client_request.specs.Numbered.{puts, entry_at}
+use Rattle.client_request.specs.Request.{Request}
+use Rattle.client_request.specs.Requests.{for_one, for_several}
+use Rattle.client_request.specs.View.{View, Heard, told, drawn, asks}
+use Rattle.client_request.specs.declared.error.Error.{Error}
+use Rattle.client_request.specs.declared.error.Error.TheVariants as errors
+use Rattle.client_request.specs.declared.fault.Fault.{Fault}
+use Rattle.client_request.specs.declared.event.What.{What}
+use Rattle.client_request.specs.declared.event.What.TheVariants.{Ask, Opened, OpenFailed, SendFailed, ShortSend, Datagram, RecvFailed, Wrote, WriteFailed, Bytes, ReadFailed, Ended, Tick}
+use Rattle.client_request.specs.declared.event.Out.{Out}
+use Rattle.client_request.specs.declared.event.Out.TheVariants.{Close, Resume}
+use Rattle.client_stream.specs.Frames.{is_in_body}
+use Rattle.client_stream.specs.Plain.{has_ended, ended, end_error, ends_with, wrote, octets_left, plain_step}
+use Rattle.client_stream.specs.Settings.{default_settings as default_stream}
+use Rattle.client_multi.specs.Links.{Link, one_stream}
+use Rattle.client_multi.specs.MultiStream.{hears, tells, hears_at, calls_at, calls, returns, taken, lent, is_number, stream_place, each, hands, opened, refused, backs_off, open_fails, is_open as plain_open}
+use Rattle.client_multi.specs.Settings.{default_settings}
+use Rattle.headline.specs.Messages.{Octets}
+use Rattle.headline.specs.Places.{is_told}
+use Rattle.headline.specs.machine.Part.{Act, Post}
+use Rattle.headline.specs.machine.Served.{place_after, outs_of, posts_of}
+use Rattle.headline.specs.machine.Streams as multi
+use Rattle.headline.specs.machine.Streams.{Phase, Asker, Conn, Multi, Nothing, Puts, Takes, ItOpens, ItDoesNotOpen, ItFails, IsForeign, set_conn, wrote_on, heard_on, end_at, open_at, not_opened, with_at}
+use Rattle.client_ties.specs.Chains.{still}
+use Rattle.client_ties.specs.Connections.{timer_of, dues, IsTimed, IsAt, HasWritten, IsHeard, WritesOn, HasRoom, FailsWriting}
+use Rattle.client_ties.specs.Lines.{SingleLine, IsLineAt}
+use Rattle.client_ties.specs.Octets.{IsLinkAt}
+use Rattle.client_ties.specs.PartTie.{Leads}
+use Rattle.client_ties.specs.Reading.{Keeps}
+use Rattle.client_ties.specs.Runs.{Runs, Rests}
+use Rattle.client_ties.specs.Sights.{sight, IsFair}
+use Rattle.client_ties.proofs.Calling.{is_open}
+use Rattle.client_ties.proofs.Ending.{ends_so}
+use Rattle.client_ties.proofs.Keys.{with_here, with_there}
+use Rattle.client_ties.proofs.Retiming.{timed_same, timed_by}
+use Rattle.client_ties.proofs.Writing.{wrote_so}
+use Rattle.multi_ties.specs.Servers.{Desk, Server, desk_of, numbers, names_at, nothing_under_way, LinkFits, IsNone, IsSome, AreTables, IsServer, AreOrderly, NoneHeard, Owns, Stands}
+use Rattle.multi_ties.proofs.Going.{Went, leads_as, went_nowhere}
+use Rattle.multi_ties.proofs.Holding.{link_at}
+use Rattle.multi_ties.proofs.Openings.{soon, open_so, fails_so}
+use Rattle.multi_ties.proofs.Stepping.{AtWork, ended_call, kept_call, pumped_call}
+
+-- what was put out before
+abbrev pub said : View → multi.Act → View
+said v x = record v { outs = v.outs ++ outs_of x }
+
+-- An event is of nothing here, and nothing is done; or it is taken, and moves follow.
+pub data ToldOf (server : ℕ) (frames : ℕ → List Octets) (what : What) (d : Desk) (m : Multi) (v : View) (t : Server) (w : View) : Type 0 where
+  Passes : IsForeign what m → Went server frames nothing_under_way d m v t w → ToldOf server frames what d m v t w
+  Takes_it : (x : multi.Act) (n : Multi) → Takes v.now m what x n → posts_of x ≡ [] → place_after x v.place ≡ v.place → Went server frames nothing_under_way d n (said v x) t w → ToldOf server frames what d m v t w
+
+is_own : (p : ℕ) (o : Option ℕ) → is_number p o ≡ true → o ≡ Some p
+is_own p None e = absurd (cc)
+is_own p (Some q) e = ap Some (same p q e)
+  where
+    same : (p q : ℕ) → (p == q) ≡ true → q ≡ p
+    same p q e = grind (arith, nat_tests)
+
+is_not : (p : ℕ) (o : Option ℕ) → is_number p o ≡ false → o ≡ Some p → ⊥
+is_not p None e f = absurd (cc)
+is_not p (Some q) e f = other p q e (let s : q ≡ p = cc in s)
+  where
+    other : (p q : ℕ) → (p == q) ≡ false → q ≡ p → ⊥
+    other p q e s = grind (arith, nat_tests)
+
+itself : (p q : ℕ) → q ≡ p → (q == p) ≡ true
+itself p q e = grind (arith, nat_tests)
+
+module _ (server : ℕ) (frames : ℕ → List Octets) (s : Server) (m : Multi) (v : View) (st : Stands nothing_under_way (desk_of s) s m frames v) (quiet : NoneHeard m) (no_frames : (q : ℕ) → frames q ≡ []) where
+  abbrev d : Desk
+  d = desk_of s
+
+  passes : (what : What) → IsForeign what m → Leads (ToldOf server frames what d m v) (Some (s, v))
+  passes what f = Passes f (went_nowhere server frames nothing_under_way s m v st)
+
+  -- what follows an event that is taken
+  taken_so : (what : What) (x : multi.Act) (n : Multi) → Takes v.now m what x n → posts_of x ≡ [] → place_after x v.place ≡ v.place → (o : Option (Server × View)) → Leads (Went server frames nothing_under_way d n (said v x)) o → Leads (ToldOf server frames what d m v) o
+  taken_so what x n takes posts place o l = leads_as (Went server frames nothing_under_way d n (said v x)) (ToldOf server frames what d m v) o l (λ r w g. Takes_it x n takes posts place g)
+
+  -- nothing more was put out
+  silent : (n : Multi) (t : Server) (w : View) → Went server frames nothing_under_way d n v t w → Went server frames nothing_under_way d n (said v Nothing) t w
+  silent n t w a = subst (λ os. Went server frames nothing_under_way d n (record v { outs = os }) t w) (sym (append-nil v.outs)) a
+
+  -- A place
+
+  opens : (p : ℕ) → Leads (ToldOf server frames (Opened p) d m v) (plain_open (one_stream for_one) server default_stream p s v)
+  opens p = by (is_number p s.opening) refl
+    where
+      by : (b : Bool) → is_number p s.opening ≡ b → Leads (ToldOf server frames (Opened p) d m v) (if b then each (hands (one_stream for_one) server) s.waiting (opened (one_stream for_one) server default_stream p s) v else Some (s, v))
+      by true e = let own = is_own p s.opening e in
+          taken_so (Opened p) Nothing (open_at p m) (ItOpens p (sym st.server.tables.opening ∙ own)) refl refl (each (hands (one_stream for_one) server) s.waiting (opened (one_stream for_one) server default_stream p s) v)
+          (leads_as (Went server frames nothing_under_way d (open_at p m) v) (Went server frames nothing_under_way d (open_at p m) (said v Nothing)) (each (hands (one_stream for_one) server) s.waiting (opened (one_stream for_one) server default_stream p s) v)
+          (open_so server frames s m v st p own quiet (no_frames p)) (silent (open_at p m)))
+      by false e = passes (Opened p) (λ f. is_not p s.opening e (st.server.tables.opening ∙ f))
+
+  fails : (p : ℕ) (f : Fault) → Leads (ToldOf server frames (OpenFailed p f) d m v) (open_fails p s v)
+  fails p f = by (is_number p s.opening) refl
+    where
+      by : (b : Bool) → is_number p s.opening ≡ b → Leads (ToldOf server frames (OpenFailed p f) d m v) (if b then each backs_off s.waiting (refused s v) (drawn v) else Some (s, v))
+      by true e = let own = is_own p s.opening e in
+          taken_so (OpenFailed p f) Nothing (not_opened (refused s v).calm m) (ItDoesNotOpen p f (refused s v).calm (sym st.server.tables.opening ∙ own) (soon server frames s m v st p own quiet)) refl refl (each backs_off s.waiting (refused s v) (drawn v))
+          (leads_as (Went server frames nothing_under_way d (not_opened (refused s v).calm m) v) (Went server frames nothing_under_way d (not_opened (refused s v).calm m) (said v Nothing)) (each backs_off s.waiting (refused s v) (drawn v))
+          (fails_so server frames s m v st p own quiet) (silent (not_opened (refused s v).calm m)))
+      by false e = passes (OpenFailed p f) (λ h. is_not p s.opening e (st.server.tables.opening ∙ h))
+
+  -- none stands there
+  none_there : (p : ℕ) → entry_at p s.connections ≡ None → m.conns p ≡ None
+  none_there p none = by (st.server.links p)
+    where
+      by : LinkFits d m frames (dues v) v.ticket p → m.conns p ≡ None
+      by (IsNone a b away) = b
+      by (IsSome l x at link) = absurd (let z : None ≡ Some l = sym none ∙ at in cc)
+
+  -- A connection
+  module _ (p : ℕ) (l : Link Request) (is : entry_at p s.connections ≡ Some l) where
+    found : (x : Conn) × IsLinkAt p (names_at d) l m x (frames p) (dues v) v.ticket
+    found = link_at d m frames (dues v) v.ticket p l (st.server.links p) is
+
+    abbrev x : Conn
+    x = found.0
+
+    link : IsLinkAt p (names_at d) l m x (frames p) (dues v) v.ticket
+    link = found.1
+
+    work : AtWork p l x s m frames v (dues v)
+    work = record { tables = st.server.tables; links = λ q ne. st.server.links q; watched = st.server.watched; order = st.order; fair = st.fair; is = is; link = link }
+
+    fair_u : IsFair (lent v)
+    fair_u = record { order = st.fair.order; words = st.fair.words }
+
+    live : has_ended l.line.stage ≡ false
+    live = is_open (dues v) l.line.idle_time l.line.stage x.mode link.line.fits.stage
+
+    abbrev after : Option (Link Request × View) → Option (Server × View)
+    after o = option_and_then (returns (one_stream for_one) p (taken (one_stream for_one) p l s) v) o
+
+    -- it ends for an error
+    closes_so : (what : What) (error : Error) → error ≢ errors.WrongReplyForQuery → is_told p what ≡ true → Leads (ToldOf server frames what d m v) (after (Some (record l { line = (ends_with p error l.line (lent v)).0; octets = octets_left (ends_with p error l.line (lent v)).0.stage l.octets }, (ends_with p error l.line (lent v)).1)))
+    closes_so what error right is_told_there =
+        let e = ends_so p (names_at d) m x.ids l.line (lent v) link.line.seated link.line.fits.order.sorted link.line.fits.queue fair_u error right in
+        taken_so what (Puts (Close p)) (end_at p m) (ItFails what p x link.line.conn is_told_there) refl refl
+        (after (Some (record l { line = (ends_with p error l.line (lent v)).0; octets = octets_left (ends_with p error l.line (lent v)).0.stage l.octets }, (ends_with p error l.line (lent v)).1)))
+        (ended_call server p l x s m frames v (dues v) work frames (λ q ne. refl) (end_at p m) (v.outs ++ Close p ∷ []) (still v.place (end_at p m)) (Rests v.place (end_at p m)) refl refl
+        (ends_with p error l.line (lent v)).1 (record l { line = (ends_with p error l.line (lent v)).0; octets = octets_left (ends_with p error l.line (lent v)).0.stage l.octets }) e refl refl (e.outs ∙ sym (append-nil (v.outs ++ Close p ∷ []))) (λ q. q))
+
+    -- so many octets were taken
+    module _ (count : ℕ) where
+      abbrev what : What
+      what = Wrote p count
+
+      abbrev c_of : SingleLine → Link Request
+      c_of t = record l { line = t; octets = octets_left t.stage l.octets }
+
+      open_octets : (t : SingleLine) → has_ended t.stage ≡ false → c_of t ≡ record l { line = t }
+      open_octets t e = ap (λ b. record l { line = t; octets = if b then [] else l.octets }) e
+
+      left : (t : SingleLine) (w : View) → HasWritten server p (names_at d) m x l.line (lent v) count t w → Leads (ToldOf server frames what d m v) (after (Some (c_of t, w)))
+      left t w (IsHeard takes same_line same_view) =
+          let n : Multi = set_conn p (heard_on x) m in
+          subst (λ (w : View). Leads (ToldOf server frames what d m v) (after (Some (c_of t, w)))) (sym same_view)
+          (subst (λ (t : SingleLine). Leads (ToldOf server frames what d m v) (after (Some (c_of t, lent v)))) (sym same_line)
+          (taken_so what Nothing n takes refl refl (after (Some (c_of l.line, lent v)))
+          (kept_call server p l x s m frames v (dues v) work frames (λ q ne. refl) n (v.outs ++ []) (still v.place n) (Rests v.place n) refl refl
+          n (lent v) (c_of l.line) (heard_on x) refl (λ q ne. with_there p (Some (heard_on x)) m.conns q ne) refl refl (timed_same l.line.stage (lent v) fair_u)
+          (record {
+            place = link.place;
+            timeout = link.timeout;
+            line = record {
+              conn = with_here p (Some (heard_on x)) m.conns;
+              seated = link.line.seated;
+              fits = record { stage = link.line.fits.stage; writing = link.line.fits.writing; idle = link.line.fits.idle; timeout = link.line.fits.timeout; resting = link.line.fits.resting; order = link.line.fits.order; few = link.line.fits.few; ids = link.line.fits.ids; queue = link.line.fits.queue };
+            };
+            settled = link.settled;
+            keeps = subst (λ o. Keeps o (frames p) x.got) (sym (ap (λ (b : Bool). if b then [] else l.octets) live)) link.keeps;
+          })
+          refl refl refl refl (sym (ap (λ (os : List Out). os ++ []) (append-nil v.outs) ∙ append-nil v.outs)) (λ q. q))))
+      left t w (WritesOn octets takes line same_view stage settled) =
+          taken_so what (Puts (Resume p octets)) (set_conn p (wrote_on count x) m) takes refl refl (after (Some (c_of t, w)))
+          (subst (λ (w : View). Leads (Went server frames nothing_under_way d (set_conn p (wrote_on count x) m) (said v (Puts (Resume p octets)))) (after (Some (c_of t, w)))) (sym same_view)
+          (kept_call server p l x s m frames v (dues v) work frames (λ q ne. refl) (set_conn p (wrote_on count x) m) (v.outs ++ Resume p octets ∷ []) (still v.place (set_conn p (wrote_on count x) m)) (Rests v.place (set_conn p (wrote_on count x) m)) refl refl
+          (set_conn p (wrote_on count x) m) (asks (Resume p octets) (lent v)) (c_of t) (wrote_on count x) refl (λ q ne. with_there p (Some (wrote_on count x)) m.conns q ne) refl refl
+          (subst (λ st. IsTimed l.line.stage st (lent v) (asks (Resume p octets) (lent v))) (sym stage) (timed_by l.line.stage l.line.stage (lent v) (lent v) (asks (Resume p octets) (lent v)) refl refl refl refl refl (timed_same l.line.stage (lent v) fair_u)))
+          (record { place = link.place; timeout = link.timeout; line = subst (λ (w : View). IsLineAt p (names_at d) t (set_conn p (wrote_on count x) m) (wrote_on count x) (dues w) w.ticket) same_view line; settled = settled; keeps = subst (λ o. Keeps o (frames p) x.got) (sym (ap (λ b. if b then [] else l.octets) (ap has_ended stage ∙ live))) link.keeps })
+          refl refl refl refl (sym (append-nil (v.outs ++ Resume p octets ∷ []))) (λ q. q)))
+      left t w (HasRoom takes pumped) =
+          let none_ended = is_open (dues w) t.idle_time t.stage (pumped.taken.conn).mode pumped.taken.line.fits.stage in
+          taken_so what Nothing (set_conn p (wrote_on count x) m) takes refl refl (after (Some (c_of t, w)))
+          (subst (λ c. Leads (Went server frames nothing_under_way d (set_conn p (wrote_on count x) m) (said v Nothing)) (after (Some (c, w)))) (sym (open_octets t none_ended))
+          (pumped_call server p l x (wrote_on count x) s m (set_conn p (wrote_on count x) m) frames v work refl (λ q ne. with_there p (Some (wrote_on count x)) m.conns q ne) refl refl refl
+          (record l.line { writing = None }) refl (λ i at. at) t w pumped (quiet p x link.line.conn) (v.outs ++ []) (pumped.taken.outs ∙ ap (λ (os : List Out). os ++ pumped.taken.made.outs) (sym (append-nil v.outs)))))
+      left t w (FailsWriting takes e is_ended) =
+          taken_so what (Puts (Close p)) (end_at p m) takes refl refl (after (Some (c_of t, w)))
+          (ended_call server p l x s m frames v (dues v) work frames (λ q ne. refl) (end_at p m) (v.outs ++ Close p ∷ []) (still v.place (end_at p m)) (Rests v.place (end_at p m)) refl refl
+          w (c_of t) e is_ended refl (e.outs ∙ sym (append-nil (v.outs ++ Close p ∷ []))) (λ q. q))
+
+      writes_so : Leads (ToldOf server frames what d m v) (after (option_and_then (λ y. Some (c_of y.0, y.1)) (wrote for_one for_several p l.settings count l.line (lent v) l.line.writing)))
+      writes_so = by (wrote for_one for_several p l.settings count l.line (lent v) l.line.writing) (wrote_so server p l.settings link.timeout (names_at d) m x l.line (lent v) link.line fair_u link.settled (quiet p x link.line.conn) count)
+        where
+          by : (o : Option (SingleLine × View)) → Leads (HasWritten server p (names_at d) m x l.line (lent v) count) o → Leads (ToldOf server frames what d m v) (after (option_and_then (λ y. Some (c_of y.0, y.1)) o))
+          by None h = tt
+          by (Some y) h = left y.0 y.1 h
+
+pub seventeenth : (d : Desk) → Unit {0}
+seventeenth d = tt
