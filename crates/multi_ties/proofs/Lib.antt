@@ -21,3 +21,5 @@ pub mod Firing
 pub mod Openings
 pub mod Telling
 pub mod Sending
+pub mod Framing
+pub mod Fields

@@ -237,7 +237,7 @@ module _ (server : ℕ) (frames : ℕ → List Octets) (s : Server) (m : Multi) 
       by_timer false = tt
       by_timer true = leads_as (Went server frames nothing_under_way e n w1) (Sent server frames r d m v) (hands (one_stream for_one) server t0 job s1 w1) handed (λ t w b. sent t w b b.more)
 
-      by_ticket : (b : Bool) → Leads (Sent server frames r d m v) (option_and_then (λ w. option_and_then (λ w. hands (one_stream for_one) server t0 job s1 w) (if can_draw v.timers.next then Some (record w { timers = with_timer (v.now + 30000000) v.timers }) else None)) (if b then Some (record (asks (Start k server Stream) v) { ticket = t0 + 1 }) else None))
+      by_ticket : (b : Bool) → Leads (Sent server frames r d m v) (option_and_then (λ w. option_and_then (λ u. hands (one_stream for_one) server t0 (record { number = w.request; request = r; back_offs = 0; end = w.timers.next; stage = Waiting }) (record s { timers = puts w.timers.next t0 s.timers }) u) (if can_draw w.timers.next then Some (record w { timers = with_timer (w.now + 30000000) w.timers }) else None)) (if b then Some (record (asks (Start k server Stream) v) { ticket = t0 + 1 }) else None))
       by_ticket false = tt
       by_ticket true = by_timer (can_draw v.timers.next)
 

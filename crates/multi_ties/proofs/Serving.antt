@@ -57,11 +57,11 @@ pub record Gone (server : ℕ) (frames : ℕ → List Octets) (named : ℕ → O
   pub others : (i due : ℕ) → (Owns d i → ⊥) → dues v i ≡ Some due → dues w i ≡ Some due
   pub quiet : NoneHeard m → NoneHeard made.state
 
-gives_none : (named left : ℕ → Option ℕ) (posts : List Post) → posts ≡ [] → ((u : ℕ) → left u ≡ named u) → Gives named [] posts left
+pub gives_none : (named left : ℕ → Option ℕ) (posts : List Post) → posts ≡ [] → ((u : ℕ) → left u ≡ named u) → Gives named [] posts left
 gives_none named left [] e same = same
 gives_none named left (x ∷ xs) e same = absurd (cc)
 
-pub went_gone : (server : ℕ) (frames : ℕ → List Octets) (d : Desk) (m : Multi) (v : View) (t : Server) (w : View) → Went server frames nothing_under_way d m v t w → Gone server frames (numbers d) d m v t w
+abbrev pub went_gone : (server : ℕ) (frames : ℕ → List Octets) (d : Desk) (m : Multi) (v : View) (t : Server) (w : View) → Went server frames nothing_under_way d m v t w → Gone server frames (numbers d) d m v t w
 went_gone server frames d m v t w a = record {
   made = a.made;
   runs = a.runs;

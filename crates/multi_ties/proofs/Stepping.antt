@@ -42,9 +42,9 @@ same_number q p e = grind (arith, nat_tests)
 other_number : (q p : ℕ) → (q ≡ p → ⊥) → (q == p) ≡ false
 other_number q p ne = grind (arith, nat_tests)
 
-broken_away : (p : ℕ) (o : Option Asker) → IsAway p o → every (broken_at p) o ≡ o
-broken_away p None away = refl
-broken_away p (Some a) away = ap (λ ph. Some (moved a ph)) (by a.phase refl)
+pub broken_gone : (p : ℕ) (o : Option Asker) → IsAway p o → every (broken_at p) o ≡ o
+broken_gone p None away = refl
+broken_gone p (Some a) away = ap (λ ph. Some (moved a ph)) (by a.phase refl)
   where
     by : (ph : Phase) → a.phase ≡ ph → broken_at p a.phase ≡ a.phase
     by Free e = ap (broken_at p) e ∙ sym e
@@ -54,7 +54,7 @@ broken_away p (Some a) away = ap (λ ph. Some (moved a ph)) (by a.phase refl)
     by (Lined q) e = ap (broken_at p) e ∙ (ap (λ b. if b then Broken else Lined q) (other_number q p (λ f. away.lined a refl (e ∙ ap Lined f))) ∙ sym e)
     by (Holding q id) e = ap (broken_at p) e ∙ (ap (λ b. if b then Broken else Holding q id) (other_number q p (λ f. away.holding a id refl (e ∙ ap (λ q. Holding q id) f))) ∙ sym e)
 
-none_left : (p : ℕ) (o : Option Asker) → IsAway p (every (broken_at p) o)
+pub none_left : (p : ℕ) (o : Option Asker) → IsAway p (every (broken_at p) o)
 none_left p None = away_none p None refl
 none_left p (Some a) = away_so p (Some (moved a (broken_at p a.phase))) (moved a (broken_at p a.phase)) refl (λ t. by a.phase t)
   where
@@ -94,7 +94,7 @@ pub record AtWork (p : ℕ) (l : Link Request) (x : Conn) (s : Server) (m : Mult
   pub order : AreOrderly s (sight v)
   pub fair : IsFair v
   pub is : entry_at p s.connections ≡ Some l
-  pub link : IsLinkAt p (names_at (desk_of s)) l m x (frames p) f v.ticket
+  pub line : IsLineAt p (names_at (desk_of s)) l.line m x f v.ticket
 
 -- the tables are the same where the machine's requests are
 pub same_tables : (p : ℕ) (d : Desk) (m n : Multi) (f : ℕ → Option ℕ) → n.asks ≡ m.asks → ((q : ℕ) → (p ≡ q → ⊥) → n.conns q ≡ m.conns q) → n.opening ≡ m.opening → n.calm ≡ m.calm → AreTables nothing_under_way d m f → PlaceChange p [] nothing_under_way nothing_under_way d d m n f f
@@ -118,8 +118,8 @@ same_tables p d m n f asks conns opening calm t = record {
 
 -- a call is under way still, where the machine changed at its place alone
 pub work_on : (p : ℕ) (l : Link Request) (x y : Conn) (s : Server) (m n : Multi) (frames fs : ℕ → List Octets) (v : View) (f : ℕ → Option ℕ) → AtWork p l x s m frames v f → n.asks ≡ m.asks → ((q : ℕ) → (p ≡ q → ⊥) → n.conns q ≡ m.conns q) → n.opening ≡ m.opening → n.calm ≡ m.calm
-    → ((q : ℕ) → (p ≡ q → ⊥) → fs q ≡ frames q) → IsLinkAt p (names_at (desk_of s)) l n y (fs p) f v.ticket → AtWork p l y s n fs v f
-work_on p l x y s m n frames fs v f a asks conns opening calm same link =
+    → ((q : ℕ) → (p ≡ q → ⊥) → fs q ≡ frames q) → IsLineAt p (names_at (desk_of s)) l.line n y f v.ticket → AtWork p l y s n fs v f
+work_on p l x y s m n frames fs v f a asks conns opening calm same line =
     let c = same_tables p (desk_of s) m n (dues v) asks conns opening calm a.tables in record {
       tables = placed p [] nothing_under_way nothing_under_way (desk_of s) (desk_of s) m n frames (dues v) (dues v) v.ticket v.ticket a.tables c;
       links = λ q ne. kept_place p [] nothing_under_way nothing_under_way (desk_of s) (desk_of s) m n frames (dues v) (dues v) v.ticket v.ticket a.tables c fs q ne refl (same q ne) (λ k i at own. refl) (le_refl v.ticket) (a.links q ne);
@@ -127,7 +127,7 @@ work_on p l x y s m n frames fs v f a asks conns opening calm same link =
       order = a.order;
       fair = a.fair;
       is = a.is;
-      link = link;
+      line = line;
     }
 
 module _ (server p : ℕ) (l : Link Request) (x : Conn) (s : Server) (m : Multi) (frames : ℕ → List Octets) (v : View) (f : ℕ → Option ℕ) (a : AtWork p l x s m frames v f) (fs : ℕ → List Octets) (same_frames : (q : ℕ) → (p ≡ q → ⊥) → fs q ≡ frames q)
@@ -140,10 +140,10 @@ module _ (server p : ℕ) (l : Link Request) (x : Conn) (s : Server) (m : Multi)
       → Leads (Went server fs nothing_under_way (desk_of s) m0 v0) (returns (one_stream for_one) p (taken (one_stream for_one) p l s) v (c, w))
   ended_call w c e is state outs quiet = returns_so server p e.posts frames fs nothing_under_way s l m (end_at p m) v w v.request v.ticket c refl same_frames a.tables a.links a.watched a.order a.fair a.is
       (record {
-        aside = λ k away. broken_away p (m.asks k) away;
+        aside = λ k away. broken_gone p (m.asks k) away;
         going = λ k b at. (broken_at p b.phase, ap (every (broken_at p)) at);
         conns = λ q ne. with_there p None m.conns q ne;
-        there = λ i k b named at th. inr (e.seats i (is_at p (names_at (desk_of s)) l.line m x f v.ticket a.link.line i k b named at th));
+        there = λ i k b named at th. inr (e.seats i (is_at p (names_at (desk_of s)) l.line m x f v.ticket a.line i k b named at th));
         failing = e.failing;
         timed = subst (λ (line : SingleLine). IsTimed l.line.stage line.stage (lent v) w) (sym is) e.timed;
         opening = refl;
@@ -171,10 +171,10 @@ module _ (server p : ℕ) (l : Link Request) (x : Conn) (s : Server) (m : Multi)
       m0 outs0 made state runs nothing outs (at_place ∙ sym place) more (le_refl v.ticket) quiet board
 
 -- It took requests from its queue, once the machine changed at its place alone: what was put out before is outs0.
-pub pumped_call : (server p : ℕ) (l : Link Request) (x y : Conn) (s : Server) (m n : Multi) (frames : ℕ → List Octets) (v : View) → AtWork p l x s m frames v (dues v) → n.asks ≡ m.asks → ((q : ℕ) → (p ≡ q → ⊥) → n.conns q ≡ m.conns q) → n.opening ≡ m.opening → n.calm ≡ m.calm → y.got ≡ x.got
+pub pumped_call : (server p : ℕ) (l : Link Request) (x y : Conn) (s : Server) (m n : Multi) (frames : ℕ → List Octets) (v : View) → AtWork p l x s m frames v (dues v) → IsLinkAt p (names_at (desk_of s)) l m x (frames p) (dues v) v.ticket → n.asks ≡ m.asks → ((q : ℕ) → (p ≡ q → ⊥) → n.conns q ≡ m.conns q) → n.opening ≡ m.opening → n.calm ≡ m.calm → y.got ≡ x.got
     → (old : SingleLine) → old.stage ≡ l.line.stage → ((i : ℕ) → IsAt l.line i → IsAt old i) → (t : SingleLine) (w : View) → (pumped : HasPumped server p (names_at (desk_of s)) n y old (lent v) t w) → y.heard ≡ false → (outs0 : List Out) → w.outs ≡ outs0 ++ pumped.taken.made.outs
     → Leads (Went server frames nothing_under_way (desk_of s) n (record v { outs = outs0 })) (returns (one_stream for_one) p (taken (one_stream for_one) p l s) v (record l { line = t }, w))
-pumped_call server p l x y s m n frames v a asks conns opening calm got old stage seats t w pumped heard outs0 outs =
+pumped_call server p l x y s m n frames v a link asks conns opening calm got old stage seats t w pumped heard outs0 outs =
     let c = same_tables p (desk_of s) m n (dues v) asks conns opening calm a.tables in
     returns_so server p pumped.taken.posts frames frames nothing_under_way s l n pumped.taken.made.state v w v.request v.ticket (record l { line = t }) refl (λ q ne. refl)
     (placed p [] nothing_under_way nothing_under_way (desk_of s) (desk_of s) m n frames (dues v) (dues v) v.ticket v.ticket a.tables c)
@@ -184,7 +184,7 @@ pumped_call server p l x y s m n frames v a asks conns opening calm got old stag
       aside = pumped.taken.beside.aside;
       going = pumped.taken.beside.going;
       conns = pumped.taken.beside.conns;
-      there = λ i j b named at th. elim (pumped.taken.seats i (seats i (is_at p (names_at (desk_of s)) l.line m x (dues v) v.ticket a.link.line i j b named (ap (λ (g : ℕ → Option Asker). g j) (sym asks) ∙ at) th))) [
+      there = λ i j b named at th. elim (pumped.taken.seats i (seats i (is_at p (names_at (desk_of s)) l.line m x (dues v) v.ticket a.line i j b named (ap (λ (g : ℕ → Option Asker). g j) (sym asks) ∙ at) th))) [
         | inl g ↦ inl (there_at p (names_at (desk_of s)) t pumped.taken.made.state pumped.taken.conn (dues w) w.ticket pumped.taken.line i j named g)
         | inr g ↦ inr g
       ];
@@ -193,11 +193,11 @@ pumped_call server p l x y s m n frames v a asks conns opening calm got old stag
       opening = pumped.taken.beside.opening;
       calm = pumped.taken.beside.calm;
       new = inl (is_open (dues w) t.idle_time t.stage (pumped.taken.conn).mode pumped.taken.line.fits.stage, pumped.taken.conn, record {
-        place = a.link.place;
-        timeout = a.link.timeout;
+        place = link.place;
+        timeout = link.timeout;
         line = pumped.taken.line;
         settled = pumped.settled;
-        keeps = subst (Keeps l.octets (frames p)) (sym (pumped.taken.got ∙ got)) a.link.keeps;
+        keeps = subst (Keeps l.octets (frames p)) (sym (pumped.taken.got ∙ got)) link.keeps;
       });
     })
     n outs0 pumped.taken.made refl pumped.taken.runs pumped.taken.nothing outs (pumped.taken.at_place ∙ sym pumped.taken.place) pumped.taken.more (le_refl v.ticket) quiet_left pumped.taken.put
