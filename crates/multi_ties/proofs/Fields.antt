@@ -99,7 +99,7 @@ module _ (s : ℕ) where
   pub has_set : (phase : Phase) (u : Streams) (x : Sight) (a : Served) (i : ℕ) → TiedAs s phase u x a → owns u i → (due : ℕ) × (x.dues i ≡ Some due)
   has_set phase u x a i t o = owned_set nothing_under_way (desk_of u.tables) a.server.by_stream (frames_at a.place a.frames) x.dues x.ticket (stream_of phase u x a t).ties i o
 
-  no_tryer : (g : Dgrams) (k : ℕ) → g ≡ no_datagram → g.held k ≡ None
+  pub no_tryer : (g : Dgrams) (k : ℕ) → g ≡ no_datagram → g.held k ≡ None
   no_tryer g k e = ap (λ (g : Dgrams). g.held k) e
 
   pub is_named : (phase : Phase) (u : Streams) (x : Sight) (a : Served) (i k : ℕ) → TiedAs s phase u x a → names_of u i ≡ Some k → (i < x.ticket) × (holds a k ≡ true)
@@ -118,12 +118,12 @@ module _ (s : ℕ) where
 
   -- A row begins
 
+  none_either : (b : Bool) (xs : List Octets) → (if b then xs else xs) ≡ xs
+  none_either true xs = refl
+  none_either false xs = refl
+
   pub frames_none : (p q : ℕ) → frames_at p [] q ≡ []
-  frames_none p q = by (p == q)
-    where
-      by : (b : Bool) → (if b then [] else []) ≡ []
-      by true = refl
-      by false = refl
+  frames_none p q = none_either (p == q) []
 
   same_frames : (p : ℕ) (fs : List Octets) → fs ≡ [] → frames_at p fs ≡ frames_at 0 []
   same_frames p fs e = fun_ext (λ q. ap (λ (fs : List Octets). frames_at p fs q) e ∙ (frames_none p q ∙ sym (frames_none 0 q)))

@@ -23,3 +23,5 @@ pub mod Telling
 pub mod Sending
 pub mod Framing
 pub mod Fields
+pub mod Tying
+pub mod Hearing

@@ -233,8 +233,8 @@ module _ (server : ℕ) (frames : ℕ → List Octets) (s : Server) (m : Multi) 
   only p q e = grind (arith, nat_tests)
 
   -- whoever is told of a place is told of no other
-  foreign_there : (p : ℕ) (what : What) → ((q : ℕ) → is_told q what ≡ true → p ≡ q) → m.conns p ≡ None → (q : ℕ) → is_told q what ≡ true → m.conns q ≡ None
-  foreign_there p what same none q told_there = ap m.conns (sym (same q told_there)) ∙ none
+  foreign_there : (p : ℕ) (ev : What) → ((q : ℕ) → is_told q ev ≡ true → p ≡ q) → m.conns p ≡ None → (q : ℕ) → is_told q ev ≡ true → m.conns q ≡ None
+  foreign_there p ev same none q told_there = ap m.conns (sym (same q told_there)) ∙ none
 
   in_body : (os : List ℕ) → end_error os ≢ errors.WrongReplyForQuery
   in_body os = by (is_in_body os)
@@ -243,8 +243,8 @@ module _ (server : ℕ) (frames : ℕ → List Octets) (s : Server) (m : Multi) 
       by true = λ e. cc
       by false = λ e. cc
 
-  none_told : (what : What) → ((q : ℕ) → is_told q what ≡ false) → (q : ℕ) → is_told q what ≡ true → m.conns q ≡ None
-  none_told what never q told_there = absurd (let z : false ≡ true = sym (never q) ∙ told_there in cc)
+  none_told : (ev : What) → ((q : ℕ) → is_told q ev ≡ false) → (q : ℕ) → is_told q ev ≡ true → m.conns q ≡ None
+  none_told ev never q told_there = absurd (let z : false ≡ true = sym (never q) ∙ told_there in cc)
 
   pub told_so : (what : What) → ((p : ℕ) (o : Octets) → what ≢ Bytes p o) → Leads (ToldOf server frames what s m v) (tells (one_stream for_one) server default_settings what s v)
   told_so (Ask r) other = passes (Ask r) (none_told (Ask r) (λ q. refl))
