@@ -69,6 +69,7 @@ module _ (s : ℕ) where
     };
     count = refl;
     at = inl refl;
+    row = inl refl;
     told = inl (tt, λ p y e. absurd (let z : None ≡ Some y = e in cc));
   }
 
@@ -89,6 +90,7 @@ module _ (s : ℕ) where
     stream = stream_same u x y a t.stream now due timer ticket place;
     count = t.count;
     at = t.at;
+    row = t.row;
     told = elim t.told [ inl q ↦ inl q | inr q ↦ inr ((λ i d o set. subst (λ n. n < d) (sym now) (q.0 i d o (sym (due i o) ∙ set))), q.1) ];
   }
 
@@ -190,7 +192,7 @@ module _ (s : ℕ) where
       by (Some x) y e = let f : record x { heard = false } ≡ y = (let z : Some (record x { heard = false }) ≡ Some y = e in cc) in ap (λ (x : Conn). x.heard) (sym f)
 
   pub is_passed : (u : Streams) (x : Sight) (a : Served) (w : What) → IsNobodys w → TiedAs s (Untold w) u x a → TiedAs s (Told 0 0) u x a
-  is_passed u x a w nobody t = record { stream = t.stream; count = ap length t.frames; at = inl refl; told = inl (subst IsNobodys (sym t.pending) nobody, t.quiet) }
+  is_passed u x a w nobody t = record { stream = t.stream; count = ap length t.frames; at = inl refl; row = inl refl; told = inl (subst IsNobodys (sym t.pending) nobody, t.quiet) }
 
   -- It rests
 

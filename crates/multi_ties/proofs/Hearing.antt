@@ -30,7 +30,7 @@ use Rattle.client_ties.specs.Chains.{Chain, Stays, Goes, Gives, still, then_act}
 use Rattle.client_ties.specs.Connections.{timer_of, dues, HasHeard}
 use Rattle.client_ties.specs.Lines.{IsLineAt}
 use Rattle.client_ties.specs.Octets.{IsLinkAt, HasRead, ReadsNone, ReadsOne, says}
-use Rattle.client_ties.specs.PartTie.{Phase, Untold, Told, Leads, Leaves, Tells, MayLeave, GoesOn}
+use Rattle.client_ties.specs.PartTie.{Phase, Untold, Told, IsNobodys, Leads, Leaves, Tells, MayLeave, GoesOn}
 use Rattle.client_ties.specs.Reading.{Keeps}
 use Rattle.client_ties.specs.Runs.{Rests}
 use Rattle.client_ties.specs.Sights.{sight, IsFair, IsEarly}
@@ -50,10 +50,10 @@ use Rattle.multi_ties.proofs.Stepping.{AtWork, kept_call, work_on}
 use Rattle.multi_ties.proofs.Telling.{ToldOf, Passes, Takes_it, said, told_so}
 use Rattle.multi_ties.proofs.Tying.{stands_of, still_early}
 
-few : (n : ℕ) → 0 ≤ n
+pub few : (n : ℕ) → 0 ≤ n
 few n = omega arith
 
-none_more : nat_lt 0 0 ≡ false
+pub none_more : nat_lt 0 0 ≡ false
 none_more = grind (arith, nat_tests)
 
 some_more : (n : ℕ) → nat_lt 0 (suc n) ≡ true
@@ -75,13 +75,13 @@ may_zero (Ended p) other = refl
 may_zero Tick other = refl
 
 -- frames at a place, and elsewhere
-frames_here : (p : ℕ) (fs : List Octets) → frames_at p fs p ≡ fs
+pub frames_here : (p : ℕ) (fs : List Octets) → frames_at p fs p ≡ fs
 frames_here p fs = ap (λ b. if b then fs else []) (itself p)
   where
     itself : (p : ℕ) → (p == p) ≡ true
     itself p = grind (arith, nat_tests)
 
-frames_there : (p q : ℕ) (fs : List Octets) → (p ≡ q → ⊥) → frames_at p fs q ≡ []
+pub frames_there : (p q : ℕ) (fs : List Octets) → (p ≡ q → ⊥) → frames_at p fs q ≡ []
 frames_there p q fs ne = ap (λ b. if b then fs else []) (other p q ne)
   where
     other : (p q : ℕ) → (p ≡ q → ⊥) → (p == q) ≡ false
@@ -97,38 +97,38 @@ in_time_by d m v t early k e at =
     subst (λ (e : Asker). v.now < e.since + stream_timeout) same (early (o.1).end (j.ask.since + stream_timeout) (inl (o.0, j.end)) j.over)
 
 module _ (c : Conf) (s : ℕ) where
-  is_in_time : (a : Served) (d : Desk) (v : View) → a.clock ≡ v.now → a.server.by_dgram ≡ no_datagram → AreTables nothing_under_way d a.server.by_stream (dues v) → AreEarly d (sight v) → IsInTime a.clock a.server
+  pub is_in_time : (a : Served) (d : Desk) (v : View) → a.clock ≡ v.now → a.server.by_dgram ≡ no_datagram → AreTables nothing_under_way d a.server.by_stream (dues v) → AreEarly d (sight v) → IsInTime a.clock a.server
   is_in_time a d v clock dgram t early = record {
     sent = λ k b p id n e q. absurd (let z : None ≡ Some b = sym (no_tryer s a.server.by_dgram k dgram) ∙ e in cc);
     asked = λ k e at. subst (λ n. n < e.since + stream_timeout) (sym clock) (in_time_by d a.server.by_stream v t early k e at);
   }
 
   -- Frames of a connection that is no more are dropped.
-  drops_all : (place : ℕ) (fs : List Octets) (b : Served) → b.frames ≡ fs → b.server.by_stream.conns b.place ≡ None → IsInTime b.clock b.server → Chain (served c) s place b (still place (frames_left [] b.server.by_stream b))
+  pub drops_all : (place : ℕ) (fs : List Octets) (b : Served) → b.frames ≡ fs → b.server.by_stream.conns b.place ≡ None → IsInTime b.clock b.server → Chain (served c) s place b (still place (frames_left [] b.server.by_stream b))
   drops_all place [] b e none time = subst (λ fs. Chain (served c) s place b (still place (frames_left fs b.server.by_stream b))) e (Stays place b)
   drops_all place (f ∷ fs) b e none time =
       Goes place b (does (frames_left fs b.server.by_stream b) place Nothing) (still place (frames_left [] b.server.by_stream b)) (TakesOne f fs Nothing b.server.by_stream e time (IsDropped none))
       (drops_all place fs (frames_left fs b.server.by_stream b) refl none time)
 
   -- What is left once the frame that stands first was taken.
-  record FromFrames (p most : ℕ) (u : Streams) (v : View) (b : Served) (t : Server) (w : View) : Type 0 where
-    made : Act Served
-    chain : Chain (served c) s v.place b made
-    outs : w.outs ≡ v.outs ++ made.outs
-    place : w.place ≡ made.place
-    board : List Posted
-    put : w.board ≡ v.board ++ board
-    gives : Gives (names_of u) board made.posts (numbers (desk_of t))
-    left : ℕ
-    at_most : left ≤ most
-    more : w.more ≡ nat_lt 0 left
-    tied : TiedAs s (Told p left) (record u { tables = t }) (sight w) made.state
-    on : GoesOn v w
-    owned : (i : ℕ) → Owns (desk_of t) i → Owns (desk_of u.tables) i ⊎ (v.timers.next ≤ i)
-    others : (i due : ℕ) → (Owns (desk_of u.tables) i → ⊥) → dues v i ≡ Some due → dues w i ≡ Some due
+  pub record FromFrames (p most : ℕ) (u : Streams) (v : View) (b : Served) (t : Server) (w : View) : Type 0 where
+    pub made : Act Served
+    pub chain : Chain (served c) s v.place b made
+    pub outs : w.outs ≡ v.outs ++ made.outs
+    pub place : w.place ≡ made.place
+    pub board : List Posted
+    pub put : w.board ≡ v.board ++ board
+    pub gives : Gives (names_of u) board made.posts (numbers (desk_of t))
+    pub left : ℕ
+    pub at_most : left ≤ most
+    pub more : w.more ≡ nat_lt 0 left
+    pub tied : TiedAs s (Told p left) (record u { tables = t }) (sight w) made.state
+    pub on : GoesOn v w
+    pub owned : (i : ℕ) → Owns (desk_of t) i → Owns (desk_of u.tables) i ⊎ (v.timers.next ≤ i)
+    pub others : (i due : ℕ) → (Owns (desk_of u.tables) i → ⊥) → dues v i ≡ Some due → dues w i ≡ Some due
 
   module _ (p : ℕ) (u : Streams) (v : View) (fair : IsFair v) (early : AreEarly (desk_of u.tables) (sight v)) (calm : v.more ≡ false) (server_is : u.server ≡ s) (settings_are : u.settings ≡ default_settings) (takes_more : u.shut ≡ false)
-      (b : Served) (clock : b.clock ≡ v.now) (dgram : b.server.by_dgram ≡ no_datagram) (at_p : b.place ≡ p) (nobody : (n : Multi) → IsForeign b.pending n)
+      (b : Served) (clock : b.clock ≡ v.now) (dgram : b.server.by_dgram ≡ no_datagram) (at_p : b.place ≡ p) (idle : IsNobodys b.pending)
       (l : Link Request) (x : Conn) (frames : ℕ → List Octets) (work : AtWork p l x u.tables b.server.by_stream frames v (dues v)) (f : Octets) (fs : List Octets) (stand : b.frames ≡ f ∷ fs) where
     abbrev d : Desk
     d = desk_of u.tables
@@ -178,7 +178,7 @@ module _ (c : Conf) (s : ℕ) where
         left = length fs;
         at_most = le_refl (length fs);
         more = g.more ∙ more;
-        tied = record { stream = stream_now fs ties_now; count = refl; at = inr at_p; told = inr (early_now, nobody g.made.state) };
+        tied = record { stream = stream_now fs ties_now; count = refl; at = inr at_p; row = inr idle; told = inr (early_now, nobodys_foreign s b.pending g.made.state idle) };
         on = g.on;
         owned = g.owned;
         others = g.others;
@@ -206,7 +206,8 @@ module _ (c : Conf) (s : ℕ) where
           stream = stream_now [] (record { tables = g.stands.server.tables; links = λ q. link_dropped q (g.stands.server.links q) none; watched = g.stands.server.watched });
           count = refl;
           at = inl refl;
-          told = inr (early_now, nobody g.made.state);
+          row = inl refl;
+          told = inr (early_now, nobodys_foreign s b.pending g.made.state idle);
         };
         on = g.on;
         owned = g.owned;
@@ -217,7 +218,7 @@ module _ (c : Conf) (s : ℕ) where
       done_so e more = is_closed (g.closed e) more
 
     -- whatever the connection has read
-    reads_so : (l1 : Link Request) → l1.line ≡ l.line → l1.place ≡ p → l1.settings.response_timeout ≡ response_timeout → (same : (q : ℕ) → (p ≡ q → ⊥) → frames_at p fs q ≡ frames q)
+    pub reads_so : (l1 : Link Request) → l1.line ≡ l.line → l1.place ≡ p → l1.settings.response_timeout ≡ response_timeout → (same : (q : ℕ) → (p ≡ q → ⊥) → frames_at p fs q ≡ frames q)
         → (k : Link Request) (y : View) → HasRead p (names_at d) m x l1 (lent v) (f ∷ fs) k y → Leads (FromFrames p (length fs) u v b) (returns (one_stream for_one) p (taken (one_stream for_one) p l u.tables) v (k, y))
     reads_so l1 same_line l1_place l1_time same k y (ReadsOne _ _ _ y1 _ heard said_more place settings keeps_open keeps_none) = by (has_ended k.line.stage) refl
       where
@@ -253,20 +254,20 @@ module _ (c : Conf) (s : ℕ) where
     abbrev Goal : Streams → View → Type 0
     Goal x y = Tells (served c) (TiedAs s) names_of owns (Chain (served c) s v.place a) u v (MayLeave w) x y
 
-    stands0 : Stands nothing_under_way ud u.tables um no_frames v
+    pub stands0 : Stands nothing_under_way ud u.tables um no_frames v
     stands0 = subst (λ fs. Stands nothing_under_way ud u.tables um (frames_at a.place fs) v) t.frames (stands_of s u v a t.stream fair)
 
-    early_d : AreEarly ud (sight v)
+    pub early_d : AreEarly ud (sight v)
     early_d i due o set = early i due set
 
     -- it is of nothing here
-    passes_so : (p : ℕ) → MayLeave w p 0 → IsForeign w um → Goal u v
+    pub passes_so : (p : ℕ) → MayLeave w p 0 → IsForeign w um → Goal u v
     passes_so p may foreign = record {
       at = p;
       left = 0;
       may_be = may;
       more = calm ∙ sym none_more;
-      leaves = nothing_done (served c) s (TiedAs s) names_of owns u v a (Told p 0) fair (record { stream = t.stream; count = ap length t.frames; at = inl refl; told = inr (early_d, subst (λ w. IsForeign w um) (sym t.pending) foreign) });
+      leaves = nothing_done (served c) s (TiedAs s) names_of owns u v a (Told p 0) fair (record { stream = t.stream; count = ap length t.frames; at = inl refl; row = inl refl; told = inr (early_d, subst (λ w. IsForeign w um) (sym t.pending) foreign) });
     }
 
     module _ (other : (p : ℕ) (o : Octets) → w ≢ Bytes p o) where
@@ -291,6 +292,7 @@ module _ (c : Conf) (s : ℕ) where
             stream = record { server = t.stream.server; settings = t.stream.settings; takes = t.stream.takes; clock = t.stream.clock ∙ sym g.on.now; dgram = t.stream.dgram; ties = g.stands.server; order = g.stands.order };
             count = refl;
             at = inl refl;
+            row = inl refl;
             told = inr (still_early ud (desk_of r) v y fair early_d on g.owned, nobodys_foreign s Tick g.made.state tt);
           };
           goes_on = on;

@@ -25,3 +25,5 @@ pub mod Framing
 pub mod Fields
 pub mod Tying
 pub mod Hearing
+pub mod Coming
+pub mod StreamsTied

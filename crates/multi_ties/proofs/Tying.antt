@@ -86,7 +86,7 @@ module _ (c : Conf) (s : ℕ) where
       by : (phase : Phase) → TiedAs s phase u (sight v) a → Leads (Leaves (served c) (TiedAs s) names_of owns (Chain (served c) s v.place a) (names_of u) u (record v { timers = cancelled i v.timers }) phase) (by_streams.step (due_timer i) u (record v { timers = cancelled i v.timers }))
       by (Untold w) t = own (Untold w) t.stream t.quiet (λ r z g. record { stream = stream_still s u (sight v) a r g.made.state z t.stream g.on.now g.stands; pending = t.pending; taken = t.taken; frames = t.frames; quiet = g.quiet t.quiet })
       by (Told p n) t = elim t.told [
-        | inl q ↦ own (Told p n) t.stream q.1 (λ r z g. record { stream = stream_still s u (sight v) a r g.made.state z t.stream g.on.now g.stands; count = t.count; at = t.at; told = inl (q.0, g.quiet q.1) })
+        | inl q ↦ own (Told p n) t.stream q.1 (λ r z g. record { stream = stream_still s u (sight v) a r g.made.state z t.stream g.on.now g.stands; count = t.count; at = t.at; row = t.row; told = inl (q.0, g.quiet q.1) })
         | inr q ↦ others q
       ]
         where
@@ -100,6 +100,7 @@ module _ (c : Conf) (s : ℕ) where
                 stream = stream_still s u (sight v) a r o.0.made.state z t.stream o.0.on.now o.0.stands;
                 count = t.count;
                 at = t.at;
+                row = t.row;
                 told = inr (still_early (desk_of u.tables) (desk_of r) (record v { timers = cancelled i v.timers }) z (fair_without v i fair) early_left o.0.on o.0.owned, foreign_as a.pending a.server.by_stream o.0.made.state (ap (λ (m : Multi). m.conns) o.1) (ap (λ (m : Multi). m.opening) o.1) q.1);
               }))
             where
@@ -154,6 +155,7 @@ module _ (c : Conf) (s : ℕ) where
       stream = stream_still s u (sight v) a t (drop k m) w x.stream (on_all w g.on).now (stands_left t w g);
       count = x.count;
       at = x.at;
+      row = x.row;
       told = elim x.told [
         | inl q ↦ inl q
         | inr q ↦ inr (still_early d (desk_of t) v w fair q.0 (on_all w g.on) (λ i o. inl (g.owned i o)), foreign_as a.pending m (drop k m) refl refl q.1)

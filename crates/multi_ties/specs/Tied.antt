@@ -57,6 +57,7 @@ pub record IsTold (s p left : ℕ) (u : Streams) (x : Sight) (a : Served) : Type
   pub stream : IsStream s u x a
   pub count : length a.frames ≡ left
   pub at : (left ≡ 0) ⊎ (a.place ≡ p)
+  pub row : (left ≡ 0) ⊎ IsNobodys a.pending
   pub told : (IsNobodys a.pending × NoneHeard a.server.by_stream) ⊎ (AreEarly (desk_of u.tables) x × IsForeign a.pending a.server.by_stream)
 
 abbrev pub TiedAs : (s : ℕ) → Phase → Streams → Sight → Served → Type 0

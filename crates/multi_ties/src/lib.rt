@@ -3,4 +3,4 @@
 
 mod laws;
 
-pub use laws::first_law;
+pub use laws::streams_are_tied;
