@@ -1,5 +1,5 @@
 -- A call of one connection is over: what it leaves of the tables.
-use Rattle.std.proofs.Common.{◌≡◌, ℕ, suc, ◌+◌, ◌<◌, ◌≤◌, ◌⊎◌, inl, inr, Bool, true, false, List, [], ◌∷◌, ◌++◌, Option, Some, None, refl, sym, ap, subst, ◌∙◌, arith, le_refl, le_trans, lt_of_lt_of_le}
+use Rattle.std.proofs.Common.{◌≡◌, ℕ, ◌<◌, ◌≤◌, ◌⊎◌, inl, inr, Bool, true, false, List, [], ◌∷◌, ◌++◌, Option, Some, None, refl, sym, ap, subst, ◌∙◌, arith, le_trans, lt_of_lt_of_le}
 use Rattle.std.specs.Prelude.{if◌then◌else◌}
 use Rattle.client_request.specs.Numbered.{puts, frees, entry_at}
 use Rattle.client_request.specs.Request.{Request}
@@ -11,24 +11,23 @@ use Rattle.client_multi.specs.Links.{Link, one_stream}
 use Rattle.client_multi.specs.MultiStream.{keeps, taken, with_connection, taken_back, watched, unwatched}
 use Rattle.client_multi.specs.declared.multi_stream.job.Job.{Job}
 use Rattle.client_multi.specs.declared.multi_stream.job.Stage.{Stage}
-use Rattle.client_multi.specs.declared.multi_stream.job.Stage.TheVariants.{Waiting, Resting, Held}
+use Rattle.client_multi.specs.declared.multi_stream.job.Stage.TheVariants.{Resting}
 use Rattle.client_stream.specs.Plain.{has_ended, timer_at}
 use Rattle.client_stream.specs.declared.stage.Stage.{Stage as LineStage}
 use Rattle.client_stream.specs.declared.stage.Stage.TheVariants as at
 use Rattle.headline.specs.Messages.{Octets}
 use Rattle.headline.specs.machine.Part.{Act}
-use Rattle.headline.specs.machine.Streams.{Phase, Asker, Conn, Multi, with_at, moved}
+use Rattle.headline.specs.machine.Streams.{Phase, Asker, Conn, Multi, moved}
 use Rattle.client_ties.specs.Connections.{timer_of, dues, IsTimed, IsPostedTo}
 use Rattle.client_ties.specs.Lines.{Sorted}
 use Rattle.client_ties.specs.Octets.{IsLinkAt}
-use Rattle.client_ties.specs.PartTie.{GoesOn}
 use Rattle.client_ties.specs.Runs.{Runs, AreFailing}
 use Rattle.client_ties.specs.Seats.{IsAway}
 use Rattle.client_ties.specs.Sights.{sight, IsFair}
 use Rattle.client_ties.proofs.GoingOn.{none_next}
-use Rattle.client_ties.proofs.Keys.{with_here, with_there, is_or_was, was_there, each_number}
-use Rattle.client_ties.proofs.Tables.{at_puts, at_frees, sorted_puts, sorted_frees, rises_below, present_below}
-use Rattle.multi_ties.specs.Servers.{Desk, Server, desk_of, numbers, names_at, UnderWay, IsThere, StageFits, AtWaiting, AtResting, AtHeld, HasFailed, IsToHand, LinkFits, IsNone, IsSome, IsBroken, AreTables, IsServer, AreOrderly, NoneHeard, Owns, Stands}
+use Rattle.client_ties.proofs.Keys.{with_here, with_there, each_number}
+use Rattle.client_ties.proofs.Tables.{at_frees, sorted_puts, sorted_frees, rises_below, present_below}
+use Rattle.multi_ties.specs.Servers.{Desk, Server, desk_of, names_at, UnderWay, IsThere, StageFits, AtWaiting, AtResting, AtHeld, HasFailed, IsToHand, LinkFits, IsNone, IsSome, IsBroken, AreTables, IsServer, AreOrderly, NoneHeard, Owns}
 use Rattle.multi_ties.proofs.Going.{Went}
 use Rattle.multi_ties.proofs.Hands.{link_due, line_due, same_link, puts_here, puts_there}
 use Rattle.multi_ties.proofs.Placing.{PlaceChange, kept_place, placed}
@@ -288,6 +287,3 @@ module _ (server p : ℕ) (posts : List Posted) (frames fs : ℕ → List Octets
         by : (b : Bool) → has_ended c.line.stage ≡ b → (x : Went server fs z (desk_of s) m0 (record v { outs = outs0 }) (if b then taken (one_stream for_one) p l s else keeps (one_stream for_one) p c (taken (one_stream for_one) p l s)) (taken_back v w)) × (x.made ≡ made)
         by true e = ended_so e
         by false e = kept_so e
-
-pub eighth : (d : Desk) → Unit {0}
-eighth d = tt

@@ -1,12 +1,12 @@
 -- One request changes, beside others that stay as they are.
-use Rattle.std.proofs.Common.{◌≡◌, ◌≢◌, ℕ, ◌+◌, ◌<◌, ◌≤◌, ◌⊎◌, inl, inr, List, [], ◌∷◌, Option, Some, None, refl, sym, ap, subst, ◌∙◌, le_refl, le_trans}
+use Rattle.std.proofs.Common.{◌≡◌, ℕ, ◌≤◌, ◌⊎◌, inl, inr, List, Option, Some, refl, sym, ap, subst, ◌∙◌}
 use Rattle.client_request.specs.Request.{Request}
 use Rattle.client_multi.specs.Links.{Link}
 use Rattle.client_multi.specs.declared.multi_stream.job.Job.{Job}
 use Rattle.client_multi.specs.declared.multi_stream.job.Stage.{Stage}
 use Rattle.client_multi.specs.declared.multi_stream.job.Stage.TheVariants.{Waiting, Resting, Held}
 use Rattle.headline.specs.Messages.{Octets}
-use Rattle.headline.specs.machine.Streams.{Phase, Free, Expecting, Broken, Asker, Conn, Multi}
+use Rattle.headline.specs.machine.Streams.{Phase, Free, Expecting, Broken, Asker, Multi}
 use Rattle.client_ties.specs.Connections.{timer_of, IsPostedTo}
 use Rattle.client_ties.specs.Octets.{IsLinkAt}
 use Rattle.client_ties.specs.Seats.{IsAway}
@@ -151,6 +151,3 @@ module _ (t k : ℕ) (y z : UnderWay) (d e : Desk) (m n : Multi) (frames : ℕ �
         | inl kj ↦ (let o = c.asked a (ap n.asks kj ∙ is) in (t, o.0, o.1, (c.fits o.0 o.1).1 ∙ kj))
         | inr ne ↦ (let o = s.asked j a (sym (c.asks j ne) ∙ is) in (o.0, o.1, new_job o.0 o.1 (λ tu. ne (sym (c.number o.1 (ap d.jobs tu ∙ o.2)) ∙ o.3)) o.2, o.3))
       ]
-
-pub first : (d : Desk) → Unit {0}
-first d = tt

@@ -1,8 +1,7 @@
 -- What a connection posted is collected: errors, for requests that are to back off.
-use Rattle.std.proofs.Common.{◌≡◌, ◌≢◌, ℕ, suc, ◌+◌, ◌<◌, ◌≤◌, ◌⊎◌, inl, inr, Bool, true, false, List, [], ◌∷◌, ◌++◌, Option, Some, None, refl, sym, ap, ap₂, subst, ◌∙◌, le_refl, le_trans}
-use Rattle.std.specs.Prelude.{option_and_then, Result, Ok, Err}
-use Rattle.client_request.specs.Board.{Part}
-use Rattle.client_request.specs.Numbered.{puts, frees, entry_at}
+use Rattle.std.proofs.Common.{◌≡◌, ◌≢◌, ℕ, ◌⊎◌, inl, inr, false, List, [], ◌∷◌, Option, Some, None, refl, sym, ap, subst, ◌∙◌, le_refl}
+use Rattle.std.specs.Prelude.{option_and_then, Err}
+use Rattle.client_request.specs.Numbered.{frees, entry_at}
 use Rattle.client_request.specs.Request.{Request}
 use Rattle.client_request.specs.View.{View}
 use Rattle.client_request.specs.declared.board.Posted.{Posted}
@@ -15,15 +14,14 @@ use Rattle.client_multi.specs.declared.multi_stream.job.Job.{Job}
 use Rattle.client_multi.specs.declared.multi_stream.job.Stage.{Stage}
 use Rattle.client_multi.specs.declared.multi_stream.job.Stage.TheVariants.{Waiting, Resting, Held}
 use Rattle.headline.specs.Messages.{Octets}
-use Rattle.headline.specs.machine.Streams.{Phase, Free, Broken, Asker, Conn, Multi, with_at}
-use Rattle.client_ties.specs.Connections.{dues, IsPostedTo}
+use Rattle.headline.specs.machine.Streams.{Phase, Free, Broken, Asker, Multi}
+use Rattle.client_ties.specs.Connections.{dues}
 use Rattle.client_ties.specs.PartTie.{Leads}
 use Rattle.client_ties.specs.Runs.{AreFailing}
 use Rattle.client_ties.specs.Seats.{IsAway}
-use Rattle.client_ties.specs.Sights.{sight}
 use Rattle.client_ties.proofs.Keys.{with_here, with_there, was_there}
 use Rattle.client_ties.proofs.Tables.{at_frees, sorted_frees, frees_nothing, present_below}
-use Rattle.multi_ties.specs.Servers.{Desk, Server, desk_of, numbers, names_at, UnderWay, IsListed, IsLoose, IsThere, under, StageFits, AtWaiting, AtResting, AtHeld, HasFailed, IsToHand, JobFits, LinkFits, IsBroken, AreTables, IsServer, AreOrderly, Owns, Stands}
+use Rattle.multi_ties.specs.Servers.{Desk, Server, desk_of, numbers, UnderWay, IsLoose, IsThere, under, StageFits, AtWaiting, AtResting, AtHeld, HasFailed, IsToHand, JobFits, AreTables, Owns, Stands}
 use Rattle.multi_ties.proofs.Changing.{Change, kept_link, changed}
 use Rattle.multi_ties.proofs.Desks.{desk_with, away_so, name_of, name_is}
 use Rattle.multi_ties.proofs.Going.{Went, waits_now, went_nowhere, went_then, leads_on, leads_as}
@@ -255,6 +253,3 @@ module _ (server : ℕ) (frames : ℕ → List Octets) (todo : List (ℕ × Phas
           subst (λ (o : Option (Job Request)). Leads (Went server frames (failing_as xs) (desk_of s) n w) (gets t x.part (record s { inner = frees x.ticket s.inner }) w o)) (sym (has x xs s n w st t e).2)
           (subst (λ b. Leads (Went server frames (failing_as xs) (desk_of s) n w) (gets_part b t (has x xs s n w st t e).0 x.part (record s { inner = frees x.ticket s.inner; jobs = frees t s.jobs }) w)) (sym errs.0)
           (rests_then x xs s n w st t e))
-
-pub ninth : (d : Desk) → Unit {0}
-ninth d = tt

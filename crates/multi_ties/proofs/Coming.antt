@@ -1,5 +1,5 @@
 -- Octets come, and frames are taken one by one.
-use Rattle.std.proofs.Common.{◌≡◌, ◌≢◌, ℕ, zero, suc, ◌+◌, ◌<◌, ◌≤◌, ◌⊎◌, inl, inr, Bool, true, false, List, [], ◌∷◌, ◌++◌, length, Option, Some, None, refl, sym, ap, ap₂, subst, ◌∙◌, arith, le_refl, le_trans, append-nil}
+use Rattle.std.proofs.Common.{◌≡◌, ℕ, suc, ◌≤◌, inl, inr, false, List, [], ◌∷◌, ◌++◌, length, Option, Some, None, refl, sym, ap, subst, ◌∙◌, arith, append-nil}
 use Rattle.std.specs.Prelude.{option_and_then}
 use Rattle.client_request.specs.Numbered.{entry_at}
 use Rattle.client_request.specs.Request.{Request}
@@ -8,18 +8,17 @@ use Rattle.client_request.specs.View.{View, told, more_at}
 use Rattle.client_request.specs.declared.event.What.TheVariants.{Bytes, Tick}
 use Rattle.client_stream.specs.Plain.{plain_step}
 use Rattle.client_multi.specs.Links.{Link, one_stream}
-use Rattle.client_multi.specs.MultiStream.{with_tables, hears_at, calls, returns, taken, lent}
+use Rattle.client_multi.specs.MultiStream.{hears_at, calls, returns, taken, lent}
 use Rattle.headline.specs.Frames.{fed}
 use Rattle.headline.specs.Messages.{Octets}
 use Rattle.headline.specs.Trace.{Conf}
-use Rattle.headline.specs.machine.Part.{Act}
 use Rattle.headline.specs.machine.Served.{Served, Reads, served, reads_at, frames_left, does}
 use Rattle.headline.specs.machine.Streams.{Conn, Multi, Nothing, set_conn, fed_by}
 use Rattle.client_ties.specs.Chains.{Chain, Goes, still, then_act}
 use Rattle.client_ties.specs.Connections.{dues}
 use Rattle.client_ties.specs.Lines.{IsLineAt}
-use Rattle.client_ties.specs.Octets.{IsLinkAt, HasRead, ReadsNone, ReadsOne}
-use Rattle.client_ties.specs.PartTie.{Phase, Untold, Told, IsNobodys, Leads, Leaves, Tells, MayLeave, GoesOn}
+use Rattle.client_ties.specs.Octets.{IsLinkAt, HasRead, ReadsNone}
+use Rattle.client_ties.specs.PartTie.{IsNobodys, Leads, Tells, MayLeave}
 use Rattle.client_ties.specs.Reading.{Keeps}
 use Rattle.client_ties.specs.Runs.{Rests}
 use Rattle.client_ties.specs.Sights.{sight, IsFair, IsEarly}
@@ -28,11 +27,11 @@ use Rattle.client_ties.proofs.GoingOn.{goes_nowhere}
 use Rattle.client_ties.proofs.Keys.{with_here, with_there}
 use Rattle.client_ties.proofs.Linking.{links_read}
 use Rattle.client_ties.proofs.Retiming.{timed_same}
-use Rattle.multi_ties.specs.Servers.{Desk, Server, desk_of, numbers, names_at, nothing_under_way, LinkFits, IsNone, IsSome, IsServer, Owns, Stands}
-use Rattle.multi_ties.specs.Tied.{Streams, by_streams, IsStream, IsUntold, IsTold, AreEarly, TiedAs, frames_at, names_of, owns}
+use Rattle.multi_ties.specs.Servers.{Desk, Server, desk_of, numbers, names_at, nothing_under_way, LinkFits, IsNone, IsSome, Stands}
+use Rattle.multi_ties.specs.Tied.{Streams, by_streams, IsUntold, IsTold, AreEarly, TiedAs, frames_at, names_of, owns}
 use Rattle.multi_ties.proofs.Fields.{nobodys_foreign, frames_none}
 use Rattle.multi_ties.proofs.Going.{Went, leads_as}
-use Rattle.multi_ties.proofs.Hearing.{FromFrames, reads_so, passes_so, drops_all, is_in_time, frames_here, frames_there, few, none_more, stands0, early_d}
+use Rattle.multi_ties.proofs.Hearing.{FromFrames, reads_so, passes_so, drops_all, is_in_time, frames_here, frames_there, few, none_more, stands0}
 use Rattle.multi_ties.proofs.Holding.{link_at}
 use Rattle.multi_ties.proofs.Serving.{lift, runs_chain, gives_none, leads_whole}
 use Rattle.multi_ties.proofs.Stepping.{AtWork, kept_call, work_on}

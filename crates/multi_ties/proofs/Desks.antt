@@ -1,24 +1,21 @@
 -- Tables as functions: the names of tickets, and who is at a place.
-use Rattle.std.proofs.Common.{◌≡◌, ◌≢◌, ℕ, ◌+◌, ◌<◌, ◌≤◌, ◌⊎◌, inl, inr, Bool, true, false, ◌==◌, List, [], ◌∷◌, ◌++◌, Option, Some, None, refl, sym, ap, subst, ◌∙◌, arith, le_refl, le_trans}
+use Rattle.std.proofs.Common.{◌≡◌, ◌≢◌, ℕ, ◌≤◌, ◌⊎◌, inl, inr, Bool, true, false, ◌==◌, List, Option, Some, None, refl, sym, ap, subst, ◌∙◌, arith}
 use Rattle.std.specs.Prelude.{option_map, option_and_then}
 use Rattle.std.proofs.lemmas.Bool.Decides.{nat_tests}
 use mathlib.Core.Path.{fun_ext}
-use Rattle.client_request.specs.Numbered.{puts, frees, entry_at}
+use Rattle.client_request.specs.Numbered.{frees, entry_at}
 use Rattle.client_request.specs.Request.{Request}
 use Rattle.client_stream.specs.Plain.{Asked}
-use Rattle.client_stream.specs.declared.request.Holder.TheVariants.{Waits}
 use Rattle.client_stream.specs.declared.request.Waiting.{Waiting as Queued}
 use Rattle.client_multi.specs.Links.{Link}
 use Rattle.client_multi.specs.declared.multi_stream.job.Job.{Job}
 use Rattle.client_multi.specs.declared.multi_stream.job.Stage.TheVariants.{Held}
 use Rattle.headline.specs.Messages.{Octets}
-use Rattle.headline.specs.Writes.{Written}
 use Rattle.headline.specs.machine.Streams.{Phase, Free, Expecting, Lined, Holding, Broken, BackingOff, Asker, Conn, Multi, with_at}
 use Rattle.client_ties.specs.Connections.{timer_of}
-use Rattle.client_ties.specs.Lines.{SingleLine, Sorted, seats_of, StageFits, IsNew, IsActive, IsIdle, LineFits, IsLineAt}
+use Rattle.client_ties.specs.Lines.{SingleLine, Sorted, seats_of, StageFits, IsNew, IsActive, IsIdle, IsLineAt}
 use Rattle.client_ties.specs.Octets.{IsLinkAt}
-use Rattle.client_ties.specs.Seats.{Seats, IsAway, IsSent, IsLined, IdFits, IsFree, IsHeld, WasGivenUp, AreSeated}
-use Rattle.client_ties.specs.Reading.{Keeps}
+use Rattle.client_ties.specs.Seats.{IsAway, IdFits, IsFree, IsHeld, WasGivenUp, AreSeated}
 use Rattle.client_ties.proofs.Keys.{with_again, with_same}
 use Rattle.client_ties.proofs.Tables.{rises_below, frees_path}
 use Rattle.multi_ties.specs.Servers.{Desk, Server, desk_of, numbers, names_at, under, IsThere}

@@ -1,5 +1,5 @@
 -- A request waits for the place that opens, or has one opened.
-use Rattle.std.proofs.Common.{◌≡◌, ℕ, suc, ◌+◌, ◌<◌, ◌≤◌, ◌⊎◌, inl, inr, Bool, true, false, List, [], ◌∷◌, ◌++◌, Option, Some, None, refl, sym, ap, subst, ◌∙◌, arith, le_refl, le_trans, append-nil}
+use Rattle.std.proofs.Common.{◌≡◌, ℕ, suc, ◌+◌, ◌<◌, ◌≤◌, inl, inr, Bool, true, false, List, ◌∷◌, Option, Some, None, refl, sym, ap, subst, ◌∙◌, arith, le_refl, append-nil}
 use Rattle.std.specs.Prelude.{option_and_then, if◌then◌else◌, nat_lt}
 use Rattle.std.proofs.lemmas.Bool.Decides.{nat_tests}
 use Rattle.client_request.specs.Numbered.{puts, entry_at}
@@ -13,23 +13,21 @@ use Rattle.client_multi.specs.Links.{Link, one_stream}
 use Rattle.client_multi.specs.MultiStream.{waits, opens, goes_on, backs_off}
 use Rattle.client_multi.specs.declared.multi_stream.job.Job.{Job}
 use Rattle.headline.specs.Messages.{Octets}
-use Rattle.headline.specs.machine.Part.{Act}
-use Rattle.headline.specs.machine.Streams as multi
-use Rattle.headline.specs.machine.Streams.{Phase, Free, Broken, Expecting, Asker, Conn, Multi, Nothing, Puts, Moves, Expects, Opens, IsFull, moved, move, with_at}
-use Rattle.client_ties.specs.Connections.{timer_of, dues, IsPostedTo}
-use Rattle.client_ties.specs.PartTie.{Leads, GoesOn}
-use Rattle.client_ties.specs.Sights.{sight, IsFair}
+use Rattle.headline.specs.machine.Streams.{Phase, Free, Expecting, Asker, Conn, Multi, Nothing, Puts, Expects, Opens, IsFull, moved, move}
+use Rattle.client_ties.specs.Connections.{dues, IsPostedTo}
+use Rattle.client_ties.specs.PartTie.{Leads}
+use Rattle.client_ties.specs.Sights.{sight}
 use Rattle.client_ties.proofs.GoingOn.{goes_nowhere}
 use Rattle.client_ties.proofs.Keys.{with_here, with_there}
 use Rattle.client_ties.proofs.Running.{runs_one}
 use Rattle.client_ties.proofs.Tables.{sorted_puts, rises_below, absent_above}
-use Rattle.multi_ties.specs.Servers.{Desk, Server, desk_of, numbers, names_at, UnderWay, IsLoose, IsBroken, AtWaiting, JobFits, LinkFits, IsServer, AreOrderly, Owns, Stands}
+use Rattle.multi_ties.specs.Servers.{Desk, Server, desk_of, numbers, names_at, UnderWay, IsLoose, IsBroken, AtWaiting, JobFits, IsServer, AreOrderly, Stands}
 use Rattle.multi_ties.proofs.Changing.{Change, kept_link, changed}
 use Rattle.multi_ties.proofs.Desks.{desk_with, away_so, name_of, name_is}
 use Rattle.multi_ties.proofs.Going.{Went, waits_now}
 use Rattle.multi_ties.proofs.Hands.{InHand, hand_of, puts_beside, puts_here, numbers_stay, same_job}
 use Rattle.multi_ties.proofs.Resting.{rests_so}
-use Rattle.multi_ties.proofs.Waitings.{put, put_here, put_listed, listed_put, rises_put}
+use Rattle.multi_ties.proofs.Waitings.{put_here, put_listed, listed_put, rises_put}
 
 module _ (server : ℕ) (frames : ℕ → List Octets) (t : ℕ) (job : Job Request) (todo : List (ℕ × Phase)) (failed : List Posted) (s : Server) (m : Multi) (v : View)
     (st : Stands (record { todo = (t, Free) ∷ todo; failed = failed }) (desk_with t (waits_now job) s) s m frames v) (below : t < v.ticket) (once : (phase : Phase) → IsLoose t phase todo → ⊥) where
@@ -199,6 +197,3 @@ module _ (server : ℕ) (frames : ℕ → List Octets) (t : ℕ) (job : Job Requ
       by : (o : Option ℕ) → s.opening ≡ o → Leads (Went server frames z d m v) (goes_on (one_stream for_one) server t job s v o)
       by (Some p) e = expects_so p e
       by None e = by_calm (nat_lt v.now s.calm) refl e
-
-pub seventh : (d : Desk) → Unit {0}
-seventh d = tt

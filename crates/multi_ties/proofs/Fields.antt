@@ -1,43 +1,35 @@
 -- What holds of a tie but for its calls: how it begins, what it looks at, and when it rests.
-use Rattle.std.proofs.Common.{◌≡◌, ◌≢◌, ℕ, suc, ◌+◌, ◌<◌, ◌≤◌, ◌⊎◌, inl, inr, max, Bool, true, false, ◌==◌, ◌||◌, is_some, List, [], ◌∷◌, ◌++◌, length, Option, Some, None, refl, sym, ap, ap₂, subst, ◌∙◌, arith, le_refl, le_trans}
-use Rattle.std.specs.Prelude.{if◌then◌else◌, option_map, Result}
-use Rattle.std.proofs.lemmas.Bool.Decides.{nat_tests}
+use Rattle.std.proofs.Common.{◌≡◌, ◌≢◌, ℕ, suc, ◌+◌, ◌<◌, ◌≤◌, inl, inr, max, Bool, true, false, ◌==◌, ◌||◌, is_some, List, [], ◌∷◌, length, Option, Some, None, refl, sym, ap, ap₂, subst, ◌∙◌, arith, le_refl}
+use Rattle.std.specs.Prelude.{if◌then◌else◌, option_map}
 use mathlib.Core.Path.{fun_ext}
 use Rattle.client_request.specs.Numbered.{entry_at}
 use Rattle.client_request.specs.Request.{Request}
 use Rattle.client_request.specs.View.{View}
-use Rattle.client_request.specs.declared.error.Error.{Error}
 use Rattle.client_request.specs.declared.event.Event.{Event}
 use Rattle.client_request.specs.declared.event.What.{What}
 use Rattle.client_request.specs.declared.event.What.TheVariants.{Ask, Opened, OpenFailed, SendFailed, ShortSend, Datagram, RecvFailed, Wrote, WriteFailed, Bytes, ReadFailed, Ended, Tick}
 use Rattle.client_stream.specs.declared.request.Waiting.{Waiting as Queued}
 use Rattle.client_multi.specs.Links.{Link}
-use Rattle.client_multi.specs.MultiStream.{started, fresh}
+use Rattle.client_multi.specs.MultiStream.{started}
 use Rattle.client_multi.specs.Settings.{default_settings}
 use Rattle.client_multi.specs.declared.multi_stream.job.Job.{Job}
 use Rattle.client_multi.specs.declared.multi_stream.job.Stage.{Stage}
 use Rattle.headline.specs.Messages.{Octets}
-use Rattle.headline.specs.Places.{is_told}
-use Rattle.headline.specs.Time.{read_timeout, response_timeout, stream_timeout}
-use Rattle.headline.specs.Trace.{Conf}
+use Rattle.headline.specs.Time.{response_timeout, stream_timeout}
 use Rattle.headline.specs.machine.Dgrams.{Dgrams, Tryer, IsIgnored, no_datagram}
-use Rattle.headline.specs.machine.Dgrams as dgrams
 use Rattle.headline.specs.machine.Served.{Served, RestsNow, unserved, row_begun, holds}
 use Rattle.headline.specs.machine.Server.{Rests}
-use Rattle.headline.specs.machine.Server as server
-use Rattle.headline.specs.machine.Streams.{Phase as Where, Free, Expecting, Lined, Holding, Broken, BackingOff, Mode, Active, Idle, Asker, Conn, Multi, IsForeign, begin_row, unheard, no_connection}
-use Rattle.client_ties.specs.Connections.{timer_of, dues}
-use Rattle.client_ties.specs.Lines.{StageFits as LineStageFits, IsNew, IsActive, IsIdle, WritingFits, IsFree, IsWriting, IsLineAt}
+use Rattle.headline.specs.machine.Streams.{Phase as Where, Free, Broken, BackingOff, Active, Idle, Asker, Conn, Multi, IsForeign, begin_row, unheard}
+use Rattle.client_ties.specs.Connections.{dues}
+use Rattle.client_ties.specs.Lines.{StageFits as LineStageFits, IsNew, IsActive, IsIdle, WritingFits, IsFree, IsWriting}
 use Rattle.client_ties.specs.Octets.{IsLinkAt}
 use Rattle.client_ties.specs.PartTie.{Phase, Untold, Told, IsNobodys}
-use Rattle.client_ties.specs.Sights.{Sight, sight, IsFair, IsEarly, due_of}
+use Rattle.client_ties.specs.Sights.{Sight, sight, IsEarly}
 use Rattle.client_ties.proofs.Tables.{present_below}
-use Rattle.multi_ties.specs.Servers.{Desk, Server, desk_of, numbers, names_at, UnderWay, nothing_under_way, IsThere, StageFits, AtWaiting, AtResting, AtHeld, HasFailed, IsToHand, JobFits, LinkFits, IsNone, IsSome, AreTables, IsServer, AreOrderly, NoneHeard, Owns, Stands}
-use Rattle.multi_ties.specs.Tied.{Streams, IsStream, IsUntold, IsTold, AreEarly, TiedAs, frames_at, names_of, owns}
-use Rattle.multi_ties.proofs.Calling.{owned_set, timer_due}
-use Rattle.multi_ties.proofs.Desks.{away_none, not_both, number_of}
-use Rattle.multi_ties.proofs.Hands.{link_due}
-use Rattle.multi_ties.proofs.Holding.{link_at}
+use Rattle.multi_ties.specs.Servers.{Desk, desk_of, names_at, nothing_under_way, IsThere, StageFits, AtWaiting, AtResting, AtHeld, HasFailed, IsToHand, JobFits, LinkFits, IsNone, IsSome, IsServer}
+use Rattle.multi_ties.specs.Tied.{Streams, IsStream, TiedAs, frames_at, names_of, owns}
+use Rattle.multi_ties.proofs.Calling.{owned_set}
+use Rattle.multi_ties.proofs.Desks.{away_none, number_of}
 use Rattle.multi_ties.proofs.Retimed.{server_retimed, order_up}
 
 module _ (s : ℕ) where
@@ -310,6 +302,3 @@ module _ (s : ℕ) where
     ignored = ignored a.pending a.server.by_dgram t.stream.dgram;
     foreign = elim t.told [ inl q ↦ nobodys_foreign a.pending a.server.by_stream q.0 | inr q ↦ q.1 ];
   }
-
-pub twentieth : (d : Desk) → Unit {0}
-twentieth d = tt

@@ -1,36 +1,35 @@
 -- A timer fires: a request's time is over, or it backed off long enough; or it is one of a connection, or of others.
-use Rattle.std.proofs.Common.{◌≡◌, ◌≢◌, ℕ, suc, ◌+◌, ◌<◌, ◌≤◌, ◌⊎◌, inl, inr, Bool, true, false, ◌==◌, List, [], ◌∷◌, ◌++◌, Option, Some, None, refl, sym, ap, ap₂, subst, ◌∙◌, arith, le_refl, le_trans, append-nil}
-use Rattle.std.specs.Prelude.{option_and_then, option_map, if◌then◌else◌, Result, Ok, Err}
+use Rattle.std.proofs.Common.{◌≡◌, ℕ, ◌+◌, ◌≤◌, ◌⊎◌, inl, inr, Bool, true, false, ◌==◌, List, [], ◌∷◌, ◌++◌, Option, Some, None, refl, sym, ap, subst, ◌∙◌, arith, le_refl, append-nil}
+use Rattle.std.specs.Prelude.{option_and_then, option_map, if◌then◌else◌, Err}
 use Rattle.std.proofs.lemmas.Bool.Decides.{nat_tests}
-use Rattle.client_request.specs.Numbered.{puts, frees, entry_at}
+use Rattle.client_request.specs.Numbered.{frees, entry_at}
 use Rattle.client_request.specs.Request.{Request}
-use Rattle.client_request.specs.Requests.{for_one, for_several}
+use Rattle.client_request.specs.Requests.{for_one}
 use Rattle.client_request.specs.Timers.{cancelled}
 use Rattle.client_request.specs.View.{View, due_timer, answers}
 use Rattle.client_request.specs.declared.board.Posted.{Posted}
 use Rattle.client_request.specs.declared.error.Error.TheVariants as errors
-use Rattle.client_request.specs.declared.event.Out.{Out}
 use Rattle.client_request.specs.declared.event.Out.TheVariants.{Close}
 use Rattle.client_stream.specs.declared.stage.Stage.{Stage as LineStage}
 use Rattle.client_stream.specs.declared.stage.Stage.TheVariants as stage
-use Rattle.client_stream.specs.Plain.{has_ended, ended, ends_with, fires as line_fires, plain_step, octets_left}
+use Rattle.client_stream.specs.Plain.{has_ended, ends_with, fires as line_fires, octets_left}
 use Rattle.client_multi.specs.Links.{Link, one_stream}
-use Rattle.client_multi.specs.MultiStream.{due, due_at, at_ticket, with_job, fires, times_out, leaves, hands, hears_at, calls_at, calls, returns, taken, lent, taken_back, with_connection}
+use Rattle.client_multi.specs.MultiStream.{due, due_at, with_job, fires, times_out, leaves, hands, hears_at, calls, returns, taken, lent, taken_back, with_connection}
 use Rattle.client_multi.specs.declared.multi_stream.job.Job.{Job}
 use Rattle.client_multi.specs.declared.multi_stream.job.Stage.{Stage}
 use Rattle.client_multi.specs.declared.multi_stream.job.Stage.TheVariants.{Waiting, Resting, Held}
 use Rattle.headline.specs.Messages.{Octets}
 use Rattle.headline.specs.Time.{stream_timeout}
-use Rattle.headline.specs.machine.Part.{Act, Post}
+use Rattle.headline.specs.machine.Part.{Act}
 use Rattle.headline.specs.machine.Streams as multi
 use Rattle.headline.specs.machine.Streams.{Phase, Free, BackingOff, Asker, Conn, Multi, Nothing, Puts, Gives as GivesIt, GoesOn as GoesOnNow, TimesOut, moved, move, drop, end_at, with_at}
 use Rattle.client_ties.specs.Chains.{still, then_act}
 use Rattle.client_ties.specs.Connections.{timer_of, dues, HasFired, IsOthers, EndsByTimer}
-use Rattle.client_ties.specs.Lines.{SingleLine, IsLineAt}
+use Rattle.client_ties.specs.Lines.{SingleLine}
 use Rattle.client_ties.specs.Octets.{IsLinkAt}
 use Rattle.client_ties.specs.PartTie.{Leads}
 use Rattle.client_ties.specs.Reading.{Keeps}
-use Rattle.client_ties.specs.Runs.{Runs, Runs_on, Rests, made_by}
+use Rattle.client_ties.specs.Runs.{Runs_on, Rests, made_by}
 use Rattle.client_ties.specs.Seats.{IsAway}
 use Rattle.client_ties.specs.Sights.{sight, IsFair}
 use Rattle.client_ties.proofs.Calling.{is_open}
@@ -40,7 +39,7 @@ use Rattle.client_ties.proofs.Retiming.{timed_same}
 use Rattle.client_ties.proofs.Running.{runs_one}
 use Rattle.client_ties.proofs.Tables.{at_frees, sorted_frees, present_below}
 use Rattle.client_ties.proofs.Timers.{fires_so as line_fires_so}
-use Rattle.multi_ties.specs.Servers.{Desk, Server, desk_of, numbers, names_at, UnderWay, nothing_under_way, IsListed, IsLoose, IsThere, under, StageFits, AtWaiting, AtResting, AtHeld, HasFailed, IsToHand, JobFits, LinkFits, IsNone, IsSome, AreTables, IsServer, AreOrderly, NoneHeard, Owns, Stands}
+use Rattle.multi_ties.specs.Servers.{Desk, Server, desk_of, numbers, names_at, UnderWay, nothing_under_way, IsThere, under, StageFits, AtWaiting, AtResting, AtHeld, HasFailed, IsToHand, JobFits, AreTables, NoneHeard, Owns, Stands}
 use Rattle.multi_ties.proofs.Calling.{call_so}
 use Rattle.multi_ties.proofs.Changing.{Change, kept_link, changed}
 use Rattle.multi_ties.proofs.Desks.{desk_with, away_so, line_stays, names_apart}
@@ -427,6 +426,3 @@ module _ (server : ℕ) (frames : ℕ → List Octets) (s : Server) (m : Multi) 
       by : (o : Option ℕ) → entry_at i s.timers ≡ o → Leads (λ t w. (g : P t w) × (g.made.state ≡ m)) (due_at (one_stream for_one) server i s v o)
       by None e = by_watch e (entry_at i s.watches) refl
       by (Some t) e = absurd (free (inl (t, e)))
-
-pub fifteenth : (d : Desk) → Unit {0}
-fifteenth d = tt

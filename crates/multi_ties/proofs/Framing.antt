@@ -1,34 +1,30 @@
 -- A frame comes to a connection: what it leaves of the whole.
-use Rattle.std.proofs.Common.{◌≡◌, ◌≢◌, ℕ, suc, ◌+◌, ◌<◌, ◌≤◌, ◌⊎◌, inl, inr, Bool, true, false, List, [], ◌∷◌, ◌++◌, Option, Some, None, refl, sym, ap, ap₂, subst, ◌∙◌, arith, le_refl, le_trans, append-nil, append_assoc}
+use Rattle.std.proofs.Common.{◌≡◌, ◌≢◌, ℕ, ◌+◌, ◌≤◌, ◌⊎◌, inl, inr, Bool, true, false, List, [], ◌∷◌, ◌++◌, Option, Some, None, refl, sym, ap, subst, ◌∙◌, arith, le_refl, append-nil, append_assoc}
 use Rattle.std.specs.Prelude.{if◌then◌else◌, option_and_then, option_map, Result, Ok, Err}
-use Rattle.client_request.specs.Board.{Part}
-use Rattle.client_request.specs.Numbered.{puts, frees, entry_at}
+use Rattle.client_request.specs.Numbered.{frees, entry_at}
 use Rattle.client_request.specs.Request.{Request}
-use Rattle.client_request.specs.Requests.{for_one, for_several}
-use Rattle.client_request.specs.Timers.{cancelled}
+use Rattle.client_request.specs.Requests.{for_one}
 use Rattle.client_request.specs.View.{View, answers, drops_timer}
 use Rattle.client_request.specs.declared.board.Posted.{Posted}
 use Rattle.client_request.specs.declared.error.Error.{Error}
 use Rattle.client_request.specs.declared.error.Error.TheVariants as errors
-use Rattle.client_request.specs.declared.event.Out.{Out}
 use Rattle.client_request.specs.declared.event.Out.TheVariants.{Close}
 use Rattle.client_stream.specs.Plain.{Asked, has_ended, ended}
 use Rattle.client_stream.specs.declared.stage.Stage.{Stage as LineStage}
 use Rattle.client_stream.specs.declared.stage.Stage.TheVariants as at
 use Rattle.client_multi.specs.Links.{Link, one_stream}
-use Rattle.client_multi.specs.MultiStream.{returns, taken, taken_back, with_connection, keeps, lent, collects, collects_one, gets_at, gets, gets_part, is_result}
+use Rattle.client_multi.specs.MultiStream.{returns, taken, taken_back, with_connection, keeps, lent, collects, gets_at, gets_part, is_result}
 use Rattle.client_multi.specs.declared.multi_stream.job.Job.{Job}
 use Rattle.client_multi.specs.declared.multi_stream.job.Stage.TheVariants.{Waiting, Resting, Held}
 use Rattle.headline.specs.Messages.{Octets, id_in, answers as is_answer}
 use Rattle.headline.specs.Time.{response_timeout, stream_timeout}
-use Rattle.headline.specs.machine.Part.{Act, Post}
+use Rattle.headline.specs.machine.Part.{Act}
 use Rattle.headline.specs.machine.Served.{place_after, outs_of, posts_of}
 use Rattle.headline.specs.machine.Streams as multi
 use Rattle.headline.specs.machine.Streams.{Phase, Lined, Holding, Idle, Asker, Conn, Multi, Nothing, Puts, Gives as GivesIt, RestsTooLong, TakesFrame, IsBad, IsUnknown, IsLate, IsResult, IsDropped, end_at, every, broken_at, with_at, drop}
-use Rattle.client_ties.specs.Chains.{Gives, still, then_act, part_of}
-use Rattle.client_ties.specs.Connections.{timer_of, dues, IsTimed, HasEnded, Gave, GaveNothing, GaveResult, FrameLeft, StaysOpen, ClosesAsBad, ClosesBehind, HasHeard, IsSettled}
-use Rattle.client_ties.specs.Lines.{SingleLine, Sorted, IsLineAt}
-use Rattle.client_ties.specs.Octets.{IsLinkAt}
+use Rattle.client_ties.specs.Chains.{Gives, still, part_of}
+use Rattle.client_ties.specs.Connections.{timer_of, dues, IsTimed, HasEnded, Gave, GaveNothing, GaveResult, FrameLeft, StaysOpen, ClosesAsBad, ClosesBehind, HasHeard}
+use Rattle.client_ties.specs.Lines.{IsLineAt}
 use Rattle.client_ties.specs.PartTie.{Leads, GoesOn}
 use Rattle.client_ties.specs.Reading.{Keeps}
 use Rattle.client_ties.specs.Runs.{Runs, Rests, Runs_on}
@@ -37,17 +33,15 @@ use Rattle.client_ties.specs.Sights.{sight, IsFair}
 use Rattle.client_ties.proofs.Calling.{is_open}
 use Rattle.client_ties.proofs.GoingOn.{goes_then, goes_without, fair_without, dues_without, none_next}
 use Rattle.client_ties.proofs.Keys.{with_here, with_there, was_there, each_number}
-use Rattle.client_ties.proofs.Retiming.{timed_by}
 use Rattle.client_ties.proofs.Running.{runs_one}
 use Rattle.client_ties.proofs.Tables.{at_frees, sorted_frees}
-use Rattle.multi_ties.specs.Servers.{Desk, Server, desk_of, numbers, names_at, UnderWay, nothing_under_way, IsListed, IsThere, under, JobFits, LinkFits, AreTables, IsServer, AreOrderly, NoneHeard, Owns, Stands}
+use Rattle.multi_ties.specs.Servers.{Desk, Server, desk_of, numbers, names_at, nothing_under_way, IsThere, under, JobFits, LinkFits, AreTables, AreOrderly, NoneHeard, Owns, Stands}
 use Rattle.multi_ties.proofs.Calling.{CallLeft, call_so}
 use Rattle.multi_ties.proofs.Changing.{Change, kept_link, changed, name_stays, apart_now}
-use Rattle.multi_ties.proofs.Desks.{away_none, away_so, one_place, line_stays, names_apart, name_of, name_is, not_both}
+use Rattle.multi_ties.proofs.Desks.{away_none, away_so, one_place, line_stays, names_apart, name_of, not_both}
 use Rattle.multi_ties.proofs.Going.{Went, leads_as}
 use Rattle.multi_ties.proofs.Hands.{same_job}
 use Rattle.multi_ties.proofs.Retimed.{server_retimed, order_up}
-use Rattle.multi_ties.proofs.Returning.{returns_so}
 use Rattle.multi_ties.proofs.Serving.{gives_none}
 use Rattle.multi_ties.proofs.Stepping.{AtWork, ended_call, broken_gone, none_left, quiet_end}
 
@@ -488,6 +482,3 @@ module _ (server p : ℕ) (l : Link Request) (x : Conn) (s : Server) (m : Multi)
       by (StaysOpen act next y takes gave outs line settled hd got conns opening calm) = by_open act next y takes line settled got outs conns opening calm gave
       by (ClosesAsBad takes e is) = bad_so takes e is
       by (ClosesBehind act next y takes gave outs conn mode idle nl nh st conns opening calm) = by_closed act next y takes outs conn mode idle nl nh st conns opening calm gave
-
-pub nineteenth : (d : Desk) → Unit {0}
-nineteenth d = tt

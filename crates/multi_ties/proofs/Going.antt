@@ -1,26 +1,22 @@
 -- What a call within reconnection leaves: no result is given in it.
-use Rattle.std.proofs.Common.{◌≡◌, ℕ, suc, ◌+◌, ◌<◌, ◌≤◌, ◌⊎◌, inl, inr, false, List, [], ◌∷◌, ◌++◌, Option, Some, None, refl, sym, ap, subst, ◌∙◌, arith, le_refl, le_trans, append-nil, append_assoc}
+use Rattle.std.proofs.Common.{◌≡◌, ℕ, suc, ◌<◌, ◌≤◌, ◌⊎◌, inl, inr, List, [], ◌∷◌, ◌++◌, Option, Some, None, refl, sym, ap, subst, ◌∙◌, arith, le_trans, append-nil, append_assoc}
 use Rattle.std.specs.Prelude.{option_and_then}
 use Rattle.client_request.specs.Numbered.{frees, entry_at}
 use Rattle.client_request.specs.Request.{Request}
 use Rattle.client_request.specs.View.{View}
-use Rattle.client_request.specs.declared.board.Posted.{Posted}
 use Rattle.client_request.specs.declared.event.Out.{Out}
-use Rattle.client_multi.specs.Links.{Link}
 use Rattle.client_multi.specs.MultiStream.{at_ticket, each, with_job}
 use Rattle.client_multi.specs.declared.multi_stream.job.Job.{Job}
-use Rattle.client_multi.specs.declared.multi_stream.job.Stage.{Stage}
 use Rattle.client_multi.specs.declared.multi_stream.job.Stage.TheVariants.{Waiting}
 use Rattle.headline.specs.Messages.{Octets}
 use Rattle.headline.specs.machine.Part.{Act, Post}
-use Rattle.headline.specs.machine.Streams.{Phase, Free, Broken, Asker, Conn, Multi, with_at}
+use Rattle.headline.specs.machine.Streams.{Phase, Multi}
 use Rattle.client_ties.specs.Chains.{still, then_act}
 use Rattle.client_ties.specs.Connections.{dues}
 use Rattle.client_ties.specs.PartTie.{Leads, GoesOn}
 use Rattle.client_ties.specs.Runs.{Runs, Rests}
 use Rattle.client_ties.specs.Sights.{sight, IsFair}
 use Rattle.client_ties.proofs.GoingOn.{goes_nowhere, goes_then, none_next}
-use Rattle.client_ties.proofs.Keys.{with_here}
 use Rattle.client_ties.proofs.Running.{runs_then}
 use Rattle.client_ties.proofs.Tables.{sorted_frees, present_below}
 use Rattle.multi_ties.specs.Servers.{Desk, Server, desk_of, numbers, UnderWay, nothing_under_way, IsListed, IsServer, AreOrderly, NoneHeard, Owns, Stands}
@@ -134,6 +130,3 @@ module _ (server : ℕ) (frames : ℕ → List Octets) where
       (subst (λ d. Leads (Went server frames (record { todo = all_as to ts; failed = [] }) d m v) (f t o.0 (less t s) v)) (sym (is ∙ ap (λ job. desk_with t job (less t s)) same))
       (goes t o.0 ts (less t s) m v hand (present_below t 0 v.ticket o.0 s.jobs st.order.jobs o.2) (not_twice t hi ts r.2) quiet)))
       (λ r1 u a. leads_as (Went server frames nothing_under_way (desk_of r1) a.made.state u) (Went server frames nothing_under_way (desk_of s) m v) (each f ts r1 u) (each_goes to f goes ts (suc t) hi r.2 r1 a.made.state u a.stands (a.quiet quiet)) (λ r2 u2 b. went_then (record { todo = all_as to ts; failed = [] }) nothing_under_way (desk_of s) m v r1 u r2 u2 st.fair a b))
-
-pub fourth : (d : Desk) → Unit {0}
-fourth d = tt

@@ -1,25 +1,23 @@
 -- A request in hand: it is in no table but that of jobs, and is to be handed on or to back off.
-use Rattle.std.proofs.Common.{◌≡◌, ℕ, suc, ◌+◌, ◌<◌, ◌≤◌, ◌⊎◌, inl, inr, List, [], ◌∷◌, Option, Some, None, refl, sym, ap, subst, ◌∙◌, arith, le_refl, le_trans}
+use Rattle.std.proofs.Common.{◌≡◌, ℕ, ◌≤◌, ◌⊎◌, inl, inr, List, ◌∷◌, Option, Some, None, refl, sym, ap, subst, ◌∙◌, arith}
 use Rattle.std.specs.Prelude.{option_map}
-use Rattle.client_request.specs.Numbered.{puts, frees, entry_at}
+use Rattle.client_request.specs.Numbered.{puts, entry_at}
 use Rattle.client_request.specs.Request.{Request}
 use Rattle.client_request.specs.View.{View}
 use Rattle.client_multi.specs.Links.{Link}
 use Rattle.client_multi.specs.declared.multi_stream.job.Job.{Job}
-use Rattle.client_multi.specs.declared.multi_stream.job.Stage.{Stage}
 use Rattle.client_multi.specs.declared.multi_stream.job.Stage.TheVariants.{Waiting, Resting, Held}
 use Rattle.client_stream.specs.declared.stage.Stage.{Stage as LineStage}
 use Rattle.headline.specs.Messages.{Octets}
-use Rattle.headline.specs.machine.Streams.{Phase, Free, Expecting, Broken, Mode, Asker, Conn, Multi, with_at}
+use Rattle.headline.specs.machine.Streams.{Phase, Free, Expecting, Broken, Mode, Asker, Multi, with_at}
 use Rattle.client_ties.specs.Connections.{timer_of, dues}
 use Rattle.client_ties.specs.Lines.{StageFits as LineStageFits, IsNew, IsActive, IsIdle}
-use Rattle.client_ties.specs.Octets.{IsLinkAt}
 use Rattle.client_ties.specs.Seats.{IsAway}
 use Rattle.client_ties.specs.Sights.{IsFair}
 use Rattle.client_ties.proofs.GoingOn.{none_next}
 use Rattle.client_ties.proofs.Keys.{with_here, with_there, each_number}
 use Rattle.client_ties.proofs.Tables.{at_puts}
-use Rattle.multi_ties.specs.Servers.{Desk, Server, desk_of, numbers, UnderWay, IsListed, IsLoose, IsThere, under, JobFits, LinkFits, IsNone, IsSome, IsServer, Stands}
+use Rattle.multi_ties.specs.Servers.{Desk, Server, numbers, UnderWay, IsListed, IsLoose, IsThere, under, JobFits, LinkFits, IsNone, IsSome, Stands}
 use Rattle.multi_ties.proofs.Desks.{desk_with, away_so}
 use Rattle.multi_ties.proofs.Going.{waits_now}
 
@@ -118,6 +116,3 @@ module _ (frames : ℕ → List Octets) (t : ℕ) (job : Job Request) (ph : Phas
     own = λ u other is same. st.server.tables.apart t u (waits_now job) other here is (sym same);
     number = λ other is. ap (λ (j : Job Request). j.number) (same_job (d.jobs t) other (waits_now job) is here);
   }
-
-pub fifth : (d : Desk) → Unit {0}
-fifth d = tt

@@ -1,52 +1,41 @@
 -- An event is told to reconnection, or a frame is taken, beside moves of the part.
-use Rattle.std.proofs.Common.{◌≡◌, ◌≢◌, ℕ, zero, suc, ◌+◌, ◌<◌, ◌≤◌, ◌⊎◌, inl, inr, Bool, true, false, ◌==◌, List, [], ◌∷◌, ◌++◌, length, Option, Some, None, refl, sym, ap, ap₂, subst, subst₂, ◌∙◌, arith, le_refl, le_trans, append-nil, append_assoc}
-use Rattle.std.specs.Prelude.{if◌then◌else◌, option_and_then, nat_lt}
+use Rattle.std.proofs.Common.{◌≡◌, ◌≢◌, ℕ, suc, ◌+◌, ◌<◌, ◌≤◌, ◌⊎◌, inl, inr, Bool, true, false, ◌==◌, List, [], ◌∷◌, ◌++◌, length, Some, None, refl, sym, ap, ap₂, subst, subst₂, ◌∙◌, arith, le_refl, append-nil, append_assoc}
+use Rattle.std.specs.Prelude.{if◌then◌else◌, nat_lt}
 use Rattle.std.proofs.lemmas.Bool.Decides.{nat_tests}
-use Rattle.client_request.specs.Numbered.{entry_at}
 use Rattle.client_request.specs.Request.{Request}
-use Rattle.client_request.specs.Requests.{for_one, for_several}
-use Rattle.client_request.specs.View.{View, told, more_at}
+use Rattle.client_request.specs.Requests.{for_one}
+use Rattle.client_request.specs.View.{View, told}
 use Rattle.client_request.specs.declared.board.Posted.{Posted}
 use Rattle.client_request.specs.declared.event.Out.{Out}
 use Rattle.client_request.specs.declared.event.What.{What}
 use Rattle.client_request.specs.declared.event.What.TheVariants.{Ask, Opened, OpenFailed, SendFailed, ShortSend, Datagram, RecvFailed, Wrote, WriteFailed, Bytes, ReadFailed, Ended, Tick}
-use Rattle.client_stream.specs.Plain.{has_ended, plain_step}
+use Rattle.client_stream.specs.Plain.{has_ended}
 use Rattle.client_stream.specs.Settings.{Settings as StreamSettings}
 use Rattle.client_multi.specs.Links.{Link, one_stream}
-use Rattle.client_multi.specs.MultiStream.{with_tables, tells, hears_at, calls, returns, taken, lent}
+use Rattle.client_multi.specs.MultiStream.{tells, returns, taken, lent}
 use Rattle.client_multi.specs.Settings.{Settings, default_settings}
-use Rattle.headline.specs.Frames.{fed}
 use Rattle.headline.specs.Messages.{Octets}
 use Rattle.headline.specs.Time.{response_timeout, stream_timeout}
 use Rattle.headline.specs.Trace.{Conf}
-use Rattle.headline.specs.machine.Dgrams.{Dgrams, Tryer, no_datagram}
-use Rattle.headline.specs.machine.Dgrams as dgrams
+use Rattle.headline.specs.machine.Dgrams.{no_datagram}
 use Rattle.headline.specs.machine.Part.{Act, Post}
-use Rattle.headline.specs.machine.Served.{Served, IsInTime, TellsStreams, Reads, TakesOne, served, has_taken_it, reads_at, frames_left, does, place_after, outs_of, posts_of}
-use Rattle.headline.specs.machine.Server as server
+use Rattle.headline.specs.machine.Served.{Served, IsInTime, TellsStreams, TakesOne, served, has_taken_it, frames_left, does, place_after, outs_of, posts_of}
 use Rattle.headline.specs.machine.Streams as multi
 use Rattle.headline.specs.machine.Streams.{Asker, Conn, Multi, Nothing, Takes, TakesFrame, IsDropped, IsForeign, set_conn, fed_by}
 use Rattle.client_ties.specs.Chains.{Chain, Stays, Goes, Gives, still, then_act}
-use Rattle.client_ties.specs.Connections.{timer_of, dues, HasHeard}
-use Rattle.client_ties.specs.Lines.{IsLineAt}
-use Rattle.client_ties.specs.Octets.{IsLinkAt, HasRead, ReadsNone, ReadsOne, says}
-use Rattle.client_ties.specs.PartTie.{Phase, Untold, Told, IsNobodys, Leads, Leaves, Tells, MayLeave, GoesOn}
+use Rattle.client_ties.specs.Connections.{dues, HasHeard}
+use Rattle.client_ties.specs.Octets.{IsLinkAt, HasRead, ReadsOne, says}
+use Rattle.client_ties.specs.PartTie.{Told, IsNobodys, Leads, Tells, MayLeave, GoesOn}
 use Rattle.client_ties.specs.Reading.{Keeps}
-use Rattle.client_ties.specs.Runs.{Rests}
 use Rattle.client_ties.specs.Sights.{sight, IsFair, IsEarly}
-use Rattle.client_ties.proofs.FrameReads.{kept_is_read}
-use Rattle.client_ties.proofs.GoingOn.{goes_nowhere, nothing_done}
-use Rattle.client_ties.proofs.Keys.{with_here, with_there}
-use Rattle.client_ties.proofs.Linking.{links_read}
-use Rattle.client_ties.proofs.Retiming.{timed_same}
-use Rattle.multi_ties.specs.Servers.{Desk, Server, desk_of, numbers, names_at, nothing_under_way, LinkFits, IsNone, IsSome, AreTables, IsServer, AreOrderly, NoneHeard, Owns, Stands}
-use Rattle.multi_ties.specs.Tied.{Streams, by_streams, IsStream, IsUntold, IsTold, AreEarly, TiedAs, frames_at, names_of, owns}
+use Rattle.client_ties.proofs.GoingOn.{nothing_done}
+use Rattle.multi_ties.specs.Servers.{Desk, Server, desk_of, numbers, names_at, nothing_under_way, LinkFits, IsNone, IsSome, AreTables, IsServer, Owns, Stands}
+use Rattle.multi_ties.specs.Tied.{Streams, by_streams, IsStream, IsUntold, AreEarly, TiedAs, frames_at, names_of, owns}
 use Rattle.multi_ties.proofs.Fields.{ignored, nobodys_foreign, frames_none, no_tryer}
 use Rattle.multi_ties.proofs.Framing.{FrameDone, frame_done}
 use Rattle.multi_ties.proofs.Going.{Went, leads_as}
-use Rattle.multi_ties.proofs.Holding.{link_at}
 use Rattle.multi_ties.proofs.Serving.{stream_moved, lift, runs_chain, chain_then, gives_none, leads_whole}
-use Rattle.multi_ties.proofs.Stepping.{AtWork, kept_call, work_on}
+use Rattle.multi_ties.proofs.Stepping.{AtWork}
 use Rattle.multi_ties.proofs.Telling.{ToldOf, Passes, Takes_it, said, told_so}
 use Rattle.multi_ties.proofs.Tying.{stands_of, still_early}
 
@@ -314,6 +303,3 @@ module _ (c : Conf) (s : ℕ) where
           (subst (λ (set : Settings). Leads (ToldOf s no_frames w u.tables um v) (tells (one_stream for_one) s set w u.tables v)) (sym t.stream.settings)
           (told_so s no_frames u.tables um v stands0 t.quiet (λ q. frames_none s a.place q) w other)))
           told_leaves
-
-pub twenty_second : (d : Desk) → Unit {0}
-twenty_second d = tt

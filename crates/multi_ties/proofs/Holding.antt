@@ -1,41 +1,37 @@
 -- A request is handed on: to a connection with room, or to the place that opens, or it backs off.
-use Rattle.std.proofs.Common.{◌≡◌, ℕ, suc, ◌+◌, ◌<◌, ◌≤◌, ◌⊎◌, inl, inr, Bool, true, false, List, [], ◌∷◌, ◌++◌, Option, Some, None, refl, sym, ap, ap₂, subst, ◌∙◌, arith, le_refl, le_trans, append-nil}
-use Rattle.std.specs.Prelude.{option_and_then, option_map}
+use Rattle.std.proofs.Common.{◌≡◌, ℕ, ◌+◌, ◌<◌, ◌≤◌, inl, inr, false, List, [], ◌∷◌, Option, Some, None, refl, sym, ap, ap₂, subst, ◌∙◌, arith, le_refl}
+use Rattle.std.specs.Prelude.{option_and_then}
 use mathlib.Core.Path.{fun_ext}
 use Rattle.client_request.specs.Numbered.{puts, entry_at}
 use Rattle.client_request.specs.Request.{Request}
 use Rattle.client_request.specs.Requests.{for_one, for_several}
 use Rattle.client_request.specs.View.{View}
-use Rattle.client_request.specs.declared.board.Posted.{Posted}
-use Rattle.client_stream.specs.Plain.{asked, has_ended, takes_on}
-use Rattle.client_stream.specs.Settings.{Settings as StreamSettings}
+use Rattle.client_stream.specs.Plain.{asked, takes_on}
 use Rattle.client_stream.specs.declared.request.AnyRequest.TheVariants.{Single}
 use Rattle.client_multi.specs.Links.{Link, one_stream}
-use Rattle.client_multi.specs.MultiStream.{hands, hands_at, holds, goes_on, with_room, without_found, taken, returns, lent, taken_back}
+use Rattle.client_multi.specs.MultiStream.{hands, hands_at, holds, with_room, without_found, taken, returns, lent}
 use Rattle.client_multi.specs.declared.multi_stream.job.Job.{Job}
 use Rattle.client_multi.specs.declared.multi_stream.job.Stage.TheVariants.{Held}
 use Rattle.headline.specs.Messages.{Octets}
-use Rattle.headline.specs.machine.Part.{Act}
-use Rattle.headline.specs.machine.Streams as multi
 use Rattle.headline.specs.machine.Streams.{Phase, Free, Lined, Asker, Conn, Multi, Nothing, Joins, IsFull, moved, move, with_at}
-use Rattle.client_ties.specs.Chains.{still, then_act}
-use Rattle.client_ties.specs.Connections.{timer_of, dues, HasPumped, lined_up}
+use Rattle.client_ties.specs.Chains.{then_act}
+use Rattle.client_ties.specs.Connections.{dues, HasPumped, lined_up}
 use Rattle.client_ties.specs.Lines.{SingleLine, IsLineAt}
 use Rattle.client_ties.specs.Octets.{IsLinkAt}
 use Rattle.client_ties.specs.PartTie.{Leads}
 use Rattle.client_ties.specs.Reading.{Keeps}
-use Rattle.client_ties.specs.Runs.{Runs, Runs_on, made_by, AreFailing}
+use Rattle.client_ties.specs.Runs.{Runs_on, made_by, AreFailing}
 use Rattle.client_ties.specs.Sights.{sight, IsFair}
 use Rattle.client_ties.proofs.Calling.{is_open, line_lined, queues_so}
 use Rattle.client_ties.proofs.Keys.{with_here, with_there, is_or_was, each_number}
 use Rattle.client_ties.proofs.Tables.{at_puts, sorted_puts, rises_below, absent_above}
-use Rattle.multi_ties.specs.Servers.{Desk, Server, desk_of, numbers, names_at, UnderWay, IsListed, IsLoose, IsThere, under, AtHeld, JobFits, LinkFits, IsNone, IsSome, IsBroken, AreTables, IsServer, AreOrderly, NoneHeard, Owns, Stands}
+use Rattle.multi_ties.specs.Servers.{Desk, Server, desk_of, numbers, names_at, UnderWay, IsLoose, under, AtHeld, JobFits, LinkFits, IsNone, IsSome, AreTables, AreOrderly, NoneHeard, Stands}
 use Rattle.multi_ties.proofs.Calling.{CallLeft}
 use Rattle.multi_ties.proofs.Changing.{Change, kept_link, changed}
 use Rattle.multi_ties.proofs.Desks.{desk_with, away_so, name_of, name_is}
 use Rattle.multi_ties.proofs.Expecting.{goes_on_so}
 use Rattle.multi_ties.proofs.Going.{Went, waits_now, leads_as}
-use Rattle.multi_ties.proofs.Hands.{InHand, hand_of, puts_beside, puts_here, puts_there, numbers_stay, link_due, same_job, same_link}
+use Rattle.multi_ties.proofs.Hands.{InHand, hand_of, puts_beside, puts_here, puts_there, numbers_stay, same_job, same_link}
 use Rattle.multi_ties.proofs.Returning.{returns_so}
 use Rattle.multi_ties.proofs.Rooms.{room_found, room_full, full_line}
 use Rattle.multi_ties.proofs.Seated.{is_at, there_at}
@@ -283,6 +279,3 @@ module _ (server : ℕ) (frames : ℕ → List Octets) (t : ℕ) (job : Job Requ
       by : (o : Option (ℕ × Link Request)) → with_room (one_stream for_one) s.connections ≡ o → Leads (Went server frames z d m v) (hands_at (one_stream for_one) server t job (without_found (one_stream for_one) o s) v o)
       by None e = goes_on_so server frames t job todo [] s m v st below once (full e)
       by (Some q) e = holds_so q.0 q.1 (room_found s.connections q e)
-
-pub eleventh : (d : Desk) → Unit {0}
-eleventh d = tt

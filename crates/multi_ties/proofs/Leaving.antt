@@ -1,23 +1,21 @@
 -- A request is given up where it is: it is no more, and its timers are not set.
-use Rattle.std.proofs.Common.{◌≡◌, ◌≢◌, ℕ, suc, ◌+◌, ◌<◌, ◌≤◌, ◌⊎◌, inl, inr, Bool, true, false, List, [], ◌∷◌, ◌++◌, Option, Some, None, refl, sym, ap, ap₂, subst, ◌∙◌, arith, le_refl, le_trans, append-nil}
-use Rattle.std.specs.Prelude.{option_and_then, option_map, is_some, if◌then◌else◌}
-use mathlib.Core.Path.{fun_ext}
-use Rattle.client_request.specs.Numbered.{puts, frees, entry_at}
+use Rattle.std.proofs.Common.{◌≡◌, ◌≢◌, ℕ, ◌⊎◌, inl, inr, Bool, true, false, List, [], Option, Some, None, refl, sym, ap, subst, ◌∙◌, le_refl, append-nil}
+use Rattle.std.specs.Prelude.{option_map, is_some, if◌then◌else◌}
+use Rattle.client_request.specs.Numbered.{frees, entry_at}
 use Rattle.client_request.specs.Request.{Request}
 use Rattle.client_request.specs.Requests.{for_one}
 use Rattle.client_request.specs.Timers.{cancelled}
-use Rattle.client_request.specs.View.{View, drops_timer}
-use Rattle.client_request.specs.declared.board.Posted.{Posted}
-use Rattle.client_stream.specs.Plain.{Asked, has_ended, gives_up, gives_up_id}
+use Rattle.client_request.specs.View.{View}
+use Rattle.client_stream.specs.Plain.{Asked, gives_up, gives_up_id}
 use Rattle.client_stream.specs.declared.request.Waiting.{Waiting as Queued}
 use Rattle.client_multi.specs.Links.{Link, one_stream}
-use Rattle.client_multi.specs.MultiStream.{leaves, gives_up_at, calls_at, calls, returns, taken, with_connection, taken_back, lent, collects}
+use Rattle.client_multi.specs.MultiStream.{leaves, calls_at, calls, taken, with_connection, taken_back, lent}
 use Rattle.client_multi.specs.declared.multi_stream.job.Job.{Job}
 use Rattle.client_multi.specs.declared.multi_stream.job.Stage.{Stage}
 use Rattle.client_multi.specs.declared.multi_stream.job.Stage.TheVariants.{Waiting, Resting, Held}
 use Rattle.headline.specs.Messages.{Octets}
 use Rattle.headline.specs.machine.Part.{Act}
-use Rattle.headline.specs.machine.Streams.{Phase, Free, Expecting, Broken, BackingOff, Asker, Conn, Multi, drop, with_at, moved}
+use Rattle.headline.specs.machine.Streams.{Phase, Expecting, BackingOff, Conn, Multi, drop, with_at}
 use Rattle.client_ties.specs.Chains.{still}
 use Rattle.client_ties.specs.Connections.{timer_of, dues, IsTimed, IsAt, IsSettled}
 use Rattle.client_ties.specs.Lines.{SingleLine, Sorted, IsLineAt}
@@ -27,16 +25,16 @@ use Rattle.client_ties.specs.Runs.{Rests}
 use Rattle.client_ties.specs.Seats.{IsAway}
 use Rattle.client_ties.specs.Sights.{sight, IsFair}
 use Rattle.client_ties.proofs.Calling.{is_open, gives_up_so}
-use Rattle.client_ties.proofs.GoingOn.{goes_nowhere, goes_then, goes_without, fair_without, dues_without, none_next}
+use Rattle.client_ties.proofs.GoingOn.{goes_nowhere, goes_without, fair_without, dues_without, none_next}
 use Rattle.client_ties.proofs.Keys.{with_here, with_there, was_there, each_number}
 use Rattle.client_ties.proofs.Retiming.{timed_same}
 use Rattle.client_ties.proofs.Tables.{at_frees, sorted_frees}
-use Rattle.multi_ties.specs.Servers.{Desk, Server, desk_of, numbers, names_at, UnderWay, nothing_under_way, IsListed, IsLoose, IsThere, under, StageFits, AtWaiting, AtResting, AtHeld, HasFailed, IsToHand, JobFits, LinkFits, IsNone, IsSome, AreTables, IsServer, AreOrderly, NoneHeard, Owns, Stands}
+use Rattle.multi_ties.specs.Servers.{Desk, Server, desk_of, numbers, names_at, nothing_under_way, IsListed, IsThere, under, StageFits, AtWaiting, AtResting, AtHeld, HasFailed, IsToHand, JobFits, LinkFits, IsNone, IsSome, AreTables, AreOrderly, Owns, Stands}
 use Rattle.multi_ties.proofs.Calling.{CallLeft, call_so, owned_set}
 use Rattle.multi_ties.proofs.Changing.{Change, kept_link, changed, name_stays, apart_now}
 use Rattle.multi_ties.proofs.Desks.{away_none, away_so, one_place, not_both, line_stays, name_is}
 use Rattle.multi_ties.proofs.Going.{Went}
-use Rattle.multi_ties.proofs.Hands.{link_due, same_job, same_asker}
+use Rattle.multi_ties.proofs.Hands.{same_job}
 use Rattle.multi_ties.proofs.Holding.{link_at}
 use Rattle.multi_ties.proofs.Seated.{is_at}
 use Rattle.multi_ties.proofs.Waitings.{without, listed_without, without_listed, rises_without}
@@ -413,6 +411,3 @@ module _ (server : ℕ) (frames : ℕ → List Octets) (s : Server) (m : Multi) 
       by at phase e f (AtHeld p i a b own) = subst (λ at. Leads (Dropped t k frames d m v) (leaves (one_stream for_one) t at after v)) (sym a) (at_held p i (e ∙ a) (subst (IsThere p) (sym f) b) own (st.server.links p))
       by at phase e f (HasFailed p i a b own h) = absurd h
       by at phase e f (IsToHand l w h) = absurd l
-
-pub twelfth : (d : Desk) → Unit {0}
-twelfth d = tt

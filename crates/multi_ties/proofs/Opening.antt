@@ -1,16 +1,13 @@
 -- A place opens, or does not: those who waited for it are to be handed on, or to back off.
-use Rattle.std.proofs.Common.{◌≡◌, ◌≢◌, ℕ, ◌+◌, ◌<◌, ◌≤◌, ◌⊎◌, inl, inr, List, [], ◌∷◌, map, Option, Some, None, refl, sym, ap, ap₂, subst, ◌∙◌, le_refl}
+use Rattle.std.proofs.Common.{◌≡◌, ℕ, ◌≤◌, ◌⊎◌, inl, inr, List, [], ◌∷◌, map, Option, Some, None, refl, sym, ap, ap₂, subst, ◌∙◌, le_refl}
 use Rattle.client_request.specs.Request.{Request}
-use Rattle.client_multi.specs.Links.{Link}
 use Rattle.client_multi.specs.declared.multi_stream.job.Job.{Job}
 use Rattle.client_multi.specs.declared.multi_stream.job.Stage.{Stage}
-use Rattle.client_multi.specs.declared.multi_stream.job.Stage.TheVariants.{Waiting, Resting, Held}
+use Rattle.client_multi.specs.declared.multi_stream.job.Stage.TheVariants.{Held}
 use Rattle.headline.specs.Messages.{Octets}
-use Rattle.headline.specs.machine.Streams.{Phase, Free, Expecting, Lined, Holding, Broken, BackingOff, Asker, Conn, Multi, moved, every, expected}
-use Rattle.client_ties.specs.Connections.{timer_of, IsPostedTo}
-use Rattle.client_ties.specs.Octets.{IsLinkAt}
+use Rattle.headline.specs.machine.Streams.{Phase, Free, Expecting, Lined, Holding, Broken, BackingOff, Asker, Multi, moved, every, expected}
 use Rattle.client_ties.specs.Seats.{IsAway}
-use Rattle.multi_ties.specs.Servers.{Desk, names_at, UnderWay, nothing_under_way, IsListed, IsLoose, IsThere, under, StageFits, AtWaiting, AtResting, AtHeld, HasFailed, IsToHand, JobFits, LinkFits, IsNone, IsSome, IsBroken, AreTables}
+use Rattle.multi_ties.specs.Servers.{Desk, names_at, UnderWay, nothing_under_way, IsListed, IsLoose, IsThere, under, StageFits, AtWaiting, AtResting, AtHeld, HasFailed, IsToHand, LinkFits, IsNone, IsSome, AreTables}
 use Rattle.multi_ties.proofs.Desks.{StaysThere, away_so, link_stays, names_apart}
 
 -- those who are to be handed on, all in one phase
@@ -129,6 +126,3 @@ module _ (to : Phase) (loose : (to ≡ Free) ⊎ (to ≡ Broken)) where
         by : (k : ℕ) (a : Asker) (o : Option Asker) → m.asks k ≡ o → every (expected to) (m.asks k) ≡ Some a → (u : ℕ) × (job : Job Request) × (e.jobs u ≡ Some job) × (job.number ≡ k)
         by k a None is h = absurd (let z = sym (ap (every (expected to)) is) ∙ h in cc)
         by k a (Some b) is h = (let o = s.asked k b is in (o.0, o.1, new_job o.0 o.1 o.2, o.3))
-
-pub third : (d : Desk) → Unit {0}
-third d = tt

@@ -1,33 +1,28 @@
 -- A place opens, or does not: each who waited for it is handed on, or backs off.
-use Rattle.std.proofs.Common.{◌≡◌, ◌≢◌, ℕ, suc, ◌+◌, ◌<◌, ◌≤◌, ◌⊎◌, inl, inr, Bool, true, false, ◌==◌, List, [], ◌∷◌, ◌++◌, Option, Some, None, refl, sym, ap, ap₂, subst, ◌∙◌, arith, le_refl, le_trans, append-nil}
-use Rattle.std.specs.Prelude.{if◌then◌else◌}
-use Rattle.std.proofs.lemmas.Bool.Decides.{nat_tests}
+use Rattle.std.proofs.Common.{◌≡◌, ℕ, ◌+◌, ◌<◌, ◌≤◌, inl, inr, false, List, [], Some, None, refl, sym, ap, subst, ◌∙◌, arith, le_refl}
 use Rattle.client_request.specs.Numbered.{puts, entry_at}
 use Rattle.client_request.specs.Request.{Request}
 use Rattle.client_request.specs.Requests.{for_one}
 use Rattle.client_request.specs.View.{View, drawn, word}
 use Rattle.client_stream.specs.Plain.{started}
-use Rattle.client_stream.specs.Settings.{Settings as StreamSettings, default_settings as default_stream}
+use Rattle.client_stream.specs.Settings.{default_settings as default_stream}
 use Rattle.client_multi.specs.Links.{Link, one_stream}
-use Rattle.client_multi.specs.MultiStream.{opened, is_open as plain_open, open_fails, refused, each, hands, backs_off, is_number}
+use Rattle.client_multi.specs.MultiStream.{opened, refused, each, hands, backs_off}
 use Rattle.client_multi.specs.Retry.{retry_time}
-use Rattle.client_multi.specs.declared.multi_stream.job.Job.{Job}
 use Rattle.headline.specs.Frames.{Length}
 use Rattle.headline.specs.Messages.{Octets}
 use Rattle.headline.specs.Time.{response_timeout, idle_timeout, back_off}
-use Rattle.headline.specs.machine.Part.{Act}
-use Rattle.headline.specs.machine.Streams.{Phase, Free, Broken, Lined, Holding, Asker, Conn, Multi, new_conn, open_at, not_opened, with_at}
+use Rattle.headline.specs.machine.Streams.{Free, Broken, Asker, Conn, Multi, new_conn, open_at, not_opened}
 use Rattle.client_ties.specs.Connections.{timer_of, dues}
-use Rattle.client_ties.specs.Lines.{IsLineAt, IsNew, IsFree as IsUnwritten}
+use Rattle.client_ties.specs.Lines.{IsNew, IsFree as IsUnwritten}
 use Rattle.client_ties.specs.Octets.{IsLinkAt}
 use Rattle.client_ties.specs.PartTie.{Leads}
 use Rattle.client_ties.specs.Reading.{Keeps}
 use Rattle.client_ties.specs.Seats.{IsAway, IsFree}
-use Rattle.client_ties.specs.Sights.{sight, IsFair}
 use Rattle.client_ties.proofs.Keys.{with_here, with_there, each_number}
 use Rattle.client_ties.proofs.Tables.{sorted_puts}
 use Rattle.client_ties.proofs.Waits.{back_off_is_short}
-use Rattle.multi_ties.specs.Servers.{Desk, Server, desk_of, numbers, names_at, UnderWay, nothing_under_way, IsListed, IsLoose, LinkFits, IsNone, IsSome, AreTables, IsServer, AreOrderly, NoneHeard, Owns, Stands}
+use Rattle.multi_ties.specs.Servers.{Desk, Server, desk_of, names_at, UnderWay, nothing_under_way, LinkFits, IsNone, IsSome, AreTables, NoneHeard, Owns, Stands}
 use Rattle.multi_ties.proofs.Desks.{names_apart}
 use Rattle.multi_ties.proofs.Going.{Went, GoesOnAs, each_goes, leads_as}
 use Rattle.multi_ties.proofs.Hands.{puts_here, puts_there, same_link}
@@ -209,6 +204,3 @@ module _ (server : ℕ) (frames : ℕ → List Octets) where
           named = b.named;
           quiet = b.quiet;
         })
-
-pub sixteenth : (d : Desk) → Unit {0}
-sixteenth d = tt

@@ -1,19 +1,18 @@
 -- One connection changes, with the requests that are there.
-use Rattle.std.proofs.Common.{◌≡◌, ◌≢◌, ℕ, ◌+◌, ◌<◌, ◌≤◌, ◌⊎◌, inl, inr, List, [], ◌∷◌, Option, Some, None, refl, sym, ap, subst, ◌∙◌, ap₂, le_refl, le_trans}
+use Rattle.std.proofs.Common.{◌≡◌, ℕ, ◌≤◌, ◌⊎◌, inl, inr, List, [], Option, Some, None, refl, sym, ap, subst, ◌∙◌, ap₂}
 use Rattle.client_request.specs.Request.{Request}
 use Rattle.client_request.specs.declared.board.Posted.{Posted}
 use Rattle.client_multi.specs.Links.{Link}
 use Rattle.client_multi.specs.declared.multi_stream.job.Job.{Job}
 use Rattle.client_multi.specs.declared.multi_stream.job.Stage.{Stage}
-use Rattle.client_multi.specs.declared.multi_stream.job.Stage.TheVariants.{Waiting, Resting, Held}
+use Rattle.client_multi.specs.declared.multi_stream.job.Stage.TheVariants.{Held}
 use Rattle.headline.specs.Messages.{Octets}
-use Rattle.headline.specs.machine.Streams.{Phase, Free, Expecting, Broken, BackingOff, Asker, Conn, Multi, moved}
+use Rattle.headline.specs.machine.Streams.{Phase, Broken, Asker, Multi, moved}
 use Rattle.client_ties.specs.Connections.{timer_of, IsPostedTo}
 use Rattle.client_ties.specs.Octets.{IsLinkAt}
 use Rattle.client_ties.specs.Seats.{IsAway}
-use Rattle.client_ties.proofs.Keys.{each_number}
 use Rattle.multi_ties.specs.Servers.{Desk, names_at, UnderWay, IsListed, IsLoose, IsThere, under, StageFits, AtWaiting, AtResting, AtHeld, HasFailed, IsToHand, JobFits, LinkFits, IsNone, IsSome, IsBroken, AreTables}
-use Rattle.multi_ties.proofs.Desks.{StaysThere, there_or_away, away_none, away_so, one_place, not_both, link_stays, name_is, names_apart}
+use Rattle.multi_ties.proofs.Desks.{StaysThere, there_or_away, away_none, away_so, one_place, link_stays, name_is, names_apart}
 
 -- What a call of the connection at p changes, which posted something: f and g say when each timer is due, before and after.
 pub record PlaceChange (p : ℕ) (posts : List Posted) (y z : UnderWay) (d e : Desk) (m n : Multi) (f g : ℕ → Option ℕ) : Type 0 where
@@ -168,6 +167,3 @@ module _ (p : ℕ) (posts : List Posted) (y z : UnderWay) (d e : Desk) (m n : Mu
         | inl away ↦ (let o = s.asked k a (sym (c.aside k away) ∙ is) in (o.0, o.1, new_job o.0 o.1 o.2, o.3))
         | inr h ↦ (let o = s.asked k h.0 h.1 in (o.0, o.1, new_job o.0 o.1 o.2, o.3))
       ]
-
-pub second : (d : Desk) → Unit {0}
-second d = tt

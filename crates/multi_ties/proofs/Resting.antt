@@ -1,5 +1,5 @@
 -- A request backs off.
-use Rattle.std.proofs.Common.{◌≡◌, ℕ, suc, ◌+◌, ◌<◌, ◌≤◌, ◌⊎◌, inl, inr, Bool, true, false, List, [], ◌∷◌, Option, Some, None, refl, sym, ap, subst, ◌∙◌, arith, le_refl, le_trans, append-nil}
+use Rattle.std.proofs.Common.{◌≡◌, ℕ, ◌+◌, ◌<◌, ◌≤◌, ◌⊎◌, inl, inr, Bool, true, false, List, ◌∷◌, Some, None, refl, sym, ap, subst, ◌∙◌, arith, le_refl, append-nil}
 use Rattle.std.specs.Prelude.{option_and_then, if◌then◌else◌}
 use Rattle.dns_values.specs.Source.{one_more}
 use Rattle.client_request.specs.Numbered.{puts, entry_at}
@@ -14,9 +14,7 @@ use Rattle.client_multi.specs.declared.multi_stream.job.Job.{Job}
 use Rattle.client_multi.specs.declared.multi_stream.job.Stage.TheVariants.{Resting}
 use Rattle.headline.specs.Messages.{Octets}
 use Rattle.headline.specs.Time.{back_off}
-use Rattle.headline.specs.machine.Part.{Act}
-use Rattle.headline.specs.machine.Streams as multi
-use Rattle.headline.specs.machine.Streams.{Phase, Free, Broken, BackingOff, Asker, Conn, Multi, Nothing, Moves, Meets, BacksOff, moved, move, with_at}
+use Rattle.headline.specs.machine.Streams.{Phase, Free, Broken, BackingOff, Asker, Multi, Nothing, Moves, Meets, BacksOff, moved, move}
 use Rattle.client_ties.specs.Connections.{timer_of, dues, IsPostedTo}
 use Rattle.client_ties.specs.PartTie.{Leads, GoesOn}
 use Rattle.client_ties.specs.Sights.{sight, IsFair}
@@ -25,7 +23,7 @@ use Rattle.client_ties.proofs.Keys.{with_here, with_there, is_or_was}
 use Rattle.client_ties.proofs.Running.{runs_one}
 use Rattle.client_ties.proofs.Tables.{at_puts, sorted_puts, rises_below, absent_above}
 use Rattle.client_ties.proofs.Waits.{back_off_is_short}
-use Rattle.multi_ties.specs.Servers.{Desk, Server, desk_of, numbers, names_at, UnderWay, IsLoose, IsBroken, AtResting, JobFits, LinkFits, IsServer, AreOrderly, Owns, Stands}
+use Rattle.multi_ties.specs.Servers.{Desk, Server, desk_of, names_at, UnderWay, IsLoose, IsBroken, AtResting, JobFits, LinkFits, IsServer, AreOrderly, Stands}
 use Rattle.multi_ties.proofs.Changing.{Change, kept_link, changed}
 use Rattle.multi_ties.proofs.Desks.{desk_with, away_so, name_of, name_is}
 use Rattle.multi_ties.proofs.Going.{Went, waits_now}
@@ -223,6 +221,3 @@ module _ (server : ℕ) (frames : ℕ → List Octets) (t : ℕ) (job : Job Requ
       by : (b : Bool) → Leads (Went server frames z d m v) (option_and_then (λ w. Some (rests t (once_more job) v.timers.next s, w)) (if b then Some w else None))
       by true = went
       by false = tt
-
-pub sixth : (d : Desk) → Unit {0}
-sixth d = tt

@@ -1,16 +1,15 @@
 -- A server looks at no timer but its own.
-use Rattle.std.proofs.Common.{◌≡◌, ℕ, ◌≤◌, inl, inr, List, Option, Some, None, refl, sym, ap, subst, ◌∙◌, le_refl, lt_of_lt_of_le}
+use Rattle.std.proofs.Common.{◌≡◌, ℕ, ◌≤◌, inl, inr, List, Option, Some, refl, ◌∙◌, lt_of_lt_of_le}
 use Rattle.client_request.specs.Request.{Request}
 use Rattle.client_multi.specs.Links.{Link}
 use Rattle.client_multi.specs.declared.multi_stream.job.Job.{Job}
 use Rattle.client_multi.specs.declared.multi_stream.job.Stage.{Stage}
 use Rattle.headline.specs.Messages.{Octets}
-use Rattle.headline.specs.machine.Streams.{Phase, Conn, Multi}
+use Rattle.headline.specs.machine.Streams.{Phase, Multi}
 use Rattle.client_ties.specs.Connections.{timer_of}
-use Rattle.client_ties.specs.Octets.{IsLinkAt}
 use Rattle.client_ties.specs.Sights.{Sight}
 use Rattle.client_ties.proofs.Tables.{rises_below}
-use Rattle.multi_ties.specs.Servers.{Desk, Server, AreOrderly, names_at, UnderWay, StageFits, AtWaiting, AtResting, AtHeld, HasFailed, IsToHand, JobFits, LinkFits, IsNone, IsSome, AreTables, IsServer, Owns}
+use Rattle.multi_ties.specs.Servers.{Desk, Server, AreOrderly, names_at, UnderWay, StageFits, AtWaiting, AtResting, AtHeld, HasFailed, IsToHand, LinkFits, IsNone, IsSome, AreTables, IsServer, Owns}
 use Rattle.multi_ties.proofs.Desks.{link_stays, names_apart}
 
 module _ (y : UnderWay) (d : Desk) (m : Multi) (f g : ℕ → Option ℕ) where

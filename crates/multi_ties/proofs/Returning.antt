@@ -1,6 +1,5 @@
 -- A call of one connection whose posts, if any, are errors: what it leaves once they are collected.
-use Rattle.std.proofs.Common.{◌≡◌, ℕ, ◌+◌, ◌<◌, ◌≤◌, ◌⊎◌, inl, inr, false, List, [], ◌∷◌, ◌++◌, Option, Some, None, refl, sym, ap, subst, ◌∙◌, le_refl, le_trans}
-use Rattle.client_request.specs.Numbered.{entry_at}
+use Rattle.std.proofs.Common.{◌≡◌, ℕ, ◌≤◌, List, [], ◌++◌, Some, None, sym, subst}
 use Rattle.client_request.specs.Request.{Request}
 use Rattle.client_request.specs.Requests.{for_one}
 use Rattle.client_request.specs.View.{View}
@@ -10,12 +9,12 @@ use Rattle.client_multi.specs.Links.{Link, one_stream}
 use Rattle.client_multi.specs.MultiStream.{taken, with_connection, taken_back, returns, collects}
 use Rattle.headline.specs.Messages.{Octets}
 use Rattle.headline.specs.machine.Part.{Act}
-use Rattle.headline.specs.machine.Streams.{Conn, Multi}
+use Rattle.headline.specs.machine.Streams.{Multi}
 use Rattle.client_ties.specs.Connections.{timer_of, dues}
 use Rattle.client_ties.specs.PartTie.{Leads}
 use Rattle.client_ties.specs.Runs.{Runs}
 use Rattle.client_ties.specs.Sights.{sight, IsFair}
-use Rattle.multi_ties.specs.Servers.{Desk, Server, desk_of, names_at, UnderWay, LinkFits, AreTables, AreOrderly, NoneHeard}
+use Rattle.multi_ties.specs.Servers.{Server, desk_of, names_at, UnderWay, LinkFits, AreTables, AreOrderly, NoneHeard}
 use Rattle.multi_ties.proofs.Calling.{CallLeft, call_so}
 use Rattle.multi_ties.proofs.Collecting.{failing_errors, collects_so}
 use Rattle.multi_ties.proofs.Going.{Went, went_then, leads_as}
@@ -42,6 +41,3 @@ module _ (server p : ℕ) (posts : List Posted) (frames fs : ℕ → List Octets
       (leads_as (Went server fs (record { todo = y.todo; failed = [] }) (desk_of r) first_half.made.state (taken_back v w)) (Went server fs (record { todo = y.todo; failed = [] }) (desk_of s) m0 v0) (collects posts r (taken_back v w))
       (collects_so server fs y.todo posts r first_half.made.state (taken_back v w) first_half.stands (failing_errors (names_at (desk_of s)) n.asks posts x.failing))
       (λ r2 u b. went_then server fs (record { todo = y.todo; failed = posts }) (record { todo = y.todo; failed = [] }) (desk_of s) m0 v0 r (taken_back v w) r2 u (record { order = fair.order; words = fair.words }) first_half b))
-
-pub tenth : (d : Desk) → Unit {0}
-tenth d = tt

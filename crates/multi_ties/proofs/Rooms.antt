@@ -1,5 +1,5 @@
 -- The newest connection that has room, or that each is full.
-use Rattle.std.proofs.Common.{◌≡◌, ℕ, suc, ◌+◌, ◌<◌, ◌≤◌, ◌⊎◌, inl, inr, Bool, true, false, cond, ◌==◌, List, [], ◌∷◌, length, Option, Some, None, nat_cmp, is_eq, refl, sym, ap, subst, ◌∙◌, arith, le_refl}
+use Rattle.std.proofs.Common.{◌≡◌, ℕ, ◌<◌, ◌≤◌, ◌⊎◌, inl, inr, Bool, true, false, cond, ◌==◌, List, [], ◌∷◌, length, Option, Some, None, nat_cmp, is_eq, refl, sym, ap, subst, ◌∙◌, arith}
 use Rattle.std.specs.Prelude.{option_map, option_and_then, if◌then◌else◌, is_some}
 use Rattle.std.proofs.lemmas.Bool.Decides.{nat_tests}
 use Rattle.client_request.specs.Numbered.{entry_at}
@@ -10,12 +10,11 @@ use Rattle.client_multi.specs.Links.{Link, one_stream}
 use Rattle.client_multi.specs.MultiStream.{newest, with_room}
 use Rattle.headline.specs.Time.{id_count, all_ids, count_below}
 use Rattle.headline.proofs.server.Counts.{count_same}
-use Rattle.headline.specs.machine.Streams.{Asker, Conn, Multi, IsFull}
+use Rattle.headline.specs.machine.Streams.{Conn, Multi, IsFull}
 use Rattle.client_ties.specs.Lines.{SingleLine, seats_of, IsLineAt}
 use Rattle.client_ties.specs.Seats.{IdFits, IsFree, IsHeld, WasGivenUp}
 use Rattle.client_ties.proofs.HeldIds.{entries_count}
 use Rattle.client_ties.proofs.Tables.{rises_below}
-use Rattle.client_ties.specs.Sights.{Rising}
 
 abbrev pub Links : Type 0
 Links = List (ℕ × Link Request)

@@ -1,14 +1,13 @@
 -- Who is at a connection has a ticket there, and the other way round.
-use Rattle.std.proofs.Common.{◌≡◌, ℕ, ◌⊎◌, inl, inr, Option, Some, None, refl, sym, ap, subst, ◌∙◌}
+use Rattle.std.proofs.Common.{◌≡◌, ℕ, inl, inr, Option, Some, refl, sym, ap, subst, ◌∙◌}
 use Rattle.client_request.specs.Numbered.{entry_at}
 use Rattle.client_request.specs.Request.{Request}
-use Rattle.client_stream.specs.declared.request.Holder.{Holder}
-use Rattle.client_stream.specs.declared.request.Holder.TheVariants.{Waits, GivenUp}
+use Rattle.client_stream.specs.declared.request.Holder.TheVariants.{Waits}
 use Rattle.headline.specs.machine.Streams.{Phase, Free, Expecting, Lined, Holding, Broken, BackingOff, Asker, Conn, Multi}
 use Rattle.client_ties.specs.Connections.{IsAt}
 use Rattle.client_ties.specs.Lines.{SingleLine, seats_of, IsLineAt}
-use Rattle.client_ties.specs.Seats.{IdFits, IsFree, IsHeld, WasGivenUp, AreSeated}
-use Rattle.multi_ties.specs.Servers.{Desk, IsThere}
+use Rattle.client_ties.specs.Seats.{IdFits, IsFree, IsHeld, WasGivenUp}
+use Rattle.multi_ties.specs.Servers.{IsThere}
 
 module _ (p : ℕ) (names : ℕ → Option ℕ) (s : SingleLine) (m : Multi) (x : Conn) (f : ℕ → Option ℕ) (ticket : ℕ) (line : IsLineAt p names s m x f ticket) where
   id_of : (id i : ℕ) (w : Request) → entry_at id s.held.held ≡ Some (Waits i w) → IdFits p names (seats_of s m.asks x.ids) id → entry_at i s.ids ≡ Some id

@@ -1,5 +1,5 @@
 -- A request is taken on, and handed on.
-use Rattle.std.proofs.Common.{◌≡◌, ◌≢◌, ℕ, suc, ◌+◌, ◌<◌, ◌≤◌, ◌⊎◌, inl, inr, Bool, true, false, List, [], ◌∷◌, ◌++◌, Option, Some, None, refl, sym, ap, ap₂, subst, ◌∙◌, arith, le_refl, le_trans, append-nil, append_assoc}
+use Rattle.std.proofs.Common.{◌≡◌, ℕ, ◌+◌, ◌<◌, ◌≤◌, ◌⊎◌, inl, inr, Bool, true, false, List, [], ◌∷◌, ◌++◌, Some, None, refl, sym, ap, subst, ◌∙◌, arith, le_refl, le_trans, append_assoc}
 use Rattle.std.specs.Prelude.{if◌then◌else◌, option_and_then, option_map}
 use Rattle.client_request.specs.Carries.{IsOfOctets}
 use Rattle.client_request.specs.Numbered.{puts, entry_at}
@@ -7,29 +7,27 @@ use Rattle.client_request.specs.Request.{Request}
 use Rattle.client_request.specs.Requests.{for_one}
 use Rattle.client_request.specs.Timers.{with_timer, can_draw}
 use Rattle.client_request.specs.View.{View, asks}
-use Rattle.client_request.specs.declared.event.Out.{Out}
 use Rattle.client_request.specs.declared.event.Out.TheVariants.{Start}
 use Rattle.client_request.specs.declared.event.Via.TheVariants.{Stream}
 use Rattle.client_multi.specs.Links.{Link, one_stream}
-use Rattle.client_multi.specs.MultiStream.{takes, hands, newcomer}
+use Rattle.client_multi.specs.MultiStream.{takes, hands}
 use Rattle.client_multi.specs.Settings.{default_settings}
 use Rattle.client_multi.specs.declared.multi_stream.job.Job.{Job}
-use Rattle.client_multi.specs.declared.multi_stream.job.Stage.TheVariants.{Waiting, Resting, Held}
+use Rattle.client_multi.specs.declared.multi_stream.job.Stage.TheVariants.{Waiting}
 use Rattle.headline.specs.Messages.{Octets}
 use Rattle.headline.specs.Time.{stream_timeout}
 use Rattle.headline.specs.machine.Part.{Act}
-use Rattle.headline.specs.machine.Streams.{Phase, Free, Asker, Conn, Multi, with_at}
+use Rattle.headline.specs.machine.Streams.{Free, Asker, Multi, with_at}
 use Rattle.client_ties.specs.Connections.{timer_of, dues}
 use Rattle.client_ties.specs.PartTie.{Leads, GoesOn}
 use Rattle.client_ties.specs.Runs.{Runs}
-use Rattle.client_ties.specs.Sights.{sight, IsFair}
 use Rattle.client_ties.proofs.GoingOn.{goes_set, goes_then, dues_set, none_next}
 use Rattle.client_ties.proofs.Keys.{with_here, with_there, is_or_was, each_number}
 use Rattle.client_ties.proofs.Tables.{at_puts, sorted_puts, rises_below, absent_above}
-use Rattle.multi_ties.specs.Servers.{Desk, Server, desk_of, numbers, names_at, UnderWay, nothing_under_way, IsListed, IsLoose, under, IsToHand, JobFits, LinkFits, AreTables, IsServer, AreOrderly, NoneHeard, Owns, Stands}
+use Rattle.multi_ties.specs.Servers.{Desk, Server, desk_of, numbers, UnderWay, nothing_under_way, IsToHand, JobFits, AreTables, NoneHeard, Owns, Stands}
 use Rattle.multi_ties.proofs.Changing.{Change, kept_link, changed}
 use Rattle.multi_ties.proofs.Desks.{desk_with, away_none, away_so}
-use Rattle.multi_ties.proofs.Going.{Went, waits_now, leads_as}
+use Rattle.multi_ties.proofs.Going.{Went, leads_as}
 use Rattle.multi_ties.proofs.Hands.{puts_here, puts_there, link_due, not_next, same_job}
 use Rattle.multi_ties.proofs.Holding.{hands_so}
 
@@ -240,6 +238,3 @@ module _ (server : ℕ) (frames : ℕ → List Octets) (s : Server) (m : Multi) 
       by_ticket : (b : Bool) → Leads (Sent server frames r d m v) (option_and_then (λ w. option_and_then (λ u. hands (one_stream for_one) server t0 (record { number = w.request; request = r; back_offs = 0; end = w.timers.next; stage = Waiting }) (record s { timers = puts w.timers.next t0 s.timers }) u) (if can_draw w.timers.next then Some (record w { timers = with_timer (w.now + 30000000) w.timers }) else None)) (if b then Some (record (asks (Start k server Stream) v) { ticket = t0 + 1 }) else None))
       by_ticket false = tt
       by_ticket true = by_timer (can_draw v.timers.next)
-
-pub eighteenth : (d : Desk) → Unit {0}
-eighteenth d = tt

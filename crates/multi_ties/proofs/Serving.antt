@@ -1,5 +1,5 @@
 -- From the tables to the part of the client: moves of the streams are moves of the server, and what a call leaves is tied again.
-use Rattle.std.proofs.Common.{◌≡◌, ℕ, suc, ◌+◌, ◌<◌, ◌≤◌, ◌⊎◌, inl, inr, false, List, [], ◌∷◌, ◌++◌, Option, Some, None, refl, sym, ap, subst, ◌∙◌, le_refl, le_trans, append-nil, append_assoc}
+use Rattle.std.proofs.Common.{◌≡◌, ℕ, ◌≤◌, ◌⊎◌, List, [], ◌∷◌, ◌++◌, Option, Some, None, refl, sym, subst, ◌∙◌, append-nil, append_assoc}
 use Rattle.client_request.specs.View.{View}
 use Rattle.client_request.specs.declared.board.Posted.{Posted}
 use Rattle.client_multi.specs.MultiStream.{with_tables}
@@ -11,10 +11,10 @@ use Rattle.headline.specs.machine.Streams as multi
 use Rattle.headline.specs.machine.Streams.{Multi}
 use Rattle.client_ties.specs.Chains.{Chain, Stays, Goes, Gives, still, then_act}
 use Rattle.client_ties.specs.Connections.{dues}
-use Rattle.client_ties.specs.PartTie.{Phase, Untold, Told, Leads, Leaves, GoesOn}
-use Rattle.client_ties.specs.Runs.{Runs, Rests, Runs_on, made_by}
-use Rattle.client_ties.specs.Sights.{Sight, sight, IsFair}
-use Rattle.multi_ties.specs.Servers.{Desk, Server, desk_of, numbers, nothing_under_way, IsServer, NoneHeard, Owns, Stands}
+use Rattle.client_ties.specs.PartTie.{Phase, Leads, Leaves, GoesOn}
+use Rattle.client_ties.specs.Runs.{Runs, Rests, Runs_on}
+use Rattle.client_ties.specs.Sights.{Sight, sight}
+use Rattle.multi_ties.specs.Servers.{Desk, Server, desk_of, numbers, nothing_under_way, NoneHeard, Owns, Stands}
 use Rattle.multi_ties.specs.Tied.{Streams, IsStream, frames_at, TiedAs, names_of, owns}
 use Rattle.multi_ties.proofs.Going.{Went}
 
@@ -103,6 +103,3 @@ leads_whole P Q u (Some y) l f = f y.0 y.1 l
 -- it is server s still
 pub stream_still : (s : ℕ) (u : Streams) (x : Sight) (a : Served) (t : Server) (m : Multi) (w : View) → IsStream s u x a → w.now ≡ x.now → Stands nothing_under_way (desk_of t) t m (frames_at a.place a.frames) w → IsStream s (record u { tables = t }) (sight w) (stream_moved m a)
 stream_still s u x a t m w i now st = record { server = i.server; settings = i.settings; takes = i.takes; clock = i.clock ∙ sym now; dgram = i.dgram; ties = st.server; order = st.order }
-
-pub thirteenth : (d : Desk) → Unit {0}
-thirteenth d = tt

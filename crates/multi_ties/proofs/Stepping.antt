@@ -1,21 +1,19 @@
 -- What the calls of one connection leave of the whole: it ends, it goes on as it was, or it takes requests from its queue.
-use Rattle.std.proofs.Common.{◌≡◌, ◌≢◌, ℕ, suc, ◌+◌, ◌<◌, ◌≤◌, ◌⊎◌, inl, inr, Bool, true, false, ◌==◌, List, [], ◌∷◌, ◌++◌, Option, Some, None, refl, sym, ap, ap₂, subst, ◌∙◌, arith, le_refl, le_trans, append-nil}
+use Rattle.std.proofs.Common.{◌≡◌, ℕ, ◌≤◌, inl, inr, Bool, true, false, ◌==◌, List, [], ◌++◌, Option, Some, None, refl, sym, ap, subst, ◌∙◌, arith, le_refl}
 use Rattle.std.specs.Prelude.{if◌then◌else◌}
 use Rattle.std.proofs.lemmas.Bool.Decides.{nat_tests}
 use Rattle.client_request.specs.Numbered.{entry_at}
 use Rattle.client_request.specs.Request.{Request}
 use Rattle.client_request.specs.Requests.{for_one}
 use Rattle.client_request.specs.View.{View}
-use Rattle.client_request.specs.declared.board.Posted.{Posted}
 use Rattle.client_request.specs.declared.event.Out.{Out}
 use Rattle.client_stream.specs.Plain.{has_ended, ended}
 use Rattle.client_multi.specs.Links.{Link, one_stream}
 use Rattle.client_multi.specs.MultiStream.{taken, returns, lent}
-use Rattle.client_multi.specs.declared.multi_stream.job.Job.{Job}
 use Rattle.headline.specs.Messages.{Octets}
 use Rattle.headline.specs.machine.Part.{Act}
-use Rattle.headline.specs.machine.Streams.{Phase, Free, Expecting, Lined, Holding, Broken, BackingOff, Asker, Conn, Multi, every, broken_at, end_at, moved, with_at}
-use Rattle.client_ties.specs.Connections.{timer_of, dues, IsAt, HasEnded, HasPumped, IsTimed, IsSettled}
+use Rattle.headline.specs.machine.Streams.{Phase, Free, Expecting, Lined, Holding, Broken, BackingOff, Asker, Conn, Multi, every, broken_at, end_at, moved}
+use Rattle.client_ties.specs.Connections.{timer_of, dues, IsAt, HasEnded, HasPumped, IsTimed}
 use Rattle.client_ties.specs.Lines.{SingleLine, IsLineAt}
 use Rattle.client_ties.specs.Octets.{IsLinkAt}
 use Rattle.client_ties.specs.PartTie.{Leads}
@@ -25,11 +23,9 @@ use Rattle.client_ties.specs.Seats.{IsAway}
 use Rattle.client_ties.specs.Sights.{sight, IsFair}
 use Rattle.client_ties.proofs.Calling.{is_open}
 use Rattle.client_ties.proofs.Keys.{with_here, with_there, each_number}
-use Rattle.multi_ties.specs.Servers.{Desk, Server, desk_of, names_at, UnderWay, nothing_under_way, IsThere, LinkFits, IsNone, IsSome, AreTables, IsServer, AreOrderly, NoneHeard, Stands}
-use Rattle.multi_ties.proofs.Calling.{CallLeft}
+use Rattle.multi_ties.specs.Servers.{Desk, Server, desk_of, names_at, nothing_under_way, IsThere, LinkFits, AreTables, AreOrderly, NoneHeard}
 use Rattle.multi_ties.proofs.Desks.{away_none, away_so}
 use Rattle.multi_ties.proofs.Going.{Went}
-use Rattle.multi_ties.proofs.Hands.{link_due}
 use Rattle.multi_ties.proofs.Placing.{PlaceChange, kept_place, placed}
 use Rattle.multi_ties.proofs.Returning.{returns_so}
 use Rattle.multi_ties.proofs.Seated.{is_at, there_at}
@@ -209,6 +205,3 @@ pumped_call server p l x y s m n frames v a link asks conns opening calm got old
       where
         same_conn : (o : Option Conn) (a b : Conn) → o ≡ Some a → o ≡ Some b → a ≡ b
         same_conn o a b e f = let g : Some a ≡ Some b = sym e ∙ f in cc
-
-pub fourteenth : (d : Desk) → Unit {0}
-fourteenth d = tt

@@ -1,5 +1,5 @@
 -- Reconnection is tied.
-use Rattle.std.proofs.Common.{◌≡◌, ◌≢◌, ℕ, false, refl}
+use Rattle.std.proofs.Common.{◌≡◌, ℕ, false, refl}
 use Rattle.client_request.specs.View.{View, told}
 use Rattle.client_request.specs.declared.event.What.{What}
 use Rattle.client_request.specs.declared.event.What.TheVariants.{Ask, Opened, OpenFailed, SendFailed, ShortSend, Datagram, RecvFailed, Wrote, WriteFailed, Bytes, ReadFailed, Ended, Tick}

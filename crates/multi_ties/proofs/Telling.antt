@@ -1,11 +1,11 @@
 -- An event is told, but for octets that come.
-use Rattle.std.proofs.Common.{◌≡◌, ◌≢◌, ℕ, suc, ◌+◌, ◌<◌, ◌≤◌, ◌⊎◌, inl, inr, Bool, true, false, ◌==◌, List, [], ◌∷◌, ◌++◌, Option, Some, None, refl, sym, ap, ap₂, subst, ◌∙◌, arith, le_refl, le_trans, append-nil}
+use Rattle.std.proofs.Common.{◌≡◌, ◌≢◌, ℕ, Bool, true, false, ◌==◌, List, [], ◌∷◌, ◌++◌, Option, Some, None, refl, sym, ap, subst, ◌∙◌, arith, append-nil}
 use Rattle.std.specs.Prelude.{if◌then◌else◌, option_and_then}
 use Rattle.std.proofs.lemmas.Bool.Decides.{nat_tests}
-use Rattle.client_request.specs.Numbered.{puts, entry_at}
+use Rattle.client_request.specs.Numbered.{entry_at}
 use Rattle.client_request.specs.Request.{Request}
 use Rattle.client_request.specs.Requests.{for_one, for_several}
-use Rattle.client_request.specs.View.{View, Heard, told, drawn, asks}
+use Rattle.client_request.specs.View.{View, told, drawn, asks}
 use Rattle.client_request.specs.declared.error.Error.{Error}
 use Rattle.client_request.specs.declared.error.Error.TheVariants as errors
 use Rattle.client_request.specs.declared.fault.Fault.{Fault}
@@ -15,32 +15,31 @@ use Rattle.client_request.specs.declared.event.What.TheVariants.{Ask, Opened, Op
 use Rattle.client_request.specs.declared.event.Out.{Out}
 use Rattle.client_request.specs.declared.event.Out.TheVariants.{Close, Resume}
 use Rattle.client_stream.specs.Frames.{is_in_body}
-use Rattle.client_stream.specs.Plain.{has_ended, ended, end_error, ends_with, wrote, octets_left, plain_step}
+use Rattle.client_stream.specs.Plain.{has_ended, end_error, ends_with, wrote, octets_left}
 use Rattle.client_stream.specs.Settings.{default_settings as default_stream}
 use Rattle.client_multi.specs.Links.{Link, one_stream}
-use Rattle.client_multi.specs.MultiStream.{hears, tells, hears_at, calls_at, calls, returns, taken, lent, is_number, stream_place, each, hands, opened, refused, backs_off, open_fails, is_open as plain_open}
+use Rattle.client_multi.specs.MultiStream.{tells, hears_at, calls, returns, taken, lent, is_number, each, hands, opened, refused, backs_off, open_fails, is_open as plain_open}
 use Rattle.client_multi.specs.Settings.{default_settings}
 use Rattle.headline.specs.Messages.{Octets}
 use Rattle.headline.specs.Places.{is_told}
-use Rattle.headline.specs.machine.Part.{Act, Post}
 use Rattle.headline.specs.machine.Served.{place_after, outs_of, posts_of}
 use Rattle.headline.specs.machine.Streams as multi
 use Rattle.headline.specs.machine.Streams.{Phase, Asker, Conn, Multi, Nothing, Puts, Takes, ItOpens, ItDoesNotOpen, ItFails, IsForeign, set_conn, wrote_on, heard_on, end_at, open_at, not_opened, with_at}
 use Rattle.client_ties.specs.Chains.{still}
-use Rattle.client_ties.specs.Connections.{timer_of, dues, IsTimed, IsAt, HasWritten, IsHeard, WritesOn, HasRoom, FailsWriting}
+use Rattle.client_ties.specs.Connections.{dues, IsTimed, HasWritten, IsHeard, WritesOn, HasRoom, FailsWriting}
 use Rattle.client_ties.specs.Lines.{SingleLine, IsLineAt}
 use Rattle.client_ties.specs.Octets.{IsLinkAt}
 use Rattle.client_ties.specs.PartTie.{Leads}
 use Rattle.client_ties.specs.Reading.{Keeps}
-use Rattle.client_ties.specs.Runs.{Runs, Rests}
-use Rattle.client_ties.specs.Sights.{sight, IsFair}
+use Rattle.client_ties.specs.Runs.{Rests}
+use Rattle.client_ties.specs.Sights.{IsFair}
 use Rattle.client_ties.proofs.Calling.{is_open}
 use Rattle.client_ties.proofs.Ending.{ends_so}
 use Rattle.client_ties.proofs.Keys.{with_here, with_there}
 use Rattle.client_ties.proofs.Retiming.{timed_same, timed_by}
 use Rattle.client_ties.proofs.Writing.{wrote_so}
-use Rattle.multi_ties.specs.Servers.{Desk, Server, desk_of, numbers, names_at, nothing_under_way, LinkFits, IsNone, IsSome, AreTables, IsServer, AreOrderly, NoneHeard, Owns, Stands}
-use Rattle.multi_ties.proofs.Going.{Went, leads_as, went_nowhere}
+use Rattle.multi_ties.specs.Servers.{Desk, Server, desk_of, names_at, nothing_under_way, LinkFits, IsNone, IsSome, NoneHeard, Stands}
+use Rattle.multi_ties.proofs.Going.{Went, leads_as}
 use Rattle.multi_ties.proofs.Holding.{link_at}
 use Rattle.multi_ties.proofs.Openings.{soon, open_so, fails_so}
 use Rattle.multi_ties.proofs.Stepping.{AtWork, ended_call, kept_call, pumped_call}
@@ -260,6 +259,3 @@ module _ (server : ℕ) (frames : ℕ → List Octets) (s : Server) (m : Multi) 
   told_so (ReadFailed p f) other = told_broken (ReadFailed p f) p (λ l. errors.StreamReadError f) (λ l e. cc) (itself p p refl) (foreign_there p (ReadFailed p f) (λ q e. only p q e)) (entry_at p s.connections) refl
   told_so (Ended p) other = told_broken (Ended p) p (λ l. end_error l.octets) (λ l. in_body l.octets) (itself p p refl) (foreign_there p (Ended p) (λ q e. only p q e)) (entry_at p s.connections) refl
   told_so Tick other = passes Tick (none_told Tick (λ q. refl))
-
-pub seventeenth : (d : Desk) → Unit {0}
-seventeenth d = tt

@@ -1,8 +1,7 @@
 -- The calls of reconnection beside moves of the part: a timer fires, a request is given up or taken on.
-use Rattle.std.proofs.Common.{◌≡◌, ◌≢◌, ℕ, suc, ◌+◌, ◌<◌, ◌≤◌, ◌⊎◌, inl, inr, Bool, true, false, ◌||◌, is_some, List, [], ◌∷◌, ◌++◌, length, Option, Some, None, refl, sym, ap, ap₂, subst, ◌∙◌, arith, le_refl, le_trans, lt_of_lt_of_le, append-nil}
-use Rattle.std.specs.Prelude.{option_map}
+use Rattle.std.proofs.Common.{◌≡◌, ℕ, ◌<◌, ◌≤◌, ◌⊎◌, inl, inr, true, false, ◌||◌, is_some, [], Option, Some, None, refl, sym, ap, ap₂, subst, ◌∙◌, arith, append-nil}
 use Rattle.client_request.specs.Carries.{IsOfOctets}
-use Rattle.client_request.specs.Numbered.{frees, entry_at}
+use Rattle.client_request.specs.Numbered.{entry_at}
 use Rattle.client_request.specs.Request.{Request}
 use Rattle.client_request.specs.Requests.{for_one}
 use Rattle.client_request.specs.Timers.{cancelled}
@@ -12,29 +11,27 @@ use Rattle.client_request.specs.declared.event.Via.TheVariants.{Stream}
 use Rattle.client_request.specs.declared.event.What.{What}
 use Rattle.client_request.specs.declared.event.What.TheVariants.{Ask, Opened, OpenFailed, SendFailed, ShortSend, Datagram, RecvFailed, Wrote, WriteFailed, Bytes, ReadFailed, Ended, Tick}
 use Rattle.client_stream.specs.Plain.{Asked}
-use Rattle.client_multi.specs.Links.{Link, one_stream}
-use Rattle.client_multi.specs.MultiStream.{with_tables, due, drops, with_job, drops_job, leaves, takes}
+use Rattle.client_multi.specs.Links.{one_stream}
+use Rattle.client_multi.specs.MultiStream.{with_tables, due, drops, with_job, drops_job, takes}
 use Rattle.client_multi.specs.Settings.{Settings, default_settings}
 use Rattle.client_multi.specs.declared.multi_stream.job.Job.{Job}
-use Rattle.headline.specs.Messages.{Octets}
 use Rattle.headline.specs.Orderly.{use_at}
 use Rattle.headline.specs.Trace.{Conf, ByStreams}
 use Rattle.headline.specs.machine.Dgrams.{Tryer}
-use Rattle.headline.specs.machine.Part.{Act, Post}
-use Rattle.headline.specs.machine.Served.{Served, Starts, Cancels, IsHanded, IsGivenUp, served, has_moved, does, holds}
+use Rattle.headline.specs.machine.Served.{Served, Starts, Cancels, IsHanded, IsGivenUp, served, does, holds}
 use Rattle.headline.specs.machine.Server as server
 use Rattle.headline.specs.machine.Streams.{Asker, Conn, Multi, Nothing, Puts, IsForeign, drop}
-use Rattle.client_ties.specs.Chains.{Chain, Stays, Begins, Calls, Gives, still, then_act}
+use Rattle.client_ties.specs.Chains.{Chain, Stays, Begins, Calls, still, then_act}
 use Rattle.client_ties.specs.Connections.{dues}
 use Rattle.client_ties.specs.PartTie.{Phase, Untold, Told, Leads, Leaves, GoesOn}
 use Rattle.client_ties.specs.Sights.{sight, IsFair, due_of}
 use Rattle.client_ties.proofs.GoingOn.{goes_then, goes_without, fair_without, dues_without, none_next}
 use Rattle.client_ties.proofs.Keys.{with_there}
 use Rattle.headline.specs.machine.Streams.{with_at}
-use Rattle.multi_ties.specs.Servers.{Desk, Server, desk_of, numbers, nothing_under_way, IsServer, NoneHeard, Owns, Stands}
-use Rattle.multi_ties.specs.Tied.{Streams, by_streams, IsStream, IsUntold, IsTold, AreEarly, TiedAs, frames_at, names_of, owns}
+use Rattle.multi_ties.specs.Servers.{Desk, Server, desk_of, numbers, nothing_under_way, NoneHeard, Owns, Stands}
+use Rattle.multi_ties.specs.Tied.{Streams, by_streams, IsStream, IsUntold, AreEarly, TiedAs, frames_at, names_of, owns}
 use Rattle.multi_ties.proofs.Desks.{number_of}
-use Rattle.multi_ties.proofs.Fields.{stream_of, has_set, no_tryer}
+use Rattle.multi_ties.proofs.Fields.{stream_of, no_tryer}
 use Rattle.multi_ties.proofs.Firing.{due_so, unowned_so}
 use Rattle.multi_ties.proofs.Leaving.{Dropped, leaves_so}
 use Rattle.multi_ties.proofs.Sending.{Sent, sends_so, taken_in}
@@ -228,6 +225,3 @@ module _ (c : Conf) (s : ℕ) where
         (subst (λ b. Leads (Sent s (frames_at a.place a.frames) r sd sm v) (takes (one_stream for_one) s default_settings b r u.tables (asks (Start v.request s Stream) v))) (sym t.stream.takes)
         (sends_so s (frames_at a.place a.frames) u.tables sm v (stands_of s u v a t.stream fair) t.quiet r octets no_ask))))
         sent_leaves
-
-pub twenty_first : (d : Desk) → Unit {0}
-twenty_first d = tt

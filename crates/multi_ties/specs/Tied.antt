@@ -14,7 +14,7 @@ use Rattle.headline.specs.Orderly.{use_at}
 use Rattle.headline.specs.Trace.{Conf, ByStreams}
 use Rattle.headline.specs.machine.Dgrams.{no_datagram}
 use Rattle.headline.specs.machine.Served.{Served, served}
-use Rattle.headline.specs.machine.Streams.{Multi, IsForeign}
+use Rattle.headline.specs.machine.Streams.{IsForeign}
 use Rattle.client_ties.specs.PartTie.{Phase, Untold, Told, IsNobodys, IsTie}
 use Rattle.client_ties.specs.Sights.{Sight}
 use Rattle.multi_ties.specs.Servers.{Desk, desk_of, numbers, nothing_under_way, IsServer, AreOrderly, NoneHeard, Owns}
