@@ -52,7 +52,7 @@ both_are_layers = record {
   numbers = λ r. refl;
 }
 
-streams_are_layers : IsLayer 0 via.Stream (by_streams for_one) (λ (r : stream.Asked). r.ticket) (λ (u : multi_stream.MultiStream Request (Link Request)). u.server) (upstream.transport for_one) upstream.ticket_of server.Stream handed.Stream
+pub streams_are_layers : IsLayer 0 via.Stream (by_streams for_one) (λ (r : stream.Asked). r.ticket) (λ (u : multi_stream.MultiStream Request (Link Request)). u.server) (upstream.transport for_one) upstream.ticket_of server.Stream handed.Stream
 streams_are_layers = record {
   send = λ r u v e. ap (λ n. upstream.leaves server.Stream ((by_streams for_one).send r u (asks (Start v.request n via.Stream) v))) e;
   step = λ h u v. refl;
@@ -91,7 +91,7 @@ tying_of_both c some h = record {
   layer = both_are_layers;
 }
 
-abbrev tying_of_streams : (c : Conf) → 0 < length c.servers → HasTie (served c) via.Stream (by_streams for_one) (λ (r : stream.Asked). r.ticket) (multi_stream.started 0 stream_settings.default_settings) (λ u. u.server) → Tying
+abbrev pub tying_of_streams : (c : Conf) → 0 < length c.servers → HasTie (served c) via.Stream (by_streams for_one) (λ (r : stream.Asked). r.ticket) (multi_stream.started 0 stream_settings.default_settings) (λ u. u.server) → Tying
 tying_of_streams c some h = record {
   c = c;
   some = some;
@@ -121,7 +121,7 @@ tying_of_streams c some h = record {
   layer = streams_are_layers;
 }
 
-abbrev conf_at : List ServerConf → ResolvOptions → Conf
+abbrev pub conf_at : List ServerConf → ResolvOptions → Conf
 conf_at servers options = record { servers = map (λ s. use_of (asks_by_streams options s)) servers; timeout = options.timeout }
 
 module _ (datagrams : DatagramsAreTied) (streams : StreamsAreTied) where

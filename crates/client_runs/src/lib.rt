@@ -3,4 +3,4 @@
 
 mod laws;
 
-pub use laws::silent_clients_run;
+pub use laws::{silent_clients_run, stream_traces_are_right};

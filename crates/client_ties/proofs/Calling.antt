@@ -63,7 +63,7 @@ module _ (server p : ℕ) (settings : Settings) (set : settings.response_timeout
     abbrev lined : SingleLine
     lined = lined_up a s v
 
-    line_lined : IsLineAt p (with_at v.ticket (Some k) names) lined (move k a (Lined p) m) x (dues drawn) drawn.ticket
+    pub line_lined : IsLineAt p (with_at v.ticket (Some k) names) lined (move k a (Lined p) m) x (dues drawn) drawn.ticket
     line_lined = record {
       conn = line.conn;
       seated = subst (AreSeated p (with_at v.ticket (Some k) names))

@@ -164,18 +164,18 @@ module _ (p : ℕ) (names : ℕ → Option ℕ) (m : Multi) (written : ℕ → O
   stopped at.New = plain at.New
     where
       plain : (own : Stage) → IsTimed own at.Ended v (asks (Close p) v)
-      plain own = timed_by own at.Ended v v (asks (Close p) v) refl refl refl refl refl refl (record { on = goes_nowhere v fair; owned = λ i e. absurd (cc); others = λ i due n e. e })
+      plain own = timed_by own at.Ended v v (asks (Close p) v) refl refl refl refl refl (record { on = goes_nowhere v fair; owned = λ i e. absurd (cc); others = λ i due n e. e })
   stopped (at.Active timer since) = dropped timer (at.Active timer since) refl
     where
       dropped : (timer : ℕ) (own : Stage) → timer_of own ≡ Some timer → IsTimed own at.Ended v (record (asks (Close p) v) { timers = cancelled timer v.timers })
-      dropped timer own t = timed_by own at.Ended v (record v { timers = cancelled timer v.timers }) (record (asks (Close p) v) { timers = cancelled timer v.timers }) refl refl refl refl refl refl
+      dropped timer own t = timed_by own at.Ended v (record v { timers = cancelled timer v.timers }) (record (asks (Close p) v) { timers = cancelled timer v.timers }) refl refl refl refl refl
           (record { on = goes_without v timer fair; owned = λ i e. absurd (cc); others = λ i due n e. dues_without v timer i fair ∙ (with_there timer None (dues v) i (λ same. n (t ∙ ap Some same)) ∙ e) })
   stopped (at.Idle timer) = dropped timer (at.Idle timer) refl
     where
       dropped : (timer : ℕ) (own : Stage) → timer_of own ≡ Some timer → IsTimed own at.Ended v (record (asks (Close p) v) { timers = cancelled timer v.timers })
-      dropped timer own t = timed_by own at.Ended v (record v { timers = cancelled timer v.timers }) (record (asks (Close p) v) { timers = cancelled timer v.timers }) refl refl refl refl refl refl
+      dropped timer own t = timed_by own at.Ended v (record v { timers = cancelled timer v.timers }) (record (asks (Close p) v) { timers = cancelled timer v.timers }) refl refl refl refl refl
           (record { on = goes_without v timer fair; owned = λ i e. absurd (cc); others = λ i due n e. dues_without v timer i fair ∙ (with_there timer None (dues v) i (λ same. n (t ∙ ap Some same)) ∙ e) })
-  stopped at.Ended = timed_by at.Ended at.Ended v v (asks (Close p) v) refl refl refl refl refl refl (record { on = goes_nowhere v fair; owned = λ i e. absurd (cc); others = λ i due n e. e })
+  stopped at.Ended = timed_by at.Ended at.Ended v v (asks (Close p) v) refl refl refl refl refl (record { on = goes_nowhere v fair; owned = λ i e. absurd (cc); others = λ i due n e. e })
 
   board_of : (own : Stage) → (stops own (asks (Close p) v)).board ≡ v.board
   board_of at.New = refl
@@ -221,7 +221,7 @@ module _ (p : ℕ) (names : ℕ → Option ℕ) (m : Multi) (written : ℕ → O
           | inl e ↦ posted_last i h.posts q.posts (q.reached i e)
           | inr e ↦ (let t = seated.by_ticket i e.0 e.1 in posted_first i h.posts q.posts (h.reached i (e.0, t.0, t.1)))
         ];
-        timed = timed_by s.stage at.Ended v u (fails_all error s u) refl refl refl refl refl refl (stopped s.stage);
+        timed = timed_by s.stage at.Ended v u (fails_all error s u) refl refl refl refl refl (stopped s.stage);
         ticket = ticket_of s.stage;
         at_place = place_of s.stage;
         more = more_of s.stage;

@@ -152,7 +152,7 @@ module _ (p : ℕ) (names : ℕ → Option ℕ) (m : Multi) (x : Conn) (s : Sing
         (seats_of (record now_active { held = freed; ids = frees i s.ids }) (drop y.request m).asks (with_at id None x.ids)) (sym freed_path) (sym (frees_path i 0 v.ticket s.ids line.fits.ids)) refl (ap (λ k. with_at k None m.asks) (sym rq)) refl)
         (leaves_id p names (seats_of s m.asks x.ids) i k id q None None (with_at id None x.ids) line.seated here named gone (λ d ne. with_there id None x.ids d ne) (inl (refl, with_here id None x.ids))))
         (fits_so freed (frees i s.ids) freed_order (freed_few (Waits i q) there) (sorted_frees i 0 w.ticket s.ids sorted_ids) (answers i (part_of for_one for_several f q) w) refl refl)
-        (timed_by s.stage (at.Active v.timers.next v.now) v w (answers i (part_of for_one for_several f q) w) refl refl refl refl refl refl timed) r.alike.outs r.alike.ticket r.alike.place r.alike.more refl refl
+        (timed_by s.stage (at.Active v.timers.next v.now) v w (answers i (part_of for_one for_several f q) w) refl refl refl refl refl timed) r.alike.outs r.alike.ticket r.alike.place r.alike.more refl refl
       where
         gone : IsAway p None
         gone = record { lined = λ a e g. (let z : None ≡ Some a = e in cc); holding = λ a d e g. (let z : None ≡ Some a = e in cc) }

@@ -12,13 +12,12 @@ use Rattle.std.proofs.lemmas.Bool.Decides.{nat_tests}
 use Rattle.client_ties.proofs.TimerLaws.{due_without, order_without, due_set, order_set, unset_above}
 
 pub goes_nowhere : (v : View) → IsFair v → GoesOn v v
-goes_nowhere v fair = record { fair = fair; now = refl; request = refl; timer = le_refl v.timers.next; ticket = le_refl v.ticket; place = le_refl v.place; later = λ i due e. inl e }
+goes_nowhere v fair = record { fair = fair; now = refl; timer = le_refl v.timers.next; ticket = le_refl v.ticket; place = le_refl v.place; later = λ i due e. inl e }
 
 pub goes_then : (v w x : View) → GoesOn v w → GoesOn w x → GoesOn v x
 goes_then v w x a b = record {
   fair = b.fair;
   now = b.now ∙ a.now;
-  request = b.request ∙ a.request;
   timer = le_trans a.timer b.timer;
   ticket = le_trans a.ticket b.ticket;
   place = le_trans a.place b.place;
@@ -39,7 +38,6 @@ pub goes_without : (v : View) (i : ℕ) → IsFair v → GoesOn v (record v { ti
 goes_without v i fair = record {
   fair = fair_without v i fair;
   now = refl;
-  request = refl;
   timer = le_refl v.timers.next;
   ticket = le_refl v.ticket;
   place = le_refl v.place;
@@ -59,7 +57,6 @@ pub goes_set : (v : View) (due : ℕ) → v.now < due → IsFair v → GoesOn v 
 goes_set v due lt fair = record {
   fair = fair_set v due fair;
   now = refl;
-  request = refl;
   timer = more v.timers.next;
   ticket = le_refl v.ticket;
   place = le_refl v.place;

@@ -37,12 +37,11 @@ timed_then a b d v w x fair f g = record {
 }
 
 -- something is put out, or on the board, at the end
-pub timed_by : (own to : Stage) (v w x : View) → x.timers ≡ w.timers → x.now ≡ w.now → x.request ≡ w.request → x.ticket ≡ w.ticket → x.place ≡ w.place → x.words ≡ w.words → IsTimed own to v w → IsTimed own to v x
-timed_by own to v w x timers now request ticket place words t = record {
+pub timed_by : (own to : Stage) (v w x : View) → x.timers ≡ w.timers → x.now ≡ w.now → x.ticket ≡ w.ticket → x.place ≡ w.place → x.words ≡ w.words → IsTimed own to v w → IsTimed own to v x
+timed_by own to v w x timers now ticket place words t = record {
   on = record {
     fair = record { order = subst (λ (ts : TimerList). Rising (λ (t : Timer). t.id) 0 ts.next ts.set) (sym timers) t.on.fair.order; words = subst (λ (f : ℕ → ℕ). (i : ℕ) → f i < 2 ^ 64) (sym words) t.on.fair.words };
     now = now ∙ t.on.now;
-    request = request ∙ t.on.request;
     timer = subst (λ (ts : TimerList). v.timers.next ≤ ts.next) (sym timers) t.on.timer;
     ticket = subst (λ n. v.ticket ≤ n) (sym ticket) t.on.ticket;
     place = subst (λ n. v.place ≤ n) (sym place) t.on.place;

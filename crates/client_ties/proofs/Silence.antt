@@ -82,7 +82,7 @@ silence_is_tied c s = record {
       put = refl;
       gives = (here v.ticket v.request, refl, back_again v.ticket v.request);
       tied = tt;
-      goes_on = record { fair = record { order = fair.order; words = fair.words }; now = refl; request = refl; timer = le_refl v.timers.next; ticket = more v.ticket; place = le_refl v.place; later = λ i due e. inl e };
+      goes_on = record { fair = record { order = fair.order; words = fair.words }; now = refl; timer = le_refl v.timers.next; ticket = more v.ticket; place = le_refl v.place; later = λ i due e. inl e };
       owned = λ i o. absurd o;
       others = λ i due n e. e;
     }

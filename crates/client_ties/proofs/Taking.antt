@@ -155,7 +155,7 @@ module _ (server p : ℕ) (settings : Settings) (set : settings.response_timeout
         heard = heard_same;
         got = got_same;
         beside = beside_move p m n k a Broken who.is not_away asks conns opening calm;
-        timed = subst (λ st. IsTimed s.stage st v (answers i (Err e) u)) (sym stage_is) (timed_by s.stage t.stage v u (answers i (Err e) u) refl refl refl refl refl refl wk.timed);
+        timed = subst (λ st. IsTimed s.stage st v (answers i (Err e) u)) (sym stage_is) (timed_by s.stage t.stage v u (answers i (Err e) u) refl refl refl refl refl wk.timed);
         ticket = wk.alike.ticket;
         at_place = wk.alike.place;
         more = wk.alike.more;
@@ -276,7 +276,7 @@ module _ (server p : ℕ) (settings : Settings) (set : settings.response_timeout
           heard = refl;
           got = refl;
           beside = beside_move p m n k a (Holding p id) who.is not_away refl (λ z ne. with_there p (Some y) m.conns z ne) refl refl;
-          timed = timed_by s.stage t.stage v u (asks (Write p w.number id octets) u) refl refl refl refl refl refl wk.timed;
+          timed = timed_by s.stage t.stage v u (asks (Write p w.number id octets) u) refl refl refl refl refl wk.timed;
           ticket = wk.alike.ticket;
           at_place = wk.alike.place;
           more = wk.alike.more;

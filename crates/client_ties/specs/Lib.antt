@@ -9,4 +9,3 @@ pub mod Lines
 pub mod Runs
 pub mod Connections
 pub mod Octets
-pub mod Servers

@@ -37,11 +37,10 @@ abbrev pub Leads : {U : Type 0} → (U → View → Type 0) → Option (U × Vie
 Leads P None = Unit {0}
 Leads P (Some x) = P x.0 x.1
 
--- The view after a call: it is fair as before, its moment and its request are the same, numbers go on, and a timer that is set was set before or is not due.
+-- The view after a call: it is fair as before, its moment is the same, numbers go on, and a timer that is set was set before or is not due.
 pub record GoesOn (v w : View) : Type 0 where
   pub fair : IsFair w
   pub now : w.now ≡ v.now
-  pub request : w.request ≡ v.request
   pub timer : v.timers.next ≤ w.timers.next
   pub ticket : v.ticket ≤ w.ticket
   pub place : v.place ≤ w.place

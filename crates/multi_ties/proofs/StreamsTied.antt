@@ -1,0 +1,48 @@
+-- Reconnection is tied.
+use Rattle.std.proofs.Common.{◌≡◌, ℕ, false, refl}
+use Rattle.client_request.specs.View.{View, told}
+use Rattle.client_request.specs.declared.event.What.{What}
+use Rattle.client_request.specs.declared.event.What.TheVariants.{Ask, Opened, OpenFailed, SendFailed, ShortSend, Datagram, RecvFailed, Wrote, WriteFailed, Bytes, ReadFailed, Ended, Tick}
+use Rattle.headline.specs.Trace.{Conf}
+use Rattle.headline.specs.machine.Served.{Served, served}
+use Rattle.client_ties.specs.Chains.{Chain}
+use Rattle.client_ties.specs.PartTie.{Leads, Tells, MayLeave}
+use Rattle.client_ties.specs.Sights.{sight, IsFair, IsEarly}
+use Rattle.multi_ties.specs.Tied.{Streams, by_streams, IsUntold, TiedAs, names_of, owns, StreamsAreTiedAs}
+use Rattle.multi_ties.proofs.Coming.{octets_come, frame_taken}
+use Rattle.multi_ties.proofs.Fields.{begins_fresh, stays_same, has_set, is_named, is_held, row_begins, is_passed, it_rests}
+use Rattle.multi_ties.proofs.Hearing.{tells_one}
+use Rattle.multi_ties.proofs.Tying.{timer_fires, gives_up_one, takes_on_one}
+
+told_of : (c : Conf) (s : ℕ) (u : Streams) (v : View) (a : Served) (w : What) → IsUntold s w u (sight v) a → IsFair v → IsEarly v → v.more ≡ false → Leads (Tells (served c) (TiedAs s) names_of owns (Chain (served c) s v.place a) u v (MayLeave w)) (by_streams.step (told w) u v)
+told_of c s u v a (Ask r) t fair early calm = tells_one c s u v a (Ask r) t fair early calm (λ p o e. cc)
+told_of c s u v a (Opened p) t fair early calm = tells_one c s u v a (Opened p) t fair early calm (λ q o e. cc)
+told_of c s u v a (OpenFailed p f) t fair early calm = tells_one c s u v a (OpenFailed p f) t fair early calm (λ q o e. cc)
+told_of c s u v a (SendFailed p f) t fair early calm = tells_one c s u v a (SendFailed p f) t fair early calm (λ q o e. cc)
+told_of c s u v a (ShortSend p) t fair early calm = tells_one c s u v a (ShortSend p) t fair early calm (λ q o e. cc)
+told_of c s u v a (Datagram p x) t fair early calm = tells_one c s u v a (Datagram p x) t fair early calm (λ q o e. cc)
+told_of c s u v a (RecvFailed p f) t fair early calm = tells_one c s u v a (RecvFailed p f) t fair early calm (λ q o e. cc)
+told_of c s u v a (Wrote p n) t fair early calm = tells_one c s u v a (Wrote p n) t fair early calm (λ q o e. cc)
+told_of c s u v a (WriteFailed p f) t fair early calm = tells_one c s u v a (WriteFailed p f) t fair early calm (λ q o e. cc)
+told_of c s u v a (Bytes p x) t fair early calm = octets_come c s u v a p x t fair early calm
+told_of c s u v a (ReadFailed p f) t fair early calm = tells_one c s u v a (ReadFailed p f) t fair early calm (λ q o e. cc)
+told_of c s u v a (Ended p) t fair early calm = tells_one c s u v a (Ended p) t fair early calm (λ q o e. cc)
+told_of c s u v a Tick t fair early calm = tells_one c s u v a Tick t fair early calm (λ q o e. cc)
+
+pub streams_are_tied : StreamsAreTiedAs
+streams_are_tied c s used = record {
+  fresh = λ x now. begins_fresh s x now;
+  same = λ phase u x y a t now due timer ticket place. stays_same s phase u x y a t now due timer ticket place;
+  set = λ phase u x a i t o. has_set s phase u x a i t o;
+  named = λ phase u x a i k t e. is_named s phase u x a i k t e;
+  held = λ phase u x a k t e. is_held s phase u x a k t e;
+  response = λ r u v. refl;
+  begins = λ u x a p e t. row_begins s u x a p e t;
+  passes = λ u x a w nobody t. is_passed s u x a w nobody t;
+  rests = λ u v a p early t. it_rests s u v a p early t;
+  fires = λ phase u v a i due t fair set late. timer_fires c s phase u v a i due t fair set late;
+  sends = λ u v a w r t fair octets free. takes_on_one c s used u v a w r t fair octets free;
+  cancels = λ phase u v a r k t fair named. gives_up_one c s phase u v a r k t fair named;
+  tells = λ u v a w t fair early calm. told_of c s u v a w t fair early calm;
+  takes = λ u v a p n t fair early calm. frame_taken c s u v a p n t fair early calm;
+}
