@@ -18,13 +18,13 @@ use Rattle.client_multi.specs.MultiStream as multi_stream
 use Rattle.client_multi.specs.Settings as stream_settings
 use Rattle.client_multi.specs.declared.dgram_stream.job.Job.{Job}
 use Rattle.client_multi.specs.declared.dgram_stream.job.Job.TheVariants as job
-use Rattle.client_core.specs.Client.{Asked, client_of, replies, replies_many, replies_first, replies_one, replies_to, result_of}
-use Rattle.client_core.specs.Upstream as upstream
-use Rattle.client_core.specs.Whole as whole
-use Rattle.client_core.specs.declared.asked.Waiting.{Waiting}
-use Rattle.client_core.specs.declared.first.Passed.TheVariants.{Here, Below}
-use Rattle.client_core.specs.declared.upstream.Handed.TheVariants as handed
-use Rattle.client_core.specs.declared.upstream.Upstream.TheVariants as server
+use Rattle.client_steps.specs.Client.{Asked, client_of, replies, replies_many, replies_first, replies_one, replies_to, result_of}
+use Rattle.client_steps.specs.Upstream as upstream
+use Rattle.client_steps.specs.Whole as whole
+use Rattle.client_steps.specs.declared.asked.Waiting.{Waiting}
+use Rattle.client_steps.specs.declared.first.Passed.TheVariants.{Here, Below}
+use Rattle.client_steps.specs.declared.upstream.Handed.TheVariants as handed
+use Rattle.client_steps.specs.declared.upstream.Upstream.TheVariants as server
 use Rattle.client_core.proofs.Alone as alone
 use Rattle.client_core.proofs.Renamed.{Keeps, renamed, entry_renamed, puts_renamed, frees_renamed}
 use Rattle.client_core.proofs.RenamedDgram.{boarded, seen, valued, tables, free_ticket}

@@ -12,12 +12,12 @@ use Rattle.client_dgram.specs.Plain.{Tables, After}
 use Rattle.client_dgram.specs.Plain as dgram
 use Rattle.client_dgram.specs.Settings.{default_settings}
 use Rattle.client_multi.specs.Fallback as fallback
-use Rattle.client_core.specs.Client.{Asked, client_of, replies, accepts, sends, waits, asks_request}
-use Rattle.client_core.specs.First as first
-use Rattle.client_core.specs.Upstream as upstream
-use Rattle.client_core.specs.Whole as whole
-use Rattle.client_core.specs.declared.asked.Waiting.{Waiting}
-use Rattle.client_core.specs.declared.first.Passed.TheVariants.{Here, Below}
+use Rattle.client_steps.specs.Client.{Asked, client_of, replies, accepts, sends, waits, asks_request}
+use Rattle.client_steps.specs.First as first
+use Rattle.client_steps.specs.Upstream as upstream
+use Rattle.client_steps.specs.Whole as whole
+use Rattle.client_steps.specs.declared.asked.Waiting.{Waiting}
+use Rattle.client_steps.specs.declared.first.Passed.TheVariants.{Here, Below}
 use Rattle.client_core.proofs.Alone.{Response, requests}
 use Rattle.client_core.proofs.Alone as alone
 use Rattle.client_core.proofs.Alike.{Holdings, by_dgram, by_stream, lower, parts_of, layer_of, response_of, asked_as, view_as, client_as, Alike, lower_keeps, replies_same, admits_there, collected}
@@ -27,7 +27,7 @@ use Rattle.client_core.proofs.Clients.{lifted}
 use Rattle.client_core.proofs.Renamed.{Keeps, freed_other, put_here, put_there}
 use Rattle.client_core.proofs.RenamedDgram.{boarded, tables, after, takes_at_same}
 use Rattle.client_core.proofs.Replying.{replies_once}
-use Rattle.client_core.proofs.Tables.{Sorted, at_frees}
+use Rattle.client_steps.proofs.Tables.{Sorted, at_frees}
 use Rattle.client_core.proofs.Tickets.{second}
 use Rattle.client_core.proofs.Tied.{each_number, with_here}
 

@@ -14,13 +14,13 @@ use Rattle.client_dgram.specs.Plain as dgram
 use Rattle.client_dgram.specs.Settings.{default_settings}
 use Rattle.client_multi.specs.Fallback as fallback
 use Rattle.headline.specs.machine.Single.{Done}
-use Rattle.client_core.specs.Client.{Asked, client_of, replies, settles, hears, waits}
-use Rattle.client_core.specs.First as first
-use Rattle.client_core.specs.Upstream as upstream
-use Rattle.client_core.specs.Whole as whole
-use Rattle.client_core.specs.declared.asked.Waiting.{Waiting}
-use Rattle.client_core.specs.declared.first.Passed.TheVariants.{Below}
-use Rattle.client_core.specs.declared.upstream.Upstream.TheVariants as server
+use Rattle.client_steps.specs.Client.{Asked, client_of, replies, settles, hears, waits}
+use Rattle.client_steps.specs.First as first
+use Rattle.client_steps.specs.Upstream as upstream
+use Rattle.client_steps.specs.Whole as whole
+use Rattle.client_steps.specs.declared.asked.Waiting.{Waiting}
+use Rattle.client_steps.specs.declared.first.Passed.TheVariants.{Below}
+use Rattle.client_steps.specs.declared.upstream.Upstream.TheVariants as server
 use Rattle.client_core.proofs.Alone.{Response, requests}
 use Rattle.client_core.proofs.Alone as alone
 use Rattle.client_core.proofs.Alike.{Holdings, Parts, by_dgram, by_stream, stream_rests, lower, parts_of, fallback_of, layer_of, response_of, waiting_as, asked_as, view_as, client_as, Alike, lower_keeps, replies_same, job_there, without_job, collected, collects_one}
@@ -30,7 +30,7 @@ use Rattle.client_core.proofs.Renamed.{Keeps, puts_renamed, freed_other, put_her
 use Rattle.client_core.proofs.RenamedDgram.{boarded, tables, after, put_ticket, hears_same, drops_same}
 use Rattle.client_core.proofs.Replying.{only, replies_once}
 use Rattle.client_core.proofs.Steps.{Leads}
-use Rattle.client_core.proofs.Tables.{Sorted, at_frees}
+use Rattle.client_steps.proofs.Tables.{Sorted, at_frees}
 use Rattle.client_core.proofs.Tied.{waiting_of, each_number, with_here}
 use Rattle.client_core.proofs.Uncut.{AllWhole, LeavesWhole}
 

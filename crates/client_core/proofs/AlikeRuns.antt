@@ -9,15 +9,16 @@ use Rattle.client_request.specs.declared.event.What.TheVariants.{Ask, Opened, Op
 use Rattle.client_dgram.specs.Plain as dgram
 use Rattle.headline.specs.machine.Single.{fresh}
 use Rattle.headline.specs.Theorem.{NoneIsTruncated}
-use Rattle.client_core.specs.Client.{nothing_asked, rested, row_of, row_and_rest, then_rows, client_step, plain_rows}
-use Rattle.client_core.specs.Headline.{AsksFirst, AsksByDatagram, PlainTracesAreRuns, PlainTracesKeepTheirEvents}
-use Rattle.client_core.specs.Whole as whole
+use Rattle.client_steps.specs.Client.{nothing_asked, rested, row_of, row_and_rest, then_rows, client_step, plain_rows}
+use Rattle.client_core.specs.Headline.{PlainTracesAreRuns, PlainTracesKeepTheirEvents}
+use Rattle.client_steps.specs.Headline.{AsksFirst, AsksByDatagram}
+use Rattle.client_steps.specs.Whole as whole
 use Rattle.client_core.proofs.Alone as alone
 use Rattle.client_core.proofs.Alike.{layer_of}
 use Rattle.client_core.proofs.AlikeAsking.{is_refused}
 use Rattle.client_core.proofs.AlikeCalls.{Matches}
 use Rattle.client_core.proofs.AlikeSteps.{next_number, IsNumbered, Both, step_both}
-use Rattle.client_core.proofs.Events.{rows_of_events}
+use Rattle.client_steps.proofs.Events.{rows_of_events}
 use Rattle.client_core.proofs.Renamed.{Keeps}
 use Rattle.client_core.proofs.Runs.{rested_client, starts, traces_run}
 use Rattle.client_core.proofs.Tickets.{tickets, Agrees, agrees_now, agrees_later, agrees_first, none_yet, tickets_rise, keeps_order, at_least}

@@ -19,9 +19,9 @@ use Rattle.client_dgram.specs.Plain as dgram
 use Rattle.client_dgram.specs.Settings.{default_settings}
 use Rattle.headline.specs.Theorem.{IsUncut}
 use Rattle.headline.specs.machine.Single.{State, Done, act, content}
-use Rattle.client_core.specs.Client.{Asked, client_of, at_moment, hears, tells, more_frames, times_out, fire, fires_at, fires, fires_first, fires_all, happens, client_step}
-use Rattle.client_core.specs.Whole as whole
-use Rattle.client_core.specs.declared.first.Passed.TheVariants.{Here}
+use Rattle.client_steps.specs.Client.{Asked, client_of, at_moment, hears, tells, more_frames, times_out, fire, fires_at, fires, fires_first, fires_all, happens, client_step}
+use Rattle.client_steps.specs.Whole as whole
+use Rattle.client_steps.specs.declared.first.Passed.TheVariants.{Here}
 use Rattle.client_core.proofs.Alone.{Response, requests}
 use Rattle.client_core.proofs.Alone as alone
 use Rattle.client_core.proofs.Alike.{Holdings, layer_of, waiting_as, asked_as, view_as, client_as, Alike}
@@ -37,10 +37,10 @@ use Rattle.client_core.proofs.Renamed.{Keeps, entry_renamed, frees_renamed}
 use Rattle.client_core.proofs.RenamedDgram.{valued, ticket_at, free_ticket}
 use Rattle.client_core.proofs.Runs.{clocked_client, happens_does, waits_so}
 use Rattle.client_core.proofs.Steps.{Leads, leads_on, Does}
-use Rattle.client_core.proofs.Tables.{frees_nothing}
+use Rattle.client_steps.proofs.Tables.{frees_nothing}
 use Rattle.client_core.proofs.Tickets.{second}
 use Rattle.client_core.proofs.Tied.{waiting_of, Ties}
-use Rattle.client_core.proofs.TimerLaws.{due_of, fires_now, due_listed}
+use Rattle.client_steps.proofs.TimerLaws.{due_of, fires_now, due_listed}
 use Rattle.client_core.proofs.Uncut.{AllWhole, tells_whole, due_whole}
 
 -- the number of the next request after an event

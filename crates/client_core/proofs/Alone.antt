@@ -11,12 +11,12 @@ use Rattle.client_request.specs.declared.event.Via.TheVariants as via
 use Rattle.client_dgram.specs.Plain.{Tables}
 use Rattle.client_dgram.specs.Plain as dgram
 use Rattle.client_dgram.specs.Settings.{default_settings}
-use Rattle.client_core.specs.Client as plain
-use Rattle.client_core.specs.Client.{Machine, nothing_asked, plain_rows}
-use Rattle.client_core.specs.First as first
-use Rattle.client_core.specs.First.{First}
-use Rattle.client_core.specs.Machines.{machine_of}
-use Rattle.client_core.specs.declared.first.Passed.{Passed}
+use Rattle.client_steps.specs.Client as plain
+use Rattle.client_steps.specs.Client.{Machine, nothing_asked, plain_rows}
+use Rattle.client_steps.specs.First as first
+use Rattle.client_steps.specs.First.{First}
+use Rattle.client_steps.specs.Machines.{machine_of}
+use Rattle.client_steps.specs.declared.first.Passed.{Passed}
 
 abbrev pub Layer : Type 0
 Layer = First (dgram.Dgram Request)

@@ -22,10 +22,10 @@ use Rattle.headline.specs.Messages.{under}
 use Rattle.headline.specs.Messages as messages
 use Rattle.headline.specs.machine.Single.{Trying, Held, State, Done, nothing, then_do, loosen, forget, give, settle, finish, with_owner, with_held, opened_at, send_composed, failed_at, broken_at, message_at, dispatch}
 use Rattle.headline.specs.machine.Single as machine
-use Rattle.client_core.specs.Client.{Asked, result_of}
+use Rattle.client_steps.specs.Client.{Asked, result_of}
 use Rattle.client_core.proofs.Alone.{Response, requests}
-use Rattle.client_core.proofs.Tables.{present_below, at_frees}
-use Rattle.client_core.proofs.TimerLaws.{no_more_without}
+use Rattle.client_steps.proofs.Tables.{present_below, at_frees}
+use Rattle.client_steps.proofs.TimerLaws.{no_more_without}
 use Rattle.client_core.proofs.Tied.{waiting_of, spot, place_in, JobFits, StageFits, AtLoose, AtQueued, AtOpening, AtSent, IsHeld, RequestFits, Away, Here, Ties, with_here}
 use Rattle.client_core.proofs.Pictures.{picture, Orderly, without_opening, orderly_opening, lets_go_opening, orderly_sent, lets_go_sent, orderly_sending, sends_there}
 use Rattle.client_core.proofs.Prepared.{under_under, answered_same}

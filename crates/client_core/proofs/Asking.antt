@@ -15,11 +15,11 @@ use Rattle.client_dgram.specs.Plain.{Tables, After}
 use Rattle.client_request.specs.Numbered.{puts, entry_at}
 use Rattle.client_dgram.specs.Plain as dgram
 use Rattle.headline.specs.machine.Single.{State, Done, with_at, try, admit, enter, newcomer, line_up}
-use Rattle.client_core.specs.Client.{Asked, without_request}
+use Rattle.client_steps.specs.Client.{Asked, without_request}
 use Rattle.client_core.proofs.Alone.{Response, requests}
-use Rattle.client_core.specs.declared.asked.Waiting.{Waiting}
-use Rattle.client_core.proofs.Tables.{sorted_puts, sorted_frees, rises_below, absent_above, puts_path, frees_path}
-use Rattle.client_core.proofs.TimerLaws.{due_of, order_without, order_set, unset_above}
+use Rattle.client_steps.specs.declared.asked.Waiting.{Waiting}
+use Rattle.client_steps.proofs.Tables.{sorted_puts, sorted_frees, rises_below, absent_above, puts_path, frees_path}
+use Rattle.client_steps.proofs.TimerLaws.{due_of, order_without, order_set, unset_above}
 use Rattle.client_core.proofs.Queues.{Rises, goes_last, rises_last}
 use Rattle.client_core.proofs.Tied.{waiting_of, Ties, with_here, with_again, with_same}
 use Rattle.client_core.proofs.Moves.{admitted, admits, lined_up, lines_up, counted, skipped, skips}

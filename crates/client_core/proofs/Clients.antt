@@ -13,12 +13,12 @@ use Rattle.client_dgram.specs.Settings.{default_settings}
 use Rattle.headline.specs.Time.{read_timeout}
 use Rattle.headline.specs.machine.Single.{Held, State, Done, nothing, Fires, Rests, Fires_one, Quiet, DueLater, IsDue, Pick, act}
 use Rattle.headline.specs.machine.Single as machine
-use Rattle.client_core.specs.Client.{Asked, Client, client_of, replies, settles, hears, times_out, fire, fires_at, fires, fires_first}
-use Rattle.client_core.specs.First as first
+use Rattle.client_steps.specs.Client.{Asked, Client, client_of, replies, settles, hears, times_out, fire, fires_at, fires, fires_first}
+use Rattle.client_steps.specs.First as first
 use Rattle.client_core.proofs.Alone.{Layer, Response, requests, server_of, layer_of}
 use Rattle.client_core.proofs.Alone as alone
-use Rattle.client_core.proofs.Tables.{frees_nothing}
-use Rattle.client_core.proofs.TimerLaws.{due_of, fires_now, rests_now, due_listed, listed_due, fewer_without, Listed}
+use Rattle.client_steps.proofs.Tables.{frees_nothing}
+use Rattle.client_steps.proofs.TimerLaws.{due_of, fires_now, rests_now, due_listed, listed_due, fewer_without, Listed}
 use Rattle.client_core.proofs.Tied.{StageFits, AtLoose, AtQueued, AtOpening, AtSent, IsHeld, Ties}
 use Rattle.client_core.proofs.Pictures.{picture, Orderly, without_asked}
 use Rattle.client_core.proofs.Steps.{Leads, leads_on, Does}

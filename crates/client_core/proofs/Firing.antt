@@ -19,11 +19,11 @@ use Rattle.client_dgram.specs.Plain as dgram
 use Rattle.headline.specs.Time.{read_timeout}
 use Rattle.headline.specs.machine.Single.{Loose, Trying, Held, State, Done, nothing, then_do, with_at, staged, loosen, lose, try, forget, put_back, give, finish, retry, expire, act_at, act, remove, Pick, IsDue}
 use Rattle.headline.specs.machine.Single as machine
-use Rattle.client_core.specs.Client.{Asked}
+use Rattle.client_steps.specs.Client.{Asked}
 use Rattle.client_core.proofs.Alone.{Response}
-use Rattle.client_core.specs.declared.asked.Waiting.{Waiting}
-use Rattle.client_core.proofs.Tables.{present_below, at_frees}
-use Rattle.client_core.proofs.TimerLaws.{due_of, no_more_without, order_without}
+use Rattle.client_steps.specs.declared.asked.Waiting.{Waiting}
+use Rattle.client_steps.proofs.Tables.{present_below, at_frees}
+use Rattle.client_steps.proofs.TimerLaws.{due_of, no_more_without, order_without}
 use Rattle.client_core.proofs.Queues.{removes}
 use Rattle.client_core.proofs.Tied.{Picture, waiting_of, reader, timer_in, JobFits, StageFits, AtLoose, AtQueued, AtOpening, AtSent, IsHeld, RequestFits, Away, Here, Ties, with_here, with_again}
 use Rattle.client_core.proofs.Moves.{fall_out, same_state}

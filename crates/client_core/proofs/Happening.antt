@@ -18,14 +18,14 @@ use Rattle.client_request.specs.Numbered.{entry_at}
 use Rattle.client_dgram.specs.Plain as dgram
 use Rattle.client_dgram.specs.Settings.{default_settings}
 use Rattle.headline.specs.machine.Single.{Held, State, Done, nothing, content, with_owner, enter, refuse, enter_or_refuse, refusal_of, opened_at, failed_at, broken_at, message_at}
-use Rattle.client_core.specs.Client.{Asked, Client, Machine, client_of, replies, hears, tells, happens, more_frames, next_frame, fires_all, asks_request, accepts, sends}
-use Rattle.client_core.specs.First as first
+use Rattle.client_steps.specs.Client.{Asked, Client, Machine, client_of, replies, hears, tells, happens, more_frames, next_frame, fires_all, asks_request, accepts, sends}
+use Rattle.client_steps.specs.First as first
 use Rattle.client_core.proofs.Alone.{Response, requests, layer_of}
 use Rattle.client_core.proofs.Alone as alone
-use Rattle.client_core.specs.declared.asked.Waiting.{Waiting}
-use Rattle.client_core.specs.declared.first.Passed.TheVariants.{Here, Below}
-use Rattle.client_core.proofs.Tables.{at_puts}
-use Rattle.client_core.proofs.TimerLaws.{no_more_without}
+use Rattle.client_steps.specs.declared.asked.Waiting.{Waiting}
+use Rattle.client_steps.specs.declared.first.Passed.TheVariants.{Here, Below}
+use Rattle.client_steps.proofs.Tables.{at_puts}
+use Rattle.client_steps.proofs.TimerLaws.{no_more_without}
 use Rattle.client_core.proofs.Tied.{Ties, with_here}
 use Rattle.client_core.proofs.Pictures.{picture, Orderly}
 use Rattle.client_core.proofs.Steps.{Leads, Does}

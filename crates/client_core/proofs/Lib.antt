@@ -8,10 +8,8 @@ pub mod Arms
 pub mod AskedOctets
 pub mod Asking
 pub mod Clients
-pub mod Events
 pub mod EveryTrace
 pub mod Firing
-pub mod Fuel
 pub mod Happening
 pub mod Moves
 pub mod Pictures
@@ -24,9 +22,6 @@ pub mod Replying
 pub mod Rightness
 pub mod Runs
 pub mod Steps
-pub mod Tables
 pub mod Tickets
 pub mod Tied
-pub mod TimerLaws
 pub mod Uncut
-pub mod Faults

@@ -9,7 +9,7 @@ use Rattle.headline.specs.Messages.{under}
 use Rattle.headline.specs.machine.Single.{Loose, Trying, Held, State, with_at, staged, loosen, try, forget, put_back, remove, dispatch, dispatched, admit, newcomer, line_up}
 use Rattle.headline.specs.machine.Single as machine
 use Rattle.client_core.proofs.Alone.{Response}
-use Rattle.client_core.specs.declared.asked.Waiting.{Waiting}
+use Rattle.client_steps.specs.declared.asked.Waiting.{Waiting}
 use Rattle.client_core.proofs.Queues.{Rises, queued_removed, queued_last}
 use Rattle.client_core.proofs.Tied.{Picture, waiting_of, spot, reader, is_lined, place_in, timer_in, is_queued, JobFits, AtLoose, AtQueued, AtOpening, AtSent, IsHeld, RequestFits, Away, Here, Ties, with_here, with_there, was_there, was_or_is, each_number, SameFor, same_request}
 

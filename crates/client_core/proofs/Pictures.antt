@@ -11,10 +11,10 @@ use Rattle.client_dgram.specs.Plain.{Tables, leaves}
 use Rattle.client_request.specs.Numbered.{puts, frees, entry_at}
 use Rattle.headline.specs.Messages.{under}
 use Rattle.headline.specs.machine.Single.{Held, State, with_at, loosen, try, forget, dispatch, remove}
-use Rattle.client_core.specs.Client.{Asked, waits}
+use Rattle.client_steps.specs.Client.{Asked, waits}
 use Rattle.client_core.proofs.Alone.{Response}
-use Rattle.client_core.proofs.Tables.{Sorted, sorted_puts, sorted_frees, rises_below, more_by_puts, fewer_by_frees, absent_above, puts_path, frees_path}
-use Rattle.client_core.proofs.TimerLaws.{InOrder, due_of, due_without, order_without, due_set, order_set, unset_above}
+use Rattle.client_steps.proofs.Tables.{Sorted, sorted_puts, sorted_frees, rises_below, more_by_puts, fewer_by_frees, absent_above, puts_path, frees_path}
+use Rattle.client_steps.proofs.TimerLaws.{InOrder, due_of, due_without, order_without, due_set, order_set, unset_above}
 use Rattle.client_core.proofs.Queues.{Rises, rises_removed}
 use Rattle.client_core.proofs.Tied.{Picture, waiting_of, JobFits, IsHeld, Ties, with_again}
 use Rattle.client_core.proofs.Moves.{unopened, loosens_opening, unsent, loosens_sent, unqueued, fall_out, falls_out, unasked, forgets, opened_for, tries, sent_from, dispatches}

@@ -6,7 +6,7 @@ use Rattle.std.specs.BTreeMap.{is_at}
 use Rattle.std.specs.BTreeSet.{insert_key}
 use Rattle.std.specs.Set.{remove_key}
 use Rattle.headline.specs.machine.Single.{remove}
-use Rattle.client_core.proofs.Tables.{Rising, rises_from}
+use Rattle.client_steps.proofs.Tables.{Rising, rises_from}
 
 abbrev pub Rises : (lo hi : ℕ) → List ℕ → Type 0
 Rises lo hi q = Rising (λ k. k) lo hi q

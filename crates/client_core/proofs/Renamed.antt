@@ -7,7 +7,7 @@ use Rattle.std.specs.BTreeSet.{insert_key}
 use Rattle.std.specs.Ordering.{match_ordering}
 use Rattle.std.specs.Set.{remove_key}
 use Rattle.client_request.specs.Numbered.{puts, frees, entry_at}
-use Rattle.client_core.proofs.Tables.{is_here, at_puts}
+use Rattle.client_steps.proofs.Tables.{is_here, at_puts}
 use Rattle.client_core.proofs.Tied.{with_here, with_there}
 
 -- names in the same order

@@ -6,7 +6,7 @@ use Rattle.std.specs.Option.{option_map_or}
 use Rattle.std.specs.Prelude.{option_map, option_and_then}
 use Rattle.client_request.specs.declared.event.Event.{Event}
 use Rattle.client_request.specs.declared.event.Row.{Row}
-use Rattle.client_core.specs.Client.{Client, Machine, client_step, plain_rows, row_step, row_and_rest, then_rows}
+use Rattle.client_steps.specs.Client.{Client, Machine, client_step, plain_rows, row_step, row_and_rest, then_rows}
 
 pub behind : (rows : List Row) (row : Row) (rest : Option (List Row))
     → option_map (λ xs. rows ++ xs) (option_map (λ xs. row ∷ xs) rest) ≡ option_map (λ xs. (rows ++ row ∷ []) ++ xs) rest

@@ -9,10 +9,10 @@ use Rattle.client_request.specs.declared.event.Out.TheVariants.{Reply}
 use Rattle.client_dgram.specs.Plain.{Tables}
 use Rattle.client_request.specs.Numbered.{entry_at}
 use Rattle.headline.specs.machine.Single.{Done}
-use Rattle.client_core.specs.Client.{Asked, result_of, replies, replies_many, replies_one, replies_to, without_request}
+use Rattle.client_steps.specs.Client.{Asked, result_of, replies, replies_many, replies_one, replies_to, without_request}
 use Rattle.client_core.proofs.Alone.{Response}
-use Rattle.client_core.specs.declared.asked.Waiting.{Waiting}
-use Rattle.client_core.proofs.TimerLaws.{no_more_without}
+use Rattle.client_steps.specs.declared.asked.Waiting.{Waiting}
+use Rattle.client_steps.proofs.TimerLaws.{no_more_without}
 use Rattle.client_core.proofs.Tied.{waiting_of, Ties}
 use Rattle.client_core.proofs.Pictures.{picture, Orderly, orderly_forgotten, goes}
 use Rattle.client_core.proofs.Arms.{Heeds, Silent, Posts}

@@ -10,7 +10,7 @@ use Rattle.client_request.specs.declared.event.What.{What}
 use Rattle.client_dgram.specs.Plain.{fresh as no_tables}
 use Rattle.headline.specs.Time.{read_timeout}
 use Rattle.headline.specs.machine.Single.{State, content, fresh, IsStep, IsRun, Ends, Goes_on}
-use Rattle.client_core.specs.Client.{client_of, at_moment, rested, row_of, row_and_rest, then_rows, fires_all, happens, client_step, plain_rows}
+use Rattle.client_steps.specs.Client.{client_of, at_moment, rested, row_of, row_and_rest, then_rows, fires_all, happens, client_step, plain_rows}
 use Rattle.client_core.proofs.Alone.{Layer, layer_of, begun}
 use Rattle.client_core.proofs.Alone as alone
 use Rattle.client_core.proofs.Tied.{Away}

@@ -13,9 +13,9 @@ use Rattle.client_dgram.specs.Plain.{Tables, After}
 use Rattle.client_request.specs.Numbered.{frees, entry_at}
 use Rattle.client_dgram.specs.Plain as dgram
 use Rattle.headline.specs.machine.Single.{Loose, Trying, Held, State, Done, staged, try, put_back, give, give_to, give_held, remove}
-use Rattle.client_core.specs.Client.{Asked}
+use Rattle.client_steps.specs.Client.{Asked}
 use Rattle.client_core.proofs.Alone.{Response}
-use Rattle.client_core.proofs.Tables.{present_below, at_frees, at_puts}
+use Rattle.client_steps.proofs.Tables.{present_below, at_frees, at_puts}
 use Rattle.client_core.proofs.Queues.{IsQueued, removes_first}
 use Rattle.client_core.proofs.Tied.{is_lined, JobFits, StageFits, AtLoose, AtQueued, AtOpening, AtSent, IsHeld, RequestFits, Away, Here, Ties, with_here, with_there, with_again}
 use Rattle.client_core.proofs.Moves.{spot_queued, fall_out, same_state, counted}

@@ -9,8 +9,8 @@ use Rattle.headline.specs.Messages.{under}
 use Rattle.headline.specs.machine.Single.{Loose, Trying, Held, State, with_at}
 use Rattle.headline.specs.machine.Single as machine
 use Rattle.client_core.proofs.Alone.{Response}
-use Rattle.client_core.specs.declared.asked.Waiting.{Waiting}
-use Rattle.client_core.specs.declared.first.Passed.TheVariants.{Below}
+use Rattle.client_steps.specs.declared.asked.Waiting.{Waiting}
+use Rattle.client_steps.specs.declared.first.Passed.TheVariants.{Below}
 use Rattle.client_core.proofs.Queues.{IsQueued}
 
 -- What the tables of a plain client say, as functions: `live` counts the places, `used` the slots, `dues` has the moment of each timer that is set.

@@ -1,8 +1,3 @@
-pub mod Upstream
-pub mod First
-pub mod Client
-pub mod Machines
-pub mod Whole
 pub mod Clock
 pub mod Edge
 pub mod ListEdge

@@ -22,13 +22,13 @@ use Rattle.client_ties.specs.Chains.{Chain, Begins}
 use Rattle.client_ties.specs.PartTie.{Untold, Told, Leaves, Leads as IfLeft}
 use Rattle.client_ties.specs.Sights.{sight, due_of, IsFair}
 use Rattle.client_runs.specs.Above.{Tying, machine, lifted}
-use Rattle.client_core.specs.Client.{client_of, asks_request, sends, accepts, waits, without_request, replies, replies_many, replies_to}
-use Rattle.client_core.specs.First as first
-use Rattle.client_core.specs.declared.asked.Waiting.{Waiting}
-use Rattle.client_core.specs.declared.first.Passed.{Passed}
-use Rattle.client_core.specs.declared.first.Passed.TheVariants.{Here, Below}
-use Rattle.client_core.proofs.Tables.{Sorted, rises_below, at_puts, puts_path, frees_path, sorted_puts, sorted_frees}
-use Rattle.client_core.proofs.TimerLaws.{due_set, order_set, due_without, order_without, unset_above}
+use Rattle.client_steps.specs.Client.{client_of, asks_request, sends, accepts, waits, without_request, replies, replies_many, replies_to}
+use Rattle.client_steps.specs.First as first
+use Rattle.client_steps.specs.declared.asked.Waiting.{Waiting}
+use Rattle.client_steps.specs.declared.first.Passed.{Passed}
+use Rattle.client_steps.specs.declared.first.Passed.TheVariants.{Here, Below}
+use Rattle.client_steps.proofs.Tables.{Sorted, rises_below, at_puts, puts_path, frees_path, sorted_puts, sorted_frees}
+use Rattle.client_steps.proofs.TimerLaws.{due_set, order_set, due_without, order_without, unset_above}
 use Rattle.client_runs.proofs.Calling.{after_call, PlainClient, layer_of, IsTied}
 use Rattle.client_runs.proofs.Desk.{AreKept, at_it, at_other, is_or_was, none_is, one_comes, kept_so, kept_more}
 use Rattle.client_runs.proofs.Firing.{IfSome, left_on}

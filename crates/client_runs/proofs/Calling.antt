@@ -11,10 +11,10 @@ use Rattle.headline.specs.machine.Client.{Posted, Waiting as Held, tag}
 use Rattle.client_ties.specs.PartTie.{Phase, Leaves}
 use Rattle.client_ties.specs.Sights.{sight, due_of, IsFair}
 use Rattle.client_runs.specs.Above.{Tying}
-use Rattle.client_core.specs.Client.{Client, client_of, replies, replies_many}
-use Rattle.client_core.specs.First.{First}
-use Rattle.client_core.specs.declared.first.Passed.{Passed}
-use Rattle.client_core.proofs.TimerLaws.{unset_above}
+use Rattle.client_steps.specs.Client.{Client, client_of, replies, replies_many}
+use Rattle.client_steps.specs.First.{First}
+use Rattle.client_steps.specs.declared.first.Passed.{Passed}
+use Rattle.client_steps.proofs.TimerLaws.{unset_above}
 use Rattle.client_runs.proofs.Desk.{AreKept, dues_go, none_is}
 use Rattle.client_runs.proofs.Giving.{IsOn, on_then, Settles, settles_all}
 use Rattle.client_runs.proofs.Holding.{Requests, State, IsFor, Holds, Fits, desk_of}

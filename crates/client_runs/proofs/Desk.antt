@@ -1,6 +1,6 @@
 -- The tables of the client beside those of the machine: who waits under which ticket, and until when.
 use Rattle.std.proofs.Common.{◌≡◌, ℕ, suc, ◌+◌, ◌<◌, ◌⊎◌, inl, inr, Option, Some, None, sym, ap, subst, ◌∙◌, arith}
-use Rattle.client_core.specs.declared.asked.Waiting.{Waiting}
+use Rattle.client_steps.specs.declared.asked.Waiting.{Waiting}
 use Rattle.headline.specs.machine.Client.{Waiting as Held}
 use Rattle.headline.specs.machine.Streams.{with_at}
 use Rattle.std.proofs.lemmas.Bool.Decides.{nat_tests}

@@ -16,12 +16,12 @@ use Rattle.client_ties.specs.Chains.{Chain, Begins, Gives}
 use Rattle.client_ties.specs.PartTie.{Phase, Leaves, Leads as IfLeft}
 use Rattle.client_ties.specs.Sights.{sight, due_of, IsFair}
 use Rattle.client_runs.specs.Above.{Tying, machine, lifted}
-use Rattle.client_core.specs.Client.{client_of, settles, hears, times_out, fire, fires_at, without_late, replies, replies_many}
-use Rattle.client_core.specs.First as first
-use Rattle.client_core.specs.declared.asked.Waiting.{Waiting}
-use Rattle.client_core.specs.declared.first.Passed.{Passed}
-use Rattle.client_core.proofs.Tables.{frees_nothing}
-use Rattle.client_core.proofs.TimerLaws.{due_without}
+use Rattle.client_steps.specs.Client.{client_of, settles, hears, times_out, fire, fires_at, without_late, replies, replies_many}
+use Rattle.client_steps.specs.First as first
+use Rattle.client_steps.specs.declared.asked.Waiting.{Waiting}
+use Rattle.client_steps.specs.declared.first.Passed.{Passed}
+use Rattle.client_steps.proofs.Tables.{frees_nothing}
+use Rattle.client_steps.proofs.TimerLaws.{due_without}
 use Rattle.client_runs.proofs.Calling.{Called, after_call, PlainClient, layer_of, Comes, comes_of, comes_then}
 use Rattle.client_runs.proofs.Desk.{IsKept, at_it, at_other, both_are, none_is, dues_go}
 use Rattle.client_runs.proofs.Holding.{Requests, State, IsFor, Holds, Fits, holds_without, fair_without, desk_of}

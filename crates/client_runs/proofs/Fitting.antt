@@ -23,20 +23,20 @@ use Rattle.headline.specs.machine.Served.{served}
 use Rattle.headline.proofs.Composing.{composed_composes}
 use Rattle.headline.proofs.server.Concrete.{every_run}
 use Rattle.client_runs.specs.Above.{Tying, IsLayer, AreWords, begins_with}
-use Rattle.client_core.specs.Client.{plain_rows}
-use Rattle.client_core.specs.Headline.{use_of, conf_of}
+use Rattle.client_steps.specs.Client.{plain_rows}
+use Rattle.client_steps.specs.Headline.{use_of, conf_of}
 use Rattle.client_runs.specs.Ties.{HasTie, DatagramsAreTied, StreamsAreTied, EveryPlainTraceRuns, EveryPlainTraceIsRightByAny, TiedTransportsRun}
-use Rattle.client_core.specs.Upstream as upstream
-use Rattle.client_core.specs.Upstream.{by_both, by_streams}
-use Rattle.client_core.specs.Whole.{machine, asks_by_streams, upstream_at, first_upstream, client_with, started}
-use Rattle.client_core.specs.declared.upstream.Handed.{Handed}
-use Rattle.client_core.specs.declared.upstream.Handed.TheVariants as handed
-use Rattle.client_core.specs.declared.upstream.Upstream.{Upstream}
-use Rattle.client_core.specs.declared.upstream.Upstream.TheVariants as server
+use Rattle.client_steps.specs.Upstream as upstream
+use Rattle.client_steps.specs.Upstream.{by_both, by_streams}
+use Rattle.client_steps.specs.Whole.{machine, asks_by_streams, upstream_at, first_upstream, client_with, started}
+use Rattle.client_steps.specs.declared.upstream.Handed.{Handed}
+use Rattle.client_steps.specs.declared.upstream.Handed.TheVariants as handed
+use Rattle.client_steps.specs.declared.upstream.Upstream.{Upstream}
+use Rattle.client_steps.specs.declared.upstream.Upstream.TheVariants as server
 use Rattle.resolv_conf.specs.declared.conf.ResolvConf.{ResolvConf}
 use Rattle.resolv_conf.specs.declared.options.ResolvOptions.{ResolvOptions}
 use Rattle.resolv_conf.specs.declared.server.ServerConf.{ServerConf}
-use Rattle.client_core.proofs.Events.{rows_of_events}
+use Rattle.client_steps.proofs.Events.{rows_of_events}
 use Rattle.client_runs.proofs.Idling.{IsUnused, served_stays_idle}
 use Rattle.client_runs.proofs.Rows.{clients_above_ties_run}
 use Rattle.client_runs.proofs.Serverless.{clients_without_servers_run}

@@ -21,10 +21,10 @@ use Rattle.client_ties.specs.Chains.{Gives, part_of}
 use Rattle.client_ties.specs.PartTie.{Phase}
 use Rattle.client_ties.specs.Sights.{sight, due_of, IsFair}
 use Rattle.client_runs.specs.Above.{Tying}
-use Rattle.client_core.specs.Client.{replies_many, replies_to, result_of, without_request}
-use Rattle.client_core.specs.declared.asked.Waiting.{Waiting}
-use Rattle.client_core.specs.declared.first.Passed.{Passed}
-use Rattle.client_core.proofs.TimerLaws.{due_without}
+use Rattle.client_steps.specs.Client.{replies_many, replies_to, result_of, without_request}
+use Rattle.client_steps.specs.declared.asked.Waiting.{Waiting}
+use Rattle.client_steps.specs.declared.first.Passed.{Passed}
+use Rattle.client_steps.proofs.TimerLaws.{due_without}
 use Rattle.client_runs.proofs.Desk.{IsKept, was_there, at_other}
 use Rattle.client_runs.proofs.Holding.{Requests, State, IsFor, Fits, holds_without, fair_without, desk_of}
 use Rattle.client_runs.proofs.Leading.{Leads, Arrives, Then, leads_on, one_move}

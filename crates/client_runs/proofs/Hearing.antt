@@ -11,7 +11,7 @@ use Rattle.client_ties.specs.Chains.{Chain}
 use Rattle.client_ties.specs.PartTie.{Phase, Untold, Told, Tells, MayLeave, Leads as IfLeft}
 use Rattle.client_ties.specs.Sights.{due_of, IsEarly}
 use Rattle.client_runs.specs.Above.{Tying, machine}
-use Rattle.client_core.specs.Client.{client_of, calm, hears, tells, next_frame, more_frames, brings, fires_all, replies}
+use Rattle.client_steps.specs.Client.{client_of, calm, hears, tells, next_frame, more_frames, brings, fires_all, replies}
 use Rattle.client_runs.proofs.Calling.{after_call, PlainClient, layer_of, IsTied, Comes, comes_of, comes_then}
 use Rattle.client_runs.proofs.Desk.{AreKept}
 use Rattle.client_runs.proofs.Firing.{IfSome, some_then, some_on, heard, left_on}

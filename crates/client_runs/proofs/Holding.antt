@@ -10,12 +10,12 @@ use Rattle.headline.specs.machine.Streams.{with_at}
 use Rattle.client_ties.specs.PartTie.{Phase}
 use Rattle.client_ties.specs.Sights.{sight, due_of, IsFair}
 use Rattle.client_runs.specs.Above.{Tying}
-use Rattle.client_core.specs.Client.{Asked, without_request}
-use Rattle.client_core.specs.declared.asked.Waiting.{Waiting}
-use Rattle.client_core.specs.declared.first.Passed.{Passed}
-use Rattle.client_core.specs.declared.first.Passed.TheVariants.{Below}
-use Rattle.client_core.proofs.Tables.{Sorted, at_frees, frees_path, sorted_frees}
-use Rattle.client_core.proofs.TimerLaws.{due_without, order_without}
+use Rattle.client_steps.specs.Client.{Asked, without_request}
+use Rattle.client_steps.specs.declared.asked.Waiting.{Waiting}
+use Rattle.client_steps.specs.declared.first.Passed.{Passed}
+use Rattle.client_steps.specs.declared.first.Passed.TheVariants.{Below}
+use Rattle.client_steps.proofs.Tables.{Sorted, at_frees, frees_path, sorted_frees}
+use Rattle.client_steps.proofs.TimerLaws.{due_without, order_without}
 use Rattle.client_runs.proofs.Desk.{Desk, AreKept, one_goes, kept_so, was_there}
 
 module _ (g : Tying) where

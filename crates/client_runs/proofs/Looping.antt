@@ -10,8 +10,8 @@ use Rattle.headline.specs.Parts.{IsIn}
 use Rattle.client_ties.specs.PartTie.{Phase}
 use Rattle.client_ties.specs.Sights.{due_of, IsEarly}
 use Rattle.client_runs.specs.Above.{Tying, machine}
-use Rattle.client_core.specs.Client.{client_of, fire, fires, fires_first, fires_all}
-use Rattle.client_core.proofs.TimerLaws.{due_without, due_listed, listed_due, fires_now, rests_now}
+use Rattle.client_steps.specs.Client.{client_of, fire, fires, fires_first, fires_all}
+use Rattle.client_steps.proofs.TimerLaws.{due_without, due_listed, listed_due, fires_now, rests_now}
 use Rattle.client_runs.proofs.Calling.{PlainClient, IsTied, Comes, comes_then}
 use Rattle.client_runs.proofs.Desk.{was_there}
 use Rattle.client_runs.proofs.Firing.{IfSome, some_then, some_on, one_fires}

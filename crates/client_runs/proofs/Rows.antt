@@ -14,7 +14,7 @@ use Rattle.headline.specs.machine.Client.{IsDone, IsStep, IsRun, Ends, Goes_on, 
 use Rattle.client_ties.specs.PartTie.{Untold, Told, MayLeave}
 use Rattle.client_ties.specs.Sights.{sight, IsEarly}
 use Rattle.client_runs.specs.Above.{Tying, machine, begins_with, AreWords, ClientsAboveTiesRun}
-use Rattle.client_core.specs.Client.{client_of, at_moment, rested, row_of, row_and_rest, then_rows, asks_request, fires_all, tells, brings, happens, client_step, plain_rows}
+use Rattle.client_steps.specs.Client.{client_of, at_moment, rested, row_of, row_and_rest, then_rows, asks_request, fires_all, tells, brings, happens, client_step, plain_rows}
 use Rattle.client_runs.proofs.Asking.{Happened, asks_it}
 use Rattle.client_runs.proofs.Calling.{PlainClient, IsTied, Comes}
 use Rattle.client_runs.proofs.Desk.{both_are}

@@ -24,13 +24,13 @@ use Rattle.headline.specs.Trace.{Conf}
 use Rattle.headline.specs.machine.Part.{ServerPart}
 use Rattle.headline.specs.machine.Client.{Leaving, Entry, Upper, AtOnce, Refused, Nowhere, Move, Answers, Replies, Waiting as Held, answer, store, unmade, outcome, outcome_of, IsDone, IsStep, IsRun, Ends, Goes_on, row_begins, begun}
 use Rattle.client_runs.specs.Above.{machine, begins_with, ClientsWithoutServersRun}
-use Rattle.client_core.specs.Client.{Asked, Client, client_of, at_moment, rested, row_of, row_and_rest, then_rows, asks_request, sends, accepts, waits, without_request, replies, replies_many, replies_to, fires, fires_all, tells, more_frames, brings, happens, client_step, plain_rows}
-use Rattle.client_core.specs.First as first
-use Rattle.client_core.specs.First.{First}
-use Rattle.client_core.specs.declared.asked.Waiting.{Waiting}
-use Rattle.client_core.specs.declared.first.Passed.{Passed}
-use Rattle.client_core.specs.declared.first.Passed.TheVariants.{Here}
-use Rattle.client_core.proofs.TimerLaws.{without_cons}
+use Rattle.client_steps.specs.Client.{Asked, Client, client_of, at_moment, rested, row_of, row_and_rest, then_rows, asks_request, sends, accepts, waits, without_request, replies, replies_many, replies_to, fires, fires_all, tells, more_frames, brings, happens, client_step, plain_rows}
+use Rattle.client_steps.specs.First as first
+use Rattle.client_steps.specs.First.{First}
+use Rattle.client_steps.specs.declared.asked.Waiting.{Waiting}
+use Rattle.client_steps.specs.declared.first.Passed.{Passed}
+use Rattle.client_steps.specs.declared.first.Passed.TheVariants.{Here}
+use Rattle.client_steps.proofs.TimerLaws.{without_cons}
 use Rattle.client_runs.proofs.Leading.{Leads, Arrives, Then, one_move, all_moves}
 
 -- an entry that is put alone, and taken out again

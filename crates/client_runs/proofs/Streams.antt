@@ -17,13 +17,13 @@ use Rattle.multi_ties.proofs.StreamsTied.{streams_are_tied}
 use Rattle.client_runs.specs.Above.{AreWords, begins_with}
 use Rattle.client_runs.specs.Streams.{AsksByStreams, StreamTracesAreRight}
 use Rattle.client_runs.specs.Ties.{StreamsAreTied}
-use Rattle.client_core.specs.Client.{plain_rows}
-use Rattle.client_core.specs.Headline.{use_of, conf_of}
-use Rattle.client_core.specs.Whole.{machine, asks_by_streams, upstream_at, first_upstream, client_with, started, plain_trace}
+use Rattle.client_steps.specs.Client.{plain_rows}
+use Rattle.client_steps.specs.Headline.{use_of, conf_of}
+use Rattle.client_steps.specs.Whole.{machine, asks_by_streams, upstream_at, first_upstream, client_with, started, plain_trace}
 use Rattle.resolv_conf.specs.declared.conf.ResolvConf.{ResolvConf}
 use Rattle.resolv_conf.specs.declared.options.ResolvOptions.{ResolvOptions}
 use Rattle.resolv_conf.specs.declared.server.ServerConf.{ServerConf}
-use Rattle.client_core.proofs.Events.{rows_of_events}
+use Rattle.client_steps.proofs.Events.{rows_of_events}
 use Rattle.client_runs.proofs.Fitting.{tying_of_streams, conf_at}
 use Rattle.client_runs.proofs.Rows.{clients_above_ties_run}
 

@@ -14,11 +14,11 @@ use Rattle.headline.specs.machine.Client.{begun, IsRun}
 use Rattle.headline.specs.machine.Part.{ServerPart}
 use Rattle.client_ties.specs.PartTie.{Phase, IsTie}
 use Rattle.client_ties.specs.Sights.{Sight}
-use Rattle.client_core.specs.Client.{Machine, Client, nothing_asked, plain_rows}
-use Rattle.client_core.specs.First as first
-use Rattle.client_core.specs.First.{First}
-use Rattle.client_core.specs.Machines.{machine_of}
-use Rattle.client_core.specs.declared.first.Passed.{Passed}
+use Rattle.client_steps.specs.Client.{Machine, Client, nothing_asked, plain_rows}
+use Rattle.client_steps.specs.First as first
+use Rattle.client_steps.specs.First.{First}
+use Rattle.client_steps.specs.Machines.{machine_of}
+use Rattle.client_steps.specs.declared.first.Passed.{Passed}
 
 -- what a call leaves, in a layer
 abbrev pub lifted : {U V : Type 0} → (U → V) → Option (U × View) → Option (V × View)

@@ -13,7 +13,7 @@ use Rattle.headline.specs.Trace.{Conf}
 use Rattle.headline.specs.machine.Client.{begun, IsRun}
 use Rattle.client_ties.specs.Silent.{silent, silent_part}
 use Rattle.client_runs.specs.Above.{AreWords, machine, begins_with}
-use Rattle.client_core.specs.Client.{plain_rows}
+use Rattle.client_steps.specs.Client.{plain_rows}
 
 -- it says `Start` before
 abbrev pub starting : Transport Request (Unit {0}) ℕ

@@ -8,8 +8,8 @@ use Rattle.headline.specs.Settings.{first_settings}
 use Rattle.headline.specs.Timely.{AllAskedInOctets, Timely}
 use Rattle.headline.specs.Trace.{ByStreams}
 use Rattle.client_runs.specs.Above.{AreWords}
-use Rattle.client_core.specs.Headline.{conf_of}
-use Rattle.client_core.specs.Whole.{plain_trace}
+use Rattle.client_steps.specs.Headline.{conf_of}
+use Rattle.client_steps.specs.Whole.{plain_trace}
 use Rattle.resolv_conf.specs.declared.conf.ResolvConf.{ResolvConf}
 
 -- the first server is asked by streams alone

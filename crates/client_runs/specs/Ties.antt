@@ -24,9 +24,9 @@ use Rattle.headline.specs.machine.Served.{served}
 use Rattle.client_ties.specs.PartTie.{Phase, IsTie}
 use Rattle.client_ties.specs.Sights.{Sight}
 use Rattle.client_runs.specs.Above.{AreWords}
-use Rattle.client_core.specs.Headline.{conf_of}
-use Rattle.client_core.specs.Upstream.{by_both, by_streams}
-use Rattle.client_core.specs.Whole.{plain_trace}
+use Rattle.client_steps.specs.Headline.{conf_of}
+use Rattle.client_steps.specs.Upstream.{by_both, by_streams}
+use Rattle.client_steps.specs.Whole.{plain_trace}
 use Rattle.resolv_conf.specs.declared.conf.ResolvConf.{ResolvConf}
 
 -- A transport is tied to the part of the first server, whose number it has.

@@ -6,11 +6,11 @@ use Rattle.dns_values.specs.Source.{Rose}
 use Rattle.client_request.specs.Words.{listed}
 use Rattle.client_request.specs.declared.event.Event.{Event}
 use Rattle.client_request.specs.declared.event.Row.{Row}
-use Rattle.client_core.specs.Headline.{conf_of, AsksByDatagram}
-use Rattle.client_core.specs.Whole.{plain_trace}
+use Rattle.client_core.specs.Headline.{IsClaimed}
+use Rattle.client_steps.specs.Headline.{conf_of}
+use Rattle.client_steps.specs.Whole.{plain_trace}
 use Rattle.headline.specs.Right.{Right}
 use Rattle.headline.specs.Settings.{first_settings}
-use Rattle.headline.specs.Theorem.{NoneIsTruncated}
 use Rattle.headline.specs.Timely.{Timely}
 use Rattle.dns_script.specs.ScriptReading.{IsScript, RefusesLine}
 use Rattle.dns_script.specs.TraceText.{trace_text_of}
@@ -36,9 +36,9 @@ first_lane (events ∷ lanes) = events
 abbrev pub rows_of : Script → Option (List Row)
 rows_of script = plain_trace script.conf (listed script.words) (first_lane script.lanes)
 
--- what holds of a script under the premises of the headline: its first server is asked by datagrams, and none of these that come is truncated
+-- what holds of a script of which the headline is proved
 abbrev pub Premised : Script → Type 0 → Type 0
-Premised script P = AsksByDatagram script.conf → NoneIsTruncated (first_lane script.lanes) → P
+Premised script P = IsClaimed script.conf (listed script.words) (first_lane script.lanes) → P
 
 -- The text is a script, not too long, and these octets are the text of its plain trace, which is right and timely under the premises.
 pub record IsReplayed (text out : List ℕ) : Type 0 where

@@ -2,7 +2,7 @@
 
 ghost use Rattle.std.specs.Prelude.{◌≡◌, ◌≢◌, ◌≤◌, [], length, false, Some, None, IfSome, IfOk, IfErr};
 ghost use Rattle.dns_values.specs.Source.{Rose};
-ghost use Rattle.client_core.specs.Headline.{conf_of};
+ghost use Rattle.client_steps.specs.Headline.{conf_of};
 ghost use Rattle.headline.specs.Right.{Right};
 ghost use Rattle.headline.specs.Settings.{first_settings};
 ghost use Rattle.headline.specs.Timely.{Timely};

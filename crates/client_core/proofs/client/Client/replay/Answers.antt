@@ -2,8 +2,8 @@ use Rattle.std.proofs.Common.{◌≡◌, ◌+◌, List, ◌++◌, drop, rules, s
 use Rattle.std.specs.Prelude.{option_map}
 use Rattle.client_request.specs.declared.event.Event.{Event}
 use Rattle.client_request.specs.declared.event.Row.{Row}
-use Rattle.client_core.specs.Client.{plain_rows, row_step}
-use Rattle.client_core.specs.Whole.{machine, client_with}
+use Rattle.client_steps.specs.Client.{plain_rows, row_step}
+use Rattle.client_steps.specs.Whole.{machine, client_with}
 use Rattle.client_core.proofs.Replaying.{drop_next, events_more, next_row, row_event}
 use Rattle.client_core.proofs.Rightness.{right_at_the_end}
 use Rattle.client_core.proofs.client.Client.replay.Goals as goal
@@ -32,7 +32,7 @@ loop-event-preserved g c =
     }
 
 pub returns-clause-right : goal.returns-clause-right
-returns-clause-right g c = λ by_datagram uncut. (right_at_the_end c.every_plain_trace_is_right.ensures c.args.conf.now (g.W.Words.stream c.args.words.now) c.args.events.now c.loop-event.rows c.loop-event.event-index c.args.conf.now.options.timeout (client_with (g.W.Words.stream c.loop-event.words) c.loop-event.client) c.loop-event.invariant.same c.loop-event-test.false c.all_asked_in_octets.ensures by_datagram uncut).0
+returns-clause-right g c = λ claimed. (right_at_the_end c.every_plain_trace_is_right.ensures c.args.conf.now (g.W.Words.stream c.args.words.now) c.args.events.now c.loop-event.rows c.loop-event.event-index c.args.conf.now.options.timeout (client_with (g.W.Words.stream c.loop-event.words) c.loop-event.client) c.loop-event.invariant.same c.loop-event-test.false c.all_asked_in_octets.ensures claimed).0
 
 pub returns-clause-timely : goal.returns-clause-timely
-returns-clause-timely g c = λ by_datagram uncut. (right_at_the_end c.every_plain_trace_is_right.ensures c.args.conf.now (g.W.Words.stream c.args.words.now) c.args.events.now c.loop-event.rows c.loop-event.event-index c.args.conf.now.options.timeout (client_with (g.W.Words.stream c.loop-event.words) c.loop-event.client) c.loop-event.invariant.same c.loop-event-test.false c.all_asked_in_octets.ensures by_datagram uncut).1
+returns-clause-timely g c = λ claimed. (right_at_the_end c.every_plain_trace_is_right.ensures c.args.conf.now (g.W.Words.stream c.args.words.now) c.args.events.now c.loop-event.rows c.loop-event.event-index c.args.conf.now.options.timeout (client_with (g.W.Words.stream c.loop-event.words) c.loop-event.client) c.loop-event.invariant.same c.loop-event-test.false c.all_asked_in_octets.ensures claimed).1

@@ -1,7 +1,7 @@
 use Rattle.std.proofs.Common.{◌≡◌, false, map, take, drop, ◌++◌}
 use Rattle.std.specs.Prelude.{option_map}
-use Rattle.client_core.specs.Client.{plain_rows}
-use Rattle.client_core.specs.Whole.{machine, plain_trace, client_with}
+use Rattle.client_steps.specs.Client.{plain_rows}
+use Rattle.client_steps.specs.Whole.{machine, plain_trace, client_with}
 use Rattle.client_core.proofs.client.Client.replay.Given as goal
 
 abbrev pub invariant-loop-event : goal.invariant-loop-event

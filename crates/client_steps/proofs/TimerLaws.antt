@@ -5,7 +5,7 @@ use Rattle.std.specs.List.{position_or_len, remove, fold}
 use Rattle.client_request.specs.Timers.{is_before, earlier, removed_at, without_timer, if_due, due_now}
 use Rattle.client_request.specs.declared.timers.Timer.{Timer}
 use Rattle.headline.specs.machine.Single.{with_at}
-use Rattle.client_core.proofs.Tables.{Rising, rises_from}
+use Rattle.client_steps.proofs.Tables.{Rising, rises_from}
 
 -- when the timer of this number is due
 abbrev pub due_of : (id : ℕ) → List Timer → Option ℕ

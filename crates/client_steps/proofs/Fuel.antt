@@ -5,7 +5,7 @@ use Rattle.std.specs.Prelude.{option_and_then, option_map}
 use Rattle.client_request.specs.Timers.{TimerList, due_now, fired}
 use Rattle.client_request.specs.declared.timers.Timer.{Timer}
 use Rattle.client_request.specs.declared.timers.TimerId.{TimerId}
-use Rattle.client_core.specs.Client.{Asked, Client, Machine, replies_many, replies_first, fires, fires_all, fires_first, fire, more_frames, next_frame}
+use Rattle.client_steps.specs.Client.{Asked, Client, Machine, replies_many, replies_first, fires, fires_all, fires_first, fire, more_frames, next_frame}
 
 pub replies_many_suc : {P : Type 0} (n : ℕ) (x : Asked P × View) → 0 < n → replies_many n x ≡ replies_many (n - 1) (replies_first x)
 replies_many_suc zero x h = absurd (omega arith)

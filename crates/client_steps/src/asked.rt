@@ -2,7 +2,7 @@
 
 ghost use Rattle.std.specs.Prelude.{◌≡◌, ◌<◌, ◌-◌, Some, None, Err, Ok, OnOk, IfErr, option_map};
 ghost use Rattle.client_request.specs.Cx.{view_of, LendsTheSame};
-ghost use Rattle.client_core.specs.Client as plain;
+ghost use Rattle.client_steps.specs.Client as plain;
 ghost use Rattle.client_request.specs.Numbered.{entry_at};
 
 use client_request::{Cx, Error, Out, Posted, TimerId, Words};
@@ -33,7 +33,7 @@ pub struct Asked<P> {
 }
 
 impl<P> Model for Asked<P> {
-    ghost use Rattle.client_core.specs.Client.{Asked};
+    ghost use Rattle.client_steps.specs.Client.{Asked};
 
     ghost Value = { Asked P };
 

@@ -4,8 +4,8 @@ ghost use Rattle.std.specs.Prelude.{◌≡◌, ◌+◌, ◌<◌, true, Some, Non
 ghost use Rattle.client_request.specs.Calls.{Steps, NumbersRunOut};
 ghost use Rattle.client_request.specs.Cx.{heard, LendsTheSame};
 ghost use Rattle.client_request.specs.Response.{IsRefusal};
-ghost use Rattle.client_core.specs.Client as plain;
-ghost use Rattle.client_core.specs.Machines.{machine_of, client_in};
+ghost use Rattle.client_steps.specs.Client as plain;
+ghost use Rattle.client_steps.specs.Machines.{machine_of, client_in};
 
 use crate::asked::{Asked, Waiting, reply_all};
 use client_request::{
@@ -242,7 +242,7 @@ fn happen<L: SendRequest<RequestMessage>, W: Words>(
 }
 
 /// Timers that are due fire, then an event happens, and timers that are due fire again.
-pub(crate) fn take_in<L: SendRequest<RequestMessage>, W: Words>(
+pub fn take_in<L: SendRequest<RequestMessage>, W: Words>(
     layer: &mut L,
     asked: &mut Asked<L::Response>,
     cx: &mut Cx<'_, W>,

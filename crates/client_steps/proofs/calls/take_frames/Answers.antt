@@ -1,9 +1,9 @@
 use Rattle.std.proofs.Common.{rules, ◌∙◌}
 use Rattle.client_request.specs.Cx.{view_of}
-use Rattle.client_core.specs.Client.{client_of}
-use Rattle.client_core.specs.Machines.{machine_of}
-use Rattle.client_core.proofs.Fuel.{frames_some}
-use Rattle.client_core.proofs.calls.take_frames.Goals as goal
+use Rattle.client_steps.specs.Client.{client_of}
+use Rattle.client_steps.specs.Machines.{machine_of}
+use Rattle.client_steps.proofs.Fuel.{frames_some}
+use Rattle.client_steps.proofs.calls.take_frames.Goals as goal
 
 pub loop-left-preserved : goal.loop-left-preserved
 loop-left-preserved g c =

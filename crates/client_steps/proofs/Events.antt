@@ -3,7 +3,7 @@ use Rattle.std.proofs.Common.{◌≡◌, ℕ, List, [], ◌∷◌, map, Option, 
 use Rattle.std.specs.Prelude.{option_and_then, option_map}
 use Rattle.client_request.specs.declared.event.Event.{Event}
 use Rattle.client_request.specs.declared.event.Row.{Row}
-use Rattle.client_core.specs.Client.{Machine, Client, rested, row_of, row_and_rest, then_rows, client_step, plain_rows}
+use Rattle.client_steps.specs.Client.{Machine, Client, rested, row_of, row_and_rest, then_rows, client_step, plain_rows}
 
 events_of : Option (List Row) → List Event
 events_of None = []

@@ -1,7 +1,7 @@
 use Rattle.std.proofs.Common.{rules, ap, sym, ◌∙◌, ◌-◌}
-use Rattle.client_core.specs.Client as plain
-use Rattle.client_core.proofs.Fuel.{replies_many_suc}
-use Rattle.client_core.proofs.asked.reply_all.Goals as goal
+use Rattle.client_steps.specs.Client as plain
+use Rattle.client_steps.proofs.Fuel.{replies_many_suc}
+use Rattle.client_steps.proofs.asked.reply_all.Goals as goal
 
 pub loop-left-preserved : goal.loop-left-preserved
 loop-left-preserved g c = record {

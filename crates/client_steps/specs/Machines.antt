@@ -4,7 +4,7 @@ use Rattle.client_request.specs.Request.{Request}
 use Rattle.client_request.specs.View.{Transport}
 use Rattle.client_request.specs.Cx.{view_of}
 use Rattle.client_request.specs.declared.cx.Cx.{Cx}
-use Rattle.client_core.specs.Client.{Machine, Client, Asked, client_of}
+use Rattle.client_steps.specs.Client.{Machine, Client, Asked, client_of}
 
 abbrev pub machine_of : {U P : Type 0} → Transport Request U P → (P → ℕ) → Machine U P
 machine_of t ticket = record { send = t.send; step = t.step; cancel = t.cancel; response = t.response; ticket = ticket }

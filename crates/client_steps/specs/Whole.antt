@@ -10,16 +10,16 @@ use Rattle.client_request.specs.declared.event.Row.{Row}
 use Rattle.client_multi.specs.DgramStream as dgram_stream
 use Rattle.client_multi.specs.MultiStream as multi_stream
 use Rattle.client_multi.specs.Settings as stream_settings
-use Rattle.client_core.specs.Client as plain
-use Rattle.client_core.specs.Client.{Machine, Asked, nothing_asked, plain_rows}
-use Rattle.client_core.specs.First as first
-use Rattle.client_core.specs.First.{First}
-use Rattle.client_core.specs.Machines.{machine_of}
-use Rattle.client_core.specs.Upstream as upstream
-use Rattle.client_core.specs.declared.first.Passed.{Passed}
-use Rattle.client_core.specs.declared.upstream.Handed.{Handed}
-use Rattle.client_core.specs.declared.upstream.Upstream.{Upstream}
-use Rattle.client_core.specs.declared.upstream.Upstream.TheVariants.{Stream, DgramStream}
+use Rattle.client_steps.specs.Client as plain
+use Rattle.client_steps.specs.Client.{Machine, Asked, nothing_asked, plain_rows}
+use Rattle.client_steps.specs.First as first
+use Rattle.client_steps.specs.First.{First}
+use Rattle.client_steps.specs.Machines.{machine_of}
+use Rattle.client_steps.specs.Upstream as upstream
+use Rattle.client_steps.specs.declared.first.Passed.{Passed}
+use Rattle.client_steps.specs.declared.upstream.Handed.{Handed}
+use Rattle.client_steps.specs.declared.upstream.Upstream.{Upstream}
+use Rattle.client_steps.specs.declared.upstream.Upstream.TheVariants.{Stream, DgramStream}
 use Rattle.resolv_conf.specs.declared.conf.ResolvConf.{ResolvConf}
 use Rattle.resolv_conf.specs.declared.options.ResolvOptions.{ResolvOptions}
 use Rattle.resolv_conf.specs.declared.server.ServerConf.{ServerConf}

@@ -1,7 +1,7 @@
 use Rattle.std.proofs.Common.{◌≡◌}
 use Rattle.client_request.specs.Cx.{view_of, LendsTheSame}
-use Rattle.client_core.specs.Client as plain
-use Rattle.client_core.proofs.asked.reply_all.Given as goal
+use Rattle.client_steps.specs.Client as plain
+use Rattle.client_steps.proofs.asked.reply_all.Given as goal
 
 abbrev pub invariant-loop-left : goal.invariant-loop-left
 invariant-loop-left g l = record {

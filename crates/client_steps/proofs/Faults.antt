@@ -3,7 +3,7 @@ use Rattle.std.proofs.Common.{◌≡◌, ◌∙◌, refl, sym, ap, ℕ, List, Bo
 use Rattle.std.specs.Prelude.{Result, Ok, Err}
 use Rattle.client_request.specs.declared.error.Error.{Error}
 use Rattle.client_request.specs.Composing.{without_message}
-use Rattle.client_core.specs.First.{fault_of}
+use Rattle.client_steps.specs.First.{fault_of}
 
 same : (has_server : Bool) (composed : Result (List ℕ) Error) → fault_of has_server (without_message composed) ≡ fault_of has_server composed
 same has_server (Err error) = refl

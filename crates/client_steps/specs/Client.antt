@@ -14,7 +14,7 @@ use Rattle.client_request.specs.declared.event.Row.{Row}
 use Rattle.client_request.specs.declared.event.What.{What}
 use Rattle.client_request.specs.declared.event.What.TheVariants.{Ask, Bytes, Tick}
 use Rattle.client_request.specs.declared.timers.Timer.{Timer}
-use Rattle.client_core.specs.declared.asked.Waiting.{Waiting}
+use Rattle.client_steps.specs.declared.asked.Waiting.{Waiting}
 
 -- The requests that wait, by the ticket that the transport gave them; the ticket of each deadline's timer; and the number of the next request.
 pub record Asked (P : Type 0) : Type 0 where

@@ -1,7 +1,7 @@
 //! One server, by the transports that are used for it.
 
 ghost use Rattle.std.specs.Prelude.{◌≡◌, true, false};
-ghost use Rattle.client_core.specs.Upstream as plain;
+ghost use Rattle.client_steps.specs.Upstream as plain;
 
 use client_multi::{dgram_stream, multi_stream};
 use client_request::{

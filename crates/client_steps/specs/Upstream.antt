@@ -11,10 +11,10 @@ use Rattle.client_multi.specs.DgramStream.{DgramStream}
 use Rattle.client_multi.specs.Fallback as fallback
 use Rattle.client_multi.specs.Links.{Link, one_stream}
 use Rattle.client_multi.specs.MultiStream as multi_stream
-use Rattle.client_core.specs.declared.upstream.Handed.{Handed}
-use Rattle.client_core.specs.declared.upstream.Handed.TheVariants as handed
-use Rattle.client_core.specs.declared.upstream.Upstream.{Upstream}
-use Rattle.client_core.specs.declared.upstream.Upstream.TheVariants as server
+use Rattle.client_steps.specs.declared.upstream.Handed.{Handed}
+use Rattle.client_steps.specs.declared.upstream.Handed.TheVariants as handed
+use Rattle.client_steps.specs.declared.upstream.Upstream.{Upstream}
+use Rattle.client_steps.specs.declared.upstream.Upstream.TheVariants as server
 
 -- whether a transport gave up
 abbrev pub dgram_failed : {R : Type 0} → dgram.Dgram R → Bool

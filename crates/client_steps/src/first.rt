@@ -5,7 +5,7 @@ ghost use Rattle.client_request.specs.Calls.{Steps, NumbersRunOut};
 ghost use Rattle.client_request.specs.Cx.{view_of, heard, LendsTheSame};
 ghost use Rattle.client_request.specs.Response.{IsRefusal};
 ghost use Rattle.client_request.specs.Timers.{IsWant};
-ghost use Rattle.client_core.specs.First as plain;
+ghost use Rattle.client_steps.specs.First as plain;
 
 use client_request::{
     Board, ComposeRequest, Cx, Error, GetResponse, Poll, SendRequest, Signal, Words, take_response,
@@ -21,7 +21,7 @@ pub struct FirstServer<U> {
 }
 
 impl<U> Model for FirstServer<U> {
-    ghost use Rattle.client_core.specs.First.{First};
+    ghost use Rattle.client_steps.specs.First.{First};
 
     ghost Value = { First U };
 

@@ -3,8 +3,8 @@ use Rattle.std.specs.Prelude.{ℕ, Bool, true, false, ◌||◌, List, Option, So
 use Rattle.client_request.specs.View.{View, Step, Transport, answers, draws_ticket}
 use Rattle.client_request.specs.declared.error.Error.{Error}
 use Rattle.client_request.specs.declared.error.Error.TheVariants.{NoTransportAvailable}
-use Rattle.client_core.specs.declared.first.Passed.{Passed}
-use Rattle.client_core.specs.declared.first.Passed.TheVariants.{Here, Below}
+use Rattle.client_steps.specs.declared.first.Passed.{Passed}
+use Rattle.client_steps.specs.declared.first.Passed.TheVariants.{Here, Below}
 
 pub record First (U : Type 0) : Type 0 where
   pub upstream : Option U

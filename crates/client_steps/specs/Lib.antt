@@ -1,0 +1,6 @@
+pub mod Upstream
+pub mod First
+pub mod Client
+pub mod Machines
+pub mod Whole
+pub mod Headline
