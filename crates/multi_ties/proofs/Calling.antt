@@ -251,26 +251,32 @@ module _ (server p : ℕ) (posts : List Posted) (frames fs : ℕ → List Octets
   -- it is reached from machine m0, where what was put out before is outs0
   module _ (m0 : Multi) (outs0 : List Out) (made : Act Multi) (state : made.state ≡ n) (runs : Runs server v.now v.place m0 made) (nothing : made.posts ≡ []) (outs : w.outs ≡ outs0 ++ made.outs) (place : w.place ≡ made.place) (more : w.more ≡ v.more) (le : v.ticket ≤ tk) (quiet : NoneHeard m0 → NoneHeard n) where
     ended_so : has_ended c.line.stage ≡ true → (x : Went server fs z (desk_of s) m0 (record v { outs = outs0 }) (taken (one_stream for_one) p l s) (taken_back v w)) × (x.made ≡ made)
-    ended_so e = (left_so (frees p s.connections) (unwatched (timer_at l.line.stage) s.watches) freed_there
-        (elim x.new [ inl f ↦ absurd (let z : false ≡ true = sym f.0 ∙ e in cc) | inr f ↦ IsNone freed_here f.1 f.2 ])
-        (λ k i at own. absurd (let z : None ≡ Some k = sym freed_here ∙ at in cc))
-        (λ i own. absurd (let z : None ≡ Some i = sym (ended_timer c.line.stage e) ∙ own in cc))
-        (λ i mine other. dropped i (timer_at l.line.stage) (λ e. mine (sym (same_timer l.line.stage) ∙ e)))
-        (sorted_frees p 0 v.place s.connections order.connections)
-        (rises_below (λ (e : ℕ × ℕ). e.0) 0 v.timers.next w.timers.next (unwatched (timer_at l.line.stage) s.watches) x.timed.on.timer (sorted_dropped (timer_at l.line.stage)))
-        m0 outs0 made state runs nothing outs place more le quiet, refl)
+    ended_so e = (
+      left_so (frees p s.connections) (unwatched (timer_at l.line.stage) s.watches) freed_there
+          (elim x.new [ inl f ↦ absurd (let z : false ≡ true = sym f.0 ∙ e in cc) | inr f ↦ IsNone freed_here f.1 f.2 ])
+          (λ k i at own. absurd (let z : None ≡ Some k = sym freed_here ∙ at in cc))
+          (λ i own. absurd (let z : None ≡ Some i = sym (ended_timer c.line.stage e) ∙ own in cc))
+          (λ i mine other. dropped i (timer_at l.line.stage) (λ e. mine (sym (same_timer l.line.stage) ∙ e)))
+          (sorted_frees p 0 v.place s.connections order.connections)
+          (rises_below (λ (e : ℕ × ℕ). e.0) 0 v.timers.next w.timers.next (unwatched (timer_at l.line.stage) s.watches) x.timed.on.timer (sorted_dropped (timer_at l.line.stage)))
+          m0 outs0 made state runs nothing outs place more le quiet,
+      refl,
+    )
 
     kept_so : has_ended c.line.stage ≡ false → (x : Went server fs z (desk_of s) m0 (record v { outs = outs0 }) (keeps (one_stream for_one) p c (taken (one_stream for_one) p l s)) (taken_back v w)) × (x.made ≡ made)
-    kept_so e = (left_so (puts p c (frees p s.connections)) (watched p (timer_at c.line.stage) (unwatched (timer_at l.line.stage) s.watches))
-        (λ q ne. puts_there p c (frees p s.connections) q ne ∙ freed_there q ne)
-        (elim x.new [ inl f ↦ IsSome c f.1 (puts_here p c (frees p s.connections)) f.2 | inr f ↦ absurd (let z : true ≡ false = sym f.0 ∙ e in cc) ])
-        (λ k i at own. ap (λ (l : Link Request). timer_of l.line.stage) (same_link (entry_at p (puts p c (frees p s.connections))) c k (puts_here p c (frees p s.connections)) at) ∙ own)
-        (λ i own. added_here i (timer_at c.line.stage) (unwatched (timer_at l.line.stage) s.watches) (same_timer c.line.stage ∙ own))
-        (λ i mine other. added i (timer_at c.line.stage) (unwatched (timer_at l.line.stage) s.watches) (λ e. other (sym (same_timer c.line.stage) ∙ e)) ∙ dropped i (timer_at l.line.stage) (λ e. mine (sym (same_timer l.line.stage) ∙ e)))
-        (sorted_puts p c 0 v.place (frees p s.connections) (least p) (present_below p 0 v.place l s.connections order.connections is) (sorted_frees p 0 v.place s.connections order.connections))
-        (sorted_added (timer_at c.line.stage) w.timers.next (unwatched (timer_at l.line.stage) s.watches) (λ j own. small j (sym (same_timer c.line.stage) ∙ own))
-        (rises_below (λ (e : ℕ × ℕ). e.0) 0 v.timers.next w.timers.next (unwatched (timer_at l.line.stage) s.watches) x.timed.on.timer (sorted_dropped (timer_at l.line.stage))))
-        m0 outs0 made state runs nothing outs place more le quiet, refl)
+    kept_so e = (
+      left_so (puts p c (frees p s.connections)) (watched p (timer_at c.line.stage) (unwatched (timer_at l.line.stage) s.watches))
+          (λ q ne. puts_there p c (frees p s.connections) q ne ∙ freed_there q ne)
+          (elim x.new [ inl f ↦ IsSome c f.1 (puts_here p c (frees p s.connections)) f.2 | inr f ↦ absurd (let z : true ≡ false = sym f.0 ∙ e in cc) ])
+          (λ k i at own. ap (λ (l : Link Request). timer_of l.line.stage) (same_link (entry_at p (puts p c (frees p s.connections))) c k (puts_here p c (frees p s.connections)) at) ∙ own)
+          (λ i own. added_here i (timer_at c.line.stage) (unwatched (timer_at l.line.stage) s.watches) (same_timer c.line.stage ∙ own))
+          (λ i mine other. added i (timer_at c.line.stage) (unwatched (timer_at l.line.stage) s.watches) (λ e. other (sym (same_timer c.line.stage) ∙ e)) ∙ dropped i (timer_at l.line.stage) (λ e. mine (sym (same_timer l.line.stage) ∙ e)))
+          (sorted_puts p c 0 v.place (frees p s.connections) (least p) (present_below p 0 v.place l s.connections order.connections is) (sorted_frees p 0 v.place s.connections order.connections))
+          (sorted_added (timer_at c.line.stage) w.timers.next (unwatched (timer_at l.line.stage) s.watches) (λ j own. small j (sym (same_timer c.line.stage) ∙ own))
+          (rises_below (λ (e : ℕ × ℕ). e.0) 0 v.timers.next w.timers.next (unwatched (timer_at l.line.stage) s.watches) x.timed.on.timer (sorted_dropped (timer_at l.line.stage))))
+          m0 outs0 made state runs nothing outs place more le quiet,
+      refl,
+    )
       where
         least : (n : ℕ) → 0 ≤ n
         least n = omega arith

@@ -190,10 +190,14 @@ module _ (server : ℕ) (frames : ℕ → List Octets) (todo : List (ℕ × Phas
       number = λ j at. ap (λ (j : Job Request). j.number) (same_job (entry_at t s.jobs) j job at has.2);
       fits = λ j at. (let q : waits_now job ≡ j = same_job (e.jobs t) (waits_now job) j here at in (subst (λ j. JobFits y e n (dues w) t j) q fits, sym (ap (λ (j : Job Request). j.number) q)));
       asked = λ a at. (waits_now job, here);
-      own_timers = λ i at. (let o = T.timers i t at in (waits_now job, here, elim o.2 [
-        | inl q ↦ inl (sym (ap (λ (j : Job Request). j.end) (same_job (entry_at t s.jobs) o.0 job o.1 has.2)) ∙ q)
-        | inr q ↦ absurd (let z : Resting i ≡ Held has.1 (under x.ticket) = sym q ∙ only_held o.0 o.1 in cc)
-      ]));
+      own_timers = λ i at. (let o = T.timers i t at in (
+        waits_now job,
+        here,
+        elim o.2 [
+          | inl q ↦ inl (sym (ap (λ (j : Job Request). j.end) (same_job (entry_at t s.jobs) o.0 job o.1 has.2)) ∙ q)
+          | inr q ↦ absurd (let z : Resting i ≡ Held has.1 (under x.ticket) = sym q ∙ only_held o.0 o.1 in cc)
+        ],
+      ));
       own_inner = λ i at. absurd (only_inner i at);
       own_waiting = λ l. (let o = T.waiting t l in absurd (not_waiting o.0 o.2 o.3));
       own_todo = λ phase l. own_todo phase l;

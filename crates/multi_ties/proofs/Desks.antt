@@ -162,8 +162,11 @@ module _ (p : ℕ) (l : SingleLine) (names after : ℕ → Option ℕ) (m n : Mu
   seated = record {
     at_id = λ id. at_id id (line.seated.at_id id);
     by_ticket = line.seated.by_ticket;
-    queued = λ i w e. (let q = line.seated.queued i w e in (q.0, named i q.0 q.2.ask q.1 q.2.is (lined_there q.2.ask q.2.phase),
-        record { number = q.2.number; ask = q.2.ask; is = still q.0 q.2.ask q.2.is (lined_there q.2.ask q.2.phase); phase = q.2.phase; request = q.2.request; octets = q.2.octets }));
+    queued = λ i w e. (let q = line.seated.queued i w e in (
+      q.0,
+      named i q.0 q.2.ask q.1 q.2.is (lined_there q.2.ask q.2.phase),
+      record { number = q.2.number; ask = q.2.ask; is = still q.0 q.2.ask q.2.is (lined_there q.2.ask q.2.phase); phase = q.2.phase; request = q.2.request; octets = q.2.octets },
+    ));
     lined = λ k a e f. (let o = was k a e (lined_there a f) in let z = line.seated.lined k a o f in (z.0, z.1, named z.0 k a z.2 o (lined_there a f), z.3));
     holding = λ k a id e f. (let o = was k a e (held_there a id f) in let z = line.seated.holding k a id o f in (z.0, z.1, named z.0 k a z.2 o (held_there a id f), z.3));
     apart = apart;
@@ -201,4 +204,3 @@ link_stays p l names after m n x frames d e ticket next link conns asks named ap
   settled = link.settled;
   keeps = link.keeps;
 }
-

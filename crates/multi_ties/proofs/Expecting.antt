@@ -159,8 +159,10 @@ module _ (server : ℕ) (frames : ℕ → List Octets) (t : ℕ) (job : Job Requ
     more = refl;
     stands = record {
       server = server_waits (Some v.place) (Some v.place) refl;
-      order = jobs_order (Some v.place) (Some v.place) refl st.order (v.place + 1) (up v.place) (λ q e. (subst (λ q. q < v.place + 1) (let f : v.place ≡ q = cc in f) (over v.place),
-          absent_above 0 v.place q s.connections (subst (λ q. v.place ≤ q) (let f : v.place ≡ q = cc in f) (le_refl v.place)) st.order.connections));
+      order = jobs_order (Some v.place) (Some v.place) refl st.order (v.place + 1) (up v.place) (λ q e. (
+        subst (λ q. q < v.place + 1) (let f : v.place ≡ q = cc in f) (over v.place),
+        absent_above 0 v.place q s.connections (subst (λ q. v.place ≤ q) (let f : v.place ≡ q = cc in f) (le_refl v.place)) st.order.connections,
+      ));
       fair = record { order = st.fair.order; words = st.fair.words };
     };
     on = record { fair = record { order = st.fair.order; words = st.fair.words }; now = refl; timer = le_refl v.timers.next; ticket = le_refl v.ticket; place = up v.place; later = λ i due e. inl e };

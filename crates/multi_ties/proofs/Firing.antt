@@ -191,10 +191,14 @@ module _ (server : ℕ) (frames : ℕ → List Octets) (s : Server) (m : Multi) 
         number = λ j q. ap (λ (j : Job Request). j.number) (same_job (entry_at t s.jobs) j job q is);
         fits = λ j q. (let x : waits_now job ≡ j = same_job (e.jobs t) (waits_now job) j here q in (subst (λ j. JobFits z e n (dues v) t j) x fits, sym (ap (λ (j : Job Request). j.number) x)));
         asked = λ a q. (waits_now job, here);
-        own_timers = λ j tm. (let o = timer_back j t tm in let q = T.timers j t o.1 in (waits_now job, here, elim q.2 [
-          | inl x ↦ inl (sym (ap (λ (j : Job Request). j.end) (same_job (entry_at t s.jobs) q.0 job q.1 is)) ∙ x)
-          | inr x ↦ absurd (o.0 (let y : Resting i ≡ Resting j = sym (only q.0 q.1) ∙ x in cc))
-        ]));
+        own_timers = λ j tm. (let o = timer_back j t tm in let q = T.timers j t o.1 in (
+          waits_now job,
+          here,
+          elim q.2 [
+            | inl x ↦ inl (sym (ap (λ (j : Job Request). j.end) (same_job (entry_at t s.jobs) q.0 job q.1 is)) ∙ x)
+            | inr x ↦ absurd (o.0 (let y : Resting i ≡ Resting j = sym (only q.0 q.1) ∙ x in cc))
+          ],
+        ));
         own_inner = λ j q. (let o = T.inner j t q in absurd (let x : Resting i ≡ Held o.1 (under j) = sym (only o.0 o.2) ∙ o.3 in cc));
         own_waiting = λ l. (let o = T.waiting t l in absurd (let x : Resting i ≡ Waiting = sym (only o.0 o.2) ∙ o.3 in cc));
         own_todo = λ phase l. elim l [ inl q ↦ (waits_now job, moved its.ask Free, here, refl, moved_is, q.1, inl (sym q.1)) | inr q ↦ absurd q ];
@@ -335,25 +339,28 @@ module _ (server : ℕ) (frames : ℕ → List Octets) (s : Server) (m : Multi) 
   -- A timer of others leaves the machine as it is
 
   untouched : (Owns d i → ⊥) → (g : P s v) × (g.made.state ≡ m)
-  untouched free = (record {
-    made = still v.place m;
-    runs = Rests v.place m;
-    outs = sym (append-nil v.outs);
-    place = refl;
-    board = [];
-    put = sym (append-nil v.board);
-    gives = λ u. refl;
-    more = refl;
-    stands = record {
-      server = server_retimed nothing_under_way d m (dues v0) (dues v) frames v0.ticket v0.ticket (λ j o. due_there j (λ e. free (subst (Owns d) (sym e) o))) (le_refl v0.ticket) st.server;
-      order = order_up s (sight v0) (sight v) st.order (le_refl v0.timers.next) (le_refl v0.ticket) (le_refl v0.place);
-      fair = fair_v;
-    };
-    on = goes_nowhere v fair_v;
-    owned = λ j o. inl o;
-    others = λ j x n q. q;
-    quiet = λ q. q;
-  }, refl)
+  untouched free = (
+    record {
+      made = still v.place m;
+      runs = Rests v.place m;
+      outs = sym (append-nil v.outs);
+      place = refl;
+      board = [];
+      put = sym (append-nil v.board);
+      gives = λ u. refl;
+      more = refl;
+      stands = record {
+        server = server_retimed nothing_under_way d m (dues v0) (dues v) frames v0.ticket v0.ticket (λ j o. due_there j (λ e. free (subst (Owns d) (sym e) o))) (le_refl v0.ticket) st.server;
+        order = order_up s (sight v0) (sight v) st.order (le_refl v0.timers.next) (le_refl v0.ticket) (le_refl v0.place);
+        fair = fair_v;
+      };
+      on = goes_nowhere v fair_v;
+      owned = λ j o. inl o;
+      others = λ j x n q. q;
+      quiet = λ q. q;
+    },
+    refl,
+  )
 
   line_still : (p : ℕ) (l : SingleLine) (u : View) (own : LineStage) → (timer_of own ≡ Some i → ⊥) → line_fires p i l u own ≡ Some (l, u)
   line_still p l u stage.New free = refl
@@ -395,13 +402,17 @@ module _ (server : ℕ) (frames : ℕ → List Octets) (s : Server) (m : Multi) 
           timed = timed_same l.line.stage (lent v) (record { order = fair_v.order; words = fair_v.words });
           opening = refl;
           calm = refl;
-          new = inl (live, found2.0, record {
-            place = found2.1.place;
-            timeout = found2.1.timeout;
-            line = line_stays p l.line (names_at d) (names_at d) m m found2.0 (dues v0) (dues v) v0.ticket v0.ticket found2.1.line refl (λ k. inl refl) (λ j k b nm q th. nm) (names_apart d T.apart T.inner) same_link_due (le_refl v0.ticket);
-            settled = found2.1.settled;
-            keeps = subst (λ o. Keeps o (frames p) (found2.0).got) (sym (ap (λ b. if b then [] else l.octets) live)) found2.1.keeps;
-          });
+          new = inl (
+            live,
+            found2.0,
+            record {
+              place = found2.1.place;
+              timeout = found2.1.timeout;
+              line = line_stays p l.line (names_at d) (names_at d) m m found2.0 (dues v0) (dues v) v0.ticket v0.ticket found2.1.line refl (λ k. inl refl) (λ j k b nm q th. nm) (names_apart d T.apart T.inner) same_link_due (le_refl v0.ticket);
+              settled = found2.1.settled;
+              keeps = subst (λ o. Keeps o (frames p) (found2.0).got) (sym (ap (λ b. if b then [] else l.octets) live)) found2.1.keeps;
+            },
+          );
         })
         m v.outs (still v.place m) refl (Rests v.place m) refl (sym (append-nil v.outs)) refl refl (le_refl v.ticket) (λ q. q)
 

@@ -166,13 +166,17 @@ module _ (server p : ℕ) (l : Link Request) (x : Conn) (s : Server) (m : Multi)
         timed = timed_b;
         opening = opening;
         calm = calm;
-        new = inl (live, y, record {
-          place = place;
-          timeout = timeout;
-          line = line_stays p c.line (names_at d) (names_at (desk_of s2)) next next y (dues u) (dues u) u.ticket u.ticket line refl (λ k. inl refl) (λ i j e nm at th. named i j e nm at) apart (λ i own. refl) (le_refl u.ticket);
-          settled = settled;
-          keeps = subst (Keeps c.octets (fs p)) (sym got) (keeps_on live);
-        });
+        new = inl (
+          live,
+          y,
+          record {
+            place = place;
+            timeout = timeout;
+            line = line_stays p c.line (names_at d) (names_at (desk_of s2)) next next y (dues u) (dues u) u.ticket u.ticket line refl (λ k. inl refl) (λ i j e nm at th. named i j e nm at) apart (λ i own. refl) (le_refl u.ticket);
+            settled = settled;
+            keeps = subst (Keeps c.octets (fs p)) (sym got) (keeps_on live);
+          },
+        );
       };
       made = still v.place next;
       state = refl;
@@ -222,7 +226,7 @@ module _ (server p : ℕ) (l : Link Request) (x : Conn) (s : Server) (m : Multi)
   gave_nothing : (next : Multi) → TakesFrame v.now p f m Nothing next → next.asks ≡ m.asks → Turned s m next → u.board ≡ [] → Leads (FrameDone server p f fs d m v b (has_ended c.line.stage)) (returns (one_stream for_one) p (taken (one_stream for_one) p l s) v (c, w))
   gave_nothing next takes asks t board =
       let called = call_so server p [] frames fs nothing_under_way s l m t.n vb w vb.request vb.ticket c refl same_frames T a.links a.watched a.order fair_b a.is t.left
-          next v.outs t.made t.state t.runs t.nothing t.outs (heard.at_place ∙ sym t.at_place) refl (le_refl v.ticket) t.quiet in
+      next v.outs t.made t.state t.runs t.nothing t.outs (heard.at_place ∙ sym t.at_place) refl (le_refl v.ticket) t.quiet in
       let g = called.0 in
       let r : Server = with_connection (one_stream for_one) p c (taken (one_stream for_one) p l s) in
       subst (λ (ps : List Posted). Leads (FrameDone server p f fs d m v b (has_ended c.line.stage)) (collects ps r (taken_back v w))) (sym board) (record {

@@ -124,7 +124,7 @@ module _ (server : ℕ) (frames : ℕ → List Octets) where
       let is : desk_of s ≡ desk_with t o.0 (less t s) = taken_out t o.0 s 0 v.ticket st.order.jobs o.2 in
       let same : o.0 ≡ waits_now o.0 = ap (λ at. record o.0 { stage = at }) o.3 in
       let hand : Stands (record { todo = all_as to (t ∷ ts); failed = [] }) (desk_with t (waits_now o.0) (less t s)) (less t s) m frames v
-          = subst (λ job. Stands (record { todo = all_as to (t ∷ ts); failed = [] }) (desk_with t job (less t s)) (less t s) m frames v) same (in_hand (record { todo = all_as to (t ∷ ts); failed = [] }) t o.0 s m v st o.2) in
+      = subst (λ job. Stands (record { todo = all_as to (t ∷ ts); failed = [] }) (desk_with t job (less t s)) (less t s) m frames v) same (in_hand (record { todo = all_as to (t ∷ ts); failed = [] }) t o.0 s m v st o.2) in
       leads_on (Went server frames (record { todo = all_as to ts; failed = [] }) (desk_of s) m v) (Went server frames nothing_under_way (desk_of s) m v) (λ r u. each f ts r u) (at_ticket f t s v)
       (subst (λ (x : Option (Job Request)). Leads (Went server frames (record { todo = all_as to ts; failed = [] }) (desk_of s) m v) (with_job f t s v x)) (sym o.2)
       (subst (λ d. Leads (Went server frames (record { todo = all_as to ts; failed = [] }) d m v) (f t o.0 (less t s) v)) (sym (is ∙ ap (λ job. desk_with t job (less t s)) same))

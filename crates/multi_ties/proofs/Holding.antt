@@ -215,13 +215,17 @@ module _ (server : ℕ) (frames : ℕ → List Octets) (t : ℕ) (job : Job Requ
         timed = pumped.taken.timed;
         opening = pumped.taken.beside.opening;
         calm = pumped.taken.beside.calm;
-        new = inl (is_open (dues w) l.idle_time l.stage (pumped.taken.conn).mode line2.fits.stage, pumped.taken.conn, record {
-          place = link.place;
-          timeout = link.timeout;
-          line = line2;
-          settled = pumped.settled;
-          keeps = subst (Keeps c.octets (frames p)) (sym pumped.taken.got) link.keeps;
-        });
+        new = inl (
+          is_open (dues w) l.idle_time l.stage (pumped.taken.conn).mode line2.fits.stage,
+          pumped.taken.conn,
+          record {
+            place = link.place;
+            timeout = link.timeout;
+            line = line2;
+            settled = pumped.settled;
+            keeps = subst (Keeps c.octets (frames p)) (sym pumped.taken.got) link.keeps;
+          },
+        );
       }
 
       quiet_left : NoneHeard m1 → NoneHeard n

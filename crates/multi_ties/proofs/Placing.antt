@@ -69,8 +69,10 @@ module _ (p : ℕ) (posts : List Posted) (y z : UnderWay) (d e : Desk) (m n : Mu
   asks_stay : (q : ℕ) → (p ≡ q → ⊥) → (k : ℕ) → StaysThere q (m.asks k) (n.asks k)
   asks_stay q ne k = elim (either_way k) [
     | inl away ↦ inl (c.aside k away)
-    | inr t ↦ (let b = goes_on k t.0 t.1 t.2 in inr (away_so q (m.asks k) t.0 t.1 (λ at. ne (one_place p q (t.0).phase t.2 at)),
-        away_so q (n.asks k) b.0 b.1 (λ at. elim b.2 [ inl h ↦ ne (one_place p q (b.0).phase h at) | inr h ↦ subst (IsThere q) h at ])))
+    | inr t ↦ (let b = goes_on k t.0 t.1 t.2 in inr (
+      away_so q (m.asks k) t.0 t.1 (λ at. ne (one_place p q (t.0).phase t.2 at)),
+      away_so q (n.asks k) b.0 b.1 (λ at. elim b.2 [ inl h ↦ ne (one_place p q (b.0).phase h at) | inr h ↦ subst (IsThere q) h at ]),
+    ))
   ]
 
   apart : (u w : ℕ) (job other : Job Request) → e.jobs u ≡ Some job → e.jobs w ≡ Some other → job.number ≡ other.number → u ≡ w

@@ -131,10 +131,14 @@ module _ (server : ℕ) (frames : ℕ → List Octets) (t : ℕ) (job : Job Requ
     fits = λ j is. (let e : job2 ≡ j = same_job (entry_at t (puts t job2 s.jobs)) job2 j (puts_here t job2 s.jobs) is in
         (subst (λ j. JobFits z (desk_of to) n (dues w) t j) e fits, sym (ap (λ (j : Job Request). j.number) e)));
     asked = λ b is. (job2, puts_here t job2 s.jobs);
-    own_timers = λ i is. (job2, puts_here t job2 s.jobs, elim (is_or_was i0 (Some t) (λ j. entry_at j s.timers) i t (sym (at_puts i0 t i s.timers) ∙ is)) [
-      | inl b ↦ inr (ap Resting b.0)
-      | inr b ↦ inl (h.ends i b.1)
-    ]);
+    own_timers = λ i is. (
+      job2,
+      puts_here t job2 s.jobs,
+      elim (is_or_was i0 (Some t) (λ j. entry_at j s.timers) i t (sym (at_puts i0 t i s.timers) ∙ is)) [
+        | inl b ↦ inr (ap Resting b.0)
+        | inr b ↦ inl (h.ends i b.1)
+      ],
+    );
     own_inner = λ i is. absurd (h.inner i is);
     own_waiting = λ l. absurd (h.waiting l);
     own_todo = λ phase l. absurd (once phase l);

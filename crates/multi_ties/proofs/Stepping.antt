@@ -188,13 +188,17 @@ pumped_call server p l x y s m n frames v a link asks conns opening calm got old
       timed = subst (λ st. IsTimed st t.stage (lent v) w) stage pumped.taken.timed;
       opening = pumped.taken.beside.opening;
       calm = pumped.taken.beside.calm;
-      new = inl (is_open (dues w) t.idle_time t.stage (pumped.taken.conn).mode pumped.taken.line.fits.stage, pumped.taken.conn, record {
-        place = link.place;
-        timeout = link.timeout;
-        line = pumped.taken.line;
-        settled = pumped.settled;
-        keeps = subst (Keeps l.octets (frames p)) (sym (pumped.taken.got ∙ got)) link.keeps;
-      });
+      new = inl (
+        is_open (dues w) t.idle_time t.stage (pumped.taken.conn).mode pumped.taken.line.fits.stage,
+        pumped.taken.conn,
+        record {
+          place = link.place;
+          timeout = link.timeout;
+          line = pumped.taken.line;
+          settled = pumped.settled;
+          keeps = subst (Keeps l.octets (frames p)) (sym (pumped.taken.got ∙ got)) link.keeps;
+        },
+      );
     })
     n outs0 pumped.taken.made refl pumped.taken.runs pumped.taken.nothing outs (pumped.taken.at_place ∙ sym pumped.taken.place) pumped.taken.more (le_refl v.ticket) quiet_left pumped.taken.put
   where

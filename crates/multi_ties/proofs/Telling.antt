@@ -228,6 +228,7 @@ module _ (server : ℕ) (frames : ℕ → List Octets) (s : Server) (m : Multi) 
       → Leads (ToldOf server frames what s m v) (calls (one_stream for_one) p (λ l u. if has_ended l.line.stage then Some (l, u) else (if l.place == p then option_and_then (λ y. Some (record l { line = y.0; octets = octets_left y.0.stage l.octets }, y.1)) (Some (ends_with l.place (error l) l.line u)) else Some (l, u))) s v o)
   told_broken what p error right is foreign None e = passes what (foreign (none_there p e))
   told_broken what p error right is foreign (Some l) e = at_place what p l e (λ q. Some (record l { line = (ends_with q (error l) l.line (lent v)).0; octets = octets_left (ends_with q (error l) l.line (lent v)).0.stage l.octets }, (ends_with q (error l) l.line (lent v)).1)) (λ same. closes_so p l e what (error l) (right l) is)
+
   only : (p q : ℕ) → (p == q) ≡ true → p ≡ q
   only p q e = grind (arith, nat_tests)
 
