@@ -1,0 +1,30 @@
+//! The reply to a request.
+
+ghost use Rattle.std.specs.Prelude.{◌≡◌};
+ghost use Rattle.client_turns.specs.Replies.{reply_in, reply_of};
+
+use client_request::{Error, Out, Outs};
+use dns_base::Message;
+
+/// The reply that an out is to the request of a number, if it is one.
+fn reply_of(number: u64, out: Out) -> Option<Result<Message, Error>>
+    ensures { result ≡ reply_of number out }
+{
+    match out {
+        Out::Reply { request, result } if request == number => Some(result),
+        _ => None,
+    }
+}
+
+/// The first reply to the request of a number among outs.
+pub(crate) fn reply_in(number: u64, outs: Outs) -> Option<Result<Message, Error>>
+    ensures { result ≡ reply_in number outs }
+{
+    for out in outs.into_vec() {
+        let reply = reply_of(number, out);
+        if reply.is_some() {
+            return reply;
+        }
+    }
+    None
+}
