@@ -68,16 +68,16 @@ pub fn ask_within<E: Edge, C: Clock, W: Words>(
         what: What::Ask { request },
     };
     let row = take(client, edge, words, event)?;
-    let reply = reply_in(number, row.outs);
-    if reply.is_some() {
-        return Ok(reply);
+    if let Some(reply) = reply_in(number, row.outs) {
+        return Ok(Some(reply));
     }
-    'turns: for _ in 0..most {
+    let mut left = most;
+    while left > 0 {
         let row = turn(client, edge, clock, words)?;
-        let reply = reply_in(number, row.outs);
-        if reply.is_some() {
-            return Ok(reply);
+        if let Some(reply) = reply_in(number, row.outs) {
+            return Ok(Some(reply));
         }
+        left -= 1;
     }
     Ok(None)
 }

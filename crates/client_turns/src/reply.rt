@@ -5,13 +5,20 @@ ghost use Rattle.client_turns.specs.Replies.{reply_in, reply_of};
 
 use client_request::{Error, Out, Outs};
 use dns_base::Message;
+use std::collections::VecDeque;
 
 /// The reply that an out is to the request of a number, if it is one.
 fn reply_of(number: u64, out: Out) -> Option<Result<Message, Error>>
     ensures { result ≡ reply_of number out }
 {
     match out {
-        Out::Reply { request, result } if request == number => Some(result),
+        Out::Reply { request, result } => {
+            if request == number {
+                Some(result)
+            } else {
+                None
+            }
+        }
         _ => None,
     }
 }
@@ -20,10 +27,10 @@ fn reply_of(number: u64, out: Out) -> Option<Result<Message, Error>>
 pub(crate) fn reply_in(number: u64, outs: Outs) -> Option<Result<Message, Error>>
     ensures { result ≡ reply_in number outs }
 {
-    for out in outs.into_vec() {
-        let reply = reply_of(number, out);
-        if reply.is_some() {
-            return reply;
+    let mut left = VecDeque::from(outs.into_vec());
+    while let Some(out) = left.pop_front() {
+        if let Some(reply) = reply_of(number, out) {
+            return Some(reply);
         }
     }
     None

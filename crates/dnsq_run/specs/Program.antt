@@ -55,6 +55,12 @@ pub record IsReplayed (text out : List ℕ) : Type 0 where
 abbrev pub no_conf : ResolvConf
 no_conf = record { servers = []; options = default_options }
 
+-- The text is a configuration, and this is what it says, finalized.
+pub record Configures (text : List ℕ) (final : ResolvConf) : Type 0 where
+  pub conf : ResolvConf
+  pub parses : ParseAnswers text no_conf (Ok tt) conf
+  pub final_is : final ≡ finalized conf
+
 -- The text is a configuration, and these octets are the printing of what it says, finalized.
 pub record IsConfigured (text out : List ℕ) : Type 0 where
   pub conf : ResolvConf

@@ -9,8 +9,10 @@ ghost use Rattle.dnsq_run.specs.Words.{command_of};
 use crate::configure::configure;
 use crate::ending::Ending;
 use crate::laws::input_laws;
+use crate::query::{Answer, query};
+use crate::query_words::{Query, query_of};
 use crate::replay::replay;
-use crate::statuses::{DONE, NO_MEMORY, SINK_FAULT, USAGE};
+use crate::statuses::{DONE, NO_MEMORY, NO_REPLY, SINK_FAULT, USAGE};
 use crate::usage::{Command, USAGE_LINE, command_of};
 use client_core::{Clock, Edge};
 use client_request::Words;
@@ -83,6 +85,54 @@ fn output<S: Source>(alloc: Global, command: Command, source: &mut S) -> Result<
     }
 }
 
+/// Ends before an output is written.
+fn end<K: Sink>(sink: &mut K, ending: Ending) -> Status {
+    match ending {
+        Ending::Silent(status) => status,
+        Ending::Says(status, line) => end_by(sink, status, &line),
+    }
+}
+
+/// Ends by a line that tells why nothing else is written.
+fn end_by<K: Sink>(sink: &mut K, status: Status, line: &[u8]) -> Status {
+    match say(sink, line) {
+        Ok(()) => status,
+        Err(NoMemory) => NO_MEMORY,
+    }
+}
+
+/// Writes what a command makes of its input.
+fn run_text<S: Source, K: Sink>(
+    alloc: Global,
+    command: Command,
+    source: &mut S,
+    sink: &mut K,
+) -> Status {
+    input_laws();
+    match output(alloc, command, source) {
+        Ok(text) => deliver(sink, &text),
+        Err(ending) => end(sink, ending),
+    }
+}
+
+/// Asks servers, and writes the reply's line.
+fn run_query<S: Source, K: Sink, E: Edge, C: Clock, W: Words>(
+    alloc: Global,
+    asked: &Query,
+    source: &mut S,
+    sink: &mut K,
+    edge: &mut E,
+    clock: &mut C,
+    random: &mut W,
+) -> Status {
+    match query(alloc, asked, source, edge, clock, random) {
+        Ok(Answer::Replied(line)) => deliver(sink, &line),
+        Ok(Answer::Refused(line)) => end_by(sink, NO_REPLY, &line),
+        Ok(Answer::NoReply) => end_by(sink, NO_REPLY, b"no reply\n"),
+        Err(ending) => end(sink, ending),
+    }
+}
+
 /// Does what the words ask for, on a source and a sink, and answers the exit status.
 ///
 /// `edge`, `clock` and `random` serve the commands that ask real servers.
@@ -91,9 +141,9 @@ pub fn run_alone<S: Source, K: Sink, E: Edge, C: Clock, W: Words>(
     words: &[String],
     source: &mut S,
     sink: &mut K,
-    _edge: &mut E,
-    _clock: &mut C,
-    _random: &mut W,
+    edge: &mut E,
+    clock: &mut C,
+    random: &mut W,
 ) -> Status
     ensures statuses { IsStatus result.0 }
     ensures usage { result.0 ≡ 2 → command_of words.now ≡ None }
@@ -126,16 +176,12 @@ pub fn run_alone<S: Source, K: Sink, E: Edge, C: Clock, W: Words>(
     // A line that tells why nothing else is written is handed on too.
     ensures line_flushed { EndsByLine result.0 → IsFlushed (K.held sink.new) (K.flushed sink.new) ⊎ Rose (K.faults sink.old) (K.faults sink.new) }
 {
-    let Some(command) = command_of(words) else {
-        return tell_usage(sink);
-    };
-    input_laws();
-    match output(alloc, command, source) {
-        Ok(text) => deliver(sink, &text),
-        Err(Ending::Silent(status)) => status,
-        Err(Ending::Says(status, line)) => match say(sink, &line) {
-            Ok(()) => status,
-            Err(NoMemory) => NO_MEMORY,
-        },
+    if let Some(command) = command_of(words) {
+        return run_text(alloc, command, source, sink);
+    }
+    match query_of(alloc, words) {
+        Ok(Some(asked)) => run_query(alloc, &asked, source, sink, edge, clock, random),
+        Ok(None) => tell_usage(sink),
+        Err(NoMemory) => NO_MEMORY,
     }
 }
