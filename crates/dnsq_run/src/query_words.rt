@@ -141,7 +141,7 @@ impl Said {
 }
 
 /// What the words behind `query` say; none where they are none of a query.
-fn said(alloc: Global, words: &[String]) -> Result<Option<Said>, NoMemory> {
+fn read_words(alloc: Global, words: &[String]) -> Result<Option<Said>, NoMemory> {
     let mut said = Said::nothing();
     let mut left = words;
     let mut options = true;
@@ -179,7 +179,7 @@ fn said(alloc: Global, words: &[String]) -> Result<Option<Said>, NoMemory> {
 pub fn query_of(alloc: Global, words: &[String]) -> Result<Option<Query>, NoMemory> {
     match words {
         [word, behind @ ..] if word.as_bytes() == b"query".as_slice() => {
-            match said(alloc, behind)? {
+            match read_words(alloc, behind)? {
                 Some(said) => Ok(said.query()),
                 None => Ok(None),
             }

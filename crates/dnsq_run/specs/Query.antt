@@ -1,0 +1,87 @@
+-- What a query asks, and what comes of it.
+use Rattle.std.specs.Prelude.{◌≡◌, ℕ, Bool, true, false, List, [], ◌∷◌, map, Option, None, Some, Result, Ok, Err, IfSome, codes}
+use Rattle.dns_base.specs.Draft.{finished, fresh, pushed_question, with_header}
+use Rattle.client_request.specs.Request.{Request, recorded_from}
+use Rattle.client_request.specs.declared.error.Error.{Error}
+use Rattle.client_request.specs.declared.event.Out.TheVariants.{Reply}
+use Rattle.client_request.specs.declared.event.Row.{Row}
+use Rattle.client_core.specs.Headline.{conf_of, AsksByDatagram}
+use Rattle.client_core.specs.Whole.{Whole, started}
+use Rattle.client_core.specs.declared.deed.Deed.{Deed}
+use Rattle.client_core.specs.declared.deed.Deed.TheVariants.{Learned}
+use Rattle.client_turns.specs.Asking.{IsAnswered, StopsForNumbers, rows_of, scene}
+use Rattle.client_turns.specs.Turns.{after_deeds, events_of}
+use Rattle.dns_script.specs.Lines.{line, out_words}
+use Rattle.headline.specs.Right.{Right}
+use Rattle.headline.specs.Settings.{first_settings}
+use Rattle.headline.specs.Theorem.{NoneIsTruncated}
+use Rattle.headline.specs.Timely.{Timely}
+use Rattle.resolv_conf.specs.Final.{finalized}
+use Rattle.resolv_conf.specs.Parse.{ParseAnswers}
+use Rattle.resolv_conf.specs.declared.conf.ResolvConf.{ResolvConf}
+use Rattle.resolv_conf.specs.declared.server.ServerConf.{ServerConf}
+use Rattle.dnsq_run.specs.Program.{no_conf}
+use Rattle.dnsq_run.specs.declared.query_words.Query.{Query}
+
+-- a server at another port
+abbrev pub at_port : ℕ → ServerConf → ServerConf
+at_port port server = record server { addr = record server.addr { port = port } }
+
+-- the configuration that is asked: each server at the query's port, where it has one
+abbrev pub conf_at : Option ℕ → ResolvConf → ResolvConf
+conf_at None conf = conf
+conf_at (Some port) conf = record conf { servers = map (at_port port) conf.servers }
+
+-- the header of a question with recursion desired
+abbrev pub recursive : List ℕ
+recursive = 0 ∷ 0 ∷ 1 ∷ 0 ∷ []
+
+-- the request: its one question, of class IN
+abbrev pub request_of : Query → Request
+request_of q = recorded_from (finished (pushed_question (record { name = q.name; rtype = q.rtype.0; class = 1 }) (with_header recursive (fresh None))))
+
+-- the words that come, what the edge tells, its count of polls, and the moments that the clock tells
+pub record World : Type 0 where
+  pub words : ℕ → ℕ
+  pub deeds : Option (List Deed)
+  pub polls : ℕ
+  pub moments : Option (List ℕ)
+
+abbrev pub world : (ℕ → ℕ) → Option (List Deed) → ℕ → Option (List ℕ) → World
+world words deeds polls moments = record { words = words; deeds = deeds; polls = polls; moments = moments }
+
+-- The configuration is what the text says, where it is told.
+abbrev pub IsConfOf : Option (List ℕ) → ResolvConf → Type 0
+IsConfOf told conf = IfSome told (λ text. ParseAnswers text no_conf (Ok tt) conf)
+
+-- The edge learned the servers of the configuration in order, and then a new client of it was asked the request, and answered so. What its rows are
+-- is right and timely, under the premises of the headline.
+pub record IsAsked (q : Query) (told : Option (List ℕ)) (old new : World) (answer : Option (Result (List ℕ) Error)) : Type 0 where
+  pub conf : ResolvConf
+  pub is_conf : IsConfOf told conf
+  pub asked : ResolvConf
+  pub asked_is : asked ≡ conf_at q.port (finalized conf)
+  pub left : Whole
+  pub answered : IsAnswered 0 1000000 (request_of q)
+      (scene (started asked) old.words (after_deeds (map (λ server. Learned server) asked.servers) old.deeds) old.polls old.moments)
+      (scene left new.words new.deeds new.polls new.moments) answer
+  pub right : AsksByDatagram asked → NoneIsTruncated (events_of (rows_of answered.asked.asking answered.asked.turns))
+      → Right (conf_of asked) first_settings (rows_of answered.asked.asking answered.asked.turns) × Timely (conf_of asked) (rows_of answered.asked.asking answered.asked.turns)
+
+-- what is written for an answer: the line of the reply, or that there is none
+abbrev pub answer_line : Option (Result (List ℕ) Error) → List ℕ
+answer_line (Some reply) = line (out_words (Reply 0 reply))
+answer_line None = codes "no reply\n"
+
+-- it is a message
+abbrev pub is_message : Option (Result (List ℕ) Error) → Bool
+is_message (Some (Ok message)) = true
+is_message (Some (Err error)) = false
+is_message None = false
+
+-- The query was asked, and this line is that of its answer, which is a message or not.
+pub record Says (q : Query) (told : Option (List ℕ)) (old new : World) (message : Bool) (said : List ℕ) : Type 0 where
+  pub answer : Option (Result (List ℕ) Error)
+  pub asked : IsAsked q told old new answer
+  pub is : is_message answer ≡ message
+  pub line_is : said ≡ answer_line answer
