@@ -3,24 +3,24 @@ use Rattle.std.specs.Prelude.{◌≡◌, ℕ, Bool, true, false, List, [], ◌�
 use Rattle.dns_base.specs.Draft.{finished, fresh, pushed_question, with_header}
 use Rattle.client_request.specs.Request.{Request, recorded_from}
 use Rattle.client_request.specs.declared.error.Error.{Error}
+use Rattle.client_request.specs.declared.event.Event.{Event}
 use Rattle.client_request.specs.declared.event.Out.TheVariants.{Reply}
 use Rattle.client_request.specs.declared.event.Row.{Row}
+use Rattle.client_request.specs.declared.event.What.TheVariants.{Ask, Tick}
 use Rattle.client_core.specs.Headline.{conf_of, AsksByDatagram}
-use Rattle.client_core.specs.Whole.{Whole, started}
+use Rattle.client_core.specs.Whole.{Whole, plain_trace, started}
 use Rattle.client_core.specs.declared.deed.Deed.{Deed}
 use Rattle.client_core.specs.declared.deed.Deed.TheVariants.{Learned}
-use Rattle.client_turns.specs.Asking.{IsAnswered, StopsForNumbers, rows_of, scene}
-use Rattle.client_turns.specs.Turns.{after_deeds, events_of}
+use Rattle.client_turns.specs.Asking.{IsAnswered, Scene, rows_of, scene}
+use Rattle.client_turns.specs.Turns.{AreGivenOn, after_deeds, events_of}
 use Rattle.dns_script.specs.Lines.{line, out_words}
 use Rattle.headline.specs.Right.{Right}
 use Rattle.headline.specs.Settings.{first_settings}
 use Rattle.headline.specs.Theorem.{NoneIsTruncated}
 use Rattle.headline.specs.Timely.{Timely}
-use Rattle.resolv_conf.specs.Final.{finalized}
-use Rattle.resolv_conf.specs.Parse.{ParseAnswers}
 use Rattle.resolv_conf.specs.declared.conf.ResolvConf.{ResolvConf}
 use Rattle.resolv_conf.specs.declared.server.ServerConf.{ServerConf}
-use Rattle.dnsq_run.specs.Program.{no_conf}
+use Rattle.dnsq_run.specs.Program.{Configures}
 use Rattle.dnsq_run.specs.declared.query_words.Query.{Query}
 
 -- a server at another port
@@ -47,26 +47,49 @@ pub record World : Type 0 where
   pub polls : ℕ
   pub moments : Option (List ℕ)
 
+-- a new client of a configuration, whose servers the edge has learned
+abbrev pub begun : ResolvConf → World → Scene
+begun conf old = scene (started conf) old.words (after_deeds (map (λ server. Learned server) conf.servers) old.deeds) old.polls old.moments
+
 abbrev pub world : (ℕ → ℕ) → Option (List Deed) → ℕ → Option (List ℕ) → World
 world words deeds polls moments = record { words = words; deeds = deeds; polls = polls; moments = moments }
 
--- The configuration is what the text says, where it is told.
-abbrev pub IsConfOf : Option (List ℕ) → ResolvConf → Type 0
-IsConfOf told conf = IfSome told (λ text. ParseAnswers text no_conf (Ok tt) conf)
+-- The edge learned the servers in order, and then a new client of them was asked the request, and this was answered. The rows are right and timely, under
+-- the premises of the headline.
+pub record IsReplied (q : Query) (conf : ResolvConf) (old new : World) (answer : Option (Result (List ℕ) Error)) : Type 0 where
+  pub left : Whole
+  pub answered : IsAnswered 0 1000000 (request_of q) (begun conf old) (scene left new.words new.deeds new.polls new.moments) answer
+  pub right : AsksByDatagram conf → NoneIsTruncated (events_of (rows_of answered.asked.asking answered.asked.turns)) → Right (conf_of conf) first_settings (rows_of answered.asked.asking answered.asked.turns)
+  pub timely : AsksByDatagram conf → NoneIsTruncated (events_of (rows_of answered.asked.asking answered.asked.turns)) → Timely (conf_of conf) (rows_of answered.asked.asking answered.asked.turns)
 
--- The edge learned the servers of the configuration in order, and then a new client of it was asked the request, and answered so. What its rows are
--- is right and timely, under the premises of the headline.
+-- The configuration is what the text says, finalized, with the query's port; the text is that of the source, where it tells it.
+pub record IsConfOf (q : Query) (told : Option (List ℕ)) (conf : ResolvConf) : Type 0 where
+  pub final : ResolvConf
+  pub is_final : IfSome told (λ text. Configures text final)
+  pub is : conf ≡ conf_at q.port final
+
+-- The servers of the configuration were asked, and this was answered.
 pub record IsAsked (q : Query) (told : Option (List ℕ)) (old new : World) (answer : Option (Result (List ℕ) Error)) : Type 0 where
   pub conf : ResolvConf
-  pub is_conf : IsConfOf told conf
-  pub asked : ResolvConf
-  pub asked_is : asked ≡ conf_at q.port (finalized conf)
-  pub left : Whole
-  pub answered : IsAnswered 0 1000000 (request_of q)
-      (scene (started asked) old.words (after_deeds (map (λ server. Learned server) asked.servers) old.deeds) old.polls old.moments)
-      (scene left new.words new.deeds new.polls new.moments) answer
-  pub right : AsksByDatagram asked → NoneIsTruncated (events_of (rows_of answered.asked.asking answered.asked.turns))
-      → Right (conf_of asked) first_settings (rows_of answered.asked.asking answered.asked.turns) × Timely (conf_of asked) (rows_of answered.asked.asking answered.asked.turns)
+  pub is_conf : IsConfOf q told conf
+  pub replied : IsReplied q conf old new answer
+
+-- A number would pass 64 bits: of the request and of some events behind it, at the moments that the clock gave, the plain client makes no rows.
+pub record Stops (q : Query) (conf : ResolvConf) (words : ℕ → ℕ) (old new : Option (List ℕ)) : Type 0 where
+  pub asking : Event
+  pub later : List Event
+  pub asks : asking.what ≡ Ask (request_of q)
+  pub stops : plain_trace conf words (asking ∷ later) ≡ None
+  pub moments : AreGivenOn old new (map (λ event. event.moment.0) (asking ∷ later))
+
+pub record StopsAsking (q : Query) (told : Option (List ℕ)) (words : ℕ → ℕ) (old new : Option (List ℕ)) : Type 0 where
+  pub conf : ResolvConf
+  pub is_conf : IsConfOf q told conf
+  pub stopped : Stops q conf words old new
+
+-- a trace of the reply to request 0 alone
+abbrev pub one_reply : Result (List ℕ) Error → List Row
+one_reply reply = record { event = record { moment = record { 0 = 0 }; what = Tick }; outs = Reply 0 reply ∷ [] } ∷ []
 
 -- what is written for an answer: the line of the reply, or that there is none
 abbrev pub answer_line : Option (Result (List ℕ) Error) → List ℕ

@@ -1,5 +1,9 @@
 //! The words of a query: what is asked, and at which port.
 
+ghost use Rattle.std.specs.Prelude.{◌≡◌, ◌≤◌, IfOk, IfSome};
+ghost use Rattle.dns_script.specs.Reading.{number_of, with_digit};
+ghost use Rattle.dnsq_run.specs.QueryWords as spec;
+
 use dns_base::{Name, NameFault, NoMemory, Rtype};
 use std::alloc::Global;
 
@@ -14,6 +18,17 @@ pub struct Query {
     pub port: Option<u16>,
 }
 
+/// What the next word may be.
+#[derive(Clone, Copy)]
+pub enum Next {
+    /// An option, the name or the type.
+    Any,
+    /// The port alone.
+    Port,
+    /// The name or the type.
+    Plain,
+}
+
 /// What words say of a query so far.
 #[derive(Drop)]
 pub struct Said {
@@ -23,35 +38,15 @@ pub struct Said {
     pub rtype: Option<Rtype>,
     /// The port at which every server is asked, in place of its own.
     pub port: Option<u16>,
-}
-
-/// The kinds of words behind `query`.
-pub enum Kind<'a> {
-    /// Behind `--` no word is an option.
-    End,
-    /// The next word is the port.
-    Port,
-    /// The port stands in the same word.
-    PortIs(&'a [u8]),
-    /// No option has this word.
-    Unknown,
-    /// The name or the type.
-    Plain,
-}
-
-/// The kind of a word, where options may still come.
-fn kind_of(word: &[u8]) -> Kind<'_> {
-    match word {
-        [b'-', b'-'] => Kind::End,
-        [b'-', b'-', b'p', b'o', b'r', b't'] => Kind::Port,
-        [b'-', b'-', b'p', b'o', b'r', b't', b'=', port @ ..] => Kind::PortIs(port),
-        [b'-', ..] => Kind::Unknown,
-        _ => Kind::Plain,
-    }
+    /// What the next word may be.
+    pub next: Next,
 }
 
 /// The type that a word names.
-fn rtype_of(word: &str) -> Option<Rtype> {
+#[tactic(auto, unfolding(crate::specs::QueryWords::rtype_of))]
+fn rtype_of(word: &str) -> Option<Rtype>
+    ensures { result ≡ spec.rtype_of word.now }
+{
     match word {
         "A" => Some(Rtype::A),
         "NS" => Some(Rtype::NS),
@@ -69,16 +64,21 @@ fn rtype_of(word: &str) -> Option<Rtype> {
 }
 
 /// A number with one more digit, where it is at most 65535.
-fn with_digit(number: u16, digit: u8) -> Option<u16> {
+fn with_digit(number: u16, digit: u8) -> Option<u16>
+    ensures { result ≡ with_digit 65535 number digit }
+{
     if !digit.is_ascii_digit() {
         return None;
     }
     number.checked_mul(10)?.checked_add((digit - b'0') as u16)
 }
 
-/// The port that a word names: a number from 1 to 65535, without sign or leading zeros.
-fn port_of(word: &[u8]) -> Option<u16> {
-    if word.is_empty() || word[0] == b'0' {
+/// A decimal number of at most 65535 without sign or leading zeros.
+#[tactic(auto, unfolding(dns_script::specs::Reading::number_of))]
+fn number_of(word: &[u8]) -> Option<u16>
+    ensures { result ≡ number_of 65535 word.now }
+{
+    if word.len() == 0 || (word.len() > 1 && word[0] == b'0') {
         return None;
     }
     let mut number = 0;
@@ -88,99 +88,158 @@ fn port_of(word: &[u8]) -> Option<u16> {
     Some(number)
 }
 
+/// The port that a word names: a number from 1 to 65535, without sign or leading zeros.
+fn port_of(word: &[u8]) -> Option<u16>
+    ensures { result ≡ spec.port_of word.now }
+{
+    let port = number_of(word)?;
+    if port == 0 { None } else { Some(port) }
+}
+
 /// The name that a word is the text of, if it is one.
-fn name_of(alloc: Global, word: &str) -> Result<Option<Name>, NoMemory> {
+fn name_in(alloc: Global, word: &str) -> Result<Option<Name>, NoMemory>
+    ensures { IfOk result (λ name. name ≡ spec.name_in word.now) }
+{
     match Name::from_text(alloc, word) {
         Ok(name) => Ok(Some(name)),
         Err(NameFault::NoMemory) => Err(NoMemory),
-        Err(_) => Ok(None),
+        Err(NameFault::Parse) => Ok(None),
+        Err(NameFault::Long) => Ok(None),
     }
 }
 
-impl Said {
-    /// Nothing is said.
-    fn nothing() -> Said {
-        Said {
-            name: None,
-            rtype: None,
-            port: None,
-        }
-    }
-
-    /// Takes the name, or else the type: whether the word is one, and was not said yet.
-    fn take_plain(&mut self, alloc: Global, word: &str) -> Result<bool, NoMemory> {
-        if self.name.is_none() {
-            self.name = name_of(alloc, word)?;
-            return Ok(self.name.is_some());
-        }
-        if self.rtype.is_none() {
-            self.rtype = rtype_of(word);
-            return Ok(self.rtype.is_some());
-        }
-        Ok(false)
-    }
-
-    /// Takes the port: whether the word is one, and none was said yet.
-    fn take_port(&mut self, word: &[u8]) -> bool {
-        if self.port.is_some() {
-            return false;
-        }
-        self.port = port_of(word);
-        self.port.is_some()
-    }
-
-    /// The query, where a name and a type were said.
-    fn query(self) -> Option<Query> {
-        let Said { name, rtype, port } = self;
-        Some(Query {
-            name: name?,
-            rtype: rtype?,
-            port,
-        })
+/// What is said with this word too, which is the name or else the type; none where it is neither.
+fn with_plain(alloc: Global, word: &str, said: Said) -> Result<Option<Said>, NoMemory>
+    ensures { IfOk result (λ s. s ≡ spec.with_plain word.now said) }
+{
+    let Said {
+        name,
+        rtype,
+        port,
+        next,
+    } = said;
+    match (name, rtype) {
+        (None, rtype) => match name_in(alloc, word)? {
+            None => Ok(None),
+            Some(name) => Ok(Some(Said {
+                name: Some(name),
+                rtype,
+                port,
+                next,
+            })),
+        },
+        (Some(name), None) => match rtype_of(word) {
+            None => Ok(None),
+            Some(rtype) => Ok(Some(Said {
+                name: Some(name),
+                rtype: Some(rtype),
+                port,
+                next,
+            })),
+        },
+        (Some(_), Some(_)) => Ok(None),
     }
 }
 
-/// What the words behind `query` say; none where they are none of a query.
-fn read_words(alloc: Global, words: &[String]) -> Result<Option<Said>, NoMemory> {
-    let mut said = Said::nothing();
-    let mut left = words;
-    let mut options = true;
-    while let [word, behind @ ..] = left {
-        left = behind;
-        let kind = if options {
-            kind_of(word.as_bytes())
-        } else {
-            Kind::Plain
-        };
-        let taken = match kind {
-            Kind::End => {
-                options = false;
-                true
-            }
-            Kind::Port => match left {
-                [] => false,
-                [port, behind @ ..] => {
-                    left = behind;
-                    said.take_port(port.as_bytes())
-                }
-            },
-            Kind::PortIs(port) => said.take_port(port),
-            Kind::Unknown => false,
-            Kind::Plain => said.take_plain(alloc, word.as_str())?,
-        };
-        if !taken {
-            return Ok(None);
+/// What is said with this port too; none where one was said, or it is none.
+fn with_port(word: &[u8], said: Said) -> Option<Said>
+    ensures { result ≡ spec.with_port word.now said }
+{
+    if said.port.is_some() {
+        return None;
+    }
+    let port = port_of(word)?;
+    let Said {
+        name,
+        rtype,
+        port: _,
+        next: _,
+    } = said;
+    Some(Said {
+        name,
+        rtype,
+        port: Some(port),
+        next: Next::Any,
+    })
+}
+
+/// What is said with a word too, where options may come.
+fn any_said(alloc: Global, word: &str, mut said: Said) -> Result<Option<Said>, NoMemory>
+    ensures { IfOk result (λ s. s ≡ spec.any_said word.now said) }
+{
+    let octets = word.as_bytes();
+    if octets == b"--".as_slice() {
+        said.next = Next::Plain;
+        return Ok(Some(said));
+    }
+    if octets == b"--port".as_slice() {
+        said.next = Next::Port;
+        return Ok(Some(said));
+    }
+    if octets.starts_with(b"--port=") {
+        return Ok(with_port(&octets[7..], said));
+    }
+    if octets.starts_with(b"-") {
+        return Ok(None);
+    }
+    with_plain(alloc, word, said)
+}
+
+/// What is said with a word too.
+fn said_at(alloc: Global, word: &str, said: Said) -> Result<Option<Said>, NoMemory>
+    ensures { IfOk result (λ s. s ≡ spec.said_at said.next word.now said) }
+{
+    match said.next {
+        Next::Any => any_said(alloc, word, said),
+        Next::Port => Ok(with_port(word.as_bytes(), said)),
+        Next::Plain => with_plain(alloc, word, said),
+    }
+}
+
+/// What words say one after another.
+fn said_by(alloc: Global, words: &[String]) -> Result<Option<Said>, NoMemory>
+    ensures { IfOk result (λ s. s ≡ spec.said_by words.now spec.nothing_said) }
+{
+    let mut said = Said {
+        name: None,
+        rtype: None,
+        port: None,
+        next: Next::Any,
+    };
+    for word in words {
+        match said_at(alloc, word.as_str(), said)? {
+            None => return Ok(None),
+            Some(more) => said = more,
         }
     }
     Ok(Some(said))
 }
 
+/// The query that is said: a name and a type, and no port is due.
+fn asked(said: Said) -> Option<Query>
+    ensures { result ≡ spec.asked said }
+{
+    let Said {
+        name,
+        rtype,
+        port,
+        next,
+    } = said;
+    match (next, name, rtype) {
+        (Next::Port, _, _) => None,
+        (_, Some(name), Some(rtype)) => Some(Query { name, rtype, port }),
+        _ => None,
+    }
+}
+
 /// The query of the words, which do not hold the program's own name; none where they are no query.
-pub fn query_of(alloc: Global, words: &[String]) -> Result<Option<Query>, NoMemory> {
+pub fn query_of(alloc: Global, words: &[String]) -> Result<Option<Query>, NoMemory>
+    ensures { IfOk result (λ q. q ≡ spec.query_of words.now) }
+{
     match words {
         [word, behind @ ..] if word.as_bytes() == b"query".as_slice() => {
-            match read_words(alloc, behind)? {
-                Some(said) => Ok(said.query()),
+            match said_by(alloc, behind)? {
+                Some(said) => Ok(asked(said)),
                 None => Ok(None),
             }
         }
