@@ -1,8 +1,9 @@
 -- A request that is asked, and one turn more.
-use Rattle.std.proofs.Common.{◌≡◌, ℕ, ◌+◌, ◌-◌, ◌<◌, ◌≤◌, List, [], ◌∷◌, ◌++◌, length, map, Option, Some, None, Result, refl, ap, sym, subst, ◌∙◌, arith, length-append}
+use Rattle.std.proofs.Common.{◌≡◌, ℕ, ◌+◌, ◌-◌, ◌<◌, ◌≤◌, List, [], ◌∷◌, ◌++◌, length, map, Option, Some, None, Result, Ok, Err, refl, ap, sym, subst, ◌∙◌, arith, length-append}
 use Rattle.std.specs.List.{All, flat_map}
+use Rattle.std.specs.Prelude.{IfOk}
 use Rattle.std.proofs.lemmas.List.{flat_map_more}
-use Rattle.std.proofs.lemmas.List.Elements.{All-append}
+use Rattle.std.proofs.lemmas.List.Elements.{All-nil, All-push}
 use Rattle.client_request.specs.Carries.{IsOfOctets}
 use Rattle.client_request.specs.Request.{Request}
 use Rattle.client_request.specs.Words.{IsGivenOn}
@@ -12,12 +13,14 @@ use Rattle.client_request.specs.declared.event.Row.{Row}
 use Rattle.client_request.specs.declared.event.What.{What}
 use Rattle.client_request.specs.declared.event.What.TheVariants.{Ask, Tick}
 use Rattle.client_core.specs.Client.{row_step}
-use Rattle.client_core.specs.Whole.{Client, machine}
+use Rattle.client_core.specs.Edge.{after_deed}
+use Rattle.client_core.specs.Whole.{Client, Whole, client_with, machine, plain_step}
 use Rattle.client_core.specs.declared.deed.Deed.{Deed}
+use Rattle.client_core.specs.declared.deed.Deed.TheVariants.{Polled}
 use Rattle.client_core.proofs.Replaying.{row_event}
 use Rattle.dns_values.specs.Source.{one_more}
 use Rattle.headline.specs.Timely.{AllAskedInOctets, IsAskedInOctets}
-use Rattle.client_turns.specs.Asking.{Asked, Ends, IsAnswered, Scene, StopsForNumbers, client_of, rows_of}
+use Rattle.client_turns.specs.Asking.{Asked, Begun, Ends, IsAnswered, Scene, StopsForNumbers, client_of, rows_of}
 use Rattle.client_turns.specs.Replies.{EndsWith, first_reply, or_later, reply_in}
 use Rattle.client_turns.specs.Turns.{AreGivenOn, IsOfPoll, IsTurn, Leads, RoseBy, StopsAt, Turn, acts_on, after_deeds, deeds_of, events_of, happened, moments_of}
 use Rattle.client_turns.proofs.Deeds.{append_nil, first_moment, more_deeds, more_moments, rose_by_none, rose_more}
@@ -35,11 +38,12 @@ octets_more (x ∷ es) e h one = (h.0, octets_more es e h.1 one)
 
 reply_behind : (number : ℕ) (rows : List Row) (row : Row) → first_reply number rows ≡ None → reply_in number row.outs ≡ None → first_reply number (rows ++ row ∷ []) ≡ None
 reply_behind number [] row h none = ap (λ (o : Option (Result (List ℕ) Error)). or_later o None) none
-reply_behind number (r ∷ rows) row h none = by (reply_in number r.outs) h
+reply_behind number (r ∷ rows) row h none = by (reply_in number r.outs) (λ e. reply_behind number rows row e none) h
   where
-    by : (o : Option (Result (List ℕ) Error)) → or_later o (first_reply number rows) ≡ None → or_later o (first_reply number (rows ++ row ∷ [])) ≡ None
-    by None e = reply_behind number rows row e none
-    by (Some reply) e = absurd (cc)
+    by : (o : Option (Result (List ℕ) Error)) → (first_reply number rows ≡ None → first_reply number (rows ++ row ∷ []) ≡ None)
+        → or_later o (first_reply number rows) ≡ None → or_later o (first_reply number (rows ++ row ∷ [])) ≡ None
+    by None goes_on e = goes_on e
+    by (Some reply) goes_on e = absurd (cc)
 
 -- the rows of one turn more
 rows_more : (asking : Row) (turns : List Turn) (turn : Turn) → rows_of asking (turns ++ turn ∷ []) ≡ rows_of asking turns ++ turn.row ∷ []
@@ -55,6 +59,17 @@ pub record Waits (number left most : ℕ) (request : Request) (old new : Scene) 
   pub none_yet : first_reply number (rows_of asked.asking asked.turns) ≡ None
   pub left_are : length asked.turns + left ≡ most
 
+-- the row of a turn, if it was made
+pub turned : (client : Whole) (words : ℕ → ℕ) (after : Client) (event : Event) (polled : Option What) (old mid new : Option (List Deed)) (r : Result Row Error) → event.what ≡ happened polled
+    → mid ≡ after_deed (Polled polled) old → IfOk r (λ row. plain_step words event client ≡ Some (row, after)) → IfOk r (λ row. new ≡ after_deeds (acts_on row.outs) mid)
+    → IfOk r (λ row. IsTurn row old new)
+turned client words after event polled old mid new (Ok row) is poll step acts = record {
+  polled = polled;
+  of_poll = ap (λ (e : Event). e.what) (row_event machine client.timeout row event (client_with words client) after step) ∙ is;
+  deeds = more_deeds (Polled polled ∷ []) (acts_on row.outs) old mid new poll acts;
+}
+turned client words after event polled old mid new (Err error) is poll step acts = step
+
 -- one turn more, and what it is of
 pub record OneMore (request : Request) (old mid new : Scene) (a : Asked request old mid) (row : Row) : Type 0 where
   pub asked : Asked request old new
@@ -68,7 +83,7 @@ module _ (request : Request) (old : Scene) where
   pub asked_first : (new : Scene) (event : Event) (row : Row) → event.what ≡ Ask request → IsOfOctets request
       → row_step machine old.client.timeout event (client_of old) ≡ Some (row, client_of new)
       → new.deeds ≡ after_deeds (acts_on row.outs) old.deeds → new.polls ≡ old.polls → IsGivenOn old.moments new.moments event.moment.0
-      → (a : Asked request old new) × (a.asking ≡ row) × (a.turns ≡ [])
+      → Begun request old new row
   asked_first new event row asks in_octets step deeds polls moment =
       let is : row.event ≡ event = row_event machine old.client.timeout row event (client_of old) (client_of new) step in
       let what : row.event.what ≡ Ask request = ap (λ (e : Event). e.what) is ∙ asks in (
@@ -76,7 +91,7 @@ module _ (request : Request) (old : Scene) where
           asking = row;
           turns = [];
           asks = what;
-          polled = tt;
+          polled = All-nil IsOfPoll;
           leads = leads_on old.client.timeout (client_of old) (client_of old) (client_of new) [] row (leads_nowhere old.client.timeout (client_of old)) (subst (λ (e : Event). row_step machine old.client.timeout e (client_of old) ≡ Some (row, client_of new)) (sym is) step);
           octets = (subst IsAskedInOctets (sym what) in_octets, tt);
           deeds = deeds ∙ ap (λ (ds : List Deed). after_deeds ds old.deeds) (sym (append_nil (acts_on row.outs)));
@@ -102,7 +117,7 @@ module _ (request : Request) (old : Scene) where
           asking = a.asking;
           turns = a.turns ++ turn ∷ [];
           asks = a.asks;
-          polled = All-append IsOfPoll a.turns (turn ∷ []) a.polled (t.of_poll, tt);
+          polled = All-push IsOfPoll a.turns turn a.polled t.of_poll;
           leads = subst (λ (rs : List Row). Leads old.client.timeout (client_of old) rs (client_of new)) (sym rows) (leads_on old.client.timeout (client_of old) (client_of mid) (client_of new) (rows_of a.asking a.turns) row a.leads (subst (λ (n : ℕ). row_step machine n row.event (client_of mid) ≡ Some (row, client_of new)) same step));
           octets = subst AllAskedInOctets events (octets_more (events_of (rows_of a.asking a.turns)) row.event a.octets (subst IsAskedInOctets (sym t.of_poll) (happened_in_octets t.polled)));
           deeds = more_deeds (acts_on a.asking.outs ++ flat_map deeds_of a.turns) (deeds_of turn) old.deeds mid.deeds new.deeds a.deeds t.deeds ∙ ap (λ (ds : List Deed). after_deeds ds old.deeds) (flat_map_more deeds_of (acts_on a.asking.outs) a.turns turn);
@@ -117,12 +132,12 @@ module _ (request : Request) (old : Scene) where
 
   module _ (number : ℕ) where
     -- the reply comes when the request is asked
-    pub answered_first : (most : ℕ) (new : Scene) (row : Row) (reply : Result (List ℕ) Error) → ((a : Asked request old new) × (a.asking ≡ row) × (a.turns ≡ [])) → reply_in number row.outs ≡ Some reply
+    pub answered_first : (most : ℕ) (new : Scene) (row : Row) (reply : Result (List ℕ) Error) → Begun request old new row → reply_in number row.outs ≡ Some reply
         → IsAnswered number most request old new (Some reply)
     answered_first most new row reply h replies =
-        let a = h.0 in
-        let rows : rows_of a.asking a.turns ≡ row ∷ [] = ap (λ (r : Row). rows_of r a.turns) h.1 ∙ ap (λ (ts : List Turn). rows_of row ts) h.2 in
-        let many : length a.turns ≡ 0 = ap length h.2 in
+        let a = h.asked in
+        let rows : rows_of a.asking a.turns ≡ row ∷ [] = ap (λ (r : Row). rows_of r a.turns) h.asking_is ∙ ap (λ (ts : List Turn). rows_of row ts) h.no_turns in
+        let many : length a.turns ≡ 0 = ap length h.no_turns in
         record {
           asked = a;
           ends = (record { before = []; last = row; rows_are = rows; none_before = refl; last_replies = replies }, omega arith);
@@ -130,11 +145,11 @@ module _ (request : Request) (old : Scene) where
         }
 
     -- it does not
-    pub waits_first : (most : ℕ) (new : Scene) (row : Row) → ((a : Asked request old new) × (a.asking ≡ row) × (a.turns ≡ [])) → reply_in number row.outs ≡ None → Waits number most most request old new
+    pub waits_first : (most : ℕ) (new : Scene) (row : Row) → Begun request old new row → reply_in number row.outs ≡ None → Waits number most most request old new
     waits_first most new row h none =
-        let a = h.0 in
-        let rows : rows_of a.asking a.turns ≡ row ∷ [] = ap (λ (r : Row). rows_of r a.turns) h.1 ∙ ap (λ (ts : List Turn). rows_of row ts) h.2 in
-        let many : length a.turns ≡ 0 = ap length h.2 in
+        let a = h.asked in
+        let rows : rows_of a.asking a.turns ≡ row ∷ [] = ap (λ (r : Row). rows_of r a.turns) h.asking_is ∙ ap (λ (ts : List Turn). rows_of row ts) h.no_turns in
+        let many : length a.turns ≡ 0 = ap length h.no_turns in
         record { asked = a; none_yet = ap (first_reply number) rows ∙ reply_behind number [] row refl none; left_are = omega arith }
 
     -- the reply comes in a turn
@@ -174,6 +189,14 @@ module _ (request : Request) (old : Scene) where
       ends = (w.none_yet, (let was : length w.asked.turns + left ≡ most = w.left_are in omega arith));
       plain = plain_of old.client.timeout (client_of old) (client_of new) (rows_of w.asked.asking w.asked.turns) w.asked.leads;
     }
+
+  -- what was asked, if it was
+  pub begun : (new : Scene) (event : Event) (r : Result Row Error) → event.what ≡ Ask request → IsOfOctets request
+      → IfOk r (λ row. row_step machine old.client.timeout event (client_of old) ≡ Some (row, client_of new))
+      → IfOk r (λ row. new.deeds ≡ after_deeds (acts_on row.outs) old.deeds) → new.polls ≡ old.polls → IsGivenOn old.moments new.moments event.moment.0
+      → IfOk r (Begun request old new)
+  begun new event (Ok row) asks in_octets step deeds polls moment = asked_first new event row asks in_octets step deeds polls moment
+  begun new event (Err error) asks in_octets step deeds polls moment = step
 
   -- a number would pass 64 bits when the request is asked
   pub stops_first : (new : Scene) (event : Event) → event.what ≡ Ask request → row_step machine old.client.timeout event (client_of old) ≡ None

@@ -45,6 +45,12 @@ pub record Asked (request : Request) (old new : Scene) : Type 0 where
   pub polls : RoseBy (length turns) old.polls new.polls
   pub moments : AreGivenOn old.moments new.moments (moments_of (rows_of asking turns))
 
+-- a request was asked in a row, and no turn was made
+pub record Begun (request : Request) (old new : Scene) (row : Row) : Type 0 where
+  pub asked : Asked request old new
+  pub asking_is : asked.asking ≡ row
+  pub no_turns : asked.turns ≡ []
+
 -- What is answered: the reply, which the last of the rows has and none before it, or none where as many turns as there may be had none.
 abbrev pub Ends : (number most : ℕ) → Row → List Turn → Option (Result (List ℕ) Error) → Type 0
 Ends number most asking turns (Some reply) = EndsWith number (rows_of asking turns) reply × (length turns ≤ most)

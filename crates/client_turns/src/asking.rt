@@ -2,12 +2,12 @@
 
 ghost use Rattle.std.specs.Prelude.{◌≡◌, true, false, OnOk, IfOk, IfErr, IsErrOf};
 ghost use Rattle.client_request.specs.Response.{IsRefusal};
-ghost use Rattle.client_turns.specs.Asking.{IsAnswered, StopsForNumbers, scene};
+ghost use Rattle.client_turns.specs.Asking.{Begun, IsAnswered, StopsForNumbers, scene};
 
 use crate::reply::reply_in;
 use crate::turns::{take, turn};
 use client_core::{Client, Clock, Edge};
-use client_request::{Error, Event, RequestMessage, What, Words};
+use client_request::{Error, Event, RequestMessage, Row, What, Words};
 use dns_base::Message;
 
 /// How many turns a request is given. With an edge that waits about a millisecond where nothing happens they outlast an
@@ -41,6 +41,33 @@ pub fn ask<E: Edge, C: Clock, W: Words>(
     ask_within(client, edge, clock, words, number, request, MOST_TURNS)
 }
 
+/// A client is asked a request at the clock's moment, and its edge acts on what it puts out.
+fn begin<E: Edge, C: Clock, W: Words>(
+    client: &mut Client,
+    edge: &mut E,
+    clock: &mut C,
+    words: &mut W,
+    request: RequestMessage,
+) -> Result<Row, Error>
+    ensures begun { IfOk result (Begun request
+        (scene client.old (W.stream words.old) (E.deeds edge.old) (E.polls edge.old) (C.given clock.old))
+        (scene client.new (W.stream words.new) (E.deeds edge.new) (E.polls edge.new) (C.given clock.new))) }
+    ensures numbers { IsErrOf result Error.NumbersUsed → StopsForNumbers request
+        (scene client.old (W.stream words.old) (E.deeds edge.old) (E.polls edge.old) (C.given clock.old))
+        (scene client.new (W.stream words.new) (E.deeds edge.new) (E.polls edge.new) (C.given clock.new)) }
+    ensures timeout { OnOk result (client.new.timeout ≡ client.old.timeout) }
+    ensures lasts { OnOk result (client.new.failed ≡ false) }
+    ensures refused { IfErr result IsRefusal }
+    ensures failed_only { IsErrOf result Error.Failed → client.old.failed ≡ true }
+{
+    request.is_of_octets();
+    let event = Event {
+        moment: clock.now(),
+        what: What::Ask { request },
+    };
+    take(client, edge, words, event)
+}
+
 /// As `ask`, with at most so many turns.
 pub fn ask_within<E: Edge, C: Clock, W: Words>(
     client: &mut Client,
@@ -62,22 +89,21 @@ pub fn ask_within<E: Edge, C: Clock, W: Words>(
     ensures refused { IfErr result IsRefusal }
     ensures failed_only { IsErrOf result Error.Failed → client.old.failed ≡ true }
 {
-    request.is_of_octets();
-    let event = Event {
-        moment: clock.now(),
-        what: What::Ask { request },
-    };
-    let row = take(client, edge, words, event)?;
-    if let Some(reply) = reply_in(number, row.outs) {
-        return Ok(Some(reply));
+    let row = begin(client, edge, clock, words, request)?;
+    match reply_in(number, row) {
+        Some(reply) => return Ok(Some(reply)),
+        None => {}
     }
     let mut left = most;
     while left > 0 {
-        let row = turn(client, edge, clock, words)?;
-        if let Some(reply) = reply_in(number, row.outs) {
-            return Ok(Some(reply));
+        let row = match turn(client, edge, clock, words) {
+            Ok(row) => row,
+            Err(error) => return Err(error),
+        };
+        match reply_in(number, row) {
+            Some(reply) => return Ok(Some(reply)),
+            None => left -= 1,
         }
-        left -= 1;
     }
     Ok(None)
 }

@@ -3,7 +3,7 @@
 ghost use Rattle.std.specs.Prelude.{◌≡◌};
 ghost use Rattle.client_turns.specs.Replies.{reply_in, reply_of};
 
-use client_request::{Error, Out, Outs};
+use client_request::{Error, Out, Row};
 use dns_base::Message;
 use std::collections::VecDeque;
 
@@ -23,10 +23,11 @@ fn reply_of(number: u64, out: Out) -> Option<Result<Message, Error>>
     }
 }
 
-/// The first reply to the request of a number among outs.
-pub(crate) fn reply_in(number: u64, outs: Outs) -> Option<Result<Message, Error>>
-    ensures { result ≡ reply_in number outs }
+/// The first reply to the request of a number in a row.
+pub(crate) fn reply_in(number: u64, row: Row) -> Option<Result<Message, Error>>
+    ensures { result ≡ reply_in number row.outs }
 {
+    let Row { event: _, outs } = row;
     let mut left = VecDeque::from(outs.into_vec());
     while let Some(out) = left.pop_front() {
         if let Some(reply) = reply_of(number, out) {

@@ -85,37 +85,20 @@ fn output<S: Source>(alloc: Global, command: Command, source: &mut S) -> Result<
     }
 }
 
-/// Ends before an output is written.
-fn end<K: Sink>(sink: &mut K, ending: Ending) -> Status {
-    match ending {
-        Ending::Silent(status) => status,
-        Ending::Says(status, line) => end_by(sink, status, &line),
-    }
-}
-
 /// Ends by a line that tells why nothing else is written.
-fn end_by<K: Sink>(sink: &mut K, status: Status, line: &[u8]) -> Status {
+fn end_by<K: Sink>(sink: &mut K, status: Status, line: &[u8]) -> Status
+    ensures status { (result ≡ status) ⊎ (result.0 ≡ 6) }
+    ensures begun { IsBegun line.now (K.held sink.old) (K.held sink.new) }
+    ensures said { result.0 ≢ 6 → IsSaid line.now (K.held sink.old) (K.held sink.new) (K.faults sink.old) (K.faults sink.new) }
+    ensures flushed { result.0 ≢ 6 → IsFlushed (K.held sink.new) (K.flushed sink.new) ⊎ Rose (K.faults sink.old) (K.faults sink.new) }
+{
     match say(sink, line) {
         Ok(()) => status,
         Err(NoMemory) => NO_MEMORY,
     }
 }
 
-/// Writes what a command makes of its input.
-fn run_text<S: Source, K: Sink>(
-    alloc: Global,
-    command: Command,
-    source: &mut S,
-    sink: &mut K,
-) -> Status {
-    input_laws();
-    match output(alloc, command, source) {
-        Ok(text) => deliver(sink, &text),
-        Err(ending) => end(sink, ending),
-    }
-}
-
-/// Asks servers, and writes the reply's line.
+/// Asks the servers of the configuration that a source gives, and writes the line of what they answer.
 fn run_query<S: Source, K: Sink, E: Edge, C: Clock, W: Words>(
     alloc: Global,
     asked: &Query,
@@ -124,12 +107,59 @@ fn run_query<S: Source, K: Sink, E: Edge, C: Clock, W: Words>(
     edge: &mut E,
     clock: &mut C,
     random: &mut W,
-) -> Status {
+) -> Status
+    ensures statuses { IsStatus result.0 × (result.0 ≢ 2) }
+    ensures answered { result.0 ≡ 0 → IsTold asked.now (S.left source.old)
+        (world (W.stream random.old) (E.deeds edge.old) (E.polls edge.old) (C.given clock.old))
+        (world (W.stream random.new) (E.deeds edge.new) (E.polls edge.new) (C.given clock.new))
+        true (λ line. K.held sink.new ≡ with_octets line (K.held sink.old)) }
+    ensures no_reply { result.0 ≡ 5 → IsTold asked.now (S.left source.old)
+        (world (W.stream random.old) (E.deeds edge.old) (E.polls edge.old) (C.given clock.old))
+        (world (W.stream random.new) (E.deeds edge.new) (E.polls edge.new) (C.given clock.new))
+        false (λ line. IsSaid line (K.held sink.old) (K.held sink.new) (K.faults sink.old) (K.faults sink.new)) }
+    ensures cut { result.0 ≡ 4 → IsTold asked.now (S.left source.old)
+        (world (W.stream random.old) (E.deeds edge.old) (E.polls edge.old) (C.given clock.old))
+        (world (W.stream random.new) (E.deeds edge.new) (E.polls edge.new) (C.given clock.new))
+        true (λ line. IsBegun line (K.held sink.old) (K.held sink.new)) }
+    ensures whole { (result.0 ≡ 0) ⊎ (result.0 ≡ 5) → IfSome (S.left source.old) (λ _. S.left source.new ≡ Some []) }
+    ensures flushed { result.0 ≡ 0 → IsFlushed (K.held sink.new) (K.flushed sink.new) }
+    ensures refused { result.0 ≡ 1 → IfSome (S.left source.old) (λ text. RefusalIsSaid Command.Conf text (K.held sink.old) (K.held sink.new) (K.faults sink.old) (K.faults sink.new)) }
+    ensures source_fault { result.0 ≡ 3 → Rose (S.faults source.old) (S.faults source.new) }
+    ensures silent { result.0 ≡ 3 → K.held sink.new ≡ K.held sink.old }
+    ensures sink_fault { result.0 ≡ 4 → Rose (K.faults sink.old) (K.faults sink.new) }
+    ensures numbers { result.0 ≡ 7 → StopsAsking asked.now (S.left source.old) (W.stream random.old) (C.given clock.old) (C.given clock.new) }
+    ensures numbers_line { result.0 ≡ 7 → IsSaid numbers_line (K.held sink.old) (K.held sink.new) (K.faults sink.old) (K.faults sink.new) }
+    ensures line_flushed { EndsByLine result.0 → IsFlushed (K.held sink.new) (K.flushed sink.new) ⊎ Rose (K.faults sink.old) (K.faults sink.new) }
+{
     match query(alloc, asked, source, edge, clock, random) {
-        Ok(Answer::Replied(line)) => deliver(sink, &line),
-        Ok(Answer::Refused(line)) => end_by(sink, NO_REPLY, &line),
-        Ok(Answer::NoReply) => end_by(sink, NO_REPLY, b"no reply\n"),
-        Err(ending) => end(sink, ending),
+        Ok(answer) => write_answer(alloc, answer, sink),
+        Err(Ending::Silent(status)) => status,
+        Err(Ending::Says(status, line)) => end_by(sink, status, &line),
+    }
+}
+
+/// Writes the line of an answer: an error, or none, ends by it.
+fn write_answer<K: Sink>(alloc: Global, answer: Answer, sink: &mut K) -> Status
+    ensures statuses { (result.0 ≡ 0) ⊎ ((result.0 ≡ 4) ⊎ ((result.0 ≡ 5) ⊎ (result.0 ≡ 6))) }
+    ensures good { (result.0 ≡ 0) ⊎ (result.0 ≡ 4) → is_message answer ≡ true }
+    ensures bad { result.0 ≡ 5 → is_message answer ≡ false }
+    ensures done { result.0 ≡ 0 → K.held sink.new ≡ with_octets (answer_line answer) (K.held sink.old) }
+    ensures flushed { result.0 ≡ 0 → IsFlushed (K.held sink.new) (K.flushed sink.new) }
+    ensures said { result.0 ≡ 5 → IsSaid (answer_line answer) (K.held sink.old) (K.held sink.new) (K.faults sink.old) (K.faults sink.new) }
+    ensures line_flushed { result.0 ≡ 5 → IsFlushed (K.held sink.new) (K.flushed sink.new) ⊎ Rose (K.faults sink.old) (K.faults sink.new) }
+    ensures cut { result.0 ≡ 4 → IsBegun (answer_line answer) (K.held sink.old) (K.held sink.new) }
+    ensures sink_fault { result.0 ≡ 4 → Rose (K.faults sink.old) (K.faults sink.new) }
+{
+    let is_good = is_message(&answer);
+    match answer_line(alloc, answer) {
+        Ok(line) => {
+            if is_good {
+                deliver(sink, &line)
+            } else {
+                end_by(sink, NO_REPLY, &line)
+            }
+        }
+        Err(NoMemory) => NO_MEMORY,
     }
 }
 
