@@ -4,6 +4,7 @@ ghost use Rattle.std.specs.Prelude.{◌≡◌, ℕ, ◌≤◌, List, Option, OnO
 ghost use Rattle.dns_values.specs.Source.{one_more};
 ghost use Rattle.client_core.specs.Edge.{after_deed, after_fault};
 ghost use Rattle.client_core.specs.declared.deed.Deed.{Deed};
+ghost use Rattle.client_core.specs.ListEdge.{is_fault_event};
 
 use client_request::{Out, What};
 use dns_base::NoMemory;
@@ -37,4 +38,22 @@ pub trait Edge {
         ensures deeds { IfOk result (λ what. deeds self.new ≡ after_deed (Deed.Polled what) (deeds self.old)) }
         ensures polls { OnOk result (polls self.new ≡ one_more (polls self.old)) }
         ensures faults { IfOk result (λ what. faults self.new ≡ after_fault what (faults self.old)) };
+}
+
+/// Whether what a poll gave tells of a fault: of an opening, a send, a read or a write, or that a peer ended a stream.
+pub fn is_fault(what: &Option<What>) -> bool
+    ensures { result ≡ is_fault_event what.now }
+{
+    match what {
+        Some(
+            What::OpenFailed { .. }
+            | What::SendFailed { .. }
+            | What::ShortSend { .. }
+            | What::RecvFailed { .. }
+            | What::WriteFailed { .. }
+            | What::ReadFailed { .. }
+            | What::Ended { .. },
+        ) => true,
+        _ => false,
+    }
 }

@@ -21,7 +21,7 @@ pub use client_request::{Event, Moment, Out, Row, Rows, Trace, Via, What};
 pub use client_settings::{cache, redundant};
 pub use clock::{Clock, ListClock};
 pub use deed::Deed;
-pub use edge::Edge;
+pub use edge::{Edge, is_fault};
 pub use first::{FirstServer, Passed};
 pub use laws::{every_plain_trace_is_right, plain_traces_are_runs};
 pub use list_edge::ListEdge;

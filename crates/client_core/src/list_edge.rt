@@ -4,10 +4,10 @@ ghost use Rattle.std.specs.Prelude.{◌≡◌, [], ◌∷◌, ◌++◌, Some, On
 ghost use Rattle.dns_values.specs.Source.{one_more};
 ghost use Rattle.client_core.specs.declared.deed.Deed.{Deed};
 ghost use Rattle.client_core.specs.Edge.{after_fault};
-ghost use Rattle.client_core.specs.ListEdge.{is_fault_event, later_events, next_event};
+ghost use Rattle.client_core.specs.ListEdge.{later_events, next_event};
 
 use crate::deed::Deed;
-use crate::edge::Edge;
+use crate::edge::{Edge, is_fault};
 use client_request::{Out, What};
 use dns_base::NoMemory;
 use resolv_conf::ServerConf;
@@ -32,24 +32,6 @@ impl Model for ListEdge {
     ghost Value = { Kept };
 
     ghost view = { λ e. record { events = e.events.items; deeds = e.deeds.items; polls = e.polls; faults = e.faults } };
-}
-
-/// Whether an event tells of a fault.
-fn is_fault(what: &Option<What>) -> bool
-    ensures { result ≡ is_fault_event what.now }
-{
-    match what {
-        Some(
-            What::OpenFailed { .. }
-            | What::SendFailed { .. }
-            | What::ShortSend { .. }
-            | What::RecvFailed { .. }
-            | What::WriteFailed { .. }
-            | What::ReadFailed { .. }
-            | What::Ended { .. },
-        ) => true,
-        _ => false,
-    }
 }
 
 /// The same once more.

@@ -3,10 +3,9 @@
 ghost use Rattle.std.specs.Prelude.{◌≡◌, None, OnOk, OnErr, IfOk};
 ghost use Rattle.dns_values.specs.Source.{one_more};
 ghost use Rattle.client_core.specs.Edge.{after_fault};
-ghost use Rattle.client_core.specs.ListEdge.{is_fault_event};
 
 use crate::sockets::Sockets;
-use client_core::Edge;
+use client_core::{Edge, is_fault};
 use client_request::{Out, What};
 use dns_base::NoMemory;
 use resolv_conf::ServerConf;
@@ -47,24 +46,6 @@ impl<R: Net<Listener = TcpListener, Stream = TcpStream> + Copy> SocketEdge<R> {
             polls: 0,
             faults: 0,
         }
-    }
-}
-
-/// Whether an event tells of a fault.
-fn is_fault(what: &Option<What>) -> bool
-    ensures { result ≡ is_fault_event what.now }
-{
-    match what {
-        Some(
-            What::OpenFailed { .. }
-            | What::SendFailed { .. }
-            | What::ShortSend { .. }
-            | What::RecvFailed { .. }
-            | What::WriteFailed { .. }
-            | What::ReadFailed { .. }
-            | What::Ended { .. },
-        ) => true,
-        _ => false,
     }
 }
 

@@ -24,6 +24,7 @@ pub mod Cancels
 pub mod Moved
 pub mod Keeping
 pub mod Handing
+pub mod FallingBack
 pub mod Acting
 pub mod Untaken
 pub mod Late

@@ -5,3 +5,4 @@ pub mod Resting
 pub mod Runs
 pub mod Rightness
 pub mod Dgrams
+pub mod Slots

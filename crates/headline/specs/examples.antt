@@ -6,3 +6,4 @@ pub mod Cache
 pub mod Servers
 pub mod Wrong
 pub mod Runs
+pub mod Slots

@@ -8,6 +8,7 @@ ghost use Rattle.headline.specs.Settings.{first_settings};
 ghost use Rattle.headline.specs.examples.Rows.{by_datagrams};
 ghost use Rattle.headline.specs.examples.Runs.{IsARun};
 ghost use Rattle.headline.specs.examples.Servers.{WorkedServers};
+ghost use Rattle.headline.specs.examples.Slots.{SlotIsGivenOn};
 ghost use Rattle.headline.specs.examples.Streams.{cut_goes_on, WorkedStreams};
 
 /// A request by datagram: its place, its send, what answers it, and of what a failure is blamed.
@@ -37,4 +38,10 @@ pub fn worked_traces_are_runs()
     ensures asked_again { IsARun asked_again }
     ensures cut_goes_on_is_right { Right by_datagrams first_settings cut_goes_on × Timely by_datagrams cut_goes_on }
     ensures asked_again_is_right { Right by_datagrams first_settings asked_again × Timely by_datagrams asked_again }
+{}
+
+/// Where all slots are taken, that of a request whose answer was cut is given on before the request goes on by stream.
+#[tactic(auto, using(crate::proofs::worked::Slots::slot_is_given_on))]
+pub fn slot_is_given_on()
+    ensures { SlotIsGivenOn }
 {}

@@ -7,7 +7,8 @@ mod laws;
 mod refusals;
 
 pub use examples::{
-    worked_cache, worked_datagrams, worked_servers, worked_streams, worked_traces_are_runs,
+    slot_is_given_on, worked_cache, worked_datagrams, worked_servers, worked_streams,
+    worked_traces_are_runs,
 };
 pub use laws::{
     composing_composes, covering_is_an_order, every_cached_run_hits, every_run_is_right,

@@ -10,7 +10,7 @@ use Rattle.headline.specs.Messages.{Octets, answers, id_in}
 use Rattle.headline.specs.Places.{place_of}
 use Rattle.headline.specs.machine.Streams.{Act, Puts, Gives, Nothing, Asker, Conn, Multi, with_at, Moves, TakesFrame, result_of}
 use Rattle.headline.specs.machine.Dgrams.{Stage, Queued, Trying, Sent, Ending, Cut, Tryer, Dgrams, Tries, Meets, IsIgnored}
-use Rattle.headline.specs.machine.Served.{Served, IsSettled, holds, posts_of, Acts, Settles, AsItIs, WithResult, ByStreamNow}
+use Rattle.headline.specs.machine.Served.{Served, IsSettled, holds, posts_of, Acts, Settles, AsItIs, WithResult}
 use Rattle.headline.specs.machine.Part.{Post, Act as Step}
 use Rattle.headline.proofs.PartLaws.{fault_in, total, Tells}
 use Rattle.headline.proofs.server.DgramKept.{dgram_site}
@@ -27,16 +27,16 @@ use Rattle.headline.specs.machine.Served as served
 
 -- what a timer makes end is no fault
 tries_end : (s n next : ℕ) (d d' : Dgrams) (x : Act) → IsSettled d → Tries s n next d x d' → (k : ℕ) (a : Tryer) (y : Result Octets Error) → d'.held k ≡ Some a → a.stage ≡ Ending y → fault_in y ≡ 0
-tries_end s n next d _ _ set (dgrams.Opens k b held stage few) k' a y e g = each_at (λ j (a : Tryer). (y : Result Octets Error) → a.stage ≡ Ending y → fault_in y ≡ 0) k (dgrams.staged b (Trying next)) d.held (λ y g. absurd (cc)) (λ j a ne e y g. absurd ((set j a e).1 y g)) k' a e y g
-tries_end s n next d _ _ set (dgrams.Retries k b p id t held stage late few) k' a y e g = each_at (λ j (a : Tryer). (y : Result Octets Error) → a.stage ≡ Ending y → fault_in y ≡ 0) k (dgrams.staged b Queued) d.held (λ y g. absurd (cc)) (λ j a ne e y g. absurd ((set j a e).1 y g)) k' a e y g
-tries_end s n next d _ _ set (dgrams.StopsTrying k b p id t held stage late six) k' a y e g = each_at (λ j (a : Tryer). (y : Result Octets Error) → a.stage ≡ Ending y → fault_in y ≡ 0) k (dgrams.staged b (Ending (Err (errors.Dgram query.Timeout)))) d.held (λ y g. (let z : Err (errors.Dgram query.Timeout) ≡ y = cc in subst (λ y. fault_in y ≡ 0) z refl)) (λ j a ne e y g. absurd ((set j a e).1 y g)) k' a e y g
-tries_end s n next d _ _ set (dgrams.Ends k b x held stage) k' a y e g = absurd ((set k b held).1 x stage)
+tries_end s n next d _ _ set (dgrams.Opens k b held stage few) k' a y e g = each_at (λ j (a : Tryer). (y : Result Octets Error) → a.stage ≡ Ending y → fault_in y ≡ 0) k (dgrams.staged b (Trying next)) d.held (λ y g. absurd (cc)) (λ j a ne e y g. absurd (set j a e y g)) k' a e y g
+tries_end s n next d _ _ set (dgrams.Retries k b p id t held stage late few) k' a y e g = each_at (λ j (a : Tryer). (y : Result Octets Error) → a.stage ≡ Ending y → fault_in y ≡ 0) k (dgrams.staged b Queued) d.held (λ y g. absurd (cc)) (λ j a ne e y g. absurd (set j a e y g)) k' a e y g
+tries_end s n next d _ _ set (dgrams.StopsTrying k b p id t held stage late six) k' a y e g = each_at (λ j (a : Tryer). (y : Result Octets Error) → a.stage ≡ Ending y → fault_in y ≡ 0) k (dgrams.staged b (Ending (Err (errors.Dgram query.Timeout)))) d.held (λ y g. (let z : Err (errors.Dgram query.Timeout) ≡ y = cc in subst (λ y. fault_in y ≡ 0) z refl)) (λ j a ne e y g. absurd (set j a e y g)) k' a e y g
+tries_end s n next d _ _ set (dgrams.Ends k b x held stage) k' a y e g = absurd (set k b held x stage)
 
 tries_posts : (s n next : ℕ) (d d' : Dgrams) (x : Act) → IsSettled d → Tries s n next d x d' → posts_of x ≡ []
 tries_posts s n next d _ _ set (dgrams.Opens k b held stage few) = refl
 tries_posts s n next d _ _ set (dgrams.Retries k b p id t held stage late few) = refl
 tries_posts s n next d _ _ set (dgrams.StopsTrying k b p id t held stage late six) = refl
-tries_posts s n next d _ _ set (dgrams.Ends k b x held stage) = absurd ((set k b held).1 x stage)
+tries_posts s n next d _ _ set (dgrams.Ends k b x held stage) = absurd (set k b held x stage)
 
 -- an event that server s takes by datagram names a place of its own
 meets_posts : (n : ℕ) (d d' : Dgrams) (w : What) (x : Act) → Meets n d w x d' → (posts_of x ≡ []) × ((p : ℕ) × (place_of w ≡ Some p) × ((k : ℕ) × (d.at p ≡ Some k)))
@@ -96,21 +96,19 @@ module _ (c : Conf) (s next : ℕ) (past : History) (w : What) (u : Served) (h :
   settles_stays : (v : Served) (x : Act) (d : Step Served) → Settles s u.clock next v x d → d.state.taken ≡ v.taken
   settles_stays v x _ (AsItIs set) = refl
   settles_stays v x _ (WithResult k a y held stage) = refl
-  settles_stays v x _ (ByStreamNow k a o is held stage) = refl
 
   settles_none : (v : Served) (x : Act) (d : Step Served) → posts_of x ≡ [] → ((k : ℕ) (a : Tryer) (y : Result Octets Error) → v.server.by_dgram.held k ≡ Some a → a.stage ≡ Ending y → fault_in y ≡ 0) → Settles s u.clock next v x d → total (λ (x : Post). fault_in x.result) d.posts ≡ 0
   settles_none v x _ none ends (AsItIs set) = none_total (posts_of x) none
   settles_none v x _ none ends (WithResult k a y held stage) = (let z = ends k a y held stage in omega arith)
-  settles_none v x _ none ends (ByStreamNow k a o is held stage) = refl
 
   settles_few : (v : Served) (x : Act) (d : Step Served) → posts_of x ≡ [] → Settles s u.clock next v x d → total (λ (x : Post). fault_in x.result) d.posts ≤ 1
   settles_few v x _ none (AsItIs set) = (let z = none_total (posts_of x) none in omega arith)
   settles_few v x _ none (WithResult k a y held stage) = (let z = fault_few y in omega arith)
-  settles_few v x _ none (ByStreamNow k a o is held stage) = omega arith
 
   pub acts_tells : (d : Step Served) → Acts s next u d → Tells Served (λ u. u.taken) s w u h d
   acts_tells d (served.ByDgram x e _ tries set) = no_faults d (λ t. settles_stays _ x d set ∙ t) (settles_none _ x d (tries_posts s u.clock next u.server.by_dgram e x f.settled tries) (tries_end s u.clock next u.server.by_dgram e x f.settled tries) set)
   acts_tells _ (served.ByStream x m move) = no_faults _ (λ t. t) (moves_posts s u.clock next u.server.by_stream m x move)
+  acts_tells _ (served.FallsBack k a held stage) = no_faults _ (λ t. t) refl
   acts_tells d (served.TellsDgrams x e _ un soon meets foreign set) =
       let m = meets_posts u.clock u.server.by_dgram e u.pending x meets in
       let p = m.1.0 in

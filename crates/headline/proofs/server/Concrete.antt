@@ -1,5 +1,5 @@
 -- One server by datagrams and streams is a part of a client of several.
-use Rattle.std.proofs.Common.{◌≡◌, ℕ, ◌<◌, length, Some, [], ◌∷◌, is_some, Bool, ◌||◌, inl, inr, ◌∙◌, ap, arith, ◌+◌, ◌≤◌, subst, subst₂, false, true, refl}
+use Rattle.std.proofs.Common.{◌≡◌, ℕ, ◌<◌, length, Some, [], ◌∷◌, is_some, Bool, ◌||◌, inl, inr, ◌∙◌, ap, ◌+◌, ◌≤◌, subst, subst₂, false, true, refl}
 use Rattle.client_request.specs.declared.event.What.{What}
 use Rattle.client_request.specs.declared.event.What.TheVariants.{Tick}
 use Rattle.client_request.specs.declared.event.Event.{Event}
@@ -15,9 +15,7 @@ use Rattle.headline.specs.Places.{reach}
 use Rattle.headline.specs.machine.Streams.{Gives, Moves}
 use Rattle.headline.specs.Right.{ServerOutsRight}
 use Rattle.headline.proofs.server.Handing.{or_left}
-use Rattle.headline.proofs.server.DgramKept.{StageFits, KeptD}
-use Rattle.headline.specs.machine.Dgrams.{Tryer, Cut}
-use Rattle.headline.specs.Orderly.{AfterCutAnswer}
+use Rattle.headline.specs.machine.Dgrams.{Tryer}
 use Rattle.headline.specs.machine.Served.{Served, outs_of, frames_left, unserved, holds, row_begun, Acts, Starts, Cancels, RestsNow}
 use Rattle.headline.proofs.server.Expecting.{Expects}
 use Rattle.headline.specs.machine.Part.{Act}
@@ -32,7 +30,7 @@ use Rattle.headline.specs.Theorem.{EveryRunIsRight, EveryCachedRunHits}
 use Rattle.headline.proofs.server.OwedFits.{OwedFits}
 use Rattle.headline.proofs.server.Owing.{others_owed, acts_owed, starts_owed, starts_were, cancels_owed, cancels_were}
 use Rattle.headline.proofs.server.Hearing.{HeardFits, heard_none, begins_heard, others_heard, acts_heard, starts_heard, cancels_heard}
-use Rattle.headline.proofs.server.Staying.{Was, held_asker, mute_put, acts_were}
+use Rattle.headline.proofs.server.Staying.{Was, held_tryer, held_asker, mute_put, acts_were}
 use Rattle.headline.proofs.server.Late.{comes_out}
 use Rattle.headline.proofs.server.Fitting.{Fits}
 use Rattle.headline.proofs.server.Moved.{now_all}
@@ -45,6 +43,7 @@ use Rattle.headline.proofs.server.DgramTaken as dgram_taken
 use Rattle.headline.proofs.server.Giving as giving
 use Rattle.headline.proofs.server.Staying as staying
 use Rattle.headline.proofs.server.Over as over
+use Rattle.headline.proofs.server.FallingBack as falling_back
 use Rattle.headline.proofs.server.Trying as trying
 use Rattle.headline.proofs.server.Going as going
 use Rattle.headline.proofs.server.Begun as rows_begin
@@ -59,6 +58,7 @@ use Rattle.headline.proofs.server.Late as late
 acts_keeps : (c : Conf) (s place : ℕ) (past : History) (w : What) (u : Served) (h : History) (d : Act Served) → s < length c.servers → Fits c s past w u h → place ≡ reach h → Acts s place u d → Keeps Served (Fits c) none_more s past w h d
 acts_keeps c s place past w u h _ lt f is (served.ByStream x m move) = moving.stream_keeps c s past w u h f place m x is move
 acts_keeps c s place past w u h d lt f is (served.ByDgram x e _ tries set) = trying.tries_keeps c s past w u h f place e x d is tries set
+acts_keeps c s place past w u h _ lt f is (served.FallsBack k a held stage) = falling_back.falls_keeps c s place k past w u h f a held stage is
 acts_keeps c s place past w u h _ lt f is (served.TellsStreams x m un plain takes ignored) = taken.told_keeps c s past w u h f un place m x is plain takes ignored
 acts_keeps c s place past w u h _ lt f is (served.Reads p o x un pend conn) = taken.reads_keeps c s past w u h f un place p o x is pend conn
 acts_keeps c s place past w u h _ lt f is (served.TakesOne g gs x m next soon frame) = framing.frame_keeps c s past w u h f g gs next place m x is frame
@@ -72,6 +72,7 @@ acts_keeps c s place past w u h d lt f is (served.TellsDgrams x e _ un soon meet
 acts_right : (c : Conf) (s place : ℕ) (past : History) (w : What) (u : Served) (h : History) (d : Act Served) → s < length c.servers → Fits c s past w u h → place ≡ reach h → Acts s place u d → ((k : ℕ) → holds u k ≡ true → replied k past ≡ false) → (end : History) → ServerOutsRight c past w end h d.outs
 acts_right c s place past w u h _ lt f is (served.ByStream x m move) un end = moving.stream_right c s past w u h f m x lt (subst₂ (λ n next. Moves s n next u.server.by_stream x m) f.clock is move) (λ k a ask. un k (held_asker c s past w u h f k a ask)) end
 acts_right c s place past w u h d lt f is (served.ByDgram x e _ tries set) un end = trying.tries_outs c s past w u h f place e x d lt is tries set end
+acts_right c s place past w u h _ lt f is (served.FallsBack k a held stage) un end = falling_back.falls_right c s place k past w u h f a held stage lt (un k (held_tryer c s past w u h f k a held)) end
 acts_right c s place past w u h _ lt f is (served.TellsStreams x m un plain takes ignored) _ end = taken.told_right c s past w u h f un m x lt plain takes ignored end
 acts_right c s place past w u h d lt f is (served.Reads p o x un pend conn) _ end = tt
 acts_right c s place past w u h _ lt f is (served.TakesOne g gs x m next soon frame) _ end = framing.frame_right c s past w u h f g gs next u.clock m x lt frame end
@@ -89,13 +90,6 @@ acts_right c s place past w u h d lt f is (served.TellsDgrams x e _ untaken soon
     go : (d : Act Served) → served.Settles s u.clock place (served.has_taken_it (record u.server { by_dgram = e }) u) x d → ServerOutsRight c past w end h d.outs
     go _ (served.AsItIs settled) = met.right still end
     go _ (served.WithResult k a y held stage) = met.right still end
-    go _ (served.ByStreamNow k a o is' held stage) =
-        let both : ServerOutsRight c past w end h (o ∷ []) = subst (λ x. ServerOutsRight c past w end h (outs_of x)) is' (met.right still end) in
-        let dgrams : KeptD c s past w Tick e (Put o ∷ h) = subst (λ x. KeptD c s past w Tick e (put_all (outs_of x) h)) is' met.dgrams in
-        let g = dgrams.held k a held in
-        let cut : StageFits c s k a.request past w Tick (Put o ∷ h) Cut = subst (λ st. StageFits c s k a.request past w Tick (Put o ∷ h) st) stage g.stage in
-        let b = (late.meets_late c s place past w u h f e u.pending x meets).1 k a held in
-        (both.0, ((omega arith, AfterCutAnswer (f.by_dgram k (b.0) b.1) g.unstreamed (cut (still k a held))), tt))
 
 -- All that is known of one server's part.
 pub record Whole (c : Conf) (s : ℕ) (past : History) (w : What) (u : Served) (h : History) : Type 0 where

@@ -173,15 +173,17 @@ pub reply_put : (c : Conf) (past : History) (w : What) (o : Out) (h : History) (
 reply_put c past w o h k (Ok m) same x = record { request = x.request; via = x.via; server = x.server; place = x.place; id = x.id; matches = record { comes = comes_put c x.request x.via x.server x.place k x.id m past w o h (same.starts x.server) x.matches.comes; agrees = x.matches.agrees; whole = x.matches.whole } }
 reply_put c past w o h k (Err e) same x = (cause_put c past w o h k e same x.0, x.1)
 
-cut_put : (c : Conf) (past : History) (w : What) (o : Out) (h : History) (k s : ℕ) → IsSilentOn k o h → CutAnswerCame c k s past w h → CutAnswerCame c k s past w (Put o ∷ h)
-cut_put c past w o h k s same x = record { request = x.request; place = x.place; id = x.id; message = x.message; comes = comes_put c x.request Dgram s x.place k x.id x.message past w o h (same.starts s) x.comes; agrees = x.agrees; cut = x.cut }
+-- a cut answer came, whatever else is put out
+cut_put : (c : Conf) (past : History) (w : What) (o : Out) (h : History) (k s : ℕ) → CutAnswerCame c k s past w h → CutAnswerCame c k s past w (Put o ∷ h)
+cut_put c past w o h k s x =
+    let y = x.comes.is_open in
+    record { request = x.request; place = x.place; id = x.id; message = x.message; comes = record { is_open = record { stands = y.stands; octets = y.octets; sent = y.sent; carries = y.carries }; first = x.comes.first }; agrees = x.agrees; cut = x.cut }
 
 -- Requests and places that the out is not about
 
--- what a result or a cut answer needs, for the short while that it stands
+-- what a result needs, for the short while that it stands
 abbrev pub IsShort : (k : ℕ) (o : Out) (h : History) → Stage → Type 0
 IsShort k o h (Ending x) = IsSilentOn k o h
-IsShort k o h Cut = IsSilentOn k o h
 IsShort k o h st = Unit {0}
 
 is_short : (k : ℕ) (o : Out) (h : History) → concerns k o ≡ false → (st : Stage) → IsShort k o h st
@@ -189,7 +191,7 @@ is_short k o h e Queued = tt
 is_short k o h e (Trying p) = tt
 is_short k o h e (Sent p id t) = tt
 is_short k o h e (Ending x) = silent_on k o h e
-is_short k o h e Cut = silent_on k o h e
+is_short k o h e Cut = tt
 
 pub stage_put : (c : Conf) (s k : ℕ) (r : Request) (past : History) (w pend : What) (o : Out) (h : History) → SameTryer s k h (Put o ∷ h) → (st : Stage) → IsShort k o h st → ((p : ℕ) → placed st ≡ Some p → reaches p o ≡ false) → StageFits c s k r past w pend h st → StageFits c s k r past w pend (Put o ∷ h) st
 stage_put c s k r past w pend o h known Queued short far f = tt
@@ -211,7 +213,7 @@ stage_put c s k r past w pend o h known (Sent p id t) short far f =
       only = λ r' j i n o e. f.only r' j i n o (subst (λ os. IsAmong o os) (same.exchange r' j i n) e);
     }
 stage_put c s k r past w pend o h known (Ending x) short far f = λ un late. reply_put c past w o h k x short (f un late)
-stage_put c s k r past w pend o h known Cut short far f = λ un. cut_put c past w o h k s short (f un)
+stage_put c s k r past w pend o h known Cut short far f = λ un. cut_put c past w o h k s (f un)
 
 pub tryer_put_by : (c : Conf) (s k : ℕ) (a : Tryer) (past : History) (w pend : What) (o : Out) (h : History) → SameTryer s k h (Put o ∷ h) → IsShort k o h a.stage → ((p : ℕ) → placed a.stage ≡ Some p → reaches p o ≡ false) → TryerFits c s k a past w pend h → TryerFits c s k a past w pend (Put o ∷ h)
 tryer_put_by c s k a past w pend o h known short far f = record { asked = f.asked; has_it = known.starts Dgram ∙ f.has_it; unstreamed = known.starts Stream ∙ f.unstreamed; trials = known.tries ∙ f.trials; few = f.few; stage = stage_put c s k a.request past w pend o h known a.stage short far f.stage }

@@ -1,38 +1,34 @@
 -- An event that datagrams take, for one server's part.
-use Rattle.std.proofs.Common.{◌≡◌, ◌≢◌, ℕ, ◌≤◌, ◌<◌, Bool, true, false, ◌||◌, ◌⊎◌, inl, inr, Option, Some, None, List, [], ◌∷◌, is_some, refl, arith, ◌∙◌, sym, subst, ap, ◌==◌, length}
-use Rattle.std.specs.Prelude.{if◌then◌else◌, Result}
+use Rattle.std.proofs.Common.{◌≡◌, ◌≢◌, ℕ, ◌≤◌, ◌<◌, true, false, ◌⊎◌, inl, inr, Option, Some, None, List, [], ◌∷◌, refl, arith, ◌∙◌, sym, subst, ap, ◌==◌, length}
+use Rattle.std.specs.Prelude.{Result}
 use Rattle.std.proofs.lemmas.Bool.{cases_eq, eqb-true}
 use Rattle.std.proofs.lemmas.Bool.Decides.{nat_tests}
 use Rattle.client_request.specs.declared.error.Error.{Error}
 use Rattle.client_request.specs.declared.event.What.{What}
 use Rattle.client_request.specs.declared.event.What.TheVariants.{Bytes, Tick}
 use Rattle.client_request.specs.declared.event.Out.{Out}
-use Rattle.client_request.specs.declared.event.Out.TheVariants.{Start, Send, Close}
+use Rattle.client_request.specs.declared.event.Out.TheVariants.{Send, Close}
 use Rattle.client_request.specs.declared.event.Via.TheVariants.{Dgram, Stream}
 use Rattle.headline.specs.Trace.{History, Conf, ByDatagrams, Put, put_all}
 use Rattle.headline.specs.Time.{now}
 use Rattle.headline.specs.Messages.{Octets}
-use Rattle.headline.specs.Requests.{start, started, is_start, replied, handed}
+use Rattle.headline.specs.Requests.{start, replied, handed}
 use Rattle.headline.specs.Places.{site, is_told, Opening, on_event, reach}
 use Rattle.headline.specs.Frames.{came}
 use Rattle.headline.specs.Causes.{Heard, sends}
 use Rattle.headline.specs.Orderly.{use_at}
-use Rattle.headline.specs.machine.Streams.{Act, Puts, Asker, Conn, Multi, IsForeign, with_at}
+use Rattle.headline.specs.machine.Streams.{Act, Puts, Asker, Conn, IsForeign, with_at}
 use Rattle.headline.specs.machine.Dgrams.{Meets, Stage, Ending, Cut, Tryer, Dgrams, leave, forget}
-use Rattle.headline.specs.machine.Served.{Served, IsSettled, IsInTime, Settles, AsItIs, WithResult, ByStreamNow, has_taken_it, outs_of, place_after}
+use Rattle.headline.specs.machine.Served.{Served, IsSettled, IsInTime, Settles, AsItIs, WithResult, has_taken_it, outs_of, place_after}
 use Rattle.headline.specs.machine.Part.{Act as Step}
-use Rattle.headline.proofs.PartLaws.{Keeps, none_more, this_one}
+use Rattle.headline.proofs.PartLaws.{Keeps, none_more}
 use Rattle.headline.proofs.server.Kept.{Kept}
 use Rattle.headline.proofs.server.DgramKept.{dgram_site, placed, KeptD}
-use Rattle.headline.proofs.server.DgramMoves.{place_below, standing, forgets, kept_put_d}
-use Rattle.headline.proofs.server.Views.{each_at, each_other, at_there}
+use Rattle.headline.proofs.server.DgramMoves.{place_below, standing, forgets}
+use Rattle.headline.proofs.server.Views.{each_other, at_there}
 use Rattle.headline.proofs.server.Fitting.{OneId, BegunBy, UnsentBy, Fits, no_frames_came}
 use Rattle.headline.proofs.server.Moved.{AreOf, others_all, reach_all, now_all, earlier_all, not_heard}
-use Rattle.headline.proofs.server.Keeping.{quiet_other}
-use Rattle.headline.proofs.server.Handing.{handed_put, none_started}
-use Rattle.headline.specs.machine.Streams as multi
 use Rattle.headline.specs.machine.Dgrams as dgrams
-use Rattle.headline.proofs.server.Opening as opening
 use Rattle.headline.proofs.server.Meeting as meeting
 use Rattle.headline.proofs.server.Late as late
 use Rattle.headline.proofs.server.Taken as taken
@@ -40,7 +36,7 @@ use Rattle.headline.proofs.server.Taken as taken
 -- What such an event is, and what its out says.
 record Plain (s : ℕ) (v : What) (d : Dgrams) (h : History) (x : Act) : Type 0 where
   pub who : ℕ
-  pub others : (k : ℕ) (a : Tryer) → d.held k ≡ Some a → who ≢ k → (a.stage ≢ Cut) × ((y : Result Octets Error) → a.stage ≢ Ending y)
+  pub others : (k : ℕ) (a : Tryer) → d.held k ≡ Some a → who ≢ k → (y : Result Octets Error) → a.stage ≢ Ending y
   pub free : (q : ℕ) → reach h ≤ q → on_event v q Opening ≡ Opening
   pub told : (p : ℕ) → is_told p v ≡ true → site p h ≡ Some (dgram_site s)
   pub other : (p : ℕ) (o : Octets) → v ≢ Bytes p o
@@ -60,7 +56,7 @@ module _ (c : Conf) (s : ℕ) (past : History) (w : What) (u : Served) (h : Hist
   here : (v : What) (d : Dgrams) (k : ℕ) (a : Tryer) (p : ℕ) → KeptD c s past w v d h → d.held k ≡ Some a → placed a.stage ≡ Some p → site p h ≡ Some (dgram_site s)
   here v d k a p kept held at = (standing c s k p a.request past w v h a.stage at (kept.held k a held).stage).1
 
-  calm : (d : Dgrams) (k : ℕ) (b : Tryer) → IsSettled d → (j : ℕ) (a : Tryer) → with_at k (Some b) d.held j ≡ Some a → k ≢ j → (a.stage ≢ Cut) × ((y : Result Octets Error) → a.stage ≢ Ending y)
+  calm : (d : Dgrams) (k : ℕ) (b : Tryer) → IsSettled d → (j : ℕ) (a : Tryer) → with_at k (Some b) d.held j ≡ Some a → k ≢ j → (y : Result Octets Error) → a.stage ≢ Ending y
   calm d k b set j a e ne = set j a (sym (at_there k j (Some b) d.held ne) ∙ e)
 
   closed : (v : What) (d : Dgrams) (k : ℕ) (a : Tryer) (p : ℕ) (st : Stage) → KeptD c s past w v d h → IsSettled d → d.held k ≡ Some a → placed a.stage ≡ Some p → ((q : ℕ) → reach h ≤ q → on_event v q Opening ≡ Opening) → ((q : ℕ) → is_told q v ≡ true → (p == q) ≡ true) → ((q : ℕ) (o : Octets) → v ≢ Bytes q o) → Plain s v (leave p k a st d) h (Puts (Close p))
@@ -154,13 +150,6 @@ module _ (c : Conf) (s : ℕ) (past : History) (w : What) (u : Served) (h : Hist
       none : (q : ℕ) (y : Conn) → u.server.by_stream.conns q ≡ Some y → came q w past ≡ []
       none q y e = no_frames_came s q w past (put_all outs h) streams.row.before (streams.conns q y e).at other
 
-  this_has : (k j t : ℕ) → handed k s h ≡ true → (this_one k s j t || handed j t h) ≡ handed j t h
-  this_has k j t has = go (this_one k s j t) refl
-    where
-      go : (b : Bool) → this_one k s j t ≡ b → (b || handed j t h) ≡ handed j t h
-      go false e = refl
-      go true e = (let is : (k ≡ j) × (s ≡ t) = (grind (arith, nat_tests), grind (arith, nat_tests)) in let z : handed j t h ≡ true = ap (λ t. handed j t h) (sym is.1) ∙ (ap (λ j. handed j s h) (sym is.0) ∙ has) in sym z)
-
   module _ (lt : s < length c.servers) (un : u.taken ≡ false) (soon : IsInTime u.clock u.server) (next : ℕ) (is : next ≡ reach h) (e : Dgrams) (x : Act) (meets : Meets u.clock u.server.by_dgram u.pending x e) (foreign : IsForeign u.pending u.server.by_stream) where
     v : u.pending ≡ w
     v = (f.untaken un).pending
@@ -175,8 +164,8 @@ module _ (c : Conf) (s : ℕ) (past : History) (w : What) (u : Served) (h : Hist
     by k a held = (let b = (late.meets_late c s next past w u h f e u.pending x meets).1 k a held in f.by_dgram k (b.0) b.1)
 
     -- whose place was closed
-    mine : (k : ℕ) (a : Tryer) → e.held k ≡ Some a → ((a.stage ≡ Cut) ⊎ ((y : Result Octets Error) × (a.stage ≡ Ending y))) → plain.who ≡ k
-    mine k a held owes = elim (cases_eq plain.who k) [ inl same ↦ same | inr ne ↦ absurd (let z = plain.others k a held ne in elim owes [ inl e ↦ z.0 e | inr y ↦ z.1 y.0 y.1 ]) ]
+    mine : (k : ℕ) (a : Tryer) (y : Result Octets Error) → e.held k ≡ Some a → a.stage ≡ Ending y → plain.who ≡ k
+    mine k a y held stage = elim (cases_eq plain.who k) [ inl same ↦ same | inr ne ↦ absurd (plain.others k a held ne y stage) ]
 
     less : (k j : ℕ) (b : Tryer) → with_at k None e.held j ≡ Some b → (k ≢ j) × (e.held j ≡ Some b)
     less k j b i = each_other (λ j (b : Tryer). (k ≢ j) × (e.held j ≡ Some b)) k e.held (λ j b ne i. (ne, i)) j b i
@@ -193,46 +182,9 @@ module _ (c : Conf) (s : ℕ) (past : History) (w : What) (u : Served) (h : Hist
       reaches = plain.no_place next ∙ (is ∙ sym plain.no_open);
     }
     meets_keeps _ (WithResult k a y held stage) = record {
-      fits = fits_met (forget k e) u.server.by_stream.asks (outs_of x) met.streams (forgets c s past w Tick e (put_all (outs_of x) h) k a met.dgrams held (ap placed stage)) plain.free plain.told plain.other (λ j b i. by j b (less k j b i).1) (less_settled k (mine k a held (inr (y, stage)))) (λ k a i. inl (a, i)) plain.one_id plain.begun plain.unsent;
+      fits = fits_met (forget k e) u.server.by_stream.asks (outs_of x) met.streams (forgets c s past w Tick e (put_all (outs_of x) h) k a met.dgrams held (ap placed stage)) plain.free plain.told plain.other (λ j b i. by j b (less k j b i).1) (less_settled k (mine k a y held stage)) (λ k a i. inl (a, i)) plain.one_id plain.begun plain.unsent;
       others = λ t y ne g. others_all c s t past w y (outs_of x) h (λ e. ne (sym e)) plain.of g;
       silent = plain.no_reply;
       handed_on = plain.no_start;
       reaches = plain.no_place next ∙ (is ∙ sym plain.no_open);
     }
-    meets_keeps _ (ByStreamNow k a o same held stage) =
-        let pl : Plain s w e h (Puts o) = subst (λ x. Plain s w e h x) same plain in
-        let h' : History = Put o ∷ h in
-        let streams : Kept s past w Tick (λ q. []) (λ q. came q w past) u.server.by_stream h' = subst (λ x. Kept s past w Tick (λ q. []) (λ q. came q w past) u.server.by_stream (put_all (outs_of x) h)) same met.streams in
-        let keptd : KeptD c s past w Tick e h' = subst (λ x. KeptD c s past w Tick e (put_all (outs_of x) h)) same met.dgrams in
-        let g = keptd.held k a held in
-        let has' : handed k s h' ≡ true = (let z = g.has_it in rw z refl) in
-        let has : handed k s h ≡ true = sym (pl.no_start k s) ∙ has' in
-        let hands : (j t : ℕ) → handed j t (Put (Start k s Stream) ∷ h') ≡ handed j t h = λ j t. handed_put k s Stream h' j t ∙ (ap (λ b. this_one k s j t || b) (pl.no_start j t) ∙ this_has k j t has) in
-        let asks : ℕ → Option Asker = with_at k (Some (record { request = a.request; since = u.clock; phase = multi.Free })) u.server.by_stream.asks in
-        record {
-          fits = fits_met (forget k e) asks (o ∷ Start k s Stream ∷ [])
-              (subst (λ n. Kept s past w Tick (λ q. []) (λ q. came q w past) (record u.server.by_stream { asks = with_at k (Some (record { request = a.request; since = n; phase = multi.Free })) u.server.by_stream.asks }) (Put (Start k s Stream) ∷ h')) (sym f.clock)
-              (opening.begins s past w Tick (λ q. []) (λ q. came q w past) u.server.by_stream h' k a.request (g.asked.0) streams g.asked.1 (none_started k s h' g.unstreamed)))
-              (kept_put_d c s past w Tick (forget k e) (Start k s Stream) h' (quiet_other s (forget k e) (Start k s Stream) h' (λ j b i. (let ne = (less k j b i).0 in grind (arith, nat_tests))) (λ q. refl) refl) (forgets c s past w Tick e h' k a keptd held (ap placed stage)))
-              pl.free pl.told pl.other (λ j b i. by j b (less k j b i).1) (less_settled k (mine k a held (inl stage)))
-              (each_at (λ j b. ((b : Asker) × (u.server.by_stream.asks j ≡ Some b)) ⊎ (start j s Stream h ≡ None)) k (record { request = a.request; since = u.clock; phase = multi.Free }) u.server.by_stream.asks (inr (none_before k o pl g.unstreamed)) (λ j b ne i. inl (b, i)))
-              pl.one_id (begun_start k o pl) (λ j i. pl.unsent j (pl.no_start j s ∙ (sym (hands j s) ∙ i)));
-          others = λ t y ne g. others_all c s t past w y (o ∷ Start k s Stream ∷ []) h (λ e. ne (sym e)) (pl.of.0, (refl, tt)) g;
-          silent = pl.no_reply;
-          handed_on = hands;
-          reaches = plain.no_place next ∙ (is ∙ sym pl.no_open);
-        }
-      where
-        begun_start : (k : ℕ) (o : Out) → Plain s w e h (Puts o) → BegunBy s (Put (Start k s Stream) ∷ Put o ∷ h)
-        begun_start k o pl p j i y at a = still (is_start j s Stream (Start k s Stream)) (pl.begun p j i y at a)
-          where
-            still : (b : Bool) → started j s Stream (Put o ∷ h) ≡ true → is_some (if b then Some (now h) else start j s Stream (Put o ∷ h)) ≡ true
-            still true e = refl
-            still false e = e
-
-        none_before : (k : ℕ) (o : Out) → Plain s w e h (Puts o) → started k s Stream (Put o ∷ h) ≡ false → start k s Stream h ≡ None
-        none_before k o pl none = go (is_start k s Stream o) (none_started k s (Put o ∷ h) none)
-          where
-            go : (b : Bool) → (if b then Some (now h) else start k s Stream h) ≡ None → start k s Stream h ≡ None
-            go true i = absurd (cc)
-            go false i = i

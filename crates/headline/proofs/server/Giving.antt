@@ -19,7 +19,7 @@ use Rattle.headline.specs.Exchanges.{Comes}
 use Rattle.headline.specs.Causes.{Heard, StreamSilence}
 use Rattle.headline.specs.machine.Streams.{Act, Puts, Gives, Nothing, Phase, Asker, Conn, Multi, with_at, Moves, Takes, TakesFrame, result_of}
 use Rattle.headline.specs.machine.Dgrams.{Stage, Queued, Trying, Sent, Ending, Cut, Tryer, Dgrams, Tries, Meets, stage_of}
-use Rattle.headline.specs.machine.Served.{Served, IsSettled, IsInTime, holds, outs_of, posts_of, has_moved, does, Acts, Settles, AsItIs, WithResult, ByStreamNow}
+use Rattle.headline.specs.machine.Served.{Served, IsSettled, IsInTime, holds, outs_of, posts_of, has_moved, does, Acts, Settles, AsItIs, WithResult}
 use Rattle.headline.specs.machine.Part.{Post, Act as Step, IsPosted}
 use Rattle.headline.proofs.PartLaws.{PostRight}
 use Rattle.headline.proofs.server.Kept.{Kept}
@@ -34,6 +34,7 @@ use Rattle.client_request.specs.declared.error.QueryError.TheVariants as query
 use Rattle.client_request.specs.declared.fault.Fault.TheVariants as fault
 use Rattle.headline.specs.machine.Streams as multi
 use Rattle.headline.specs.machine.Dgrams as dgrams
+use Rattle.headline.specs.machine.Server as server
 use Rattle.headline.specs.machine.Served as served
 use Rattle.headline.proofs.server.Trying as trying
 use Rattle.headline.proofs.server.Framing as framing
@@ -142,7 +143,7 @@ pub tries_held : (s n next : ℕ) (d d' : Dgrams) (x : Act) → IsSettled d → 
 tries_held s n next d _ _ set (dgrams.Opens k a held stage few) = (refl, some_same k a _ d.held held)
 tries_held s n next d _ _ set (dgrams.Retries k a p id t held stage late few) = (refl, some_same k a _ d.held held)
 tries_held s n next d _ _ set (dgrams.StopsTrying k a p id t held stage late six) = (refl, some_same k a _ d.held held)
-tries_held s n next d _ _ set (dgrams.Ends k a x held stage) = absurd ((set k a held).1 x stage)
+tries_held s n next d _ _ set (dgrams.Ends k a x held stage) = absurd (set k a held x stage)
 
 pub meets_held : (n : ℕ) (d d' : Dgrams) (v : What) (x : Act) → Meets n d v x d' → (posts_of x ≡ []) × ((j : ℕ) → is_some (d'.held j) ≡ is_some (d.held j))
 meets_held n d _ _ _ (dgrams.IsSent k a p id o at held stage carries) = (refl, some_same k a _ d.held held)
@@ -194,20 +195,18 @@ module _ (c : Conf) (s next : ℕ) (past : History) (w : What) (u : Served) (h :
         | inl is ↦ (let b = was k a held (u.server.by_dgram.held k) refl in let t : (k == j) ≡ true = grind (arith, nat_tests) in let n : u.server.by_stream.asks j ≡ None = subst (λ j. u.server.by_stream.asks j ≡ None) is (no_asker c s past w u h k (b.0) f b.1) in rw (t, same, n) refl)
         | inr ne ↦ (let t : (k == j) ≡ false = grind (arith, nat_tests) in rw (t, same, e j) refl)
       ]
-  settles_held v x _ none same e (ByStreamNow k a o is held stage) = hands_none (holds u) _ [] refl (λ j. still j)
-    where
-      b : is_some (u.server.by_dgram.held k) ≡ true
-      b = sym (e k) ∙ ap is_some held
 
-      still : (j : ℕ) → (is_some (with_at k None v.server.by_dgram.held j) || is_some (with_at k (Some (record { request = a.request; since = u.clock; phase = multi.Free })) v.server.by_stream.asks j)) ≡ holds u j
-      still j = elim (cases_eq k j) [
-        | inl is ↦ (let t : (k == j) ≡ true = grind (arith, nat_tests) in let z : is_some (u.server.by_dgram.held j) ≡ true = ap (λ j. is_some (u.server.by_dgram.held j)) (sym is) ∙ b in rw (t, z) refl)
-        | inr ne ↦ (let t : (k == j) ≡ false = grind (arith, nat_tests) in rw (t, same, e j) refl)
-      ]
+  -- a request goes on by stream
+  falls_held : (k : ℕ) (a : Tryer) → u.server.by_dgram.held k ≡ Some a → (j : ℕ) → holds (has_moved (server.falls_back k u.clock a u.server) u) j ≡ holds u j
+  falls_held k a held j = elim (cases_eq k j) [
+    | inl is ↦ (let t : (k == j) ≡ true = grind (arith, nat_tests) in let z : is_some (u.server.by_dgram.held j) ≡ true = ap (λ j. is_some (u.server.by_dgram.held j)) (sym is) ∙ ap is_some held in rw (t, z) refl)
+    | inr ne ↦ (let t : (k == j) ≡ false = grind (arith, nat_tests) in rw t refl)
+  ]
 
   pub acts_held : (d : Step Served) → Acts s next u d → Handed (holds u) (holds d.state) d.posts
   acts_held d (served.ByDgram x e _ tries set) = (let t = tries_held s u.clock next u.server.by_dgram e x f.settled tries in settles_held _ x d t.0 refl t.1 set)
   acts_held _ (served.ByStream x m move) = stream_held (has_moved (record u.server { by_stream = m }) u) x refl (moves_held s u.clock next u.server.by_stream m x move)
+  acts_held _ (served.FallsBack k a held stage) = hands_none (holds u) _ [] refl (falls_held k a held)
   acts_held d (served.TellsDgrams x e _ un soon meets foreign set) = (let t = meets_held u.clock u.server.by_dgram e u.pending x meets in settles_held _ x d t.0 refl t.1 set)
   acts_held _ (served.TellsStreams x m un plain takes ignored) = (let t = takes_held u.clock u.server.by_stream m u.pending x takes in hands_none (holds u) _ (posts_of x) t.0 (λ k. (let z = t.1 k in rw z refl)))
   acts_held _ (served.Reads p o x un pend conn) = hands_none (holds u) _ [] refl (λ k. refl)
@@ -235,7 +234,7 @@ abbrev IsUntimed : Tryer → Type 0
 IsUntimed a = (y : Result Octets Error) → a.stage ≡ Ending y → y ≢ Err errors.TimedOut
 
 untimed_at : (k : ℕ) (b : Tryer) (d : Dgrams) → IsSettled d → IsUntimed b → (j : ℕ) (a : Tryer) → with_at k (Some b) d.held j ≡ Some a → IsUntimed a
-untimed_at k b d set un = each_at (λ j (a : Tryer). IsUntimed a) k b d.held un (λ j a ne e y g. absurd ((set j a e).1 y g))
+untimed_at k b d set un = each_at (λ j (a : Tryer). IsUntimed a) k b d.held un (λ j a ne e y g. absurd (set j a e y g))
 
 untimed_err : (b : Tryer) (e : Error) → b.stage ≡ Ending (Err e) → e ≢ errors.TimedOut → IsUntimed b
 untimed_err b e is ne y g same = ne (let z : Ending (Err e) ≡ Ending (Err errors.TimedOut) = sym is ∙ (g ∙ ap Ending same) in cc)
@@ -244,7 +243,7 @@ tries_untimed : (s n next : ℕ) (d d' : Dgrams) (x : Act) → IsSettled d → T
 tries_untimed s n next d _ _ set (dgrams.Opens k b held stage few) = untimed_at k (dgrams.staged b (Trying next)) d set (λ y g. absurd (cc))
 tries_untimed s n next d _ _ set (dgrams.Retries k b p id t held stage late few) = untimed_at k (dgrams.staged b Queued) d set (λ y g. absurd (cc))
 tries_untimed s n next d _ _ set (dgrams.StopsTrying k b p id t held stage late six) = untimed_at k (dgrams.staged b (Ending (Err (errors.Dgram query.Timeout)))) d set (untimed_err (dgrams.staged b (Ending (Err (errors.Dgram query.Timeout)))) (errors.Dgram query.Timeout) refl (λ e. cc))
-tries_untimed s n next d _ _ set (dgrams.Ends k b x held stage) = absurd ((set k b held).1 x stage)
+tries_untimed s n next d _ _ set (dgrams.Ends k b x held stage) = absurd (set k b held x stage)
 
 composing_untimed : (r : Request) (e : Error) → IsComposingFault r e → e ≢ errors.TimedOut
 composing_untimed r e f is = elim f [ inl x ↦ (let z = sym x.0 ∙ is in cc) | inr x ↦ (let z = sym x.0 ∙ is in cc) ]
@@ -338,12 +337,12 @@ module _ (c : Conf) (s : ℕ) (past : History) (w : What) (u : Served) (h : Hist
   -- a result of a datagram place
   settles_post : (next : ℕ) (v : Served) (x : Act) (d : Step Served) → posts_of x ≡ [] → KeptD c s past w v.pending v.server.by_dgram (put_all (outs_of x) h) → ((k : ℕ) (a : Tryer) → v.server.by_dgram.held k ≡ Some a → IsUntimed a) → Settles s u.clock next v x d → (z : Post) → IsPosted z d.posts → replied z.request past ≡ false → PostRight c z.request z.result past w (put_all d.outs h)
   settles_post next v x _ none kept untimed (AsItIs set) z i un = absurd (subst (λ ps. IsPosted z ps) none i)
-  settles_post next v x _ none kept untimed (ByStreamNow k a o is held stage) z i un = absurd i
   settles_post next v x _ none kept untimed (WithResult k a y held stage) z i un = elim i [ inl e ↦ subst (λ (z : Post). replied z.request past ≡ false → PostRight c z.request z.result past w (put_all (outs_of x) h)) e (λ un. (let st : StageFits c s k a.request past w v.pending (put_all (outs_of x) h) (Ending y) = subst (λ st. StageFits c s k a.request past w v.pending (put_all (outs_of x) h) st) stage (kept.held k a held).stage in st un (untimed k a held y stage))) un | inr b ↦ absurd b ]
 
   pub acts_post : (next : ℕ) → next ≡ reach h → s < length c.servers → (d : Step Served) → Acts s next u d → (z : Post) → IsPosted z d.posts → replied z.request past ≡ false → PostRight c z.request z.result past w (put_all d.outs h)
   acts_post next is lt d (served.ByDgram x e _ tries set) z i un = settles_post next (has_moved (record u.server { by_dgram = e }) u) x d (tries_held s u.clock next u.server.by_dgram e x f.settled tries).0 (trying.tries_half c s past w u h f e x (subst₂ (λ n next. Tries s n next u.server.by_dgram x e) f.clock is tries)).dgrams (tries_untimed s u.clock next u.server.by_dgram e x f.settled tries) set z i un
   acts_post next is lt _ (served.ByStream x m move) z i un = post_right x (moves_act next m x move) z i un
+  acts_post next is lt _ (served.FallsBack k a held stage) z i un = absurd i
   acts_post next is lt d (served.TellsDgrams x e _ untaken soon meets foreign set) z i un = settles_post next (served.has_taken_it (record u.server { by_dgram = e }) u) x d (meets_held u.clock u.server.by_dgram e u.pending x meets).0 (dgram_taken.met c s past w u h f lt untaken soon next is e x meets foreign).dgrams (meets_untimed u.clock u.server.by_dgram e u.pending x f.settled meets) set z i un
   acts_post next is lt _ (served.TellsStreams x m untaken plain takes ignored) z i un = absurd (subst (λ ps. IsPosted z ps) (takes_held u.clock u.server.by_stream m u.pending x takes).0 i)
   acts_post next is lt _ (served.Reads p o x untaken pend conn) z i un = absurd i

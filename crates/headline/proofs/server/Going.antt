@@ -6,7 +6,7 @@ use Rattle.std.proofs.lemmas.Bool.Decides.{nat_tests}
 use Rattle.client_request.specs.declared.error.Error.{Error}
 use Rattle.client_request.specs.declared.event.What.{What}
 use Rattle.client_request.specs.declared.event.What.TheVariants.{Datagram, Bytes}
-use Rattle.client_request.specs.declared.event.Out.TheVariants.{OpenStream, Write, Close}
+use Rattle.client_request.specs.declared.event.Out.TheVariants.{Start, OpenStream, Write, Close}
 use Rattle.client_request.specs.declared.event.Via.TheVariants.{Stream}
 use Rattle.headline.specs.Trace.{History, Conf, Put, put_all}
 use Rattle.headline.specs.Time.{now, read_timeout, response_timeout, stream_timeout}
@@ -17,7 +17,7 @@ use Rattle.headline.specs.Frames.{is_bad, first_with, fed}
 use Rattle.headline.specs.Timers.{ReadTimerIsDue}
 use Rattle.headline.specs.machine.Streams.{Act, Puts, Gives, Nothing, Phase, Asker, Conn, Multi, with_at, Moves, Takes, TakesFrame, result_of}
 use Rattle.headline.specs.machine.Dgrams.{Stage, Queued, Trying, Sent, Ending, Cut, Tryer, Dgrams, Tries, Meets, stage_of}
-use Rattle.headline.specs.machine.Served.{Served, holds, outs_of, posts_of, has_moved, does, Acts, Settles, AsItIs, WithResult, ByStreamNow}
+use Rattle.headline.specs.machine.Served.{Served, holds, outs_of, posts_of, has_moved, does, Acts, Settles, AsItIs, WithResult}
 use Rattle.headline.proofs.server.Expecting.{Expects, ByDatagram, ByOctets, InFrames}
 use Rattle.headline.specs.Coming.{IsExcused}
 use Rattle.headline.specs.machine.Part.{Act as Step, IsPosted}
@@ -32,6 +32,7 @@ use Rattle.headline.proofs.server.Fitting.{Fits}
 use Rattle.client_request.specs.declared.error.Error.TheVariants as errors
 use Rattle.headline.specs.machine.Streams as multi
 use Rattle.headline.specs.machine.Dgrams as dgrams
+use Rattle.headline.specs.machine.Server as server
 use Rattle.headline.specs.machine.Served as served
 use Rattle.headline.proofs.server.Late as late
 use Rattle.headline.proofs.server.Framing as framing
@@ -195,9 +196,10 @@ module _ (c : Conf) (s next : ℕ) (past : History) (w : What) (u : Served) (h :
     settles_go : (v : Served) (y : Act) (d : Step Served) → v.server.by_stream ≡ u.server.by_stream → v.pending ≡ u.pending → v.taken ≡ u.taken → v.place ≡ u.place → v.frames ≡ u.frames → ((j : ℕ) (b : Tryer) → v.server.by_dgram.held j ≡ Some b → (b' : Tryer) × (u.server.by_dgram.held j ≡ Some b')) → Settles s u.clock next v y d → Fate p k id m a d
     settles_go v y _ same pending taken place frames was (AsItIs set) = Remains a (record { ask = ap (λ (m : Multi). m.asks k) same ∙ x.ask; phase = x.phase; conn = x.conn; is_conn = ap (λ (m : Multi). m.conns p) same ∙ x.is_conn; source = source_same u v p id m x.conn.got x.conn.got pending taken place frames refl x.source }) refl refl
     settles_go v y _ same pending taken place frames was (WithResult j b z held stage) = Remains a (record { ask = ap (λ (m : Multi). m.asks k) same ∙ x.ask; phase = x.phase; conn = x.conn; is_conn = ap (λ (m : Multi). m.conns p) same ∙ x.is_conn; source = source_same u _ p id m x.conn.got x.conn.got pending taken place frames refl x.source }) refl refl
-    settles_go v y _ same pending taken place frames was (ByStreamNow j b o is held stage) =
-        let ne = (let z = was j b held in dgram_other j (z.0) z.1) in
-        Remains a (record { ask = at_there j k _ v.server.by_stream.asks ne ∙ (ap (λ (m : Multi). m.asks k) same ∙ x.ask); phase = x.phase; conn = x.conn; is_conn = ap (λ (m : Multi). m.conns p) same ∙ x.is_conn; source = source_same u _ p id m x.conn.got x.conn.got pending taken place frames refl x.source }) refl refl
+
+    -- another goes on by stream
+    falls_go : (j : ℕ) (b : Tryer) → u.server.by_dgram.held j ≡ Some b → Fate p k id m a (does (has_moved (server.falls_back j u.clock b u.server) u) next (Puts (Start j s Stream)))
+    falls_go j b held = Remains a (record { ask = at_there j k _ u.server.by_stream.asks (dgram_other j b held) ∙ x.ask; phase = x.phase; conn = x.conn; is_conn = x.is_conn; source = source_same u _ p id m x.conn.got x.conn.got refl refl refl refl refl x.source }) refl refl
 
     -- the event is for datagrams
     not_octets : (e : Dgrams) (v : What) (y : Act) → Meets u.clock u.server.by_dgram v y e → (q : ℕ) (o : Octets) → v ≢ Bytes q o
@@ -219,6 +221,7 @@ module _ (c : Conf) (s next : ℕ) (past : History) (w : What) (u : Served) (h :
     pub stream_goes : (d : Step Served) → Acts s next u d → Fate p k id m a d
     stream_goes d (served.ByDgram y e _ tries set) = settles_go _ y d refl refl refl refl refl (late.tries_late c s next past w u h f e y tries).1 set
     stream_goes _ (served.ByStream y m' move) = moves_go m' y move
+    stream_goes _ (served.FallsBack j b held stage) = falls_go j b held
     stream_goes d (served.TellsDgrams y e _ un soon meets foreign set) = absurd (untaken_none un (not_octets e u.pending y meets))
     stream_goes _ (served.TellsStreams y m' un plain takes ignored) = absurd (untaken_none un plain)
     stream_goes _ (served.Reads q o y un pend conn) = go x.source
@@ -276,7 +279,7 @@ module _ (c : Conf) (s next : ℕ) (past : History) (w : What) (u : Served) (h :
     tries_stay _ _ (dgrams.Opens j b h' st' few) = (at_there j k _ u.server.by_dgram.held (differs j b Queued h' st' (λ e. cc)) ∙ held, at_there next p _ u.server.by_dgram.at (let low = place_below c s past w u.pending u.server.by_dgram h p k f.dgrams at in λ e. omega arith) ∙ at)
     tries_stay _ _ (dgrams.Retries j b q i n h' st' late' few) = (let ne = not_late j b q i n h' st' late' in (at_there j k _ u.server.by_dgram.held ne ∙ held, at_there q p _ u.server.by_dgram.at (place_differs j b q i n h' st' ne) ∙ at))
     tries_stay _ _ (dgrams.StopsTrying j b q i n h' st' late' six) = (let ne = not_late j b q i n h' st' late' in (at_there j k _ u.server.by_dgram.held ne ∙ held, at_there q p _ u.server.by_dgram.at (place_differs j b q i n h' st' ne) ∙ at))
-    tries_stay _ _ (dgrams.Ends j b x h' st') = absurd ((f.settled j b h').1 x st')
+    tries_stay _ _ (dgrams.Ends j b x h' st') = absurd (f.settled j b h' x st')
 
     settles_stay : (v : Served) (y : Act) (d : Step Served) → v.pending ≡ u.pending → v.taken ≡ u.taken → v.clock ≡ u.clock → v.server.by_dgram.held k ≡ Some a → v.server.by_dgram.at p ≡ Some k → Settles s u.clock next v y d → Result' d
     settles_stay v y _ pe tk ck h' a' (AsItIs set) = inr (inl (ByDatagram a id t o (pe ∙ pend) (tk ∙ un) h' a' stage (subst (λ n. n < t + read_timeout) (sym ck) soon) long same ok whole))
@@ -284,10 +287,10 @@ module _ (c : Conf) (s next : ℕ) (past : History) (w : What) (u : Served) (h :
       where
         ended : (v : Served) (j : ℕ) (b : Tryer) → v.server.by_dgram.held k ≡ Some a → v.server.by_dgram.held j ≡ Some b → (st : Stage) → b.stage ≡ st → (st ≡ Sent p id t → ⊥) → j ≢ k
         ended v j b h' h'' st e ne is = ne (let z : Some b ≡ Some a = sym h'' ∙ (ap v.server.by_dgram.held is ∙ h') in let y : b ≡ a = cc in sym e ∙ (ap (λ (a : Tryer). a.stage) y ∙ stage))
-    settles_stay v y _ pe tk ck h' a' (ByStreamNow j b q is h'' st'') = (let ne = ended v j b h' h'' Cut st'' (λ e. cc) in inr (inl (ByDatagram a id t o (pe ∙ pend) (tk ∙ un) (at_there j k None v.server.by_dgram.held ne ∙ h') a' stage (subst (λ n. n < t + read_timeout) (sym ck) soon) long same ok whole)))
-      where
-        ended : (v : Served) (j : ℕ) (b : Tryer) → v.server.by_dgram.held k ≡ Some a → v.server.by_dgram.held j ≡ Some b → (st : Stage) → b.stage ≡ st → (st ≡ Sent p id t → ⊥) → j ≢ k
-        ended v j b h' h'' st e ne is = ne (let z : Some b ≡ Some a = sym h'' ∙ (ap v.server.by_dgram.held is ∙ h') in let y : b ≡ a = cc in sym e ∙ (ap (λ (a : Tryer). a.stage) y ∙ stage))
+
+    -- another goes on by stream
+    falls_stay : (j : ℕ) (b : Tryer) → u.server.by_dgram.held j ≡ Some b → b.stage ≡ Cut → Result' (does (has_moved (server.falls_back j u.clock b u.server) u) next (Puts (Start j s Stream)))
+    falls_stay j b h' st' = inr (inl (ByDatagram a id t o pend un (at_there j k None u.server.by_dgram.held (differs j b Cut h' st' (λ e. cc)) ∙ held) at stage soon long same ok whole))
 
     -- the datagram is taken: it is the result
     answer_ends : (b : Bool) → truncated (take 2000 o) ≡ b → (if b then Cut else Ending (Ok (take 2000 o))) ≡ Ending (Ok m)
@@ -298,7 +301,7 @@ module _ (c : Conf) (s next : ℕ) (past : History) (w : What) (u : Served) (h :
       pub tryer : Tryer
       pub is_held : d.held k ≡ Some tryer
       pub ends : tryer.stage ≡ Ending (Ok m)
-      pub others : (j : ℕ) (b : Tryer) → j ≢ k → d.held j ≡ Some b → (b.stage ≢ Cut) × ((y : Result Octets Error) → b.stage ≢ Ending y)
+      pub others : (j : ℕ) (b : Tryer) → j ≢ k → d.held j ≡ Some b → (y : Result Octets Error) → b.stage ≢ Ending y
 
     is_answer : (d : Dgrams) (v : What) (y : Act) → v ≡ Datagram p o → Meets u.clock u.server.by_dgram v y d → IsTheAnswer d
     is_answer _ _ _ e (dgrams.IsSent j b q i z at' h' st' carries) = absurd (cc)
@@ -319,14 +322,10 @@ module _ (c : Conf) (s next : ℕ) (past : History) (w : What) (u : Served) (h :
         }
 
     settles_gives : (v : Served) (y : Act) (d : Step Served) → IsTheAnswer v.server.by_dgram → Settles s u.clock next v y d → Result' d
-    settles_gives v y _ it (AsItIs set) = absurd ((set k it.tryer it.is_held).1 (Ok m) it.ends)
+    settles_gives v y _ it (AsItIs set) = absurd (set k it.tryer it.is_held (Ok m) it.ends)
     settles_gives v y _ it (WithResult j b z h' st') = elim (cases_eq j k) [
       | inl is ↦ (let n : Some b ≡ Some it.tryer = sym h' ∙ (ap v.server.by_dgram.held is ∙ it.is_held) in let t' : b ≡ it.tryer = cc in let v' : Ending z ≡ Ending (Ok m) = sym st' ∙ (ap (λ (b : Tryer). b.stage) t' ∙ it.ends) in let r : z ≡ Ok m = cc in inl (inl (ap (λ j. record { request = j; result = z }) is ∙ ap (λ z. record { request = k; result = z }) r)))
-      | inr ne ↦ absurd ((it.others j b ne h').1 z st')
-    ]
-    settles_gives v y _ it (ByStreamNow j b q is h' st') = elim (cases_eq j k) [
-      | inl is ↦ absurd (let n : Some b ≡ Some it.tryer = sym h' ∙ (ap v.server.by_dgram.held is ∙ it.is_held) in let t' : b ≡ it.tryer = cc in let v' : Cut ≡ Ending (Ok m) = sym st' ∙ (ap (λ (b : Tryer). b.stage) t' ∙ it.ends) in cc)
-      | inr ne ↦ absurd ((it.others j b ne h').0 st')
+      | inr ne ↦ absurd (it.others j b ne h' z st')
     ]
 
     no_stream : (m' : Multi) (v : What) (y : Act) → v ≡ Datagram p o → Takes u.clock u.server.by_stream v y m' → ⊥
@@ -341,6 +340,7 @@ module _ (c : Conf) (s next : ℕ) (past : History) (w : What) (u : Served) (h :
     pub dgram_goes : (d : Step Served) → Acts s next u d → Result' d
     dgram_goes d (served.ByDgram y e _ tries set) = (let z = tries_stay e y tries in settles_stay _ y d refl refl refl z.0 z.1 set)
     dgram_goes _ (served.ByStream y m' move) = inr (inl (ByDatagram a id t o pend un held at stage soon long same ok whole))
+    dgram_goes _ (served.FallsBack j b h' st') = falls_stay j b h' st'
     dgram_goes d (served.TellsDgrams y e _ un' soon' meets foreign set) = settles_gives _ y d (is_answer e u.pending y pend meets) set
     dgram_goes _ (served.TellsStreams y m' un' plain takes ignored) = absurd (no_stream m' u.pending y pend takes)
     dgram_goes _ (served.Reads q z y un' pend' conn) = absurd (let e : Bytes q z ≡ Datagram p o = sym pend' ∙ pend in cc)
@@ -353,14 +353,13 @@ module _ (c : Conf) (s next : ℕ) (past : History) (w : What) (u : Served) (h :
       settles_clock : (v : Served) (y : Act) (d : Step Served) → Settles s u.clock next v y d → d.state.clock ≡ v.clock
       settles_clock v y _ (AsItIs set) = refl
       settles_clock v y _ (WithResult j b z h' st') = refl
-      settles_clock v y _ (ByStreamNow j b q is h' st') = refl
   acts_clock _ (served.ByStream y m' move) = refl
+  acts_clock _ (served.FallsBack j b h' st') = refl
   acts_clock d (served.TellsDgrams y e _ un' soon' meets foreign set) = settles_clock _ y d set
     where
       settles_clock : (v : Served) (y : Act) (d : Step Served) → Settles s u.clock next v y d → d.state.clock ≡ v.clock
       settles_clock v y _ (AsItIs set) = refl
       settles_clock v y _ (WithResult j b z h' st') = refl
-      settles_clock v y _ (ByStreamNow j b q is h' st') = refl
   acts_clock _ (served.TellsStreams y m' un' plain takes ignored) = refl
   acts_clock _ (served.Reads q z y un' pend' conn) = refl
   acts_clock _ (served.TakesOne g gs y m' more soon' frame) = refl

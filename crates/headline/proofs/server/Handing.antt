@@ -18,7 +18,7 @@ use Rattle.headline.specs.Writes.{waiting_with}
 use Rattle.headline.specs.Exchanges.{octets_for, is_before, waited_for, IsAmong, Comes}
 use Rattle.headline.specs.Orderly.{use_at, FirstDatagram, FirstStream}
 use Rattle.headline.specs.machine.Streams.{Act, Puts, Asker, Multi, with_at}
-use Rattle.headline.specs.machine.Dgrams.{Queued, Ending, Cut, Tryer}
+use Rattle.headline.specs.machine.Dgrams.{Queued, Ending, Tryer}
 use Rattle.headline.specs.machine.Server.{Server}
 use Rattle.headline.specs.machine.Served.{Served, holds, has_moved, does, Starts, IsHanded}
 use Rattle.headline.proofs.server.Expecting.{Expects, ByDatagram, ByOctets, InFrames}
@@ -39,7 +39,7 @@ use Rattle.headline.specs.machine.Streams as multi
 use Rattle.headline.specs.machine.Server as server
 use Rattle.headline.proofs.server.Opening as opening
 
-or_parts : (x y : Bool) → (x || y) ≡ false → (x ≡ false) × (y ≡ false)
+pub or_parts : (x y : Bool) → (x || y) ≡ false → (x ≡ false) × (y ≡ false)
 or_parts false false e = (refl, refl)
 or_parts true y e = absurd (cc)
 or_parts false true e = absurd (cc)
@@ -137,7 +137,7 @@ module _ (c : Conf) (s next k t : ℕ) (r : Request) (past : History) (w : What)
     conns = same_conns u.server.by_stream.conns;
     asks = λ j a e. inl (a, e);
     held = λ j a e. used ∙ ap Some is;
-    settled = each_at (λ j (a : Tryer). (a.stage ≢ Cut) × ((x : _) → a.stage ≢ Ending x)) k (record { request = r; tries = 0; stage = Queued }) u.server.by_dgram.held ((λ e. cc), (λ x e. cc)) (λ j a ne e. f.settled j a e);
+    settled = each_at (λ j (a : Tryer). (x : _) → a.stage ≢ Ending x) k (record { request = r; tries = 0; stage = Queued }) u.server.by_dgram.held (λ x e. cc) (λ j a ne e. f.settled j a e);
     one_id = f.one_id;
     begun = begun_start Dgram;
     unsent = unsent_start Dgram;

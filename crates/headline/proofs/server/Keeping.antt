@@ -80,10 +80,10 @@ pub same_conns : (m : ℕ → Option Conn) (q : ℕ) (x : Conn) → m q ≡ Some
 same_conns m q x e = (x, e, refl)
 
 module _ (c : Conf) (s : ℕ) (past : History) (w : What) (u : Served) (h : History) (f : Fits c s past w u h) where
-  settled_less : (k : ℕ) → IsSettled (forget k u.server.by_dgram)
-  settled_less k = each_other (λ j (a : Tryer). (a.stage ≢ Cut) × ((x : _) → a.stage ≢ Ending x)) k u.server.by_dgram.held (λ j a ne e. f.settled j a e)
+  pub settled_less : (k : ℕ) → IsSettled (forget k u.server.by_dgram)
+  settled_less k = each_other (λ j (a : Tryer). (x : _) → a.stage ≢ Ending x) k u.server.by_dgram.held (λ j a ne e. f.settled j a e)
 
-  by_dgram_less : (k j : ℕ) (a : Tryer) → with_at k None u.server.by_dgram.held j ≡ Some a → use_at s c.servers ≡ Some ByDatagrams
+  pub by_dgram_less : (k j : ℕ) (a : Tryer) → with_at k None u.server.by_dgram.held j ≡ Some a → use_at s c.servers ≡ Some ByDatagrams
   by_dgram_less k j a e = each_other (λ j (a : Tryer). use_at s c.servers ≡ Some ByDatagrams) k u.server.by_dgram.held (λ j a ne e. f.by_dgram j a e) j a e
 
   place_of : (a : Tryer) (p : ℕ) → (a.stage ≡ Trying p) ⊎ ((id : ℕ) × (t : ℕ) × (a.stage ≡ Sent p id t)) → placed a.stage ≡ Some p

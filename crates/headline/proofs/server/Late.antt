@@ -20,7 +20,7 @@ use Rattle.headline.specs.Writes.{waiting_with}
 use Rattle.headline.specs.Exchanges.{octets_for, is_before, waited_for, IsAmong, Comes}
 use Rattle.headline.specs.machine.Streams.{Act, Puts, Gives, Nothing, Asker, Conn, Multi, with_at, Moves, TakesFrame}
 use Rattle.headline.specs.machine.Dgrams.{Stage, Queued, Trying, Sent, Ending, Cut, Tryer, Dgrams, Tries, Meets}
-use Rattle.headline.specs.machine.Served.{Served, holds, has_moved, does, outs_of, Acts, Settles, AsItIs, WithResult, ByStreamNow}
+use Rattle.headline.specs.machine.Served.{Served, holds, has_moved, does, outs_of, Acts, Settles, AsItIs, WithResult}
 use Rattle.headline.proofs.server.Expecting.{Expects}
 use Rattle.headline.specs.machine.Part.{Act as Step}
 use Rattle.headline.proofs.PartLaws.{Late}
@@ -85,18 +85,18 @@ late_of c s past w h d late t r v p k id m z = elim (late t r v p k id m z.comes
 
 module _ (c : Conf) (s next : ℕ) (past : History) (w : What) (u : Served) (h : History) (f : Fits c s past w u h) where
   -- a request that goes on by stream was not written before
-  comes_on_stream : (k : ℕ) (o : Out) → IsQuiet o → started k s Stream h ≡ false → (r : Request) (v : Via) (i p j id : ℕ) (m : Octets) → Comes c r v i p j id m past w (Put (Start k s Stream) ∷ Put o ∷ h) → Comes c r v i p j id m past w h
-  comes_on_stream k o q un r v i p j id m x = comes_out c r v i p j id m past w o h q (let y = x.is_open in record { is_open = record { stands = y.stands; octets = y.octets; sent = back v y.stands.at y.sent; carries = y.carries }; first = x.first })
+  comes_on_stream : (k : ℕ) → started k s Stream h ≡ false → (r : Request) (v : Via) (i p j id : ℕ) (m : Octets) → Comes c r v i p j id m past w (Put (Start k s Stream) ∷ h) → Comes c r v i p j id m past w h
+  comes_on_stream k un r v i p j id m x = (let y = x.is_open in record { is_open = record { stands = y.stands; octets = y.octets; sent = back v y.stands.at y.sent; carries = y.carries }; first = x.first })
     where
-      ne : site p past ≡ Some (record { via = Stream; server = i }) → IsAmong x.is_open.octets (octets_for j (waiting_with [] p id (Put o ∷ h))) → i ≡ s → k ≢ j
+      ne : site p past ≡ Some (record { via = Stream; server = i }) → IsAmong x.is_open.octets (octets_for j (waiting_with [] p id h)) → i ≡ s → k ≢ j
       ne at a is same =
           let here : site p h ≡ Some (stream_site s) = subst (λ i. site p h ≡ Some (record { via = Stream; server = i })) is (site_past p (record { via = Stream; server = i }) h (ap (site p) f.streams.row.before ∙ at)) in
-          let b = f.begun p j id x.is_open.octets (at_is s p h here) (subst (λ ws. IsAmong x.is_open.octets (octets_for j ws)) (waits_same o q p id h) a) in
+          let b = f.begun p j id x.is_open.octets (at_is s p h here) a in
           (let z : started k s Stream h ≡ true = subst (λ k. started k s Stream h ≡ true) (sym same) b in let y : true ≡ false = sym z ∙ un in cc)
 
-      back : (v : Via) → site p past ≡ Some (record { via = v; server = i }) → IsAmong x.is_open.octets (waited_for v r i p j id (now h) [] past (Put (Start k s Stream) ∷ Put o ∷ h)) → IsAmong x.is_open.octets (waited_for v r i p j id (now h) [] past (Put o ∷ h))
+      back : (v : Via) → site p past ≡ Some (record { via = v; server = i }) → IsAmong x.is_open.octets (waited_for v r i p j id (now h) [] past (Put (Start k s Stream) ∷ h)) → IsAmong x.is_open.octets (waited_for v r i p j id (now h) [] past h)
       back Dgram at a = a
-      back Stream at a = waited_start k s i Stream Stream r p j id x.is_open.octets [] past (Put o ∷ h) (not_start k s j i Stream (ne at (before_of (is_before (now h) (start j i Stream (Put (Start k s Stream) ∷ Put o ∷ h))) x.is_open.octets (octets_for j (waiting_with [] p id (Put o ∷ h))) a).1)) a
+      back Stream at a = waited_start k s i Stream Stream r p j id x.is_open.octets [] past h (not_start k s j i Stream (ne at (before_of (is_before (now h) (start j i Stream (Put (Start k s Stream) ∷ h))) x.is_open.octets (octets_for j (waiting_with [] p id h)) a).1)) a
 
   abbrev IsQuietAct : Act → Type 0
   IsQuietAct (Puts o) = IsQuiet o
@@ -111,7 +111,6 @@ module _ (c : Conf) (s next : ℕ) (past : History) (w : What) (u : Served) (h :
   settles_late : (y : Served) (x : Act) (d : Step Served) → IsQuietAct x → ((k : ℕ) (a : Tryer) → y.server.by_dgram.held k ≡ Some a → (b : Tryer) × (u.server.by_dgram.held k ≡ Some b)) → Settles s u.clock next y x d → ComesLate c s past w h d
   settles_late y x _ q was (AsItIs set) t r v p j id m z = inl (quiet_back x q t r v p j id m z)
   settles_late y x _ q was (WithResult k a g held stage) t r v p j id m z = inl (quiet_back x q t r v p j id m z)
-  settles_late y x _ q was (ByStreamNow k a o is held stage) t r v p j id m z = (let b = was k a held in let quiet : IsQuiet o = subst IsQuietAct is q in inl (comes_on_stream k o quiet (f.dgrams.held k (b.0) b.1).unstreamed r v t p j id m z))
 
   some_at : (k : ℕ) (a b : Tryer) (g : ℕ → Option Tryer) → g k ≡ Some a → (j : ℕ) (x : Tryer) → with_at k (Some b) g j ≡ Some x → (y : Tryer) × (g j ≡ Some y)
   some_at k a b g e j x i = each_at (λ j (x : Tryer). (y : Tryer) × (g j ≡ Some y)) k b g (a, e) (λ j x ne i. (x, i)) j x i
@@ -268,6 +267,7 @@ module _ (c : Conf) (s next : ℕ) (past : History) (w : What) (u : Served) (h :
   pub acts_come : (d : Step Served) → Acts s next u d → ComesLate c s past w h d
   acts_come d (served.ByDgram x e _ tries set) = (let t = tries_late e x tries in settles_late _ x d t.0 t.1 set)
   acts_come _ (served.ByStream x m move) = moves_late m x move
+  acts_come _ (served.FallsBack k a held stage) = λ t r v q j i n z. inl (comes_on_stream k (f.dgrams.held k a held).unstreamed r v t q j i n z)
   acts_come d (served.TellsDgrams x e _ un soon meets foreign set) = (let t = meets_late e u.pending x meets in settles_late _ x d t.0 t.1 set)
   acts_come _ (served.TellsStreams x m un plain takes ignored) = λ t r v q j i n z. inl (quiet_back x (takes_quiet m u.pending x takes) t r v q j i n z)
   acts_come _ (served.Reads p o x un pend conn) = λ t r v q j i n z. inl z

@@ -184,8 +184,8 @@ module _ (c : Conf) (s t : ℕ) (past : History) (w : What) (v : Served) (h : Hi
       go Queued i = tt
       go (Trying p) i = tt
       go (Sent p id n) i = tt
-      go (Ending x) i = absurd ((f.settled k a e).1 x i)
-      go Cut i = absurd ((f.settled k a e).0 i)
+      go (Ending x) i = absurd (f.settled k a e x i)
+      go Cut i = tt
 
   not_sent : (p j k : ℕ) (id : ℕ) (o : Octets) → site p h ≡ Some (dgram_site s) → is_send_to k t (Send p j id o) h ≡ false
   not_sent p j k id o at = (let z : is_at Dgram t p h ≡ false = ap (is_site Dgram t) at ∙ none_of s t Dgram Dgram ne in rw z (none (j == k)))

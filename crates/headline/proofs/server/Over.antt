@@ -16,7 +16,7 @@ use Rattle.headline.specs.Writes.{waiting_with}
 use Rattle.headline.specs.Exchanges.{octets_for, is_before, waited_for, IsAmong}
 use Rattle.headline.specs.machine.Streams.{Act, Puts, Gives, Nothing, Asker, Conn, Multi, Holding, Moves, TakesFrame}
 use Rattle.headline.specs.machine.Dgrams.{Ending, Tryer, Dgrams, Tries}
-use Rattle.headline.specs.machine.Served.{Served, outs_of, posts_of, Acts, Settles, AsItIs, WithResult, ByStreamNow}
+use Rattle.headline.specs.machine.Served.{Served, outs_of, posts_of, Acts, Settles, AsItIs, WithResult}
 use Rattle.headline.specs.Owed.{IsOwed}
 use Rattle.headline.specs.machine.Part.{Post, Act as Step, IsPosted}
 use Rattle.headline.proofs.server.Kept.{listed, Kept}
@@ -49,7 +49,6 @@ module _ (c : Conf) (s : ℕ) (past : History) (w : What) (u : Served) (h : Hist
 
   settles_over : (next : ℕ) (v : Served) (x : Act) (d : Step Served) → posts_of x ≡ [] → ((j : ℕ) (a : Tryer) → v.server.by_dgram.held j ≡ Some a → (y : Result Octets Error) → a.stage ≡ Ending y → IsOwed c s j past w (put_all (outs_of x) h) → ⊥) → Settles s u.clock next v x d → (z : Post) → IsPosted z d.posts → IsOwed c s z.request past w (put_all d.outs h) → ⊥
   settles_over next v x _ none over (AsItIs set) z i o = absurd (subst (λ ps. IsPosted z ps) none i)
-  settles_over next v x _ none over (ByStreamNow k a q is held stage) z i o = absurd i
   settles_over next v x _ none over (WithResult k a y held stage) z i o = elim i [ inl e ↦ over k a held y stage (subst (λ (z : Post). IsOwed c s z.request past w (put_all (outs_of x) h)) (sym e) o) | inr b ↦ absurd b ]
 
   -- by stream
@@ -121,6 +120,7 @@ module _ (c : Conf) (s : ℕ) (past : History) (w : What) (u : Served) (h : Hist
   pub acts_over : (next : ℕ) → next ≡ reach h → (d : Step Served) → Acts s next u d → (z : Post) → IsPosted z d.posts → IsOwed c s z.request past w (put_all d.outs h) → ⊥
   acts_over next is d (served.ByDgram x e _ tries set) z i o = settles_over next (served.has_moved (record u.server { by_dgram = e }) u) x d (tries_held s u.clock next u.server.by_dgram e x f.settled tries).0 (staged_over e x (tries_owed c s past w u h f wh e x (subst₂ (λ n next. Tries s n next u.server.by_dgram x e) f.clock is tries))) set z i o
   acts_over next is _ (served.ByStream x m move) z i o = act_over x (moves_over next m x move) z i o
+  acts_over next is _ (served.FallsBack k a held stage) z i o = absurd i
   acts_over next is d (served.TellsDgrams x e _ untaken soon meets foreign set) z i o = settles_over next (served.has_taken_it (record u.server { by_dgram = e }) u) x d (meets_held u.clock u.server.by_dgram e u.pending x meets).0 (staged_over e x (meets_owed c s past w u h f wh u.clock u.pending e x (f.untaken untaken).pending (f.untaken untaken).pending meets)) set z i o
   acts_over next is _ (served.TellsStreams x m untaken plain takes ignored) z i o = absurd (subst (λ ps. IsPosted z ps) (takes_held u.clock u.server.by_stream m u.pending x takes).0 i)
   acts_over next is _ (served.Reads p q x untaken pend conn) z i o = absurd i

@@ -18,7 +18,7 @@ use Rattle.headline.specs.Exchanges.{has_answer, is_before, unanswered, waited_f
 use Rattle.headline.specs.machine.Streams.{Act, Puts, Gives, Nothing, Phase, Free, Expecting, Lined, Holding, Broken, BackingOff, Asker, Conn, Multi, with_at, Moves, Takes, TakesFrame}
 use Rattle.headline.specs.machine.Dgrams.{Stage, Queued, Trying, Sent, Ending, Cut, Tryer, Dgrams, Tries, Meets, stage_of}
 use Rattle.headline.specs.machine.Server.{Server}
-use Rattle.headline.specs.machine.Served.{Served, holds, outs_of, Acts, Settles, AsItIs, WithResult, ByStreamNow}
+use Rattle.headline.specs.machine.Served.{Served, holds, outs_of, Acts, Settles, AsItIs, WithResult}
 use Rattle.headline.specs.Owed.{IsOwed}
 use Rattle.headline.specs.machine.Part.{Act as Step}
 use Rattle.headline.proofs.PartLaws.{this_one}
@@ -26,7 +26,7 @@ use Rattle.headline.proofs.server.DgramKept.{Old, SentFits, StageFits}
 use Rattle.headline.proofs.server.Views.{each_at, each_other, at_there}
 use Rattle.headline.proofs.server.Handing.{before_of, none_started, handed_put}
 use Rattle.headline.proofs.server.Cancels.{one_way}
-use Rattle.headline.proofs.server.Staying.{Was, IsNext, nothing_new, owed_put, mute_put, CutsAt, tries_cut, meets_cut, empty_close, start_put, acts_were}
+use Rattle.headline.proofs.server.Staying.{Was, IsNext, nothing_new, owed_put, mute_put, start_put, acts_were}
 use Rattle.headline.proofs.server.Moved.{now_all}
 use Rattle.headline.proofs.server.OwedFits.{StageOwed, PhaseOwed, OwedFits}
 use Rattle.headline.proofs.server.Fitting.{Fits}
@@ -111,7 +111,7 @@ module _ (c : Conf) (s : ℕ) (past : History) (w : What) (u : Served) (h : Hist
   tries_owed _ _ (dgrams.Opens k b held stage few) = each_staged (Put (OpenDgram (reach h) s) ∷ h) k (dgrams.staged b (Trying (reach h))) (λ o. stage_owed _ k b Queued held stage o (mute_put c s past w u h f (OpenDgram (reach h) s) tt refl k s o)) (λ j o ne. mute_put c s past w u h f (OpenDgram (reach h) s) tt refl j s o)
   tries_owed _ _ (dgrams.Retries k b p id t held stage late few) = each_staged (Put (Close p) ∷ h) k (dgrams.staged b Queued) (λ o. stops k b p id t held stage late (close_was p k o).0) (λ j o ne. close_was p j o)
   tries_owed _ _ (dgrams.StopsTrying k b p id t held stage late six) = each_staged (Put (Close p) ∷ h) k (dgrams.staged b _) (λ o. stops k b p id t held stage late (close_was p k o).0) (λ j o ne. close_was p j o)
-  tries_owed _ _ (dgrams.Ends k b x held stage) = absurd ((f.settled k b held).1 x stage)
+  tries_owed _ _ (dgrams.Ends k b x held stage) = absurd (f.settled k b held x stage)
 
   -- the event tells that its place is broken, and the place is closed
   told : (p k : ℕ) (o : IsOwed c s k past w (Put (Close p) ∷ h)) → o.place ≡ p → is_told p w ≡ true → ⊥
@@ -175,23 +175,18 @@ module _ (c : Conf) (s : ℕ) (past : History) (w : What) (u : Served) (h : Hist
   stream_still x were k a ask o = elim (were k o) [ inl y ↦ subst (λ n. PhaseOwed n o.via o.place a.phase) (sym (now_all (outs_of x) h)) (was_stream (put_all (outs_of x) h) k a ask o y) | inr z ↦ absurd (one_way c s past w u h k (z.0) a f z.1 ask) ]
 
   -- what follows the close of a datagram place
-  settles_owed : (next : ℕ) (v : Served) (x : Act) (d : Step Served) → v.server.by_stream ≡ u.server.by_stream → ((j : ℕ) (a : Tryer) → v.server.by_dgram.held j ≡ Some a → (o : IsOwed c s j past w (put_all (outs_of x) h)) → StageOwed w past a.request o.place a.stage) → DgramWere x → ((j : ℕ) (a : Tryer) → v.server.by_dgram.held j ≡ Some a → CutsAt c s past w u h f x j a) → Settles s u.clock next v x d → Owed d.state.server (put_all d.outs h)
-  settles_owed next v x _ same owed were cuts (AsItIs set) = record { by_dgram = owed; by_stream = λ k a ask o. stream_still x were k a (sym (ap (λ (m : Multi). m.asks k) same) ∙ ask) o }
-  settles_owed next v x _ same owed were cuts (WithResult k a y held stage) = record { by_dgram = each_other (λ j (a : Tryer). (o : IsOwed c s j past w (put_all (outs_of x) h)) → StageOwed w past a.request o.place a.stage) k v.server.by_dgram.held (λ j a ne e. owed j a e); by_stream = λ k a ask o. stream_still x were k a (sym (ap (λ (m : Multi). m.asks k) same) ∙ ask) o }
-  settles_owed next v x _ same owed were cuts (ByStreamNow k a o is held stage) =
-      let cut = cuts k a held stage o is in
-      let o' : x ≡ Puts (Close cut.0) = is ∙ ap Puts cut.1 in
-      let owed' : (j : ℕ) (a : Tryer) → v.server.by_dgram.held j ≡ Some a → (o : IsOwed c s j past w (Put (Close cut.0) ∷ h)) → StageOwed w past a.request o.place a.stage = subst (λ x. (j : ℕ) (a : Tryer) → v.server.by_dgram.held j ≡ Some a → (o : IsOwed c s j past w (put_all (outs_of x) h)) → StageOwed w past a.request o.place a.stage) o' owed in
-      subst (λ o. Owed (record { by_dgram = dgrams.forget k v.server.by_dgram; by_stream = record v.server.by_stream { asks = with_at k (Some (record { request = a.request; since = u.clock; phase = Free })) v.server.by_stream.asks } }) (Put (Start k s Stream) ∷ Put o ∷ h)) (sym cut.1) (both k a held stage cut.0 cut.2 owed')
-    where
-      both : (k : ℕ) (a : Tryer) → v.server.by_dgram.held k ≡ Some a → a.stage ≡ Cut → (p : ℕ) → started k s Stream h ≡ false → ((j : ℕ) (a : Tryer) → v.server.by_dgram.held j ≡ Some a → (o : IsOwed c s j past w (Put (Close p) ∷ h)) → StageOwed w past a.request o.place a.stage) → Owed (record { by_dgram = dgrams.forget k v.server.by_dgram; by_stream = record v.server.by_stream { asks = with_at k (Some (record { request = a.request; since = u.clock; phase = Free })) v.server.by_stream.asks } }) (Put (Start k s Stream) ∷ Put (Close p) ∷ h)
-      both k a held stage p free owed' = record {
-        by_dgram = each_other (λ j (a : Tryer). (o : IsOwed c s j past w (Put (Start k s Stream) ∷ Put (Close p) ∷ h)) → StageOwed w past a.request o.place a.stage) k v.server.by_dgram.held (λ j b ne e o. (let y = before j o in subst (λ p. StageOwed w past b.request p b.stage) y.2 (owed' j b e y.0)));
-        by_stream = each_at (λ j (b : Asker). (o : IsOwed c s j past w (Put (Start k s Stream) ∷ Put (Close p) ∷ h)) → PhaseOwed (now h) o.via o.place b.phase) k _ v.server.by_stream.asks (λ o. (let y = before k o in subst (λ st. StageOwed w past a.request y.0.place st) stage (owed' k a held y.0))) (λ j b ne e o. was_stream _ j b (sym (ap (λ (m : Multi). m.asks j) same) ∙ e) o (start_put c s past w u h f k p j s free o));
+  settles_owed : (next : ℕ) (v : Served) (x : Act) (d : Step Served) → v.server.by_stream ≡ u.server.by_stream → ((j : ℕ) (a : Tryer) → v.server.by_dgram.held j ≡ Some a → (o : IsOwed c s j past w (put_all (outs_of x) h)) → StageOwed w past a.request o.place a.stage) → DgramWere x → Settles s u.clock next v x d → Owed d.state.server (put_all d.outs h)
+  settles_owed next v x _ same owed were (AsItIs set) = record { by_dgram = owed; by_stream = λ k a ask o. stream_still x were k a (sym (ap (λ (m : Multi). m.asks k) same) ∙ ask) o }
+  settles_owed next v x _ same owed were (WithResult k a y held stage) = record { by_dgram = each_other (λ j (a : Tryer). (o : IsOwed c s j past w (put_all (outs_of x) h)) → StageOwed w past a.request o.place a.stage) k v.server.by_dgram.held (λ j a ne e. owed j a e); by_stream = λ k a ask o. stream_still x were k a (sym (ap (λ (m : Multi). m.asks k) same) ∙ ask) o }
+
+  -- a request goes on by stream
+  falls_owed : (k : ℕ) (a : Tryer) → u.server.by_dgram.held k ≡ Some a → a.stage ≡ Cut → Owed (server.falls_back k u.clock a u.server) (Put (Start k s Stream) ∷ h)
+  falls_owed k a held stage =
+      let was : (j : ℕ) (o : IsOwed c s j past w (Put (Start k s Stream) ∷ h)) → Was c s j past w h (Put (Start k s Stream) ∷ h) o = λ j o. start_put c s past w u h f k j s (f.dgrams.held k a held).unstreamed o in
+      record {
+        by_dgram = each_other (λ j (b : Tryer). (o : IsOwed c s j past w (Put (Start k s Stream) ∷ h)) → StageOwed w past b.request o.place b.stage) k u.server.by_dgram.held (λ j b ne e o. was_dgram _ j b e o (was j o));
+        by_stream = each_at (λ j (b : Asker). (o : IsOwed c s j past w (Put (Start k s Stream) ∷ h)) → PhaseOwed (now h) o.via o.place b.phase) k (record { request = a.request; since = u.clock; phase = Free }) u.server.by_stream.asks (λ o. stage_owed _ k a Cut held stage o (was k o)) (λ j b ne e o. was_stream _ j b e o (was j o));
       }
-        where
-          before : (j : ℕ) (o : IsOwed c s j past w (Put (Start k s Stream) ∷ Put (Close p) ∷ h)) → Was c s j past w (Put (Close p) ∷ h) (Put (Start k s Stream) ∷ Put (Close p) ∷ h) o
-          before j o = elim (owed_put c s past w (Put (Close p) ∷ h) (empty_close c s past w u h f p) f.begun (Start k s Stream) (refl, free) j s o) [ inl y ↦ y | inr e ↦ absurd e ]
 
   -- By stream
 
@@ -284,9 +279,10 @@ module _ (c : Conf) (s : ℕ) (past : History) (w : What) (u : Served) (h : Hist
   }
 
   acts_both : (next : ℕ) → next ≡ reach h → (d : Step Served) → Acts s next u d → Owed d.state.server (put_all d.outs h)
-  acts_both next is d (served.ByDgram x e _ tries set) = (let it = subst₂ (λ n next. Tries s n next u.server.by_dgram x e) f.clock is tries in settles_owed next _ x d refl (tries_owed e x it) (tries_were e x it) (tries_cut c s past w u h f e x (subst (λ next. Tries s u.clock next u.server.by_dgram x e) is tries)) set)
+  acts_both next is d (served.ByDgram x e _ tries set) = (let it = subst₂ (λ n next. Tries s n next u.server.by_dgram x e) f.clock is tries in settles_owed next _ x d refl (tries_owed e x it) (tries_were e x it) set)
   acts_both next is _ (served.ByStream x m move) = (let it = subst₂ (λ n next. Moves s n next u.server.by_stream x m) f.clock is move in stream_owed (record u.server { by_stream = m }) x refl (moves_owed m x it) (moves_were m x it))
-  acts_both next is d (served.TellsDgrams x e _ un soon meets foreign set) = (let v = (f.untaken un).pending in settles_owed next _ x d refl (meets_owed u.clock u.pending e x v v meets) (meets_were u.clock u.pending e x meets) (meets_cut c s past w u h f e u.pending x meets) set)
+  acts_both next is _ (served.FallsBack k a held stage) = falls_owed k a held stage
+  acts_both next is d (served.TellsDgrams x e _ un soon meets foreign set) = (let v = (f.untaken un).pending in settles_owed next _ x d refl (meets_owed u.clock u.pending e x v v meets) (meets_were u.clock u.pending e x meets) set)
   acts_both next is _ (served.TellsStreams x m un plain takes ignored) = stream_owed (record u.server { by_stream = m }) x refl (takes_owed u.clock u.pending m x takes) (takes_were u.clock u.pending m x takes)
   acts_both next is _ (served.Reads p o x un pend conn) = record { by_dgram = g.by_dgram; by_stream = g.by_stream }
   acts_both next is _ (served.TakesOne y ys x m more soon frame) = stream_owed (record u.server { by_stream = m }) x refl (frame_owed u.clock y m x frame) (frame_were u.clock y m x frame)

@@ -19,12 +19,11 @@ use Rattle.headline.specs.Frames.{came_here, brings}
 use Rattle.headline.specs.Exchanges.{octets_for, is_before, is_send, unanswered, waited_for, IsAmong}
 use Rattle.headline.specs.machine.Streams.{Act, Puts, Gives, Nothing, Asker, Multi, Moves, Takes, TakesFrame}
 use Rattle.headline.specs.machine.Dgrams.{Tryer, Dgrams, Tries, Meets}
-use Rattle.headline.specs.machine.Served.{Served, holds, outs_of, Acts, Settles, AsItIs, WithResult, ByStreamNow}
+use Rattle.headline.specs.machine.Served.{Served, holds, outs_of, Acts, Settles, AsItIs, WithResult}
 use Rattle.headline.specs.Owed.{IsOwed}
 use Rattle.headline.specs.machine.Part.{Act as Step}
 use Rattle.headline.proofs.server.Kept.{stream_site}
 use Rattle.headline.proofs.server.DgramKept.{dgram_site}
-use Rattle.headline.proofs.server.Views.{each_at}
 use Rattle.headline.proofs.server.Ending.{at_is}
 use Rattle.headline.proofs.server.Keeping.{at_site}
 use Rattle.headline.proofs.server.Handing.{or_left, before_of, waited_start}
@@ -268,57 +267,21 @@ module _ (c : Conf) (s : ℕ) (past : History) (w : What) (u : Served) (h : Hist
   abbrev WasIn : (outs : List Out) → Type 0
   WasIn outs = (k t : ℕ) → (o : IsOwed c t k past w (put_all outs h)) → Was c t k past w h (put_all outs h) o ⊎ ((t ≡ s) × (holds u k ≡ true))
 
-  -- a cut answer: its place is closed, and it did not go on by stream before
-  abbrev pub IsCutAt : Out → ℕ → Type 0
-  IsCutAt o j = (p : ℕ) × (o ≡ Close p) × (started j s Stream h ≡ false)
-
-  abbrev pub CutsAt : Act → ℕ → Tryer → Type 0
-  CutsAt x j a = a.stage ≡ dgrams.Cut → (o : Out) → x ≡ Puts o → IsCutAt o j
-
-  none_cut : (k : ℕ) (b : Tryer) (x : Act) → (b.stage ≡ dgrams.Cut → (o : Out) → x ≡ Puts o → IsCutAt o k) → (j : ℕ) (a : Tryer) → multi.with_at k (Some b) u.server.by_dgram.held j ≡ Some a → CutsAt x j a
-  none_cut k b x here j a e = each_at (λ j (a : Tryer). CutsAt x j a) k b u.server.by_dgram.held here (λ j a ne e cut. absurd ((f.settled j a e).0 cut)) j a e
-
-  pub tries_cut : (d : Dgrams) (x : Act) → Tries s u.clock (reach h) u.server.by_dgram x d → (j : ℕ) (a : Tryer) → d.held j ≡ Some a → CutsAt x j a
-  tries_cut _ x (dgrams.Opens k a held stage few) = none_cut k (dgrams.staged a (dgrams.Trying (reach h))) x (λ e. absurd (cc))
-  tries_cut _ x (dgrams.Retries k a p id t held stage late few) = none_cut k (dgrams.staged a dgrams.Queued) x (λ e. absurd (cc))
-  tries_cut _ x (dgrams.StopsTrying k a p id t held stage late six) = none_cut k (dgrams.staged a _) x (λ e. absurd (cc))
-  tries_cut _ x (dgrams.Ends k a y held stage) = absurd ((f.settled k a held).1 y stage)
-
-  pub meets_cut : (d : Dgrams) (v : What) (x : Act) → Meets u.clock u.server.by_dgram v x d → (j : ℕ) (a : Tryer) → d.held j ≡ Some a → CutsAt x j a
-  meets_cut _ _ x (dgrams.IsSent k a p id o at held stage carries) = none_cut k _ x (λ e. absurd (cc))
-  meets_cut _ _ x (dgrams.CannotBeSent k a p e at held stage bad) = none_cut k _ x (λ e. absurd (cc))
-  meets_cut _ _ x (dgrams.DoesNotOpen k a p g at held stage) = none_cut k _ x (λ e. absurd (cc))
-  meets_cut _ _ x (dgrams.NotSent k a p id t g at held stage) = none_cut k _ x (λ e. absurd (cc))
-  meets_cut _ _ x (dgrams.SentShort k a p id t at held stage) = none_cut k _ x (λ e. absurd (cc))
-  meets_cut _ _ x (dgrams.NotReceived k a p id t g at held stage) = none_cut k _ x (λ e. absurd (cc))
-  meets_cut _ _ x (dgrams.IsAnswered k a p id t o at held stage long ok) = none_cut k _ x (λ e q is. (p, (let z : Close p ≡ q = cc in sym z), (f.dgrams.held k a held).unstreamed))
-
-  -- nothing more waits once a place is closed
-  pub empty_close : (p : ℕ) → IsEmpty (Put (Close p) ∷ h)
-  empty_close p Dgram r t q k id n ms x le i = nothing_new Dgram r t q k id n ms x le i
-  empty_close p Stream r t q k id n ms x le i = nothing_new Stream r t q k id n ms x le i
-
-  -- what a place that is closed and a start make it owe: nothing
-  pub start_put : (j p k t : ℕ) → started j s Stream h ≡ false → (x : IsOwed c t k past w (Put (Start j s Stream) ∷ Put (Close p) ∷ h)) → Was c t k past w h (Put (Start j s Stream) ∷ Put (Close p) ∷ h) x
-  start_put j p k t free x = elim (owed_put c s past w (Put (Close p) ∷ h) (empty_close p) f.begun (Start j s Stream) (refl, free) k t x) [
-    | inl y ↦ (let z = mute_put (Close p) tt tt k t y.0 in (z.0, z.1 ∙ y.1, z.2 ∙ y.2))
-    | inr e ↦ absurd e
-  ]
+  -- what a request that goes on by stream makes it owe: nothing
+  pub start_put : (j k t : ℕ) → started j s Stream h ≡ false → (x : IsOwed c t k past w (Put (Start j s Stream) ∷ h)) → Was c t k past w h (Put (Start j s Stream) ∷ h) x
+  start_put j k t free x = elim (owed_put c s past w h nothing_new f.begun (Start j s Stream) (refl, free) k t x) [ inl y ↦ y | inr e ↦ absurd e ]
 
   -- what follows the close of a datagram place
-  settles_stay : (next : ℕ) (v : Served) (x : Act) (d : Step Served) → ActStays x → ((j : ℕ) (a : Tryer) → v.server.by_dgram.held j ≡ Some a → CutsAt x j a) → Settles s u.clock next v x d → WasIn d.outs
-  settles_stay next v x _ st cuts (AsItIs set) k t i = act_stays x st k t i
-  settles_stay next v x _ st cuts (WithResult j a y held stage) k t i = act_stays x st k t i
-  settles_stay next v x _ st cuts (ByStreamNow j a o is held stage) k t i =
-      let cut = cuts j a held stage o is in
-      let both : (y : IsOwed c t k past w (Put (Start j s Stream) ∷ Put o ∷ h)) → Was c t k past w h (Put (Start j s Stream) ∷ Put o ∷ h) y = subst (λ o. (y : IsOwed c t k past w (Put (Start j s Stream) ∷ Put o ∷ h)) → Was c t k past w h (Put (Start j s Stream) ∷ Put o ∷ h) y) (sym cut.1) (start_put j cut.0 k t cut.2) in
-      inl (both i)
+  settles_stay : (next : ℕ) (v : Served) (x : Act) (d : Step Served) → ActStays x → Settles s u.clock next v x d → WasIn d.outs
+  settles_stay next v x _ st (AsItIs set) k t i = act_stays x st k t i
+  settles_stay next v x _ st (WithResult j a y held stage) k t i = act_stays x st k t i
 
   -- what a move of its own makes it owe: nothing but to a request that it holds
   pub acts_were : (next : ℕ) → next ≡ reach h → (d : Step Served) → Acts s next u d → WasIn d.outs
-  acts_were next is d (served.ByDgram x e _ tries set) = settles_stay next _ x d (tries_stay e x (subst₂ (λ n next. Tries s n next u.server.by_dgram x e) f.clock is tries)) (tries_cut e x (subst (λ next. Tries s u.clock next u.server.by_dgram x e) is tries)) set
+  acts_were next is d (served.ByDgram x e _ tries set) = settles_stay next _ x d (tries_stay e x (subst₂ (λ n next. Tries s n next u.server.by_dgram x e) f.clock is tries)) set
   acts_were next is _ (served.ByStream x m move) = act_stays x (moves_stay m x (subst₂ (λ n next. Moves s n next u.server.by_stream x m) f.clock is move))
-  acts_were next is d (served.TellsDgrams x e _ un soon meets foreign set) = settles_stay next _ x d (meets_stay e u.pending x meets) (meets_cut e u.pending x meets) set
+  acts_were next is _ (served.FallsBack j a held stage) = λ k t i. inl (start_put j k t (f.dgrams.held j a held).unstreamed i)
+  acts_were next is d (served.TellsDgrams x e _ un soon meets foreign set) = settles_stay next _ x d (meets_stay e u.pending x meets) set
   acts_were next is _ (served.TellsStreams x m un plain takes ignored) = act_stays x (takes_stay m u.pending x takes)
   acts_were next is _ (served.Reads p o x un pend conn) = λ k t i. inl (i, refl, refl)
   acts_were next is _ (served.TakesOne g gs x m more soon frame) = act_stays x (frame_stay g m x frame)

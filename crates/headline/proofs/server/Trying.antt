@@ -18,7 +18,7 @@ use Rattle.headline.specs.Causes.{NoAnswer}
 use Rattle.headline.specs.Orderly.{use_at, OfDgram, ItsTimeout}
 use Rattle.headline.specs.machine.Streams.{Act, Multi, with_at}
 use Rattle.headline.specs.machine.Dgrams.{Stage, Queued, Trying, Sent, Ending, Cut, Tryer, Dgrams, Tries, leave, forget}
-use Rattle.headline.specs.machine.Served.{Served, has_moved, outs_of, place_after, Settles, AsItIs, WithResult, ByStreamNow}
+use Rattle.headline.specs.machine.Served.{Served, has_moved, outs_of, place_after, Settles, AsItIs, WithResult}
 use Rattle.headline.specs.Right.{ServerOutsRight}
 use Rattle.headline.specs.machine.Part.{Act as Step}
 use Rattle.headline.proofs.PartLaws.{Keeps, none_more}
@@ -56,8 +56,7 @@ module _ (c : Conf) (s : ℕ) (past : History) (w : What) (u : Served) (h : Hist
     pub streams : Kept s past w u.pending f.fr f.more u.server.by_stream (put_all outs h)
     pub dgrams : KeptD c s past w u.pending d (put_all outs h)
     pub held : (k : ℕ) (a : Tryer) → d.held k ≡ Some a → use_at s c.servers ≡ Some ByDatagrams
-    pub others : (k : ℕ) (a : Tryer) → d.held k ≡ Some a → who ≢ k → (a.stage ≢ Cut) × ((x : Result Octets Error) → a.stage ≢ Ending x)
-    pub uncut : (k : ℕ) (a : Tryer) → d.held k ≡ Some a → a.stage ≢ Cut
+    pub others : (k : ℕ) (a : Tryer) → d.held k ≡ Some a → who ≢ k → (x : Result Octets Error) → a.stage ≢ Ending x
     pub one_id : OneId s (put_all outs h)
     pub begun : BegunBy s (put_all outs h)
     pub unsent : UnsentBy s (put_all outs h)
@@ -73,8 +72,8 @@ module _ (c : Conf) (s : ℕ) (past : History) (w : What) (u : Served) (h : Hist
       go None e = absurd (cc)
       go (Some y) e = e
 
-  closes : (k : ℕ) (a : Tryer) (p : ℕ) (st : Stage) → u.server.by_dgram.held k ≡ Some a → placed a.stage ≡ Some p → placed st ≡ None → st ≢ Cut → a.tries + owing st ≤ 6 → StageFits c s k a.request past w u.pending (Put (Close p) ∷ h) st → Half (leave p k a st u.server.by_dgram) (Close p ∷ [])
-  closes k a p st held at free uncut few fits =
+  closes : (k : ℕ) (a : Tryer) (p : ℕ) (st : Stage) → u.server.by_dgram.held k ≡ Some a → placed a.stage ≡ Some p → placed st ≡ None → a.tries + owing st ≤ 6 → StageFits c s k a.request past w u.pending (Put (Close p) ∷ h) st → Half (leave p k a st u.server.by_dgram) (Close p ∷ [])
+  closes k a p st held at free few fits =
       let g = standing c s k p a.request past w u.pending h a.stage at (f.dgrams.held k a held).stage in
       let low = place_below c s past w u.pending u.server.by_dgram h p k f.dgrams (f.dgrams.points k a held p at) in
       record {
@@ -83,7 +82,6 @@ module _ (c : Conf) (s : ℕ) (past : History) (w : What) (u : Served) (h : Hist
         dgrams = closes_d c s past w u.pending u.server.by_dgram h p k a st f.dgrams held at free few fits;
         held = λ j b e. each_at (λ j (b : Tryer). use_at s c.servers ≡ Some ByDatagrams) k (dgrams.staged a st) u.server.by_dgram.held (f.by_dgram k a held) (λ j b ne e. f.by_dgram j b e) j b e;
         others = λ j b e ne. f.settled j b (sym (at_there k j _ u.server.by_dgram.held ne) ∙ e);
-        uncut = each_at (λ j (b : Tryer). b.stage ≢ Cut) k (dgrams.staged a st) u.server.by_dgram.held uncut (λ j b ne e. (f.settled j b e).0);
         one_id = f.one_id;
         begun = f.begun;
         unsent = f.unsent;
@@ -99,7 +97,6 @@ module _ (c : Conf) (s : ℕ) (past : History) (w : What) (u : Served) (h : Hist
     dgrams = opens_d c s past w u.pending u.server.by_dgram h k a f.dgrams held stage few f.streams.row.event (f.free (reach h) (omega arith));
     held = λ j b e. each_at (λ j (b : Tryer). use_at s c.servers ≡ Some ByDatagrams) k (dgrams.staged a (Trying (reach h))) u.server.by_dgram.held (f.by_dgram k a held) (λ j b ne e. f.by_dgram j b e) j b e;
     others = λ j b e ne. f.settled j b (sym (at_there k j _ u.server.by_dgram.held ne) ∙ e);
-    uncut = each_at (λ j (b : Tryer). b.stage ≢ Cut) k (dgrams.staged a (Trying (reach h))) u.server.by_dgram.held (λ e. cc) (λ j b ne e. (f.settled j b e).0);
     one_id = λ q l i j y z at b d. f.one_id q l i j y z (was_stream q (reach h == q) at) b d;
     begun = λ q l i y at b. f.begun q l i y (was_stream q (reach h == q) at) b;
     unsent = f.unsent;
@@ -107,21 +104,21 @@ module _ (c : Conf) (s : ℕ) (past : History) (w : What) (u : Served) (h : Hist
     no_reply = λ j. refl;
     no_start = λ j t. refl;
   }
-  tries_half _ _ (dgrams.Retries k a p id t held stage late few) = closes k a p Queued held (ap placed stage) refl (λ e. cc) (omega arith) tt
+  tries_half _ _ (dgrams.Retries k a p id t held stage late few) = closes k a p Queued held (ap placed stage) refl (omega arith) tt
   tries_half _ _ (dgrams.StopsTrying k a p id t held stage late six) =
       let g = f.dgrams.held k a held in
       let sent : SentFits s p id t k a.request past u.pending h = subst (λ st. StageFits c s k a.request past w u.pending h st) stage g.stage in
       let few : a.tries + 0 ≤ 6 = subst (λ st. a.tries + owing st ≤ 6) stage g.few in
       let trials = g.trials in
-      closes k a p (Ending (Err (errors.Dgram query.Timeout))) held (ap placed stage) refl (λ e. cc) few
+      closes k a p (Ending (Err (errors.Dgram query.Timeout))) held (ap placed stage) refl few
       (λ un late'. (NoAnswer (record { server = s; six = omega arith; last = record { place = p; moment = t }; is_last = sent.last; old = late; lived = lived s p id t k a.request past u.pending h late sent }), λ e. absurd (cc)))
-  tries_half _ _ (dgrams.Ends k a x held stage) = absurd ((f.settled k a held).1 x stage)
+  tries_half _ _ (dgrams.Ends k a x held stage) = absurd (f.settled k a held x stage)
 
   tries_right : (d : Dgrams) (x : Act) → s < length c.servers → Tries s (now h) (reach h) u.server.by_dgram x d → (end : History) → ServerOutsRight c past w end h (outs_of x)
   tries_right _ _ lt (dgrams.Opens k a held stage few) end = ((omega arith, lt), tt)
   tries_right _ _ lt (dgrams.Retries k a p id t held stage late few) end = (let g : SentFits s p id t k a.request past u.pending h = subst (λ st. StageFits c s k a.request past w u.pending h st) stage (f.dgrams.held k a held).stage in ((omega arith, OfDgram s (dgram_at s p h g.at) (ItsTimeout _ g.sent late)), tt))
   tries_right _ _ lt (dgrams.StopsTrying k a p id t held stage late six) end = (let g : SentFits s p id t k a.request past u.pending h = subst (λ st. StageFits c s k a.request past w u.pending h st) stage (f.dgrams.held k a held).stage in ((omega arith, OfDgram s (dgram_at s p h g.at) (ItsTimeout _ g.sent late)), tt))
-  tries_right _ _ lt (dgrams.Ends k a x held stage) end = absurd ((f.settled k a held).1 x stage)
+  tries_right _ _ lt (dgrams.Ends k a x held stage) end = absurd (f.settled k a held x stage)
 
   reaches : (next : ℕ) (d : Dgrams) (x : Act) → next ≡ reach h → Tries s (now h) (reach h) u.server.by_dgram x d → place_after x next ≡ reach (put_all (outs_of x) h)
   reaches next _ _ is (dgrams.Opens k a held stage few) = (let z = is in grind arith)
@@ -143,7 +140,7 @@ module _ (c : Conf) (s : ℕ) (past : History) (w : What) (u : Served) (h : Hist
   tries_keeps next e x _ is tries (WithResult k a y held stage) =
       let it = subst₂ (λ n next. Tries s n next u.server.by_dgram x e) f.clock is tries in
       let g = tries_half e x it in
-      let mine : g.who ≡ k = elim (cases_eq g.who k) [ inl same ↦ same | inr ne ↦ absurd ((g.others k a held ne).1 y stage) ] in
+      let mine : g.who ≡ k = elim (cases_eq g.who k) [ inl same ↦ same | inr ne ↦ absurd (g.others k a held ne y stage) ] in
       let less : (j : ℕ) (b : Tryer) → with_at k None e.held j ≡ Some b → (k ≢ j) × (e.held j ≡ Some b) = λ j b i. each_other (λ j (b : Tryer). (k ≢ j) × (e.held j ≡ Some b)) k e.held (λ j b ne i. (ne, i)) j b i in
       record {
         fits = fits_after c s past w u h f (record u.server { by_dgram = forget k e }) (outs_of x) (record {
@@ -162,9 +159,7 @@ module _ (c : Conf) (s : ℕ) (past : History) (w : What) (u : Served) (h : Hist
         handed_on = g.no_start;
         reaches = reaches next e x is it;
       }
-  tries_keeps next e x _ is tries (ByStreamNow k a o same held stage) = absurd (let it = subst₂ (λ n next. Tries s n next u.server.by_dgram x e) f.clock is tries in (tries_half e x it).uncut k a held stage)
 
   pub tries_outs : (next : ℕ) (e : Dgrams) (x : Act) (d : Step Served) → s < length c.servers → next ≡ reach h → Tries s u.clock next u.server.by_dgram x e → Settles s u.clock next (has_moved (record u.server { by_dgram = e }) u) x d → (end : History) → ServerOutsRight c past w end h d.outs
   tries_outs next e x _ lt is tries (AsItIs set) end = tries_right e x lt (subst₂ (λ n next. Tries s n next u.server.by_dgram x e) f.clock is tries) end
   tries_outs next e x _ lt is tries (WithResult k a y held stage) end = tries_right e x lt (subst₂ (λ n next. Tries s n next u.server.by_dgram x e) f.clock is tries) end
-  tries_outs next e x _ lt is tries (ByStreamNow k a o same held stage) end = absurd (let it = subst₂ (λ n next. Tries s n next u.server.by_dgram x e) f.clock is tries in (tries_half e x it).uncut k a held stage)

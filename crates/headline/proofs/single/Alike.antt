@@ -124,21 +124,29 @@ alike_so t out x s f same a = record {
 pub settled_all : (f : ℕ → Option Held) (d : Dgrams) → Follows tryer_of f d.held → IsSettled d
 settled_all f d same k a held = go (f k) (sym (same k) ∙ held)
   where
-    not_cut : (st : Stage) → stage_in st ≢ dgrams.Cut
-    not_cut Queued = λ e. cc
-    not_cut Loose = λ e. cc
-    not_cut (Trying p) = λ e. cc
-    not_cut (Sent p id t) = λ e. cc
-
     not_ending : (st : Stage) (x : Result Octets Error) → stage_in st ≢ dgrams.Ending x
     not_ending Queued x = λ e. cc
     not_ending Loose x = λ e. cc
     not_ending (Trying p) x = λ e. cc
     not_ending (Sent p id t) x = λ e. cc
 
-    go : (o : Option Held) → option_map tryer_of o ≡ Some a → (a.stage ≢ dgrams.Cut) × ((x : Result Octets Error) → a.stage ≢ dgrams.Ending x)
+    go : (o : Option Held) → option_map tryer_of o ≡ Some a → (x : Result Octets Error) → a.stage ≢ dgrams.Ending x
     go None e = absurd (cc)
-    go (Some b) e = (let is : tryer_of b ≡ a = cc in (subst (λ (a : Tryer). a.stage ≢ dgrams.Cut) is (not_cut b.stage), λ x. subst (λ (a : Tryer). a.stage ≢ dgrams.Ending x) is (not_ending b.stage x)))
+    go (Some b) e = (let is : tryer_of b ≡ a = cc in λ x. subst (λ (a : Tryer). a.stage ≢ dgrams.Ending x) is (not_ending b.stage x))
+
+-- nobody has a cut answer
+pub none_cut : (f : ℕ → Option Held) (d : Dgrams) → Follows tryer_of f d.held → (k : ℕ) (a : Tryer) → d.held k ≡ Some a → a.stage ≢ dgrams.Cut
+none_cut f d same k a held = go (f k) (sym (same k) ∙ held)
+  where
+    not_cut : (st : Stage) → stage_in st ≢ dgrams.Cut
+    not_cut Queued = λ e. cc
+    not_cut Loose = λ e. cc
+    not_cut (Trying p) = λ e. cc
+    not_cut (Sent p id t) = λ e. cc
+
+    go : (o : Option Held) → option_map tryer_of o ≡ Some a → a.stage ≢ dgrams.Cut
+    go None e = absurd (cc)
+    go (Some b) e = (let is : tryer_of b ≡ a = cc in subst (λ (a : Tryer). a.stage ≢ dgrams.Cut) is (not_cut b.stage))
 
 module _ (c : Conf) (st : Settings) (compose : Request → Result Octets Error) where
   -- a chain of moves

@@ -26,7 +26,7 @@ use Rattle.headline.specs.machine.Single as single
 use Rattle.headline.specs.machine.Single.{Stage, Queued, Loose, Trying, Sent, Held, State, Done, nothing, content, Quiet, Fires, Rests, Fires_one, IsDue}
 use Rattle.headline.proofs.server.Concrete.{every_run}
 use Rattle.headline.proofs.single.Standing.{Standing}
-use Rattle.headline.proofs.single.Alike.{stage_in, tryer_of, waiting_of, Still, Told, Alike, settled_all, leads_on, all_moves, Does}
+use Rattle.headline.proofs.single.Alike.{stage_in, tryer_of, waiting_of, Still, Told, Alike, settled_all, none_cut, leads_on, all_moves, Does}
 use Rattle.headline.proofs.single.Acting.{fires_stand, fires_do}
 use Rattle.headline.proofs.single.Meeting.{foreign, Meets, Does_so, Passes, meets_all}
 
@@ -115,8 +115,8 @@ module _ (c : Conf) (st : Settings) (compose : Request → Result Octets Error) 
           rests = record {
             waiting = λ k a e f. (let h = held_as k a e in lined k h.held h.is h.held.stage refl (ap (λ (a : Tryer). a.stage) h.same ∙ f));
             reading = λ k a p id m e f. (let h = held_as k a e in subst (λ n. n < m + read_timeout) (sym al.first.clock) (early k h.held p id m h.is h.held.stage refl (ap (λ (a : Tryer). a.stage) h.same ∙ f)));
-            ending = λ k a x e. (settled k a e).1 x;
-            cut = λ k a e. (settled k a e).0;
+            ending = λ k a x e. settled k a e x;
+            cut = none_cut s.held d al.first.held;
             free = λ k a e. (let z = sym (still.asks k) ∙ e in absurd (cc));
             broken = λ k a e. (let z = sym (still.asks k) ∙ e in absurd (cc));
             lined = λ k a p x e f g. (let z = sym (still.asks k) ∙ e in absurd (cc));

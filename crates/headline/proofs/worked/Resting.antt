@@ -72,13 +72,16 @@ at_most a b e = grind (arith, nat_tests)
 -- Stages
 
 abbrev pub StageSettled : Stage → Type 0
-StageSettled st = (st ≢ dgrams.Cut) × ((x : Result Octets Error) → st ≢ dgrams.Ending x)
+StageSettled st = (x : Result Octets Error) → st ≢ dgrams.Ending x
 
 pub trying_settled : (p : ℕ) → StageSettled (dgrams.Trying p)
-trying_settled p = ((λ e. cc), (λ x e. cc))
+trying_settled p = λ x e. cc
 
 pub sent_settled : (p id t : ℕ) → StageSettled (dgrams.Sent p id t)
-sent_settled p id t = ((λ e. cc), (λ x e. cc))
+sent_settled p id t = λ x e. cc
+
+pub cut_settled : (st : Stage) → st ≡ dgrams.Cut → StageSettled st
+cut_settled st e = λ x i. cc
 
 abbrev pub StageInTime : (n : ℕ) → Stage → Type 0
 StageInTime n (dgrams.Sent p id t) = n < t + read_timeout

@@ -33,7 +33,7 @@ use Rattle.client_request.specs.declared.event.Event.{Event}
 use Rattle.headline.specs.machine.Server as server
 use Rattle.headline.specs.machine.Server.{Server}
 use Rattle.headline.specs.machine.Served as served
-use Rattle.headline.specs.machine.Served.{Served, RestsNow, served, does, has_moved, has_taken_it, AsItIs, WithResult, ByStreamNow}
+use Rattle.headline.specs.machine.Served.{Served, RestsNow, served, does, has_moved, has_taken_it, AsItIs, WithResult}
 use Rattle.headline.specs.machine.Client.{Caches, Waiting, Leaving, Entry, entry_of, answer as answer_at_once, Viewed, outcome, leave, store, unmade, Upper, Move, moved, hand, handing, newcomer, take_on, row_begins, Moves, Goes, Rests, Takes_on, Hands_on, Server_moves, Delivers, Replies, Answers, IsRun, Ends, begun}
 use Rattle.headline.specs.examples.Messages.{plain_request, as_datagram, as_frame, frame, cut_answer, answer}
 use Rattle.headline.specs.Settings.{first_settings}
@@ -45,7 +45,7 @@ use Rattle.headline.specs.examples.Streams.{cut_goes_on}
 use Rattle.headline.specs.examples.Cache.{asked_again}
 use Rattle.headline.proofs.client.Asked.{keys_refl}
 use Rattle.headline.specs.examples.Runs.{IsARun}
-use Rattle.headline.proofs.worked.Resting.{only, nobody, away, gone, away_held, gone_held, away_every, away_unheard, not_held, not_octets, wrote_plain, below, at_most, StageSettled, trying_settled, sent_settled, StageInTime, in_time_by, tick_foreign, ask_foreign, datagram_foreign, opens_nothing, nobody_tries, nobody_sent, StageRests, PhaseRests, ModeRests, rests_by, done_with, done_with_none, next}
+use Rattle.headline.proofs.worked.Resting.{only, nobody, away, gone, away_held, gone_held, away_every, away_unheard, not_held, not_octets, wrote_plain, below, at_most, StageSettled, trying_settled, cut_settled, sent_settled, StageInTime, in_time_by, tick_foreign, ask_foreign, datagram_foreign, opens_nothing, nobody_tries, nobody_sent, StageRests, PhaseRests, ModeRests, rests_by, done_with, done_with_none, next}
 use Rattle.headline.proofs.worked.Cache.{carried, carried_in_frame, answers_it, whole_answer, cacheable, computed, viewable_30, viewable_100}
 
 abbrev P : ServerPart by_datagrams
@@ -170,11 +170,11 @@ module _ (compose : Request → Result Octets Error) (o : Octets) (r : Request) 
     abbrev s1 : Multi
     s1 = record (server_in z3).by_stream { asks = with_at 0 (Some free) (server_in z3).by_stream.asks }
 
-    abbrev act3 : Step Served
-    act3 = record { state = has_moved (record { by_dgram = dgrams.forget 0 d4; by_stream = s1 }) (has_taken_it (with_dgrams d4 (server_in z3)) (z3.ups 0)); place = 1; outs = Close 0 ∷ Start 0 0 Stream ∷ []; posts = [] }
+    abbrev v3 : Upper Served
+    v3 = takes_to (with_dgrams d4 (server_in z3)) (Puts (Close 0)) z3
 
     abbrev y3 : Upper Served
-    y3 = moved 0 act3 z3
+    y3 = goes_to (server.falls_back 0 20000 ended (server_in v3)) (Puts (Start 0 0 Stream)) v3
 
     abbrev s2 : Multi
     s2 = record (multi.move 0 free multi.Expecting s1) { opening = Some 1 }
@@ -182,8 +182,11 @@ module _ (compose : Request → Result Octets Error) (o : Octets) (r : Request) 
     abbrev x3 : Upper Served
     x3 = goes_to (with_streams s2 (server_in y3)) (Puts (OpenStream 1 0)) y3
 
+    others4 : (j : ℕ) → 0 ≢ j → d4.held j ≡ None
+    others4 = away 0 _ _ others3
+
     none4 : (j : ℕ) → (dgrams.forget 0 d4).held j ≡ None
-    none4 = gone 0 _ (away 0 _ _ others3)
+    none4 = gone 0 _ others4
 
     asks3 : (j : ℕ) → 0 ≢ j → s2.asks j ≡ None
     asks3 = away 0 _ _ (away 0 _ _ (λ j ne. refl))
@@ -197,12 +200,13 @@ module _ (compose : Request → Result Octets Error) (o : Octets) (r : Request) 
     row3 : Goes_to x2 20000 (Datagram 0 m1) x3 (Close 0 ∷ Start 0 0 Stream ∷ OpenStream 1 0 ∷ [])
     unfolding read_timeout stream_timeout
     row3 =
-        Goes z3 _ _ (Server_moves 0 act3 (below 0 1 refl) (served.TellsDgrams (Puts (Close 0)) d4 act3 refl (in_time_by 20000 (server_in z3) (only (λ k (a : Tryer). StageInTime 20000 a.stage) 0 sent d3.held refl others3 (below 20000 5000010 refl)) (nobody _ nowhere (λ j. refl)))
-        (dgrams.IsAnswered 0 sent 0 4660 10 m1 refl refl refl long answers1) (datagram_foreign 0 m1 (server_in z3).by_stream) (ByStreamNow 0 ended (Close 0) refl refl is_cut)))
+        Goes z3 _ _ (Server_moves 0 _ (below 0 1 refl) (served.TellsDgrams (Puts (Close 0)) d4 _ refl (in_time_by 20000 (server_in z3) (only (λ k (a : Tryer). StageInTime 20000 a.stage) 0 sent d3.held refl others3 (below 20000 5000010 refl)) (nobody _ nowhere (λ j. refl)))
+        (dgrams.IsAnswered 0 sent 0 4660 10 m1 refl refl refl long answers1) (datagram_foreign 0 m1 (server_in z3).by_stream) (AsItIs (only (λ k (a : Tryer). StageSettled a.stage) 0 ended d4.held refl others4 (cut_settled (dgrams.stage_of (take 2000 m1)) is_cut)))))
+        (Goes v3 _ _ (Server_moves 0 _ (below 0 1 refl) (served.FallsBack 0 ended refl is_cut))
         (Goes y3 _ _ (Server_moves 0 _ (below 0 1 refl) (served.ByStream (Puts (OpenStream 1 0)) s2 (multi.Opens 0 free refl refl refl (nobody _ s1.conns (λ j. refl)))))
         (Rests x3 (done_with compose x3 0 waiting refl refl refl
         (record { rests = rests_by 20000 (server_in x3) (nobody _ (dgrams.forget 0 d4).held none4) (only (λ k (a : Asker). PhaseRests 20000 s2.conns a.phase × (20000 < a.since + stream_timeout)) 0 (multi.moved free multi.Expecting) s2.asks refl asks3 (tt, below 20000 30020000 refl)) (nobody _ s2.conns (λ j. refl)); frames = refl; ignored = tt; foreign = tick_foreign s2 })
-        refl others_held refl (λ j ne. not_held (x3.ups 0) j (none4 j) (asks3 j ne)) (below 20000 5000000 refl))))
+        refl others_held refl (λ j ne. not_held (x3.ups 0) j (none4 j) (asks3 j ne)) (below 20000 5000000 refl)))))
 
     -- a datagram for the closed place is nobody's
     abbrev x4 : Upper Served
@@ -539,7 +543,7 @@ module _ (compose : Request → Result Octets Error) (o : Octets) (r : Request) 
 
 -- The worked traces
 
-cut_is : (answers plain_request 4660 (cut_answer 18 52) ≡ true) × (truncated (cut_answer 18 52) ≡ true) × (is_bad (answer 0 0 100) ≡ false) × (id_in (answer 0 0 100) ≡ 0) × (answers plain_request 0 (answer 0 0 100) ≡ true)
+pub cut_is : (answers plain_request 4660 (cut_answer 18 52) ≡ true) × (truncated (cut_answer 18 52) ≡ true) × (is_bad (answer 0 0 100) ≡ false) × (id_in (answer 0 0 100) ≡ 0) × (answers plain_request 0 (answer 0 0 100) ≡ true)
 unfolding name_at walk head_at data_at data_spelling question_at record_at list_at items_at questions_of answer_of authority_of additional_of answer_items authority_items additional_items first_question sole_question reads knows opt_of opt_rcode contents_of is_answer answers truncated is_bad id_in
 cut_is = (refl, refl, refl, refl, refl)
 

@@ -77,16 +77,14 @@ reads_at p fs m u = record u { server = record u.server { by_stream = m }; pendi
 abbrev pub frames_left : List Octets → Multi → Served → Served
 frames_left fs m u = record u { server = record u.server { by_stream = m }; frames = fs }
 
--- no request has a result that is to be given, or a cut answer
+-- no request has a result that is to be given
 abbrev pub IsSettled : Dgrams → Type 0
-IsSettled d = (k : ℕ) (a : Tryer) → d.held k ≡ Some a → (a.stage ≢ dgrams.Cut) × ((x : Result Octets Error) → a.stage ≢ dgrams.Ending x)
+IsSettled d = (k : ℕ) (a : Tryer) → d.held k ≡ Some a → (x : Result Octets Error) → a.stage ≢ dgrams.Ending x
 
--- What follows at once when a request's place is closed: nothing, its result, or it goes on by stream.
+-- What follows at once when a request's place is closed: nothing, or its result.
 pub data Settles (s n next : ℕ) (u : Served) (x : multi.Act) : Act Served → Type 0 where
   AsItIs : IsSettled u.server.by_dgram → Settles s n next u x (does u next x)
   WithResult : (k : ℕ) (a : Tryer) (y : Result Octets Error) → u.server.by_dgram.held k ≡ Some a → a.stage ≡ dgrams.Ending y → Settles s n next u x (record { state = has_moved (record u.server { by_dgram = forget k u.server.by_dgram }) u; place = place_after x next; outs = outs_of x; posts = record { request = k; result = y } ∷ [] })
-  ByStreamNow : (k : ℕ) (a : Tryer) (o : Out) → x ≡ Puts o → u.server.by_dgram.held k ≡ Some a → a.stage ≡ dgrams.Cut
-      → Settles s n next u x (record { state = has_moved (record { by_dgram = forget k u.server.by_dgram; by_stream = record u.server.by_stream { asks = with_at k (Some (record { request = a.request; since = n; phase = multi.Free })) u.server.by_stream.asks } }) u; place = place_after x next; outs = o ∷ Start k s Stream ∷ []; posts = [] })
 
 -- no request is at one of its timeouts
 pub record IsInTime (n : ℕ) (v : Server) : Type 0 where
@@ -97,6 +95,8 @@ pub record IsInTime (n : ℕ) (v : Server) : Type 0 where
 pub data Acts (s next : ℕ) (u : Served) : Act Served → Type 0 where
   ByDgram : (x : multi.Act) (d : Dgrams) (a : Act Served) → dgrams.Tries s u.clock next u.server.by_dgram x d → Settles s u.clock next (has_moved (record u.server { by_dgram = d }) u) x a → Acts s next u a
   ByStream : (x : multi.Act) (m : Multi) → multi.Moves s u.clock next u.server.by_stream x m → Acts s next u (does (has_moved (record u.server { by_stream = m }) u) next x)
+  -- a request whose answer was cut goes on by stream, before the row ends
+  FallsBack : (k : ℕ) (a : Tryer) → u.server.by_dgram.held k ≡ Some a → a.stage ≡ dgrams.Cut → Acts s next u (does (has_moved (server.falls_back k u.clock a u.server) u) next (Puts (Start k s Stream)))
   TellsDgrams : (x : multi.Act) (d : Dgrams) (a : Act Served) → u.taken ≡ false → IsInTime u.clock u.server → dgrams.Meets u.clock u.server.by_dgram u.pending x d → IsForeign u.pending u.server.by_stream → Settles s u.clock next (has_taken_it (record u.server { by_dgram = d }) u) x a → Acts s next u a
   TellsStreams : (x : multi.Act) (m : Multi) → u.taken ≡ false → ((p : ℕ) (o : Octets) → u.pending ≢ Bytes p o) → multi.Takes u.clock u.server.by_stream u.pending x m → IsIgnored u.pending u.server.by_dgram → Acts s next u (does (has_taken_it (record u.server { by_stream = m }) u) next x)
   Reads : (p : ℕ) (o : Octets) (x : Conn) → u.taken ≡ false → u.pending ≡ Bytes p o → u.server.by_stream.conns p ≡ Some x → Acts s next u (does (reads_at p (fed x.got o).frames (set_conn p (fed_by o x) u.server.by_stream) u) next Nothing)

@@ -26,12 +26,16 @@ no_request = record { by_dgram = no_datagram; by_stream = no_connection }
 abbrev pub Has : Server → (k : ℕ) → Type 0
 Has v k = ((a : Tryer) × (v.by_dgram.held k ≡ Some a)) ⊎ ((a : Asker) × (v.by_stream.asks k ≡ Some a))
 
+-- a request whose answer was cut goes on by stream, from moment n on
+abbrev pub falls_back : (k n : ℕ) → Tryer → Server → Server
+falls_back k n a v = record { by_dgram = forget k v.by_dgram; by_stream = record v.by_stream { asks = with_at k (Some (record { request = a.request; since = n; phase = multi.Free })) v.by_stream.asks } }
+
 -- Moves at any time: of server s, at moment n, `next` being the next place.
 pub data Goes (s n next : ℕ) (v : Server) : Act → Server → Type 0 where
   ByDgram : (x : Act) (d : Dgrams) → Tries s n next v.by_dgram x d → Goes s n next v x (record v { by_dgram = d })
   ByStream : (x : Act) (m : Multi) → Moves s n next v.by_stream x m → Goes s n next v x (record v { by_stream = m })
   -- a cut answer: the request goes on by stream
-  FallsBack : (k : ℕ) (a : Tryer) → v.by_dgram.held k ≡ Some a → a.stage ≡ dgrams.Cut → Goes s n next v (Puts (Start k s Stream)) (record { by_dgram = forget k v.by_dgram; by_stream = record v.by_stream { asks = with_at k (Some (record { request = a.request; since = n; phase = multi.Free })) v.by_stream.asks } })
+  FallsBack : (k : ℕ) (a : Tryer) → v.by_dgram.held k ≡ Some a → a.stage ≡ dgrams.Cut → Goes s n next v (Puts (Start k s Stream)) (falls_back k n a v)
 
 -- Calls from above: request k, which is r, is handed in, or given up.
 pub data IsHanded (u : Use) (s n k : ℕ) (r : Request) (v : Server) : Act → Server → Type 0 where
