@@ -1,5 +1,5 @@
 -- What a query asks, and what comes of it.
-use Rattle.std.specs.Prelude.{◌≡◌, ℕ, Bool, true, false, List, [], ◌∷◌, map, Option, None, Some, Result, Ok, Err, IfSome, codes}
+use Rattle.std.specs.Prelude.{◌≡◌, ◌≢◌, ◌⊎◌, ℕ, Bool, true, false, List, [], ◌∷◌, map, Option, None, Some, Result, Ok, Err, IfSome, codes}
 use Rattle.dns_base.specs.Draft.{finished, fresh, pushed_question, with_header}
 use Rattle.client_request.specs.Request.{Request, recorded_from}
 use Rattle.client_request.specs.declared.error.Error.{Error}
@@ -20,7 +20,9 @@ use Rattle.headline.specs.Theorem.{NoneIsTruncated}
 use Rattle.headline.specs.Timely.{Timely}
 use Rattle.resolv_conf.specs.declared.conf.ResolvConf.{ResolvConf}
 use Rattle.resolv_conf.specs.declared.server.ServerConf.{ServerConf}
-use Rattle.dnsq_run.specs.Program.{Configures}
+use Rattle.dns_values.specs.Sink.{with_octets}
+use Rattle.dnsq_run.specs.Program.{Configures, IsBegun, IsRefused, IsSaid, RefusalIsSaid, numbers_line}
+use Rattle.dnsq_run.specs.declared.usage.Command.TheVariants.{Conf}
 use Rattle.dnsq_run.specs.declared.query_words.Query.{Query}
 
 -- a server at another port
@@ -102,9 +104,25 @@ is_message (Some (Ok message)) = true
 is_message (Some (Err error)) = false
 is_message None = false
 
--- The query was asked, and this line is that of its answer, which is a message or not.
-pub record Says (q : Query) (told : Option (List ℕ)) (old new : World) (message : Bool) (said : List ℕ) : Type 0 where
+-- The query was asked, and so it is of the line of its answer, which is a message or not.
+pub record IsTold (q : Query) (told : Option (List ℕ)) (old new : World) (message : Bool) (P : List ℕ → Type 0) : Type 0 where
   pub answer : Option (Result (List ℕ) Error)
   pub asked : IsAsked q told old new answer
   pub is : is_message answer ≡ message
-  pub line_is : said ≡ answer_line answer
+  pub so : P (answer_line answer)
+
+-- what is due for a query: the line of its answer, or the line that tells why there is none
+pub data IsDue (q : Query) (told : Option (List ℕ)) (old new : World) (line : List ℕ) : Type 0 where
+  is_answer : (answer : Option (Result (List ℕ) Error)) → IsAsked q told old new answer → line ≡ answer_line answer → IsDue q told old new line
+  is_refusal : IfSome told (λ text. IsRefused Conf text line) → IsDue q told old new line
+  stops : StopsAsking q told old.words old.moments new.moments → line ≡ numbers_line → IsDue q told old new line
+
+-- What a query ends with, by its status: what the sink holds after it, and its count of faults.
+pub record EndsSo (q : Query) (told : Option (List ℕ)) (old new : World) (held after : Option (List ℕ)) (faults faults_after : ℕ) (status : ℕ) : Type 0 where
+  pub done : status ≡ 0 → IsTold q told old new true (λ line. after ≡ with_octets line held)
+  pub refused : status ≡ 1 → IfSome told (λ text. RefusalIsSaid Conf text held after faults faults_after)
+  pub asks : status ≢ 2
+  pub cut : status ≡ 4 → IsTold q told old new true (λ line. IsBegun line held after)
+  pub no_reply : status ≡ 5 → IsTold q told old new false (λ line. IsSaid line held after faults faults_after)
+  pub memory : status ≡ 6 → (after ≡ held) ⊎ ((line : List ℕ) × IsDue q told old new line × IsBegun line held after)
+  pub numbers : status ≡ 7 → StopsAsking q told old.words old.moments new.moments

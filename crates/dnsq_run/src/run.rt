@@ -1,15 +1,17 @@
 //! What the program does, over a source, a sink and the rest of its world.
 
-ghost use Rattle.std.specs.Prelude.{◌≡◌, ◌≢◌, ◌⊎◌, [], Some, None, IfSome, IfOk, IfErr, OnOk};
+ghost use Rattle.std.specs.Prelude.{◌≡◌, ◌≢◌, ◌⊎◌, [], true, false, Some, None, IfSome, IfOk, IfErr, OnOk};
 ghost use Rattle.dns_values.specs.Source.{Rose};
 ghost use Rattle.dns_values.specs.Sink.{IsFlushed, with_octets};
 ghost use Rattle.dnsq_run.specs.Program.{EndsByLine, IfInput, IsOutput, IsRefused, IsTaken, RanOut, RefusalIsSaid, StopsForNumbers, IsDelivered, IsBegun, IsSaid, IsCut, IsStatus, IsEarly, status_of, line_of, numbers_line, usage_line};
+ghost use Rattle.dnsq_run.specs.Query.{EndsSo, answer_line, is_message, world};
+ghost use Rattle.dnsq_run.specs.QueryWords.{query_of};
 ghost use Rattle.dnsq_run.specs.Words.{command_of};
 
 use crate::configure::configure;
 use crate::ending::Ending;
 use crate::laws::input_laws;
-use crate::query::{Answer, query};
+use crate::query::{Answer, answer_line, is_message, query};
 use crate::query_words::{Query, query_of};
 use crate::replay::replay;
 use crate::statuses::{DONE, NO_MEMORY, NO_REPLY, SINK_FAULT, USAGE};
@@ -98,46 +100,6 @@ fn end_by<K: Sink>(sink: &mut K, status: Status, line: &[u8]) -> Status
     }
 }
 
-/// Asks the servers of the configuration that a source gives, and writes the line of what they answer.
-fn run_query<S: Source, K: Sink, E: Edge, C: Clock, W: Words>(
-    alloc: Global,
-    asked: &Query,
-    source: &mut S,
-    sink: &mut K,
-    edge: &mut E,
-    clock: &mut C,
-    random: &mut W,
-) -> Status
-    ensures statuses { IsStatus result.0 × (result.0 ≢ 2) }
-    ensures answered { result.0 ≡ 0 → IsTold asked.now (S.left source.old)
-        (world (W.stream random.old) (E.deeds edge.old) (E.polls edge.old) (C.given clock.old))
-        (world (W.stream random.new) (E.deeds edge.new) (E.polls edge.new) (C.given clock.new))
-        true (λ line. K.held sink.new ≡ with_octets line (K.held sink.old)) }
-    ensures no_reply { result.0 ≡ 5 → IsTold asked.now (S.left source.old)
-        (world (W.stream random.old) (E.deeds edge.old) (E.polls edge.old) (C.given clock.old))
-        (world (W.stream random.new) (E.deeds edge.new) (E.polls edge.new) (C.given clock.new))
-        false (λ line. IsSaid line (K.held sink.old) (K.held sink.new) (K.faults sink.old) (K.faults sink.new)) }
-    ensures cut { result.0 ≡ 4 → IsTold asked.now (S.left source.old)
-        (world (W.stream random.old) (E.deeds edge.old) (E.polls edge.old) (C.given clock.old))
-        (world (W.stream random.new) (E.deeds edge.new) (E.polls edge.new) (C.given clock.new))
-        true (λ line. IsBegun line (K.held sink.old) (K.held sink.new)) }
-    ensures whole { (result.0 ≡ 0) ⊎ (result.0 ≡ 5) → IfSome (S.left source.old) (λ _. S.left source.new ≡ Some []) }
-    ensures flushed { result.0 ≡ 0 → IsFlushed (K.held sink.new) (K.flushed sink.new) }
-    ensures refused { result.0 ≡ 1 → IfSome (S.left source.old) (λ text. RefusalIsSaid Command.Conf text (K.held sink.old) (K.held sink.new) (K.faults sink.old) (K.faults sink.new)) }
-    ensures source_fault { result.0 ≡ 3 → Rose (S.faults source.old) (S.faults source.new) }
-    ensures silent { result.0 ≡ 3 → K.held sink.new ≡ K.held sink.old }
-    ensures sink_fault { result.0 ≡ 4 → Rose (K.faults sink.old) (K.faults sink.new) }
-    ensures numbers { result.0 ≡ 7 → StopsAsking asked.now (S.left source.old) (W.stream random.old) (C.given clock.old) (C.given clock.new) }
-    ensures numbers_line { result.0 ≡ 7 → IsSaid numbers_line (K.held sink.old) (K.held sink.new) (K.faults sink.old) (K.faults sink.new) }
-    ensures line_flushed { EndsByLine result.0 → IsFlushed (K.held sink.new) (K.flushed sink.new) ⊎ Rose (K.faults sink.old) (K.faults sink.new) }
-{
-    match query(alloc, asked, source, edge, clock, random) {
-        Ok(answer) => write_answer(alloc, answer, sink),
-        Err(Ending::Silent(status)) => status,
-        Err(Ending::Says(status, line)) => end_by(sink, status, &line),
-    }
-}
-
 /// Writes the line of an answer: an error, or none, ends by it.
 fn write_answer<K: Sink>(alloc: Global, answer: Answer, sink: &mut K) -> Status
     ensures statuses { (result.0 ≡ 0) ⊎ ((result.0 ≡ 4) ⊎ ((result.0 ≡ 5) ⊎ (result.0 ≡ 6))) }
@@ -163,6 +125,70 @@ fn write_answer<K: Sink>(alloc: Global, answer: Answer, sink: &mut K) -> Status
     }
 }
 
+/// Asks the servers of the configuration that a source gives, and writes the line of what they answer.
+fn run_query<S: Source, K: Sink, E: Edge, C: Clock, W: Words>(
+    alloc: Global,
+    asked: &Query,
+    source: &mut S,
+    sink: &mut K,
+    edge: &mut E,
+    clock: &mut C,
+    random: &mut W,
+) -> Status
+    ensures statuses { IsStatus result.0 }
+    ensures ends { EndsSo asked.now (S.left source.old)
+        (world (W.stream random.old) (E.deeds edge.old) (E.polls edge.old) (C.given clock.old))
+        (world (W.stream random.new) (E.deeds edge.new) (E.polls edge.new) (C.given clock.new))
+        (K.held sink.old) (K.held sink.new) (K.faults sink.old) (K.faults sink.new) result.0 }
+    ensures whole { (result.0 ≡ 0) ⊎ (result.0 ≡ 5) → IfSome (S.left source.old) (λ _. S.left source.new ≡ Some []) }
+    ensures flushed { result.0 ≡ 0 → IsFlushed (K.held sink.new) (K.flushed sink.new) }
+    ensures source_fault { result.0 ≡ 3 → Rose (S.faults source.old) (S.faults source.new) }
+    ensures silent { result.0 ≡ 3 → K.held sink.new ≡ K.held sink.old }
+    ensures sink_fault { result.0 ≡ 4 → Rose (K.faults sink.old) (K.faults sink.new) }
+    ensures numbers_line { result.0 ≡ 7 → IsSaid numbers_line (K.held sink.old) (K.held sink.new) (K.faults sink.old) (K.faults sink.new) }
+    ensures line_flushed { EndsByLine result.0 → IsFlushed (K.held sink.new) (K.flushed sink.new) ⊎ Rose (K.faults sink.old) (K.faults sink.new) }
+{
+    match query(alloc, asked, source, edge, clock, random) {
+        Ok(answer) => write_answer(alloc, answer, sink),
+        Err(Ending::Silent(status)) => status,
+        Err(Ending::Says(status, line)) => end_by(sink, status, &line),
+    }
+}
+
+/// Does what words ask for that are no command over a source alone: a query, or else they are told how the program is called.
+fn run_other<S: Source, K: Sink, E: Edge, C: Clock, W: Words>(
+    alloc: Global,
+    words: &[String],
+    source: &mut S,
+    sink: &mut K,
+    edge: &mut E,
+    clock: &mut C,
+    random: &mut W,
+) -> Status
+    ensures statuses { IsStatus result.0 }
+    ensures usage { result.0 ≡ 2 → query_of words.now ≡ None }
+    ensures no_query { query_of words.now ≡ None → (result.0 ≡ 2) ⊎ (result.0 ≡ 6) }
+    ensures usage_line { result.0 ≡ 2 → IsSaid usage_line (K.held sink.old) (K.held sink.new) (K.faults sink.old) (K.faults sink.new) }
+    ensures ends { IfSome (query_of words.now) (λ q. EndsSo q (S.left source.old)
+        (world (W.stream random.old) (E.deeds edge.old) (E.polls edge.old) (C.given clock.old))
+        (world (W.stream random.new) (E.deeds edge.new) (E.polls edge.new) (C.given clock.new))
+        (K.held sink.old) (K.held sink.new) (K.faults sink.old) (K.faults sink.new) result.0) }
+    ensures whole { (result.0 ≡ 0) ⊎ (result.0 ≡ 5) → IfSome (S.left source.old) (λ _. S.left source.new ≡ Some []) }
+    ensures flushed { result.0 ≡ 0 → IsFlushed (K.held sink.new) (K.flushed sink.new) }
+    ensures source_fault { result.0 ≡ 3 → Rose (S.faults source.old) (S.faults source.new) }
+    ensures silent { result.0 ≡ 3 → K.held sink.new ≡ K.held sink.old }
+    ensures sink_fault { result.0 ≡ 4 → Rose (K.faults sink.old) (K.faults sink.new) }
+    ensures memory { result.0 ≡ 6 → RanOut None (query_of words.now) (S.left source.old) (K.held sink.old) (K.held sink.new) }
+    ensures numbers_line { result.0 ≡ 7 → IsSaid numbers_line (K.held sink.old) (K.held sink.new) (K.faults sink.old) (K.faults sink.new) }
+    ensures line_flushed { EndsByLine result.0 → IsFlushed (K.held sink.new) (K.flushed sink.new) ⊎ Rose (K.faults sink.old) (K.faults sink.new) }
+{
+    match query_of(alloc, words) {
+        Ok(Some(asked)) => run_query(alloc, &asked, source, sink, edge, clock, random),
+        Ok(None) => tell_usage(sink),
+        Err(NoMemory) => NO_MEMORY,
+    }
+}
+
 /// Does what the words ask for, on a source and a sink, and answers the exit status.
 ///
 /// `edge`, `clock` and `random` serve the commands that ask real servers.
@@ -177,13 +203,21 @@ pub fn run_alone<S: Source, K: Sink, E: Edge, C: Clock, W: Words>(
 ) -> Status
     ensures statuses { IsStatus result.0 }
     ensures usage { result.0 ≡ 2 → command_of words.now ≡ None }
-    ensures no_command { command_of words.now ≡ None → (result.0 ≡ 2) ⊎ (result.0 ≡ 6) }
+    ensures no_query { result.0 ≡ 2 → query_of words.now ≡ None }
+    ensures no_command { command_of words.now ≡ None → query_of words.now ≡ None → (result.0 ≡ 2) ⊎ (result.0 ≡ 6) }
     ensures usage_line { result.0 ≡ 2 → IsSaid usage_line (K.held sink.old) (K.held sink.new) (K.faults sink.old) (K.faults sink.new) }
 
     // The output.
     ensures done { result.0 ≡ 0 → IfInput (command_of words.now) (S.left source.old) (λ command text.
         IsDelivered command text (K.held sink.old) (K.held sink.new) × (S.left source.new ≡ Some [])) }
     ensures flushed { result.0 ≡ 0 → IsFlushed (K.held sink.new) (K.flushed sink.new) }
+
+    // A query: the servers are asked, and the line of what they answer is written.
+    ensures query { command_of words.now ≡ None → IfSome (query_of words.now) (λ q. EndsSo q (S.left source.old)
+        (world (W.stream random.old) (E.deeds edge.old) (E.polls edge.old) (C.given clock.old))
+        (world (W.stream random.new) (E.deeds edge.new) (E.polls edge.new) (C.given clock.new))
+        (K.held sink.old) (K.held sink.new) (K.faults sink.old) (K.faults sink.new) result.0) }
+    ensures whole { (result.0 ≡ 0) ⊎ (result.0 ≡ 5) → IfSome (S.left source.old) (λ _. S.left source.new ≡ Some []) }
 
     // A refusal.
     ensures refused { result.0 ≡ 1 → IfInput (command_of words.now) (S.left source.old) (λ command text.
@@ -198,7 +232,7 @@ pub fn run_alone<S: Source, K: Sink, E: Edge, C: Clock, W: Words>(
         IsCut command text (K.held sink.old) (K.held sink.new)) }
 
     // Memory and numbers.
-    ensures memory { result.0 ≡ 6 → RanOut (command_of words.now) (S.left source.old) (K.held sink.old) (K.held sink.new) }
+    ensures memory { result.0 ≡ 6 → RanOut (command_of words.now) (query_of words.now) (S.left source.old) (K.held sink.old) (K.held sink.new) }
     ensures numbers { result.0 ≡ 7 → IfInput (command_of words.now) (S.left source.old) (λ command text. StopsForNumbers command text) }
     ensures numbers_line { result.0 ≡ 7 → IsSaid numbers_line (K.held sink.old) (K.held sink.new) (K.faults sink.old) (K.faults sink.new) }
     ensures stops { IfInput (command_of words.now) (S.left source.old) (λ command text. StopsForNumbers command text → result.0 ≢ 0) }
@@ -206,12 +240,16 @@ pub fn run_alone<S: Source, K: Sink, E: Edge, C: Clock, W: Words>(
     // A line that tells why nothing else is written is handed on too.
     ensures line_flushed { EndsByLine result.0 → IsFlushed (K.held sink.new) (K.flushed sink.new) ⊎ Rose (K.faults sink.old) (K.faults sink.new) }
 {
-    if let Some(command) = command_of(words) {
-        return run_text(alloc, command, source, sink);
-    }
-    match query_of(alloc, words) {
-        Ok(Some(asked)) => run_query(alloc, &asked, source, sink, edge, clock, random),
-        Ok(None) => tell_usage(sink),
-        Err(NoMemory) => NO_MEMORY,
+    let Some(command) = command_of(words) else {
+        return run_other(alloc, words, source, sink, edge, clock, random);
+    };
+    input_laws();
+    match output(alloc, command, source) {
+        Ok(text) => deliver(sink, &text),
+        Err(Ending::Silent(status)) => status,
+        Err(Ending::Says(status, line)) => match say(sink, &line) {
+            Ok(()) => status,
+            Err(NoMemory) => NO_MEMORY,
+        },
     }
 }
