@@ -1,7 +1,7 @@
 -- A request that is asked, and one turn more.
 use Rattle.std.proofs.Common.{◌≡◌, ℕ, ◌+◌, ◌-◌, ◌<◌, ◌≤◌, List, [], ◌∷◌, ◌++◌, length, map, Option, Some, None, Result, Ok, Err, refl, ap, sym, subst, ◌∙◌, arith, length-append}
 use Rattle.std.specs.List.{All, flat_map}
-use Rattle.std.specs.Prelude.{IfOk}
+use Rattle.std.specs.Prelude.{IfOk, IsErrOf}
 use Rattle.std.proofs.lemmas.List.{flat_map_more}
 use Rattle.std.proofs.lemmas.List.Elements.{All-nil, All-push}
 use Rattle.client_request.specs.Carries.{IsOfOctets}
@@ -25,6 +25,10 @@ use Rattle.client_turns.specs.Replies.{EndsWith, first_reply, or_later, reply_in
 use Rattle.client_turns.specs.Turns.{AreGivenOn, IsOfPoll, IsTurn, Leads, RoseBy, StopsAt, Turn, acts_on, after_deeds, deeds_of, events_of, happened, moments_of}
 use Rattle.client_turns.proofs.Deeds.{append_nil, first_moment, more_deeds, more_moments, rose_by_none, rose_more}
 use Rattle.client_turns.proofs.Rows.{event_behind, leads_nowhere, leads_on, moment_behind, moments_and, plain_of, stops_on}
+
+-- an error is the same whatever else there might have been
+pub same_error : {A B : Type 0} (e f : Error) → IsErrOf {T = A} (Err e) f → IsErrOf {T = B} (Err e) f
+same_error e f is = let same : e ≡ f = cc in ap Err same
 
 -- what a poll gives asks nothing
 happened_in_octets : (polled : Option What) → IsAskedInOctets (happened polled)
@@ -86,8 +90,9 @@ module _ (request : Request) (old : Scene) where
       → Begun request old new row
   asked_first new event row asks in_octets step deeds polls moment =
       let is : row.event ≡ event = row_event machine old.client.timeout row event (client_of old) (client_of new) step in
-      let what : row.event.what ≡ Ask request = ap (λ (e : Event). e.what) is ∙ asks in (
-        record {
+      let what : row.event.what ≡ Ask request = ap (λ (e : Event). e.what) is ∙ asks in
+      record {
+        asked = record {
           asking = row;
           turns = [];
           asks = what;
@@ -97,10 +102,10 @@ module _ (request : Request) (old : Scene) where
           deeds = deeds ∙ ap (λ (ds : List Deed). after_deeds ds old.deeds) (sym (append_nil (acts_on row.outs)));
           polls = subst (λ (n : ℕ). RoseBy 0 old.polls n) (sym polls) (rose_by_none old.polls);
           moments = first_moment row.event.moment.0 old.moments new.moments (subst (λ (e : Event). IsGivenOn old.moments new.moments e.moment.0) (sym is) moment);
-        },
-        refl,
-        refl,
-      )
+        };
+        asking_is = refl;
+        no_turns = refl;
+      }
 
   -- one turn more is made
   pub asked_more : (mid new : Scene) (a : Asked request old mid) (row : Row) → mid.client.timeout ≡ old.client.timeout

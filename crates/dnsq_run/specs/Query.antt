@@ -117,8 +117,8 @@ pub data IsDue (q : Query) (told : Option (List ℕ)) (old new : World) (line : 
   is_refusal : IfSome told (λ text. IsRefused Conf text line) → IsDue q told old new line
   stops : StopsAsking q told old.words old.moments new.moments → line ≡ numbers_line → IsDue q told old new line
 
--- What a query ends with, by its status: what the sink holds after it, and its count of faults.
-pub record EndsSo (q : Query) (told : Option (List ℕ)) (old new : World) (held after : Option (List ℕ)) (faults faults_after : ℕ) (status : ℕ) : Type 0 where
+-- What a query ends with, by its status: what is left to read, what the sink holds, and its count of faults.
+pub record EndsSo (q : Query) (told left : Option (List ℕ)) (old new : World) (held after : Option (List ℕ)) (faults faults_after : ℕ) (status : ℕ) : Type 0 where
   pub done : status ≡ 0 → IsTold q told old new true (λ line. after ≡ with_octets line held)
   pub refused : status ≡ 1 → IfSome told (λ text. RefusalIsSaid Conf text held after faults faults_after)
   pub asks : status ≢ 2
@@ -126,3 +126,4 @@ pub record EndsSo (q : Query) (told : Option (List ℕ)) (old new : World) (held
   pub no_reply : status ≡ 5 → IsTold q told old new false (λ line. IsSaid line held after faults faults_after)
   pub memory : status ≡ 6 → (after ≡ held) ⊎ ((line : List ℕ) × IsDue q told old new line × IsBegun line held after)
   pub numbers : status ≡ 7 → StopsAsking q told old.words old.moments new.moments
+  pub whole : (status ≡ 0) ⊎ (status ≡ 5) → IfSome told (λ _. left ≡ Some [])

@@ -136,11 +136,10 @@ fn run_query<S: Source, K: Sink, E: Edge, C: Clock, W: Words>(
     random: &mut W,
 ) -> Status
     ensures statuses { IsStatus result.0 }
-    ensures ends { EndsSo asked.now (S.left source.old)
+    ensures ends { EndsSo asked.now (S.left source.old) (S.left source.new)
         (world (W.stream random.old) (E.deeds edge.old) (E.polls edge.old) (C.given clock.old))
         (world (W.stream random.new) (E.deeds edge.new) (E.polls edge.new) (C.given clock.new))
         (K.held sink.old) (K.held sink.new) (K.faults sink.old) (K.faults sink.new) result.0 }
-    ensures whole { (result.0 ≡ 0) ⊎ (result.0 ≡ 5) → IfSome (S.left source.old) (λ _. S.left source.new ≡ Some []) }
     ensures flushed { result.0 ≡ 0 → IsFlushed (K.held sink.new) (K.flushed sink.new) }
     ensures source_fault { result.0 ≡ 3 → Rose (S.faults source.old) (S.faults source.new) }
     ensures silent { result.0 ≡ 3 → K.held sink.new ≡ K.held sink.old }
@@ -169,11 +168,10 @@ fn run_other<S: Source, K: Sink, E: Edge, C: Clock, W: Words>(
     ensures usage { result.0 ≡ 2 → query_of words.now ≡ None }
     ensures no_query { query_of words.now ≡ None → (result.0 ≡ 2) ⊎ (result.0 ≡ 6) }
     ensures usage_line { result.0 ≡ 2 → IsSaid usage_line (K.held sink.old) (K.held sink.new) (K.faults sink.old) (K.faults sink.new) }
-    ensures ends { IfSome (query_of words.now) (λ q. EndsSo q (S.left source.old)
+    ensures ends { IfSome (query_of words.now) (λ q. EndsSo q (S.left source.old) (S.left source.new)
         (world (W.stream random.old) (E.deeds edge.old) (E.polls edge.old) (C.given clock.old))
         (world (W.stream random.new) (E.deeds edge.new) (E.polls edge.new) (C.given clock.new))
         (K.held sink.old) (K.held sink.new) (K.faults sink.old) (K.faults sink.new) result.0) }
-    ensures whole { (result.0 ≡ 0) ⊎ (result.0 ≡ 5) → IfSome (S.left source.old) (λ _. S.left source.new ≡ Some []) }
     ensures flushed { result.0 ≡ 0 → IsFlushed (K.held sink.new) (K.flushed sink.new) }
     ensures source_fault { result.0 ≡ 3 → Rose (S.faults source.old) (S.faults source.new) }
     ensures silent { result.0 ≡ 3 → K.held sink.new ≡ K.held sink.old }
@@ -213,11 +211,10 @@ pub fn run_alone<S: Source, K: Sink, E: Edge, C: Clock, W: Words>(
     ensures flushed { result.0 ≡ 0 → IsFlushed (K.held sink.new) (K.flushed sink.new) }
 
     // A query: the servers are asked, and the line of what they answer is written.
-    ensures query { command_of words.now ≡ None → IfSome (query_of words.now) (λ q. EndsSo q (S.left source.old)
+    ensures query { command_of words.now ≡ None → IfSome (query_of words.now) (λ q. EndsSo q (S.left source.old) (S.left source.new)
         (world (W.stream random.old) (E.deeds edge.old) (E.polls edge.old) (C.given clock.old))
         (world (W.stream random.new) (E.deeds edge.new) (E.polls edge.new) (C.given clock.new))
         (K.held sink.old) (K.held sink.new) (K.faults sink.old) (K.faults sink.new) result.0) }
-    ensures whole { (result.0 ≡ 0) ⊎ (result.0 ≡ 5) → IfSome (S.left source.old) (λ _. S.left source.new ≡ Some []) }
 
     // A refusal.
     ensures refused { result.0 ≡ 1 → IfInput (command_of words.now) (S.left source.old) (λ command text.

@@ -1,6 +1,6 @@
 use Rattle.std.proofs.Common.{rules, sym, ◌∙◌}
 use Rattle.client_turns.specs.Asking.{scene}
-use Rattle.client_turns.proofs.Turning.{answered_first, answered_more, answered_none, asked_more, stops_more, waits_first, waits_more}
+use Rattle.client_turns.proofs.Turning.{answered_first, answered_more, answered_none, asked_more, same_error, stops_more, waits_first, waits_more}
 use Rattle.client_turns.proofs.asking.ask_within.Goals as goal
 
 pub returns-in-Some-clause-answered : goal.returns-in-Some-clause-answered
@@ -29,7 +29,7 @@ returns-in-Err-clause-numbers g c = λ is.
     (scene c.args.client.now (g.W.Words.stream c.args.words.now) (g.E.Edge.deeds c.args.edge.now) (g.E.Edge.polls c.args.edge.now) (g.C.Clock.given c.args.clock.now))
     (scene c.loop-left.client (g.W.Words.stream c.loop-left.words) (g.E.Edge.deeds c.loop-left.edge) (g.E.Edge.polls c.loop-left.edge) (g.C.Clock.given c.loop-left.clock))
     (scene c.turn.new.client (g.W.Words.stream c.turn.new.words) (g.E.Edge.deeds c.turn.new.edge) (g.E.Edge.polls c.turn.new.edge) (g.C.Clock.given c.turn.new.clock))
-    c.loop-left.invariant.waits.asked c.loop-left.invariant.timeout (c.in-Err.ensures.numbers is)
+    c.loop-left.invariant.waits.asked c.loop-left.invariant.timeout (c.in-Err.ensures.numbers (same_error _ _ is))
 
 pub returns-in-Some-reply_in-clause-answered : goal.returns-in-Some-reply_in-clause-answered
 returns-in-Some-reply_in-clause-answered g c =
