@@ -1,6 +1,6 @@
 -- A request that is asked, and one turn more.
 use Rattle.std.proofs.Common.{◌≡◌, ℕ, ◌+◌, ◌-◌, ◌<◌, ◌≤◌, List, [], ◌∷◌, ◌++◌, length, map, Option, Some, None, Result, Ok, Err, refl, ap, sym, subst, ◌∙◌, arith, length-append}
-use Rattle.std.specs.List.{All, flat_map}
+use Rattle.std.specs.List.{flat_map}
 use Rattle.std.specs.Prelude.{IfOk, IsErrOf}
 use Rattle.std.proofs.lemmas.List.{flat_map_more}
 use Rattle.std.proofs.lemmas.List.Elements.{All-nil, All-push}
@@ -11,7 +11,7 @@ use Rattle.client_request.specs.declared.error.Error.{Error}
 use Rattle.client_request.specs.declared.event.Event.{Event}
 use Rattle.client_request.specs.declared.event.Row.{Row}
 use Rattle.client_request.specs.declared.event.What.{What}
-use Rattle.client_request.specs.declared.event.What.TheVariants.{Ask, Tick}
+use Rattle.client_request.specs.declared.event.What.TheVariants.{Ask}
 use Rattle.client_core.specs.Client.{row_step}
 use Rattle.client_core.specs.Edge.{after_deed}
 use Rattle.client_core.specs.Whole.{Client, Whole, client_with, machine, plain_step}
@@ -20,8 +20,8 @@ use Rattle.client_core.specs.declared.deed.Deed.TheVariants.{Polled}
 use Rattle.client_core.proofs.Replaying.{row_event}
 use Rattle.dns_values.specs.Source.{one_more}
 use Rattle.headline.specs.Timely.{AllAskedInOctets, IsAskedInOctets}
-use Rattle.client_turns.specs.Asking.{Asked, Begun, Ends, IsAnswered, Scene, StopsForNumbers, client_of, rows_of}
-use Rattle.client_turns.specs.Replies.{EndsWith, first_reply, or_later, reply_in}
+use Rattle.client_turns.specs.Asking.{Asked, Begun, IsAnswered, Scene, StopsForNumbers, client_of, rows_of}
+use Rattle.client_turns.specs.Replies.{first_reply, or_later, reply_in}
 use Rattle.client_turns.specs.Turns.{AreGivenOn, IsOfPoll, IsTurn, Leads, RoseBy, StopsAt, Turn, acts_on, after_deeds, deeds_of, events_of, happened, moments_of}
 use Rattle.client_turns.proofs.Deeds.{append_nil, first_moment, more_deeds, more_moments, rose_by_none, rose_more}
 use Rattle.client_turns.proofs.Rows.{event_behind, leads_nowhere, leads_on, moment_behind, moments_and, plain_of, stops_on}

@@ -1,6 +1,5 @@
 -- What a client does in a turn, over an edge and a clock.
-use Rattle.std.specs.Prelude.{◌≡◌, ◌⊎◌, ℕ, ◌+◌, List, [], ◌∷◌, ◌++◌, map, Option, None, Some, option_map}
-use Rattle.std.specs.List.{flat_map}
+use Rattle.std.specs.Prelude.{◌≡◌, ◌⊎◌, ℕ, ◌+◌, List, ◌∷◌, ◌++◌, map, Option, None, Some, option_map}
 use Rattle.dns_values.specs.Source.{last_count}
 use Rattle.client_request.specs.Words.{IsGivenOn}
 use Rattle.client_request.specs.declared.event.Event.{Event}

@@ -1,4 +1,4 @@
-use Rattle.std.proofs.Common.{rules, sym, ◌∙◌}
+use Rattle.std.proofs.Common.{sym, ◌∙◌}
 use Rattle.client_turns.specs.Asking.{scene}
 use Rattle.client_turns.proofs.Turning.{answered_first, answered_more, answered_none, asked_more, same_error, stops_more, waits_first, waits_more}
 use Rattle.client_turns.proofs.asking.ask_within.Goals as goal
