@@ -2,3 +2,4 @@ pub mod Delivery
 pub mod Inputs
 pub mod Outcomes
 pub mod Refusals
+pub mod Queries
