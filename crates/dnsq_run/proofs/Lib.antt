@@ -3,3 +3,4 @@ pub mod Inputs
 pub mod Outcomes
 pub mod Refusals
 pub mod Queries
+pub mod QueryEnds

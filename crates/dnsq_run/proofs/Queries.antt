@@ -39,11 +39,11 @@ behind_line = 101 ∷ 110 ∷ 100 ∷ 10 ∷ []
 line_of_reply : Result (List ℕ) Error → List ℕ
 line_of_reply reply = line (out_words (Reply 0 reply))
 
-pub text_of_reply : (reply : Result (List ℕ) Error) → trace_text_of (one_reply reply) ≡ before_line ++ (line_of_reply reply ++ behind_line)
+text_of_reply : (reply : Result (List ℕ) Error) → trace_text_of (one_reply reply) ≡ before_line ++ (line_of_reply reply ++ behind_line)
 unfolding before_line behind_line line_of_reply
 text_of_reply reply = ap (λ (xs : List ℕ). before_line ++ (xs ++ behind_line)) (append_nil (line_of_reply reply ++ []) ∙ append_nil (line_of_reply reply))
 
-pub reply_text_is_long : (reply : Result (List ℕ) Error) (text : List ℕ) → text ≡ trace_text_of (one_reply reply) → 24 ≤ length text
+reply_text_is_long : (reply : Result (List ℕ) Error) (text : List ℕ) → text ≡ trace_text_of (one_reply reply) → 24 ≤ length text
 unfolding before_line behind_line
 reply_text_is_long reply text is =
     let long : length text ≡ length (before_line ++ (line_of_reply reply ++ behind_line)) = ap length (is ∙ text_of_reply reply) in
@@ -55,6 +55,9 @@ pub reply_line_is : (reply : Result (List ℕ) Error) (text : List ℕ) → text
 unfolding before_line behind_line line_of_reply
 reply_line_is reply text is =
     ap (λ (xs : List ℕ). slice_range xs 20 (length xs - 4)) (is ∙ text_of_reply reply) ∙ middle before_line (line_of_reply reply) behind_line
+
+pub reply_line_at : (reply : Result (List ℕ) Error) (text part : List ℕ) (n : ℕ) → text ≡ trace_text_of (one_reply reply) → n ≡ length text → part ≡ slice_range text 20 (n - 4) → part ≡ answer_line (Some reply)
+reply_line_at reply text part n is many cut = cut ∙ ap (λ (k : ℕ). slice_range text 20 (k - 4)) many ∙ reply_line_is reply text is
 
 -- what was answered to a new client whose edge learned its servers
 pub replied : EveryPlainTraceIsRight → (q : Query) (conf : ResolvConf) (old new : World) (client left : Whole) (request : Request) (deeds : Option (List Deed)) (polls : ℕ) (answer : Option (Result (List ℕ) Error))

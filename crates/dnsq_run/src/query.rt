@@ -123,9 +123,13 @@ fn answer<E: Edge, C: Clock, W: Words>(
     learn_all(edge, conf.servers.as_slice())?;
     let mut client = Client::new(alloc, conf, redundant::Config::new(), cache::Config::new())?;
     let request = request_of(alloc, query)?;
-    let answer = ask(&mut client, edge, clock, random, 0, request)?;
-    every_plain_trace_is_right();
-    Ok(answer)
+    match ask(&mut client, edge, clock, random, 0, request) {
+        Ok(answer) => {
+            every_plain_trace_is_right();
+            Ok(answer)
+        }
+        Err(error) => Err(error),
+    }
 }
 
 /// What the servers of the configuration that a source gives answer to a query.

@@ -111,6 +111,7 @@ fn write_answer<K: Sink>(alloc: Global, answer: Answer, sink: &mut K) -> Status
     ensures line_flushed { result.0 ≡ 5 → IsFlushed (K.held sink.new) (K.flushed sink.new) ⊎ Rose (K.faults sink.old) (K.faults sink.new) }
     ensures cut { result.0 ≡ 4 → IsBegun (answer_line answer) (K.held sink.old) (K.held sink.new) }
     ensures sink_fault { result.0 ≡ 4 → Rose (K.faults sink.old) (K.faults sink.new) }
+    ensures memory { result.0 ≡ 6 → (K.held sink.new ≡ K.held sink.old) ⊎ IsBegun (answer_line answer) (K.held sink.old) (K.held sink.new) }
 {
     let is_good = is_message(&answer);
     match answer_line(alloc, answer) {
