@@ -1,7 +1,10 @@
 -- What is asked and answered, and the line of an answer.
 use Rattle.std.proofs.Common.{◌≡◌, ℕ, ◌+◌, ◌-◌, ◌≤◌, List, [], ◌∷◌, ◌++◌, length, map, take, drop, Option, Some, None, Result, Ok, Err, refl, ap, sym, subst, ◌∙◌, arith, length-append}
 use Rattle.std.proofs.Math.Seq.{drop-append_seam, take-append_seam}
-use Rattle.std.specs.Prelude.{slice_range}
+use Rattle.std.proofs.lemmas.Fmt.{decimal_digit}
+use Rattle.std.specs.Fmt.{decimal}
+use Rattle.std.specs.List.{flat_map}
+use Rattle.std.specs.Prelude.{codes, slice_range}
 use Rattle.client_request.specs.Request.{Request}
 use Rattle.client_request.specs.declared.error.Error.{Error}
 use Rattle.client_request.specs.declared.event.Out.TheVariants.{Reply}
@@ -13,8 +16,8 @@ use Rattle.client_core.specs.declared.deed.Deed.TheVariants.{Learned}
 use Rattle.client_turns.specs.Asking.{IsAnswered, Scene, StopsForNumbers, rows_of, scene}
 use Rattle.client_turns.specs.Turns.{after_deeds, events_of}
 use Rattle.client_turns.proofs.Deeds.{append_nil}
-use Rattle.dns_script.specs.Lines.{line, out_words}
-use Rattle.dns_script.specs.TraceText.{trace_text_of}
+use Rattle.dns_script.specs.Lines.{line, out_line, out_words}
+use Rattle.dns_script.specs.TraceText.{first_line, last_line, trace_text_of}
 use Rattle.resolv_conf.specs.declared.conf.ResolvConf.{ResolvConf}
 use Rattle.dnsq_run.specs.Query.{IsReplied, Stops, World, answer_line, begun, one_reply, request_of}
 use Rattle.dnsq_run.specs.declared.query_words.Query.{Query}
@@ -39,9 +42,18 @@ behind_line = 101 ∷ 110 ∷ 100 ∷ 10 ∷ []
 line_of_reply : Result (List ℕ) Error → List ℕ
 line_of_reply reply = line (out_words (Reply 0 reply))
 
+-- the text, where the moment's word is this
+text_with : List ℕ → Result (List ℕ) Error → List ℕ
+text_with zero reply = first_line ++ ((line (codes "at" ∷ zero ∷ codes "tick" ∷ []) ++ flat_map out_line (Reply 0 reply ∷ [])) ++ []) ++ last_line
+
+digit : decimal 0 ≡ 48 ∷ []
+digit = decimal_digit 0 (omega arith)
+
 text_of_reply : (reply : Result (List ℕ) Error) → trace_text_of (one_reply reply) ≡ before_line ++ (line_of_reply reply ++ behind_line)
-unfolding before_line behind_line line_of_reply
-text_of_reply reply = ap (λ (xs : List ℕ). before_line ++ (xs ++ behind_line)) (append_nil (line_of_reply reply ++ []) ∙ append_nil (line_of_reply reply))
+unfolding before_line behind_line line_of_reply text_with
+text_of_reply reply =
+    ap (λ (zero : List ℕ). text_with zero reply) digit
+    ∙ ap (λ (xs : List ℕ). before_line ++ (xs ++ behind_line)) (append_nil (line_of_reply reply ++ []) ∙ append_nil (line_of_reply reply))
 
 reply_text_is_long : (reply : Result (List ℕ) Error) (text : List ℕ) → text ≡ trace_text_of (one_reply reply) → 24 ≤ length text
 unfolding before_line behind_line

@@ -7,8 +7,8 @@ use Rattle.dnsq_run.specs.Query.{world}
 use Rattle.dnsq_run.proofs.Queries.{replied, stopped}
 use Rattle.dnsq_run.proofs.query.answer.Goals as goal
 
-pub returns-in-Err-clause-numbers : goal.returns-in-Err-clause-numbers
-returns-in-Err-clause-numbers g c = λ is.
+pub returns-clause-numbers : goal.returns-clause-numbers
+returns-clause-numbers g c = λ is.
     stopped c.args.query.now c.args.conf.now c.in_ok-client.client c.ask.new.client c.in_ok-request.request
     (g.W.Words.stream c.args.random.now) (g.W.Words.stream c.ask.new.words) (g.E.Edge.deeds c.learn_all.new.edge) (g.E.Edge.deeds c.ask.new.edge)
     (g.E.Edge.polls c.learn_all.new.edge) (g.E.Edge.polls c.ask.new.edge) (g.C.Clock.given c.args.clock.now) (g.C.Clock.given c.ask.new.clock)

@@ -8,6 +8,6 @@ returns-in-Ok-clause-ends g c =
 
 pub returns-in-Err-Says-clause-ends : goal.returns-in-Err-Says-clause-ends
 returns-in-Err-Says-clause-ends g c =
-    line_ends _ _ _ _ _ _ _ _ _ c.in-Err-Says.status c.end_by.result c.in-Err-Says.line.items (rw c.in-Err-Says.field-0-is at c.in-Err-Says.ensures.early) c.end_by.ensures.status
+    line_ends _ _ _ _ _ _ _ _ _ c.in-Err-Says.status c.end_by.result c.in-Err-Says.line.items (rw c.in-Err-Says.field-0-is at c.in-Err-Says.ensures.early) (rw c.in-Err-Says.field-0-is at c.end_by.ensures.status)
     (rw c.in-Err-Says.field-0-is at c.in-Err-Says.ensures.refused) (rw c.in-Err-Says.field-0-is at c.in-Err-Says.ensures.numbers) (rw c.in-Err-Says.field-0-is at c.in-Err-Says.ensures.numbers_line)
-    (rw c.deref.ensures.value at c.end_by.ensures.begun) (rw c.deref.ensures.value at c.end_by.ensures.said)
+    (rw (c.deref.ensures.value, c.in-Err-Says.field-0-is) at c.end_by.ensures.begun) (rw (c.deref.ensures.value, c.in-Err-Says.field-0-is) at c.end_by.ensures.said)
