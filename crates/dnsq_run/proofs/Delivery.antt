@@ -1,10 +1,10 @@
 -- What is written of a line.
-use Rattle.std.proofs.Common.{arith, ◌≡◌, ◌≢◌, ◌⊎◌, inl, inr, ℕ, ◌≤◌, List, [], take, length, Option, None, Some, subst, sym}
+use Rattle.std.proofs.Common.{arith, ◌≡◌, ◌⊎◌, inl, inr, ℕ, List, take, length, Option, None, Some, subst, sym}
 use Rattle.std.proofs.lemmas.List.{take_all}
 use Rattle.std.specs.Prelude.{IfSome}
 use Rattle.dns_values.specs.Sink.{with_octets}
 use Rattle.dns_values.specs.Source.{Rose}
-use Rattle.dnsq_run.specs.Program.{IsOutput, IsRefused, StopsForNumbers, IsBegun, IsSaid, IsCut, IsLeft, RanOut, RefusalIsSaid, is_output, is_refusal, numbers_line, stops, usage_line}
+use Rattle.dnsq_run.specs.Program.{IsRefused, StopsForNumbers, IsBegun, IsSaid, IsLeft, RanOut, RefusalIsSaid, is_refusal, numbers_line, stops, usage_line}
 use Rattle.dnsq_run.specs.declared.query_words.Query.{Query}
 use Rattle.dnsq_run.specs.declared.usage.Command.{Command}
 use Rattle.dnsq_run.proofs.Outcomes.{asked_for}

@@ -1,11 +1,11 @@
 -- What a query ends with, by its status.
-use Rattle.std.proofs.Common.{◌≡◌, ◌≢◌, ◌⊎◌, inl, inr, ℕ, List, [], Bool, true, false, Option, Some, None, Result, refl, ap, sym, subst, ◌∙◌, arith}
+use Rattle.std.proofs.Common.{◌≡◌, ◌≢◌, ◌⊎◌, inl, inr, ℕ, List, [], true, false, Option, Some, None, Result, refl, ap, ◌∙◌, arith}
 use Rattle.std.specs.Prelude.{IfSome}
 use Rattle.client_request.specs.declared.error.Error.{Error}
 use Rattle.dns_values.specs.Sink.{with_octets}
 use Rattle.dns_values.specs.declared.numbers.Status.{Status}
 use Rattle.dnsq_run.specs.Program.{IsBegun, IsRefused, IsSaid, RefusalIsSaid, numbers_line}
-use Rattle.dnsq_run.specs.Query.{EndsSo, IsAsked, IsDue, IsTold, StopsAsking, World, answer_line, is_answer, is_message, is_refusal, stops}
+use Rattle.dnsq_run.specs.Query.{EndsSo, IsAsked, IsDue, StopsAsking, World, answer_line, is_answer, is_message, is_refusal, stops}
 use Rattle.dnsq_run.specs.declared.query_words.Query.{Query}
 use Rattle.dnsq_run.specs.declared.usage.Command.TheVariants.{Conf}
 

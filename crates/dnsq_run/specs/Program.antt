@@ -1,5 +1,5 @@
 -- What the program writes for an input.
-use Rattle.std.specs.Prelude.{◌≡◌, ◌≢◌, ◌⊎◌, ◌<◌, ◌≤◌, ℕ, List, [], ◌∷◌, ◌++◌, length, take, Option, Some, None, IfSome, Ok, Err, false, codes}
+use Rattle.std.specs.Prelude.{◌≡◌, ◌⊎◌, ◌<◌, ◌≤◌, ℕ, List, [], ◌∷◌, ◌++◌, length, take, Option, Some, None, IfSome, Ok, Err, false, codes}
 use Rattle.std.specs.Fmt.{decimal}
 use Rattle.dns_values.specs.Sink.{with_octets}
 use Rattle.dns_values.specs.Source.{Rose}
