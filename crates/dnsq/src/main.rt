@@ -1,14 +1,22 @@
-//! The program `dnsq`: it replays scripts of events.
+//! The program `dnsq`: it replays scripts of events, prints configurations, and asks servers.
 #![tactic(auto)]
 
+mod conf_file;
+
 use client_core::{ListClock, ListEdge};
+use client_edge::{RandWords, RealClock, SocketEdge};
 use client_request::{ListWords, WordList};
+use conf_file::ConfFile;
 use dns_values::{StdSink, StdSource};
 use dnsq_run::run_alone;
-use std::alloc::{AllocError, Global};
+use rand::rngs::StdRng;
+use std::alloc::AllocError;
 use std::env;
 use std::io::ErrorKind;
 use std::process::ExitCode;
+
+/// The exit status where memory, or the system's random words, can't be had.
+const NO_MEMORY: u8 = 6;
 
 /// The words of the command line, without the program's own name; none where one of them is not UTF-8.
 fn words_of(rt: &HostRuntime) -> Result<Vec<String>, AllocError> {
@@ -28,24 +36,53 @@ fn words_of(rt: &HostRuntime) -> Result<Vec<String>, AllocError> {
     Ok(words)
 }
 
-fn main(rt: HostRuntime) -> ExitCode {
-    let alloc = rt.alloc();
-    let Ok(words) = words_of(&rt) else {
-        return ExitCode::from(6);
+/// Whether the words begin with `query`.
+fn asks_servers(words: &[String]) -> bool {
+    match words {
+        [word, ..] => word.as_bytes() == b"query".as_slice(),
+        [] => false,
+    }
+}
+
+/// Does what the words ask for over the system's sockets, clock and random words. Without random words nothing is asked.
+fn ask(rt: HostRuntime, words: &[String]) -> u8 {
+    let Ok(generator) = rand::make_rng::<StdRng, _>(&rt) else {
+        return NO_MEMORY;
     };
-    let mut source = StdSource::new(rt.stdin());
-    let mut sink = StdSink::new(rt.stdout());
-    let mut edge = ListEdge::new(alloc, Vec::new(alloc));
-    let mut clock = ListClock::new(Vec::new(alloc));
-    let mut random = ListWords::new(WordList::new(alloc));
+    let status = run_alone(
+        rt.alloc(),
+        words,
+        &mut ConfFile::new(rt),
+        &mut StdSink::new(rt.stdout()),
+        &mut SocketEdge::new(rt, rt.alloc()),
+        &mut RealClock::new(rt),
+        &mut RandWords::new(generator),
+    );
+    status.0
+}
+
+/// Does what the words ask for, which asks no server.
+fn read(rt: HostRuntime, words: &[String]) -> u8 {
+    let alloc = rt.alloc();
     let status = run_alone(
         alloc,
-        &words,
-        &mut source,
-        &mut sink,
-        &mut edge,
-        &mut clock,
-        &mut random,
+        words,
+        &mut StdSource::new(rt.stdin()),
+        &mut StdSink::new(rt.stdout()),
+        &mut ListEdge::new(alloc, Vec::new(alloc)),
+        &mut ListClock::new(Vec::new(alloc)),
+        &mut ListWords::new(WordList::new(alloc)),
     );
-    ExitCode::from(status.0)
+    status.0
+}
+
+fn main(rt: HostRuntime) -> ExitCode {
+    let Ok(words) = words_of(&rt) else {
+        return ExitCode::from(NO_MEMORY);
+    };
+    if asks_servers(&words) {
+        ExitCode::from(ask(rt, &words))
+    } else {
+        ExitCode::from(read(rt, &words))
+    }
 }

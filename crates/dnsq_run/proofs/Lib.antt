@@ -2,3 +2,5 @@ pub mod Delivery
 pub mod Inputs
 pub mod Outcomes
 pub mod Refusals
+pub mod Queries
+pub mod QueryEnds

@@ -1,5 +1,5 @@
 -- What the program writes for an input.
-use Rattle.std.specs.Prelude.{◌≡◌, ◌≢◌, ◌⊎◌, ◌<◌, ◌≤◌, ℕ, List, [], ◌∷◌, ◌++◌, length, take, Option, Some, None, IfSome, Ok, Err, false, codes}
+use Rattle.std.specs.Prelude.{◌≡◌, ◌⊎◌, ◌<◌, ◌≤◌, ℕ, List, [], ◌∷◌, ◌++◌, length, take, Option, Some, None, IfSome, Ok, Err, false, codes}
 use Rattle.std.specs.Fmt.{decimal}
 use Rattle.dns_values.specs.Sink.{with_octets}
 use Rattle.dns_values.specs.Source.{Rose}
@@ -22,6 +22,7 @@ use Rattle.resolv_conf.specs.Show.{conf_text}
 use Rattle.resolv_conf.specs.declared.conf.ResolvConf.{ResolvConf}
 use Rattle.resolv_conf.specs.declared.error.Error.TheVariants as conf_errors
 use Rattle.resolv_conf.specs.declared.error.IoFault.TheVariants as io_faults
+use Rattle.dnsq_run.specs.declared.query_words.Query.{Query}
 use Rattle.dnsq_run.specs.declared.usage.Command.{Command}
 use Rattle.dnsq_run.specs.declared.usage.Command.TheVariants.{Replay, Conf}
 use Rattle.dnsq_run.specs.declared.ending.Ending.{Ending}
@@ -54,6 +55,12 @@ pub record IsReplayed (text out : List ℕ) : Type 0 where
 -- before the first line of a configuration
 abbrev pub no_conf : ResolvConf
 no_conf = record { servers = []; options = default_options }
+
+-- The text is a configuration, and this is what it says, finalized.
+pub record Configures (text : List ℕ) (final : ResolvConf) : Type 0 where
+  pub conf : ResolvConf
+  pub parses : ParseAnswers text no_conf (Ok tt) conf
+  pub final_is : final ≡ finalized conf
 
 -- The text is a configuration, and these octets are the printing of what it says, finalized.
 pub record IsConfigured (text out : List ℕ) : Type 0 where
@@ -144,11 +151,12 @@ pub record IsLeft (command : Command) (text : List ℕ) (before after : Option (
   pub sayable : IsSayable command text out
   pub begun : IsBegun out before after
 
--- What memory runs out of: of the words' line, where they are no command, the first is written; of what is due for the text,
--- nothing or the first.
-abbrev pub RanOut : Option Command → (told before after : Option (List ℕ)) → Type 0
-RanOut None told before after = IsBegun usage_line before after
-RanOut (Some command) told before after = (after ≡ before) ⊎ IfSome told (λ text. IsLeft command text before after)
+-- What memory runs out of: of the words' line, where they are no command and no query, or of what is due for the text, nothing or the
+-- first is written. Of a query that is said elsewhere.
+abbrev pub RanOut : Option Command → Option Query → (told before after : Option (List ℕ)) → Type 0
+RanOut None None told before after = (after ≡ before) ⊎ IsBegun usage_line before after
+RanOut None (Some query) told before after = Unit {0}
+RanOut (Some command) query told before after = (after ≡ before) ⊎ IfSome told (λ text. IsLeft command text before after)
 
 -- a fact of the command and of the octets that the source tells
 abbrev pub IfInput : Option Command → Option (List ℕ) → (Command → List ℕ → Type 0) → Type 0
@@ -156,7 +164,7 @@ IfInput asked told P = IfSome asked (λ command. IfSome told (P command))
 
 -- the statuses at which a line tells why nothing else is written
 abbrev pub EndsByLine : ℕ → Type 0
-EndsByLine n = (n ≡ 1) ⊎ ((n ≡ 2) ⊎ (n ≡ 7))
+EndsByLine n = (n ≡ 1) ⊎ ((n ≡ 2) ⊎ ((n ≡ 5) ⊎ (n ≡ 7)))
 
 -- the status and the line of an ending
 abbrev pub status_of : Ending → ℕ
@@ -167,9 +175,9 @@ abbrev pub line_of : Ending → List ℕ
 line_of (Says status line) = line.items
 line_of (Silent status) = []
 
--- a status is one of 0, 1, 2, 3, 4, 6 and 7
+-- a status is at most 7
 abbrev pub IsStatus : ℕ → Type 0
-IsStatus n = (n < 8) × (n ≢ 5)
+IsStatus n = n < 8
 
 -- a line is told at a refusal and where numbers are used up; nothing is at a fault of the source and at want of memory
 abbrev pub IsEarly : Ending → Type 0

@@ -2,7 +2,7 @@
 
 ghost use Rattle.std.specs.Prelude.{◌≡◌, ◌≢◌, [], Some, IfSome, IfOk, IfErr};
 ghost use Rattle.dns_values.specs.Source.{Rose};
-ghost use Rattle.dnsq_run.specs.Program.{IsConfigured, IsRefused, IsEarly, status_of, line_of};
+ghost use Rattle.dnsq_run.specs.Program.{Configures, IsConfigured, IsRefused, IsEarly, status_of, line_of};
 
 use crate::ending::Ending;
 use crate::lines::{refused_line, says};
@@ -12,9 +12,9 @@ use dns_values::Source;
 use resolv_conf::{Error, IoFault, ResolvConf};
 use std::alloc::Global;
 
-/// The printing of the configuration that a source gives, finalized.
-pub fn configure<S: Source>(alloc: Global, source: &mut S) -> Result<Vec<u8>, Ending>
-    ensures done { IfOk result (λ v. IfSome (S.left source.old) (λ text. IsConfigured text v.items × (S.left source.new ≡ Some []))) }
+/// The configuration that a source gives, finalized.
+pub fn configuration<S: Source>(alloc: Global, source: &mut S) -> Result<ResolvConf, Ending>
+    ensures done { IfOk result (λ conf. IfSome (S.left source.old) (λ text. Configures text conf × (S.left source.new ≡ Some []))) }
     ensures early { IfErr result IsEarly }
     ensures source_fault { IfErr result (λ e. status_of e ≡ 3 → Rose (S.faults source.old) (S.faults source.new)) }
     ensures refused { IfErr result (λ e. status_of e ≡ 1 → IfSome (S.left source.old) (λ text. IsRefused Command.Conf text (line_of e))) }
@@ -34,6 +34,18 @@ pub fn configure<S: Source>(alloc: Global, source: &mut S) -> Result<Vec<u8>, En
         Err(Error::NoMemory) => return Err(Ending::Silent(NO_MEMORY)),
     }
     conf.finalize(alloc)?;
+    Ok(conf)
+}
+
+/// The printing of the configuration that a source gives, finalized.
+pub fn configure<S: Source>(alloc: Global, source: &mut S) -> Result<Vec<u8>, Ending>
+    ensures done { IfOk result (λ v. IfSome (S.left source.old) (λ text. IsConfigured text v.items × (S.left source.new ≡ Some []))) }
+    ensures early { IfErr result IsEarly }
+    ensures source_fault { IfErr result (λ e. status_of e ≡ 3 → Rose (S.faults source.old) (S.faults source.new)) }
+    ensures refused { IfErr result (λ e. status_of e ≡ 1 → IfSome (S.left source.old) (λ text. IsRefused Command.Conf text (line_of e))) }
+    ensures no_numbers { IfErr result (λ e. status_of e ≢ 7) }
+{
+    let conf = configuration(alloc, source)?;
     let text = conf.to_string(alloc)?;
     Ok(text.into_bytes())
 }

@@ -1,16 +1,20 @@
 //! What the program does, over a source, a sink and the rest of its world.
 
-ghost use Rattle.std.specs.Prelude.{◌≡◌, ◌≢◌, ◌⊎◌, [], Some, None, IfSome, IfOk, IfErr, OnOk};
+ghost use Rattle.std.specs.Prelude.{◌≡◌, ◌≢◌, ◌⊎◌, [], true, false, Some, None, IfSome, IfOk, IfErr, OnOk};
 ghost use Rattle.dns_values.specs.Source.{Rose};
 ghost use Rattle.dns_values.specs.Sink.{IsFlushed, with_octets};
 ghost use Rattle.dnsq_run.specs.Program.{EndsByLine, IfInput, IsOutput, IsRefused, IsTaken, RanOut, RefusalIsSaid, StopsForNumbers, IsDelivered, IsBegun, IsSaid, IsCut, IsStatus, IsEarly, status_of, line_of, numbers_line, usage_line};
+ghost use Rattle.dnsq_run.specs.Query.{EndsSo, answer_line, is_message, world};
+ghost use Rattle.dnsq_run.specs.QueryWords.{query_of};
 ghost use Rattle.dnsq_run.specs.Words.{command_of};
 
 use crate::configure::configure;
 use crate::ending::Ending;
 use crate::laws::input_laws;
+use crate::query::{Answer, answer_line, is_message, query};
+use crate::query_words::{Query, query_of};
 use crate::replay::replay;
-use crate::statuses::{DONE, NO_MEMORY, SINK_FAULT, USAGE};
+use crate::statuses::{DONE, NO_MEMORY, NO_REPLY, SINK_FAULT, USAGE};
 use crate::usage::{Command, USAGE_LINE, command_of};
 use client_core::{Clock, Edge};
 use client_request::Words;
@@ -83,6 +87,107 @@ fn output<S: Source>(alloc: Global, command: Command, source: &mut S) -> Result<
     }
 }
 
+/// Ends by a line that tells why nothing else is written.
+fn end_by<K: Sink>(sink: &mut K, status: Status, line: &[u8]) -> Status
+    ensures status { (result ≡ status) ⊎ (result.0 ≡ 6) }
+    ensures begun { IsBegun line.now (K.held sink.old) (K.held sink.new) }
+    ensures said { result.0 ≢ 6 → IsSaid line.now (K.held sink.old) (K.held sink.new) (K.faults sink.old) (K.faults sink.new) }
+    ensures flushed { result.0 ≢ 6 → IsFlushed (K.held sink.new) (K.flushed sink.new) ⊎ Rose (K.faults sink.old) (K.faults sink.new) }
+{
+    match say(sink, line) {
+        Ok(()) => status,
+        Err(NoMemory) => NO_MEMORY,
+    }
+}
+
+/// Writes the line of an answer: an error, or none, ends by it.
+fn write_answer<K: Sink>(alloc: Global, answer: Answer, sink: &mut K) -> Status
+    ensures statuses { (result.0 ≡ 0) ⊎ ((result.0 ≡ 4) ⊎ ((result.0 ≡ 5) ⊎ (result.0 ≡ 6))) }
+    ensures good { (result.0 ≡ 0) ⊎ (result.0 ≡ 4) → is_message answer ≡ true }
+    ensures bad { result.0 ≡ 5 → is_message answer ≡ false }
+    ensures done { result.0 ≡ 0 → K.held sink.new ≡ with_octets (answer_line answer) (K.held sink.old) }
+    ensures flushed { result.0 ≡ 0 → IsFlushed (K.held sink.new) (K.flushed sink.new) }
+    ensures said { result.0 ≡ 5 → IsSaid (answer_line answer) (K.held sink.old) (K.held sink.new) (K.faults sink.old) (K.faults sink.new) }
+    ensures line_flushed { result.0 ≡ 5 → IsFlushed (K.held sink.new) (K.flushed sink.new) ⊎ Rose (K.faults sink.old) (K.faults sink.new) }
+    ensures cut { result.0 ≡ 4 → IsBegun (answer_line answer) (K.held sink.old) (K.held sink.new) }
+    ensures sink_fault { result.0 ≡ 4 → Rose (K.faults sink.old) (K.faults sink.new) }
+    ensures memory { result.0 ≡ 6 → (K.held sink.new ≡ K.held sink.old) ⊎ IsBegun (answer_line answer) (K.held sink.old) (K.held sink.new) }
+{
+    let is_good = is_message(&answer);
+    match answer_line(alloc, answer) {
+        Ok(line) => {
+            if is_good {
+                deliver(sink, &line)
+            } else {
+                end_by(sink, NO_REPLY, &line)
+            }
+        }
+        Err(NoMemory) => NO_MEMORY,
+    }
+}
+
+/// Asks the servers of the configuration that a source gives, and writes the line of what they answer.
+fn run_query<S: Source, K: Sink, E: Edge, C: Clock, W: Words>(
+    alloc: Global,
+    asked: &Query,
+    source: &mut S,
+    sink: &mut K,
+    edge: &mut E,
+    clock: &mut C,
+    random: &mut W,
+) -> Status
+    ensures statuses { IsStatus result.0 }
+    ensures ends { EndsSo asked.now (S.left source.old) (S.left source.new)
+        (world (W.stream random.old) (E.deeds edge.old) (E.polls edge.old) (C.given clock.old))
+        (world (W.stream random.new) (E.deeds edge.new) (E.polls edge.new) (C.given clock.new))
+        (K.held sink.old) (K.held sink.new) (K.faults sink.old) (K.faults sink.new) result.0 }
+    ensures flushed { result.0 ≡ 0 → IsFlushed (K.held sink.new) (K.flushed sink.new) }
+    ensures source_fault { result.0 ≡ 3 → Rose (S.faults source.old) (S.faults source.new) }
+    ensures silent { result.0 ≡ 3 → K.held sink.new ≡ K.held sink.old }
+    ensures sink_fault { result.0 ≡ 4 → Rose (K.faults sink.old) (K.faults sink.new) }
+    ensures numbers_line { result.0 ≡ 7 → IsSaid numbers_line (K.held sink.old) (K.held sink.new) (K.faults sink.old) (K.faults sink.new) }
+    ensures line_flushed { EndsByLine result.0 → IsFlushed (K.held sink.new) (K.flushed sink.new) ⊎ Rose (K.faults sink.old) (K.faults sink.new) }
+{
+    match query(alloc, asked, source, edge, clock, random) {
+        Ok(answer) => write_answer(alloc, answer, sink),
+        Err(Ending::Silent(status)) => status,
+        Err(Ending::Says(status, line)) => end_by(sink, status, &line),
+    }
+}
+
+/// Does what words ask for that are no command over a source alone: a query, or else they are told how the program is called.
+fn run_other<S: Source, K: Sink, E: Edge, C: Clock, W: Words>(
+    alloc: Global,
+    words: &[String],
+    source: &mut S,
+    sink: &mut K,
+    edge: &mut E,
+    clock: &mut C,
+    random: &mut W,
+) -> Status
+    ensures statuses { IsStatus result.0 }
+    ensures usage { result.0 ≡ 2 → query_of words.now ≡ None }
+    ensures no_query { query_of words.now ≡ None → (result.0 ≡ 2) ⊎ (result.0 ≡ 6) }
+    ensures usage_line { result.0 ≡ 2 → IsSaid usage_line (K.held sink.old) (K.held sink.new) (K.faults sink.old) (K.faults sink.new) }
+    ensures ends { IfSome (query_of words.now) (λ q. EndsSo q (S.left source.old) (S.left source.new)
+        (world (W.stream random.old) (E.deeds edge.old) (E.polls edge.old) (C.given clock.old))
+        (world (W.stream random.new) (E.deeds edge.new) (E.polls edge.new) (C.given clock.new))
+        (K.held sink.old) (K.held sink.new) (K.faults sink.old) (K.faults sink.new) result.0) }
+    ensures flushed { result.0 ≡ 0 → IsFlushed (K.held sink.new) (K.flushed sink.new) }
+    ensures source_fault { result.0 ≡ 3 → Rose (S.faults source.old) (S.faults source.new) }
+    ensures silent { result.0 ≡ 3 → K.held sink.new ≡ K.held sink.old }
+    ensures sink_fault { result.0 ≡ 4 → Rose (K.faults sink.old) (K.faults sink.new) }
+    ensures memory { result.0 ≡ 6 → RanOut None (query_of words.now) (S.left source.old) (K.held sink.old) (K.held sink.new) }
+    ensures numbers_line { result.0 ≡ 7 → IsSaid numbers_line (K.held sink.old) (K.held sink.new) (K.faults sink.old) (K.faults sink.new) }
+    ensures line_flushed { EndsByLine result.0 → IsFlushed (K.held sink.new) (K.flushed sink.new) ⊎ Rose (K.faults sink.old) (K.faults sink.new) }
+{
+    match query_of(alloc, words) {
+        Ok(Some(asked)) => run_query(alloc, &asked, source, sink, edge, clock, random),
+        Ok(None) => tell_usage(sink),
+        Err(NoMemory) => NO_MEMORY,
+    }
+}
+
 /// Does what the words ask for, on a source and a sink, and answers the exit status.
 ///
 /// `edge`, `clock` and `random` serve the commands that ask real servers.
@@ -91,19 +196,26 @@ pub fn run_alone<S: Source, K: Sink, E: Edge, C: Clock, W: Words>(
     words: &[String],
     source: &mut S,
     sink: &mut K,
-    _edge: &mut E,
-    _clock: &mut C,
-    _random: &mut W,
+    edge: &mut E,
+    clock: &mut C,
+    random: &mut W,
 ) -> Status
     ensures statuses { IsStatus result.0 }
     ensures usage { result.0 ≡ 2 → command_of words.now ≡ None }
-    ensures no_command { command_of words.now ≡ None → (result.0 ≡ 2) ⊎ (result.0 ≡ 6) }
+    ensures no_query { result.0 ≡ 2 → query_of words.now ≡ None }
+    ensures no_command { command_of words.now ≡ None → query_of words.now ≡ None → (result.0 ≡ 2) ⊎ (result.0 ≡ 6) }
     ensures usage_line { result.0 ≡ 2 → IsSaid usage_line (K.held sink.old) (K.held sink.new) (K.faults sink.old) (K.faults sink.new) }
 
     // The output.
     ensures done { result.0 ≡ 0 → IfInput (command_of words.now) (S.left source.old) (λ command text.
         IsDelivered command text (K.held sink.old) (K.held sink.new) × (S.left source.new ≡ Some [])) }
     ensures flushed { result.0 ≡ 0 → IsFlushed (K.held sink.new) (K.flushed sink.new) }
+
+    // A query: the servers are asked, and the line of what they answer is written.
+    ensures query { command_of words.now ≡ None → IfSome (query_of words.now) (λ q. EndsSo q (S.left source.old) (S.left source.new)
+        (world (W.stream random.old) (E.deeds edge.old) (E.polls edge.old) (C.given clock.old))
+        (world (W.stream random.new) (E.deeds edge.new) (E.polls edge.new) (C.given clock.new))
+        (K.held sink.old) (K.held sink.new) (K.faults sink.old) (K.faults sink.new) result.0) }
 
     // A refusal.
     ensures refused { result.0 ≡ 1 → IfInput (command_of words.now) (S.left source.old) (λ command text.
@@ -118,7 +230,7 @@ pub fn run_alone<S: Source, K: Sink, E: Edge, C: Clock, W: Words>(
         IsCut command text (K.held sink.old) (K.held sink.new)) }
 
     // Memory and numbers.
-    ensures memory { result.0 ≡ 6 → RanOut (command_of words.now) (S.left source.old) (K.held sink.old) (K.held sink.new) }
+    ensures memory { result.0 ≡ 6 → RanOut (command_of words.now) (query_of words.now) (S.left source.old) (K.held sink.old) (K.held sink.new) }
     ensures numbers { result.0 ≡ 7 → IfInput (command_of words.now) (S.left source.old) (λ command text. StopsForNumbers command text) }
     ensures numbers_line { result.0 ≡ 7 → IsSaid numbers_line (K.held sink.old) (K.held sink.new) (K.faults sink.old) (K.faults sink.new) }
     ensures stops { IfInput (command_of words.now) (S.left source.old) (λ command text. StopsForNumbers command text → result.0 ≢ 0) }
@@ -127,7 +239,7 @@ pub fn run_alone<S: Source, K: Sink, E: Edge, C: Clock, W: Words>(
     ensures line_flushed { EndsByLine result.0 → IsFlushed (K.held sink.new) (K.flushed sink.new) ⊎ Rose (K.faults sink.old) (K.faults sink.new) }
 {
     let Some(command) = command_of(words) else {
-        return tell_usage(sink);
+        return run_other(alloc, words, source, sink, edge, clock, random);
     };
     input_laws();
     match output(alloc, command, source) {

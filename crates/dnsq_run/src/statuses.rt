@@ -17,6 +17,9 @@ pub const SOURCE_FAULT: Status = Status(3);
 /// The sink failed.
 pub const SINK_FAULT: Status = Status(4);
 
+/// The reply is an error, or none came.
+pub const NO_REPLY: Status = Status(5);
+
 /// Memory ran out.
 pub const NO_MEMORY: Status = Status(6);
 

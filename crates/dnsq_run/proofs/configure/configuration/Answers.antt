@@ -1,5 +1,5 @@
 use Rattle.dnsq_run.proofs.Refusals.{bad_conf_line, bad_conf_text}
-use Rattle.dnsq_run.proofs.configure.configure.Goals as goal
+use Rattle.dnsq_run.proofs.configure.configuration.Goals as goal
 
 pub returns-in-Err-ParseError-clause-refused : goal.returns-in-Err-ParseError-clause-refused
 returns-in-Err-ParseError-clause-refused g c =

@@ -1,0 +1,73 @@
+-- What a client does in a turn, over an edge and a clock.
+use Rattle.std.specs.Prelude.{◌≡◌, ◌⊎◌, ℕ, ◌+◌, List, ◌∷◌, ◌++◌, map, Option, None, Some, option_map}
+use Rattle.dns_values.specs.Source.{last_count}
+use Rattle.client_request.specs.Words.{IsGivenOn}
+use Rattle.client_request.specs.declared.event.Event.{Event}
+use Rattle.client_request.specs.declared.event.Out.{Out}
+use Rattle.client_request.specs.declared.event.Row.{Row}
+use Rattle.client_request.specs.declared.event.What.{What}
+use Rattle.client_request.specs.declared.event.What.TheVariants.{Ask, Tick}
+use Rattle.client_steps.specs.Client.{plain_rows}
+use Rattle.client_steps.specs.Whole.{Client, Whole, machine, plain_step}
+use Rattle.client_core.specs.declared.deed.Deed.{Deed}
+use Rattle.client_core.specs.declared.deed.Deed.TheVariants.{Acted, Polled}
+
+-- What happens in a turn is what the edge gave. Where it gave nothing, or a request, only time goes on.
+abbrev pub happened : Option What → What
+happened None = Tick
+happened (Some (Ask request)) = Tick
+happened (Some what) = what
+
+-- an edge acts on outs, in order
+abbrev pub acts_on : List Out → List Deed
+acts_on outs = map (λ out. Acted out) outs
+
+-- a turn: what the edge gave, and the row that came of it
+pub record Turn : Type 0 where
+  pub polled : Option What
+  pub row : Row
+
+-- the row is of what the edge gave
+abbrev pub IsOfPoll : Turn → Type 0
+IsOfPoll turn = turn.row.event.what ≡ happened turn.polled
+
+-- In a turn the edge is polled, and then it acts on what was put out.
+abbrev pub deeds_of : Turn → List Deed
+deeds_of turn = Polled turn.polled ∷ acts_on turn.row.outs
+
+-- what was done with an edge after these deeds too, where it tells it
+abbrev pub after_deeds : List Deed → Option (List Deed) → Option (List Deed)
+after_deeds deeds told = option_map (λ before. before ++ deeds) told
+
+-- A row is that of a turn: there is something that the edge gave, so that the row is of it, and these are the deeds of both.
+pub record IsTurn (row : Row) (old new : Option (List Deed)) : Type 0 where
+  pub polled : Option What
+  pub of_poll : row.event.what ≡ happened polled
+  pub deeds : new ≡ after_deeds (deeds_of (record { polled = polled; row = row })) old
+
+-- a count of polls rose by so many, or stands at its last value
+abbrev pub RoseBy : ℕ → (old new : ℕ) → Type 0
+RoseBy count old new = (new ≡ old + count) ⊎ (new ≡ last_count)
+
+-- Where a clock tells the moments that it gave, these are the last of them.
+abbrev pub AreGivenOn : (old new : Option (List ℕ)) → List ℕ → Type 0
+AreGivenOn old None moments = Unit {0}
+AreGivenOn None (Some new) moments = ⊥
+AreGivenOn (Some old) (Some new) moments = new ≡ old ++ moments
+
+abbrev pub events_of : List Row → List Event
+events_of rows = map (λ row. row.event) rows
+
+abbrev pub moments_of : List Row → List ℕ
+moments_of rows = map (λ row. row.event.moment.0) rows
+
+-- The plain client makes these rows of their events, and then goes on from what it is after them, whatever comes later.
+abbrev pub Leads : (timeout : ℕ) → Client → List Row → Client → Type 0
+Leads timeout before rows after =
+    (later : List Event) → plain_rows machine timeout (events_of rows ++ later) before ≡ option_map (λ more. rows ++ more) (plain_rows machine timeout later after)
+
+-- A number would pass 64 bits at some event, at the moment that a clock gave.
+pub record StopsAt (words : ℕ → ℕ) (client : Whole) (old new : Option (List ℕ)) : Type 0 where
+  pub event : Event
+  pub stops : plain_step words event client ≡ None
+  pub moment : IsGivenOn old new event.moment.0

@@ -1,0 +1,129 @@
+-- What a query asks, and what comes of it.
+use Rattle.std.specs.Prelude.{◌≡◌, ◌≢◌, ◌⊎◌, ℕ, Bool, true, false, List, [], ◌∷◌, map, Option, None, Some, Result, Ok, Err, IfSome, codes}
+use Rattle.dns_base.specs.Draft.{finished, fresh, pushed_question, with_header}
+use Rattle.client_request.specs.Request.{Request, recorded_from}
+use Rattle.client_request.specs.declared.error.Error.{Error}
+use Rattle.client_request.specs.declared.event.Event.{Event}
+use Rattle.client_request.specs.declared.event.Out.TheVariants.{Reply}
+use Rattle.client_request.specs.declared.event.Row.{Row}
+use Rattle.client_request.specs.declared.event.What.TheVariants.{Ask, Tick}
+use Rattle.client_core.specs.Headline.{IsClaimed}
+use Rattle.client_steps.specs.Headline.{conf_of}
+use Rattle.client_steps.specs.Whole.{Whole, plain_trace, started}
+use Rattle.client_core.specs.declared.deed.Deed.{Deed}
+use Rattle.client_core.specs.declared.deed.Deed.TheVariants.{Learned}
+use Rattle.client_turns.specs.Asking.{IsAnswered, Scene, rows_of, scene}
+use Rattle.client_turns.specs.Turns.{AreGivenOn, after_deeds, events_of}
+use Rattle.dns_script.specs.Lines.{line, out_words}
+use Rattle.headline.specs.Right.{Right}
+use Rattle.headline.specs.Settings.{first_settings}
+use Rattle.headline.specs.Timely.{Timely}
+use Rattle.resolv_conf.specs.declared.conf.ResolvConf.{ResolvConf}
+use Rattle.resolv_conf.specs.declared.server.ServerConf.{ServerConf}
+use Rattle.dns_values.specs.Sink.{with_octets}
+use Rattle.dnsq_run.specs.Program.{Configures, IsBegun, IsRefused, IsSaid, RefusalIsSaid, numbers_line}
+use Rattle.dnsq_run.specs.declared.usage.Command.TheVariants.{Conf}
+use Rattle.dnsq_run.specs.declared.query_words.Query.{Query}
+
+-- a server at another port
+abbrev pub at_port : ℕ → ServerConf → ServerConf
+at_port port server = record server { addr = record server.addr { port = port } }
+
+-- the configuration that is asked: each server at the query's port, where it has one
+abbrev pub conf_at : Option ℕ → ResolvConf → ResolvConf
+conf_at None conf = conf
+conf_at (Some port) conf = record conf { servers = map (at_port port) conf.servers }
+
+-- the header of a question with recursion desired
+abbrev pub recursive : List ℕ
+recursive = 0 ∷ 0 ∷ 1 ∷ 0 ∷ []
+
+-- the request: its one question, of class IN
+abbrev pub request_of : Query → Request
+request_of q = recorded_from (finished (pushed_question (record { name = q.name; rtype = q.rtype.0; class = 1 }) (with_header recursive (fresh None))))
+
+-- the words that come, what the edge tells, its count of polls, and the moments that the clock tells
+pub record World : Type 0 where
+  pub words : ℕ → ℕ
+  pub deeds : Option (List Deed)
+  pub polls : ℕ
+  pub moments : Option (List ℕ)
+
+-- a new client of a configuration, whose servers the edge has learned
+abbrev pub begun : ResolvConf → World → Scene
+begun conf old = scene (started conf) old.words (after_deeds (map (λ server. Learned server) conf.servers) old.deeds) old.polls old.moments
+
+abbrev pub world : (ℕ → ℕ) → Option (List Deed) → ℕ → Option (List ℕ) → World
+world words deeds polls moments = record { words = words; deeds = deeds; polls = polls; moments = moments }
+
+-- The edge learned the servers in order, and then a new client of them was asked the request, and this was answered. The rows are right and timely, where
+-- the headline is proved of such a client.
+pub record IsReplied (q : Query) (conf : ResolvConf) (old new : World) (answer : Option (Result (List ℕ) Error)) : Type 0 where
+  pub left : Whole
+  pub answered : IsAnswered 0 1000000 (request_of q) (begun conf old) (scene left new.words new.deeds new.polls new.moments) answer
+  pub right : IsClaimed conf old.words (events_of (rows_of answered.asked.asking answered.asked.turns)) → Right (conf_of conf) first_settings (rows_of answered.asked.asking answered.asked.turns)
+  pub timely : IsClaimed conf old.words (events_of (rows_of answered.asked.asking answered.asked.turns)) → Timely (conf_of conf) (rows_of answered.asked.asking answered.asked.turns)
+
+-- The configuration is what the text says, finalized, with the query's port; the text is that of the source, where it tells it.
+pub record IsConfOf (q : Query) (told : Option (List ℕ)) (conf : ResolvConf) : Type 0 where
+  pub final : ResolvConf
+  pub is_final : IfSome told (λ text. Configures text final)
+  pub is : conf ≡ conf_at q.port final
+
+-- The servers of the configuration were asked, and this was answered.
+pub record IsAsked (q : Query) (told : Option (List ℕ)) (old new : World) (answer : Option (Result (List ℕ) Error)) : Type 0 where
+  pub conf : ResolvConf
+  pub is_conf : IsConfOf q told conf
+  pub replied : IsReplied q conf old new answer
+
+-- A number would pass 64 bits: of the request and of some events behind it, at the moments that the clock gave, the plain client makes no rows.
+pub record Stops (q : Query) (conf : ResolvConf) (words : ℕ → ℕ) (old new : Option (List ℕ)) : Type 0 where
+  pub asking : Event
+  pub later : List Event
+  pub asks : asking.what ≡ Ask (request_of q)
+  pub stops : plain_trace conf words (asking ∷ later) ≡ None
+  pub moments : AreGivenOn old new (map (λ event. event.moment.0) (asking ∷ later))
+
+pub record StopsAsking (q : Query) (told : Option (List ℕ)) (words : ℕ → ℕ) (old new : Option (List ℕ)) : Type 0 where
+  pub conf : ResolvConf
+  pub is_conf : IsConfOf q told conf
+  pub stopped : Stops q conf words old new
+
+-- a trace of the reply to request 0 alone
+abbrev pub one_reply : Result (List ℕ) Error → List Row
+one_reply reply = record { event = record { moment = record { 0 = 0 }; what = Tick }; outs = Reply 0 reply ∷ [] } ∷ []
+
+-- what is written for an answer: the line of the reply, or that there is none
+abbrev pub answer_line : Option (Result (List ℕ) Error) → List ℕ
+answer_line (Some reply) = line (out_words (Reply 0 reply))
+answer_line None = codes "no reply\n"
+
+-- it is a message
+abbrev pub is_message : Option (Result (List ℕ) Error) → Bool
+is_message (Some (Ok message)) = true
+is_message (Some (Err error)) = false
+is_message None = false
+
+-- The query was asked, and so it is of the line of its answer, which is a message or not.
+pub record IsTold (q : Query) (told : Option (List ℕ)) (old new : World) (message : Bool) (P : List ℕ → Type 0) : Type 0 where
+  pub answer : Option (Result (List ℕ) Error)
+  pub asked : IsAsked q told old new answer
+  pub is : is_message answer ≡ message
+  pub so : P (answer_line answer)
+
+-- what is due for a query: the line of its answer, or the line that tells why there is none
+pub data IsDue (q : Query) (told : Option (List ℕ)) (old new : World) (line : List ℕ) : Type 0 where
+  is_answer : (answer : Option (Result (List ℕ) Error)) → IsAsked q told old new answer → line ≡ answer_line answer → IsDue q told old new line
+  is_refusal : IfSome told (λ text. IsRefused Conf text line) → IsDue q told old new line
+  stops : StopsAsking q told old.words old.moments new.moments → line ≡ numbers_line → IsDue q told old new line
+
+-- What a query ends with, by its status: what is left to read, what the sink holds, and its count of faults.
+pub record EndsSo (q : Query) (told left : Option (List ℕ)) (old new : World) (held after : Option (List ℕ)) (faults faults_after : ℕ) (status : ℕ) : Type 0 where
+  pub done : status ≡ 0 → IsTold q told old new true (λ line. after ≡ with_octets line held)
+  pub refused : status ≡ 1 → IfSome told (λ text. RefusalIsSaid Conf text held after faults faults_after)
+  pub asks : status ≢ 2
+  pub cut : status ≡ 4 → IsTold q told old new true (λ line. IsBegun line held after)
+  pub no_reply : status ≡ 5 → IsTold q told old new false (λ line. IsSaid line held after faults faults_after)
+  pub memory : status ≡ 6 → (after ≡ held) ⊎ ((line : List ℕ) × IsDue q told old new line × IsBegun line held after)
+  pub numbers : status ≡ 7 → StopsAsking q told old.words old.moments new.moments
+  pub whole : (status ≡ 0) ⊎ (status ≡ 5) → IfSome told (λ _. left ≡ Some [])
