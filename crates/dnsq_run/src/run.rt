@@ -203,6 +203,7 @@ pub fn run_alone<S: Source, K: Sink, E: Edge, C: Clock, W: Words>(
     ensures statuses { IsStatus result.0 }
     ensures usage { result.0 ≡ 2 → command_of words.now ≡ None }
     ensures no_query { result.0 ≡ 2 → query_of words.now ≡ None }
+    ensures no_reply { result.0 ≡ 5 → command_of words.now ≡ None }
     ensures no_command { command_of words.now ≡ None → query_of words.now ≡ None → (result.0 ≡ 2) ⊎ (result.0 ≡ 6) }
     ensures usage_line { result.0 ≡ 2 → IsSaid usage_line (K.held sink.old) (K.held sink.new) (K.faults sink.old) (K.faults sink.new) }
 
