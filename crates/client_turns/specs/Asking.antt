@@ -28,6 +28,11 @@ pub record Scene : Type 0 where
 abbrev pub scene : Whole → (ℕ → ℕ) → Option (List Deed) → ℕ → Option (List ℕ) → Scene
 scene client words deeds polls moments = record { client = client; words = words; deeds = deeds; polls = polls; moments = moments }
 
+-- What holds of the scenes before and after a call, by what an edge, a clock and words tell.
+abbrev pub between : {E C W : Type 0} {R : Type 1} → (E → Option (List Deed)) → (E → ℕ) → (C → Option (List ℕ)) → (W → ℕ → ℕ) → (old new : Whole × E × C × W) → (Scene → Scene → R) → R
+between deeds polls given stream old new P =
+    P (scene old.0 (stream old.3) (deeds old.1) (polls old.1) (given old.2)) (scene new.0 (stream new.3) (deeds new.1) (polls new.1) (given new.2))
+
 -- the client as it begins a row
 abbrev pub client_of : Scene → Client
 client_of s = client_with s.words s.client

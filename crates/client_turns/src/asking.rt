@@ -2,7 +2,7 @@
 
 ghost use Rattle.std.specs.Prelude.{◌≡◌, true, false, OnOk, IfOk, IfErr, IsErrOf};
 ghost use Rattle.client_request.specs.Response.{IsRefusal};
-ghost use Rattle.client_turns.specs.Asking.{Begun, IsAnswered, StopsForNumbers, scene};
+ghost use Rattle.client_turns.specs.Asking.{Begun, IsAnswered, StopsForNumbers, between};
 
 use crate::reply::reply_in;
 use crate::turns::{take, turn};
@@ -27,12 +27,8 @@ pub fn ask<E: Edge, C: Clock, W: Words>(
     number: u64,
     request: RequestMessage,
 ) -> Result<Option<Result<Message, Error>>, Error>
-    ensures answered { IfOk result (IsAnswered number 1000000 request
-        (scene client.old (W.stream words.old) (E.deeds edge.old) (E.polls edge.old) (C.given clock.old))
-        (scene client.new (W.stream words.new) (E.deeds edge.new) (E.polls edge.new) (C.given clock.new))) }
-    ensures numbers { IsErrOf result Error.NumbersUsed → StopsForNumbers request
-        (scene client.old (W.stream words.old) (E.deeds edge.old) (E.polls edge.old) (C.given clock.old))
-        (scene client.new (W.stream words.new) (E.deeds edge.new) (E.polls edge.new) (C.given clock.new)) }
+    ensures answered { IfOk result (between E.deeds E.polls C.given W.stream (client.old, edge.old, clock.old, words.old) (client.new, edge.new, clock.new, words.new) (IsAnswered number 1000000 request)) }
+    ensures numbers { IsErrOf result Error.NumbersUsed → between E.deeds E.polls C.given W.stream (client.old, edge.old, clock.old, words.old) (client.new, edge.new, clock.new, words.new) (StopsForNumbers request) }
     ensures timeout { OnOk result (client.new.timeout ≡ client.old.timeout) }
     ensures lasts { OnOk result (client.new.failed ≡ false) }
     ensures refused { IfErr result IsRefusal }
@@ -49,12 +45,8 @@ fn begin<E: Edge, C: Clock, W: Words>(
     words: &mut W,
     request: RequestMessage,
 ) -> Result<Row, Error>
-    ensures begun { IfOk result (Begun request
-        (scene client.old (W.stream words.old) (E.deeds edge.old) (E.polls edge.old) (C.given clock.old))
-        (scene client.new (W.stream words.new) (E.deeds edge.new) (E.polls edge.new) (C.given clock.new))) }
-    ensures numbers { IsErrOf result Error.NumbersUsed → StopsForNumbers request
-        (scene client.old (W.stream words.old) (E.deeds edge.old) (E.polls edge.old) (C.given clock.old))
-        (scene client.new (W.stream words.new) (E.deeds edge.new) (E.polls edge.new) (C.given clock.new)) }
+    ensures begun { IfOk result (between E.deeds E.polls C.given W.stream (client.old, edge.old, clock.old, words.old) (client.new, edge.new, clock.new, words.new) (Begun request)) }
+    ensures numbers { IsErrOf result Error.NumbersUsed → between E.deeds E.polls C.given W.stream (client.old, edge.old, clock.old, words.old) (client.new, edge.new, clock.new, words.new) (StopsForNumbers request) }
     ensures timeout { OnOk result (client.new.timeout ≡ client.old.timeout) }
     ensures lasts { OnOk result (client.new.failed ≡ false) }
     ensures refused { IfErr result IsRefusal }
@@ -78,12 +70,8 @@ pub fn ask_within<E: Edge, C: Clock, W: Words>(
     request: RequestMessage,
     most: u64,
 ) -> Result<Option<Result<Message, Error>>, Error>
-    ensures answered { IfOk result (IsAnswered number most request
-        (scene client.old (W.stream words.old) (E.deeds edge.old) (E.polls edge.old) (C.given clock.old))
-        (scene client.new (W.stream words.new) (E.deeds edge.new) (E.polls edge.new) (C.given clock.new))) }
-    ensures numbers { IsErrOf result Error.NumbersUsed → StopsForNumbers request
-        (scene client.old (W.stream words.old) (E.deeds edge.old) (E.polls edge.old) (C.given clock.old))
-        (scene client.new (W.stream words.new) (E.deeds edge.new) (E.polls edge.new) (C.given clock.new)) }
+    ensures answered { IfOk result (between E.deeds E.polls C.given W.stream (client.old, edge.old, clock.old, words.old) (client.new, edge.new, clock.new, words.new) (IsAnswered number most request)) }
+    ensures numbers { IsErrOf result Error.NumbersUsed → between E.deeds E.polls C.given W.stream (client.old, edge.old, clock.old, words.old) (client.new, edge.new, clock.new, words.new) (StopsForNumbers request) }
     ensures timeout { OnOk result (client.new.timeout ≡ client.old.timeout) }
     ensures lasts { OnOk result (client.new.failed ≡ false) }
     ensures refused { IfErr result IsRefusal }

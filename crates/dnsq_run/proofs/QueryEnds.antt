@@ -34,7 +34,7 @@ module _ (q : Query) (told left : Option (List ℕ)) (old new : World) (held aft
       → ((n ≡ 0) ⊎ (n ≡ 4) → is_message answer ≡ true) → (n ≡ 5 → is_message answer ≡ false)
       → (n ≡ 0 → after ≡ with_octets (answer_line answer) held) → (n ≡ 5 → IsSaid (answer_line answer) held after faults faults_after)
       → (n ≡ 4 → IsBegun (answer_line answer) held after) → (n ≡ 6 → (after ≡ held) ⊎ IsBegun (answer_line answer) held after)
-      → EndsSo q told left old new held after faults faults_after n
+      → EndsSo q n told left old new held after faults faults_after
   answer_ends n answer asked whole written good bad done said cut begun = record {
     done = λ zero. record { answer = answer; asked = asked; is = good (inl zero); so = done zero };
     refused = λ one. absurd ((not_written n written).0 one);
@@ -54,7 +54,7 @@ module _ (q : Query) (told left : Option (List ℕ)) (old new : World) (held aft
   -- a line told why there is no answer
   pub line_ends : (status ended : Status) (line : List ℕ) → (status.0 ≡ 1) ⊎ (status.0 ≡ 7) → (ended ≡ status) ⊎ (ended.0 ≡ 6)
       → (status.0 ≡ 1 → IfSome told (λ text. IsRefused Conf text line)) → (status.0 ≡ 7 → StopsAsking q told old.words old.moments new.moments) → (status.0 ≡ 7 → line ≡ numbers_line)
-      → IsBegun line held after → (ended.0 ≢ 6 → IsSaid line held after faults faults_after) → EndsSo q told left old new held after faults faults_after ended.0
+      → IsBegun line held after → (ended.0 ≢ 6 → IsSaid line held after faults faults_after) → EndsSo q ended.0 told left old new held after faults faults_after
   line_ends status ended line early (inr six) refused numbers says begun said = record {
     done = λ zero. absurd (omega arith);
     refused = λ one. absurd (omega arith);

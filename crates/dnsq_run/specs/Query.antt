@@ -1,5 +1,6 @@
 -- What a query asks, and what comes of it.
-use Rattle.std.specs.Prelude.{◌≡◌, ◌≢◌, ◌⊎◌, ℕ, Bool, true, false, List, [], ◌∷◌, map, Option, None, Some, Result, Ok, Err, IfSome, codes}
+use Rattle.std.specs.Prelude.{◌≡◌, ◌≢◌, ◌⊎◌, ℕ, Bool, true, false, List, [], ◌∷◌, map, Option, None, Some, Result, Ok, Err, IfSome, codes, String}
+use Rattle.std.specs.declared.alloc.Global.{Global}
 use Rattle.dns_base.specs.Draft.{finished, fresh, pushed_question, with_header}
 use Rattle.client_request.specs.Request.{Request, recorded_from}
 use Rattle.client_request.specs.declared.error.Error.{Error}
@@ -23,6 +24,8 @@ use Rattle.resolv_conf.specs.declared.server.ServerConf.{ServerConf}
 use Rattle.dns_values.specs.Sink.{with_octets}
 use Rattle.dnsq_run.specs.Program.{Configures, IsBegun, IsRefused, IsSaid, RefusalIsSaid, numbers_line}
 use Rattle.dnsq_run.specs.declared.usage.Command.TheVariants.{Conf}
+use Rattle.dnsq_run.specs.QueryWords.{query_of}
+use Rattle.dnsq_run.specs.Words.{command_of}
 use Rattle.dnsq_run.specs.declared.query_words.Query.{Query}
 
 -- a server at another port
@@ -55,6 +58,10 @@ begun conf old = scene (started conf) old.words (after_deeds (map (λ server. Le
 
 abbrev pub world : (ℕ → ℕ) → Option (List Deed) → ℕ → Option (List ℕ) → World
 world words deeds polls moments = record { words = words; deeds = deeds; polls = polls; moments = moments }
+
+-- What holds of the world before and after a call, by what an edge, a clock and words tell.
+abbrev pub around : {E C W : Type 0} {R : Type 1} → (E → Option (List Deed)) → (E → ℕ) → (C → Option (List ℕ)) → (W → ℕ → ℕ) → (old new : E × C × W) → (World → World → R) → R
+around deeds polls given stream old new P = P (world (stream old.2) (deeds old.0) (polls old.0) (given old.1)) (world (stream new.2) (deeds new.0) (polls new.0) (given new.1))
 
 -- The edge learned the servers in order, and then a new client of them was asked the request, and this was answered. The rows are right and timely, where
 -- the headline is proved of such a client.
@@ -118,7 +125,7 @@ pub data IsDue (q : Query) (told : Option (List ℕ)) (old new : World) (line : 
   stops : StopsAsking q told old.words old.moments new.moments → line ≡ numbers_line → IsDue q told old new line
 
 -- What a query ends with, by its status: what is left to read, what the sink holds, and its count of faults.
-pub record EndsSo (q : Query) (told left : Option (List ℕ)) (old new : World) (held after : Option (List ℕ)) (faults faults_after : ℕ) (status : ℕ) : Type 0 where
+pub record EndsSo (q : Query) (status : ℕ) (told left : Option (List ℕ)) (old new : World) (held after : Option (List ℕ)) (faults faults_after : ℕ) : Type 0 where
   pub done : status ≡ 0 → IsTold q told old new true (λ line. after ≡ with_octets line held)
   pub refused : status ≡ 1 → IfSome told (λ text. RefusalIsSaid Conf text held after faults faults_after)
   pub asks : status ≢ 2
@@ -127,3 +134,18 @@ pub record EndsSo (q : Query) (told left : Option (List ℕ)) (old new : World) 
   pub memory : status ≡ 6 → (after ≡ held) ⊎ ((line : List ℕ) × IsDue q told old new line × IsBegun line held after)
   pub numbers : status ≡ 7 → StopsAsking q told old.words old.moments new.moments
   pub whole : (status ≡ 0) ⊎ (status ≡ 5) → IfSome told (λ _. left ≡ Some [])
+
+-- What holds before and after a run, by what an edge, a clock, words, a source and a sink tell.
+abbrev pub on : {E C W S K : Type 0} → (E → Option (List Deed)) → (E → ℕ) → (C → Option (List ℕ)) → (W → ℕ → ℕ) → (S → Option (List ℕ)) → (K → Option (List ℕ)) → (K → ℕ)
+    → (old new : E × C × W × S × K) → ((told left : Option (List ℕ)) (before after : World) (held written : Option (List ℕ)) (faults more : ℕ) → Type 0) → Type 0
+on deeds polls given stream left held faults old new P =
+    P (left old.3) (left new.3) (world (stream old.2) (deeds old.0) (polls old.0) (given old.1)) (world (stream new.2) (deeds new.0) (polls new.0) (given new.1))
+    (held old.4) (held new.4) (faults old.4) (faults new.4)
+
+-- where the words are a query, what it ends with
+abbrev pub QueryEnd : List (String Global) → ℕ → (told left : Option (List ℕ)) (old new : World) (held after : Option (List ℕ)) (faults more : ℕ) → Type 0
+QueryEnd words status told left old new held after faults more = IfSome (query_of words) (λ q. EndsSo q status told left old new held after faults more)
+
+-- and where they are no command over a source alone
+abbrev pub OtherEnd : List (String Global) → ℕ → (told left : Option (List ℕ)) (old new : World) (held after : Option (List ℕ)) (faults more : ℕ) → Type 0
+OtherEnd words status told left old new held after faults more = command_of words ≡ None → QueryEnd words status told left old new held after faults more

@@ -3,7 +3,7 @@
 ghost use Rattle.std.specs.Prelude.{◌≡◌, ◌≢◌, ◌≤◌, [], length, map, Some, IfSome, OnOk, IfOk, IfErr, IsErrOf};
 ghost use Rattle.dns_values.specs.Source.{Rose};
 ghost use Rattle.dnsq_run.specs.Program.{IsEarly, IsRefused, status_of, line_of, numbers_line};
-ghost use Rattle.dnsq_run.specs.Query.{IsAsked, IsReplied, Stops, StopsAsking, answer_line, at_port, conf_at, is_message, one_reply, world};
+ghost use Rattle.dnsq_run.specs.Query.{IsAsked, IsReplied, Stops, StopsAsking, answer_line, at_port, conf_at, is_message, one_reply, around};
 
 use crate::configure::configuration;
 use crate::ending::Ending;
@@ -115,9 +115,7 @@ fn answer<E: Edge, C: Clock, W: Words>(
     clock: &mut C,
     random: &mut W,
 ) -> Result<Answer, Error>
-    ensures asked { IfOk result (IsReplied query.now conf.now
-        (world (W.stream random.old) (E.deeds edge.old) (E.polls edge.old) (C.given clock.old))
-        (world (W.stream random.new) (E.deeds edge.new) (E.polls edge.new) (C.given clock.new))) }
+    ensures asked { IfOk result (around E.deeds E.polls C.given W.stream (edge.old, clock.old, random.old) (edge.new, clock.new, random.new) (IsReplied query.now conf.now)) }
     ensures numbers { IsErrOf result Error.NumbersUsed → Stops query.now conf.now (W.stream random.old) (C.given clock.old) (C.given clock.new) }
 {
     learn_all(edge, conf.servers.as_slice())?;
@@ -141,9 +139,7 @@ pub fn query<S: Source, E: Edge, C: Clock, W: Words>(
     clock: &mut C,
     random: &mut W,
 ) -> Result<Answer, Ending>
-    ensures asked { IfOk result (IsAsked query.now (S.left source.old)
-        (world (W.stream random.old) (E.deeds edge.old) (E.polls edge.old) (C.given clock.old))
-        (world (W.stream random.new) (E.deeds edge.new) (E.polls edge.new) (C.given clock.new))) }
+    ensures asked { IfOk result (around E.deeds E.polls C.given W.stream (edge.old, clock.old, random.old) (edge.new, clock.new, random.new) (IsAsked query.now (S.left source.old))) }
     ensures whole { OnOk result (IfSome (S.left source.old) (λ _. S.left source.new ≡ Some [])) }
     ensures early { IfErr result IsEarly }
     ensures source_fault { IfErr result (λ e. status_of e ≡ 3 → Rose (S.faults source.old) (S.faults source.new)) }

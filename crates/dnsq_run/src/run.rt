@@ -4,7 +4,7 @@ ghost use Rattle.std.specs.Prelude.{◌≡◌, ◌≢◌, ◌⊎◌, [], true, f
 ghost use Rattle.dns_values.specs.Source.{Rose};
 ghost use Rattle.dns_values.specs.Sink.{IsFlushed, with_octets};
 ghost use Rattle.dnsq_run.specs.Program.{EndsByLine, IfInput, IsOutput, IsRefused, IsTaken, RanOut, RefusalIsSaid, StopsForNumbers, IsDelivered, IsBegun, IsSaid, IsCut, IsStatus, IsEarly, status_of, line_of, numbers_line, usage_line};
-ghost use Rattle.dnsq_run.specs.Query.{EndsSo, answer_line, is_message, world};
+ghost use Rattle.dnsq_run.specs.Query.{EndsSo, OtherEnd, QueryEnd, answer_line, is_message, on};
 ghost use Rattle.dnsq_run.specs.QueryWords.{query_of};
 ghost use Rattle.dnsq_run.specs.Words.{command_of};
 
@@ -137,10 +137,7 @@ fn run_query<S: Source, K: Sink, E: Edge, C: Clock, W: Words>(
     random: &mut W,
 ) -> Status
     ensures statuses { IsStatus result.0 }
-    ensures ends { EndsSo asked.now (S.left source.old) (S.left source.new)
-        (world (W.stream random.old) (E.deeds edge.old) (E.polls edge.old) (C.given clock.old))
-        (world (W.stream random.new) (E.deeds edge.new) (E.polls edge.new) (C.given clock.new))
-        (K.held sink.old) (K.held sink.new) (K.faults sink.old) (K.faults sink.new) result.0 }
+    ensures ends { on E.deeds E.polls C.given W.stream S.left K.held K.faults (edge.old, clock.old, random.old, source.old, sink.old) (edge.new, clock.new, random.new, source.new, sink.new) (EndsSo asked.now result.0) }
     ensures flushed { result.0 ≡ 0 → IsFlushed (K.held sink.new) (K.flushed sink.new) }
     ensures source_fault { result.0 ≡ 3 → Rose (S.faults source.old) (S.faults source.new) }
     ensures silent { result.0 ≡ 3 → K.held sink.new ≡ K.held sink.old }
@@ -150,7 +147,7 @@ fn run_query<S: Source, K: Sink, E: Edge, C: Clock, W: Words>(
 {
     match query(alloc, asked, source, edge, clock, random) {
         Ok(answer) => write_answer(alloc, answer, sink),
-        Err(Ending::Silent(status)) => status,
+        Err(Ending::Silent(ended)) => ended,
         Err(Ending::Says(status, line)) => end_by(sink, status, &line),
     }
 }
@@ -169,10 +166,7 @@ fn run_other<S: Source, K: Sink, E: Edge, C: Clock, W: Words>(
     ensures usage { result.0 ≡ 2 → query_of words.now ≡ None }
     ensures no_query { query_of words.now ≡ None → (result.0 ≡ 2) ⊎ (result.0 ≡ 6) }
     ensures usage_line { result.0 ≡ 2 → IsSaid usage_line (K.held sink.old) (K.held sink.new) (K.faults sink.old) (K.faults sink.new) }
-    ensures ends { IfSome (query_of words.now) (λ q. EndsSo q (S.left source.old) (S.left source.new)
-        (world (W.stream random.old) (E.deeds edge.old) (E.polls edge.old) (C.given clock.old))
-        (world (W.stream random.new) (E.deeds edge.new) (E.polls edge.new) (C.given clock.new))
-        (K.held sink.old) (K.held sink.new) (K.faults sink.old) (K.faults sink.new) result.0) }
+    ensures ends { on E.deeds E.polls C.given W.stream S.left K.held K.faults (edge.old, clock.old, random.old, source.old, sink.old) (edge.new, clock.new, random.new, source.new, sink.new) (QueryEnd words.now result.0) }
     ensures flushed { result.0 ≡ 0 → IsFlushed (K.held sink.new) (K.flushed sink.new) }
     ensures source_fault { result.0 ≡ 3 → Rose (S.faults source.old) (S.faults source.new) }
     ensures silent { result.0 ≡ 3 → K.held sink.new ≡ K.held sink.old }
@@ -203,6 +197,7 @@ pub fn run_alone<S: Source, K: Sink, E: Edge, C: Clock, W: Words>(
     ensures statuses { IsStatus result.0 }
     ensures usage { result.0 ≡ 2 → command_of words.now ≡ None }
     ensures no_query { result.0 ≡ 2 → query_of words.now ≡ None }
+    ensures no_reply { result.0 ≡ 5 → command_of words.now ≡ None }
     ensures no_command { command_of words.now ≡ None → query_of words.now ≡ None → (result.0 ≡ 2) ⊎ (result.0 ≡ 6) }
     ensures usage_line { result.0 ≡ 2 → IsSaid usage_line (K.held sink.old) (K.held sink.new) (K.faults sink.old) (K.faults sink.new) }
 
@@ -212,10 +207,7 @@ pub fn run_alone<S: Source, K: Sink, E: Edge, C: Clock, W: Words>(
     ensures flushed { result.0 ≡ 0 → IsFlushed (K.held sink.new) (K.flushed sink.new) }
 
     // A query: the servers are asked, and the line of what they answer is written.
-    ensures query { command_of words.now ≡ None → IfSome (query_of words.now) (λ q. EndsSo q (S.left source.old) (S.left source.new)
-        (world (W.stream random.old) (E.deeds edge.old) (E.polls edge.old) (C.given clock.old))
-        (world (W.stream random.new) (E.deeds edge.new) (E.polls edge.new) (C.given clock.new))
-        (K.held sink.old) (K.held sink.new) (K.faults sink.old) (K.faults sink.new) result.0) }
+    ensures query { on E.deeds E.polls C.given W.stream S.left K.held K.faults (edge.old, clock.old, random.old, source.old, sink.old) (edge.new, clock.new, random.new, source.new, sink.new) (OtherEnd words.now result.0) }
 
     // A refusal.
     ensures refused { result.0 ≡ 1 → IfInput (command_of words.now) (S.left source.old) (λ command text.
