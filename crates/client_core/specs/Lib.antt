@@ -1,4 +1,3 @@
 pub mod Clock
 pub mod Edge
 pub mod ListEdge
-pub mod Headline

@@ -8,7 +8,7 @@ ghost use Rattle.client_request.specs.Timers.{IsWant, next_due};
 ghost use Rattle.client_steps.specs.Client as plain;
 ghost use Rattle.client_steps.specs.Machines.{client_in};
 ghost use Rattle.client_steps.specs.First.{holds_failed};
-ghost use Rattle.client_core.specs.Headline.{IsClaimed};
+ghost use Rattle.client_runs.specs.Above.{AreWords};
 ghost use Rattle.client_steps.specs.Headline.{conf_of};
 ghost use Rattle.client_steps.specs.Upstream as upstream;
 ghost use Rattle.client_steps.specs.Whole.{machine, started, first_upstream, asks_by_streams, upstream_at, plain_step, plain_trace, client_with};
@@ -16,13 +16,13 @@ ghost use Rattle.headline.specs.Right.{Right};
 ghost use Rattle.headline.specs.Settings.{first_settings};
 ghost use Rattle.headline.specs.Timely.{Timely};
 
-use crate::laws::every_plain_trace_is_right;
 use crate::octets::all_asked_in_octets;
 use crate::{cache, redundant};
 use client_multi::{dgram_stream, multi_stream};
 use client_request::{
     Board, Cx, Error, Event, Moment, Outs, RequestMessage, Row, Rows, Timers, Trace, Words,
 };
+use client_runs::every_plain_trace_is_right;
 use client_steps::{Asked, FirstServer, Handed, Passed, Upstream, take_in};
 use dns_base::{Duration, NoMemory};
 use resolv_conf::{ResolvConf, ResolvOptions, ServerConf, Transport};
@@ -221,8 +221,7 @@ impl Client {
     /// The trace of a client that is told these events and draws these words: a row for each event, in
     /// order. `NoMemory`, or `NumbersUsed` where a number would pass the greatest `u64`.
     ///
-    /// What is `right` and `timely` says nothing yet of a first server that is asked by datagrams where events bring
-    /// a truncated answer.
+    /// The trace is right and timely whatever the events are, as long as each word that comes has 64 bits.
     pub fn replay<W: Words>(
         alloc: Global,
         conf: &ResolvConf,
@@ -233,8 +232,8 @@ impl Client {
     ) -> Result<Trace, Error>
         ensures plain { IfOk result (λ t. plain_trace conf.now (W.stream words.old) events.now ≡ Some t.rows) }
         ensures events { IfOk result (λ t. map (λ row. row.event) t.rows ≡ events.now) }
-        ensures right { IfOk result (λ t. IsClaimed conf.now (W.stream words.old) events.now → Right (conf_of conf.now) first_settings t.rows) }
-        ensures timely { IfOk result (λ t. IsClaimed conf.now (W.stream words.old) events.now → Timely (conf_of conf.now) t.rows) }
+        ensures right { IfOk result (λ t. AreWords (W.stream words.old) → Right (conf_of conf.now) first_settings t.rows) }
+        ensures timely { IfOk result (λ t. AreWords (W.stream words.old) → Timely (conf_of conf.now) t.rows) }
         ensures numbers { IsErrOf result Error.NumbersUsed → plain_trace conf.now (W.stream words.old) events.now ≡ None }
         ensures refused { IfErr result IsWant }
     {

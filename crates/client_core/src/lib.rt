@@ -7,16 +7,15 @@ mod client;
 mod clock;
 mod deed;
 mod edge;
-mod laws;
 mod list_edge;
 mod octets;
 
 pub use client::Client;
 pub use client_request::{Event, Moment, Out, Row, Rows, Trace, Via, What};
+pub use client_runs::{every_plain_trace_is_right, plain_traces_are_runs};
 pub use client_settings::{cache, redundant};
 pub use client_steps::{Asked, FirstServer, Handed, Passed, Upstream, Waiting};
 pub use clock::{Clock, ListClock};
 pub use deed::Deed;
 pub use edge::{Edge, is_fault};
-pub use laws::{every_plain_trace_is_right, plain_traces_are_runs};
 pub use list_edge::ListEdge;

@@ -25,7 +25,7 @@ use Rattle.headline.proofs.server.Concrete.{every_run}
 use Rattle.client_runs.specs.Above.{Tying, IsLayer, AreWords, begins_with}
 use Rattle.client_steps.specs.Client.{plain_rows}
 use Rattle.client_steps.specs.Headline.{use_of, conf_of}
-use Rattle.client_runs.specs.Ties.{HasTie, DatagramsAreTied, StreamsAreTied, EveryPlainTraceRuns, EveryPlainTraceIsRightByAny, TiedTransportsRun}
+use Rattle.client_runs.specs.Ties.{HasTie, DatagramsAreTied, StreamsAreTied, EveryPlainTraceRuns, EveryPlainTraceIsRight, TiedTransportsRun}
 use Rattle.client_steps.specs.Upstream as upstream
 use Rattle.client_steps.specs.Upstream.{by_both, by_streams}
 use Rattle.client_steps.specs.Whole.{machine, asks_by_streams, upstream_at, first_upstream, client_with, started}
@@ -148,7 +148,7 @@ module _ (datagrams : DatagramsAreTied) (streams : StreamsAreTied) where
           by false is = clients_above_ties_run (tying_of_both c some (datagrams c (ap (λ b. Some (use_of b)) is))) words events rows small octets
               (subst (λ b. plain_rows machine options.timeout events (begins_with words (Some (upstream_at 0 b))) ≡ Some rows) is e)
 
-  traces_right : EveryPlainTraceIsRightByAny
+  traces_right : EveryPlainTraceIsRight
   traces_right conf words events rows plain small octets = every_run (conf_of conf) first_settings composed rows composed_composes
       (subst AllAskedInOctets (sym (rows_of_events machine conf.options.timeout events (client_with words (started conf)) rows plain)) octets)
       (traces_run conf words events rows plain small octets)

@@ -12,4 +12,4 @@ pub mod Serverless
 pub mod Idling
 pub mod Fitting
 pub mod Silence
-pub mod Streams
+pub mod Traces

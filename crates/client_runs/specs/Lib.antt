@@ -1,4 +1,3 @@
 pub mod Above
 pub mod Silent
 pub mod Ties
-pub mod Streams

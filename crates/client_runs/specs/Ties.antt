@@ -1,5 +1,5 @@
--- What the plain client of a configuration rests on: that the transports of its first server are tied to their part.
-use Rattle.std.specs.Prelude.{◌≡◌, ℕ, Option, Some, List}
+-- What the plain client of a configuration rests on, that the transports of its first server are tied to their part; and what holds of every trace that it makes.
+use Rattle.std.specs.Prelude.{◌≡◌, ℕ, Option, Some, List, map}
 use Rattle.client_request.specs.Composed.{composed}
 use Rattle.client_request.specs.Request.{Request}
 use Rattle.client_request.specs.Requests.{for_one}
@@ -52,11 +52,15 @@ abbrev pub EveryPlainTraceRuns : Type 0
 EveryPlainTraceRuns = (conf : ResolvConf) (words : ℕ → ℕ) (events : List Event) (rows : List Row) → plain_trace conf words events ≡ Some rows → AreWords words → AllAskedInOctets events
     → IsRun (conf_of conf) first_settings composed (served (conf_of conf)) (begun (conf_of conf) first_settings composed (served (conf_of conf))) rows
 
--- Every plain trace is right and timely, whatever comes and whatever is asked for.
-abbrev pub EveryPlainTraceIsRightByAny : Type 0
-EveryPlainTraceIsRightByAny = (conf : ResolvConf) (words : ℕ → ℕ) (events : List Event) (rows : List Row) → plain_trace conf words events ≡ Some rows → AreWords words → AllAskedInOctets events
+-- Every plain trace is right and timely, whatever comes and whatever is asked, where each word has 64 bits.
+abbrev pub EveryPlainTraceIsRight : Type 0
+EveryPlainTraceIsRight = (conf : ResolvConf) (words : ℕ → ℕ) (events : List Event) (rows : List Row) → plain_trace conf words events ≡ Some rows → AreWords words → AllAskedInOctets events
     → Right (conf_of conf) first_settings rows × Timely (conf_of conf) rows
 
 -- Both follow, where both transports are tied.
 abbrev pub TiedTransportsRun : Type 1
-TiedTransportsRun = DatagramsAreTied → StreamsAreTied → EveryPlainTraceRuns × EveryPlainTraceIsRightByAny
+TiedTransportsRun = DatagramsAreTied → StreamsAreTied → EveryPlainTraceRuns × EveryPlainTraceIsRight
+
+-- A plain trace has a row for each event, in order.
+abbrev pub PlainTracesKeepTheirEvents : Type 0
+PlainTracesKeepTheirEvents = (conf : ResolvConf) (words : ℕ → ℕ) (events : List Event) (rows : List Row) → plain_trace conf words events ≡ Some rows → map (λ row. row.event) rows ≡ events

@@ -1,7 +1,7 @@
 //! What holds of clients above tied transports.
 
 ghost use Rattle.client_runs.specs.Silent.{SilentClientsRun};
-ghost use Rattle.client_runs.specs.Streams.{StreamTracesAreRight};
+ghost use Rattle.client_runs.specs.Ties.{EveryPlainTraceIsRight, EveryPlainTraceRuns, PlainTracesKeepTheirEvents};
 
 /// The laws of a client above a tied transport can be met: above one that gives every request an error at once, it
 /// makes only runs of the client of small moves.
@@ -9,7 +9,16 @@ pub fn silent_clients_run()
     ensures { SilentClientsRun }
 {}
 
-/// Every plain trace of a client whose first server is asked by streams alone is right and timely, whatever comes.
-pub fn stream_traces_are_right()
-    ensures { StreamTracesAreRight }
+/// Every plain trace has a row for each event, and is a run of the client of small moves.
+#[tactic(auto, using(crate::proofs::Traces::plain_traces_run, crate::proofs::Traces::plain_traces_keep_events))]
+pub fn plain_traces_are_runs()
+    ensures runs { EveryPlainTraceRuns }
+    ensures events { PlainTracesKeepTheirEvents }
+{}
+
+/// The headline: each reply is a message that came for its request on an exchange open for it, or an error
+/// with its cause; who waits is busy; what comes and matches is the reply at once.
+#[tactic(auto, using(crate::proofs::Traces::every_plain_trace_is_right))]
+pub fn every_plain_trace_is_right()
+    ensures { EveryPlainTraceIsRight }
 {}

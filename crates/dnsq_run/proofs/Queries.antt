@@ -9,7 +9,7 @@ use Rattle.client_request.specs.Request.{Request}
 use Rattle.client_request.specs.declared.error.Error.{Error}
 use Rattle.client_request.specs.declared.event.Out.TheVariants.{Reply}
 use Rattle.client_request.specs.declared.event.What.TheVariants.{Ask}
-use Rattle.client_core.specs.Headline.{EveryPlainTraceIsRight}
+use Rattle.client_runs.specs.Ties.{EveryPlainTraceIsRight}
 use Rattle.client_steps.specs.Whole.{Whole, started}
 use Rattle.client_core.specs.declared.deed.Deed.{Deed}
 use Rattle.client_core.specs.declared.deed.Deed.TheVariants.{Learned}
@@ -83,8 +83,8 @@ replied law q conf old new client left request deeds polls answer is asks learne
     record {
       left = left;
       answered = b;
-      right = λ claimed. (law conf old.words (events_of (rows_of b.asked.asking b.asked.turns)) (rows_of b.asked.asking b.asked.turns) b.plain b.asked.octets claimed).0;
-      timely = λ claimed. (law conf old.words (events_of (rows_of b.asked.asking b.asked.turns)) (rows_of b.asked.asking b.asked.turns) b.plain b.asked.octets claimed).1;
+      right = λ small. (law conf old.words (events_of (rows_of b.asked.asking b.asked.turns)) (rows_of b.asked.asking b.asked.turns) b.plain small b.asked.octets).0;
+      timely = λ small. (law conf old.words (events_of (rows_of b.asked.asking b.asked.turns)) (rows_of b.asked.asking b.asked.turns) b.plain small b.asked.octets).1;
     }
 
 -- or a number would have passed 64 bits

@@ -6,7 +6,6 @@ use Rattle.dns_values.specs.Source.{Rose}
 use Rattle.client_request.specs.Words.{listed}
 use Rattle.client_request.specs.declared.event.Event.{Event}
 use Rattle.client_request.specs.declared.event.Row.{Row}
-use Rattle.client_core.specs.Headline.{IsClaimed}
 use Rattle.client_steps.specs.Headline.{conf_of}
 use Rattle.client_steps.specs.Whole.{plain_trace}
 use Rattle.headline.specs.Right.{Right}
@@ -37,19 +36,15 @@ first_lane (events ∷ lanes) = events
 abbrev pub rows_of : Script → Option (List Row)
 rows_of script = plain_trace script.conf (listed script.words) (first_lane script.lanes)
 
--- what holds of a script of which the headline is proved
-abbrev pub Premised : Script → Type 0 → Type 0
-Premised script P = IsClaimed script.conf (listed script.words) (first_lane script.lanes) → P
-
--- The text is a script, not too long, and these octets are the text of its plain trace, which is right and timely under the premises.
+-- The text is a script, not too long, and these octets are the text of its plain trace, which is right and timely.
 pub record IsReplayed (text out : List ℕ) : Type 0 where
   pub fits : length text ≤ 16777216
   pub script : Script
   pub is_script : IsScript false text script
   pub rows : List Row
   pub plain : rows_of script ≡ Some rows
-  pub right : Premised script (Right (conf_of script.conf) first_settings rows)
-  pub timely : Premised script (Timely (conf_of script.conf) rows)
+  pub right : Right (conf_of script.conf) first_settings rows
+  pub timely : Timely (conf_of script.conf) rows
   pub says : out ≡ trace_text_of rows
 
 -- before the first line of a configuration

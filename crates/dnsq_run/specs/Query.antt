@@ -8,7 +8,7 @@ use Rattle.client_request.specs.declared.event.Event.{Event}
 use Rattle.client_request.specs.declared.event.Out.TheVariants.{Reply}
 use Rattle.client_request.specs.declared.event.Row.{Row}
 use Rattle.client_request.specs.declared.event.What.TheVariants.{Ask, Tick}
-use Rattle.client_core.specs.Headline.{IsClaimed}
+use Rattle.client_runs.specs.Above.{AreWords}
 use Rattle.client_steps.specs.Headline.{conf_of}
 use Rattle.client_steps.specs.Whole.{Whole, plain_trace, started}
 use Rattle.client_core.specs.declared.deed.Deed.{Deed}
@@ -64,12 +64,12 @@ abbrev pub around : {E C W : Type 0} {R : Type 1} → (E → Option (List Deed))
 around deeds polls given stream old new P = P (world (stream old.2) (deeds old.0) (polls old.0) (given old.1)) (world (stream new.2) (deeds new.0) (polls new.0) (given new.1))
 
 -- The edge learned the servers in order, and then a new client of them was asked the request, and this was answered. The rows are right and timely, where
--- the headline is proved of such a client.
+-- each word has 64 bits.
 pub record IsReplied (q : Query) (conf : ResolvConf) (old new : World) (answer : Option (Result (List ℕ) Error)) : Type 0 where
   pub left : Whole
   pub answered : IsAnswered 0 1000000 (request_of q) (begun conf old) (scene left new.words new.deeds new.polls new.moments) answer
-  pub right : IsClaimed conf old.words (events_of (rows_of answered.asked.asking answered.asked.turns)) → Right (conf_of conf) first_settings (rows_of answered.asked.asking answered.asked.turns)
-  pub timely : IsClaimed conf old.words (events_of (rows_of answered.asked.asking answered.asked.turns)) → Timely (conf_of conf) (rows_of answered.asked.asking answered.asked.turns)
+  pub right : AreWords old.words → Right (conf_of conf) first_settings (rows_of answered.asked.asking answered.asked.turns)
+  pub timely : AreWords old.words → Timely (conf_of conf) (rows_of answered.asked.asking answered.asked.turns)
 
 -- The configuration is what the text says, finalized, with the query's port; the text is that of the source, where it tells it.
 pub record IsConfOf (q : Query) (told : Option (List ℕ)) (conf : ResolvConf) : Type 0 where

@@ -20,6 +20,7 @@ mod query_words;
 mod question;
 mod replay;
 mod run;
+mod short_words;
 mod statuses;
 mod usage;
 

@@ -7,10 +7,11 @@ ghost use Rattle.headline.specs.Right.{Right};
 ghost use Rattle.headline.specs.Settings.{first_settings};
 ghost use Rattle.headline.specs.Timely.{Timely};
 ghost use Rattle.dns_script.specs.ScriptReading.{IsScript};
-ghost use Rattle.dnsq_run.specs.Program.{first_lane, rows_of, Premised, IsReplayed, IsRefused, StopsForNumbers, IsEarly, status_of, line_of, numbers_line};
+ghost use Rattle.dnsq_run.specs.Program.{first_lane, rows_of, IsReplayed, IsRefused, StopsForNumbers, IsEarly, status_of, line_of, numbers_line};
 
 use crate::ending::Ending;
 use crate::lines::{refused_line, says};
+use crate::short_words::words_are_short;
 use crate::statuses::{NO_MEMORY, NUMBERS_USED, REFUSED, SOURCE_FAULT};
 use crate::usage::Command;
 use client_core::Client;
@@ -67,8 +68,8 @@ fn first_lane(lanes: &Lanes) -> &[Event]
 /// The trace of a script with one lane.
 fn trace_of(alloc: Global, script: Script) -> Result<Trace, Ending>
     ensures plain { IfOk result (λ t. rows_of script ≡ Some t.rows) }
-    ensures right { IfOk result (λ t. Premised script (Right (conf_of script.conf) first_settings t.rows)) }
-    ensures timely { IfOk result (λ t. Premised script (Timely (conf_of script.conf) t.rows)) }
+    ensures right { IfOk result (λ t. Right (conf_of script.conf) first_settings t.rows) }
+    ensures timely { IfOk result (λ t. Timely (conf_of script.conf) t.rows) }
     ensures early { IfErr result IsEarly }
     ensures numbers { IfErr result (λ e. status_of e ≡ 7 → rows_of script ≡ None) }
     ensures numbers_line { IfErr result (λ e. status_of e ≡ 7 → line_of e ≡ numbers_line) }
@@ -81,6 +82,7 @@ fn trace_of(alloc: Global, script: Script) -> Result<Trace, Ending>
         words,
         lanes,
     } = script;
+    words_are_short(words.as_slice());
     let mut words = ListWords::new(words);
     match Client::replay(
         alloc,
