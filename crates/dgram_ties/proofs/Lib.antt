@@ -1,0 +1,9 @@
+pub mod Keys
+pub mod Tables
+pub mod TimerLaws
+pub mod Changing
+pub mod Shifting
+pub mod Queueing
+pub mod Tabling
+pub mod Coming
+pub mod Fresh

@@ -1,0 +1,6 @@
+//! What holds of a server by datagrams, and of one that falls back to streams, beside the mathematics of a right trace.
+#![tactic(auto)]
+
+mod laws;
+
+pub use laws::fresh_is_alike;
