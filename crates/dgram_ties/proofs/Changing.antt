@@ -21,9 +21,9 @@ settled n s d dues f k a held y =
     subst (λ (a : Tryer). a.stage ≢ Ending y) same (fixed x.0 x.1 g.0 g.2)
   where
     fixed : (t : ℕ) (j : Job Request) (a : Tryer) → StageFits s d dues t j a → a.stage ≢ Ending y
-    fixed t j a (AtQueue js as q fit) = λ e. cc
-    fixed t j a (AtOpening p js as pl at fit) = λ e. cc
-    fixed t j a (AtSent p r id m js as pl at tm due rq lt fit) = λ e. cc
+    fixed t j a (AtQueue js its_stage q fit) = λ e. cc
+    fixed t j a (AtOpening p js its_stage pl at fit) = λ e. cc
+    fixed t j a (AtSent p r id m js its_stage pl at tm due rq lt fit) = λ e. cc
 
 -- the machine's request of a job
 pub tryer_of : (n : ℕ) (s : Slots) (d : Dgrams) (dues : ℕ → Option ℕ) → AreAlike n s d dues → (t : ℕ) (j : Job Request) → s.jobs t ≡ Some j → (a : Tryer) × (d.held j.number ≡ Some a) × StageFits s d dues t j a
@@ -38,9 +38,9 @@ module _ (s s' : Slots) (d d' : Dgrams) (dues dues' : ℕ → Option ℕ) where
     pub queue : IsIn t s.queue → IsIn t s'.queue
 
   pub same_stage : (t : ℕ) (j : Job Request) (a : Tryer) → SameFor t j.number → StageFits s d dues t j a → StageFits s' d' dues' t j a
-  same_stage t j a same (AtQueue js as q fit) = AtQueue js as (same.queue q) fit
-  same_stage t j a same (AtOpening p js as pl at fit) = (let z = same.places p pl in AtOpening p js as z.0 (z.1 ∙ at) fit)
-  same_stage t j a same (AtSent p r id m js as pl at tm due rq lt fit) = (let z = same.places p pl in let y = same.timers r tm in AtSent p r id m js as z.0 (z.1 ∙ at) y.0 (y.1 ∙ due) rq lt fit)
+  same_stage t j a same (AtQueue js its_stage q fit) = AtQueue js its_stage (same.queue q) fit
+  same_stage t j a same (AtOpening p js its_stage pl at fit) = (let z = same.places p pl in AtOpening p js its_stage z.0 (z.1 ∙ at) fit)
+  same_stage t j a same (AtSent p r id m js its_stage pl at tm due rq lt fit) = (let z = same.places p pl in let y = same.timers r tm in AtSent p r id m js its_stage z.0 (z.1 ∙ at) y.0 (y.1 ∙ due) rq lt fit)
 
   -- All but ticket t of request k stay as they are.
   pub record Around (t k : ℕ) : Type 0 where

@@ -43,8 +43,8 @@ comes_at n s d v f t k j a absent lt unheld number fit =
       alike = alike_in n _ after (come p k (staged a (Trying p)) d) dues dues (same_slots _ after (puts_path t i s.jobs) (puts_path p t s.places) refl refl refl (more_by_puts p t s.places new)) refl
           (comes_to_place n (slots_of s) d dues f.alike t p k i (staged a (Trying p)) absent unheld new number refl timers dues (λ r u ne e. (e, refl)) (λ r u ne e. e) (λ r e. absurd (none t r absent e))
           (AtOpening p refl refl (with_here p (Some t) (λ q. entry_at q s.places)) (with_here p (Some k) d.at ∙ ap Some (sym number)) (record { request = fit.request; octets = fit.octets; left = fit.left })));
-      jobs = sorted_puts t i 0 v.ticket s.jobs (zero-le t) lt f.jobs;
-      places = sorted_puts p t 0 (p + 1) s.places (zero-le p) (next p) (rises_below (λ (e : ℕ × ℕ). e.0) 0 p (p + 1) s.places (over p) f.places);
+      jobs = sorted_puts t i 0 v.ticket s.jobs zero-le lt f.jobs;
+      places = sorted_puts p t 0 (p + 1) s.places zero-le (next p) (rises_below (λ (e : ℕ × ℕ). e.0) 0 p (p + 1) s.places (over p) f.places);
       timers = f.timers;
       queue = f.queue;
     }
@@ -56,7 +56,7 @@ comes_at n s d v f t k j a absent lt unheld number fit =
 pub is_sent : (s : Tables Request) (d : Dgrams) (v : View) → AreSlots 0 s d (sight v) → IsFair v → (t p id : ℕ) (j i : Job Request) (a : Tryer) → entry_at t s.jobs ≡ Some j → j.stage ≡ at.Opening p → entry_at p s.places ≡ Some t → d.at p ≡ Some j.number
     → i.number ≡ j.number → i.stage ≡ at.Sent p v.timers.next → i.request ≡ under id a.request → id < 65536 → a.stage ≡ Sent p id v.now → IsJobOf i a 6
     → AreSlots 0 (record s { jobs = puts t i (frees t s.jobs); timers = puts v.timers.next t s.timers }) (record d { held = with_at j.number (Some a) d.held }) (sight (record v { timers = with_timer (v.now + read_timeout) v.timers }))
-is_sent s d v f fair t p id j i a is st here its same at' rq lt as fit =
+is_sent s d v f fair t p id j i a is st here its same at' rq lt its_stage fit =
     let r = v.timers.next in
     let k = j.number in
     let places : ℕ → Option ℕ = λ q. entry_at q s.places in
@@ -74,7 +74,7 @@ is_sent s d v f fair t p id j i a is st here its same at' rq lt as fit =
         (λ q u ne e. (let o : r ≡ q → ⊥ = λ same. (let z : None ≡ Some u = sym new_timer ∙ (ap timers same ∙ e) in cc) in (with_there r (Some t) timers q o ∙ e, with_there r (Some (v.now + read_timeout)) dues q o)))
         (λ q u ne e. elim (is_or_was r (Some t) timers q u e) [ inl x ↦ absurd (ne (let z : Some t ≡ Some u = x.1 in cc)) | inr x ↦ x.1 ])
         (λ q e. elim (is_or_was r (Some t) timers q t e) [ inl x ↦ ap timer_in at' ∙ ap Some x.0 | inr x ↦ absurd (no_timer q x.1) ])
-        (AtSent p r id v.now at' as (with_here p (Some t) (with_at p None places)) (with_here p (Some k) (with_at p None d.at) ∙ ap Some (sym same)) (with_here r (Some t) timers) (with_here r (Some (v.now + read_timeout)) dues) rq lt fit) in
+        (AtSent p r id v.now at' its_stage (with_here p (Some t) (with_at p None places)) (with_here p (Some k) (with_at p None d.at) ∙ ap Some (sym same)) (with_here r (Some t) timers) (with_here r (Some (v.now + read_timeout)) dues) rq lt fit) in
     let after : Tables Request = record s { jobs = puts t i (frees t s.jobs); timers = puts r t s.timers } in
     let some = above (length (frees p s.places)) (length s.places) few in
     record {
@@ -83,9 +83,9 @@ is_sent s d v f fair t p id j i a is st here its same at' rq lt as fit =
           (alike_in 0 (slots_of after) on d' (λ q. due_of q (with_timer (v.now + read_timeout) v.timers).set) dues'
           (same_slots (slots_of after) on (puts_path t i (frees t s.jobs) ∙ ap (with_at t (Some i)) (frees_path t 0 v.ticket s.jobs f.jobs)) (fun_ext (λ q. sym (with_again p (Some t) None places q ∙ with_same p (Some t) places q here))) (puts_path r t s.timers) refl refl (again (length s.places) (length s.places) refl some))
           (dues_more v (v.now + read_timeout) fair) inn);
-      jobs = sorted_puts t i 0 v.ticket (frees t s.jobs) (zero-le t) (present_below t 0 v.ticket j s.jobs f.jobs is) (sorted_frees t 0 v.ticket s.jobs f.jobs);
+      jobs = sorted_puts t i 0 v.ticket (frees t s.jobs) zero-le (present_below t 0 v.ticket j s.jobs f.jobs is) (sorted_frees t 0 v.ticket s.jobs f.jobs);
       places = f.places;
-      timers = sorted_puts r t 0 (r + 1) s.timers (zero-le r) (next r) (rises_below (λ (e : ℕ × ℕ). e.0) 0 r (r + 1) s.timers (over r) f.timers);
+      timers = sorted_puts r t 0 (r + 1) s.timers zero-le (next r) (rises_below (λ (e : ℕ × ℕ). e.0) 0 r (r + 1) s.timers (over r) f.timers);
       queue = f.queue;
     }
   where

@@ -6,4 +6,6 @@ pub mod Shifting
 pub mod Queueing
 pub mod Tabling
 pub mod Coming
+pub mod Naming
+pub mod GivingOn
 pub mod Fresh

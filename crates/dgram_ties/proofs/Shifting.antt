@@ -58,9 +58,9 @@ module _ (n : ℕ) (s : Slots) (d : Dgrams) (dues : ℕ → Option ℕ) (f : Are
   place_of t p j is at = (let g = f.jobs t j is in go g.0 g.2)
     where
       go : (a : Tryer) → StageFits s d dues t j a → (s.places p ≡ Some t) × (d.at p ≡ Some j.number)
-      go a (AtQueue js as q fit) = absurd (let z : None ≡ Some p = sym (ap place_in js) ∙ at in cc)
-      go a (AtOpening q js as pl its fit) = (let z : Some q ≡ Some p = sym (ap place_in js) ∙ at in let same : q ≡ p = cc in (subst (λ p. s.places p ≡ Some t) same pl, subst (λ p. d.at p ≡ Some j.number) same its))
-      go a (AtSent q r id m js as pl its tm due rq lt fit) = (let z : Some q ≡ Some p = sym (ap place_in js) ∙ at in let same : q ≡ p = cc in (subst (λ p. s.places p ≡ Some t) same pl, subst (λ p. d.at p ≡ Some j.number) same its))
+      go a (AtQueue js its_stage q fit) = absurd (let z : None ≡ Some p = sym (ap place_in js) ∙ at in cc)
+      go a (AtOpening q js its_stage pl its fit) = (let z : Some q ≡ Some p = sym (ap place_in js) ∙ at in let same : q ≡ p = cc in (subst (λ p. s.places p ≡ Some t) same pl, subst (λ p. d.at p ≡ Some j.number) same its))
+      go a (AtSent q r id m js its_stage pl its tm due rq lt fit) = (let z : Some q ≡ Some p = sym (ap place_in js) ∙ at in let same : q ≡ p = cc in (subst (λ p. s.places p ≡ Some t) same pl, subst (λ p. d.at p ≡ Some j.number) same its))
 
   -- A job leaves its place.
   module _ (t p : ℕ) (j : Job Request) (is : s.jobs t ≡ Some j) (at : place_in j.stage ≡ Some p) (some : 0 < s.live) (timers dues' : ℕ → Option ℕ) (still : (i u : ℕ) → (t ≡ u → ⊥) → s.timers i ≡ Some u → (timers i ≡ Some u) × (dues' i ≡ dues i)) (were : (i u : ℕ) → timers i ≡ Some u → (s.timers i ≡ Some u) × (t ≡ u → ⊥)) where
@@ -130,7 +130,7 @@ module _ (n : ℕ) (s : Slots) (d : Dgrams) (dues : ℕ → Option ℕ) (f : Are
 
   -- A job comes into the queue.
   pub joins_queue : (t k : ℕ) (j : Job Request) (a : Tryer) (q : List ℕ) → s.jobs t ≡ None → d.held k ≡ None → j.number ≡ k → j.stage ≡ at.Queued → a.stage ≡ Queued → IsJobOf j a 5 → s.used ≡ 100 → ((u : ℕ) → IsIn u s.queue → IsIn u q) → IsIn t q → ((u : ℕ) → (t ≡ u → ⊥) → IsIn u q → IsIn u s.queue) → AreAlike n (at_queue t j q s) (waits k a d) dues
-  joins_queue t k j a q absent unheld number js as fit full still here were = comes_in s (at_queue t j q s) d (waits k a d) dues dues n t k f
+  joins_queue t k j a q absent unheld number js its_stage fit full still here were = comes_in s (at_queue t j q s) d (waits k a d) dues dues n t k f
       (record {
         same = λ u i ne nk. record { held = with_there k (Some a) d.held i nk; places = λ p e. (e, refl); timers = λ r e. (e, refl); queue = λ i. still u i };
         jobs = λ u ne. with_there t (Some j) s.jobs u ne;
@@ -142,7 +142,7 @@ module _ (n : ℕ) (s : Slots) (d : Dgrams) (dues : ℕ → Option ℕ) (f : Are
         few = f.few;
         full = λ u i. full;
       })
-      n f.used absent unheld j (with_here t (Some j) s.jobs) number a (with_here k (Some a) d.held) (AtQueue js as here fit) (λ p e. absurd (no_place t p absent e)) (λ r e. absurd (no_timer t r absent e)) (λ i. js)
+      n f.used absent unheld j (with_here t (Some j) s.jobs) number a (with_here k (Some a) d.held) (AtQueue js its_stage here fit) (λ p e. absurd (no_place t p absent e)) (λ r e. absurd (no_timer t r absent e)) (λ i. js)
 
 -- A job comes to a place, which is new.
 module _ (n : ℕ) (s : Slots) (d : Dgrams) (dues : ℕ → Option ℕ) (f : AreAlike (suc n) s d dues) (t p k : ℕ) (j : Job Request) (a : Tryer) (absent : s.jobs t ≡ None) (unheld : d.held k ≡ None) (new : s.places p ≡ None) (number : j.number ≡ k) (at : place_in j.stage ≡ Some p) (timers dues' : ℕ → Option ℕ) (still : (i u : ℕ) → (t ≡ u → ⊥) → s.timers i ≡ Some u → (timers i ≡ Some u) × (dues' i ≡ dues i))
@@ -179,14 +179,14 @@ pub takes_slot : (s : Slots) (d : Dgrams) (dues : ℕ → Option ℕ) → AreAli
 takes_slot s d dues f lt = record { jobs = λ t j e. (let g = f.jobs t j e in (g.0, g.1, again t j g.0 g.2)); held = f.held; apart = f.apart; places = f.places; none = f.none; timers = f.timers; queue = f.queue; live = f.live; used = (let e = f.used in omega arith); few = omega arith; full = λ u i. absurd (let e = f.full u i in omega arith) }
   where
     again : (t : ℕ) (j : Job Request) (a : Tryer) → StageFits s d dues t j a → StageFits (record s { used = s.used + 1 }) d dues t j a
-    again t j a (AtQueue js as q fit) = AtQueue js as q fit
-    again t j a (AtOpening p js as pl its fit) = AtOpening p js as pl its fit
-    again t j a (AtSent p r id m js as pl its tm due rq lt fit) = AtSent p r id m js as pl its tm due rq lt fit
+    again t j a (AtQueue js its_stage q fit) = AtQueue js its_stage q fit
+    again t j a (AtOpening p js its_stage pl its fit) = AtOpening p js its_stage pl its fit
+    again t j a (AtSent p r id m js its_stage pl its tm due rq lt fit) = AtSent p r id m js its_stage pl its tm due rq lt fit
 
 pub drops_slot : (s : Slots) (d : Dgrams) (dues : ℕ → Option ℕ) → AreAlike 1 s d dues → s.queue ≡ [] → AreAlike 0 (record s { used = s.used - 1 }) d dues
 drops_slot s d dues f none = record { jobs = λ t j e. (let g = f.jobs t j e in (g.0, g.1, again t j g.0 g.2)); held = f.held; apart = f.apart; places = f.places; none = f.none; timers = f.timers; queue = f.queue; live = f.live; used = (let e = f.used in omega arith); few = (let e = f.few in omega arith); full = λ u i. absurd (subst (IsIn u) none i) }
   where
     again : (t : ℕ) (j : Job Request) (a : Tryer) → StageFits s d dues t j a → StageFits (record s { used = s.used - 1 }) d dues t j a
-    again t j a (AtQueue js as q fit) = AtQueue js as q fit
-    again t j a (AtOpening p js as pl its fit) = AtOpening p js as pl its fit
-    again t j a (AtSent p r id m js as pl its tm due rq lt fit) = AtSent p r id m js as pl its tm due rq lt fit
+    again t j a (AtQueue js its_stage q fit) = AtQueue js its_stage q fit
+    again t j a (AtOpening p js its_stage pl its fit) = AtOpening p js its_stage pl its fit
+    again t j a (AtSent p r id m js its_stage pl its tm due rq lt fit) = AtSent p r id m js its_stage pl its tm due rq lt fit

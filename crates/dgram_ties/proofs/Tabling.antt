@@ -32,10 +32,10 @@ same_slots x y jobs places timers queue used live = λ i. record { jobs = jobs i
 pub alike_in : (n : ℕ) (x y : Slots) (d : Dgrams) (dues dues' : ℕ → Option ℕ) → x ≡ y → dues ≡ dues' → AreAlike n y d dues' → AreAlike n x d dues
 alike_in n x y d dues dues' e t f = subst (λ x. AreAlike n x d dues) (sym e) (subst (λ dues. AreAlike n y d dues) (sym t) f)
 
-one_less : (a b : ℕ) → suc a ≡ b → a ≡ b - 1
+pub one_less : (a b : ℕ) → suc a ≡ b → a ≡ b - 1
 one_less a b e = omega arith
 
-above : (a b : ℕ) → suc a ≡ b → 0 < b
+pub above : (a b : ℕ) → suc a ≡ b → 0 < b
 above a b e = omega arith
 
 up : (a : ℕ) → a ≤ a + 1
@@ -90,7 +90,7 @@ module _ (n : ℕ) (s : Tables Request) (d : Dgrams) (v : View) (f : AreSlots n 
     jobs = sorted_frees t 0 v.ticket s.jobs f.jobs;
     places = f.places;
     timers = f.timers;
-    queue = rises_from (λ (t : ℕ). t) (suc t) 0 v.ticket q (zero-le (suc t)) rest.2;
+    queue = rises_from (λ (t : ℕ). t) (suc t) 0 v.ticket q zero-le rest.2;
   }
     where
       rest : Rising (λ t. t) 0 v.ticket (t ∷ q)
@@ -112,13 +112,13 @@ module _ (n : ℕ) (s : Tables Request) (d : Dgrams) (v : View) (f : AreSlots n 
 
   -- A job comes into the queue, under the next ticket.
   pub comes_last : (k : ℕ) (j : Job Request) (a : Tryer) → d.held k ≡ None → j.number ≡ k → j.stage ≡ at.Queued → a.stage ≡ Queued → IsJobOf j a 5 → s.used ≡ 100 → AreSlots n (record s { jobs = puts v.ticket j s.jobs; queue = insert_key nat_cmp s.queue v.ticket }) (waits k a d) (sight (record v { ticket = v.ticket + 1 }))
-  comes_last k j a unheld number js as fit full = record {
+  comes_last k j a unheld number js its_stage fit full = record {
     alike = alike_in n _ (at_queue v.ticket j (s.queue ++ v.ticket ∷ []) (slots_of s)) (waits k a d) dues dues (same_slots _ (at_queue v.ticket j (s.queue ++ v.ticket ∷ []) (slots_of s)) (puts_path v.ticket j s.jobs) refl refl last refl refl) refl
-        (joins_queue n (slots_of s) d dues f.alike v.ticket k j a (s.queue ++ v.ticket ∷ []) (absent_above 0 v.ticket v.ticket s.jobs (omega arith) f.jobs) unheld number js as fit full (λ u i. still_in u v.ticket s.queue i) (last_in v.ticket s.queue) (λ u ne i. elim (in_last u v.ticket s.queue i) [ inl i ↦ i | inr e ↦ absurd (ne e) ]));
-    jobs = sorted_puts v.ticket j 0 (v.ticket + 1) s.jobs (zero-le v.ticket) (omega arith) (rises_below (λ (e : ℕ × Job Request). e.0) 0 v.ticket (v.ticket + 1) s.jobs (up v.ticket) f.jobs);
+        (joins_queue n (slots_of s) d dues f.alike v.ticket k j a (s.queue ++ v.ticket ∷ []) (absent_above 0 v.ticket v.ticket s.jobs (omega arith) f.jobs) unheld number js its_stage fit full (λ u i. still_in u v.ticket s.queue i) (last_in v.ticket s.queue) (λ u ne i. elim (in_last u v.ticket s.queue i) [ inl i ↦ i | inr e ↦ absurd (ne e) ]));
+    jobs = sorted_puts v.ticket j 0 (v.ticket + 1) s.jobs zero-le (omega arith) (rises_below (λ (e : ℕ × Job Request). e.0) 0 v.ticket (v.ticket + 1) s.jobs (up v.ticket) f.jobs);
     places = f.places;
     timers = f.timers;
-    queue = subst (Rising (λ t. t) 0 (v.ticket + 1)) (sym last) (rises_last 0 v.ticket s.queue (zero-le v.ticket) f.queue);
+    queue = subst (Rising (λ t. t) 0 (v.ticket + 1)) (sym last) (rises_last 0 v.ticket s.queue zero-le f.queue);
   }
     where
       last : insert_key nat_cmp s.queue v.ticket ≡ s.queue ++ v.ticket ∷ []

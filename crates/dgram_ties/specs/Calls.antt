@@ -5,9 +5,9 @@ use Rattle.client_request.specs.Numbered.{entry_at}
 use Rattle.client_request.specs.Request.{Request}
 use Rattle.client_request.specs.Requests.{for_one}
 use Rattle.client_request.specs.Timers.{cancelled}
-use Rattle.client_request.specs.View.{View, asks, drawn}
+use Rattle.client_request.specs.View.{View}
 use Rattle.client_request.specs.declared.board.Posted.{Posted}
-use Rattle.client_request.specs.declared.event.Out.TheVariants.{OpenDgram, Close}
+use Rattle.client_request.specs.declared.event.Out.TheVariants.{Close}
 use Rattle.client_request.specs.declared.event.What.{What}
 use Rattle.client_dgram.specs.Plain.{Tables, late, takes, drops, tells}
 use Rattle.client_dgram.specs.Settings.{default_settings}
@@ -15,7 +15,7 @@ use Rattle.headline.specs.Messages.{Octets, truncated}
 use Rattle.headline.specs.machine.Part.{Act}
 use Rattle.headline.specs.machine.Streams as multi
 use Rattle.headline.specs.machine.Streams.{with_at}
-use Rattle.headline.specs.machine.Dgrams.{Queued, Trying, Sent, Ending, Cut, Tryer, Dgrams, leave, forget, try_at, Meets, IsIgnored}
+use Rattle.headline.specs.machine.Dgrams.{Queued, Trying, Sent, Ending, Cut, Tryer, Dgrams, staged, leave, forget, Meets, IsIgnored}
 use Rattle.client_request.specs.declared.error.Error.TheVariants as errors
 use Rattle.dgram_ties.specs.Chains.{then_act, Gives}
 use Rattle.dgram_ties.specs.Sights.{sight, due_of, IsFair}
@@ -48,22 +48,26 @@ pub record KeepsApart (s : Tables Request) (d : Dgrams) (v : View) (t : Tables R
   pub others : (i due : ℕ) → (Owns s i → ⊥) → due_of i v.timers.set ≡ Some due → due_of i w.timers.set ≡ Some due
   pub places : (p k : ℕ) → e.at p ≡ Some k → ((j : ℕ) × (d.at p ≡ Some j)) ⊎ (v.place ≤ p)
 
--- What a call leaves is what these moves leave. `named` has the tickets whose results may be given.
-pub record Leaves (named : ℕ → Option ℕ) (s : Tables Request) (d : Dgrams) (v : View) (made : Act Dgrams) (t : Tables Request) (w : View) : Type 0 where
+-- What a call leaves is what these moves leave.
+pub record Leaves (s : Tables Request) (d : Dgrams) (v : View) (made : Act Dgrams) (t : Tables Request) (w : View) : Type 0 where
   pub outs : w.outs ≡ v.outs ++ made.outs
   pub place : w.place ≡ made.place
-  pub board : List Posted
-  pub put : w.board ≡ v.board ++ board
-  pub gives : Gives named board made.posts (names_of t)
   pub slots : AreSlots 0 t made.state (sight w)
   pub after : IsAfter v w
   pub apart : KeepsApart s d v t made.state w
+
+-- What is on the board is what they give. `named` has the tickets whose results may be given.
+pub record Posts (named : ℕ → Option ℕ) (v : View) (made : Act Dgrams) (t : Tables Request) (w : View) : Type 0 where
+  pub board : List Posted
+  pub put : w.board ≡ v.board ++ board
+  pub gives : Gives named board made.posts (names_of t)
 
 -- A timer fires.
 pub record HasFired (server : ℕ) (s : Tables Request) (d : Dgrams) (v : View) (t : Tables Request) (w : View) : Type 0 where
   pub made : Act Dgrams
   pub steps : Steps server v.now v.place d made
-  pub leaves : Leaves (names_of s) s d v made t w
+  pub leaves : Leaves s d v made t w
+  pub posts : Posts (names_of s) v made t w
 
 -- the machine with one more request, which is queued
 abbrev pub with_request : (k : ℕ) → Request → Dgrams → Dgrams
@@ -73,7 +77,8 @@ with_request k r d = record d { held = with_at k (Some (record { request = r; tr
 pub record HasTaken (server : ℕ) (r : Request) (s : Tables Request) (d : Dgrams) (v : View) (t : Tables Request) (w : View) : Type 0 where
   pub made : Act Dgrams
   pub steps : Steps server v.now v.place (with_request v.request r d) made
-  pub leaves : Leaves (with_at v.ticket (Some v.request) (names_of s)) s d v made t w
+  pub leaves : Leaves s d v made t w
+  pub posts : Posts (with_at v.ticket (Some v.request) (names_of s)) v made t w
 
 -- A request is let go: it waits, or has a place, which is closed.
 pub data LetsGo (k place : ℕ) (d : Dgrams) : Act Dgrams → Type 0 where
@@ -85,15 +90,34 @@ pub record HasDropped (server ticket k : ℕ) (s : Tables Request) (d : Dgrams) 
   pub lets : LetsGo k v.place d first
   pub made : Act Dgrams
   pub steps : Steps server v.now first.place first.state made
-  pub leaves : Leaves (with_at ticket None (names_of s)) s d v (then_act first made) t w
+  pub leaves : Leaves s d v (then_act first made) t w
+  pub posts : Posts (with_at ticket None (names_of s)) v (then_act first made) t w
 
--- What an event does: nothing; or a move that may give a result, and others behind it.
+-- A cut answer came for request k: the message is on the board, and its place is closed. In the machine the request is still one whose answer was cut, until it goes on by stream.
+pub record HasCut (server : ℕ) (what : What) (s : Tables Request) (d : Dgrams) (v : View) (t : Tables Request) (w : View) : Type 0 where
+  pub ticket : ℕ
+  pub request : ℕ
+  pub named : names_of s ticket ≡ Some request
+  pub tryer : Tryer
+  pub is_held : d.held request ≡ Some tryer
+  pub octets : IsOfOctets tryer.request
+  pub message : Octets
+  pub cut : truncated message ≡ true
+  pub at : ℕ
+  pub meets : Meets v.now d what (multi.Puts (Close at)) (leave at request tryer Cut d)
+  pub made : Act Dgrams
+  pub steps : Steps server v.now v.place (leave at request tryer Cut d) made
+  pub is_cut : made.state.held request ≡ Some (staged tryer Cut)
+  pub nothing : made.posts ≡ []
+  pub leaves : Leaves s d v (then_act (made_by v.place (multi.Puts (Close at)) d) (record made { state = forget request made.state })) t w
+  pub put : w.board ≡ v.board ++ record { ticket = ticket; part = Ok (Some message) } ∷ []
+  pub names : (i : ℕ) → names_of t i ≡ with_at ticket None (names_of s) i
+
+-- What an event does: nothing; a move that may give a result, and others behind it; or that a cut answer came.
 pub data HasTold (server : ℕ) (what : What) (s : Tables Request) (d : Dgrams) (v : View) (t : Tables Request) (w : View) : Type 0 where
   Passes : IsIgnored what d → t ≡ s → w ≡ v → HasTold server what s d v t w
-  Moves : (x : multi.Act) (e : Dgrams) (first made : Act Dgrams) → Meets v.now d what x e → AtOnce v.place x e first → Steps server v.now first.place first.state made → Leaves (names_of s) s d v (then_act first made) t w → HasTold server what s d v t w
-  -- A cut answer came: what stands on the board is that message, and the machine has the request as one whose answer was cut, until it goes on by stream.
-  Cuts : (p k ticket : ℕ) (a : Tryer) (m : Octets) (made : Act Dgrams) → Meets v.now d what (multi.Puts (Close p)) (leave p k a Cut d) → d.held k ≡ Some a → IsOfOctets a.request → truncated m ≡ true → names_of s ticket ≡ Some k → w.board ≡ v.board ++ record { ticket = ticket; part = Ok (Some m) } ∷ []
-      → Steps server v.now v.place (leave p k a Cut d) made → made.state.held k ≡ Some (record a { stage = Cut }) → Leaves (with_at ticket None (names_of s)) s d (record v { board = w.board }) (then_act (made_by v.place (multi.Puts (Close p)) d) (record made { state = forget k made.state })) t w → HasTold server what s d v t w
+  Moves : (x : multi.Act) (e : Dgrams) (first made : Act Dgrams) → Meets v.now d what x e → AtOnce v.place x e first → Steps server v.now first.place first.state made → Leaves s d v (then_act first made) t w → Posts (names_of s) v (then_act first made) t w → HasTold server what s d v t w
+  Cuts : HasCut server what s d v t w → HasTold server what s d v t w
 
 -- Each call of a datagram connection that is tied leaves what the machine's moves leave, and it is tied again.
 pub record CallsAreMoves : Type 0 where
