@@ -8,4 +8,5 @@ pub mod Tabling
 pub mod Coming
 pub mod Naming
 pub mod GivingOn
+pub mod Aftermath
 pub mod Fresh
