@@ -9,4 +9,5 @@ pub mod Coming
 pub mod Naming
 pub mod GivingOn
 pub mod Aftermath
+pub mod Closing
 pub mod Fresh
