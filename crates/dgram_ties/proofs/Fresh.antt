@@ -7,6 +7,9 @@ use Rattle.dgram_ties.specs.Slots.{AreSlots, slots_of, FreshIsAlike}
 use Rattle.dgram_ties.proofs.Changing.{falls_out, comes_in, alike_as, settled}
 use Rattle.dgram_ties.proofs.GivingOn.{gave_on}
 use Rattle.dgram_ties.proofs.Aftermath.{goes_on}
+use Rattle.dgram_ties.proofs.Dropping.{cancels_does}
+use Rattle.dgram_ties.proofs.TakingOn.{sends_does}
+use Rattle.dgram_ties.proofs.Firing.{fires_does}
 use Rattle.dgram_ties.proofs.Closing.{ends_sent, ends_unopened, ends_unsent}
 use Rattle.dgram_ties.proofs.Coming.{comes_at, is_sent}
 use Rattle.dgram_ties.proofs.Tabling.{leaves_opening, leaves_sent, leaves_first, leaves_any, comes_last}

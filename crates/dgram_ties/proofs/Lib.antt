@@ -10,4 +10,7 @@ pub mod Naming
 pub mod GivingOn
 pub mod Aftermath
 pub mod Closing
+pub mod Dropping
+pub mod TakingOn
+pub mod Firing
 pub mod Fresh
