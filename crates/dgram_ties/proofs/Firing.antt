@@ -1,6 +1,6 @@
 -- A read timer fires.
 use Rattle.std.proofs.Common.{◌≡◌, ℕ, zero, suc, ◌+◌, ◌-◌, ◌<◌, ◌≤◌, ◌⊎◌, inl, inr, Bool, true, false, List, [], ◌∷◌, ◌++◌, Option, Some, None, refl, sym, ap, subst, ◌∙◌, arith, append-nil, append_assoc, le_refl}
-use Rattle.std.specs.Prelude.{Result, Err, option_and_then, if◌then◌else◌}
+use Rattle.std.specs.Prelude.{Result, Err, option_and_then, option_map, if◌then◌else◌}
 use Rattle.client_request.specs.Numbered.{frees, entry_at}
 use Rattle.client_request.specs.Request.{Request}
 use Rattle.client_request.specs.Timers.{can_draw, cancelled}
@@ -89,7 +89,7 @@ module _ (server : ℕ) (s : Tables Request) (d : Dgrams) (v : View) (i due : �
     late_now = (let z : Some (sent.moment + read_timeout) ≡ Some due = sym sent.due ∙ set in let same : sent.moment + read_timeout ≡ due = cc in subst (λ n. n ≤ v.now) (sym same) is_due)
 
     named : names_of s t ≡ Some j.number
-    named = ap (λ o. Rattle.std.specs.Prelude.option_map (λ (j : Job Request). j.number) o) is
+    named = ap (λ o. option_map (λ (j : Job Request). j.number) o) is
 
     abbrev tables : Tables Request
     tables = leaves p t i s

@@ -4,16 +4,6 @@ use Rattle.client_dgram.specs.Plain.{fresh}
 use Rattle.headline.specs.machine.Dgrams.{no_datagram}
 use Rattle.dgram_ties.specs.Sights.{Sight}
 use Rattle.dgram_ties.specs.Slots.{AreSlots, slots_of, FreshIsAlike}
-use Rattle.dgram_ties.proofs.Changing.{falls_out, comes_in, alike_as, settled}
-use Rattle.dgram_ties.proofs.GivingOn.{gave_on}
-use Rattle.dgram_ties.proofs.Aftermath.{goes_on}
-use Rattle.dgram_ties.proofs.Dropping.{cancels_does}
-use Rattle.dgram_ties.proofs.TakingOn.{sends_does}
-use Rattle.dgram_ties.proofs.Firing.{fires_does}
-use Rattle.dgram_ties.proofs.Closing.{ends_sent, ends_unopened, ends_unsent}
-use Rattle.dgram_ties.proofs.Coming.{comes_at, is_sent}
-use Rattle.dgram_ties.proofs.Tabling.{leaves_opening, leaves_sent, leaves_first, leaves_any, comes_last}
-use Rattle.dgram_ties.proofs.Shifting.{leaves_place, leaves_queue, joins_queue, comes_to_place, takes_slot, drops_slot}
 
 pub fresh_is_alike : FreshIsAlike
 fresh_is_alike x = record {

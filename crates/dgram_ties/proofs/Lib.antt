@@ -13,4 +13,8 @@ pub mod Closing
 pub mod Dropping
 pub mod TakingOn
 pub mod Firing
+pub mod Sending
+pub mod Cutting
+pub mod Telling
+pub mod CallsAreMoves
 pub mod Fresh
