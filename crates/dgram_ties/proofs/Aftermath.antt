@@ -14,15 +14,15 @@ use Rattle.headline.specs.machine.Streams.{with_at}
 use Rattle.headline.specs.machine.Streams as multi
 use Rattle.headline.specs.machine.Dgrams.{Dgrams, try_at}
 use Rattle.headline.specs.machine.Dgrams as dgrams
-use Rattle.dgram_ties.specs.Chains.{still, then_act}
-use Rattle.dgram_ties.specs.Sights.{sight, due_of, Rising, IsFair}
+use Rattle.client_ties.specs.Chains.{still, then_act}
+use Rattle.client_ties.specs.Sights.{sight, due_of, Rising, IsFair}
 use Rattle.dgram_ties.specs.Slots.{slots_of, AreSlots, names_of}
 use Rattle.dgram_ties.specs.Steps.{made_by, AsItIs, Steps, Rests, Steps_on}
 use Rattle.dgram_ties.specs.Calls.{Leads, IsAfter, Owns, KeepsApart, Leaves}
 use Rattle.dgram_ties.proofs.Changing.{settled}
-use Rattle.dgram_ties.proofs.Keys.{with_there, was_there, is_or_was}
-use Rattle.dgram_ties.proofs.Tables.{at_frees}
-use Rattle.dgram_ties.proofs.TimerLaws.{due_without, order_without, due_set, order_set}
+use Rattle.client_ties.proofs.Keys.{with_there, was_there, is_or_was}
+use Rattle.client_ties.proofs.Tables.{at_frees}
+use Rattle.client_ties.proofs.TimerLaws.{due_without, order_without, due_set, order_set}
 use Rattle.dgram_ties.proofs.GivingOn.{opened, GaveOn, Nobody, Somebody, gave_on}
 
 -- views

@@ -21,15 +21,15 @@ use Rattle.headline.specs.machine.Part.{Act, Post}
 use Rattle.headline.specs.machine.Streams as multi
 use Rattle.headline.specs.machine.Streams.{with_at}
 use Rattle.headline.specs.machine.Dgrams.{Stage, Trying, Sent, Ending, Tryer, Dgrams, staged, leave, forget, Meets}
-use Rattle.dgram_ties.specs.Chains.{then_act, part_of, Gives}
-use Rattle.dgram_ties.specs.Sights.{sight, due_of, IsFair}
+use Rattle.client_ties.specs.Chains.{then_act, part_of, Gives}
+use Rattle.client_ties.specs.Sights.{sight, due_of, IsFair}
 use Rattle.dgram_ties.specs.Slots.{slots_of, IsJobOf, StageFits, AtQueue, AtOpening, AtSent, AreSlots, names_of}
 use Rattle.dgram_ties.specs.Steps.{WithResult}
 use Rattle.dgram_ties.specs.Calls.{Leads, IsAfter, Owns, KeepsApart, Posts, HasTold, Moves}
 use Rattle.dgram_ties.proofs.Changing.{alike_as}
-use Rattle.dgram_ties.proofs.Keys.{with_here, with_there, was_there, with_again}
-use Rattle.dgram_ties.proofs.Tables.{at_frees}
-use Rattle.dgram_ties.proofs.TimerLaws.{due_without}
+use Rattle.client_ties.proofs.Keys.{with_here, with_there, was_there, with_again}
+use Rattle.client_ties.proofs.Tables.{at_frees}
+use Rattle.client_ties.proofs.TimerLaws.{due_without}
 use Rattle.dgram_ties.proofs.Naming.{names_less}
 use Rattle.dgram_ties.proofs.Shifting.{gone}
 use Rattle.dgram_ties.proofs.Tabling.{leaves_opening, leaves_sent}

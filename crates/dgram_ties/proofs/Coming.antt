@@ -12,11 +12,11 @@ use Rattle.headline.specs.Messages.{under}
 use Rattle.headline.specs.Time.{read_timeout}
 use Rattle.headline.specs.machine.Dgrams.{Trying, Sent, Tryer, Dgrams, staged}
 use Rattle.headline.specs.machine.Streams.{with_at}
-use Rattle.dgram_ties.specs.Sights.{sight, due_of, IsFair}
+use Rattle.client_ties.specs.Sights.{sight, due_of, IsFair}
 use Rattle.dgram_ties.specs.Slots.{place_in, timer_in, Slots, slots_of, IsJobOf, AtOpening, AtSent, AreAlike, AreSlots}
 use Rattle.dgram_ties.proofs.Changing.{alike_as}
-use Rattle.dgram_ties.proofs.Keys.{with_here, with_there, with_again, with_same, is_or_was}
-use Rattle.dgram_ties.proofs.Tables.{rises_below, absent_above, sorted_puts, sorted_frees, more_by_puts, puts_path, frees_path, fewer_by_frees, at_frees, present_below}
+use Rattle.client_ties.proofs.Keys.{with_here, with_there, with_again, with_same, is_or_was}
+use Rattle.client_ties.proofs.Tables.{rises_below, absent_above, sorted_puts, sorted_frees, more_by_puts, puts_path, frees_path, fewer_by_frees, at_frees, present_below}
 use Rattle.dgram_ties.proofs.Shifting.{off_place, at_place, gone, come, leaves_place, comes_to_place}
 use Rattle.dgram_ties.proofs.Tabling.{same_slots, alike_in, dues_more, above, one_less}
 

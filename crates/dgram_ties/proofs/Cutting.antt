@@ -19,13 +19,13 @@ use Rattle.headline.specs.machine.Streams.{with_at}
 use Rattle.headline.specs.machine.Dgrams as dgrams
 use Rattle.headline.specs.machine.Dgrams.{Trying, Ending, Cut, Tryer, Dgrams, staged, leave, forget, try_at, Meets}
 use Rattle.headline.specs.machine.Served.{IsSettled}
-use Rattle.dgram_ties.specs.Chains.{still, then_act}
-use Rattle.dgram_ties.specs.Sights.{sight, due_of, IsFair}
+use Rattle.client_ties.specs.Chains.{still, then_act}
+use Rattle.client_ties.specs.Sights.{sight, due_of, IsFair}
 use Rattle.dgram_ties.specs.Slots.{slots_of, AreSlots, names_of}
 use Rattle.dgram_ties.specs.Steps.{made_by, AsItIs, Rests, Steps_on}
 use Rattle.dgram_ties.specs.Calls.{Leads, IsAfter, KeepsApart, HasTold, Cuts, HasCut}
 use Rattle.dgram_ties.proofs.Changing.{alike_as, settled}
-use Rattle.dgram_ties.proofs.Keys.{with_here, with_there, was_there, is_or_was}
+use Rattle.client_ties.proofs.Keys.{with_here, with_there, was_there, is_or_was}
 use Rattle.dgram_ties.proofs.Naming.{names_less}
 use Rattle.dgram_ties.proofs.GivingOn.{opened, GaveOn, Nobody, Somebody, gave_on}
 use Rattle.dgram_ties.proofs.Aftermath.{after_dropped, after_then, after_opened}
@@ -78,6 +78,7 @@ module _ (server : ℕ) (what : What) (s : Tables Request) (d : Dgrams) (v : Vie
     cut = cut;
     at = p;
     meets = meets;
+    settled = settled_cut a;
     made = still v.place (held a);
     steps = Rests v.place (held a);
     is_cut = with_here k (Some (staged a Cut)) d.held;
@@ -107,6 +108,7 @@ module _ (server : ℕ) (what : What) (s : Tables Request) (d : Dgrams) (v : Vie
         cut = cut;
         at = p;
         meets = meets;
+        settled = settled_cut a;
         made = then_act (made_by q (multi.Puts (OpenDgram q server)) e) (still (suc q) e);
         steps = Steps_on q (held a) (multi.Puts (OpenDgram q server)) e _ _ (dgrams.Opens l b was.1 stage few) (AsItIs (settled_tried a b q l)) (Rests (suc q) e);
         is_cut = with_there l (Some (staged b (Trying q))) (held a).held k (λ same. was.0 (sym same)) ∙ with_here k (Some (staged a Cut)) d.held;

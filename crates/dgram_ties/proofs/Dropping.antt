@@ -16,8 +16,8 @@ use Rattle.headline.specs.machine.Part.{Act}
 use Rattle.headline.specs.machine.Streams as multi
 use Rattle.headline.specs.machine.Streams.{with_at}
 use Rattle.headline.specs.machine.Dgrams.{Ending, Dgrams, leave, forget}
-use Rattle.dgram_ties.specs.Chains.{still, then_act, Gives}
-use Rattle.dgram_ties.specs.Sights.{sight, IsFair}
+use Rattle.client_ties.specs.Chains.{still, then_act, Gives}
+use Rattle.client_ties.specs.Sights.{sight, IsFair}
 use Rattle.dgram_ties.specs.Slots.{AreSlots, names_of}
 use Rattle.dgram_ties.specs.Steps.{made_by, Rests}
 use Rattle.dgram_ties.specs.Calls.{Leads, Posts, Waits, HasPlace, HasDropped}

@@ -20,15 +20,15 @@ use Rattle.headline.specs.machine.Streams as multi
 use Rattle.headline.specs.machine.Streams.{with_at}
 use Rattle.headline.specs.machine.Dgrams as dgrams
 use Rattle.headline.specs.machine.Dgrams.{Queued, Trying, Ending, Tryer, Dgrams, staged, leave, forget, try_at}
-use Rattle.dgram_ties.specs.Chains.{still, then_act, part_of, Gives}
-use Rattle.dgram_ties.specs.Sights.{sight, due_of, IsFair}
+use Rattle.client_ties.specs.Chains.{still, then_act, part_of, Gives}
+use Rattle.client_ties.specs.Sights.{sight, due_of, IsFair}
 use Rattle.dgram_ties.specs.Slots.{timer_in, slots_of, IsJobOf, AreAlike, AreSlots, names_of}
 use Rattle.dgram_ties.specs.Steps.{made_by, AsItIs, WithResult, Steps, Rests, Steps_on}
 use Rattle.dgram_ties.specs.Calls.{Leads, IsAfter, Owns, KeepsApart, Leaves, Posts, HasFired}
 use Rattle.dgram_ties.proofs.Changing.{SameFor, same_stage, alike_as, settled}
-use Rattle.dgram_ties.proofs.Keys.{with_here, with_there, was_there, with_again, is_or_was}
-use Rattle.dgram_ties.proofs.Tables.{at_frees, frees_nothing, present_below}
-use Rattle.dgram_ties.proofs.TimerLaws.{due_without, order_without}
+use Rattle.client_ties.proofs.Keys.{with_here, with_there, was_there, with_again, is_or_was}
+use Rattle.client_ties.proofs.Tables.{at_frees, frees_nothing, present_below}
+use Rattle.client_ties.proofs.TimerLaws.{due_without, order_without}
 use Rattle.dgram_ties.proofs.Naming.{names_less, names_again}
 use Rattle.dgram_ties.proofs.Shifting.{gone, come}
 use Rattle.dgram_ties.proofs.Tabling.{leaves_sent}
@@ -37,7 +37,7 @@ use Rattle.dgram_ties.proofs.Aftermath.{after_itself, after_fair, after_dropped,
 use Rattle.dgram_ties.proofs.Closing.{leads_on, IsSentAt, sent_at, off_sent, apart_sent, one_post}
 
 -- timers of others don't matter
-dues_as : (n : ℕ) (s : Tables Request) (d : Dgrams) (dues dues' : ℕ → Option ℕ) → AreAlike n (slots_of s) d dues → ((r u : ℕ) → entry_at r s.timers ≡ Some u → dues' r ≡ dues r) → AreAlike n (slots_of s) d dues'
+pub dues_as : (n : ℕ) (s : Tables Request) (d : Dgrams) (dues dues' : ℕ → Option ℕ) → AreAlike n (slots_of s) d dues → ((r u : ℕ) → entry_at r s.timers ≡ Some u → dues' r ≡ dues r) → AreAlike n (slots_of s) d dues'
 dues_as n s d dues dues' f same = record {
   jobs = λ t j e. (let g = f.jobs t j e in (g.0, g.1, same_stage (slots_of s) (slots_of s) d d dues dues' t j g.0 (record { held = refl; places = λ p e. (e, refl); timers = λ r e. (e, same r t e); queue = λ i. i }) g.2));
   held = f.held;

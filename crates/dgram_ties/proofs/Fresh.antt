@@ -2,7 +2,7 @@
 use Rattle.std.proofs.Common.{◌≡◌, ℕ, Option, Some, None, [], refl, arith}
 use Rattle.client_dgram.specs.Plain.{fresh}
 use Rattle.headline.specs.machine.Dgrams.{no_datagram}
-use Rattle.dgram_ties.specs.Sights.{Sight}
+use Rattle.client_ties.specs.Sights.{Sight}
 use Rattle.dgram_ties.specs.Slots.{AreSlots, slots_of, FreshIsAlike}
 
 pub fresh_is_alike : FreshIsAlike

@@ -11,12 +11,12 @@ use Rattle.client_dgram.specs.declared.job.Job.{Job}
 use Rattle.client_dgram.specs.declared.job.Stage.TheVariants as at
 use Rattle.headline.specs.machine.Dgrams.{Queued, Trying, Tryer, Dgrams, staged, forget, try_at}
 use Rattle.headline.specs.machine.Streams.{with_at}
-use Rattle.dgram_ties.specs.Sights.{sight, due_of, IsFair}
+use Rattle.client_ties.specs.Sights.{sight, due_of, IsFair}
 use Rattle.dgram_ties.specs.Slots.{IsIn, slots_of, IsJobOf, StageFits, AtQueue, AtOpening, AtSent, AreSlots, names_of}
 use Rattle.dgram_ties.specs.Calls.{Leads}
 use Rattle.dgram_ties.proofs.Changing.{alike_as}
-use Rattle.dgram_ties.proofs.Keys.{with_here, with_there, with_again, with_same}
-use Rattle.dgram_ties.proofs.Tables.{at_frees, at_puts, present_below}
+use Rattle.client_ties.proofs.Keys.{with_here, with_there, with_again, with_same}
+use Rattle.client_ties.proofs.Tables.{at_frees, at_puts, present_below}
 use Rattle.dgram_ties.proofs.Shifting.{drops_slot, come}
 use Rattle.dgram_ties.proofs.Tabling.{leaves_first}
 use Rattle.dgram_ties.proofs.Coming.{comes_at}

@@ -1,6 +1,3 @@
-pub mod Keys
-pub mod Tables
-pub mod TimerLaws
 pub mod Changing
 pub mod Shifting
 pub mod Queueing
@@ -18,3 +15,5 @@ pub mod Cutting
 pub mod Telling
 pub mod CallsAreMoves
 pub mod Fresh
+pub mod AtServer
+pub mod Known

@@ -6,9 +6,9 @@ use Rattle.client_request.specs.Numbered.{puts, frees, entry_at}
 use Rattle.client_request.specs.Request.{Request}
 use Rattle.client_dgram.specs.declared.job.Job.{Job}
 use Rattle.headline.specs.machine.Streams.{with_at}
-use Rattle.dgram_ties.specs.Lines.{Sorted}
-use Rattle.dgram_ties.proofs.Keys.{with_here, with_there}
-use Rattle.dgram_ties.proofs.Tables.{at_frees, at_puts}
+use Rattle.client_ties.specs.Lines.{Sorted}
+use Rattle.client_ties.proofs.Keys.{with_here, with_there}
+use Rattle.client_ties.proofs.Tables.{at_frees, at_puts}
 
 abbrev pub numbers : List (ℕ × Job Request) → ℕ → Option ℕ
 numbers jobs t = option_map (λ (j : Job Request). j.number) (entry_at t jobs)

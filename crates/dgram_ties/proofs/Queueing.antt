@@ -5,9 +5,9 @@ use Rattle.std.specs.Ordering.{match_ordering}
 use Rattle.std.specs.BTreeMap.{is_at}
 use Rattle.std.specs.BTreeSet.{insert_key}
 use Rattle.std.specs.Set.{remove_key}
-use Rattle.dgram_ties.specs.Sights.{Rising}
+use Rattle.client_ties.specs.Sights.{Rising}
 use Rattle.dgram_ties.specs.Slots.{IsIn}
-use Rattle.dgram_ties.proofs.Tables.{rises_from}
+use Rattle.client_ties.proofs.Tables.{rises_from}
 
 abbrev pub Rises : (lo hi : ℕ) → List ℕ → Type 0
 Rises lo hi q = Rising (λ t. t) lo hi q

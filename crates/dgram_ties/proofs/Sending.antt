@@ -23,15 +23,15 @@ use Rattle.headline.specs.machine.Streams as multi
 use Rattle.headline.specs.machine.Streams.{with_at}
 use Rattle.headline.specs.machine.Dgrams as dgrams
 use Rattle.headline.specs.machine.Dgrams.{Sent, Tryer, Dgrams, send_at}
-use Rattle.dgram_ties.specs.Chains.{still}
-use Rattle.dgram_ties.specs.Sights.{sight, due_of, IsFair}
+use Rattle.client_ties.specs.Chains.{still}
+use Rattle.client_ties.specs.Sights.{sight, due_of, IsFair}
 use Rattle.dgram_ties.specs.Slots.{slots_of, IsJobOf, AreSlots}
 use Rattle.dgram_ties.specs.Steps.{AsItIs, Rests}
 use Rattle.dgram_ties.specs.Calls.{Leads, IsAfter, KeepsApart, HasTold, Moves}
 use Rattle.dgram_ties.proofs.Changing.{settled}
-use Rattle.dgram_ties.proofs.Keys.{with_there, is_or_was}
-use Rattle.dgram_ties.proofs.Tables.{at_puts}
-use Rattle.dgram_ties.proofs.TimerLaws.{due_set, order_set, unset_above}
+use Rattle.client_ties.proofs.Keys.{with_there, is_or_was}
+use Rattle.client_ties.proofs.Tables.{at_puts}
+use Rattle.client_ties.proofs.TimerLaws.{due_set, order_set, unset_above}
 use Rattle.dgram_ties.proofs.Naming.{names_again}
 use Rattle.dgram_ties.proofs.Coming.{is_sent}
 use Rattle.dgram_ties.proofs.Closing.{IsOpeningAt, opening_at, ends_unsent}

@@ -11,7 +11,7 @@ use Rattle.headline.specs.machine.Dgrams.{Queued, Trying, Sent, Tryer, Dgrams, s
 use Rattle.headline.specs.machine.Streams.{with_at}
 use Rattle.dgram_ties.specs.Slots.{IsIn, place_in, timer_in, Slots, IsJobOf, StageFits, AtQueue, AtOpening, AtSent, AreAlike}
 use Rattle.dgram_ties.proofs.Changing.{SameFor, Around, falls_out, comes_in}
-use Rattle.dgram_ties.proofs.Keys.{with_here, with_there, was_there, is_or_was}
+use Rattle.client_ties.proofs.Keys.{with_here, with_there, was_there, is_or_was}
 
 -- the tables without a job at a place, and without one that is queued
 abbrev pub off_place : (t p : ℕ) → (ℕ → Option ℕ) → Slots → Slots

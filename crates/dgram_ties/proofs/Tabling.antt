@@ -15,13 +15,13 @@ use Rattle.headline.specs.Messages.{under}
 use Rattle.headline.specs.Time.{read_timeout}
 use Rattle.headline.specs.machine.Dgrams.{Queued, Trying, Sent, Tryer, Dgrams, forget}
 use Rattle.headline.specs.machine.Streams.{with_at}
-use Rattle.dgram_ties.specs.Sights.{Sight, sight, due_of, IsFair}
+use Rattle.client_ties.specs.Sights.{Sight, sight, due_of, IsFair}
 use Rattle.dgram_ties.specs.Slots.{IsIn, place_in, timer_in, Slots, slots_of, IsJobOf, AtOpening, AtSent, AreAlike, AreSlots}
-use Rattle.dgram_ties.proofs.Keys.{with_here, with_there, was_there, is_or_was}
-use Rattle.dgram_ties.specs.Sights.{Rising}
+use Rattle.client_ties.proofs.Keys.{with_here, with_there, was_there, is_or_was}
+use Rattle.client_ties.specs.Sights.{Rising}
 use Rattle.dgram_ties.proofs.Queueing.{in_from}
-use Rattle.dgram_ties.proofs.Tables.{rises_from, rises_below, absent_above, sorted_puts, sorted_frees, more_by_puts, fewer_by_frees, puts_path, frees_path, present_below}
-use Rattle.dgram_ties.proofs.TimerLaws.{due_without, due_set}
+use Rattle.client_ties.proofs.Tables.{rises_from, rises_below, absent_above, sorted_puts, sorted_frees, more_by_puts, fewer_by_frees, puts_path, frees_path, present_below}
+use Rattle.client_ties.proofs.TimerLaws.{due_without, due_set}
 use Rattle.dgram_ties.proofs.Queueing.{goes_last, rises_last, in_last, still_in, last_in, rises_removed, was_in, stays_in}
 use Rattle.dgram_ties.proofs.Shifting.{off_place, off_queue, at_place, at_queue, gone, come, waits, leaves_place, leaves_queue, joins_queue, comes_to_place}
 

@@ -18,14 +18,14 @@ use Rattle.headline.specs.machine.Streams as multi
 use Rattle.headline.specs.machine.Streams.{with_at}
 use Rattle.headline.specs.machine.Dgrams as dgrams
 use Rattle.headline.specs.machine.Dgrams.{Queued, Trying, Tryer, Dgrams, staged, try_at}
-use Rattle.dgram_ties.specs.Chains.{still, then_act}
-use Rattle.dgram_ties.specs.Sights.{sight, due_of, IsFair}
+use Rattle.client_ties.specs.Chains.{still, then_act}
+use Rattle.client_ties.specs.Sights.{sight, due_of, IsFair}
 use Rattle.dgram_ties.specs.Slots.{slots_of, IsJobOf, AreSlots, names_of}
 use Rattle.dgram_ties.specs.Steps.{made_by, AsItIs, Rests, Steps_on}
 use Rattle.dgram_ties.specs.Calls.{Leads, IsAfter, with_request, HasTaken}
 use Rattle.dgram_ties.proofs.Changing.{alike_as, settled}
-use Rattle.dgram_ties.proofs.Keys.{with_here, with_again, is_or_was}
-use Rattle.dgram_ties.proofs.Tables.{rises_below, absent_above}
+use Rattle.client_ties.proofs.Keys.{with_here, with_again, is_or_was}
+use Rattle.client_ties.proofs.Tables.{rises_below, absent_above}
 use Rattle.dgram_ties.proofs.Naming.{names_more}
 use Rattle.dgram_ties.proofs.Shifting.{come, takes_slot}
 use Rattle.dgram_ties.proofs.Tabling.{comes_last}

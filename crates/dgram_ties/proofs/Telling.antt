@@ -27,7 +27,7 @@ use Rattle.headline.specs.Messages.{Octets, under, answers, truncated}
 use Rattle.headline.specs.machine.Streams as multi
 use Rattle.headline.specs.machine.Dgrams as dgrams
 use Rattle.headline.specs.machine.Dgrams.{Trying, Sent, Ending, Cut, Tryer, Dgrams, leave, stage_of, Meets, TriesAt, SentAt, IsIgnored}
-use Rattle.dgram_ties.specs.Sights.{sight, IsFair}
+use Rattle.client_ties.specs.Sights.{sight, IsFair}
 use Rattle.dgram_ties.specs.Slots.{place_in, AreSlots}
 use Rattle.dgram_ties.specs.Calls.{Leads, HasTold, Passes}
 use Rattle.dgram_ties.proofs.Closing.{IsSentAt, IsOpeningAt, sent_at, opening_at, ends_sent, ends_unopened}

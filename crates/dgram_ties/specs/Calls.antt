@@ -13,12 +13,13 @@ use Rattle.client_dgram.specs.Plain.{Tables, late, takes, drops, tells}
 use Rattle.client_dgram.specs.Settings.{default_settings}
 use Rattle.headline.specs.Messages.{Octets, truncated}
 use Rattle.headline.specs.machine.Part.{Act}
+use Rattle.headline.specs.machine.Served.{IsSettled}
 use Rattle.headline.specs.machine.Streams as multi
 use Rattle.headline.specs.machine.Streams.{with_at}
 use Rattle.headline.specs.machine.Dgrams.{Queued, Trying, Sent, Ending, Cut, Tryer, Dgrams, staged, leave, forget, Meets, IsIgnored}
 use Rattle.client_request.specs.declared.error.Error.TheVariants as errors
-use Rattle.dgram_ties.specs.Chains.{then_act, Gives}
-use Rattle.dgram_ties.specs.Sights.{sight, due_of, IsFair}
+use Rattle.client_ties.specs.Chains.{then_act, Gives}
+use Rattle.client_ties.specs.Sights.{sight, due_of, IsFair}
 use Rattle.dgram_ties.specs.Slots.{AreSlots, names_of}
 use Rattle.dgram_ties.specs.Steps.{made_by, AtOnce, Steps}
 
@@ -105,6 +106,7 @@ pub record HasCut (server : ℕ) (what : What) (s : Tables Request) (d : Dgrams)
   pub cut : truncated message ≡ true
   pub at : ℕ
   pub meets : Meets v.now d what (multi.Puts (Close at)) (leave at request tryer Cut d)
+  pub settled : IsSettled (leave at request tryer Cut d)
   pub made : Act Dgrams
   pub steps : Steps server v.now v.place (leave at request tryer Cut d) made
   pub is_cut : made.state.held request ≡ Some (staged tryer Cut)

@@ -10,7 +10,7 @@ use Rattle.client_dgram.specs.declared.job.Stage.TheVariants as at
 use Rattle.headline.specs.Messages.{under}
 use Rattle.headline.specs.Time.{read_timeout}
 use Rattle.headline.specs.machine.Dgrams.{Queued, Trying, Sent, Tryer, Dgrams, no_datagram}
-use Rattle.dgram_ties.specs.Sights.{Sight, Rising}
+use Rattle.client_ties.specs.Sights.{Sight, Rising}
 
 -- it is one of these
 abbrev pub IsIn : ℕ → List ℕ → Type 0

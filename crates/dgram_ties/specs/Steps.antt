@@ -6,7 +6,7 @@ use Rattle.headline.specs.machine.Part.{Act}
 use Rattle.headline.specs.machine.Streams as multi
 use Rattle.headline.specs.machine.Dgrams.{Ending, Tryer, Dgrams, forget, Tries}
 use Rattle.headline.specs.machine.Served.{IsSettled, place_after, outs_of, posts_of}
-use Rattle.dgram_ties.specs.Chains.{still, then_act}
+use Rattle.client_ties.specs.Chains.{still, then_act}
 
 -- what a small move makes
 abbrev pub made_by : (place : ℕ) → multi.Act → Dgrams → Act Dgrams

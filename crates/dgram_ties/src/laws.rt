@@ -1,5 +1,6 @@
 //! What each call of a datagram connection leaves, beside the moves of the machine.
 
+ghost use Rattle.dgram_ties.specs.AtServer.{ServersMove, SlotsAreKnown};
 ghost use Rattle.dgram_ties.specs.Calls.{CallsAreMoves};
 ghost use Rattle.dgram_ties.specs.Slots.{FreshIsAlike};
 
@@ -13,4 +14,16 @@ pub fn fresh_is_alike()
 #[tactic(auto, using(crate::proofs::CallsAreMoves::calls_are_moves))]
 pub fn calls_are_moves()
     ensures { CallsAreMoves }
+{}
+
+/// What datagrams do is what a server by datagrams and streams does: also where an answer was cut.
+#[tactic(auto, using(crate::proofs::AtServer::servers_move))]
+pub fn servers_move()
+    ensures { ServersMove }
+{}
+
+/// What is known of a datagram connection between its calls: its timers, its tickets, its places, and when it rests.
+#[tactic(auto, using(crate::proofs::Known::slots_are_known))]
+pub fn slots_are_known()
+    ensures { SlotsAreKnown }
 {}
