@@ -71,10 +71,10 @@ is_sent s d v f fair t p id j i a is st here its same at' rq lt its_stage fit =
     let dues' : ℕ → Option ℕ = with_at r (Some (v.now + read_timeout)) dues in
     let new_timer : entry_at r s.timers ≡ None = absent_above 0 r r s.timers (omega arith) f.timers in
     let inn : AreAlike 0 on d' dues' = comes_to_place 0 off (gone p k d) dues out t p k i a (with_here t None jobs) (with_here k None d.held) (with_here p None places) same (ap place_in at') (with_at r (Some t) timers) dues'
-        (λ q u ne e. (let o : r ≡ q → ⊥ = λ same. (let z : None ≡ Some u = sym new_timer ∙ (ap timers same ∙ e) in cc) in (with_there r (Some t) timers q o ∙ e, with_there r (Some (v.now + read_timeout)) dues q o)))
-        (λ q u ne e. elim (is_or_was r (Some t) timers q u e) [ inl x ↦ absurd (ne (let z : Some t ≡ Some u = x.1 in cc)) | inr x ↦ x.1 ])
-        (λ q e. elim (is_or_was r (Some t) timers q t e) [ inl x ↦ ap timer_in at' ∙ ap Some x.0 | inr x ↦ absurd (no_timer q x.1) ])
-        (AtSent p r id v.now at' its_stage (with_here p (Some t) (with_at p None places)) (with_here p (Some k) (with_at p None d.at) ∙ ap Some (sym same)) (with_here r (Some t) timers) (with_here r (Some (v.now + read_timeout)) dues) rq lt fit) in
+    (λ q u ne e. (let o : r ≡ q → ⊥ = λ same. (let z : None ≡ Some u = sym new_timer ∙ (ap timers same ∙ e) in cc) in (with_there r (Some t) timers q o ∙ e, with_there r (Some (v.now + read_timeout)) dues q o)))
+    (λ q u ne e. elim (is_or_was r (Some t) timers q u e) [ inl x ↦ absurd (ne (let z : Some t ≡ Some u = x.1 in cc)) | inr x ↦ x.1 ])
+    (λ q e. elim (is_or_was r (Some t) timers q t e) [ inl x ↦ ap timer_in at' ∙ ap Some x.0 | inr x ↦ absurd (no_timer q x.1) ])
+    (AtSent p r id v.now at' its_stage (with_here p (Some t) (with_at p None places)) (with_here p (Some k) (with_at p None d.at) ∙ ap Some (sym same)) (with_here r (Some t) timers) (with_here r (Some (v.now + read_timeout)) dues) rq lt fit) in
     let after : Tables Request = record s { jobs = puts t i (frees t s.jobs); timers = puts r t s.timers } in
     let some = above (length (frees p s.places)) (length s.places) few in
     record {
