@@ -1,9 +1,9 @@
 -- What is left of a view, and what is apart, once a place is closed and its slot is given on.
 use Rattle.std.proofs.Common.{◌≡◌, ℕ, suc, ◌+◌, ◌<◌, ◌≤◌, ◌⊎◌, inl, inr, List, [], ◌∷◌, ◌++◌, Option, Some, None, refl, sym, ap, subst, ◌∙◌, arith, le_refl, le_trans, append-nil, append_assoc}
-use Rattle.client_request.specs.Numbered.{puts, frees, entry_at}
+use Rattle.client_request.specs.Numbered.{entry_at}
 use Rattle.client_request.specs.Request.{Request}
-use Rattle.client_request.specs.Timers.{TimerList, cancelled, with_timer}
-use Rattle.client_request.specs.View.{View, asks}
+use Rattle.client_request.specs.Timers.{TimerList, cancelled}
+use Rattle.client_request.specs.View.{View}
 use Rattle.client_request.specs.declared.event.Out.{Out}
 use Rattle.client_request.specs.declared.event.Out.TheVariants.{OpenDgram}
 use Rattle.client_dgram.specs.Plain.{Tables, gives_on}
@@ -20,9 +20,8 @@ use Rattle.dgram_ties.specs.Slots.{slots_of, AreSlots, names_of}
 use Rattle.dgram_ties.specs.Steps.{made_by, AsItIs, Steps, Rests, Steps_on}
 use Rattle.dgram_ties.specs.Calls.{Leads, IsAfter, Owns, KeepsApart, Leaves}
 use Rattle.dgram_ties.proofs.Changing.{settled}
-use Rattle.client_ties.proofs.Keys.{with_there, was_there, is_or_was}
-use Rattle.client_ties.proofs.Tables.{at_frees}
-use Rattle.client_ties.proofs.TimerLaws.{due_without, order_without, due_set, order_set}
+use Rattle.client_ties.proofs.Keys.{was_there, is_or_was}
+use Rattle.client_ties.proofs.TimerLaws.{due_without, order_without}
 use Rattle.dgram_ties.proofs.GivingOn.{opened, GaveOn, Nobody, Somebody, gave_on}
 
 -- views

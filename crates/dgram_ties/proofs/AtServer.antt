@@ -1,9 +1,9 @@
 -- Moves by datagrams as moves of a server by datagrams and streams.
-use Rattle.std.proofs.Common.{◌≡◌, ℕ, false, List, [], ◌∷◌, ◌++◌, Some, refl, sym, ap, subst, ◌∙◌, append-nil, append_assoc}
+use Rattle.std.proofs.Common.{◌≡◌, ℕ, false, [], ◌∷◌, Some, refl, sym, subst, append-nil, append_assoc}
 use Rattle.client_request.specs.declared.event.Out.TheVariants.{Start, Close}
 use Rattle.client_request.specs.declared.event.Via.TheVariants.{Stream}
 use Rattle.headline.specs.Trace.{Conf, ByDatagrams}
-use Rattle.headline.specs.machine.Part.{Act, Post}
+use Rattle.headline.specs.machine.Part.{Act}
 use Rattle.headline.specs.machine.Streams as multi
 use Rattle.headline.specs.machine.Streams.{IsForeign}
 use Rattle.headline.specs.machine.Dgrams.{Cut, Tryer, Dgrams, staged, leave, Meets}

@@ -1,13 +1,9 @@
 -- One request changes, and all others stay as they are.
-use Rattle.std.proofs.Common.{◌≡◌, ◌≢◌, ℕ, ◌+◌, ◌<◌, ◌≤◌, ◌⊎◌, inl, inr, List, [], ◌∷◌, Option, Some, None, refl, sym, ap, subst, ◌∙◌, arith}
-use Rattle.std.specs.Prelude.{Result}
+use Rattle.std.proofs.Common.{◌≡◌, ◌≢◌, ℕ, ◌+◌, ◌≤◌, inl, inr, Option, Some, None, refl, sym, ap, subst, ◌∙◌, arith}
 use Rattle.std.proofs.lemmas.Bool.{cases_eq}
 use Rattle.client_request.specs.Request.{Request}
-use Rattle.client_request.specs.declared.error.Error.{Error}
 use Rattle.client_dgram.specs.declared.job.Job.{Job}
-use Rattle.client_dgram.specs.declared.job.Stage.{Stage}
 use Rattle.client_dgram.specs.declared.job.Stage.TheVariants as at
-use Rattle.headline.specs.Messages.{Octets}
 use Rattle.headline.specs.machine.Dgrams.{Ending, Tryer, Dgrams}
 use Rattle.headline.specs.machine.Served.{IsSettled}
 use Rattle.dgram_ties.specs.Slots.{IsIn, place_in, timer_in, Slots, StageFits, AtQueue, AtOpening, AtSent, AreAlike}

@@ -1,23 +1,19 @@
 -- A place is closed, and its slot is given on.
-use Rattle.std.proofs.Common.{◌≡◌, ℕ, suc, ◌+◌, ◌<◌, ◌≤◌, ◌⊎◌, inl, inr, List, [], ◌∷◌, ◌++◌, Option, Some, None, refl, sym, ap, subst, ◌∙◌, arith, append-nil}
-use Rattle.std.specs.Prelude.{Result, Ok, Err, option_map}
-use Rattle.client_request.specs.Board.{Part}
-use Rattle.client_request.specs.Carries.{IsOfOctets}
-use Rattle.client_request.specs.Numbered.{puts, frees, entry_at}
+use Rattle.std.proofs.Common.{◌≡◌, ℕ, ◌+◌, ◌<◌, ◌≤◌, ◌⊎◌, inl, [], ◌∷◌, ◌++◌, Option, Some, None, refl, sym, ap, subst, ◌∙◌, append-nil}
+use Rattle.std.specs.Prelude.{Result, option_map}
+use Rattle.client_request.specs.Numbered.{frees, entry_at}
 use Rattle.client_request.specs.Request.{Request}
 use Rattle.client_request.specs.Timers.{cancelled}
 use Rattle.client_request.specs.View.{View, drawn, asks, answers}
 use Rattle.client_request.specs.declared.error.Error.{Error}
-use Rattle.client_request.specs.declared.board.Posted.{Posted}
 use Rattle.client_request.specs.declared.event.What.{What}
-use Rattle.client_request.specs.declared.event.Out.{Out}
 use Rattle.client_request.specs.declared.event.Out.TheVariants.{Close}
 use Rattle.client_dgram.specs.Plain.{Tables, leaves, closes, finishes, gives_on}
 use Rattle.client_dgram.specs.declared.job.Job.{Job}
 use Rattle.client_dgram.specs.declared.job.Stage.TheVariants as at
 use Rattle.headline.specs.Messages.{Octets, under}
 use Rattle.headline.specs.Time.{read_timeout}
-use Rattle.headline.specs.machine.Part.{Act, Post}
+use Rattle.headline.specs.machine.Part.{Act}
 use Rattle.headline.specs.machine.Streams as multi
 use Rattle.headline.specs.machine.Streams.{with_at}
 use Rattle.headline.specs.machine.Dgrams.{Stage, Trying, Sent, Ending, Tryer, Dgrams, staged, leave, forget, Meets}
@@ -25,7 +21,7 @@ use Rattle.client_ties.specs.Chains.{then_act, part_of, Gives}
 use Rattle.client_ties.specs.Sights.{sight, due_of, IsFair}
 use Rattle.dgram_ties.specs.Slots.{slots_of, IsJobOf, StageFits, AtQueue, AtOpening, AtSent, AreSlots, names_of}
 use Rattle.dgram_ties.specs.Steps.{WithResult}
-use Rattle.dgram_ties.specs.Calls.{Leads, IsAfter, Owns, KeepsApart, Posts, HasTold, Moves}
+use Rattle.dgram_ties.specs.Calls.{Leads, KeepsApart, Posts, HasTold, Moves}
 use Rattle.dgram_ties.proofs.Changing.{alike_as}
 use Rattle.client_ties.proofs.Keys.{with_here, with_there, was_there, with_again}
 use Rattle.client_ties.proofs.Tables.{at_frees}

@@ -1,5 +1,5 @@
 -- The tables themselves, as a job comes to a place or is sent where it is.
-use Rattle.std.proofs.Common.{◌≡◌, ℕ, suc, ◌+◌, ◌-◌, ◌<◌, ◌≤◌, ◌⊎◌, inl, inr, List, [], ◌∷◌, length, Option, Some, None, refl, sym, ap, subst, ◌∙◌, arith, zero-le}
+use Rattle.std.proofs.Common.{◌≡◌, ℕ, suc, ◌+◌, ◌-◌, ◌<◌, ◌≤◌, inl, inr, length, Option, Some, None, refl, sym, ap, ◌∙◌, arith, zero-le}
 use mathlib.Core.Path.{fun_ext}
 use Rattle.client_request.specs.Numbered.{puts, frees, entry_at}
 use Rattle.client_request.specs.Request.{Request}
@@ -16,9 +16,9 @@ use Rattle.client_ties.specs.Sights.{sight, due_of, IsFair}
 use Rattle.dgram_ties.specs.Slots.{place_in, timer_in, Slots, slots_of, IsJobOf, AtOpening, AtSent, AreAlike, AreSlots}
 use Rattle.dgram_ties.proofs.Changing.{alike_as}
 use Rattle.client_ties.proofs.Keys.{with_here, with_there, with_again, with_same, is_or_was}
-use Rattle.client_ties.proofs.Tables.{rises_below, absent_above, sorted_puts, sorted_frees, more_by_puts, puts_path, frees_path, fewer_by_frees, at_frees, present_below}
+use Rattle.client_ties.proofs.Tables.{rises_below, absent_above, sorted_puts, sorted_frees, more_by_puts, puts_path, frees_path, fewer_by_frees, present_below}
 use Rattle.dgram_ties.proofs.Shifting.{off_place, at_place, gone, come, leaves_place, comes_to_place}
-use Rattle.dgram_ties.proofs.Tabling.{same_slots, alike_in, dues_more, above, one_less}
+use Rattle.dgram_ties.proofs.Tabling.{same_slots, alike_in, dues_more, above}
 
 up : (a b : ℕ) → a < b → a < b + 1
 up a b lt = omega arith

@@ -1,19 +1,17 @@
 -- A cut answer comes: its message is on the board, and its slot is given on.
-use Rattle.std.proofs.Common.{◌≡◌, ◌≢◌, ℕ, suc, ◌+◌, ◌<◌, ◌≤◌, ◌⊎◌, inl, inr, true, ◌==◌, List, [], ◌∷◌, ◌++◌, Option, Some, None, refl, sym, ap, subst, ◌∙◌, arith, append_assoc, le_refl}
-use Rattle.std.specs.Prelude.{Result, Ok, if◌then◌else◌, option_map}
+use Rattle.std.proofs.Common.{◌≡◌, ℕ, suc, ◌+◌, ◌≤◌, inl, inr, true, [], ◌∷◌, Option, Some, None, refl, sym, ap, subst, ◌∙◌, arith, append_assoc, le_refl}
+use Rattle.std.specs.Prelude.{Ok, option_map}
 use Rattle.std.proofs.lemmas.Bool.Decides.{nat_tests}
 use Rattle.client_request.specs.Carries.{IsOfOctets}
-use Rattle.client_request.specs.Numbered.{frees, entry_at}
+use Rattle.client_request.specs.Numbered.{entry_at}
 use Rattle.client_request.specs.Request.{Request}
-use Rattle.client_request.specs.View.{View, asks, answers}
-use Rattle.client_request.specs.declared.error.Error.{Error}
+use Rattle.client_request.specs.View.{View, answers}
 use Rattle.client_request.specs.declared.event.What.{What}
 use Rattle.client_request.specs.declared.event.Out.TheVariants.{OpenDgram, Close}
 use Rattle.client_dgram.specs.Plain.{Tables, leaves, closes, finishes, gives_on}
 use Rattle.client_dgram.specs.declared.job.Job.{Job}
 use Rattle.client_dgram.specs.declared.job.Stage.TheVariants as at
 use Rattle.headline.specs.Messages.{Octets, truncated}
-use Rattle.headline.specs.machine.Part.{Act}
 use Rattle.headline.specs.machine.Streams as multi
 use Rattle.headline.specs.machine.Streams.{with_at}
 use Rattle.headline.specs.machine.Dgrams as dgrams
@@ -23,11 +21,11 @@ use Rattle.client_ties.specs.Chains.{still, then_act}
 use Rattle.client_ties.specs.Sights.{sight, due_of, IsFair}
 use Rattle.dgram_ties.specs.Slots.{slots_of, AreSlots, names_of}
 use Rattle.dgram_ties.specs.Steps.{made_by, AsItIs, Rests, Steps_on}
-use Rattle.dgram_ties.specs.Calls.{Leads, IsAfter, KeepsApart, HasTold, Cuts, HasCut}
+use Rattle.dgram_ties.specs.Calls.{Leads, IsAfter, KeepsApart, HasTold, Cuts}
 use Rattle.dgram_ties.proofs.Changing.{alike_as, settled}
 use Rattle.client_ties.proofs.Keys.{with_here, with_there, was_there, is_or_was}
 use Rattle.dgram_ties.proofs.Naming.{names_less}
-use Rattle.dgram_ties.proofs.GivingOn.{opened, GaveOn, Nobody, Somebody, gave_on}
+use Rattle.dgram_ties.proofs.GivingOn.{GaveOn, Nobody, Somebody, gave_on}
 use Rattle.dgram_ties.proofs.Aftermath.{after_dropped, after_then, after_opened}
 use Rattle.dgram_ties.proofs.Closing.{leads_on, IsSentAt, off_sent, apart_sent}
 

@@ -1,5 +1,5 @@
 -- A read timer fires.
-use Rattle.std.proofs.Common.{◌≡◌, ℕ, zero, suc, ◌+◌, ◌-◌, ◌<◌, ◌≤◌, ◌⊎◌, inl, inr, Bool, true, false, List, [], ◌∷◌, ◌++◌, Option, Some, None, refl, sym, ap, subst, ◌∙◌, arith, append-nil, append_assoc, le_refl}
+use Rattle.std.proofs.Common.{◌≡◌, ℕ, zero, suc, ◌+◌, ◌-◌, ◌<◌, ◌≤◌, inl, inr, Bool, true, false, [], ◌∷◌, Option, Some, None, refl, sym, ap, subst, ◌∙◌, arith, append-nil, append_assoc, le_refl}
 use Rattle.std.specs.Prelude.{Result, Err, option_and_then, option_map, if◌then◌else◌}
 use Rattle.client_request.specs.Numbered.{frees, entry_at}
 use Rattle.client_request.specs.Request.{Request}
@@ -15,17 +15,16 @@ use Rattle.client_dgram.specs.declared.job.Stage.{Stage}
 use Rattle.client_dgram.specs.declared.job.Stage.TheVariants as at
 use Rattle.headline.specs.Messages.{Octets}
 use Rattle.headline.specs.Time.{read_timeout}
-use Rattle.headline.specs.machine.Part.{Act}
 use Rattle.headline.specs.machine.Streams as multi
 use Rattle.headline.specs.machine.Streams.{with_at}
 use Rattle.headline.specs.machine.Dgrams as dgrams
 use Rattle.headline.specs.machine.Dgrams.{Queued, Trying, Ending, Tryer, Dgrams, staged, leave, forget, try_at}
-use Rattle.client_ties.specs.Chains.{still, then_act, part_of, Gives}
+use Rattle.client_ties.specs.Chains.{still, then_act}
 use Rattle.client_ties.specs.Sights.{sight, due_of, IsFair}
-use Rattle.dgram_ties.specs.Slots.{timer_in, slots_of, IsJobOf, AreAlike, AreSlots, names_of}
-use Rattle.dgram_ties.specs.Steps.{made_by, AsItIs, WithResult, Steps, Rests, Steps_on}
-use Rattle.dgram_ties.specs.Calls.{Leads, IsAfter, Owns, KeepsApart, Leaves, Posts, HasFired}
-use Rattle.dgram_ties.proofs.Changing.{SameFor, same_stage, alike_as, settled}
+use Rattle.dgram_ties.specs.Slots.{timer_in, slots_of, AreAlike, AreSlots, names_of}
+use Rattle.dgram_ties.specs.Steps.{made_by, AsItIs, WithResult, Rests, Steps_on}
+use Rattle.dgram_ties.specs.Calls.{Leads, KeepsApart, HasFired}
+use Rattle.dgram_ties.proofs.Changing.{same_stage, alike_as, settled}
 use Rattle.client_ties.proofs.Keys.{with_here, with_there, was_there, with_again, is_or_was}
 use Rattle.client_ties.proofs.Tables.{at_frees, frees_nothing, present_below}
 use Rattle.client_ties.proofs.TimerLaws.{due_without, order_without}
@@ -33,7 +32,7 @@ use Rattle.dgram_ties.proofs.Naming.{names_less, names_again}
 use Rattle.dgram_ties.proofs.Shifting.{gone, come}
 use Rattle.dgram_ties.proofs.Tabling.{leaves_sent}
 use Rattle.dgram_ties.proofs.Coming.{comes_at}
-use Rattle.dgram_ties.proofs.Aftermath.{after_itself, after_fair, after_dropped, Goes_on, goes_on}
+use Rattle.dgram_ties.proofs.Aftermath.{after_itself, after_fair, goes_on}
 use Rattle.dgram_ties.proofs.Closing.{leads_on, IsSentAt, sent_at, off_sent, apart_sent, one_post}
 
 -- timers of others don't matter

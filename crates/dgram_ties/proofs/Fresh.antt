@@ -1,9 +1,6 @@
 -- A server that nothing was asked of.
-use Rattle.std.proofs.Common.{◌≡◌, ℕ, Option, Some, None, [], refl, arith}
-use Rattle.client_dgram.specs.Plain.{fresh}
-use Rattle.headline.specs.machine.Dgrams.{no_datagram}
-use Rattle.client_ties.specs.Sights.{Sight}
-use Rattle.dgram_ties.specs.Slots.{AreSlots, slots_of, FreshIsAlike}
+use Rattle.std.proofs.Common.{refl, arith}
+use Rattle.dgram_ties.specs.Slots.{FreshIsAlike}
 
 pub fresh_is_alike : FreshIsAlike
 fresh_is_alike x = record {

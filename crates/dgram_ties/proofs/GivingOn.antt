@@ -1,5 +1,5 @@
 -- A free slot is given on to the request that waits longest, or is free from now on.
-use Rattle.std.proofs.Common.{◌≡◌, ℕ, suc, ◌+◌, ◌-◌, ◌<◌, ◌≤◌, ◌⊎◌, inl, inr, Bool, true, false, List, [], ◌∷◌, ◌++◌, Option, Some, None, refl, sym, ap, subst, ◌∙◌, arith}
+use Rattle.std.proofs.Common.{◌≡◌, ℕ, ◌+◌, ◌-◌, ◌<◌, ◌≤◌, inl, Bool, true, false, List, [], ◌∷◌, Option, Some, None, refl, sym, subst, ◌∙◌, arith}
 use Rattle.std.specs.Prelude.{option_and_then, if◌then◌else◌}
 use Rattle.client_request.specs.Numbered.{frees, entry_at}
 use Rattle.client_request.specs.Request.{Request}
@@ -10,13 +10,12 @@ use Rattle.client_dgram.specs.Plain.{Tables, tries, tries_at, gives_job, gives_t
 use Rattle.client_dgram.specs.declared.job.Job.{Job}
 use Rattle.client_dgram.specs.declared.job.Stage.TheVariants as at
 use Rattle.headline.specs.machine.Dgrams.{Queued, Trying, Tryer, Dgrams, staged, forget, try_at}
-use Rattle.headline.specs.machine.Streams.{with_at}
 use Rattle.client_ties.specs.Sights.{sight, due_of, IsFair}
 use Rattle.dgram_ties.specs.Slots.{IsIn, slots_of, IsJobOf, StageFits, AtQueue, AtOpening, AtSent, AreSlots, names_of}
 use Rattle.dgram_ties.specs.Calls.{Leads}
 use Rattle.dgram_ties.proofs.Changing.{alike_as}
-use Rattle.client_ties.proofs.Keys.{with_here, with_there, with_again, with_same}
-use Rattle.client_ties.proofs.Tables.{at_frees, at_puts, present_below}
+use Rattle.client_ties.proofs.Keys.{with_here, with_again}
+use Rattle.client_ties.proofs.Tables.{at_frees, present_below}
 use Rattle.dgram_ties.proofs.Shifting.{drops_slot, come}
 use Rattle.dgram_ties.proofs.Tabling.{leaves_first}
 use Rattle.dgram_ties.proofs.Coming.{comes_at}

@@ -1,14 +1,10 @@
 -- What is known between the calls of a datagram connection.
-use Rattle.std.proofs.Common.{◌≡◌, ◌≢◌, ℕ, ◌+◌, ◌<◌, ◌≤◌, true, false, is_some, List, [], ◌∷◌, Option, Some, None, refl, sym, ap, subst, ◌∙◌, arith}
-use Rattle.std.specs.Prelude.{Result, option_map}
+use Rattle.std.proofs.Common.{◌≡◌, ◌≢◌, ℕ, ◌+◌, ◌<◌, true, is_some, Option, Some, None, refl, sym, ap, subst, ◌∙◌, arith}
+use Rattle.std.specs.Prelude.{option_map}
 use Rattle.client_request.specs.Numbered.{entry_at}
 use Rattle.client_request.specs.Request.{Request}
-use Rattle.client_request.specs.declared.error.Error.{Error}
 use Rattle.client_dgram.specs.Plain.{Tables}
 use Rattle.client_dgram.specs.declared.job.Job.{Job}
-use Rattle.client_dgram.specs.declared.job.Stage.{Stage}
-use Rattle.client_dgram.specs.declared.job.Stage.TheVariants as at
-use Rattle.headline.specs.Messages.{Octets}
 use Rattle.headline.specs.Time.{read_timeout}
 use Rattle.headline.specs.machine.Dgrams.{Queued, Sent, Ending, Cut, Tryer, Dgrams}
 use Rattle.headline.specs.machine.Dgrams as machine

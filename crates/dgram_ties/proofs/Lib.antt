@@ -17,3 +17,4 @@ pub mod CallsAreMoves
 pub mod Fresh
 pub mod AtServer
 pub mod Known
+pub mod Halves

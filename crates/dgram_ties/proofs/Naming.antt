@@ -1,5 +1,5 @@
 -- The number of each ticket's request, as a job goes or comes.
-use Rattle.std.proofs.Common.{◌≡◌, ℕ, List, ◌⊎◌, inl, inr, Option, Some, None, refl, sym, ap, ◌∙◌}
+use Rattle.std.proofs.Common.{◌≡◌, ℕ, List, inl, inr, Option, Some, None, sym, ap, ◌∙◌}
 use Rattle.std.specs.Prelude.{option_map}
 use Rattle.std.proofs.lemmas.Bool.{cases_eq}
 use Rattle.client_request.specs.Numbered.{puts, frees, entry_at}

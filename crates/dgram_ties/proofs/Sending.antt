@@ -1,15 +1,15 @@
 -- A place opens: its request is sent there, or cannot be composed.
-use Rattle.std.proofs.Common.{◌≡◌, ℕ, suc, ◌+◌, ◌%◌, ◌<◌, ◌≤◌, ◌⊎◌, inl, inr, Bool, true, false, List, [], ◌∷◌, ◌++◌, Option, Some, None, refl, sym, ap, subst, ◌∙◌, arith, append-nil, le_refl}
+use Rattle.std.proofs.Common.{◌≡◌, ℕ, suc, ◌+◌, ◌<◌, ◌≤◌, inl, inr, Bool, true, false, [], Option, Some, None, refl, sym, ap, subst, ◌∙◌, arith, append-nil, le_refl}
 use Rattle.std.specs.Prelude.{Result, Ok, Err, option_and_then, if◌then◌else◌}
 use Rattle.client_request.specs.Composed.{composed}
-use Rattle.client_request.specs.Numbered.{puts, frees, entry_at}
+use Rattle.client_request.specs.Numbered.{frees, entry_at}
 use Rattle.client_request.specs.Request.{Request}
 use Rattle.client_request.specs.Requests.{for_one}
 use Rattle.client_request.specs.Timers.{can_draw, with_timer}
-use Rattle.client_request.specs.View.{View, word, drawn, asks}
+use Rattle.client_request.specs.View.{View, drawn}
 use Rattle.client_request.specs.declared.error.Error.{Error}
 use Rattle.client_request.specs.declared.event.What.TheVariants.{Opened}
-use Rattle.client_request.specs.declared.event.Out.TheVariants.{Send, Close}
+use Rattle.client_request.specs.declared.event.Out.TheVariants.{Send}
 use Rattle.client_dgram.specs.Plain.{Tables, sent_at, sends_composed}
 use Rattle.client_dgram.specs.Settings.{default_settings}
 use Rattle.client_dgram.specs.declared.job.Job.{Job}
@@ -18,16 +18,15 @@ use Rattle.headline.specs.Messages.{Octets, under}
 use Rattle.headline.specs.Time.{read_timeout}
 use Rattle.headline.proofs.Carried.{carried_by}
 use Rattle.headline.proofs.Composing.{composed_composes}
-use Rattle.headline.specs.machine.Part.{Act}
 use Rattle.headline.specs.machine.Streams as multi
 use Rattle.headline.specs.machine.Streams.{with_at}
 use Rattle.headline.specs.machine.Dgrams as dgrams
 use Rattle.headline.specs.machine.Dgrams.{Sent, Tryer, Dgrams, send_at}
 use Rattle.client_ties.specs.Chains.{still}
 use Rattle.client_ties.specs.Sights.{sight, due_of, IsFair}
-use Rattle.dgram_ties.specs.Slots.{slots_of, IsJobOf, AreSlots}
+use Rattle.dgram_ties.specs.Slots.{IsJobOf, AreSlots}
 use Rattle.dgram_ties.specs.Steps.{AsItIs, Rests}
-use Rattle.dgram_ties.specs.Calls.{Leads, IsAfter, KeepsApart, HasTold, Moves}
+use Rattle.dgram_ties.specs.Calls.{Leads, HasTold, Moves}
 use Rattle.dgram_ties.proofs.Changing.{settled}
 use Rattle.client_ties.proofs.Keys.{with_there, is_or_was}
 use Rattle.client_ties.proofs.Tables.{at_puts}

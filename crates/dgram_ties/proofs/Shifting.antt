@@ -1,16 +1,13 @@
 -- A job leaves its place or the queue, or comes to a place or into the queue.
-use Rattle.std.proofs.Common.{◌≡◌, ℕ, suc, ◌+◌, ◌-◌, ◌<◌, ◌≤◌, ◌⊎◌, inl, inr, List, [], ◌∷◌, ◌++◌, Option, Some, None, refl, sym, ap, subst, ◌∙◌, arith}
+use Rattle.std.proofs.Common.{◌≡◌, ℕ, suc, ◌+◌, ◌-◌, ◌<◌, inl, inr, List, [], Option, Some, None, refl, sym, ap, subst, ◌∙◌, arith}
 use Rattle.std.proofs.lemmas.Bool.{cases_eq}
 use Rattle.client_request.specs.Request.{Request}
 use Rattle.client_dgram.specs.declared.job.Job.{Job}
-use Rattle.client_dgram.specs.declared.job.Stage.{Stage}
 use Rattle.client_dgram.specs.declared.job.Stage.TheVariants as at
-use Rattle.headline.specs.Messages.{under}
-use Rattle.headline.specs.Time.{read_timeout}
-use Rattle.headline.specs.machine.Dgrams.{Queued, Trying, Sent, Tryer, Dgrams, staged, forget}
+use Rattle.headline.specs.machine.Dgrams.{Queued, Tryer, Dgrams, forget}
 use Rattle.headline.specs.machine.Streams.{with_at}
 use Rattle.dgram_ties.specs.Slots.{IsIn, place_in, timer_in, Slots, IsJobOf, StageFits, AtQueue, AtOpening, AtSent, AreAlike}
-use Rattle.dgram_ties.proofs.Changing.{SameFor, Around, falls_out, comes_in}
+use Rattle.dgram_ties.proofs.Changing.{Around, falls_out, comes_in}
 use Rattle.client_ties.proofs.Keys.{with_here, with_there, was_there, is_or_was}
 
 -- the tables without a job at a place, and without one that is queued

@@ -1,5 +1,5 @@
 -- The tables themselves, as a job leaves or comes.
-use Rattle.std.proofs.Common.{◌≡◌, ℕ, suc, ◌+◌, ◌-◌, ◌<◌, ◌≤◌, ◌⊎◌, inl, inr, List, [], ◌∷◌, ◌++◌, length, Option, Some, None, nat_cmp, refl, sym, ap, subst, ◌∙◌, arith, zero-le}
+use Rattle.std.proofs.Common.{◌≡◌, ℕ, suc, ◌+◌, ◌-◌, ◌<◌, ◌≤◌, inl, inr, List, [], ◌∷◌, ◌++◌, length, Option, Some, None, nat_cmp, refl, sym, ap, subst, ◌∙◌, arith, zero-le}
 use Rattle.std.specs.BTreeMap.{is_at}
 use Rattle.std.specs.BTreeSet.{insert_key}
 use Rattle.std.specs.Set.{remove_key}
@@ -11,19 +11,17 @@ use Rattle.client_request.specs.View.{View}
 use Rattle.client_dgram.specs.Plain.{Tables, leaves}
 use Rattle.client_dgram.specs.declared.job.Job.{Job}
 use Rattle.client_dgram.specs.declared.job.Stage.TheVariants as at
-use Rattle.headline.specs.Messages.{under}
-use Rattle.headline.specs.Time.{read_timeout}
-use Rattle.headline.specs.machine.Dgrams.{Queued, Trying, Sent, Tryer, Dgrams, forget}
+use Rattle.headline.specs.machine.Dgrams.{Queued, Tryer, Dgrams, forget}
 use Rattle.headline.specs.machine.Streams.{with_at}
-use Rattle.client_ties.specs.Sights.{Sight, sight, due_of, IsFair}
-use Rattle.dgram_ties.specs.Slots.{IsIn, place_in, timer_in, Slots, slots_of, IsJobOf, AtOpening, AtSent, AreAlike, AreSlots}
-use Rattle.client_ties.proofs.Keys.{with_here, with_there, was_there, is_or_was}
+use Rattle.client_ties.specs.Sights.{sight, due_of, IsFair}
+use Rattle.dgram_ties.specs.Slots.{IsIn, place_in, timer_in, Slots, slots_of, IsJobOf, AreAlike, AreSlots}
+use Rattle.client_ties.proofs.Keys.{with_there, was_there}
 use Rattle.client_ties.specs.Sights.{Rising}
 use Rattle.dgram_ties.proofs.Queueing.{in_from}
-use Rattle.client_ties.proofs.Tables.{rises_from, rises_below, absent_above, sorted_puts, sorted_frees, more_by_puts, fewer_by_frees, puts_path, frees_path, present_below}
+use Rattle.client_ties.proofs.Tables.{rises_from, rises_below, absent_above, sorted_puts, sorted_frees, fewer_by_frees, puts_path, frees_path}
 use Rattle.client_ties.proofs.TimerLaws.{due_without, due_set}
 use Rattle.dgram_ties.proofs.Queueing.{goes_last, rises_last, in_last, still_in, last_in, rises_removed, was_in, stays_in}
-use Rattle.dgram_ties.proofs.Shifting.{off_place, off_queue, at_place, at_queue, gone, come, waits, leaves_place, leaves_queue, joins_queue, comes_to_place}
+use Rattle.dgram_ties.proofs.Shifting.{off_place, off_queue, at_queue, gone, waits, leaves_place, leaves_queue, joins_queue}
 
 pub same_slots : (x y : Slots) → x.jobs ≡ y.jobs → x.places ≡ y.places → x.timers ≡ y.timers → x.queue ≡ y.queue → x.used ≡ y.used → x.live ≡ y.live → x ≡ y
 same_slots x y jobs places timers queue used live = λ i. record { jobs = jobs i; places = places i; timers = timers i; queue = queue i; used = used i; live = live i }

@@ -1,28 +1,26 @@
 -- A request is taken on.
-use Rattle.std.proofs.Common.{◌≡◌, ℕ, suc, ◌+◌, ◌<◌, ◌≤◌, ◌⊎◌, inl, inr, Bool, true, false, List, [], ◌∷◌, ◌++◌, Option, Some, None, nat_cmp, refl, sym, ap, subst, ◌∙◌, arith, append-nil, le_refl}
+use Rattle.std.proofs.Common.{◌≡◌, ℕ, suc, ◌+◌, ◌<◌, ◌≤◌, inl, inr, Bool, true, false, [], Option, Some, None, refl, sym, subst, arith, append-nil, le_refl}
 use Rattle.std.specs.Prelude.{nat_lt, option_and_then, if◌then◌else◌}
 use Rattle.std.proofs.lemmas.Bool.Decides.{nat_tests}
 use Rattle.client_request.specs.Carries.{IsOfOctets}
-use Rattle.client_request.specs.Numbered.{puts, entry_at}
 use Rattle.client_request.specs.Request.{Request}
 use Rattle.client_request.specs.Requests.{for_one}
 use Rattle.client_request.specs.Timers.{can_draw}
-use Rattle.client_request.specs.View.{View, asks}
+use Rattle.client_request.specs.View.{View}
 use Rattle.client_request.specs.declared.event.Out.TheVariants.{OpenDgram}
 use Rattle.client_dgram.specs.Plain.{Tables, tries_at, takes_at, takes}
 use Rattle.client_dgram.specs.Settings.{default_settings}
 use Rattle.client_dgram.specs.declared.job.Job.{Job}
 use Rattle.client_dgram.specs.declared.job.Stage.TheVariants as at
-use Rattle.headline.specs.machine.Part.{Act}
 use Rattle.headline.specs.machine.Streams as multi
 use Rattle.headline.specs.machine.Streams.{with_at}
 use Rattle.headline.specs.machine.Dgrams as dgrams
 use Rattle.headline.specs.machine.Dgrams.{Queued, Trying, Tryer, Dgrams, staged, try_at}
 use Rattle.client_ties.specs.Chains.{still, then_act}
 use Rattle.client_ties.specs.Sights.{sight, due_of, IsFair}
-use Rattle.dgram_ties.specs.Slots.{slots_of, IsJobOf, AreSlots, names_of}
+use Rattle.dgram_ties.specs.Slots.{slots_of, IsJobOf, AreSlots}
 use Rattle.dgram_ties.specs.Steps.{made_by, AsItIs, Rests, Steps_on}
-use Rattle.dgram_ties.specs.Calls.{Leads, IsAfter, with_request, HasTaken}
+use Rattle.dgram_ties.specs.Calls.{Leads, with_request, HasTaken}
 use Rattle.dgram_ties.proofs.Changing.{alike_as, settled}
 use Rattle.client_ties.proofs.Keys.{with_here, with_again, is_or_was}
 use Rattle.client_ties.proofs.Tables.{rises_below, absent_above}

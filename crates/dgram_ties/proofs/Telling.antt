@@ -1,12 +1,12 @@
 -- An event is told.
-use Rattle.std.proofs.Common.{◌≡◌, ℕ, ◌+◌, ◌%◌, ◌<◌, ◌≤◌, ◌⊎◌, inl, inr, Bool, true, false, ◌&&◌, if◌then◌else◌, List, [], ◌∷◌, length, take, Option, Some, None, refl, sym, ap, subst, ◌∙◌, arith}
-use Rattle.std.specs.Prelude.{nat_le, Result, Ok, Err}
+use Rattle.std.proofs.Common.{◌≡◌, ℕ, ◌%◌, ◌<◌, ◌≤◌, Bool, true, false, ◌&&◌, if◌then◌else◌, List, length, take, Option, Some, None, refl, sym, ap, subst, ◌∙◌, arith}
+use Rattle.std.specs.Prelude.{nat_le, Ok, Err}
 use Rattle.std.proofs.lemmas.Bool.Decides.{nat_tests}
 use Rattle.std.proofs.lemmas.Nat.{from_be_bytes-to_be_bytes_2}
 use Rattle.dns_base.specs.Header as head
 use Rattle.dns_base.specs.Answering.{is_answer}
 use Rattle.client_request.specs.Composed.{composed}
-use Rattle.client_request.specs.Numbered.{frees, entry_at}
+use Rattle.client_request.specs.Numbered.{entry_at}
 use Rattle.client_request.specs.Request.{Request, is_answered}
 use Rattle.client_request.specs.Requests.{for_one}
 use Rattle.client_request.specs.View.{View, word}
@@ -18,7 +18,7 @@ use Rattle.client_request.specs.declared.event.Out.TheVariants.{Close}
 use Rattle.client_request.specs.declared.error.Error.TheVariants as errors
 use Rattle.client_request.specs.declared.error.QueryError.TheVariants as query
 use Rattle.client_request.specs.declared.fault.Fault.TheVariants as fault
-use Rattle.client_dgram.specs.Plain.{Tables, After, at_place, at_ticket, at_job, opened_stage, opens, open_failed_stage, open_fails, ends_stage, breaks, comes_answer, comes_stage, comes, answer_of, tells}
+use Rattle.client_dgram.specs.Plain.{Tables, After, at_place, at_ticket, at_job, opened_stage, open_failed_stage, ends_stage, comes_answer, comes_stage, tells}
 use Rattle.client_dgram.specs.Settings.{default_settings}
 use Rattle.client_dgram.specs.declared.job.Job.{Job}
 use Rattle.client_dgram.specs.declared.job.Stage.{Stage}

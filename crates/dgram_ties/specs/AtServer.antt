@@ -1,5 +1,5 @@
 -- Moves by datagrams as moves of a server by datagrams and streams.
-use Rattle.std.specs.Prelude.{◌≡◌, ◌≢◌, ℕ, ◌<◌, ◌≤◌, true, false, is_some, List, [], ◌∷◌, ◌++◌, ◌+◌, Option, Some, None, Result}
+use Rattle.std.specs.Prelude.{◌≡◌, ◌≢◌, ℕ, ◌<◌, ◌≤◌, true, false, is_some, [], ◌∷◌, ◌++◌, ◌+◌, Some, None, Result}
 use Rattle.client_request.specs.declared.error.Error.{Error}
 use Rattle.client_request.specs.declared.event.Out.TheVariants.{Start, Close}
 use Rattle.client_request.specs.declared.event.Via.TheVariants.{Dgram, Stream}
@@ -15,7 +15,7 @@ use Rattle.headline.specs.machine.Streams.{IsForeign}
 use Rattle.headline.specs.machine.Dgrams.{Queued, Sent, Ending, Cut, Tryer, Dgrams, staged, leave, Meets}
 use Rattle.headline.specs.machine.Server.{falls_back}
 use Rattle.headline.specs.machine.Served.{Served, served, has_moved, has_taken_it, IsInTime, IsSettled, Acts, Starts, Cancels}
-use Rattle.client_ties.specs.Chains.{Chain, then_act}
+use Rattle.client_ties.specs.Chains.{Chain}
 use Rattle.client_ties.specs.Sights.{Sight}
 use Rattle.dgram_ties.specs.Slots.{AreSlots, names_of}
 use Rattle.dgram_ties.specs.Steps.{AtOnce, Steps}

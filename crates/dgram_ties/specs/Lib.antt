@@ -2,3 +2,4 @@ pub mod Slots
 pub mod Steps
 pub mod Calls
 pub mod AtServer
+pub mod Halves

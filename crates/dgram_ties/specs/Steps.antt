@@ -1,5 +1,5 @@
 -- Moves of a server by datagrams, one after another, each with the result that it gives at once.
-use Rattle.std.specs.Prelude.{◌≡◌, ℕ, List, [], ◌∷◌, ◌++◌, Option, Some, Result}
+use Rattle.std.specs.Prelude.{◌≡◌, ℕ, [], ◌∷◌, Some, Result}
 use Rattle.client_request.specs.declared.error.Error.{Error}
 use Rattle.headline.specs.Messages.{Octets}
 use Rattle.headline.specs.machine.Part.{Act}

@@ -2,6 +2,7 @@
 
 ghost use Rattle.dgram_ties.specs.AtServer.{ServersMove, SlotsAreKnown};
 ghost use Rattle.dgram_ties.specs.Calls.{CallsAreMoves};
+ghost use Rattle.dgram_ties.specs.Halves.{StreamsMove};
 ghost use Rattle.dgram_ties.specs.Slots.{FreshIsAlike};
 
 /// A server of which nothing was asked is tied.
@@ -26,4 +27,10 @@ pub fn servers_move()
 #[tactic(auto, using(crate::proofs::Known::slots_are_known))]
 pub fn slots_are_known()
     ensures { SlotsAreKnown }
+{}
+
+/// What a server does by streams alone it does beside any datagrams.
+#[tactic(auto, using(crate::proofs::Halves::streams_move))]
+pub fn streams_move()
+    ensures { StreamsMove }
 {}

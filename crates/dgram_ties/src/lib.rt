@@ -3,4 +3,4 @@
 
 mod laws;
 
-pub use laws::{calls_are_moves, fresh_is_alike, servers_move, slots_are_known};
+pub use laws::{calls_are_moves, fresh_is_alike, servers_move, slots_are_known, streams_move};
