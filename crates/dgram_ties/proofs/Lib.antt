@@ -18,3 +18,4 @@ pub mod Fresh
 pub mod AtServer
 pub mod Known
 pub mod Halves
+pub mod Handing

@@ -3,3 +3,4 @@ pub mod Steps
 pub mod Calls
 pub mod AtServer
 pub mod Halves
+pub mod Waiting

@@ -4,6 +4,7 @@ ghost use Rattle.dgram_ties.specs.AtServer.{ServersMove, SlotsAreKnown};
 ghost use Rattle.dgram_ties.specs.Calls.{CallsAreMoves};
 ghost use Rattle.dgram_ties.specs.Halves.{StreamsMove};
 ghost use Rattle.dgram_ties.specs.Slots.{FreshIsAlike};
+ghost use Rattle.dgram_ties.specs.Waiting.{StreamsGive};
 
 /// A server of which nothing was asked is tied.
 #[tactic(auto, using(crate::proofs::Fresh::fresh_is_alike))]
@@ -33,4 +34,10 @@ pub fn slots_are_known()
 #[tactic(auto, using(crate::proofs::Halves::streams_move))]
 pub fn streams_move()
     ensures { StreamsMove }
+{}
+
+/// What the streams post is handed on in its order, and who had it waits no more.
+#[tactic(auto, using(crate::proofs::Handing::streams_give))]
+pub fn streams_give()
+    ensures { StreamsGive }
 {}

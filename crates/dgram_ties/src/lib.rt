@@ -3,4 +3,6 @@
 
 mod laws;
 
-pub use laws::{calls_are_moves, fresh_is_alike, servers_move, slots_are_known, streams_move};
+pub use laws::{
+    calls_are_moves, fresh_is_alike, servers_move, slots_are_known, streams_give, streams_move,
+};
