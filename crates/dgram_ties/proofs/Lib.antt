@@ -19,3 +19,4 @@ pub mod AtServer
 pub mod Known
 pub mod Halves
 pub mod Handing
+pub mod Staying

@@ -4,3 +4,4 @@ pub mod Calls
 pub mod AtServer
 pub mod Halves
 pub mod Waiting
+pub mod Staying

@@ -4,6 +4,7 @@ ghost use Rattle.dgram_ties.specs.AtServer.{ServersMove, SlotsAreKnown};
 ghost use Rattle.dgram_ties.specs.Calls.{CallsAreMoves};
 ghost use Rattle.dgram_ties.specs.Halves.{StreamsMove};
 ghost use Rattle.dgram_ties.specs.Slots.{FreshIsAlike};
+ghost use Rattle.dgram_ties.specs.Staying.{OpeningsAreNew, RequestsStay};
 ghost use Rattle.dgram_ties.specs.Waiting.{StreamsGive};
 
 /// A server of which nothing was asked is tied.
@@ -40,4 +41,11 @@ pub fn streams_move()
 #[tactic(auto, using(crate::proofs::Handing::streams_give))]
 pub fn streams_give()
     ensures { StreamsGive }
+{}
+
+/// What was asked stays through all moves by datagrams, and a stream place that opens opened before or is new.
+#[tactic(auto, using(crate::proofs::Staying::requests_stay, crate::proofs::Staying::openings_are_new))]
+pub fn much_stays()
+    ensures requests { RequestsStay }
+    ensures openings { OpeningsAreNew }
 {}
