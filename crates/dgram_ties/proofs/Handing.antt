@@ -11,9 +11,9 @@ use Rattle.client_multi.specs.declared.dgram_stream.job.Job.{Job}
 use Rattle.client_multi.specs.declared.dgram_stream.job.Job.TheVariants.{Dgram, Stream}
 use Rattle.headline.specs.machine.Part.{Post}
 use Rattle.headline.specs.machine.Streams.{with_at}
-use Rattle.headline.specs.machine.Dgrams.{Tryer, Dgrams}
+use Rattle.headline.specs.machine.Dgrams.{Dgrams}
 use Rattle.client_ties.specs.Chains.{Gives}
-use Rattle.client_ties.proofs.Keys.{with_here, with_there, was_there, is_or_was}
+use Rattle.client_ties.proofs.Keys.{with_here, with_there, was_there}
 use Rattle.client_ties.proofs.Tables.{at_frees, sorted_frees}
 use Rattle.dgram_ties.specs.Waiting.{WaitsBelow, AtDgrams, AtStreams, AreWaiting, number_in, numbers_of, AreGiven, ticket_at, StreamsGive}
 

@@ -1,5 +1,5 @@
 -- The two halves of a server that falls back to streams: what it does by streams alone it does beside any datagrams.
-use Rattle.std.specs.Prelude.{◌≡◌, ℕ, ◌+◌, ◌<◌, List, Option, Some, None}
+use Rattle.std.specs.Prelude.{◌≡◌, ℕ, ◌+◌, ◌<◌, Some, None}
 use Rattle.client_request.specs.Request.{Request}
 use Rattle.headline.specs.Orderly.{use_at}
 use Rattle.headline.specs.Time.{read_timeout}

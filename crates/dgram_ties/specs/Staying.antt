@@ -1,5 +1,5 @@
 -- What stays through moves: what was asked, and which place opens.
-use Rattle.std.specs.Prelude.{◌≡◌, ℕ, ◌≤◌, ◌⊎◌, Option, Some}
+use Rattle.std.specs.Prelude.{◌≡◌, ℕ, ◌≤◌, ◌⊎◌, Some}
 use Rattle.client_request.specs.declared.event.What.{What}
 use Rattle.headline.specs.Trace.{Conf}
 use Rattle.headline.specs.machine.Part.{Act}

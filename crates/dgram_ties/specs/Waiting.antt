@@ -1,15 +1,14 @@
 -- The tables of a fallback beside those who wait below: each request waits at the datagrams or at the streams, under a ticket of theirs.
-use Rattle.std.specs.Prelude.{◌≡◌, ℕ, List, [], ◌∷◌, ◌++◌, Option, Some, None, option_and_then}
+use Rattle.std.specs.Prelude.{◌≡◌, ℕ, List, ◌++◌, Option, Some, option_and_then}
 use Rattle.client_request.specs.Numbered.{entry_at}
 use Rattle.client_request.specs.Request.{Request}
 use Rattle.client_request.specs.declared.board.Posted.{Posted}
 use Rattle.client_dgram.specs.Plain as dgram
 use Rattle.client_stream.specs.Plain as stream
-use Rattle.client_multi.specs.Fallback.{Tables, lower_of, waiting_below, without_below, gives_all}
+use Rattle.client_multi.specs.Fallback.{Tables, lower_of, gives_all}
 use Rattle.client_multi.specs.declared.dgram_stream.job.Job.{Job}
 use Rattle.client_multi.specs.declared.dgram_stream.job.Job.TheVariants.{Dgram, Stream}
 use Rattle.headline.specs.machine.Part.{Post}
-use Rattle.headline.specs.machine.Streams.{with_at}
 use Rattle.headline.specs.machine.Dgrams.{Tryer, Dgrams}
 use Rattle.client_ties.specs.Chains.{Gives}
 use Rattle.client_ties.specs.Lines.{Sorted}
