@@ -4,5 +4,6 @@
 mod laws;
 
 pub use laws::{
-    calls_are_moves, fresh_is_alike, much_stays, servers_move, slots_are_known, streams_give, streams_move,
+    calls_are_moves, fresh_is_alike, much_stays, servers_move, slots_are_known, streams_give,
+    streams_move,
 };
