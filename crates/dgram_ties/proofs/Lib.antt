@@ -20,3 +20,4 @@ pub mod Known
 pub mod Halves
 pub mod Handing
 pub mod Staying
+pub mod Admitting

@@ -1,17 +1,19 @@
 -- The tables of a fallback beside those who wait below: each request waits at the datagrams or at the streams, under a ticket of theirs.
-use Rattle.std.specs.Prelude.{◌≡◌, ℕ, List, ◌++◌, Option, Some, option_and_then}
+use Rattle.std.specs.Prelude.{◌≡◌, true, is_some, ◌<◌, ◌≤◌, ℕ, List, ◌++◌, Option, Some, None, option_and_then}
 use Rattle.client_request.specs.Numbered.{entry_at}
 use Rattle.client_request.specs.Request.{Request}
 use Rattle.client_request.specs.declared.board.Posted.{Posted}
 use Rattle.client_dgram.specs.Plain as dgram
 use Rattle.client_stream.specs.Plain as stream
-use Rattle.client_multi.specs.Fallback.{Tables, lower_of, gives_all}
+use Rattle.client_multi.specs.Fallback.{Tables, lower_of, admits, without, gives_all}
 use Rattle.client_multi.specs.declared.dgram_stream.job.Job.{Job}
 use Rattle.client_multi.specs.declared.dgram_stream.job.Job.TheVariants.{Dgram, Stream}
 use Rattle.headline.specs.machine.Part.{Post}
+use Rattle.headline.specs.machine.Streams.{with_at}
 use Rattle.headline.specs.machine.Dgrams.{Tryer, Dgrams}
 use Rattle.client_ties.specs.Chains.{Gives}
 use Rattle.client_ties.specs.Lines.{Sorted}
+use Rattle.dgram_ties.specs.Staying.{AsksTheSame}
 
 module _ {Q : Type 0} (ticket_of : Q → ℕ) where
   -- Where a request waits. `by_dgram` and `by_stream` have the number of the request of each ticket below.
@@ -53,3 +55,20 @@ ticket_at r = r.ticket
 abbrev pub StreamsGive : Type 0
 StreamsGive = (s : Tables Request dgram.Asked stream.Asked) (d : Dgrams) (by_dgram by_stream left : ℕ → Option ℕ) (ticket : ℕ) (posts board : List Posted) (xs : List Post) → AreWaiting ticket_at s d by_dgram by_stream ticket → Gives by_stream posts xs left
     → AreGiven ticket_at s d by_dgram by_stream left ticket board xs (gives_all posts s board).0 (gives_all posts s board).1
+
+-- the tables once a request waits under a ticket of their own
+abbrev pub Comes : (t : ℕ) → Job Request dgram.Asked stream.Asked → Tables Request dgram.Asked stream.Asked → (ticket later : ℕ) → Type 0
+Comes t job s ticket later = (entry_at t s.jobs ≡ None) × (entry_at (lower_of job) s.tickets ≡ None) × (t < later) × (lower_of job < later) × (ticket ≤ later)
+
+-- How the tables change with those who wait below.
+pub record TablesChange : Type 0 where
+  -- the datagrams move on, and ask the same for those who still wait there
+  pub moves : (s : Tables Request dgram.Asked stream.Asked) (d e : Dgrams) (by_dgram by_stream : ℕ → Option ℕ) (ticket : ℕ) → AreWaiting ticket_at s d by_dgram by_stream ticket → AsksTheSame d e → ((i k : ℕ) → by_dgram i ≡ Some k → is_some (e.held k) ≡ true) → AreWaiting ticket_at s e by_dgram by_stream ticket
+  -- a request waits at the datagrams no more
+  pub less : (s : Tables Request dgram.Asked stream.Asked) (d : Dgrams) (by_dgram by_stream : ℕ → Option ℕ) (ticket t lower k : ℕ) (r : Request) (x : dgram.Asked) → AreWaiting ticket_at s d by_dgram by_stream ticket → entry_at t s.jobs ≡ Some (Dgram lower k r x)
+      → AreWaiting ticket_at (without t s) d (with_at lower None by_dgram) by_stream ticket × ((u : ℕ) → numbers_of (without t s) by_stream u ≡ with_at t None (numbers_of s by_stream) u)
+  -- one waits at the datagrams, or at the streams
+  pub by_dgram : (s : Tables Request dgram.Asked stream.Asked) (d : Dgrams) (by_dgram by_stream : ℕ → Option ℕ) (ticket later t lower k : ℕ) (r : Request) (x : dgram.Asked) (a : Tryer) → AreWaiting ticket_at s d by_dgram by_stream ticket → Comes t (Dgram lower k r x) s ticket later → by_dgram lower ≡ None → by_stream lower ≡ None → x.ticket ≡ lower → d.held k ≡ Some a → a.request ≡ r
+      → AreWaiting ticket_at (admits t (Dgram lower k r x) s) d (with_at lower (Some k) by_dgram) by_stream later × ((u : ℕ) → numbers_of (admits t (Dgram lower k r x) s) by_stream u ≡ with_at t (Some k) (numbers_of s by_stream) u)
+  pub by_stream : (s : Tables Request dgram.Asked stream.Asked) (d : Dgrams) (by_dgram by_stream : ℕ → Option ℕ) (ticket later t lower k : ℕ) (x : stream.Asked) → AreWaiting ticket_at s d by_dgram by_stream ticket → Comes t (Stream lower x) s ticket later → by_dgram lower ≡ None → by_stream lower ≡ None → ticket_at x ≡ lower
+      → AreWaiting ticket_at (admits t (Stream lower x) s) d by_dgram (with_at lower (Some k) by_stream) later × ((u : ℕ) → numbers_of (admits t (Stream lower x) s) (with_at lower (Some k) by_stream) u ≡ with_at t (Some k) (numbers_of s by_stream) u)

@@ -5,7 +5,7 @@ ghost use Rattle.dgram_ties.specs.Calls.{CallsAreMoves};
 ghost use Rattle.dgram_ties.specs.Halves.{StreamsMove};
 ghost use Rattle.dgram_ties.specs.Slots.{FreshIsAlike};
 ghost use Rattle.dgram_ties.specs.Staying.{OpeningsAreNew, RequestsStay};
-ghost use Rattle.dgram_ties.specs.Waiting.{StreamsGive};
+ghost use Rattle.dgram_ties.specs.Waiting.{StreamsGive, TablesChange};
 
 /// A server of which nothing was asked is tied.
 #[tactic(auto, using(crate::proofs::Fresh::fresh_is_alike))]
@@ -48,4 +48,10 @@ pub fn streams_give()
 pub fn much_stays()
     ensures requests { RequestsStay }
     ensures openings { OpeningsAreNew }
+{}
+
+/// How the tables of a fallback change with those who wait below.
+#[tactic(auto, using(crate::proofs::Admitting::tables_change))]
+pub fn tables_change()
+    ensures { TablesChange }
 {}

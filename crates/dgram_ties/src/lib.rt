@@ -6,4 +6,5 @@ mod laws;
 pub use laws::{
     calls_are_moves, fresh_is_alike, much_stays, servers_move, slots_are_known, streams_give,
     streams_move,
+    tables_change,
 };
