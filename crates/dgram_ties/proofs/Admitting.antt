@@ -1,5 +1,5 @@
 -- The tables of a fallback, as those who wait below come and go.
-use Rattle.std.proofs.Common.{◌≡◌, ℕ, ◌<◌, ◌≤◌, true, ◌⊎◌, inl, inr, is_some, List, [], ◌∷◌, Option, Some, None, refl, sym, ap, subst, ◌∙◌, zero-le}
+use Rattle.std.proofs.Common.{◌≡◌, ℕ, true, ◌⊎◌, inl, inr, is_some, Option, Some, None, refl, sym, ap, subst, ◌∙◌, zero-le}
 use Rattle.std.specs.Prelude.{option_and_then}
 use Rattle.std.proofs.lemmas.Bool.{cases_eq}
 use Rattle.client_request.specs.Numbered.{puts, frees, entry_at}

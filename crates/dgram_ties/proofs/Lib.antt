@@ -21,3 +21,4 @@ pub mod Halves
 pub mod Handing
 pub mod Staying
 pub mod Admitting
+pub mod Falling

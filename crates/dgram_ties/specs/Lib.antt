@@ -5,3 +5,4 @@ pub mod AtServer
 pub mod Halves
 pub mod Waiting
 pub mod Staying
+pub mod Fallback

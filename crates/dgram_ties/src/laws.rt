@@ -43,15 +43,21 @@ pub fn streams_give()
     ensures { StreamsGive }
 {}
 
-/// What was asked stays through all moves by datagrams, and a stream place that opens opened before or is new.
-#[tactic(auto, using(crate::proofs::Staying::requests_stay, crate::proofs::Staying::openings_are_new))]
-pub fn much_stays()
-    ensures requests { RequestsStay }
-    ensures openings { OpeningsAreNew }
+/// What was asked stays through all moves by datagrams.
+#[tactic(auto, using(crate::proofs::Staying::requests_stay))]
+pub fn requests_stay()
+    ensures { RequestsStay }
 {}
 
-/// How the tables of a fallback change with those who wait below.
-#[tactic(auto, using(crate::proofs::Admitting::tables_change))]
+/// A stream place that opens opened before, or is new.
+#[tactic(auto, using(crate::proofs::Staying::openings_are_new))]
+pub fn openings_are_new()
+    ensures { OpeningsAreNew }
+{}
+
+/// How the tables of a fallback change with those who wait below. The laws of its tie that speak of no call are proved over
+/// any streams that are tied, so no contract can state them: their proofs are named here.
+#[tactic(auto, using(crate::proofs::Admitting::tables_change, crate::proofs::Falling::fresh, crate::proofs::Falling::same, crate::proofs::Falling::set, crate::proofs::Falling::named, crate::proofs::Falling::held, crate::proofs::Falling::begins, crate::proofs::Falling::passes, crate::proofs::Falling::rests))]
 pub fn tables_change()
     ensures { TablesChange }
 {}

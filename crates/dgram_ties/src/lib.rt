@@ -4,7 +4,6 @@
 mod laws;
 
 pub use laws::{
-    calls_are_moves, fresh_is_alike, much_stays, servers_move, slots_are_known, streams_give,
-    streams_move,
-    tables_change,
+    calls_are_moves, fresh_is_alike, openings_are_new, requests_stay, servers_move,
+    slots_are_known, streams_give, streams_move, tables_change,
 };
