@@ -92,7 +92,9 @@ pub record HasDropped (server ticket k : ℕ) (s : Tables Request) (d : Dgrams) 
   pub made : Act Dgrams
   pub steps : Steps server v.now first.place first.state made
   pub leaves : Leaves s d v (then_act first made) t w
-  pub posts : Posts (with_at ticket None (names_of s)) v (then_act first made) t w
+  pub nothing : (then_act first made).posts ≡ []
+  pub board : w.board ≡ v.board
+  pub names : (i : ℕ) → names_of t i ≡ with_at ticket None (names_of s) i
 
 -- A cut answer came for request k: the message is on the board, and its place is closed. In the machine the request is still one whose answer was cut, until it goes on by stream.
 pub record HasCut (server : ℕ) (what : What) (s : Tables Request) (d : Dgrams) (v : View) (t : Tables Request) (w : View) : Type 0 where
