@@ -1,0 +1,7 @@
+//! A choice among several servers: which is asked first, when the next one is asked, and whose answer
+//! is taken.
+#![tactic(auto)]
+
+mod stats;
+
+pub use stats::{Stats, stats_law};
