@@ -2,6 +2,13 @@
 //! is taken.
 #![tactic(auto)]
 
+mod choice;
+mod job;
+mod servers;
 mod stats;
+mod steps;
 
+pub use choice::Choice;
+pub use job::{Entry, Job, Started};
+pub use servers::{Reply, Server};
 pub use stats::{Stats, stats_law};
