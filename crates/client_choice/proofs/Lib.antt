@@ -1,3 +1,4 @@
 pub mod At
+pub mod Keeping
 pub mod RootLemmas
 pub mod StatsLaws

@@ -149,6 +149,9 @@ module _ {R U P : Type 0} where
   abbrev pub unarmed : Option ℕ → Choice R U P → Choice R U P
   unarmed timer c = record c { timers = unset timer c.timers }
 
+  abbrev pub judged : ℕ → Job R P → ℕ → Choice R U P → Choice R U P
+  judged giver job now c = record c { servers = judges_each giver now job.started c.servers }
+
   -- A request waits on, unless no result is to come.
   abbrev pub rests : ℕ → Job R P → Choice R U P → View → After R U P
   rests ticket job c v = if is_over job then Some (c, gives job.deferred ticket v) else Some (keeps ticket job c, v)
@@ -167,11 +170,8 @@ module _ {R U P : Type 0} (below : Transport R U P) where
   gives_up started c v = option_map (λ x. (record c { servers = x.0 }, x.1)) (drops_each started c.servers v)
 
   -- A server gave the result: each that was started is judged, and the others give the request up.
-  abbrev pub judged : ℕ → Job R P → ℕ → Choice R U P → Choice R U P
-  judged giver job now c = record c { servers = judges_each giver now job.started c.servers; timers = unset job.timer c.timers }
-
   abbrev pub ends : (ticket giver : ℕ) → Part → Job R P → Choice R U P → View → After R U P
-  ends ticket giver part job c v = gives_up job.started (judged giver job v.now c) (answers ticket part (stopped job.timer v))
+  ends ticket giver part job c v = gives_up job.started (unarmed job.timer (judged giver job v.now c)) (answers ticket part (stopped job.timer v))
 
   -- A server is started. When its estimate has passed, the next one is.
   abbrev pub begun_at : Option Part → Choice R U P → List (Server U) → (Job R P × List (ℕ × ℕ)) × View → ((Option Part × Job R P) × Choice R U P) × View

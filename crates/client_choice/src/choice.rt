@@ -119,13 +119,27 @@ pub(crate) fn disarm<W: Words>(timers: &mut BTreeMap<u64, u64>, cx: &mut Cx<'_, 
     }
 }
 
-/// Each server that was started is judged: the one that gave the result, and those that were waited for.
-pub(crate) fn judge_all<U, P>(servers: &mut Vec<Server<U>>, started: &[Started<P>], giver: usize, now: u64)
+/// Each server that was started is judged, in order.
+fn judge_each<U, P>(servers: &mut Vec<Server<U>>, started: &[Started<P>], giver: usize, now: u64)
     ensures { servers.new.items ≡ plain.judges_each giver now started.now servers.old.items }
 {
     for s in started {
         judge_at(servers, s.server, s.server == giver, now.saturating_sub(s.since));
     }
+}
+
+/// Each server that was started is judged: the one that gave the result, and those that were waited for.
+#[tactic(auto, using(crate::proofs::Keeping::kept_each))]
+pub(crate) fn judge_all<Req: ComposeRequest, U: SendRequest<Req>>(
+    choice: &mut Choice<Req, U>,
+    job: &Job<Req, U::Response>,
+    giver: usize,
+    now: u64,
+)
+    ensures value { choice.new ≡ plain.judged giver job.now now choice.old }
+    ensures keeps { of_servers.flags U.holds_failed choice.new.servers ≡ of_servers.flags U.holds_failed choice.old.servers }
+{
+    judge_each(&mut choice.servers, &job.started, giver, now);
 }
 
 /// A server gives a request up, if it gave no result yet.

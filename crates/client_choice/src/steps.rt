@@ -72,7 +72,7 @@ fn end<Req: ComposeRequest, U: SendRequest<Req>, W: Words>(
     ensures refused { IfErr result IsRefusal }
     ensures failed_only { IsErrOf result Error.Failed → of_servers.holds_failed U.holds_failed choice.old.servers ≡ true }
 {
-    judge_all(&mut choice.servers, &job.started, giver, cx.now.0);
+    judge_all(choice, &job, giver, cx.now.0);
     disarm(&mut choice.timers, cx, job.timer);
     cx.board.put(ticket, part)?;
     give_up_all(&mut choice.servers, cx, job.started)
