@@ -149,6 +149,9 @@ module _ {R U P : Type 0} where
   abbrev pub unarmed : Option ℕ → Choice R U P → Choice R U P
   unarmed timer c = record c { timers = unset timer c.timers }
 
+  abbrev pub without_owner : (server lower : ℕ) → Choice R U P → Choice R U P
+  without_owner server lower c = record c { servers = disowned server lower c.servers }
+
   abbrev pub judged : ℕ → Job R P → ℕ → Choice R U P → Choice R U P
   judged giver job now c = record c { servers = judges_each giver now job.started c.servers }
 
@@ -223,7 +226,7 @@ module _ {R U P : Type 0} (below : Transport R U P) where
     settles_owner server p c v (Some ticket) = settles_job ticket server p.part c v (entry_at ticket c.jobs)
 
     abbrev pub settles : ℕ → Posted → Choice R U P → View → After R U P
-    settles server p c v = settles_owner server p (record c { servers = disowned server p.ticket c.servers }) v (owner server p.ticket c.servers)
+    settles server p c v = settles_owner server p (without_owner server p.ticket c) v (owner server p.ticket c.servers)
 
     abbrev pub settles_all : ℕ → List Posted → Choice R U P → View → After R U P
     settles_all server [] c v = Some (c, v)

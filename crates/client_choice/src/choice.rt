@@ -9,7 +9,7 @@ ghost use Rattle.client_choice.specs.Choice as plain;
 ghost use Rattle.client_choice.specs.Servers as of_servers;
 
 use crate::job::{Job, Started};
-use crate::servers::{Server, give_up_at, judge_at};
+use crate::servers::{Server, give_up_at, judge_at, take_owner};
 use client_request::{ComposeRequest, Cx, Error, SendRequest, TimerId, Words};
 use client_settings::redundant::Config;
 use dns_base::{Message, NoMemory, OptRcode};
@@ -140,6 +140,20 @@ pub(crate) fn judge_all<Req: ComposeRequest, U: SendRequest<Req>>(
     ensures keeps { of_servers.flags U.holds_failed choice.new.servers ≡ of_servers.flags U.holds_failed choice.old.servers }
 {
     judge_each(&mut choice.servers, &job.started, giver, now);
+}
+
+/// The ticket of the request that waits under a ticket at a server, and waits there no more.
+#[tactic(auto, using(crate::proofs::Keeping::kept_disowned))]
+pub(crate) fn disown<Req: ComposeRequest, U: SendRequest<Req>>(
+    choice: &mut Choice<Req, U>,
+    server: usize,
+    lower: u64,
+) -> Option<u64>
+    ensures value { result ≡ of_servers.owner server lower choice.old.servers }
+    ensures after { choice.new ≡ plain.without_owner server lower choice.old }
+    ensures keeps { of_servers.flags U.holds_failed choice.new.servers ≡ of_servers.flags U.holds_failed choice.old.servers }
+{
+    take_owner(&mut choice.servers, server, lower)
 }
 
 /// A server gives a request up, if it gave no result yet.

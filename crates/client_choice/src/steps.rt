@@ -7,9 +7,9 @@ ghost use Rattle.client_request.specs.Response.{IsRefusal};
 ghost use Rattle.client_choice.specs.Choice as plain;
 ghost use Rattle.client_choice.specs.Servers as of_servers;
 
-use crate::choice::{Choice, arm, disarm, give_up_all, is_deferred, judge_all};
+use crate::choice::{Choice, arm, disarm, disown, give_up_all, is_deferred, judge_all};
 use crate::job::{Entry, Job, parted};
-use crate::servers::{hear_at, start_at, take_owner};
+use crate::servers::{hear_at, start_at};
 use client_request::{Board, ComposeRequest, Cx, Error, Posted, SendRequest, Signal, TimerId, Words};
 use client_settings::redundant::Config;
 use dns_base::{Message, NoMemory};
@@ -215,7 +215,7 @@ fn settle<Req: ComposeRequest, U: SendRequest<Req>, W: Words>(
         ticket: lower,
         part,
     } = posted;
-    let Some(ticket) = take_owner(&mut choice.servers, server, lower) else {
+    let Some(ticket) = disown(choice, server, lower) else {
         cx.board.put(lower, part)?;
         return Ok(());
     };
