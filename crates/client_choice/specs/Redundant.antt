@@ -1,7 +1,7 @@
 -- The plain machine of a choice by estimate, over any transport.
-use Rattle.std.specs.Prelude.{ℕ, ◌+◌, ◌-◌, ◌*◌, ◌/◌, ◌^◌, ◌==◌, ◌||◌, nat_lt, nat_le, Bool, false, if◌then◌else◌, List, [], ◌∷◌, ◌++◌, length, Option, Some, None, option_map, option_and_then, Err, slice_get}
+use Rattle.std.specs.Prelude.{ℕ, ◌+◌, ◌-◌, ◌*◌, ◌/◌, ◌^◌, ◌||◌, nat_lt, nat_le, Bool, false, if◌then◌else◌, List, [], ◌∷◌, ◌++◌, length, Option, Some, None, option_map, option_and_then, Err, slice_get}
 use Rattle.std.specs.List.{insert, remove, position}
-use Rattle.client_request.specs.View.{View, Heard, Transport, word, drawn, answers, draws_ticket}
+use Rattle.client_request.specs.View.{View, Transport, word, drawn, answers, draws_ticket}
 use Rattle.client_request.specs.Response.{IsRefusal}
 use Rattle.client_request.specs.declared.error.Error.{Error}
 use Rattle.client_request.specs.declared.error.Error.TheVariants as errors
