@@ -2,6 +2,8 @@
 //! is taken.
 #![tactic(auto)]
 
+mod servfail;
 mod stats;
 
+pub use servfail::serve_fail;
 pub use stats::{Stats, stats_law};
