@@ -1,3 +1,4 @@
+pub mod BalancerSettings
 pub mod Roots
 pub mod ServeFail
 pub mod Stats

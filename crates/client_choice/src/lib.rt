@@ -2,6 +2,7 @@
 //! is taken.
 #![tactic(auto)]
 
+pub mod load_balancer;
 mod servfail;
 mod stats;
 
