@@ -1,3 +1,5 @@
+pub mod At
 pub mod Failing
 pub mod RootLemmas
 pub mod StatsLaws
+pub mod Surveying

@@ -1,4 +1,9 @@
+pub mod Balancing
 pub mod BalancerSettings
+pub mod Bursts
+pub mod Choice
+pub mod Order
 pub mod Roots
 pub mod ServeFail
+pub mod Servers
 pub mod Stats

@@ -2,9 +2,17 @@
 //! is taken.
 #![tactic(auto)]
 
+mod choice;
+mod job;
 pub mod load_balancer;
+mod order;
+mod servers;
 mod servfail;
 mod stats;
+mod steps;
 
+pub use choice::Choice;
+pub use job::{Entry, Job, Started};
+pub use servers::{Reply, Server};
 pub use servfail::serve_fail;
 pub use stats::{Stats, stats_law};

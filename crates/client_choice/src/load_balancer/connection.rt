@@ -1,0 +1,166 @@
+//! A balancer over any transport.
+
+ghost use Rattle.std.specs.Prelude.{◌≡◌, ◌⊎◌, Err, true, OnOk, OnErr, IfErr, IsErrOf};
+ghost use Rattle.client_request.specs.declared.error.Error.TheVariants as errors;
+ghost use Rattle.client_choice.specs.BalancerSettings.{default_balancer};
+ghost use Rattle.client_choice.specs.Balancing as plain;
+
+use crate::load_balancer::config::{Config, ConnConfig};
+use crate::load_balancer::parts::Parts;
+use crate::load_balancer::steps::{give_up, hear, take_on};
+use client_request::{
+    Board, ComposeRequest, Cx, Error, GetResponse, Poll, SendRequest, Signal, Words, take_response,
+};
+use dns_base::Message;
+use std::alloc::Global;
+use std::fmt;
+use std::marker::Model;
+
+/// Servers that requests are spread over. Each is a transport of its own.
+#[derive(Drop)]
+pub struct Connection<Req, U: SendRequest<Req>> {
+    config: Config,
+    parts: Parts<Req, U>,
+    failed: bool,
+}
+
+/// A connection is the transport, too.
+pub type Transport<Req, U> = Connection<Req, U>;
+
+impl<Req, U: SendRequest<Req>> Model for Connection<Req, U> {
+    ghost Value = { plain.Balancer Req U U.Response };
+
+    ghost view = { λ c. record { settings = c.config; parts = c.parts; failed = c.failed } };
+}
+
+impl<Req, U: SendRequest<Req>> Connection<Req, U> {
+    /// A balancer without servers, with the default settings. It takes no memory.
+    pub fn new(alloc: Global) -> Connection<Req, U>
+        ensures { result ≡ plain.started default_balancer }
+    {
+        Connection::with_config(alloc, Config::new())
+    }
+
+    /// A balancer without servers, with settings of one's own. It takes no memory.
+    pub fn with_config(alloc: Global, config: Config) -> Connection<Req, U>
+        ensures { result ≡ plain.started config }
+    {
+        Connection {
+            config,
+            parts: Parts::new(alloc),
+            failed: false,
+        }
+    }
+}
+
+impl<Req, U: SendRequest<Req> + Drop> Connection<Req, U> {
+    /// Adds a server behind the others, at any time. Servers are numbered from 10 on. `label` has no effect.
+    /// `NoMemory`, and `Failed` after a call gave up.
+    pub fn add(&mut self, label: &str, config: &ConnConfig, conn: U) -> Result<(), Error>
+        ensures ok { OnOk result (self.new ≡ record self.old { parts = plain.joined config.now conn self.old.parts }) }
+        ensures refused { IfErr result (λ e. (e ≡ errors.NoMemory) ⊎ (e ≡ errors.Failed)) }
+        ensures err { OnErr result (self.new.failed ≡ true) }
+        ensures failed { self.old.failed ≡ true → (result ≡ Err errors.Failed) × (self.new ≡ self.old) }
+        ensures failed_only { IsErrOf result errors.Failed → self.old.failed ≡ true }
+    {
+        let _label = label;
+        if self.failed {
+            return Err(Error::Failed);
+        }
+        match self.parts.add(*config, conn) {
+            Ok(()) => Ok(()),
+            Err(_) => {
+                self.failed = true;
+                Err(Error::NoMemory)
+            }
+        }
+    }
+}
+
+/// What stands for the result of a request.
+#[derive(Drop)]
+pub struct Request {
+    ticket: u64,
+    given: bool,
+}
+
+impl Model for Request {
+    ghost use Rattle.client_choice.specs.Balancing.{Asked};
+
+    ghost Value = { Asked };
+
+    ghost view = { λ r. record { ticket = r.ticket; given = r.given } };
+}
+
+impl fmt::Debug for Request {
+    fn fmt<W: fmt::Write>(&self, f: &mut fmt::Formatter<W>) -> fmt::Result {
+        f.write_str("Request { fut: _ }")
+    }
+}
+
+impl GetResponse for Request {
+    ghost ticket_of = { λ r. r.ticket };
+
+    ghost has_given = { λ r. r.given };
+
+    fn get_response(&mut self, board: &mut Board) -> Poll<Result<Message, Error>> {
+        take_response(board, self.ticket, &mut self.given)
+    }
+
+    fn ticket(&self) -> u64 {
+        self.ticket
+    }
+}
+
+impl<Req: ComposeRequest, U: SendRequest<Req>> SendRequest<Req> for Connection<Req, U> {
+    type Response = Request;
+
+    ghost has_failed = { λ c. c.failed };
+
+    ghost holds_failed = { plain.holds_failed U.holds_failed };
+
+    ghost transport = { plain.transport Req.requests U.transport };
+
+    fn send_request<W: Words>(
+        &mut self,
+        cx: &mut Cx<'_, W>,
+        request: Req,
+    ) -> Result<Request, Error> {
+        if self.failed {
+            return Err(Error::Failed);
+        }
+        let result = take_on(&mut self.parts, &self.config, cx, request);
+        match result {
+            Ok(ticket) => Ok(Request {
+                ticket,
+                given: false,
+            }),
+            Err(error) => {
+                self.failed = true;
+                Err(error)
+            }
+        }
+    }
+
+    fn step<W: Words>(&mut self, cx: &mut Cx<'_, W>, signal: Signal<'_>) -> Result<(), Error> {
+        if self.failed {
+            return Err(Error::Failed);
+        }
+        let result = hear(&mut self.parts, &self.config, cx, signal);
+        if result.is_err() {
+            self.failed = true;
+        }
+        result
+    }
+
+    fn cancel<W: Words>(&mut self, cx: &mut Cx<'_, W>, response: Request) -> Result<(), Error> {
+        if self.failed {
+            return Err(Error::Failed);
+        }
+        let result = give_up(&mut self.parts, cx, response.ticket);
+        if result.is_err() {
+            self.failed = true;
+        }
+        result
+    }
+}
