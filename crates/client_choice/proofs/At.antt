@@ -1,10 +1,8 @@
 -- One server of the list is changed, and the others stay as they are.
-use Rattle.std.proofs.Common.{◌≡◌, ℕ, zero, suc, ◌<◌, ◌∙◌, ap, sym, refl, arith, List, [], ◌∷◌, length, Bool, true, false, Option, Some, None, slice_index_or, slice_set, slice_get, map, ◌||◌}
+use Rattle.std.proofs.Common.{◌≡◌, ℕ, zero, suc, ◌<◌, ◌∙◌, ap, sym, refl, arith, List, [], ◌∷◌, length, Bool, true, false, Option, Some, None, slice_index_or, slice_set, slice_get, map, ◌||◌, Result, Ok, Err, OnOk}
 use Rattle.std.proofs.Math.Seq.{map-set_same}
 use Rattle.std.proofs.lemmas.Option.{slice_get_read}
-use Rattle.client_request.specs.View.{View, Transport}
-use Rattle.client_choice.specs.declared.servers.Reply.{Reply}
-use Rattle.client_choice.specs.Servers.{Server, flags, holds_failed, is_any, starts, starts_at}
+use Rattle.client_choice.specs.Servers.{Server, flags, holds_failed, is_any}
 
 -- of each server is known what was known, where that is so of the one that is changed
 pub kept_at : {U : Type 0} (f : U → Bool) (servers : List (Server U)) (i : ℕ) (old new : Server U) → old ≡ slice_index_or servers i old → f new.upstream ≡ f old.upstream → flags f (slice_set servers i new) ≡ flags f servers
@@ -23,6 +21,7 @@ any_at f (x ∷ servers) (suc i) s at is = rw (any_at f servers i s at is) (or_t
 pub found_at : {U : Type 0} (servers : List (Server U)) (i : ℕ) (s : Server U) → i < length servers → s ≡ slice_index_or servers i s → slice_get servers i ≡ Some s
 found_at servers i s within at = slice_get_read servers (length servers) i s refl within at
 
--- what was started at the server of an index
-pub started_at : {R U P : Type 0} (below : Transport R U P) (i ticket : ℕ) (request : R) (servers : List (Server U)) (v : View) (s new : Server U) (r : Reply P) (w : View) → slice_get servers i ≡ Some s → starts below ticket request s v ≡ Some ((r, new), w) → starts_at below i ticket request servers v ≡ Some ((Some r, slice_set servers i new), w)
-started_at below i ticket request servers v s new r w at step = rw at (rw step refl)
+-- the same where a call was Ok
+pub kept_on : {A E U : Type 0} (r : Result A E) (f : U → Bool) (servers : List (Server U)) (i : ℕ) (old new : Server U) → old ≡ slice_index_or servers i old → OnOk r (f new.upstream ≡ f old.upstream) → OnOk r (flags f (slice_set servers i new) ≡ flags f servers)
+kept_on (Ok x) f servers i old new at same = kept_at f servers i old new at same
+kept_on (Err e) f servers i old new at same = tt
