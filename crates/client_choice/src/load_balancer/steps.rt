@@ -5,6 +5,7 @@ ghost use Rattle.client_request.specs.Calls.{Steps, NumbersRunOut};
 ghost use Rattle.client_request.specs.Cx.{view_of, heard, LendsTheSame};
 ghost use Rattle.client_request.specs.Response.{IsRefusal};
 ghost use Rattle.client_choice.specs.Balancing as plain;
+ghost use Rattle.client_choice.specs.ServeFail.{serve_failed};
 
 use crate::load_balancer::bursts::survey;
 use crate::load_balancer::config::Config;
