@@ -3,6 +3,7 @@ pub mod BalancerSettings
 pub mod Bursts
 pub mod Choice
 pub mod Order
+pub mod Redundant
 pub mod Roots
 pub mod ServeFail
 pub mod Servers
