@@ -1,7 +1,8 @@
 -- The order in which the servers are started for a request.
-use Rattle.std.specs.Prelude.{ℕ, ◌+◌, ◌-◌, ◌*◌, ◌/◌, ◌^◌, ◌==◌, nat_le, nat_lt, min, Bool, true, false, if◌then◌else◌, List, [], ◌∷◌, length, map, insert, remove, slice_get, unwrap_or, Option, Some, None}
+use Rattle.std.specs.Prelude.{ℕ, ◌*◌, ◌==◌, nat_lt, min, Bool, true, false, if◌then◌else◌, List, [], ◌∷◌, length, map, insert, remove, slice_get, unwrap_or, Option, Some, None}
 use Rattle.std.specs.List.{position}
-use Rattle.client_request.specs.View.{View, word, drawn}
+use Rattle.client_request.specs.View.{View}
+use Rattle.client_choice.specs.Redundant.{probe}
 use Rattle.client_choice.specs.declared.job.Entry.{Entry}
 use Rattle.client_choice.specs.declared.order.Candidate.{Candidate}
 
@@ -44,14 +45,6 @@ least_from least (c ∷ others) = least_from (min least c.estimate) others
 abbrev pub least_of : List Candidate → ℕ
 least_of list = least_from 14400000000 list
 
--- a word in twenty has a server probed
-abbrev pub probes : ℕ → Bool
-probes word = nat_lt (word * 20) (2 ^ 64)
-
--- which one, of so many, is not the first
-abbrev pub probed_place : (word count : ℕ) → ℕ
-probed_place word count = 1 + word * (count - 1) / 2 ^ 64
-
 -- A server that nothing is asked of goes first, with the least estimate.
 abbrev pub brought_forward : (least place : ℕ) → List Candidate → Option Candidate → List Candidate
 brought_forward least place cs None = cs
@@ -60,12 +53,10 @@ brought_forward least place cs (Some c) = if c.queue == 0 then record c { estima
 abbrev pub forward : (least place : ℕ) → List Candidate → List Candidate
 forward least place cs = brought_forward least place cs (slice_get cs place)
 
--- Of more than one server one may be probed: a word says whether, and a second one which.
-abbrev pub probed : (least : ℕ) → List Candidate → View → List Candidate × View
-probed least cs v =
-    if nat_le (length cs) 1 then (cs, v)
-    else if probes (word v) then (forward least (probed_place (word (drawn v)) (length cs)) cs, drawn (drawn v))
-    else (cs, drawn v)
+-- where one is to be probed
+abbrev pub probed : (least : ℕ) → Option ℕ → List Candidate → List Candidate
+probed least None list = list
+probed least (Some place) list = forward least place list
 
 abbrev pub entry_of : Candidate → Entry
 entry_of c = record { server = c.server; estimate = c.estimate }
@@ -73,5 +64,6 @@ entry_of c = record { server = c.server; estimate = c.estimate }
 -- what a request is started at, in order, where a server is slow past so many thousandths of the least estimate
 abbrev pub in_order : (factor : ℕ) → List Candidate → View → List Entry × View
 in_order factor list v =
-    let order = probed (least_of list) (placed_all (least_of list * factor) list []) v in
-    (map entry_of order.0, order.1)
+    let order = placed_all (least_of list * factor) list [] in
+    let draw = probe (length order) v in
+    (map entry_of (probed (least_of list) draw.0 order), draw.1)

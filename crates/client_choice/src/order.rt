@@ -5,6 +5,7 @@ ghost use Rattle.std.specs.List.{position};
 ghost use Rattle.client_request.specs.Cx.{view_of, LendsTheSame};
 ghost use Rattle.client_choice.specs.Order as plain;
 
+use crate::entries::probe;
 use crate::job::Entry;
 use client_request::{Cx, Words};
 use dns_base::NoMemory;
@@ -121,34 +122,18 @@ fn bring_forward(list: &mut Vec<Candidate>, place: usize, least: u64) -> Result<
     }
 }
 
-/// Which of so many servers a word has probed: not the first.
-fn probed_place(word: u64, count: usize) -> usize
-    requires { 1 < count }
-    ensures { result ≡ plain.probed_place word count }
-{
-    let share = u128::from(word) * (count - 1) as u128 / (1 << 64);
-    1 + share as usize
-}
-
-/// Draws whether a server is probed, and which one.
-fn probe<W: Words>(
-    cx: &mut Cx<'_, W>,
+/// Puts the server that is probed first, if one is and nothing is asked of it.
+fn put_probed_first(
     list: &mut Vec<Candidate>,
+    place: Option<usize>,
     least: u64,
 ) -> Result<(), NoMemory>
-    ensures lends { LendsTheSame cx.old cx.new }
-    ensures ok { OnOk result ((list.new.items, view_of W.stream cx.new) ≡ plain.probed least list.old.items (view_of W.stream cx.old)) }
+    ensures { OnOk result (list.new.items ≡ plain.probed least place list.old.items) }
 {
-    let count = list.len();
-    if count <= 1 {
-        return Ok(());
+    match place {
+        None => Ok(()),
+        Some(place) => bring_forward(list, place, least),
     }
-    let word = cx.words.next();
-    if u128::from(word) * 20 >= 1 << 64 {
-        return Ok(());
-    }
-    let word = cx.words.next();
-    bring_forward(list, probed_place(word, count), least)
 }
 
 /// What a request is started at.
@@ -182,6 +167,7 @@ pub(crate) fn in_order<W: Words>(
 {
     let least = least_of(candidates);
     let mut list = place_all(alloc, candidates, u128::from(least) * u128::from(factor))?;
-    probe(cx, &mut list, least)?;
+    let place = probe(cx, list.len());
+    put_probed_first(&mut list, place, least)?;
     entries_of(alloc, &list)
 }
