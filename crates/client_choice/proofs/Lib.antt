@@ -1,5 +1,6 @@
 pub mod At
 pub mod Failing
+pub mod Hearing
 pub mod Keeping
 pub mod RootLemmas
 pub mod StatsLaws

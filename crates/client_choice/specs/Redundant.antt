@@ -1,6 +1,6 @@
 -- The plain machine of a choice by estimate, over any transport.
-use Rattle.std.specs.Prelude.{ℕ, ◌+◌, ◌-◌, ◌*◌, ◌/◌, ◌^◌, ◌==◌, ◌||◌, nat_lt, nat_le, Bool, false, if◌then◌else◌, List, [], ◌∷◌, length, Option, Some, None, option_map, option_and_then, Err, slice_get}
-use Rattle.std.specs.List.{insert, remove, position_or_len}
+use Rattle.std.specs.Prelude.{ℕ, ◌+◌, ◌-◌, ◌*◌, ◌/◌, ◌^◌, ◌==◌, ◌||◌, nat_lt, nat_le, Bool, false, if◌then◌else◌, List, [], ◌∷◌, ◌++◌, length, Option, Some, None, option_map, option_and_then, Err, slice_get}
+use Rattle.std.specs.List.{insert, remove, position}
 use Rattle.client_request.specs.View.{View, Heard, Transport, word, drawn, answers, draws_ticket}
 use Rattle.client_request.specs.declared.error.Error.TheVariants as errors
 use Rattle.client_settings.specs.Settings.{RedundantSettings}
@@ -15,12 +15,17 @@ use Rattle.client_choice.specs.declared.job.Entry.{Entry}
 abbrev pub entry_of : {U : Type 0} → ℕ → Server U → Entry
 entry_of index s = record { server = index; estimate = estimate s.stats }
 
--- the place of an entry in a list: before the first of which more is expected
-abbrev pub place_in : (estimate : ℕ) → List Entry → ℕ
-place_in estimate entries = position_or_len (λ x. nat_lt estimate x.estimate) entries
+-- the place of the first entry of which more is expected
+abbrev pub first_above : (estimate : ℕ) → List Entry → Option ℕ
+first_above estimate entries = position (λ x. nat_lt estimate x.estimate) entries
+
+-- the entries with one more, which stands before that place
+abbrev pub lined_up_at : Entry → List Entry → Option ℕ → List Entry
+lined_up_at e entries None = entries ++ e ∷ []
+lined_up_at e entries (Some place) = insert entries place e
 
 abbrev pub lined_up : Entry → List Entry → List Entry
-lined_up e entries = insert entries (place_in e.estimate entries) e
+lined_up e entries = lined_up_at e entries (first_above e.estimate entries)
 
 -- Servers by estimate, ties in the order in which they were added.
 abbrev pub all_lined_up : {U : Type 0} → ℕ → List (Server U) → List Entry → List Entry
