@@ -108,7 +108,11 @@ pub(crate) fn arm<Req: Drop, P: Drop, W: Words>(
 }
 
 /// Cancels the timer that would start the next server, if one is set.
-pub(crate) fn disarm<W: Words>(timers: &mut BTreeMap<u64, u64>, cx: &mut Cx<'_, W>, timer: Option<u64>)
+pub(crate) fn disarm<W: Words>(
+    timers: &mut BTreeMap<u64, u64>,
+    cx: &mut Cx<'_, W>,
+    timer: Option<u64>,
+)
     ensures lends { LendsTheSame cx.old cx.new }
     ensures timers { timers.new.entries ≡ plain.unset timer timers.old.entries }
     ensures view { view_of W.stream cx.new ≡ plain.stopped timer (view_of W.stream cx.old) }
@@ -124,7 +128,12 @@ fn judge_each<U, P>(servers: &mut Vec<Server<U>>, started: &[Started<P>], giver:
     ensures { servers.new.items ≡ plain.judges_each giver now started.now servers.old.items }
 {
     for s in started {
-        judge_at(servers, s.server, s.server == giver, now.saturating_sub(s.since));
+        judge_at(
+            servers,
+            s.server,
+            s.server == giver,
+            now.saturating_sub(s.since),
+        );
     }
 }
 

@@ -80,7 +80,11 @@ pub(crate) fn probe<W: Words>(cx: &mut Cx<'_, W>, count: usize) -> Option<usize>
 }
 
 /// The entry that is probed goes first, with an estimate.
-pub(crate) fn promote(entries: &mut VecDeque<Entry>, place: usize, estimate: u64) -> Result<(), NoMemory>
+pub(crate) fn promote(
+    entries: &mut VecDeque<Entry>,
+    place: usize,
+    estimate: u64,
+) -> Result<(), NoMemory>
     ensures { OnOk result (entries.new.items ≡ plain.promoted place estimate entries.old.items) }
 {
     let Some(entry) = entries.remove(place) else {

@@ -10,7 +10,9 @@ ghost use Rattle.client_choice.specs.Servers as of_servers;
 use crate::choice::{Choice, arm, disarm, disown, give_up_all, is_deferred, judge_all};
 use crate::job::{Entry, Job, parted};
 use crate::servers::{hear_at, start_at};
-use client_request::{Board, ComposeRequest, Cx, Error, Posted, SendRequest, Signal, TimerId, Words};
+use client_request::{
+    Board, ComposeRequest, Cx, Error, Posted, SendRequest, Signal, TimerId, Words,
+};
 use client_settings::redundant::Config;
 use dns_base::{Message, NoMemory};
 use std::collections::VecDeque;

@@ -1,4 +1,4 @@
-use Rattle.std.proofs.Common.{◌≡◌, ◌+◌, ◌<◌, ◌≤◌, ◌∙◌, length, rules, arith}
+use Rattle.std.proofs.Common.{◌<◌, ◌∙◌, length, rules, arith}
 use Rattle.std.proofs.lemmas.Grind.{common_steps}
 use Rattle.client_choice.proofs.Hearing.{hears_next}
 use Rattle.client_choice.proofs.steps.hear_all.Goals as goal
