@@ -14,6 +14,7 @@ use Rattle.client_choice.specs.Bursts.{Limit, Survey, fresh_limit, surveyed}
 use Rattle.client_choice.specs.Choice as choice
 use Rattle.client_choice.specs.Choice.{Choice}
 use Rattle.client_choice.specs.Order.{in_order}
+use Rattle.client_choice.specs.Redundant.{sends_past}
 use Rattle.client_choice.specs.ServeFail.{serve_failed}
 use Rattle.client_choice.specs.Servers as servers
 
@@ -114,3 +115,10 @@ module _ {R U P : Type 0} where
     cancel = λ asked b v. with_parts b (drops below asked.ticket b.parts v);
     response = λ request b v. record { ticket = v.ticket; given = false };
   }
+
+  -- A request goes to the server of an identifier, past the balancer. There is none where none was added under it.
+  abbrev pub with_sent : Balancer R U P → (Option P × Choice R U P) × View → (Option P × Balancer R U P) × View
+  with_sent b x = ((x.0.0, record b { parts = record b.parts { choice = x.0.1 } }), x.1)
+
+  abbrev pub sends_on : Transport R U P → ℕ → R → Balancer R U P → View → Option ((Option P × Balancer R U P) × View)
+  sends_on below id request b v = option_map (with_sent b) (sends_past below id request b.parts.choice v)

@@ -1,6 +1,10 @@
 //! A balancer over any transport.
 
-ghost use Rattle.std.specs.Prelude.{◌≡◌, ◌⊎◌, Err, true, OnOk, OnErr, IfErr, IsErrOf};
+ghost use Rattle.std.specs.Prelude.{◌≡◌, ◌⊎◌, Err, Some, true, false, if◌then◌else◌, OnOk, OnErr, IfOk, IfErr, IsErrOf};
+ghost use Rattle.client_request.specs.Calls.{NumbersRunOut, AnswersFailed};
+ghost use Rattle.client_request.specs.Cx.{view_of, LendsTheSame};
+ghost use Rattle.client_request.specs.Response.{IsRefusal};
+ghost use Rattle.client_choice.specs.Redundant.{is_known, IsRefusalOrUnknown};
 ghost use Rattle.client_request.specs.declared.error.Error.TheVariants as errors;
 ghost use Rattle.client_choice.specs.BalancerSettings.{default_balancer};
 ghost use Rattle.client_choice.specs.Balancing as plain;
@@ -8,6 +12,7 @@ ghost use Rattle.client_choice.specs.Balancing as plain;
 use crate::load_balancer::config::{Config, ConnConfig};
 use crate::load_balancer::parts::Parts;
 use crate::load_balancer::steps::{give_up, hear, take_on};
+use crate::redundant::send_past;
 use client_request::{
     Board, ComposeRequest, Cx, Error, GetResponse, Poll, SendRequest, Signal, Words, take_response,
 };
@@ -72,6 +77,45 @@ impl<Req, U: SendRequest<Req> + Drop> Connection<Req, U> {
             Err(_) => {
                 self.failed = true;
                 Err(Error::NoMemory)
+            }
+        }
+    }
+}
+
+impl<Req: ComposeRequest, U: SendRequest<Req>> Connection<Req, U> {
+    /// Sends a request to the server of an identifier, past the balancer: its result stands on the board under
+    /// the response's ticket, and counts in no estimate, queue or burst. `RedundantTransportNotFound` comes
+    /// exactly where no server was added under the identifier; then nothing is changed. `Failed` comes where
+    /// an earlier call found no memory or no number, or the server gave up.
+    pub fn send_on<W: Words>(
+        &mut self,
+        cx: &mut Cx<'_, W>,
+        id: u64,
+        request: Req,
+    ) -> Result<U::Response, Error>
+        ensures lends { LendsTheSame cx.old cx.new }
+        ensures ok { IfOk result (λ r. plain.sends_on U.transport id request self.old (view_of W.stream cx.old) ≡ Some ((Some r, self.new), view_of W.stream cx.new)) }
+        ensures numbers { NumbersRunOut result (plain.sends_on U.transport id request self.old (view_of W.stream cx.old)) }
+        ensures known { OnOk result (is_known id self.old.parts.choice.servers ≡ true) }
+        ensures not_found { IsErrOf result errors.RedundantTransportNotFound → is_known id self.old.parts.choice.servers ≡ false }
+        ensures unknown { is_known id self.old.parts.choice.servers ≡ false → result ≡ Err (if self.old.failed then errors.Failed else errors.RedundantTransportNotFound) }
+        ensures unchanged { IsErrOf result errors.RedundantTransportNotFound → self.new ≡ self.old }
+        ensures unseen { IsErrOf result errors.RedundantTransportNotFound → view_of W.stream cx.new ≡ view_of W.stream cx.old }
+        ensures keeps { OnOk result (plain.holds_failed U.holds_failed self.new ≡ plain.holds_failed U.holds_failed self.old) }
+        ensures refused { IfErr result IsRefusalOrUnknown }
+        ensures err { IfErr result (λ e. IsRefusal e → self.new.failed ≡ true) }
+        ensures failed { self.old.failed ≡ true → AnswersFailed result (self.old, view_of W.stream cx.old) (self.new, view_of W.stream cx.new) }
+        ensures failed_only { IsErrOf result errors.Failed → plain.holds_failed U.holds_failed self.old ≡ true }
+    {
+        if self.failed {
+            return Err(Error::Failed);
+        }
+        match send_past(&mut self.parts.choice, cx, id, request) {
+            Ok(Some(response)) => Ok(response),
+            Ok(None) => Err(Error::RedundantTransportNotFound),
+            Err(error) => {
+                self.failed = true;
+                Err(error)
             }
         }
     }
