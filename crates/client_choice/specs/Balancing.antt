@@ -2,7 +2,7 @@
 --
 --   send ──► the servers whose burst has room, in order ──► started one after another, as Choice has it ──► result
 --              └──there is none──► SERVFAIL ──► result
-use Rattle.std.specs.Prelude.{ℕ, ◌||◌, Bool, false, List, [], ◌∷◌, ◌++◌, Option, Some, None, option_map, option_and_then, Result, Ok, Err}
+use Rattle.std.specs.Prelude.{ℕ, ◌||◌, Bool, false, List, [], ◌∷◌, ◌++◌, Option, Some, option_map, option_and_then, Result, Ok, Err}
 use Rattle.client_request.specs.Board.{Part}
 use Rattle.client_request.specs.Requests.{Requests}
 use Rattle.client_request.specs.View.{View, Heard, Transport, answers, draws_ticket}

@@ -1,4 +1,4 @@
-use Rattle.std.proofs.Common.{◌≡◌, ap, sym, ◌∙◌, ◌+◌, ◌<◌, List, length, drop, rules}
+use Rattle.std.proofs.Common.{ap, sym, ◌∙◌, ◌+◌, ◌<◌, List, length, drop, rules}
 use Rattle.std.proofs.lemmas.List.{at_drop_more}
 use Rattle.client_choice.specs.declared.order.Candidate.{Candidate}
 use Rattle.client_choice.specs.Order as plain

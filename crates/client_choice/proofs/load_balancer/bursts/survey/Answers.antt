@@ -1,4 +1,4 @@
-use Rattle.std.proofs.Common.{◌≡◌, ap, sym, ◌∙◌, ◌+◌, ◌-◌, ◌<◌, ◌≤◌, length, rules}
+use Rattle.std.proofs.Common.{ap, sym, ◌∙◌, ◌+◌, ◌-◌, ◌<◌, ◌≤◌, length, rules}
 use Rattle.client_choice.specs.Bursts as plain
 use Rattle.client_choice.proofs.Surveying.{surveys-step, surveys-done}
 use Rattle.client_choice.proofs.load_balancer.bursts.survey.Goals as goal

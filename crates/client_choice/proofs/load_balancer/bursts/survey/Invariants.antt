@@ -1,4 +1,4 @@
-use Rattle.std.proofs.Common.{◌≡◌, ◌-◌, length, []}
+use Rattle.std.proofs.Common.{◌≡◌, ◌-◌, length}
 use Rattle.client_choice.specs.Bursts as plain
 use Rattle.client_choice.proofs.load_balancer.bursts.survey.Given as goal
 
