@@ -38,6 +38,9 @@ pub record Survey : Type 0 where
   pub limits : List Limit
   pub candidates : List Candidate
 
+abbrev pub survey_of : List Limit → List Candidate → Survey
+survey_of limits candidates = record { limits = limits; candidates = candidates }
+
 module _ {U : Type 0} where
   -- what is known of a server
   abbrev pub candidate : (index : ℕ) → Server U → Candidate
@@ -64,4 +67,4 @@ module _ {U : Type 0} where
   surveys now index (suc count) servers y = surveys now (index + 1) count servers (surveys_one now index servers y)
 
   abbrev pub surveyed : ℕ → List (Server U) → List Limit → Survey
-  surveyed now servers limits = surveys now 0 (length servers) servers (record { limits = limits; candidates = [] })
+  surveyed now servers limits = surveys now 0 (length servers) servers (survey_of limits [])

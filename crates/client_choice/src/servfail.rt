@@ -1,13 +1,16 @@
 //! The answer to a message for which no server may be asked.
 
-ghost use Rattle.std.specs.Prelude.{◌≡◌, ◌<◌, ◌⊎◌, length, true, false, OnOk, IfErr, option_map};
+ghost use Rattle.std.specs.Prelude.{◌≡◌, ◌<◌, ◌⊎◌, ℕ, slice_index, IfSome, IfOk, length, true, false, OnOk, IfErr, option_map};
 ghost use Rattle.dns_base.specs.Answering.{question_items};
 ghost use Rattle.dns_base.specs.Draft.{counts_in};
+ghost use Rattle.dns_base.specs.Message.{header_of};
+ghost use Rattle.dns_base.specs.OptRecord.{opt_of};
 ghost use Rattle.dns_base.specs.Sections.{HasNoRecords};
 ghost use Rattle.client_request.specs.declared.error.Error.TheVariants as errors;
+ghost use Rattle.client_request.specs.Carries.{IsOpt};
 ghost use Rattle.client_request.specs.Composed.{each, asks, adds_opt, IsCopied};
 ghost use Rattle.client_request.specs.Composing.{IsComposed};
-ghost use Rattle.client_choice.specs.ServeFail.{failing, plain_opt, copies_failing, reads_questions, serve_failed};
+ghost use Rattle.client_choice.specs.ServeFail.{failing, plain_opt, SaysFailure, copies_failing, reads_questions, serve_failed};
 
 use client_request::{CopyRecordsError, Error};
 use dns_base::{
@@ -77,6 +80,38 @@ fn failing_header(header: Header) -> Header
     header
 }
 
+/// Each octet is one.
+fn is_of_octets(octets: &[u8])
+    ensures { (i : ℕ) → slice_index octets.now i < 256 }
+{
+    let _octets = octets;
+}
+
+/// The fields of an OPT record have room in one.
+fn is_opt(opt: &OptRecord<'_>)
+    ensures { IsOpt opt.now }
+{
+    let _size = opt.udp_payload_size();
+    let _code = opt.ext_rcode();
+    let _version = opt.version();
+    let _flags = opt.flags();
+    let _options = opt.data();
+}
+
+/// The octets of a message, and the fields of its OPT record, have the ranges of what they are made of.
+fn is_in_range(msg: &Message)
+    ensures octets { (i : ℕ) → slice_index msg.now i < 256 }
+    ensures header { length (failing (header_of msg.now)) ≡ 4 }
+    ensures opt { IfSome (opt_of msg.now) IsOpt }
+{
+    is_of_octets(msg.as_slice());
+    let _header = failing_header(msg.header()).to_octets();
+    match msg.opt() {
+        None => {}
+        Some(opt) => is_opt(&opt),
+    }
+}
+
 #[tactic(auto, unfolding(crate::specs::ServeFail::serve_failed))]
 fn failing_message(alloc: Global, msg: &Message) -> Result<Message, Error>
     ensures value { IsComposed (serve_failed msg.now) result }
@@ -97,6 +132,8 @@ pub fn serve_fail(alloc: Global, msg: &Message) -> Result<Message, Error>
     ensures value { IsComposed (serve_failed msg.now) result }
     ensures read { OnOk result (reads_questions msg.now ≡ true) }
     ensures refused { IfErr result (λ e. (e ≡ errors.NoMemory) ⊎ ((e ≡ errors.MessageParseError) × (reads_questions msg.now ≡ false))) }
+    ensures says { IfOk result (λ m. SaysFailure m msg.now) }
 {
+    is_in_range(msg);
     failing_message(alloc, msg)
 }

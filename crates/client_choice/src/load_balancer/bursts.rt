@@ -105,7 +105,7 @@ fn survey_one<U>(
     index: usize,
     now: u64,
 ) -> Result<(), NoMemory>
-    ensures { OnOk result (record { limits = limits.new.items; candidates = candidates.new.items } ≡ plain.surveys_one now index servers.now (record { limits = limits.old.items; candidates = candidates.old.items })) }
+    ensures { OnOk result (plain.survey_of limits.new.items candidates.new.items ≡ plain.surveys_one now index servers.now (plain.survey_of limits.old.items candidates.old.items)) }
 {
     let Some(server) = servers.get(index) else {
         return Ok(());
@@ -124,7 +124,7 @@ pub(crate) fn survey<U>(
     servers: &[Server<U>],
     now: u64,
 ) -> Result<Vec<Candidate>, NoMemory>
-    ensures { IfOk result (λ candidates. record { limits = limits.new.items; candidates = candidates.items } ≡ plain.surveyed now servers.now limits.old.items) }
+    ensures { IfOk result (λ candidates. plain.survey_of limits.new.items candidates.items ≡ plain.surveyed now servers.now limits.old.items) }
 {
     let mut candidates = Vec::new(alloc);
     for index in 0..servers.len() {
