@@ -8,12 +8,12 @@ use Rattle.client_request.specs.Requests.{Requests}
 use Rattle.client_request.specs.View.{View, Heard, Transport, answers, draws_ticket}
 use Rattle.client_request.specs.declared.error.Error.{Error}
 use Rattle.client_choice.specs.declared.job.Entry.{Entry}
-use Rattle.client_choice.specs.declared.order.Candidate.{Candidate}
+use Rattle.client_choice.specs.declared.candidates.Candidate.{Candidate}
 use Rattle.client_choice.specs.BalancerSettings.{BalancerSettings, BurstSettings}
 use Rattle.client_choice.specs.Bursts.{Limit, Survey, fresh_limit, surveyed}
 use Rattle.client_choice.specs.Choice as choice
 use Rattle.client_choice.specs.Choice.{Choice}
-use Rattle.client_choice.specs.Order.{in_order}
+use Rattle.client_choice.specs.Candidates.{in_order}
 use Rattle.client_choice.specs.Redundant.{sends_past}
 use Rattle.client_choice.specs.ServeFail.{serve_failed}
 use Rattle.client_choice.specs.Servers as servers

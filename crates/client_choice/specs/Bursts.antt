@@ -3,7 +3,7 @@ use Rattle.std.specs.Prelude.{ℕ, zero, suc, ◌+◌, ◌-◌, nat_lt, Bool, tr
 use Rattle.client_choice.specs.BalancerSettings.{BurstSettings}
 use Rattle.client_choice.specs.Servers.{Server}
 use Rattle.client_choice.specs.Stats.{estimate}
-use Rattle.client_choice.specs.declared.order.Candidate.{Candidate}
+use Rattle.client_choice.specs.declared.candidates.Candidate.{Candidate}
 
 -- The limit of a server: when its burst began, and how many requests had been started there before.
 pub record Limit : Type 0 where

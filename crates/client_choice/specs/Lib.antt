@@ -1,8 +1,8 @@
-pub mod Balancing
 pub mod BalancerSettings
+pub mod Balancing
 pub mod Bursts
+pub mod Candidates
 pub mod Choice
-pub mod Order
 pub mod Redundant
 pub mod Roots
 pub mod ServeFail

@@ -4,11 +4,11 @@
 //! It is a transport over any other one, of which it knows nothing but that.
 #![tactic(auto)]
 
+mod candidates;
 mod choice;
 mod entries;
 mod job;
 pub mod load_balancer;
-mod order;
 pub mod redundant;
 mod servers;
 mod servfail;

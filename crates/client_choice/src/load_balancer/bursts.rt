@@ -5,7 +5,7 @@ ghost use Rattle.client_choice.specs.Bursts as plain;
 ghost use Rattle.client_choice.specs.BalancerSettings.{BurstSettings};
 
 use crate::load_balancer::config::ConnConfig;
-use crate::order::Candidate;
+use crate::candidates::Candidate;
 use crate::servers::Server;
 use dns_base::NoMemory;
 use std::alloc::Global;

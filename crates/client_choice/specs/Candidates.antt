@@ -4,7 +4,7 @@ use Rattle.std.specs.List.{position}
 use Rattle.client_request.specs.View.{View}
 use Rattle.client_choice.specs.Redundant.{probe}
 use Rattle.client_choice.specs.declared.job.Entry.{Entry}
-use Rattle.client_choice.specs.declared.order.Candidate.{Candidate}
+use Rattle.client_choice.specs.declared.candidates.Candidate.{Candidate}
 
 -- a server takes longer than that many thousandths of a microsecond
 abbrev pub is_slow : (bound : ℕ) → Candidate → Bool

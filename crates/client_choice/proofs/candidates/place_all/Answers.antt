@@ -1,8 +1,8 @@
 use Rattle.std.proofs.Common.{ap, sym, ◌∙◌, ◌+◌, ◌<◌, List, length, drop, rules}
 use Rattle.std.proofs.lemmas.List.{at_drop_more}
-use Rattle.client_choice.specs.declared.order.Candidate.{Candidate}
-use Rattle.client_choice.specs.Order as plain
-use Rattle.client_choice.proofs.order.place_all.Goals as goal
+use Rattle.client_choice.specs.declared.candidates.Candidate.{Candidate}
+use Rattle.client_choice.specs.Candidates as plain
+use Rattle.client_choice.proofs.candidates.place_all.Goals as goal
 
 pub loop-c-preserved : goal.loop-c-preserved
 loop-c-preserved c =

@@ -3,7 +3,7 @@
 ghost use Rattle.std.specs.Prelude.{◌≡◌, ◌+◌, ◌*◌, ◌<◌, OnOk, IfOk, [], length, map};
 ghost use Rattle.std.specs.List.{position};
 ghost use Rattle.client_request.specs.Cx.{view_of, LendsTheSame};
-ghost use Rattle.client_choice.specs.Order as plain;
+ghost use Rattle.client_choice.specs.Candidates as plain;
 
 use crate::entries::probe;
 use crate::job::Entry;
