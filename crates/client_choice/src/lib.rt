@@ -15,6 +15,7 @@ mod servfail;
 mod stats;
 mod steps;
 
+pub use candidates::Candidate;
 pub use choice::Choice;
 pub use job::{Entry, Job, Started};
 pub use servers::{Reply, Server};
