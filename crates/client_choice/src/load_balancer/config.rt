@@ -1,9 +1,8 @@
 //! The settings of a balancer.
 
-ghost use Rattle.std.specs.Prelude.{◌≡◌, Ok, ◌*◌};
-ghost use Rattle.std.specs.Candidatesing.{nat_cmp};
+ghost use Rattle.std.specs.Prelude.{◌≡◌, Ok};
+ghost use Rattle.std.specs.Ordering.{nat_cmp};
 ghost use Rattle.client_request.specs.Limits.{at_least, limited};
-ghost use Rattle.client_settings.specs.Settings.{RedundantSettings};
 ghost use Rattle.client_choice.specs.BalancerSettings.{default_balancer, default_bursts};
 
 use client_request::DefMinMax;
