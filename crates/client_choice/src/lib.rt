@@ -4,15 +4,20 @@
 //! It is a transport over any other one, of which it knows nothing but that.
 #![tactic(auto)]
 
+mod candidates;
 mod choice;
 mod entries;
 mod job;
+pub mod load_balancer;
 pub mod redundant;
 mod servers;
+mod servfail;
 mod stats;
 mod steps;
 
+pub use candidates::Candidate;
 pub use choice::Choice;
 pub use job::{Entry, Job, Started};
 pub use servers::{Reply, Server};
+pub use servfail::serve_fail;
 pub use stats::{Stats, stats_law};

@@ -87,7 +87,7 @@ fn index_of(id: u64) -> Option<usize>
 }
 
 /// Sends a request to the server of an identifier, past the choice, if there is one.
-fn send_past<Req: ComposeRequest, U: SendRequest<Req>, W: Words>(
+pub(crate) fn send_past<Req: ComposeRequest, U: SendRequest<Req>, W: Words>(
     choice: &mut Choice<Req, U>,
     cx: &mut Cx<'_, W>,
     id: u64,
