@@ -4,8 +4,8 @@ ghost use Rattle.std.specs.Prelude.{◌≡◌, OnOk, IfOk};
 ghost use Rattle.client_choice.specs.Bursts as plain;
 ghost use Rattle.client_choice.specs.BalancerSettings.{BurstSettings};
 
-use crate::load_balancer::config::ConnConfig;
 use crate::candidates::Candidate;
+use crate::load_balancer::config::ConnConfig;
 use crate::servers::Server;
 use dns_base::NoMemory;
 use std::alloc::Global;

@@ -7,10 +7,10 @@ ghost use Rattle.client_request.specs.Response.{IsRefusal};
 ghost use Rattle.client_choice.specs.Balancing as plain;
 ghost use Rattle.client_choice.specs.ServeFail.{serve_failed};
 
+use crate::candidates::{Candidate, in_order};
 use crate::load_balancer::bursts::survey;
 use crate::load_balancer::config::Config;
 use crate::load_balancer::parts::Parts;
-use crate::candidates::{Candidate, in_order};
 use crate::servfail::serve_fail;
 use crate::steps;
 use client_request::{ComposeRequest, Cx, Error, SendRequest, Signal, Words};
