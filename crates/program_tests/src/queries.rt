@@ -1,6 +1,6 @@
 //! Questions to servers, over edges in memory.
 
-ghost use Rattle.std.specs.Prelude.{◌≡◌, None, OnOk};
+ghost use Rattle.std.specs.Prelude.{◌≡◌, None, OnOk, IfOk};
 ghost use Rattle.dns_values.specs.Source.{one_more};
 
 use crate::runs::{sink, source};
@@ -200,7 +200,8 @@ impl Edge for Silent {
     }
 
     fn poll(&mut self) -> Result<Option<What>, NoMemory>
-        ensures { OnOk result (self.new.polls ≡ one_more self.old.polls) }
+        ensures polls { OnOk result (self.new.polls ≡ one_more self.old.polls) }
+        ensures nothing { IfOk result (λ what. what ≡ None) }
     {
         self.polls = self.polls.saturating_add(1);
         Ok(None)

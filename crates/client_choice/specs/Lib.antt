@@ -1,0 +1,10 @@
+pub mod BalancerSettings
+pub mod Balancing
+pub mod Bursts
+pub mod Candidates
+pub mod Choice
+pub mod Redundant
+pub mod Roots
+pub mod ServeFail
+pub mod Servers
+pub mod Stats
