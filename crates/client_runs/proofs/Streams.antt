@@ -1,5 +1,5 @@
 -- Every plain trace of a client whose first server is asked by streams alone is a run, and so right and timely.
-use Rattle.std.proofs.Common.{◌≡◌, ℕ, suc, ◌<◌, Bool, true, false, List, [], ◌∷◌, length, map, Some, None, sym, ap, subst, arith}
+use Rattle.std.proofs.Common.{◌≡◌, ℕ, suc, ◌<◌, Bool, true, false, List, [], ◌∷◌, length, map, Some, None, sym, subst, arith}
 use Rattle.client_request.specs.Composed.{composed}
 use Rattle.client_request.specs.declared.event.Event.{Event}
 use Rattle.client_request.specs.declared.event.Row.{Row}
@@ -15,12 +15,11 @@ use Rattle.multi_ties.specs.Tied.{TiedAs, names_of, owns}
 use Rattle.multi_ties.proofs.Fields.{stream_of}
 use Rattle.multi_ties.proofs.StreamsTied.{streams_are_tied}
 use Rattle.client_runs.specs.Above.{AreWords, begins_with}
-use Rattle.client_runs.specs.Streams.{AsksByStreams, StreamTracesAreRight}
+use Rattle.client_runs.specs.Streams.{StreamTracesAreRight}
 use Rattle.client_runs.specs.Ties.{StreamsAreTied}
 use Rattle.client_steps.specs.Client.{plain_rows}
 use Rattle.client_steps.specs.Headline.{use_of, conf_of}
-use Rattle.client_steps.specs.Whole.{machine, asks_by_streams, upstream_at, first_upstream, client_with, started, plain_trace}
-use Rattle.resolv_conf.specs.declared.conf.ResolvConf.{ResolvConf}
+use Rattle.client_steps.specs.Whole.{machine, asks_by_streams, upstream_at, first_upstream, client_with, started}
 use Rattle.resolv_conf.specs.declared.options.ResolvOptions.{ResolvOptions}
 use Rattle.resolv_conf.specs.declared.server.ServerConf.{ServerConf}
 use Rattle.client_steps.proofs.Events.{rows_of_events}
