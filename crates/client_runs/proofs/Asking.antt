@@ -19,7 +19,7 @@ use Rattle.headline.specs.Requests.{is_ask}
 use Rattle.headline.specs.machine.Client.{Leaving, Answers, Takes_on, Replies, Refused, Waiting as Held, answer, take_on, newcomer, hand, handing, with_held, store, unmade}
 use Rattle.headline.specs.machine.Streams.{with_at}
 use Rattle.client_ties.specs.Chains.{Chain, Begins}
-use Rattle.client_ties.specs.PartTie.{Untold, Told, Leaves, Leads as IfLeft}
+use Rattle.client_ties.specs.PartTie.{Phase, Untold, MayEnd, Leaves, Leads as IfLeft}
 use Rattle.client_ties.specs.Sights.{sight, due_of, IsFair}
 use Rattle.client_runs.specs.Above.{Tying, machine, lifted}
 use Rattle.client_steps.specs.Client.{client_of, asks_request, sends, accepts, waits, without_request, replies, replies_many, replies_to}
@@ -34,6 +34,7 @@ use Rattle.client_runs.proofs.Desk.{AreKept, at_it, at_other, is_or_was, none_is
 use Rattle.client_runs.proofs.Firing.{IfSome, left_on}
 use Rattle.client_runs.proofs.Holding.{Requests, State, IsFor, Holds, Fits, desk_of}
 use Rattle.client_runs.proofs.Leading.{Leads, Then, Reaches, one_move, start_moves}
+use Rattle.client_runs.proofs.Looping.{MayFire}
 
 none_by : {A : Type 0} → (o : Option A) → ((b : A) → o ≡ Some b → ⊥) → o ≡ None
 none_by None f = refl
@@ -68,13 +69,15 @@ one_more n = omega arith
 module _ (g : Tying) where
   -- what an event made of the client
   pub record Happened (v : View) (from : State g) (d : PlainClient g) : Type 0 where
-    pub at : ℕ
+    pub phase : Phase
+    pub may_end : MayEnd phase
+    pub may_fire : MayFire g phase d.view
     pub pending : What
     pub taken : is_ask pending ≡ false
     pub outs : List Out
     pub end : State g
     pub leads : Leads g.st composed g.P from outs end
-    pub tied : IsTied g (Told at 0) pending d end
+    pub tied : IsTied g phase pending d end
     pub put : d.view.outs ≡ v.outs ++ outs
 
   module _ (r : Request) (u : g.U) (a : Requests g) (v : View) (x : State g) (f : Fits g (Untold (Ask r)) (Ask r) (g.names u) u a v x) (board : v.board ≡ []) (given : x.board ≡ []) where
@@ -165,18 +168,19 @@ module _ (g : Tying) where
         foreign = λ i t d. f.holds.foreign i t (sym (ap (λ (h : ℕ → Option ℕ). h i) (there_and_back v.timers.next v.ticket a.deadlines f.holds.deadlines no_deadline)) ∙ d);
       }
 
-      refused_fits : Fits g (Told 0 0) Tick (g.names u) u (without_request v.ticket (Some alone) asked_once) replied_once refused_end
+      refused_fits : Fits g (Untold (Ask r)) Tick (g.names u) u (without_request v.ticket (Some alone) asked_once) replied_once refused_end
       refused_fits = record {
         holds = refused_holds;
         place = f.place;
         fair = record { order = order_without v.timers.next 0 (v.timers.next + 1) timed.timers.set timed_fair.order; words = f.fair.words };
-        tied = g.tie.passes u (sight replied_once) (x.ups 0) (Ask r) tt
-            (g.tie.same (Untold (Ask r)) u (sight v) (sight replied_once) (x.ups 0) f.tied refl (λ i o. ap (λ (h : ℕ → Option ℕ). h i) dues_back) (one_more v.timers.next) (one_more v.ticket) (le_refl v.place));
+        tied = g.tie.same (Untold (Ask r)) u (sight v) (sight replied_once) (x.ups 0) f.tied refl (λ i o. ap (λ (h : ℕ → Option ℕ). h i) dues_back) (one_more v.timers.next) (one_more v.ticket) (le_refl v.place);
       }
 
       refused_so : Happened v x (client_of (layer_of g u) (replies (asked_once, answered)))
       refused_so = subst (λ z. Happened v x (client_of (layer_of g u) z)) (sym replies_once) (record {
-        at = 0;
+        phase = Untold (Ask r);
+        may_end = tt;
+        may_fire = tt;
         pending = Tick;
         taken = refl;
         outs = Reply a.next (Err error) ∷ [];
@@ -250,13 +254,15 @@ module _ (g : Tying) where
           let c = after_call g (Untold (Ask r)) Tick named u (waits v.ticket v.timers.next waiting a) timed x handed_on (Begins (g.P.Starts 0 v.place a.next r (x.ups 0)) (Chain g.P 0)) w y accepted_holds timed_fair given board l
           (record { end = m.end; leads = Then x (unmade taken_on) l.made.outs m.end (Takes_on r o f.holds.pending composes g.some) m.leads; is = m.is }) in
           record {
-            at = 0;
+            phase = Untold (Ask r);
+            may_end = tt;
+            may_fire = tt;
             pending = Tick;
             taken = refl;
             outs = c.outs;
             end = c.end;
             leads = c.leads;
-            tied = record { u = w; layer = refl; fits = record { holds = c.fits.holds; place = c.fits.place; fair = c.fits.fair; tied = g.tie.passes w _ (c.end.ups 0) (Ask r) tt c.fits.tied }; board = c.board; given = c.given };
+            tied = record { u = w; layer = refl; fits = c.fits; board = c.board; given = c.given };
             put = c.put;
           }
 

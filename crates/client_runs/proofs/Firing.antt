@@ -13,7 +13,7 @@ use Rattle.headline.specs.machine.Part.{Post, Act}
 use Rattle.headline.specs.machine.Client.{Leaving, Times_out, Replies, leave, store, unmade}
 use Rattle.headline.specs.machine.Streams.{with_at}
 use Rattle.client_ties.specs.Chains.{Chain, Begins, Gives}
-use Rattle.client_ties.specs.PartTie.{Phase, Leaves, Leads as IfLeft}
+use Rattle.client_ties.specs.PartTie.{Untold, Leaves, Leads as IfLeft}
 use Rattle.client_ties.specs.Sights.{sight, due_of, IsFair}
 use Rattle.client_runs.specs.Above.{Tying, machine, lifted}
 use Rattle.client_steps.specs.Client.{client_of, settles, hears, times_out, fire, fires_at, without_late, replies, replies_many}
@@ -68,15 +68,15 @@ module _ (g : Tying) where
       by None l = tt
       by (Some x) l = l
 
-  module _ (phase : Phase) (e : What) (u : g.U) (a : Requests g) (v : View) (x : State g) (f : Fits g phase e (g.names u) u a v x) (board : v.board ≡ []) (given : x.board ≡ []) (i due : ℕ) (set : due_of i v.timers.set ≡ Some due) (passed : due ≤ v.now) where
+  module _ (row e : What) (u : g.U) (a : Requests g) (v : View) (x : State g) (f : Fits g (Untold row) e (g.names u) u a v x) (board : v.board ≡ []) (given : x.board ≡ []) (i due : ℕ) (set : due_of i v.timers.set ≡ Some due) (passed : due ≤ v.now) where
     -- the transport's own timer
-    own_fires : entry_at i a.deadlines ≡ None → IfSome (Comes g phase e (record v { timers = cancelled i v.timers }) x) (hears (machine g.T g.number) (due_timer i) (client_of (layer_of g u) (a, record v { timers = cancelled i v.timers })))
+    own_fires : entry_at i a.deadlines ≡ None → IfSome (Comes g (Untold row) e (record v { timers = cancelled i v.timers }) x) (hears (machine g.T g.number) (due_timer i) (client_of (layer_of g u) (a, record v { timers = cancelled i v.timers })))
     own_fires none =
-        heard (Comes g phase e after x) u a (g.T.step (due_timer i) (g.up u) after) (g.t.step (due_timer i) u after) (g.layer.step (due_timer i) u after)
-        (left_on (Leaves g.P g.Tied g.names g.Owns (Chain g.P 0 v.place (x.ups 0)) (g.names u) u after phase) (λ w y. Comes g phase e after x (client_of (layer_of g w) (replies (a, y)))) (g.t.step (due_timer i) u after)
-        (λ w y l. comes_of g phase e w after y.more x (replies (a, y)) (after_call g phase e (g.names u) u a after x x (Chain g.P 0 v.place (x.ups 0)) w y holds (fair_without g v i f.fair) given board l
+        heard (Comes g (Untold row) e after x) u a (g.T.step (due_timer i) (g.up u) after) (g.t.step (due_timer i) u after) (g.layer.step (due_timer i) u after)
+        (left_on (Leaves g.P g.Tied g.names g.Owns (Chain g.P 0 v.place (x.ups 0)) (g.names u) u after (Untold row)) (λ w y. Comes g (Untold row) e after x (client_of (layer_of g w) (replies (a, y)))) (g.t.step (due_timer i) u after)
+        (λ w y l. comes_of g (Untold row) e w after y.more x (replies (a, y)) (after_call g (Untold row) e (g.names u) u a after x x (Chain g.P 0 v.place (x.ups 0)) w y holds (fair_without g v i f.fair) given board l
         (chain_moves g.st composed g.P g.some v.place (x.ups 0) l.made l.may x f.place refl)))
-        (g.tie.fires phase u v (x.ups 0) i due f.tied f.fair set passed))
+        (g.tie.fires u v (x.ups 0) row i due f.tied f.fair set passed))
       where
         after : View
         after = record v { timers = cancelled i v.timers }
@@ -123,8 +123,8 @@ module _ (g : Tying) where
           (holds_without g e (g.names u) u a v x k w reply left f.fair f.holds waits
           (record { now = refl; timers = ap (λ t. cancelled t v.timers) (sym timer); clock = refl; asked = refl; pending = refl; leaving = refl; held = refl; ups = refl })))
 
-      tied_left : g.Tied phase u (sight reply) (x.ups 0)
-      tied_left = g.tie.same phase u (sight v) (sight reply) (x.ups 0) f.tied refl
+      tied_left : g.Tied (Untold row) u (sight reply) (x.ups 0)
+      tied_left = g.tie.same (Untold row) u (sight v) (sight reply) (x.ups 0) f.tied refl
           (λ j o. due_without i j 0 v.timers.next v.timers.set f.fair.order ∙ at_other i None (λ (j : ℕ). due_of j v.timers.set) j (λ same. f.holds.foreign i k is (subst (λ j. g.Owns u j) (sym same) o)))
           (le_refl v.timers.next) (le_refl v.ticket) (le_refl v.place)
 
@@ -138,33 +138,33 @@ module _ (g : Tying) where
       abbrev GivesUp : Act g.P.State → Type 0
       GivesUp d = Begins (g.P.Cancels 0 v.place w.number (x.ups 0)) (Chain g.P 0) d × (d.posts ≡ [])
 
-      is_cancelled : (r : g.R) → g.ticket r ≡ k → (w' : g.U) (y : View) → Leaves g.P g.Tied g.names g.Owns GivesUp (with_at (g.ticket r) None (g.names u)) u reply phase w' y
-          → Comes g phase e (record v { timers = cancelled i v.timers }) x (client_of (layer_of g w') (without_late i (Some k) a, y))
+      is_cancelled : (r : g.R) → g.ticket r ≡ k → (w' : g.U) (y : View) → Leaves g.P g.Tied g.names g.Owns GivesUp (with_at (g.ticket r) None (g.names u)) u reply (Untold row) w' y
+          → Comes g (Untold row) e (record v { timers = cancelled i v.timers }) x (client_of (layer_of g w') (without_late i (Some k) a, y))
       is_cancelled r same w' y l =
-          comes_then g phase e (record v { timers = cancelled i v.timers }) reply x (client_of (layer_of g w') (without_late i (Some k) a, y)) left (Reply w.number (Err TimedOut) ∷ []) moves refl (record { now = refl; later = λ j d s. inl s })
-          (comes_of g phase e w' reply y.more left (without_late i (Some k) a, y)
-          (subst (λ r. Called g phase e w' reply y.more left r) (nothing_to_reply (without_late i (Some k) a) y (l.put ∙ ap₂ (λ (b c : List OnBoard). b ++ c) board (no_posts (with_at (g.ticket r) None (g.names u)) l.board l.made.posts (g.names w') l.may.1 l.gives)))
-          (after_call g phase e (with_at (g.ticket r) None (g.names u)) u (without_late i (Some k) a) reply left left GivesUp w' y (holds_left r same) fair_left given board l
-          (cancel_moves g.st composed g.P g.some left w.number l.made (at_it w.number None x.held) (g.tie.named phase u (sight v) (x.ups 0) k w.number f.tied mine.named).1
+          comes_then g (Untold row) e (record v { timers = cancelled i v.timers }) reply x (client_of (layer_of g w') (without_late i (Some k) a, y)) left (Reply w.number (Err TimedOut) ∷ []) moves refl (record { now = refl; later = λ j d s. inl s })
+          (comes_of g (Untold row) e w' reply y.more left (without_late i (Some k) a, y)
+          (subst (λ r. Called g (Untold row) e w' reply y.more left r) (nothing_to_reply (without_late i (Some k) a) y (l.put ∙ ap₂ (λ (b c : List OnBoard). b ++ c) board (no_posts (with_at (g.ticket r) None (g.names u)) l.board l.made.posts (g.names w') l.may.1 l.gives)))
+          (after_call g (Untold row) e (with_at (g.ticket r) None (g.names u)) u (without_late i (Some k) a) reply left left GivesUp w' y (holds_left r same) fair_left given board l
+          (cancel_moves g.st composed g.P g.some left w.number l.made (at_it w.number None x.held) (g.tie.named (Untold row) u (sight v) (x.ups 0) k w.number f.tied mine.named).1
           (subst (λ p. Begins (g.P.Cancels 0 p w.number (x.ups 0)) (Chain g.P 0) l.made) (sym f.place) l.may.0)))))
 
-      times_it_out : IfSome (Comes g phase e (record v { timers = cancelled i v.timers }) x) (times_out (machine g.T g.number) (client_of (layer_of g u) (without_late i (Some k) a, record v { timers = cancelled i v.timers })) (Some w))
+      times_it_out : IfSome (Comes g (Untold row) e (record v { timers = cancelled i v.timers }) x) (times_out (machine g.T g.number) (client_of (layer_of g u) (without_late i (Some k) a, record v { timers = cancelled i v.timers })) (Some w))
       times_it_out =
           let r : IsFor g k w.response = mine.response in
-          subst (λ p. IfSome (Comes g phase e (record v { timers = cancelled i v.timers }) x) (option_and_then (λ x. Some (client_of x.0 (without_late i (Some k) a, x.1))) (first.plain_cancel g.T.cancel p (layer_of g u) reply))) (sym r.1)
-          (given_up (Comes g phase e (record v { timers = cancelled i v.timers }) x) u (without_late i (Some k) a) (g.T.cancel (g.down r.0) (g.up u) reply) (g.t.cancel r.0 u reply) (g.layer.cancel r.0 u reply)
-          (left_on (Leaves g.P g.Tied g.names g.Owns GivesUp (with_at (g.ticket r.0) None (g.names u)) u reply phase)
-          (λ w' y. Comes g phase e (record v { timers = cancelled i v.timers }) x (client_of (layer_of g w') (without_late i (Some k) a, y))) (g.t.cancel r.0 u reply)
+          subst (λ p. IfSome (Comes g (Untold row) e (record v { timers = cancelled i v.timers }) x) (option_and_then (λ x. Some (client_of x.0 (without_late i (Some k) a, x.1))) (first.plain_cancel g.T.cancel p (layer_of g u) reply))) (sym r.1)
+          (given_up (Comes g (Untold row) e (record v { timers = cancelled i v.timers }) x) u (without_late i (Some k) a) (g.T.cancel (g.down r.0) (g.up u) reply) (g.t.cancel r.0 u reply) (g.layer.cancel r.0 u reply)
+          (left_on (Leaves g.P g.Tied g.names g.Owns GivesUp (with_at (g.ticket r.0) None (g.names u)) u reply (Untold row))
+          (λ w' y. Comes g (Untold row) e (record v { timers = cancelled i v.timers }) x (client_of (layer_of g w') (without_late i (Some k) a, y))) (g.t.cancel r.0 u reply)
           (is_cancelled r.0 r.2)
-          (g.tie.cancels phase u reply (x.ups 0) r.0 w.number tied_left fair_left (subst (λ n. g.names u n ≡ Some w.number) (sym r.2) mine.named))))
+          (g.tie.cancels u reply (x.ups 0) row r.0 w.number tied_left fair_left (subst (λ n. g.names u n ≡ Some w.number) (sym r.2) mine.named))))
 
-    pub one_fires : IfSome (Comes g phase e (record v { timers = cancelled i v.timers }) x) (fire (machine g.T g.number) i (client_of (layer_of g u) (a, record v { timers = cancelled i v.timers })))
+    pub one_fires : IfSome (Comes g (Untold row) e (record v { timers = cancelled i v.timers }) x) (fire (machine g.T g.number) i (client_of (layer_of g u) (a, record v { timers = cancelled i v.timers })))
     one_fires = by (entry_at i a.deadlines) refl
       where
-        by : (o : Option ℕ) → entry_at i a.deadlines ≡ o → IfSome (Comes g phase e (record v { timers = cancelled i v.timers }) x) (fires_at (machine g.T g.number) i (client_of (layer_of g u) (a, record v { timers = cancelled i v.timers })) o)
-        by None none = subst (λ ds. IfSome (Comes g phase e (record v { timers = cancelled i v.timers }) x) (hears (machine g.T g.number) (due_timer i) (client_of (layer_of g u) (record a { deadlines = ds }, record v { timers = cancelled i v.timers }))))
+        by : (o : Option ℕ) → entry_at i a.deadlines ≡ o → IfSome (Comes g (Untold row) e (record v { timers = cancelled i v.timers }) x) (fires_at (machine g.T g.number) i (client_of (layer_of g u) (a, record v { timers = cancelled i v.timers })) o)
+        by None none = subst (λ ds. IfSome (Comes g (Untold row) e (record v { timers = cancelled i v.timers }) x) (hears (machine g.T g.number) (due_timer i) (client_of (layer_of g u) (record a { deadlines = ds }, record v { timers = cancelled i v.timers }))))
             (sym (frees_nothing i a.deadlines none)) (own_fires none)
         by (Some k) is =
             let l = f.holds.kept.late i k is in
-            subst (λ o. IfSome (Comes g phase e (record v { timers = cancelled i v.timers }) x) (times_out (machine g.T g.number) (client_of (layer_of g u) (without_late i (Some k) a, record v { timers = cancelled i v.timers })) o)) (sym l.1)
+            subst (λ o. IfSome (Comes g (Untold row) e (record v { timers = cancelled i v.timers }) x) (times_out (machine g.T g.number) (client_of (layer_of g u) (without_late i (Some k) a, record v { timers = cancelled i v.timers })) o)) (sym l.1)
             (times_it_out k is l.0 l.1 l.2)

@@ -17,7 +17,7 @@ use Rattle.client_runs.proofs.Desk.{AreKept}
 use Rattle.client_runs.proofs.Firing.{IfSome, some_then, some_on, heard, left_on}
 use Rattle.client_runs.proofs.Holding.{Requests, State, IsFor, Holds, desk_of}
 use Rattle.client_runs.proofs.Leading.{chain_moves}
-use Rattle.client_runs.proofs.Looping.{Rested, stays, all_fire}
+use Rattle.client_runs.proofs.Looping.{Rested, stays, all_fire, early_on}
 
 module _ (g : Tying) where
   -- another view of the same moment, with the same timers
@@ -82,18 +82,18 @@ module _ (g : Tying) where
       pub comes : Comes g (Told p left) e v from d
 
     -- the frames behind the first
-    pub frames_do : (p n left : ℕ) (d : PlainClient g) (x : State g) → IsTied g (Told p left) e d x → left ≤ n → d.view.more ≡ nat_lt 0 left → IfSome g (Comes g (Told p 0) e d.view x) (more_frames (machine g.T g.number) p n d)
-    frames_do p zero left d x t le more = stays g (Told p 0) e d x (subst (λ l. IsTied g (Told p l) e d x) (none left le) t)
+    pub frames_do : (p n left : ℕ) (d : PlainClient g) (x : State g) → IsTied g (Told p left) e d x → IsEarly d.view → left ≤ n → d.view.more ≡ nat_lt 0 left → IfSome g (Comes g (Told p 0) e d.view x) (more_frames (machine g.T g.number) p n d)
+    frames_do p zero left d x t early le more = stays g (Told p 0) e d x (subst (λ l. IsTied g (Told p l) e d x) (none left le) t)
       where
         none : (l : ℕ) → l ≤ 0 → l ≡ 0
         none l le = omega arith
-    frames_do p (suc n) zero d x t le more =
+    frames_do p (suc n) zero d x t early le more =
         subst (λ (b : Bool). IfSome g (Comes g (Told p 0) e d.view x) (if b then option_and_then (more_frames (machine g.T g.number) p n) (option_and_then (next_frame (machine g.T g.number) p) (fires_all (machine g.T g.number) d)) else Some d)) (sym more)
         (stays g (Told p 0) e d x t)
-    frames_do p (suc n) (suc l) d x t le more =
+    frames_do p (suc n) (suc l) d x t early le more =
         subst (λ (b : Bool). IfSome g (Comes g (Told p 0) e d.view x) (if b then option_and_then (more_frames (machine g.T g.number) p n) (option_and_then (next_frame (machine g.T g.number) p) (fires_all (machine g.T g.number) d)) else Some d)) (sym (more ∙ some l))
         (some_then g (IsTaken p l d.view x) (Comes g (Told p 0) e d.view x) (more_frames (machine g.T g.number) p n) (option_and_then (next_frame (machine g.T g.number) p) (fires_all (machine g.T g.number) d))
-        (some_then g (Rested g (Told p (suc l)) e d.view x) (IsTaken p l d.view x) (next_frame (machine g.T g.number) p) (fires_all (machine g.T g.number) d) (all_fire g (Told p (suc l)) e d x t)
+        (some_then g (Rested g (Told p (suc l)) e d.view x) (IsTaken p l d.view x) (next_frame (machine g.T g.number) p) (fires_all (machine g.T g.number) d) (all_fire g (Told p (suc l)) e d x t early)
         (λ d1 r. some_on g (IsHeard e (λ q left. (q ≡ p) × (left ≤ l)) d1.view r.comes.end) (IsTaken p l d.view x) (next_frame (machine g.T g.number) p d1) (takes_it p l d1 r.comes.end r.comes.tied r.early)
         (λ d2 h. record {
           left = h.left;
@@ -102,7 +102,7 @@ module _ (g : Tying) where
           comes = comes_then g (Told p h.left) e d.view d1.view x d2 r.comes.end r.comes.outs r.comes.leads r.comes.put r.comes.on (subst (λ q. Comes g (Told q h.left) e d1.view r.comes.end d2) h.may_be.0 h.comes);
         })))
         (λ d2 k. some_on g (Comes g (Told p 0) e d2.view k.comes.end) (Comes g (Told p 0) e d.view x) (more_frames (machine g.T g.number) p n d2)
-        (frames_do p n k.left d2 k.comes.end k.comes.tied (fewer k.left l n k.few le) k.stands)
+        (frames_do p n k.left d2 k.comes.end k.comes.tied (early_on d.view d2.view k.comes.on early) (fewer k.left l n k.few le) k.stands)
         (λ d3 c. comes_then g (Told p 0) e d.view d2.view x d3 k.comes.end k.comes.outs k.comes.leads k.comes.put k.comes.on c)))
       where
         some : (l : ℕ) → nat_lt 0 (suc l) ≡ true
@@ -117,5 +117,5 @@ module _ (g : Tying) where
         some_then g (IsHeard e (MayLeave (Bytes p o)) d.view x) (Comes g (Told p 0) e d.view x) (more_frames (machine g.T g.number) p (length o)) (tells (machine g.T g.number) (Bytes p o) d) (tells_it (Bytes p o) d x t early)
         (λ d1 h. (let c = subst (λ q. Comes g (Told q h.left) e d.view x d1) (sym h.may_be.0) h.comes in
         some_on g (Comes g (Told p 0) e d1.view c.end) (Comes g (Told p 0) e d.view x) (more_frames (machine g.T g.number) p (length o) d1)
-        (frames_do p (length o) h.left d1 c.end c.tied h.may_be.1 h.stands)
+        (frames_do p (length o) h.left d1 c.end c.tied (early_on d.view d1.view c.on early) h.may_be.1 h.stands)
         (λ d2 k. comes_then g (Told p 0) e d.view d1.view x d2 c.end c.outs c.leads c.put c.on k)))

@@ -7,8 +7,8 @@ use Rattle.client_request.specs.View.{View}
 use Rattle.client_request.specs.declared.event.What.{What}
 use Rattle.client_request.specs.declared.timers.Timer.{Timer}
 use Rattle.headline.specs.Parts.{IsIn}
-use Rattle.client_ties.specs.PartTie.{Phase}
-use Rattle.client_ties.specs.Sights.{due_of, IsEarly}
+use Rattle.client_ties.specs.PartTie.{Phase, Untold, Told}
+use Rattle.client_ties.specs.Sights.{due_of, IsFair, IsEarly}
 use Rattle.client_runs.specs.Above.{Tying, machine}
 use Rattle.client_steps.specs.Client.{client_of, fire, fires, fires_first, fires_all}
 use Rattle.client_steps.proofs.TimerLaws.{due_without, due_listed, listed_due, fires_now, rests_now}
@@ -91,7 +91,10 @@ module _ (g : Tying) where
   pub stays : (phase : Phase) (e : What) (d : PlainClient g) (x : State g) → IsTied g phase e d x → Comes g phase e d.view x d
   stays phase e d x tied = record { outs = []; end = x; leads = Arrives x; tied = tied; put = sym (append-nil d.view.outs); on = record { now = refl; later = λ i due s. inl s } }
 
-  module _ (phase : Phase) (e : What) where
+  module _ (row e : What) where
+    abbrev phase : Phase
+    phase = Untold row
+
     one_less_due : (n : ℕ) (v w : View) (i : ℕ) → (few : AreFew (suc n) v) → IsIn i few.ids → IsOn (record v { timers = cancelled i v.timers }) w → ((j due : ℕ) → due_of j (cancelled i v.timers).set ≡ Some due → (i ≡ j → ⊥) × (due_of j v.timers.set ≡ Some due)) → AreFew n w
     one_less_due n v w i few is on was = record {
       ids = drop_one i few.ids;
@@ -133,7 +136,7 @@ module _ (g : Tying) where
             subst (λ y. IfSome g (Rested phase e d.view x) (option_and_then (fires (machine g.T g.number) n) (fire (machine g.T g.number) t.id (record d { view = record d.view { timers = fired_at d.view.timers y } })))) (sym some)
             (some_then g (Comes g phase e v0 x) (Rested phase e d.view x) (fires (machine g.T g.number) n) (fire (machine g.T g.number) t.id (record d { view = v0 }))
             (subst (λ l. IfSome g (Comes g phase e v0 x) (fire (machine g.T g.number) t.id (client_of l (d.asked, v0)))) (sym tied.layer)
-            (one_fires g phase e tied.u d.asked d.view x tied.fits tied.board tied.given t.id t.due is first.1))
+            (one_fires g row e tied.u d.asked d.view x tied.fits tied.board tied.given t.id t.due is first.1))
             (λ d1 c. some_on g (Rested phase e d1.view c.end) (Rested phase e d.view x) (fires (machine g.T g.number) n d1)
             (ih d1 c.end c.tied (one_less_due n d.view d1.view t.id few (few.all t.id t.due is first.1) c.on was))
             (λ d2 r. record {
@@ -141,5 +144,32 @@ module _ (g : Tying) where
               early = r.early;
             })))
 
-    pub all_fire : (d : PlainClient g) (x : State g) → IsTied g phase e d x → IfSome g (Rested phase e d.view x) (fires_all (machine g.T g.number) d)
-    all_fire d x tied = fires_do (length d.view.timers.set) d x tied (all_set d.view)
+    untold_fire : (d : PlainClient g) (x : State g) → IsTied g phase e d x → IfSome g (Rested phase e d.view x) (fires_all (machine g.T g.number) d)
+    untold_fire d x tied = fires_do (length d.view.timers.set) d x tied (all_set d.view)
+
+  -- where no timer is due, none fires
+  none_fires : (n : ℕ) (d : PlainClient g) → IsFair d.view → IsEarly d.view → fires (machine g.T g.number) n d ≡ Some d
+  none_fires zero d fair early = refl
+  none_fires (suc n) d fair early = by (due_now d.view.now d.view.timers.set) refl
+    where
+      not_both : (a b : ℕ) → a < b → b ≤ a → ⊥
+      not_both a b lt le = omega arith
+
+      by : (y : Option Timer) → due_now d.view.now d.view.timers.set ≡ y → fires_first (machine g.T g.number) (fires (machine g.T g.number) n) d y ≡ Some d
+      by None none = refl
+      by (Some t) some =
+          let first = fires_now d.view.now d.view.timers.set t some in
+          let is = due_listed t 0 d.view.timers.next d.view.timers.set fair.order first.0 in
+          absurd (not_both d.view.now t.due (early t.id t.due is) first.1)
+
+  -- once the event was told, no timer is due
+  abbrev pub MayFire : Phase → View → Type 0
+  MayFire (Untold w) v = Unit {0}
+  MayFire (Told p left) v = IsEarly v
+
+  pub all_fire : (phase : Phase) (e : What) (d : PlainClient g) (x : State g) → IsTied g phase e d x → MayFire phase d.view → IfSome g (Rested phase e d.view x) (fires_all (machine g.T g.number) d)
+  all_fire (Untold w) e d x tied may = untold_fire w e d x tied
+  all_fire (Told p left) e d x tied early = subst (λ o. IfSome g (Rested (Told p left) e d.view x) o) (sym (none_fires (length d.view.timers.set) d tied.fits.fair early)) (record { comes = stays (Told p left) e d x tied; early = early })
+
+pub early_on : (v w : View) → IsOn v w → IsEarly v → IsEarly w
+early_on v w on early i due set = subst (λ n. n < due) (sym on.now) (elim (on.later i due set) [ inl was ↦ early i due was | inr lt ↦ lt ])

@@ -11,7 +11,7 @@ use Rattle.client_request.specs.declared.event.What.TheVariants.{Ask, Bytes, Tic
 use Rattle.headline.specs.Requests.{is_ask}
 use Rattle.headline.specs.Timely.{IsAskedInOctets, AllAskedInOctets}
 use Rattle.headline.specs.machine.Client.{IsDone, IsStep, IsRun, Ends, Goes_on, row_begins, begun, Waiting as Held}
-use Rattle.client_ties.specs.PartTie.{Untold, Told, MayLeave}
+use Rattle.client_ties.specs.PartTie.{Phase, Untold, Told, MayEnd, MayLeave}
 use Rattle.client_ties.specs.Sights.{sight, IsEarly}
 use Rattle.client_runs.specs.Above.{Tying, machine, begins_with, AreWords, ClientsAboveTiesRun}
 use Rattle.client_steps.specs.Client.{client_of, at_moment, rested, row_of, row_and_rest, then_rows, asks_request, fires_all, tells, brings, happens, client_step, plain_rows}
@@ -22,37 +22,39 @@ use Rattle.client_runs.proofs.Firing.{IfSome, some_then, some_on}
 use Rattle.client_runs.proofs.Hearing.{IsHeard, tells_it, bytes_do, holds_as}
 use Rattle.client_runs.proofs.Holding.{State}
 use Rattle.client_runs.proofs.Leading.{Arrives, leads_on, all_moves}
-use Rattle.client_runs.proofs.Looping.{Rested, all_fire}
+use Rattle.client_runs.proofs.Looping.{Rested, all_fire, early_on}
 
 either_way : (a b : ℕ) → max a b ≡ max b a
 either_way a b = omega arith
 
 module _ (g : Tying) where
-  happened_of : (at : ℕ) (e : What) (v : View) (from : State g) (d : PlainClient g) → is_ask e ≡ false → Comes g (Told at 0) e v from d → Happened g v from d
-  happened_of at e v from d taken c = record { at = at; pending = e; taken = taken; outs = c.outs; end = c.end; leads = c.leads; tied = c.tied; put = c.put }
+  happened_of : (at : ℕ) (e : What) (v : View) (from : State g) (d : PlainClient g) → is_ask e ≡ false → IsEarly v → Comes g (Told at 0) e v from d → Happened g v from d
+  happened_of at e v from d taken early c = record { phase = Told at 0; may_end = refl; may_fire = early_on v d.view c.on early; pending = e; taken = taken; outs = c.outs; end = c.end; leads = c.leads; tied = c.tied; put = c.put }
 
   -- what an event does
   happens_do : (w : What) (d : PlainClient g) (x : State g) → IsAskedInOctets w → IsTied g (Untold w) w d x → IsEarly d.view → IfSome g (Happened g d.view x) (happens (machine g.T g.number) (g.c).timeout w d)
   happens_do (Ask r) d x octets t early = subst (λ l. IfSome g (Happened g d.view x) (asks_request (machine g.T g.number) (g.c).timeout r (client_of l (d.asked, d.view)))) (sym t.layer)
       (asks_it g r t.u d.asked d.view x t.fits t.board t.given octets)
   happens_do (Bytes p o) d x octets t early = some_on g (Comes g (Told p 0) (Bytes p o) d.view x) (Happened g d.view x) (brings (machine g.T g.number) p o d) (bytes_do g (Bytes p o) p o d x t early)
-      (λ d1 c. happened_of p (Bytes p o) d.view x d1 refl c)
+      (λ d1 c. happened_of p (Bytes p o) d.view x d1 refl early c)
   happens_do Tick d x octets t early = record {
-    at = 0;
+    phase = Untold Tick;
+    may_end = tt;
+    may_fire = tt;
     pending = Tick;
     taken = refl;
     outs = [];
     end = x;
     leads = Arrives x;
-    tied = record { u = t.u; layer = t.layer; fits = record { holds = t.fits.holds; place = t.fits.place; fair = t.fits.fair; tied = g.tie.passes t.u (sight d.view) (x.ups 0) Tick tt t.fits.tied }; board = t.board; given = t.given };
+    tied = t;
     put = sym (append-nil d.view.outs);
   }
   happens_do w d x octets t early = some_on g (IsHeard g w (MayLeave w) d.view x) (Happened g d.view x) (tells (machine g.T g.number) w d) (tells_it g w w d x t early)
-      (λ d1 h. happened_of h.at w d.view x d1 refl (subst (λ l. Comes g (Told h.at l) w d.view x d1) h.may_be h.comes))
+      (λ d1 h. happened_of h.at w d.view x d1 refl early (subst (λ l. Comes g (Told h.at l) w d.view x d1) h.may_be h.comes))
 
   -- A row is done when no timer is due.
-  is_done : (at : ℕ) (e : What) (d : PlainClient g) (x : State g) → is_ask e ≡ false → IsTied g (Told at 0) e d x → IsEarly d.view → IsDone g.c g.st composed g.P x
-  is_done at e d x taken t early = record {
+  is_done : (phase : Phase) (e : What) (d : PlainClient g) (x : State g) → MayEnd phase → is_ask e ≡ false → IsTied g phase e d x → IsEarly d.view → IsDone g.c g.st composed g.P x
+  is_done phase e d x end taken t early = record {
     taken = subst (λ w. is_ask w ≡ false) (sym t.fits.holds.pending) taken;
     board = t.given;
     leaving = t.fits.holds.leaving;
@@ -66,12 +68,12 @@ module _ (g : Tying) where
       later i e = omega arith
 
       rests : (i : ℕ) → i < length (g.c).servers → g.P.Rests (x.ups i)
-      rests zero lt = g.tie.rests t.u d.view (x.ups 0) at early t.fits.tied
+      rests zero lt = g.tie.rests phase t.u d.view (x.ups 0) end early t.fits.tied
       rests (suc i) lt = g.idle.rests (x.ups (suc i)) (t.fits.holds.idle (suc i) (later i))
 
       holds_it : (i k : ℕ) → i < length (g.c).servers → g.P.holds (x.ups i) k ≡ true → (a : Held) × (x.held k ≡ Some a)
       holds_it zero k lt e =
-          let l = g.tie.held (Told at 0) t.u (sight d.view) (x.ups 0) k t.fits.tied e in
+          let l = g.tie.held phase t.u (sight d.view) (x.ups 0) k t.fits.tied e in
           let m = t.fits.holds.kept.named l.0 k l.1 in
           let n = t.fits.holds.kept.kept l.0 m.0 m.1 in
           (n.ask, subst (λ k. x.held k ≡ Some n.ask) m.2 n.is)
@@ -87,7 +89,7 @@ module _ (g : Tying) where
       goes_on k a e =
           let l = t.fits.holds.kept.held k a e in
           let m = t.fits.holds.kept.kept l.0 l.1 l.2 in
-          (0, g.some, subst (λ k. g.P.holds (x.ups 0) k ≡ true) l.3 (g.tie.named (Told at 0) t.u (sight d.view) (x.ups 0) l.0 (l.1).number t.fits.tied m.named).1)
+          (0, g.some, subst (λ k. g.P.holds (x.ups 0) k ≡ true) l.3 (g.tie.named phase t.u (sight d.view) (x.ups 0) l.0 (l.1).number t.fits.tied m.named).1)
 
       in_time : (k : ℕ) (a : Held) → x.held k ≡ Some a → x.now < a.moment + (g.c).timeout
       in_time k a e =
@@ -97,8 +99,8 @@ module _ (g : Tying) where
           subst (λ n. n < a.moment + (g.c).timeout) (sym t.fits.holds.now) (subst (λ (a : Held). d.view.now < a.moment + (g.c).timeout) same (early (l.1).timer (m.ask.moment + (g.c).timeout) m.due))
 
   -- a row begins
-  begins_so : (e : Event) (at : ℕ) (w : What) (d : PlainClient g) (x : State g) → IsTied g (Told at 0) w d x → IsTied g (Untold e.what) e.what (at_moment e.moment.0 d) (row_begins g.c g.st composed g.P e x)
-  begins_so e at w d x t = record {
+  begins_so : (e : Event) (phase : Phase) (w : What) (d : PlainClient g) (x : State g) → MayEnd phase → IsTied g phase w d x → IsTied g (Untold e.what) e.what (at_moment e.moment.0 d) (row_begins g.c g.st composed g.P e x)
+  begins_so e phase w d x end t = record {
     u = t.u;
     layer = t.layer;
     fits = record {
@@ -115,15 +117,15 @@ module _ (g : Tying) where
       };
       place = t.fits.place;
       fair = record { order = t.fits.fair.order; words = t.fits.fair.words };
-      tied = g.tie.same (Untold e.what) t.u (record (sight d.view) { now = max e.moment.0 d.view.now }) (sight (record d.view { now = max d.view.now e.moment.0 })) (g.P.begin e (x.ups 0)) (g.tie.begins t.u (sight d.view) (x.ups 0) at e t.fits.tied)
+      tied = g.tie.same (Untold e.what) t.u (record (sight d.view) { now = max e.moment.0 d.view.now }) (sight (record d.view { now = max d.view.now e.moment.0 })) (g.P.begin e (x.ups 0)) (g.tie.begins phase t.u (sight d.view) (x.ups 0) e end t.fits.tied)
           (either_way d.view.now e.moment.0) (λ i o. refl) (le_refl d.view.timers.next) (le_refl d.view.ticket) (le_refl d.view.place);
     };
     board = t.board;
     given = t.given;
   }
 
-  rests_so : (at : ℕ) (w : What) (d : PlainClient g) (x : State g) → IsTied g (Told at 0) w d x → IsTied g (Told at 0) w (rested d) x
-  rests_so at w d x t = record {
+  rests_so : (phase : Phase) (w : What) (d : PlainClient g) (x : State g) → IsTied g phase w d x → IsTied g phase w (rested d) x
+  rests_so phase w d x t = record {
     u = t.u;
     layer = t.layer;
     fits = record { holds = holds_as g w (g.names t.u) t.u d.asked d.view (rested d).view x refl refl t.fits.holds; place = t.fits.place; fair = record { order = t.fits.fair.order; words = t.fits.fair.words }; tied = t.fits.tied };
@@ -133,23 +135,26 @@ module _ (g : Tying) where
 
   -- what a step of the plain client is to the machine
   record IsStepped (e : Event) (from : State g) (d : PlainClient g) : Type 0 where
-    pub at : ℕ
+    pub phase : Phase
+    pub may_end : MayEnd phase
     pub pending : What
     pub end : State g
     pub step : IsStep g.c g.st composed g.P from (row_of e d) end
-    pub tied : IsTied g (Told at 0) pending (rested d) end
+    pub tied : IsTied g phase pending (rested d) end
 
   -- Timers fire, the event happens, and timers fire again.
-  steps_do : (e : Event) (at : ℕ) (w : What) (d : PlainClient g) (x : State g) → IsAskedInOctets e.what → IsTied g (Told at 0) w d x → d.view.outs ≡ [] → IfSome g (IsStepped e x) (client_step (machine g.T g.number) (g.c).timeout e d)
-  steps_do e at w d x octets t none =
+  steps_do : (e : Event) (phase : Phase) (w : What) (d : PlainClient g) (x : State g) → IsAskedInOctets e.what → MayEnd phase → IsTied g phase w d x → d.view.outs ≡ [] → IfSome g (IsStepped e x) (client_step (machine g.T g.number) (g.c).timeout e d)
+  steps_do e phase w d x octets end t none =
       let d0 : PlainClient g = at_moment e.moment.0 d in
       let x0 : State g = row_begins g.c g.st composed g.P e x in
       some_then g (Happened g d0.view x0) (IsStepped e x) (fires_all (machine g.T g.number)) (option_and_then (happens (machine g.T g.number) (g.c).timeout e.what) (fires_all (machine g.T g.number) d0))
       (some_then g (Rested g (Untold e.what) e.what d0.view x0) (Happened g d0.view x0) (happens (machine g.T g.number) (g.c).timeout e.what) (fires_all (machine g.T g.number) d0)
-      (all_fire g (Untold e.what) e.what d0 x0 (begins_so e at w d x t))
+      (all_fire g (Untold e.what) e.what d0 x0 (begins_so e phase w d x end t) tt)
       (λ d1 r. some_on g (Happened g d1.view r.comes.end) (Happened g d0.view x0) (happens (machine g.T g.number) (g.c).timeout e.what d1) (happens_do e.what d1 r.comes.end octets r.comes.tied r.early)
       (λ d2 h. record {
-        at = h.at;
+        phase = h.phase;
+        may_end = h.may_end;
+        may_fire = h.may_fire;
         pending = h.pending;
         taken = h.taken;
         outs = r.comes.outs ++ h.outs;
@@ -158,19 +163,20 @@ module _ (g : Tying) where
         tied = h.tied;
         put = h.put ∙ (ap (λ (o : List Out). o ++ h.outs) r.comes.put ∙ append_assoc d0.view.outs r.comes.outs h.outs);
       })))
-      (λ d2 h. some_on g (Rested g (Told h.at 0) h.pending d2.view h.end) (IsStepped e x) (fires_all (machine g.T g.number) d2) (all_fire g (Told h.at 0) h.pending d2 h.end h.tied)
+      (λ d2 h. some_on g (Rested g h.phase h.pending d2.view h.end) (IsStepped e x) (fires_all (machine g.T g.number) d2) (all_fire g h.phase h.pending d2 h.end h.tied h.may_fire)
       (λ d3 r. record {
-        at = h.at;
+        phase = h.phase;
+        may_end = h.may_end;
         pending = h.pending;
         end = r.comes.end;
         step = record {
           made = record { state = r.comes.end; outs = h.outs ++ r.comes.outs };
           moves = all_moves g.st composed g.P x0 (h.outs ++ r.comes.outs) r.comes.end (leads_on g.st composed g.P x0 h.outs h.end r.comes.outs r.comes.end h.leads r.comes.leads)
-              (is_done h.at h.pending d3 r.comes.end h.taken r.comes.tied r.early);
+              (is_done h.phase h.pending d3 r.comes.end h.may_end h.taken r.comes.tied r.early);
           outs = r.comes.put ∙ ap (λ (o : List Out). o ++ r.comes.outs) (h.put ∙ ap (λ (o : List Out). o ++ h.outs) none);
           leaves = refl;
         };
-        tied = rests_so h.at h.pending d3 r.comes.end r.comes.tied;
+        tied = rests_so h.phase h.pending d3 r.comes.end r.comes.tied;
       }))
 
   -- rows are a run
@@ -178,15 +184,15 @@ module _ (g : Tying) where
   RunsFrom x None = Unit {0}
   RunsFrom x (Some rows) = IsRun g.c g.st composed g.P x rows
 
-  rows_run : (es : List Event) (at : ℕ) (w : What) (d : PlainClient g) (x : State g) → AllAskedInOctets es → IsTied g (Told at 0) w d x → d.view.outs ≡ [] → RunsFrom x (plain_rows (machine g.T g.number) (g.c).timeout es d)
-  rows_run [] at w d x octets t none = Ends x
-  rows_run (e ∷ es) at w d x octets t none = by (client_step (machine g.T g.number) (g.c).timeout e d) (steps_do e at w d x octets.0 t none) (λ at w d x t none. rows_run es at w d x octets.1 t none)
+  rows_run : (es : List Event) (phase : Phase) (w : What) (d : PlainClient g) (x : State g) → AllAskedInOctets es → MayEnd phase → IsTied g phase w d x → d.view.outs ≡ [] → RunsFrom x (plain_rows (machine g.T g.number) (g.c).timeout es d)
+  rows_run [] phase w d x octets end t none = Ends x
+  rows_run (e ∷ es) phase w d x octets end t none = by (client_step (machine g.T g.number) (g.c).timeout e d) (steps_do e phase w d x octets.0 end t none) (λ phase w d x end t none. rows_run es phase w d x octets.1 end t none)
     where
       by : (o : Option (PlainClient g)) → IfSome g (IsStepped e x) o
-          → ((at : ℕ) (w : What) (d : PlainClient g) (x : State g) → IsTied g (Told at 0) w d x → d.view.outs ≡ [] → RunsFrom x (plain_rows (machine g.T g.number) (g.c).timeout es d))
+          → ((phase : Phase) (w : What) (d : PlainClient g) (x : State g) → MayEnd phase → IsTied g phase w d x → d.view.outs ≡ [] → RunsFrom x (plain_rows (machine g.T g.number) (g.c).timeout es d))
           → RunsFrom x (option_and_then (then_rows (plain_rows (machine g.T g.number) (g.c).timeout es)) (option_map (row_and_rest e) o))
       by None s ih = tt
-      by (Some d1) s ih = rest (plain_rows (machine g.T g.number) (g.c).timeout es (rested d1)) (ih s.at s.pending (rested d1) s.end s.tied refl)
+      by (Some d1) s ih = rest (plain_rows (machine g.T g.number) (g.c).timeout es (rested d1)) (ih s.phase s.pending (rested d1) s.end s.may_end s.tied refl)
         where
           rest : (o : Option (List Row)) → RunsFrom s.end o → RunsFrom x (option_map (λ rows. row_of e d1 ∷ rows) o)
           rest None r = tt
@@ -235,7 +241,7 @@ module _ (g : Tying) where
   -- Every list of rows is a run.
   tied_clients_run : (words : ℕ → ℕ) (events : List Event) (rows : List Row) → AreWords words → AllAskedInOctets events
       → plain_rows (machine g.T g.number) (g.c).timeout events (begins_with words (Some (g.up g.first))) ≡ Some rows → IsRun g.c g.st composed g.P (begun g.c g.st composed g.P) rows
-  tied_clients_run words events rows small octets e = subst (RunsFrom (begun g.c g.st composed g.P)) e (rows_run events 0 Tick (begins_with words (Some (g.up g.first))) (begun g.c g.st composed g.P) octets (starts words small) refl)
+  tied_clients_run words events rows small octets e = subst (RunsFrom (begun g.c g.st composed g.P)) e (rows_run events (Told 0 0) Tick (begins_with words (Some (g.up g.first))) (begun g.c g.st composed g.P) octets refl (starts words small) refl)
 
 pub clients_above_ties_run : ClientsAboveTiesRun
 clients_above_ties_run g words events rows small octets e = tied_clients_run g words events rows small octets e

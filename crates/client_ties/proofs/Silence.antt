@@ -53,12 +53,11 @@ silence_is_tied c s = record {
   named = λ phase u x a i k tied e. absurd (cc);
   held = λ phase u x a k tied e. absurd (cc);
   response = λ r u v. refl;
-  begins = λ u x a p e tied. tt;
-  passes = λ u x a w is tied. tt;
-  rests = λ u v a p early tied. tt;
-  fires = λ phase u v a i due tied fair set late. (let g = goes_without v i fair in nothing_done (silent_part c) s (λ phase u x a. Unit {0}) (λ u t. None) (λ u i. ⊥) u _ a phase g.fair tt);
+  begins = λ phase u x a e end tied. tt;
+  rests = λ phase u v a end early tied. tt;
+  fires = λ u v a w i due tied fair set late. (let g = goes_without v i fair in nothing_done (silent_part c) s (λ phase u x a. Unit {0}) (λ u t. None) (λ u i. ⊥) u _ a (Untold w) g.fair tt);
   sends = λ u v a w r tied fair octets free. send v fair w (can_draw v.ticket);
-  cancels = λ phase u v a r k tied fair e. absurd (cc);
+  cancels = λ u v a w r k tied fair e. absurd (cc);
   tells = λ u v a w tied fair early calm. (let l = none_left w in record { at = l.0; left = 0; may_be = l.1; more = calm; leaves = nothing_done (silent_part c) s (λ phase u x a. Unit {0}) (λ u t. None) (λ u i. ⊥) u v a (Told l.0 0) fair tt });
   takes = λ u v a p n tied fair early calm. record { at = p; left = 0; may_be = (refl, few n); more = calm; leaves = nothing_done (silent_part c) s (λ phase u x a. Unit {0}) (λ u t. None) (λ u i. ⊥) u v a (Told p 0) fair tt };
 }

@@ -27,6 +27,11 @@ IsNobodys (Ask r) = Unit {0}
 IsNobodys Tick = Unit {0}
 IsNobodys _ = ⊥
 
+-- where a row may end: its event was told and each frame is taken, or it is nobody's
+abbrev pub MayEnd : Phase → Type 0
+MayEnd (Untold w) = IsNobodys w
+MayEnd (Told place left) = left ≡ 0
+
 -- how many frames an event may bring to a place: fewer than it has octets, or as many
 abbrev pub MayLeave : What → (place left : ℕ) → Type 0
 MayLeave (Bytes p o) place left = (p ≡ place) × (left ≤ length o)
@@ -79,17 +84,16 @@ pub record IsTie {c : Conf} (P : ServerPart c) (s : ℕ) (via : Via) {U R : Type
   pub named : (phase : Phase) (u : U) (x : Sight) (a : P.State) (i k : ℕ) → Tied phase u x a → names u i ≡ Some k → (i < x.ticket) × (P.holds a k ≡ true)
   pub held : (phase : Phase) (u : U) (x : Sight) (a : P.State) (k : ℕ) → Tied phase u x a → P.holds a k ≡ true → (i : ℕ) × (names u i ≡ Some k)
   pub response : (r : Request) (u : U) (v : View) → ticket (t.response r u v) ≡ v.ticket
-  -- a row begins; an event of nobody passes; and when no timer is due, and each frame is taken, it rests
-  pub begins : (u : U) (x : Sight) (a : P.State) (p : ℕ) (e : Event) → Tied (Told p 0) u x a → Tied (Untold e.what) u (record x { now = max e.moment.0 x.now }) (P.begin e a)
-  pub passes : (u : U) (x : Sight) (a : P.State) (w : What) → IsNobodys w → Tied (Untold w) u x a → Tied (Told 0 0) u x a
-  pub rests : (u : U) (v : View) (a : P.State) (p : ℕ) → IsEarly v → Tied (Told p 0) u (sight v) a → P.Rests a
-  -- The calls. What is given up gives nothing.
-  pub fires : (phase : Phase) (u : U) (v : View) (a : P.State) (i due : ℕ) → Tied phase u (sight v) a → IsFair v → due_of i v.timers.set ≡ Some due → due ≤ v.now
-      → Leads (Leaves P Tied names Owns (Chain P s v.place a) (names u) u (record v { timers = cancelled i v.timers }) phase) (t.step (due_timer i) u (record v { timers = cancelled i v.timers }))
+  -- a row begins; and where it may end, and no timer is due, it rests
+  pub begins : (phase : Phase) (u : U) (x : Sight) (a : P.State) (e : Event) → MayEnd phase → Tied phase u x a → Tied (Untold e.what) u (record x { now = max e.moment.0 x.now }) (P.begin e a)
+  pub rests : (phase : Phase) (u : U) (v : View) (a : P.State) → MayEnd phase → IsEarly v → Tied phase u (sight v) a → P.Rests a
+  -- The calls. Timers fire, and requests are given up, before the event is told; an event of nobody never is. What is given up gives nothing.
+  pub fires : (u : U) (v : View) (a : P.State) (w : What) (i due : ℕ) → Tied (Untold w) u (sight v) a → IsFair v → due_of i v.timers.set ≡ Some due → due ≤ v.now
+      → Leads (Leaves P Tied names Owns (Chain P s v.place a) (names u) u (record v { timers = cancelled i v.timers }) (Untold w)) (t.step (due_timer i) u (record v { timers = cancelled i v.timers }))
   pub sends : (u : U) (v : View) (a : P.State) (w : What) (r : Request) → Tied (Untold w) u (sight v) a → IsFair v → IsOfOctets r → P.holds a v.request ≡ false
       → Leads (Leaves P Tied names Owns (Begins (P.Starts s v.place v.request r a) (Chain P s)) (with_at v.ticket (Some v.request) (names u)) u v (Untold w)) (t.send r u (asks (Start v.request s via) v))
-  pub cancels : (phase : Phase) (u : U) (v : View) (a : P.State) (r : R) (k : ℕ) → Tied phase u (sight v) a → IsFair v → names u (ticket r) ≡ Some k
-      → Leads (Leaves P Tied names Owns (λ d. Begins (P.Cancels s v.place k a) (Chain P s) d × (d.posts ≡ [])) (with_at (ticket r) None (names u)) u v phase) (t.cancel r u v)
+  pub cancels : (u : U) (v : View) (a : P.State) (w : What) (r : R) (k : ℕ) → Tied (Untold w) u (sight v) a → IsFair v → names u (ticket r) ≡ Some k
+      → Leads (Leaves P Tied names Owns (λ d. Begins (P.Cancels s v.place k a) (Chain P s) d × (d.posts ≡ [])) (with_at (ticket r) None (names u)) u v (Untold w)) (t.cancel r u v)
   pub tells : (u : U) (v : View) (a : P.State) (w : What) → Tied (Untold w) u (sight v) a → IsFair v → IsEarly v → v.more ≡ false
       → Leads (Tells P Tied names Owns (Chain P s v.place a) u v (MayLeave w)) (t.step (told w) u v)
   pub takes : (u : U) (v : View) (a : P.State) (p n : ℕ) → Tied (Told p (suc n)) u (sight v) a → IsFair v → IsEarly v → v.more ≡ false

@@ -141,7 +141,7 @@ module _ (c : Conf) (s : ℕ) where
                 count = ap length none;
                 at = inl refl;
                 row = inl refl;
-                told = inr (still_early d (desk_of r) v z fair early_here g.on g.owned, nobodys_foreign s Tick g.made.state tt);
+                told = (still_early d (desk_of r) v z fair early_here g.on g.owned, nobodys_foreign s Tick g.made.state tt);
               };
               goes_on = g.on;
               owned = g.owned;
@@ -260,7 +260,7 @@ module _ (c : Conf) (s : ℕ) where
           count = refl;
           at = inl refl;
           row = inl refl;
-          told = inr (early_there, nobodys_foreign s a.pending fm idle);
+          told = (early_there, nobodys_foreign s a.pending fm idle);
         };
         goes_on = goes_nowhere v fair;
         owned = λ i own. inl own;

@@ -23,7 +23,7 @@ use Rattle.headline.specs.machine.Streams.{Phase as Where, Free, Broken, Backing
 use Rattle.client_ties.specs.Connections.{dues}
 use Rattle.client_ties.specs.Lines.{StageFits as LineStageFits, IsNew, IsActive, IsIdle, WritingFits, IsFree, IsWriting}
 use Rattle.client_ties.specs.Octets.{IsLinkAt}
-use Rattle.client_ties.specs.PartTie.{Phase, Untold, Told, IsNobodys}
+use Rattle.client_ties.specs.PartTie.{Phase, Untold, Told, IsNobodys, MayEnd}
 use Rattle.client_ties.specs.Sights.{Sight, sight, IsEarly}
 use Rattle.client_ties.proofs.Tables.{present_below}
 use Rattle.multi_ties.specs.Servers.{Desk, desk_of, names_at, nothing_under_way, IsThere, StageFits, AtWaiting, AtResting, AtHeld, HasFailed, IsToHand, JobFits, LinkFits, IsNone, IsSome, IsServer}
@@ -62,7 +62,7 @@ module _ (s : ℕ) where
     count = refl;
     at = inl refl;
     row = inl refl;
-    told = inl (tt, λ p y e. absurd (let z : None ≡ Some y = e in cc));
+    told = ((λ i due o e. absurd (elim o [ inl q ↦ (let z : None ≡ Some q.0 = q.1 in cc) | inr q ↦ (let z : None ≡ Some q.1 = q.2 in cc) ])), λ q e. absurd (let z : false ≡ true = e in cc));
   }
 
   stream_same : (u : Streams) (x y : Sight) (a : Served) → IsStream s u x a → y.now ≡ x.now → ((i : ℕ) → owns u i → y.dues i ≡ x.dues i) → x.timer ≤ y.timer → x.ticket ≤ y.ticket → x.place ≤ y.place → IsStream s u y a
@@ -83,7 +83,7 @@ module _ (s : ℕ) where
     count = t.count;
     at = t.at;
     row = t.row;
-    told = elim t.told [ inl q ↦ inl q | inr q ↦ inr ((λ i d o set. subst (λ n. n < d) (sym now) (q.0 i d o (sym (due i o) ∙ set))), q.1) ];
+    told = ((λ i d o set. subst (λ n. n < d) (sym now) (t.told.0 i d o (sym (due i o) ∙ set))), t.told.1);
   }
 
   pub stream_of : (phase : Phase) (u : Streams) (x : Sight) (a : Served) → TiedAs s phase u x a → IsStream s u x a
@@ -161,18 +161,23 @@ module _ (s : ℕ) where
       not_zero : (n : ℕ) → suc n ≡ 0 → ⊥
       not_zero n e = grind arith
 
-  pub row_begins : (u : Streams) (x : Sight) (a : Served) (p : ℕ) (e : Event) → TiedAs s (Told p 0) u x a → TiedAs s (Untold e.what) u (record x { now = max e.moment.0 x.now }) (row_begun e a)
-  row_begins u x a p e t = record {
-    stream = record {
-      server = t.stream.server;
-      settings = t.stream.settings;
-      takes = t.stream.takes;
-      clock = ap (max e.moment.0) t.stream.clock;
-      dgram = t.stream.dgram;
-      ties = subst (λ (fs : ℕ → List Octets). IsServer nothing_under_way (desk_of u.tables) (begin_row a.server.by_stream) fs x.dues x.ticket) (same_frames a.place a.frames (none_of a.frames t.count))
-          (server_begun (desk_of u.tables) a.server.by_stream (frames_at a.place a.frames) x.dues x.ticket t.stream.ties);
-      order = order_up u.tables x (record x { now = max e.moment.0 x.now }) t.stream.order (le_refl x.timer) (le_refl x.ticket) (le_refl x.place);
-    };
+  -- no frame is left
+  none_left : (phase : Phase) (u : Streams) (x : Sight) (a : Served) → MayEnd phase → TiedAs s phase u x a → a.frames ≡ []
+  none_left (Untold w) u x a end t = t.frames
+  none_left (Told p n) u x a end t = none_of a.frames (t.count ∙ end)
+
+  pub row_begins : (phase : Phase) (u : Streams) (x : Sight) (a : Served) (e : Event) → MayEnd phase → TiedAs s phase u x a → TiedAs s (Untold e.what) u (record x { now = max e.moment.0 x.now }) (row_begun e a)
+  row_begins phase u x a e end t = record {
+    stream = (let i = stream_of phase u x a t in record {
+      server = i.server;
+      settings = i.settings;
+      takes = i.takes;
+      clock = ap (max e.moment.0) i.clock;
+      dgram = i.dgram;
+      ties = subst (λ (fs : ℕ → List Octets). IsServer nothing_under_way (desk_of u.tables) (begin_row a.server.by_stream) fs x.dues x.ticket) (same_frames a.place a.frames (none_left phase u x a end t))
+          (server_begun (desk_of u.tables) a.server.by_stream (frames_at a.place a.frames) x.dues x.ticket i.ties);
+      order = order_up u.tables x (record x { now = max e.moment.0 x.now }) i.order (le_refl x.timer) (le_refl x.ticket) (le_refl x.place);
+    });
     pending = refl;
     taken = refl;
     frames = refl;
@@ -182,9 +187,6 @@ module _ (s : ℕ) where
       by : (o : Option Conn) (y : Conn) → unheard o ≡ Some y → y.heard ≡ false
       by None y e = absurd (let z : None ≡ Some y = e in cc)
       by (Some x) y e = let f : record x { heard = false } ≡ y = (let z : Some (record x { heard = false }) ≡ Some y = e in cc) in ap (λ (x : Conn). x.heard) (sym f)
-
-  pub is_passed : (u : Streams) (x : Sight) (a : Served) (w : What) → IsNobodys w → TiedAs s (Untold w) u x a → TiedAs s (Told 0 0) u x a
-  is_passed u x a w nobody t = record { stream = t.stream; count = ap length t.frames; at = inl refl; row = inl refl; told = inl (subst IsNobodys (sym t.pending) nobody, t.quiet) }
 
   -- It rests
 
@@ -295,10 +297,15 @@ module _ (s : ℕ) where
         idles l x since md idle (IsActive t at f g h) = absurd (let z = sym g ∙ md in cc)
         idles l x since md idle (IsIdle t at f g h) = early t (since + x.idle) (h ∙ ap₂ (λ n k. Some (n + k)) (let z : Idle at ≡ Idle since = sym g ∙ md in let q : at ≡ since = cc in q) idle)
 
-  pub it_rests : (u : Streams) (v : View) (a : Served) (p : ℕ) → IsEarly v → TiedAs s (Told p 0) u (sight v) a → RestsNow a
-  it_rests u v a p early t = record {
-    rests = subst (λ n. Rests n a.server) (sym t.stream.clock) (rests_now u v a t.stream early);
-    frames = none_of a.frames t.count;
-    ignored = ignored a.pending a.server.by_dgram t.stream.dgram;
-    foreign = elim t.told [ inl q ↦ nobodys_foreign a.pending a.server.by_stream q.0 | inr q ↦ q.1 ];
-  }
+  -- the event concerns no connection that is there
+  nothing_pending : (phase : Phase) (u : Streams) (x : Sight) (a : Served) → MayEnd phase → TiedAs s phase u x a → IsForeign a.pending a.server.by_stream
+  nothing_pending (Untold w) u x a end t = nobodys_foreign a.pending a.server.by_stream (subst IsNobodys (sym t.pending) end)
+  nothing_pending (Told p n) u x a end t = t.told.1
+
+  pub it_rests : (phase : Phase) (u : Streams) (v : View) (a : Served) → MayEnd phase → IsEarly v → TiedAs s phase u (sight v) a → RestsNow a
+  it_rests phase u v a end early t = (let i = stream_of phase u (sight v) a t in record {
+    rests = subst (λ n. Rests n a.server) (sym i.clock) (rests_now u v a i early);
+    frames = none_left phase u (sight v) a end t;
+    ignored = ignored a.pending a.server.by_dgram i.dgram;
+    foreign = nothing_pending phase u (sight v) a end t;
+  })

@@ -10,19 +10,17 @@ use Rattle.client_request.specs.View.{View, due_timer, answers}
 use Rattle.client_request.specs.declared.board.Posted.{Posted}
 use Rattle.client_request.specs.declared.error.Error.TheVariants as errors
 use Rattle.client_request.specs.declared.event.Out.TheVariants.{Close}
-use Rattle.client_stream.specs.declared.stage.Stage.{Stage as LineStage}
 use Rattle.client_stream.specs.declared.stage.Stage.TheVariants as stage
-use Rattle.client_stream.specs.Plain.{has_ended, ends_with, fires as line_fires, octets_left}
+use Rattle.client_stream.specs.Plain.{has_ended, fires as line_fires, octets_left}
 use Rattle.client_multi.specs.Links.{Link, one_stream}
-use Rattle.client_multi.specs.MultiStream.{due, due_at, with_job, fires, times_out, leaves, hands, hears_at, calls, returns, taken, lent, taken_back, with_connection}
+use Rattle.client_multi.specs.MultiStream.{due, due_at, with_job, fires, times_out, leaves, hands, hears_at, calls, returns, taken, lent}
 use Rattle.client_multi.specs.declared.multi_stream.job.Job.{Job}
 use Rattle.client_multi.specs.declared.multi_stream.job.Stage.{Stage}
 use Rattle.client_multi.specs.declared.multi_stream.job.Stage.TheVariants.{Waiting, Resting, Held}
 use Rattle.headline.specs.Messages.{Octets}
 use Rattle.headline.specs.Time.{stream_timeout}
-use Rattle.headline.specs.machine.Part.{Act}
 use Rattle.headline.specs.machine.Streams as multi
-use Rattle.headline.specs.machine.Streams.{Phase, Free, BackingOff, Asker, Conn, Multi, Nothing, Puts, Gives as GivesIt, GoesOn as GoesOnNow, TimesOut, moved, move, drop, end_at, with_at}
+use Rattle.headline.specs.machine.Streams.{Phase, Free, BackingOff, Conn, Multi, Nothing, Puts, Gives as GivesIt, GoesOn as GoesOnNow, TimesOut, moved, move, drop, end_at}
 use Rattle.client_ties.specs.Chains.{still, then_act}
 use Rattle.client_ties.specs.Connections.{timer_of, dues, HasFired, IsOthers, EndsByTimer}
 use Rattle.client_ties.specs.Lines.{SingleLine}
@@ -33,16 +31,15 @@ use Rattle.client_ties.specs.Runs.{Runs_on, Rests, made_by}
 use Rattle.client_ties.specs.Seats.{IsAway}
 use Rattle.client_ties.specs.Sights.{sight, IsFair}
 use Rattle.client_ties.proofs.Calling.{is_open}
-use Rattle.client_ties.proofs.GoingOn.{goes_nowhere, fair_without, dues_without}
+use Rattle.client_ties.proofs.GoingOn.{fair_without, dues_without}
 use Rattle.client_ties.proofs.Keys.{with_here, with_there, was_there}
 use Rattle.client_ties.proofs.Retiming.{timed_same}
 use Rattle.client_ties.proofs.Running.{runs_one}
 use Rattle.client_ties.proofs.Tables.{at_frees, sorted_frees, present_below}
 use Rattle.client_ties.proofs.Timers.{fires_so as line_fires_so}
 use Rattle.multi_ties.specs.Servers.{Desk, Server, desk_of, numbers, names_at, UnderWay, nothing_under_way, IsThere, under, StageFits, AtWaiting, AtResting, AtHeld, HasFailed, IsToHand, JobFits, AreTables, NoneHeard, Owns, Stands}
-use Rattle.multi_ties.proofs.Calling.{call_so}
 use Rattle.multi_ties.proofs.Changing.{Change, kept_link, changed}
-use Rattle.multi_ties.proofs.Desks.{desk_with, away_so, line_stays, names_apart}
+use Rattle.multi_ties.proofs.Desks.{desk_with, away_so}
 use Rattle.multi_ties.proofs.Going.{Went, waits_now, leads_as, went_nowhere}
 use Rattle.multi_ties.proofs.Hands.{same_job, numbers_stay}
 use Rattle.multi_ties.proofs.Holding.{hands_so, link_at}
@@ -335,105 +332,3 @@ module _ (server : ℕ) (frames : ℕ → List Octets) (s : Server) (m : Multi) 
       by None e = by_watch e (entry_at i s.watches) refl
       by (Some t) e = let o = T.timers i t e in
           subst (λ (j : Option (Job Request)). Leads P (with_job (fires (one_stream for_one) server i) t (record s { timers = frees i s.timers }) v j)) (sym o.1) (own_fires t e o.0 o.1 o.2)
-
-  -- A timer of others leaves the machine as it is
-
-  untouched : (Owns d i → ⊥) → (g : P s v) × (g.made.state ≡ m)
-  untouched free = (
-    record {
-      made = still v.place m;
-      runs = Rests v.place m;
-      outs = sym (append-nil v.outs);
-      place = refl;
-      board = [];
-      put = sym (append-nil v.board);
-      gives = λ u. refl;
-      more = refl;
-      stands = record {
-        server = server_retimed nothing_under_way d m (dues v0) (dues v) frames v0.ticket v0.ticket (λ j o. due_there j (λ e. free (subst (Owns d) (sym e) o))) (le_refl v0.ticket) st.server;
-        order = order_up s (sight v0) (sight v) st.order (le_refl v0.timers.next) (le_refl v0.ticket) (le_refl v0.place);
-        fair = fair_v;
-      };
-      on = goes_nowhere v fair_v;
-      owned = λ j o. inl o;
-      others = λ j x n q. q;
-      quiet = λ q. q;
-    },
-    refl,
-  )
-
-  line_still : (p : ℕ) (l : SingleLine) (u : View) (own : LineStage) → (timer_of own ≡ Some i → ⊥) → line_fires p i l u own ≡ Some (l, u)
-  line_still p l u stage.New free = refl
-  line_still p l u stage.Ended free = refl
-  line_still p l u (stage.Active own since) free = ap (λ b. if b then Some (ends_with p errors.StreamReadTimeout l u) else Some (l, u)) (differs own (λ e. free (ap Some e)))
-    where
-      differs : (own : ℕ) → (own ≡ i → ⊥) → (i == own) ≡ false
-      differs own ne = grind (arith, nat_tests)
-  line_still p l u (stage.Idle own) free = ap (λ b. if b then Some (ends_with p errors.StreamReceiveError l u) else Some (l, u)) (differs own (λ e. free (ap Some e)))
-    where
-      differs : (own : ℕ) → (own ≡ i → ⊥) → (i == own) ≡ false
-      differs own ne = grind (arith, nat_tests)
-
-  module _ (free : Owns d i → ⊥) (none : entry_at i s.timers ≡ None) (p : ℕ) (watch : entry_at i s.watches ≡ Some p) (l : Link Request) (is : entry_at p s.connections ≡ Some l) where
-    abbrev l2 : Link Request
-    l2 = record l { octets = octets_left l.line.stage l.octets }
-
-    abbrev found2 : (x : Conn) × IsLinkAt p (names_at d) l m x (frames p) (dues v0) v0.ticket
-    found2 = found_link none p watch l is
-
-    same_link_due : (j : ℕ) → timer_of l.line.stage ≡ Some j → dues v j ≡ dues v0 j
-    same_link_due j own = due_there j (λ e. free (inr (p, l, is, own ∙ ap Some (sym e))))
-
-    live : has_ended l.line.stage ≡ false
-    live = is_open (dues v0) l.line.idle_time l.line.stage (found2.0).mode found2.1.line.fits.stage
-
-    abbrev r : Server
-    r = with_connection (one_stream for_one) p l2 (taken (one_stream for_one) p l s)
-
-    called : (x : Went server frames nothing_under_way d m v r (taken_back v (lent v))) × (x.made ≡ still v.place m)
-    called = let a = work none p watch l is in
-        call_so server p [] frames frames nothing_under_way s l m m v (lent v) v.request v.ticket l2 refl (λ q ne. refl) a.tables a.links a.watched a.order fair_v is
-        (record {
-          aside = λ k away. refl;
-          going = λ k b q. (b.phase, q);
-          conns = λ q ne. refl;
-          there = λ j k b named q th. inl (b, q, th);
-          failing = tt;
-          timed = timed_same l.line.stage (lent v) (record { order = fair_v.order; words = fair_v.words });
-          opening = refl;
-          calm = refl;
-          new = inl (
-            live,
-            found2.0,
-            record {
-              place = found2.1.place;
-              timeout = found2.1.timeout;
-              line = line_stays p l.line (names_at d) (names_at d) m m found2.0 (dues v0) (dues v) v0.ticket v0.ticket found2.1.line refl (λ k. inl refl) (λ j k b nm q th. nm) (names_apart d T.apart T.inner) same_link_due (le_refl v0.ticket);
-              settled = found2.1.settled;
-              keeps = subst (λ o. Keeps o (frames p) (found2.0).got) (sym (ap (λ b. if b then [] else l.octets) live)) found2.1.keeps;
-            },
-          );
-        })
-        m v.outs (still v.place m) refl (Rests v.place m) refl (sym (append-nil v.outs)) refl refl (le_refl v.ticket) (λ q. q)
-
-    link_untouched : Leads (λ t w. (g : P t w) × (g.made.state ≡ m)) (calls (one_stream for_one) p ((one_stream for_one).calls.step (due_timer i)) s v (Some l))
-    link_untouched = subst (λ b. Leads (λ t w. (g : P t w) × (g.made.state ≡ m)) (option_and_then (returns (one_stream for_one) p (taken (one_stream for_one) p l s) v)
-        (if b then Some (l, lent v) else option_and_then (λ y. Some (record l { line = y.0; octets = octets_left y.0.stage l.octets }, y.1)) (line_fires l.place i l.line (lent v) l.line.stage)))) (sym live)
-        (subst (λ o. Leads (λ t w. (g : P t w) × (g.made.state ≡ m)) (option_and_then (returns (one_stream for_one) p (taken (one_stream for_one) p l s) v) (option_and_then (λ y. Some (record l { line = y.0; octets = octets_left y.0.stage l.octets }, y.1)) o)))
-        (sym (line_still l.place l.line (lent v) l.line.stage (λ own. free (inr (p, l, is, own)))))
-        (went_gone server frames d m v r (taken_back v (lent v)) called.0, ap (λ (x : Act Multi). x.state) called.1))
-
-  pub unowned_so : (Owns d i → ⊥) → Leads (λ t w. (g : P t w) × (g.made.state ≡ m)) (due (one_stream for_one) server i s v)
-  unowned_so free = by (entry_at i s.timers) refl
-    where
-      at_place : entry_at i s.timers ≡ None → (p : ℕ) → entry_at i s.watches ≡ Some p → (o : Option (Link Request)) → entry_at p s.connections ≡ o → Leads (λ t w. (g : P t w) × (g.made.state ≡ m)) (calls (one_stream for_one) p ((one_stream for_one).calls.step (due_timer i)) s v o)
-      at_place none p watch None e = untouched free
-      at_place none p watch (Some l) e = link_untouched free none p watch l e
-
-      by_watch : entry_at i s.timers ≡ None → (o : Option ℕ) → entry_at i s.watches ≡ o → Leads (λ t w. (g : P t w) × (g.made.state ≡ m)) (hears_at (one_stream for_one) (due_timer i) s v o)
-      by_watch none None e = untouched free
-      by_watch none (Some p) e = at_place none p e (entry_at p s.connections) refl
-
-      by : (o : Option ℕ) → entry_at i s.timers ≡ o → Leads (λ t w. (g : P t w) × (g.made.state ≡ m)) (due_at (one_stream for_one) server i s v o)
-      by None e = by_watch e (entry_at i s.watches) refl
-      by (Some t) e = absurd (free (inl (t, e)))

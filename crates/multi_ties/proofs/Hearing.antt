@@ -167,7 +167,7 @@ module _ (c : Conf) (s : ℕ) where
         left = length fs;
         at_most = le_refl (length fs);
         more = g.more ∙ more;
-        tied = record { stream = stream_now fs ties_now; count = refl; at = inr at_p; row = inr idle; told = inr (early_now, nobodys_foreign s b.pending g.made.state idle) };
+        tied = record { stream = stream_now fs ties_now; count = refl; at = inr at_p; row = inr idle; told = (early_now, nobodys_foreign s b.pending g.made.state idle) };
         on = g.on;
         owned = g.owned;
         others = g.others;
@@ -196,7 +196,7 @@ module _ (c : Conf) (s : ℕ) where
           count = refl;
           at = inl refl;
           row = inl refl;
-          told = inr (early_now, nobodys_foreign s b.pending g.made.state idle);
+          told = (early_now, nobodys_foreign s b.pending g.made.state idle);
         };
         on = g.on;
         owned = g.owned;
@@ -256,7 +256,7 @@ module _ (c : Conf) (s : ℕ) where
       left = 0;
       may_be = may;
       more = calm ∙ sym none_more;
-      leaves = nothing_done (served c) s (TiedAs s) names_of owns u v a (Told p 0) fair (record { stream = t.stream; count = ap length t.frames; at = inl refl; row = inl refl; told = inr (early_d, subst (λ w. IsForeign w um) (sym t.pending) foreign) });
+      leaves = nothing_done (served c) s (TiedAs s) names_of owns u v a (Told p 0) fair (record { stream = t.stream; count = ap length t.frames; at = inl refl; row = inl refl; told = (early_d, subst (λ w. IsForeign w um) (sym t.pending) foreign) });
     }
 
     module _ (other : (p : ℕ) (o : Octets) → w ≢ Bytes p o) where
@@ -282,7 +282,7 @@ module _ (c : Conf) (s : ℕ) where
             count = refl;
             at = inl refl;
             row = inl refl;
-            told = inr (still_early ud (desk_of r) v y fair early_d on g.owned, nobodys_foreign s Tick g.made.state tt);
+            told = (still_early ud (desk_of r) v y fair early_d on g.owned, nobodys_foreign s Tick g.made.state tt);
           };
           goes_on = on;
           owned = g.owned;

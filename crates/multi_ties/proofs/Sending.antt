@@ -197,8 +197,8 @@ module _ (server : ℕ) (frames : ℕ → List Octets) (s : Server) (m : Multi) 
   handed : Leads (Went server frames nothing_under_way e n w1) (hands (one_stream for_one) server t0 job s1 w1)
   handed = hands_so server frames t0 job [] s1 n w1 stands (over t0) (λ phase l. l) quiet
 
-  sent : (t : Server) (w : View) → Went server frames nothing_under_way e n w1 t w → w.more ≡ v.more → Sent server frames r d m v t w
-  sent t w b same = record {
+  sent : (t : Server) (w : View) → Went server frames nothing_under_way e n w1 t w → Sent server frames r d m v t w
+  sent t w b = record {
     made = b.made;
     runs = b.runs;
     posts = b.posts;
@@ -233,7 +233,7 @@ module _ (server : ℕ) (frames : ℕ → List Octets) (s : Server) (m : Multi) 
     where
       by_timer : (b : Bool) → Leads (Sent server frames r d m v) (option_and_then (λ w. hands (one_stream for_one) server t0 job s1 w) (if b then Some w1 else None))
       by_timer false = tt
-      by_timer true = leads_as (Went server frames nothing_under_way e n w1) (Sent server frames r d m v) (hands (one_stream for_one) server t0 job s1 w1) handed (λ t w b. sent t w b b.more)
+      by_timer true = leads_as (Went server frames nothing_under_way e n w1) (Sent server frames r d m v) (hands (one_stream for_one) server t0 job s1 w1) handed sent
 
       by_ticket : (b : Bool) → Leads (Sent server frames r d m v) (option_and_then (λ w. option_and_then (λ u. hands (one_stream for_one) server t0 (record { number = w.request; request = r; back_offs = 0; end = w.timers.next; stage = Waiting }) (record s { timers = puts w.timers.next t0 s.timers }) u) (if can_draw w.timers.next then Some (record w { timers = with_timer (w.now + 30000000) w.timers }) else None)) (if b then Some (record (asks (Start k server Stream) v) { ticket = t0 + 1 }) else None))
       by_ticket false = tt

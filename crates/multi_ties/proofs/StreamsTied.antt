@@ -10,7 +10,7 @@ use Rattle.client_ties.specs.PartTie.{Leads, Tells, MayLeave}
 use Rattle.client_ties.specs.Sights.{sight, IsFair, IsEarly}
 use Rattle.multi_ties.specs.Tied.{Streams, by_streams, IsUntold, TiedAs, names_of, owns, StreamsAreTiedAs}
 use Rattle.multi_ties.proofs.Coming.{octets_come, frame_taken}
-use Rattle.multi_ties.proofs.Fields.{begins_fresh, stays_same, has_set, is_named, is_held, row_begins, is_passed, it_rests}
+use Rattle.multi_ties.proofs.Fields.{begins_fresh, stays_same, has_set, is_named, is_held, row_begins, it_rests}
 use Rattle.multi_ties.proofs.Hearing.{tells_one}
 use Rattle.multi_ties.proofs.Tying.{timer_fires, gives_up_one, takes_on_one}
 
@@ -37,12 +37,11 @@ streams_are_tied c s used = record {
   named = λ phase u x a i k t e. is_named s phase u x a i k t e;
   held = λ phase u x a k t e. is_held s phase u x a k t e;
   response = λ r u v. refl;
-  begins = λ u x a p e t. row_begins s u x a p e t;
-  passes = λ u x a w nobody t. is_passed s u x a w nobody t;
-  rests = λ u v a p early t. it_rests s u v a p early t;
-  fires = λ phase u v a i due t fair set late. timer_fires c s phase u v a i due t fair set late;
+  begins = λ phase u x a e end t. row_begins s phase u x a e end t;
+  rests = λ phase u v a end early t. it_rests s phase u v a end early t;
+  fires = λ u v a w i due t fair set late. timer_fires c s u v a w i due t fair set late;
   sends = λ u v a w r t fair octets free. takes_on_one c s used u v a w r t fair octets free;
-  cancels = λ phase u v a r k t fair named. gives_up_one c s phase u v a r k t fair named;
+  cancels = λ u v a w r k t fair named. gives_up_one c s u v a w r k t fair named;
   tells = λ u v a w t fair early calm. told_of c s u v a w t fair early calm;
   takes = λ u v a p n t fair early calm. frame_taken c s u v a p n t fair early calm;
 }

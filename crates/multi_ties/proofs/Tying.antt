@@ -1,5 +1,5 @@
 -- The calls of reconnection beside moves of the part: a timer fires, a request is given up or taken on.
-use Rattle.std.proofs.Common.{◌≡◌, ℕ, ◌<◌, ◌≤◌, ◌⊎◌, inl, inr, true, false, ◌||◌, is_some, [], Option, Some, None, refl, sym, ap, ap₂, subst, ◌∙◌, arith, append-nil}
+use Rattle.std.proofs.Common.{◌≡◌, ℕ, ◌<◌, ◌≤◌, ◌⊎◌, inl, inr, true, false, ◌||◌, is_some, [], Option, Some, None, refl, sym, ap₂, subst, ◌∙◌, append-nil}
 use Rattle.client_request.specs.Carries.{IsOfOctets}
 use Rattle.client_request.specs.Numbered.{entry_at}
 use Rattle.client_request.specs.Request.{Request}
@@ -9,10 +9,9 @@ use Rattle.client_request.specs.View.{View, due_timer, asks}
 use Rattle.client_request.specs.declared.event.Out.TheVariants.{Start}
 use Rattle.client_request.specs.declared.event.Via.TheVariants.{Stream}
 use Rattle.client_request.specs.declared.event.What.{What}
-use Rattle.client_request.specs.declared.event.What.TheVariants.{Ask, Opened, OpenFailed, SendFailed, ShortSend, Datagram, RecvFailed, Wrote, WriteFailed, Bytes, ReadFailed, Ended, Tick}
 use Rattle.client_stream.specs.Plain.{Asked}
 use Rattle.client_multi.specs.Links.{one_stream}
-use Rattle.client_multi.specs.MultiStream.{with_tables, due, drops, with_job, drops_job, takes}
+use Rattle.client_multi.specs.MultiStream.{due, drops, with_job, drops_job, takes}
 use Rattle.client_multi.specs.Settings.{Settings, default_settings}
 use Rattle.client_multi.specs.declared.multi_stream.job.Job.{Job}
 use Rattle.headline.specs.Orderly.{use_at}
@@ -20,38 +19,22 @@ use Rattle.headline.specs.Trace.{Conf, ByStreams}
 use Rattle.headline.specs.machine.Dgrams.{Tryer}
 use Rattle.headline.specs.machine.Served.{Served, Starts, Cancels, IsHanded, IsGivenUp, served, does, holds}
 use Rattle.headline.specs.machine.Server as server
-use Rattle.headline.specs.machine.Streams.{Asker, Conn, Multi, Nothing, Puts, IsForeign, drop}
+use Rattle.headline.specs.machine.Streams.{Asker, Multi, Nothing, Puts, drop}
 use Rattle.client_ties.specs.Chains.{Chain, Stays, Begins, Calls, still, then_act}
 use Rattle.client_ties.specs.Connections.{dues}
-use Rattle.client_ties.specs.PartTie.{Phase, Untold, Told, Leads, Leaves, GoesOn}
+use Rattle.client_ties.specs.PartTie.{Untold, Leads, Leaves, GoesOn}
 use Rattle.client_ties.specs.Sights.{sight, IsFair, due_of}
-use Rattle.client_ties.proofs.GoingOn.{goes_then, goes_without, fair_without, dues_without, none_next}
+use Rattle.client_ties.proofs.GoingOn.{goes_then, goes_without, dues_without, none_next}
 use Rattle.client_ties.proofs.Keys.{with_there}
 use Rattle.headline.specs.machine.Streams.{with_at}
-use Rattle.multi_ties.specs.Servers.{Desk, Server, desk_of, numbers, nothing_under_way, NoneHeard, Owns, Stands}
+use Rattle.multi_ties.specs.Servers.{Desk, Server, desk_of, numbers, nothing_under_way, Owns, Stands}
 use Rattle.multi_ties.specs.Tied.{Streams, by_streams, IsStream, IsUntold, AreEarly, TiedAs, frames_at, names_of, owns}
 use Rattle.multi_ties.proofs.Desks.{number_of}
-use Rattle.multi_ties.proofs.Fields.{stream_of, no_tryer}
-use Rattle.multi_ties.proofs.Firing.{due_so, unowned_so}
+use Rattle.multi_ties.proofs.Fields.{no_tryer}
+use Rattle.multi_ties.proofs.Firing.{due_so}
 use Rattle.multi_ties.proofs.Leaving.{Dropped, leaves_so}
 use Rattle.multi_ties.proofs.Sending.{Sent, sends_so, taken_in}
 use Rattle.multi_ties.proofs.Serving.{stream_moved, lift, runs_chain, Gone, gives_none, gone_leaves, leads_whole, stream_still}
-
--- an event of nothing here is so where requests alone changed
-pub foreign_as : (w : What) (m n : Multi) → n.conns ≡ m.conns → n.opening ≡ m.opening → IsForeign w m → IsForeign w n
-foreign_as (Ask r) m n c o f = λ q e. ap (λ (g : ℕ → Option Conn). g q) c ∙ f q e
-foreign_as (Opened p) m n c o f = λ e. f (sym o ∙ e)
-foreign_as (OpenFailed p x) m n c o f = λ e. f (sym o ∙ e)
-foreign_as (SendFailed p x) m n c o f = tt
-foreign_as (ShortSend p) m n c o f = tt
-foreign_as (Datagram p x) m n c o f = λ q e. ap (λ (g : ℕ → Option Conn). g q) c ∙ f q e
-foreign_as (RecvFailed p x) m n c o f = tt
-foreign_as (Wrote p x) m n c o f = ap (λ (g : ℕ → Option Conn). g p) c ∙ f
-foreign_as (WriteFailed p x) m n c o f = λ q e. ap (λ (g : ℕ → Option Conn). g q) c ∙ f q e
-foreign_as (Bytes p x) m n c o f = ap (λ (g : ℕ → Option Conn). g p) c ∙ f
-foreign_as (ReadFailed p x) m n c o f = λ q e. ap (λ (g : ℕ → Option Conn). g q) c ∙ f q e
-foreign_as (Ended p) m n c o f = λ q e. ap (λ (g : ℕ → Option Conn). g q) c ∙ f q e
-foreign_as Tick m n c o f = λ q e. ap (λ (g : ℕ → Option Conn). g q) c ∙ f q e
 
 -- timers that are its own after a call that began early are not due
 pub still_early : (d e : Desk) (v w : View) → IsFair v → AreEarly d (sight v) → GoesOn v w → ((i : ℕ) → Owns e i → Owns d i ⊎ (v.timers.next ≤ i)) → AreEarly e (sight w)
@@ -66,55 +49,20 @@ stands_of s u v a i fair = record { server = i.ties; order = i.order; fair = fai
 module _ (c : Conf) (s : ℕ) where
   -- A timer
 
-  pub timer_fires : (phase : Phase) (u : Streams) (v : View) (a : Served) (i at : ℕ) → TiedAs s phase u (sight v) a → IsFair v → due_of i v.timers.set ≡ Some at → at ≤ v.now
-      → Leads (Leaves (served c) (TiedAs s) names_of owns (Chain (served c) s v.place a) (names_of u) u (record v { timers = cancelled i v.timers }) phase) (by_streams.step (due_timer i) u (record v { timers = cancelled i v.timers }))
-  timer_fires phase u v a i at tied fair set late = by phase tied
-    where
-      -- it may be one of its own
-      own : (phase : Phase) → (st : IsStream s u (sight v) a) → NoneHeard a.server.by_stream
-          → ((t : Server) (w : View) → (g : Gone s (frames_at a.place a.frames) (numbers (desk_of u.tables)) (desk_of u.tables) a.server.by_stream (record v { timers = cancelled i v.timers }) t w) → TiedAs s phase (record u { tables = t }) (sight w) (stream_moved g.made.state a))
-          → Leads (Leaves (served c) (TiedAs s) names_of owns (Chain (served c) s v.place a) (names_of u) u (record v { timers = cancelled i v.timers }) phase) (with_tables u (due (one_stream for_one) u.server i u.tables (record v { timers = cancelled i v.timers })))
-      own phase st quiet again = leads_whole (Gone s (frames_at a.place a.frames) (numbers (desk_of u.tables)) (desk_of u.tables) a.server.by_stream (record v { timers = cancelled i v.timers }))
-          (Leaves (served c) (TiedAs s) names_of owns (Chain (served c) s v.place a) (names_of u) u (record v { timers = cancelled i v.timers }) phase) u (due (one_stream for_one) u.server i u.tables (record v { timers = cancelled i v.timers }))
-          (subst (λ n. Leads (Gone s (frames_at a.place a.frames) (numbers (desk_of u.tables)) (desk_of u.tables) a.server.by_stream (record v { timers = cancelled i v.timers })) (due (one_stream for_one) n i u.tables (record v { timers = cancelled i v.timers }))) (sym st.server)
-          (due_so s (frames_at a.place a.frames) u.tables a.server.by_stream v (stands_of s u v a st fair) i at set late (λ t e. quiet)))
-          (λ t w g. gone_leaves c s (frames_at a.place a.frames) (names_of u) u a.server.by_stream (record v { timers = cancelled i v.timers }) a phase (Chain (served c) s v.place a) t w g (runs_chain c s v.now v.place a.server.by_stream g.made g.runs a st.clock refl) (again t w g))
-
-      by : (phase : Phase) → TiedAs s phase u (sight v) a → Leads (Leaves (served c) (TiedAs s) names_of owns (Chain (served c) s v.place a) (names_of u) u (record v { timers = cancelled i v.timers }) phase) (by_streams.step (due_timer i) u (record v { timers = cancelled i v.timers }))
-      by (Untold w) t = own (Untold w) t.stream t.quiet (λ r z g. record { stream = stream_still s u (sight v) a r g.made.state z t.stream g.on.now g.stands; pending = t.pending; taken = t.taken; frames = t.frames; quiet = g.quiet t.quiet })
-      by (Told p n) t = elim t.told [
-        | inl q ↦ own (Told p n) t.stream q.1 (λ r z g. record { stream = stream_still s u (sight v) a r g.made.state z t.stream g.on.now g.stands; count = t.count; at = t.at; row = t.row; told = inl (q.0, g.quiet q.1) })
-        | inr q ↦ others q
-      ]
-        where
-          others : AreEarly (desk_of u.tables) (sight v) × IsForeign a.pending a.server.by_stream → Leads (Leaves (served c) (TiedAs s) names_of owns (Chain (served c) s v.place a) (names_of u) u (record v { timers = cancelled i v.timers }) (Told p n)) (by_streams.step (due_timer i) u (record v { timers = cancelled i v.timers }))
-          others q = leads_whole (λ t w. (g : Gone s (frames_at a.place a.frames) (numbers (desk_of u.tables)) (desk_of u.tables) a.server.by_stream (record v { timers = cancelled i v.timers }) t w) × (g.made.state ≡ a.server.by_stream))
-              (Leaves (served c) (TiedAs s) names_of owns (Chain (served c) s v.place a) (names_of u) u (record v { timers = cancelled i v.timers }) (Told p n)) u (due (one_stream for_one) u.server i u.tables (record v { timers = cancelled i v.timers }))
-              (subst (λ n. Leads (λ t w. (g : Gone s (frames_at a.place a.frames) (numbers (desk_of u.tables)) (desk_of u.tables) a.server.by_stream (record v { timers = cancelled i v.timers }) t w) × (g.made.state ≡ a.server.by_stream)) (due (one_stream for_one) n i u.tables (record v { timers = cancelled i v.timers }))) (sym t.stream.server)
-              (unowned_so s (frames_at a.place a.frames) u.tables a.server.by_stream v (stands_of s u v a t.stream fair) i at set late (λ t e. absurd (not_own (inl (t, e)))) not_own))
-              (λ r z o. gone_leaves c s (frames_at a.place a.frames) (names_of u) u a.server.by_stream (record v { timers = cancelled i v.timers }) a (Told p n) (Chain (served c) s v.place a) r z o.0 (runs_chain c s v.now v.place a.server.by_stream o.0.made o.0.runs a t.stream.clock refl)
-              (record {
-                stream = stream_still s u (sight v) a r o.0.made.state z t.stream o.0.on.now o.0.stands;
-                count = t.count;
-                at = t.at;
-                row = t.row;
-                told = inr (still_early (desk_of u.tables) (desk_of r) (record v { timers = cancelled i v.timers }) z (fair_without v i fair) early_left o.0.on o.0.owned, foreign_as a.pending a.server.by_stream o.0.made.state (ap (λ (m : Multi). m.conns) o.1) (ap (λ (m : Multi). m.opening) o.1) q.1);
-              }))
-            where
-              not_own : Owns (desk_of u.tables) i → ⊥
-              not_own o = not_both v.now at (q.0 i at o set) late
-                where
-                  not_both : (n b : ℕ) → n < b → b ≤ n → ⊥
-                  not_both n b lt le = omega arith
-
-              early_left : AreEarly (desk_of u.tables) (sight (record v { timers = cancelled i v.timers }))
-              early_left j due o e = q.0 j due o (sym (with_there i None (dues v) j (λ x. not_own (subst (Owns (desk_of u.tables)) (sym x) o))) ∙ (sym (dues_without v i j fair) ∙ e))
+  pub timer_fires : (u : Streams) (v : View) (a : Served) (w : What) (i at : ℕ) → IsUntold s w u (sight v) a → IsFair v → due_of i v.timers.set ≡ Some at → at ≤ v.now
+      → Leads (Leaves (served c) (TiedAs s) names_of owns (Chain (served c) s v.place a) (names_of u) u (record v { timers = cancelled i v.timers }) (Untold w)) (by_streams.step (due_timer i) u (record v { timers = cancelled i v.timers }))
+  timer_fires u v a w i at t fair set late = leads_whole (Gone s (frames_at a.place a.frames) (numbers (desk_of u.tables)) (desk_of u.tables) a.server.by_stream (record v { timers = cancelled i v.timers }))
+      (Leaves (served c) (TiedAs s) names_of owns (Chain (served c) s v.place a) (names_of u) u (record v { timers = cancelled i v.timers }) (Untold w)) u (due (one_stream for_one) u.server i u.tables (record v { timers = cancelled i v.timers }))
+      (subst (λ n. Leads (Gone s (frames_at a.place a.frames) (numbers (desk_of u.tables)) (desk_of u.tables) a.server.by_stream (record v { timers = cancelled i v.timers })) (due (one_stream for_one) n i u.tables (record v { timers = cancelled i v.timers }))) (sym t.stream.server)
+      (due_so s (frames_at a.place a.frames) u.tables a.server.by_stream v (stands_of s u v a t.stream fair) i at set late (λ k e. t.quiet)))
+      (λ r z g. gone_leaves c s (frames_at a.place a.frames) (names_of u) u a.server.by_stream (record v { timers = cancelled i v.timers }) a (Untold w) (Chain (served c) s v.place a) r z g (runs_chain c s v.now v.place a.server.by_stream g.made g.runs a t.stream.clock refl)
+      (record { stream = stream_still s u (sight v) a r g.made.state z t.stream g.on.now g.stands; pending = t.pending; taken = t.taken; frames = t.frames; quiet = g.quiet t.quiet }))
 
   -- A request is given up
 
-  module _ (phase : Phase) (u : Streams) (v : View) (a : Served) (r : Asked) (k : ℕ) (tied : TiedAs s phase u (sight v) a) (fair : IsFair v) (named : names_of u r.ticket ≡ Some k) where
+  module _ (u : Streams) (v : View) (a : Served) (row : What) (r : Asked) (k : ℕ) (tied : IsUntold s row u (sight v) a) (fair : IsFair v) (named : names_of u r.ticket ≡ Some k) where
     st : IsStream s u (sight v) a
-    st = stream_of s phase u (sight v) a tied
+    st = tied.stream
 
     has : (job : Job Request) × (entry_at r.ticket u.tables.jobs ≡ Some job) × (job.number ≡ k)
     has = number_of (entry_at r.ticket u.tables.jobs) k named
@@ -146,21 +94,11 @@ module _ (c : Conf) (s : ℕ) where
     stands_left : (t : Server) (w : View) → D t w → Stands nothing_under_way (desk_of t) t (drop k m) (frames_at a.place a.frames) w
     stands_left t w g = subst (λ k. Stands nothing_under_way (desk_of t) t (drop k m) (frames_at a.place a.frames) w) has.2 g.stands
 
-    again : (phase : Phase) → TiedAs s phase u (sight v) a → (t : Server) (w : View) → D t w → TiedAs s phase (record u { tables = t }) (sight w) after
-    again (Untold e) x t w g = record { stream = stream_still s u (sight v) a t (drop k m) w x.stream (on_all w g.on).now (stands_left t w g); pending = x.pending; taken = x.taken; frames = x.frames; quiet = x.quiet }
-    again (Told p n) x t w g = record {
-      stream = stream_still s u (sight v) a t (drop k m) w x.stream (on_all w g.on).now (stands_left t w g);
-      count = x.count;
-      at = x.at;
-      row = x.row;
-      told = elim x.told [
-        | inl q ↦ inl q
-        | inr q ↦ inr (still_early d (desk_of t) v w fair q.0 (on_all w g.on) (λ i o. inl (g.owned i o)), foreign_as a.pending m (drop k m) refl refl q.1)
-      ];
-    }
+    again : (t : Server) (w : View) → D t w → IsUntold s row (record u { tables = t }) (sight w) after
+    again t w g = record { stream = stream_still s u (sight v) a t (drop k m) w tied.stream (on_all w g.on).now (stands_left t w g); pending = tied.pending; taken = tied.taken; frames = tied.frames; quiet = tied.quiet }
 
-    pub gives_up_one : Leads (Leaves (served c) (TiedAs s) names_of owns (λ d. Begins (Cancels s v.place k a) (Chain (served c) s) d × (d.posts ≡ [])) (with_at r.ticket None (names_of u)) u v phase) (by_streams.cancel r u v)
-    gives_up_one = leads_whole D (Leaves (served c) (TiedAs s) names_of owns (λ d. Begins (Cancels s v.place k a) (Chain (served c) s) d × (d.posts ≡ [])) (with_at r.ticket None (names_of u)) u v phase) u (drops (one_stream for_one) r.ticket u.tables v)
+    pub gives_up_one : Leads (Leaves (served c) (TiedAs s) names_of owns (λ d. Begins (Cancels s v.place k a) (Chain (served c) s) d × (d.posts ≡ [])) (with_at r.ticket None (names_of u)) u v (Untold row)) (by_streams.cancel r u v)
+    gives_up_one = leads_whole D (Leaves (served c) (TiedAs s) names_of owns (λ d. Begins (Cancels s v.place k a) (Chain (served c) s) d × (d.posts ≡ [])) (with_at r.ticket None (names_of u)) u v (Untold row)) u (drops (one_stream for_one) r.ticket u.tables v)
         (subst (λ (o : Option (Job Request)). Leads D (with_job (drops_job (one_stream for_one)) r.ticket u.tables v o)) (sym has.1)
         (leaves_so s (frames_at a.place a.frames) u.tables m v (stands_of s u v a st fair) r.ticket job has.1))
         (λ t w g. record {
@@ -171,7 +109,7 @@ module _ (c : Conf) (s : ℕ) where
           board = [];
           put = g.board ∙ sym (append-nil v.board);
           gives = g.named;
-          tied = again phase tied t w g;
+          tied = again t w g;
           goes_on = on_all w g.on;
           owned = λ i o. inl (g.owned i o);
           others = λ i due free set. g.others i due free (dues_without v job.end i fair ∙ (with_there job.end None (dues v) i (λ e. free (subst (Owns d) e owns_end)) ∙ set));

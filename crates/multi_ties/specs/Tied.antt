@@ -52,13 +52,13 @@ pub record IsUntold (s : ℕ) (w : What) (u : Streams) (x : Sight) (a : Served) 
   pub frames : a.frames ≡ []
   pub quiet : NoneHeard a.server.by_stream
 
--- Once it was told, and so many frames of place p are left: it was nobody's; or it was taken, or is of no place here, and none of its timers is due.
+-- Once it was told, and so many frames of place p are left: it was taken, or is of no place here, and none of its timers is due.
 pub record IsTold (s p left : ℕ) (u : Streams) (x : Sight) (a : Served) : Type 0 where
   pub stream : IsStream s u x a
   pub count : length a.frames ≡ left
   pub at : (left ≡ 0) ⊎ (a.place ≡ p)
   pub row : (left ≡ 0) ⊎ IsNobodys a.pending
-  pub told : (IsNobodys a.pending × NoneHeard a.server.by_stream) ⊎ (AreEarly (desk_of u.tables) x × IsForeign a.pending a.server.by_stream)
+  pub told : AreEarly (desk_of u.tables) x × IsForeign a.pending a.server.by_stream
 
 abbrev pub TiedAs : (s : ℕ) → Phase → Streams → Sight → Served → Type 0
 TiedAs s (Untold w) u x a = IsUntold s w u x a
