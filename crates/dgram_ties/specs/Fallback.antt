@@ -1,0 +1,63 @@
+-- A fallback over datagrams and streams that are tied, as a part of a client.
+use Rattle.std.specs.Prelude.{◌≡◌, ℕ, ◌<◌, ◌⊎◌, true, false, is_some, Option, Some}
+use Rattle.client_request.specs.Request.{Request}
+use Rattle.client_request.specs.View.{View, Transport, told, due_timer}
+use Rattle.client_request.specs.declared.event.Via.TheVariants.{Stream}
+use Rattle.client_request.specs.declared.event.What.{What}
+use Rattle.client_dgram.specs.Plain as dgram
+use Rattle.client_dgram.specs.Settings as dgram_settings
+use Rattle.client_stream.specs.Plain as stream
+use Rattle.client_multi.specs.Fallback.{Fallback}
+use Rattle.headline.specs.Orderly.{use_at}
+use Rattle.headline.specs.Trace.{Conf, ByStreams}
+use Rattle.headline.specs.machine.Dgrams.{no_datagram, IsIgnored}
+use Rattle.headline.specs.machine.Served.{Served, served, has_taken_it}
+use Rattle.headline.specs.machine.Streams.{IsForeign}
+use Rattle.client_ties.specs.PartTie.{Phase, Untold, Told, IsTie}
+use Rattle.client_ties.specs.Sights.{Sight, sight}
+use Rattle.dgram_ties.specs.AtServer.{with_dgrams}
+use Rattle.dgram_ties.specs.Calls as dgrams
+use Rattle.dgram_ties.specs.Halves.{IsByStreams}
+use Rattle.dgram_ties.specs.Slots.{AreSlots, names_of}
+use Rattle.dgram_ties.specs.Waiting.{AreWaiting, numbers_of, ticket_at}
+
+-- The streams of server s are tied to the part of a server by streams alone, and what is none of theirs passes them.
+pub record AreStreams (b : Conf) (s : ℕ) {S : Type 0} (t : Transport Request S stream.Asked) (first : S) (Tied : Phase → S → Sight → Served → Type 0) (names : S → ℕ → Option ℕ) (Owns : S → (timer : ℕ) → Type 0) : Type 0 where
+  pub used : use_at s b.servers ≡ Some ByStreams
+  pub tie : IsTie (served b) s Stream t ticket_at first Tied names Owns
+  pub alone : (phase : Phase) (u : S) (x : Sight) (a : Served) → Tied phase u x a → IsByStreams a
+  pub clock : (phase : Phase) (u : S) (x : Sight) (a : Served) → Tied phase u x a → a.clock ≡ x.now
+  pub pending : (w : What) (u : S) (x : Sight) (a : Served) → Tied (Untold w) u x a → (a.pending ≡ w) × (a.taken ≡ false)
+  pub opening : (phase : Phase) (u : S) (x : Sight) (a : Served) (p : ℕ) → Tied phase u x a → a.server.by_stream.opening ≡ Some p → p < x.place
+  -- an event of another place, and a timer of another
+  pub foreign : (w : What) (u : S) (v : View) (a : Served) → Tied (Untold w) u (sight v) a → IsForeign w a.server.by_stream → t.step (told w) u v ≡ Some (u, v)
+  pub taken : (w : What) (u : S) (x : Sight) (a : Served) → Tied (Untold w) u x a → IsForeign w a.server.by_stream → Tied (Told 0 0) u x (has_taken_it a.server a)
+  pub others : (u : S) (v : View) (i : ℕ) → (Owns u i → ⊥) → t.step (due_timer i) u v ≡ Some (u, v)
+
+-- once it was told, the event is nothing to the datagrams any more
+abbrev pub IsOver : Phase → Served → Type 0
+IsOver (Untold w) a = Unit {0}
+IsOver (Told p left) a = IsIgnored a.pending a.server.by_dgram
+
+module _ {S : Type 0} (Tied : Phase → S → Sight → Served → Type 0) (names : S → ℕ → Option ℕ) (Owns : S → (timer : ℕ) → Type 0) (s : ℕ) where
+  abbrev pub Both : Type 0
+  Both = Fallback Request (dgram.Dgram Request) S dgram.Asked stream.Asked
+
+  -- Its two transports are tied, each to its half of the server, and its tables have those who wait for them.
+  pub record IsFallback (phase : Phase) (f : Both) (x : Sight) (a : Served) : Type 0 where
+    pub server : f.server ≡ s
+    pub dgram_server : f.parts.dgram.server ≡ s
+    pub settings : f.parts.dgram.settings ≡ dgram_settings.default_settings
+    pub slots : AreSlots 0 f.parts.dgram.tables a.server.by_dgram x
+    pub streams : Tied phase f.parts.stream x (with_dgrams no_datagram a)
+    pub waiting : AreWaiting ticket_at f.parts.tables a.server.by_dgram (names_of f.parts.dgram.tables) (names f.parts.stream) x.ticket
+    pub timers : (i : ℕ) → dgrams.Owns f.parts.dgram.tables i → Owns f.parts.stream i → ⊥
+    pub places : (p k : ℕ) → a.server.by_dgram.at p ≡ Some k → a.server.by_stream.opening ≡ Some p → ⊥
+    pub apart : (k : ℕ) → is_some (a.server.by_dgram.held k) ≡ true → is_some (a.server.by_stream.asks k) ≡ true → ⊥
+    pub over : IsOver phase a
+
+  abbrev pub names_in : Both → ℕ → Option ℕ
+  names_in f = numbers_of f.parts.tables (names f.parts.stream)
+
+  abbrev pub OwnsEither : Both → (timer : ℕ) → Type 0
+  OwnsEither f i = dgrams.Owns f.parts.dgram.tables i ⊎ Owns f.parts.stream i
