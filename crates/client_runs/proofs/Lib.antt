@@ -13,3 +13,4 @@ pub mod Idling
 pub mod Fitting
 pub mod Silence
 pub mod Traces
+pub mod StreamsBelow

@@ -32,7 +32,7 @@ pub record AreStreams (b : Conf) (s : ℕ) {S : Type 0} (t : Transport Request S
   -- an event of another place, and a timer of another
   pub foreign : (w : What) (u : S) (v : View) (a : Served) → Tied (Untold w) u (sight v) a → IsForeign w a.server.by_stream → t.step (told w) u v ≡ Some (u, v)
   pub taken : (w : What) (u : S) (x : Sight) (a : Served) → Tied (Untold w) u x a → IsForeign w a.server.by_stream → Tied (Told 0 0) u x (has_taken_it a.server a)
-  pub others : (u : S) (v : View) (i : ℕ) → (Owns u i → ⊥) → t.step (due_timer i) u v ≡ Some (u, v)
+  pub others : (phase : Phase) (u : S) (x : Sight) (v : View) (a : Served) (i : ℕ) → Tied phase u x a → (Owns u i → ⊥) → t.step (due_timer i) u v ≡ Some (u, v)
 
 -- once it was told, the event is nothing to the datagrams any more
 abbrev pub IsOver : Phase → Served → Type 0
