@@ -27,7 +27,7 @@ const SECOND: u64 = (1 << 63) - 1;
 
 const THIRD: u64 = 1 << 63;
 
-const RUNS: [Run; 14] = [
+const RUNS: [Run; 15] = [
     // Without a server the answer is SERVFAIL, at once.
     (5000, &[], &[], &[Ask], &[], &[(0, Ok(2))]),
     // What a server answers is the result.
@@ -38,6 +38,15 @@ const RUNS: [Run; 14] = [
         &[Ask, Opened(0), Answer(0)],
         &[Opens(0, 0), Sends(0, 0), Closes(0)],
         &[(0, Ok(3))],
+    ),
+    // What goes past the balancer counts in no burst.
+    (
+        5000,
+        &[Some(1)],
+        &[],
+        &[AskOf(10), Ask, Ask, Opened(0), Answer(0)],
+        &[Opens(0, 0), Opens(1, 0), Sends(0, 0), Closes(0)],
+        &[(2, Ok(2)), (0, Ok(3))],
     ),
     // Two requests in a second, and no third one until that second has passed.
     (

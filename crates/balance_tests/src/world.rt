@@ -24,6 +24,8 @@ type Server = client_dgram::Connection<RequestMessage>;
 pub enum Told {
     /// The query is asked.
     Ask,
+    /// The query is sent to the server of an identifier, past the balancer.
+    AskOf(u64),
     /// A place is open.
     Opened(u64),
     /// An answer came at a place.
@@ -132,20 +134,44 @@ fn step(world: &mut World, signal: Signal<'_>) -> Result<(), Error> {
     result
 }
 
-fn keep(world: &mut World, response: Request) -> Result<(), Error> {
-    if world.tickets.push(response.ticket()).is_err() {
+fn keep(world: &mut World, ticket: u64, response: Option<Request>) -> Result<(), Error> {
+    if world.tickets.push(ticket).is_err() {
         return Err(Error::NoMemory);
     }
-    match world.responses.push(Some(response)) {
+    match world.responses.push(response) {
         Ok(()) => Ok(()),
         Err(_) => Err(Error::NoMemory),
     }
 }
 
+fn query(alloc: Global) -> Result<RequestMessage, Error> {
+    let octets = Octets::from_slice(alloc, QUERY)?;
+    RequestMessage::new(alloc, Message::from_octets(octets)?)
+}
+
+/// Sends the query to the server of an identifier, past the balancer.
+fn ask_of(alloc: Global, world: &mut World, id: u64) -> Result<(), Error> {
+    let request = query(alloc)?;
+    let mut cx = Cx {
+        now: Moment(world.now),
+        words: &mut world.words,
+        outs: &mut world.outs,
+        board: &mut world.board,
+        timers: &mut world.timers,
+        ticket: world.ticket,
+        place: world.place,
+        request: world.asked,
+        more: false,
+    };
+    let response = world.balancer.send_on(&mut cx, id, request)?;
+    (world.ticket, world.place) = (cx.ticket, cx.place);
+    world.asked = world.asked.saturating_add(1);
+    keep(world, response.ticket(), None)
+}
+
 /// Asks the query. Its outs name it by how many were asked before.
 fn ask(alloc: Global, world: &mut World) -> Result<(), Error> {
-    let octets = Octets::from_slice(alloc, QUERY)?;
-    let request = RequestMessage::new(alloc, Message::from_octets(octets)?)?;
+    let request = query(alloc)?;
     let mut cx = Cx {
         now: Moment(world.now),
         words: &mut world.words,
@@ -160,7 +186,7 @@ fn ask(alloc: Global, world: &mut World) -> Result<(), Error> {
     let response = world.balancer.send_request(&mut cx, request)?;
     (world.ticket, world.place) = (cx.ticket, cx.place);
     world.asked = world.asked.saturating_add(1);
-    keep(world, response)
+    keep(world, response.ticket(), Some(response))
 }
 
 fn cancel(world: &mut World, number: usize) -> Result<(), Error> {
@@ -202,6 +228,7 @@ fn later(world: &mut World, micros: u64) -> Result<(), Error> {
 fn tell(alloc: Global, world: &mut World, told: Told) -> Result<(), Error> {
     match told {
         Told::Ask => ask(alloc, world),
+        Told::AskOf(id) => ask_of(alloc, world, id),
         Told::Opened(place) => step(world, Signal::Told(&What::Opened { place })),
         Told::Answer(place) => answer(alloc, world, place),
         Told::Cancel(number) => cancel(world, number),
