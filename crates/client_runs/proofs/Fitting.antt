@@ -1,12 +1,10 @@
 -- Every plain trace is a run, and right and timely, where both transports are tied.
-use Rattle.std.proofs.Common.{◌≡◌, ℕ, suc, ◌<◌, Bool, true, false, List, [], ◌∷◌, length, map, Option, Some, None, refl, sym, ap, subst, arith}
+use Rattle.std.proofs.Common.{◌≡◌, ℕ, suc, ◌<◌, Bool, true, false, List, [], ◌∷◌, length, map, Some, refl, sym, ap, subst, arith}
 use Rattle.client_request.specs.Composed.{composed}
 use Rattle.client_request.specs.Request.{Request}
 use Rattle.client_request.specs.Requests.{for_one}
 use Rattle.client_request.specs.View.{asks}
-use Rattle.client_request.specs.declared.event.Event.{Event}
 use Rattle.client_request.specs.declared.event.Out.TheVariants.{Start}
-use Rattle.client_request.specs.declared.event.Row.{Row}
 use Rattle.client_request.specs.declared.event.Via.TheVariants as via
 use Rattle.client_stream.specs.Plain as stream
 use Rattle.client_multi.specs.DgramStream as dgram_stream
@@ -22,7 +20,7 @@ use Rattle.headline.specs.machine.Client.{begun, IsRun}
 use Rattle.headline.specs.machine.Served.{served}
 use Rattle.headline.proofs.Composing.{composed_composes}
 use Rattle.headline.proofs.server.Concrete.{every_run}
-use Rattle.client_runs.specs.Above.{Tying, IsLayer, AreWords, begins_with}
+use Rattle.client_runs.specs.Above.{Tying, IsLayer, begins_with}
 use Rattle.client_steps.specs.Client.{plain_rows}
 use Rattle.client_steps.specs.Headline.{use_of, conf_of}
 use Rattle.client_runs.specs.Ties.{HasTie, DatagramsAreTied, StreamsAreTied, EveryPlainTraceRuns, EveryPlainTraceIsRight, TiedTransportsRun}
@@ -33,7 +31,6 @@ use Rattle.client_steps.specs.declared.upstream.Handed.{Handed}
 use Rattle.client_steps.specs.declared.upstream.Handed.TheVariants as handed
 use Rattle.client_steps.specs.declared.upstream.Upstream.{Upstream}
 use Rattle.client_steps.specs.declared.upstream.Upstream.TheVariants as server
-use Rattle.resolv_conf.specs.declared.conf.ResolvConf.{ResolvConf}
 use Rattle.resolv_conf.specs.declared.options.ResolvOptions.{ResolvOptions}
 use Rattle.resolv_conf.specs.declared.server.ServerConf.{ServerConf}
 use Rattle.client_steps.proofs.Events.{rows_of_events}

@@ -1,8 +1,7 @@
 -- A server that is handed nothing rests.
-use Rattle.std.proofs.Common.{◌≡◌, ℕ, Bool, false, ◌||◌, is_some, List, [], Some, refl, sym, ap, subst}
+use Rattle.std.proofs.Common.{◌≡◌, ℕ, false, ◌||◌, is_some, [], refl, sym, ap, subst}
 use Rattle.client_request.specs.declared.event.What.{What}
 use Rattle.client_request.specs.declared.event.What.TheVariants.{Ask, Opened, OpenFailed, SendFailed, ShortSend, Datagram, RecvFailed, Wrote, WriteFailed, Bytes, ReadFailed, Ended, Tick}
-use Rattle.headline.specs.Messages.{Octets}
 use Rattle.headline.specs.Trace.{Conf}
 use Rattle.headline.specs.machine.Dgrams.{IsIgnored, no_datagram}
 use Rattle.headline.specs.machine.Served.{Served, served}

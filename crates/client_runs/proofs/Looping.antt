@@ -92,9 +92,6 @@ module _ (g : Tying) where
   stays phase e d x tied = record { outs = []; end = x; leads = Arrives x; tied = tied; put = sym (append-nil d.view.outs); on = record { now = refl; later = λ i due s. inl s } }
 
   module _ (row e : What) where
-    abbrev phase : Phase
-    phase = Untold row
-
     one_less_due : (n : ℕ) (v w : View) (i : ℕ) → (few : AreFew (suc n) v) → IsIn i few.ids → IsOn (record v { timers = cancelled i v.timers }) w → ((j due : ℕ) → due_of j (cancelled i v.timers).set ≡ Some due → (i ≡ j → ⊥) × (due_of j v.timers.set ≡ Some due)) → AreFew n w
     one_less_due n v w i few is on was = record {
       ids = drop_one i few.ids;
@@ -111,9 +108,9 @@ module _ (g : Tying) where
         not_both : (a b : ℕ) → b < a → a ≤ b → ⊥
         not_both a b lt le = omega arith
 
-    pub fires_do : (n : ℕ) (d : PlainClient g) (x : State g) → IsTied g phase e d x → AreFew n d.view → IfSome g (Rested phase e d.view x) (fires (machine g.T g.number) n d)
+    pub fires_do : (n : ℕ) (d : PlainClient g) (x : State g) → IsTied g (Untold row) e d x → AreFew n d.view → IfSome g (Rested (Untold row) e d.view x) (fires (machine g.T g.number) n d)
     fires_do zero d x tied few = record {
-      comes = stays phase e d x tied;
+      comes = stays (Untold row) e d x tied;
       early = λ i due s. elim (now_or_later due d.view.now) [ inl le ↦ absurd (empty i few.ids few.few (few.all i due s le)) | inr lt ↦ lt ];
     }
       where
@@ -122,10 +119,10 @@ module _ (g : Tying) where
         empty i (x ∷ xs) le m = absurd (omega arith)
     fires_do (suc n) d x tied few = by (due_now d.view.now d.view.timers.set) refl (fires_do n)
       where
-        by : (y : Option Timer) → due_now d.view.now d.view.timers.set ≡ y → ((d : PlainClient g) (x : State g) → IsTied g phase e d x → AreFew n d.view → IfSome g (Rested phase e d.view x) (fires (machine g.T g.number) n d))
-            → IfSome g (Rested phase e d.view x) (fires_first (machine g.T g.number) (fires (machine g.T g.number) n) d y)
+        by : (y : Option Timer) → due_now d.view.now d.view.timers.set ≡ y → ((d : PlainClient g) (x : State g) → IsTied g (Untold row) e d x → AreFew n d.view → IfSome g (Rested (Untold row) e d.view x) (fires (machine g.T g.number) n d))
+            → IfSome g (Rested (Untold row) e d.view x) (fires_first (machine g.T g.number) (fires (machine g.T g.number) n) d y)
         by None none ih = record {
-          comes = stays phase e d x tied;
+          comes = stays (Untold row) e d x tied;
           early = λ i due s. (let l = listed_due i due d.view.timers.set s in subst (λ due. d.view.now < due) l.2 (rests_now d.view.now d.view.timers.set none l.0 l.1));
         }
         by (Some t) some ih =
@@ -133,18 +130,18 @@ module _ (g : Tying) where
             let is = due_listed t 0 d.view.timers.next d.view.timers.set tied.fits.fair.order first.0 in
             let v0 : View = record d.view { timers = cancelled t.id d.view.timers } in
             let was : (j due : ℕ) → due_of j (cancelled t.id d.view.timers).set ≡ Some due → (t.id ≡ j → ⊥) × (due_of j d.view.timers.set ≡ Some due) = λ j due s. was_there t.id (λ (j : ℕ). due_of j d.view.timers.set) j due (sym (due_without t.id j 0 d.view.timers.next d.view.timers.set tied.fits.fair.order) ∙ s) in
-            subst (λ y. IfSome g (Rested phase e d.view x) (option_and_then (fires (machine g.T g.number) n) (fire (machine g.T g.number) t.id (record d { view = record d.view { timers = fired_at d.view.timers y } })))) (sym some)
-            (some_then g (Comes g phase e v0 x) (Rested phase e d.view x) (fires (machine g.T g.number) n) (fire (machine g.T g.number) t.id (record d { view = v0 }))
-            (subst (λ l. IfSome g (Comes g phase e v0 x) (fire (machine g.T g.number) t.id (client_of l (d.asked, v0)))) (sym tied.layer)
+            subst (λ y. IfSome g (Rested (Untold row) e d.view x) (option_and_then (fires (machine g.T g.number) n) (fire (machine g.T g.number) t.id (record d { view = record d.view { timers = fired_at d.view.timers y } })))) (sym some)
+            (some_then g (Comes g (Untold row) e v0 x) (Rested (Untold row) e d.view x) (fires (machine g.T g.number) n) (fire (machine g.T g.number) t.id (record d { view = v0 }))
+            (subst (λ l. IfSome g (Comes g (Untold row) e v0 x) (fire (machine g.T g.number) t.id (client_of l (d.asked, v0)))) (sym tied.layer)
             (one_fires g row e tied.u d.asked d.view x tied.fits tied.board tied.given t.id t.due is first.1))
-            (λ d1 c. some_on g (Rested phase e d1.view c.end) (Rested phase e d.view x) (fires (machine g.T g.number) n d1)
+            (λ d1 c. some_on g (Rested (Untold row) e d1.view c.end) (Rested (Untold row) e d.view x) (fires (machine g.T g.number) n d1)
             (ih d1 c.end c.tied (one_less_due n d.view d1.view t.id few (few.all t.id t.due is first.1) c.on was))
             (λ d2 r. record {
-              comes = comes_then g phase e d.view d1.view x d2 c.end c.outs c.leads c.put (on_then d.view v0 d1.view (on_without d.view v0 t.id tied.fits.fair refl refl) c.on) r.comes;
+              comes = comes_then g (Untold row) e d.view d1.view x d2 c.end c.outs c.leads c.put (on_then d.view v0 d1.view (on_without d.view v0 t.id tied.fits.fair refl refl) c.on) r.comes;
               early = r.early;
             })))
 
-    untold_fire : (d : PlainClient g) (x : State g) → IsTied g phase e d x → IfSome g (Rested phase e d.view x) (fires_all (machine g.T g.number) d)
+    untold_fire : (d : PlainClient g) (x : State g) → IsTied g (Untold row) e d x → IfSome g (Rested (Untold row) e d.view x) (fires_all (machine g.T g.number) d)
     untold_fire d x tied = fires_do (length d.view.timers.set) d x tied (all_set d.view)
 
   -- where no timer is due, none fires

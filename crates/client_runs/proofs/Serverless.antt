@@ -1,5 +1,5 @@
 -- The client without a server: each request is refused at once.
-use Rattle.std.proofs.Common.{◌≡◌, ℕ, zero, suc, ◌+◌, ◌<◌, max, Bool, true, false, if◌then◌else◌, ◌==◌, is_eq, nat_cmp, cond, is_some, List, [], ◌∷◌, ◌++◌, length, Option, Some, None, Result, Ok, Err, refl, sym, ap, ap₂, subst, ◌∙◌, arith, add-one, append-nil}
+use Rattle.std.proofs.Common.{◌≡◌, ℕ, zero, suc, ◌+◌, ◌<◌, max, Bool, true, false, if◌then◌else◌, ◌==◌, is_eq, nat_cmp, cond, List, [], ◌∷◌, ◌++◌, length, Option, Some, None, Result, Ok, Err, refl, sym, ap, ap₂, subst, ◌∙◌, arith, add-one, append-nil}
 use Rattle.std.proofs.lemmas.Bool.Decides.{nat_tests}
 use Rattle.std.specs.Prelude.{option_and_then, option_map}
 use Rattle.client_request.specs.Composed.{composed}
@@ -15,16 +15,16 @@ use Rattle.client_request.specs.declared.event.Out.{Out}
 use Rattle.client_request.specs.declared.event.Out.TheVariants.{Reply}
 use Rattle.client_request.specs.declared.event.Row.{Row}
 use Rattle.client_request.specs.declared.event.What.{What}
-use Rattle.client_request.specs.declared.event.What.TheVariants.{Ask, Opened, OpenFailed, SendFailed, ShortSend, Datagram, RecvFailed, Wrote, WriteFailed, Bytes, ReadFailed, Ended, Tick}
+use Rattle.client_request.specs.declared.event.What.TheVariants.{Ask, Bytes, Tick}
 use Rattle.client_request.specs.declared.timers.Timer.{Timer}
 use Rattle.headline.specs.Keys.{is_cacheable}
 use Rattle.headline.specs.Requests.{is_ask}
 use Rattle.headline.specs.Settings.{Settings}
 use Rattle.headline.specs.Trace.{Conf}
 use Rattle.headline.specs.machine.Part.{ServerPart}
-use Rattle.headline.specs.machine.Client.{Leaving, Entry, Upper, AtOnce, Refused, Nowhere, Move, Answers, Replies, Waiting as Held, answer, store, unmade, outcome, outcome_of, IsDone, IsStep, IsRun, Ends, Goes_on, row_begins, begun}
+use Rattle.headline.specs.machine.Client.{Leaving, Entry, Upper, AtOnce, Refused, Nowhere, Answers, Replies, Waiting as Held, answer, store, unmade, outcome, outcome_of, IsDone, IsStep, IsRun, Ends, Goes_on, row_begins, begun}
 use Rattle.client_runs.specs.Above.{machine, begins_with, ClientsWithoutServersRun}
-use Rattle.client_steps.specs.Client.{Asked, Client, client_of, at_moment, rested, row_of, row_and_rest, then_rows, asks_request, sends, accepts, waits, without_request, replies, replies_many, replies_to, fires, fires_all, tells, more_frames, brings, happens, client_step, plain_rows}
+use Rattle.client_steps.specs.Client.{Asked, Client, client_of, at_moment, rested, row_of, row_and_rest, then_rows, asks_request, sends, accepts, waits, without_request, replies, replies_many, replies_to, fires, fires_all, tells, more_frames, happens, client_step, plain_rows}
 use Rattle.client_steps.specs.First as first
 use Rattle.client_steps.specs.First.{First}
 use Rattle.client_steps.specs.declared.asked.Waiting.{Waiting}

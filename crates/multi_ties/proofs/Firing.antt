@@ -10,7 +10,6 @@ use Rattle.client_request.specs.View.{View, due_timer, answers}
 use Rattle.client_request.specs.declared.board.Posted.{Posted}
 use Rattle.client_request.specs.declared.error.Error.TheVariants as errors
 use Rattle.client_request.specs.declared.event.Out.TheVariants.{Close}
-use Rattle.client_stream.specs.declared.stage.Stage.TheVariants as stage
 use Rattle.client_stream.specs.Plain.{has_ended, fires as line_fires, octets_left}
 use Rattle.client_multi.specs.Links.{Link, one_stream}
 use Rattle.client_multi.specs.MultiStream.{due, due_at, with_job, fires, times_out, leaves, hands, hears_at, calls, returns, taken, lent}
