@@ -38,15 +38,15 @@ gives_back m left (p ∷ ps) (x ∷ xs) g i k e = (was_there p.ticket m i k (giv
 
 module _ (b c : Conf) (s : ℕ) {S : Type 0} (t : Transport Request S stream.Asked) (first : S) (Tied : Phase → S → Sight → Served → Type 0) (names : S → ℕ → Option ℕ) (Owns : S → (timer : ℕ) → Type 0) (y : AreStreams b s t first Tied names Owns) where
   module _ (f : Both Tied names Owns s) (v : View) (d : Dgrams) (fair : IsFair v) (server : f.server ≡ s) (dgram_server : f.parts.dgram.server ≡ s) (settings : f.parts.dgram.settings ≡ dgram_settings.default_settings) (slots : AreSlots 0 f.parts.dgram.tables d (sight v)) (named : ℕ → Option ℕ)
-      (waiting : AreWaiting ticket_at f.parts.tables d (names_of f.parts.dgram.tables) named v.ticket) (timers : (i : ℕ) → calls.Owns f.parts.dgram.tables i → Owns f.parts.stream i → ⊥) (apart : (i k : ℕ) → is_some (d.held k) ≡ true → named i ≡ Some k → ⊥) where
+      (later : ℕ) (waiting : AreWaiting ticket_at f.parts.tables d (names_of f.parts.dgram.tables) named later) (timers : (i : ℕ) → calls.Owns f.parts.dgram.tables i → Owns f.parts.stream i → ⊥) (apart : (i k : ℕ) → is_some (d.held k) ≡ true → named i ≡ Some k → ⊥) where
     -- what is left once what the streams posted is given
     abbrev pub left_of : S → View → Parts Request (dgram.Dgram Request) S dgram.Asked stream.Asked × View
     left_of u w = gives_rest f.server t w.board (record f.parts { stream = u }) (onto v.board w)
 
-    module _ (May : Act Served → Type 0) (before : Phase) (u : S) (w : View) (l : Leaves (served b) Tied names Owns May named f.parts.stream (onto [] v) before u w) (after : Phase) (z : Served) (tied : Tied after u (sight w) (with_dgrams no_datagram z)) (new : (p k : ℕ) → d.at p ≡ Some k → z.server.by_stream.opening ≡ Some p → ⊥) (over : IsOver after (with_dgrams d z))
+    module _ (May : Act Served → Type 0) (before : Phase) (u : S) (w : View) (l : Leaves (served b) Tied names Owns May named f.parts.stream (onto [] v) before u w) (le : later ≤ w.ticket) (after : Phase) (z : Served) (tied : Tied after u (sight w) (with_dgrams no_datagram z)) (new : (p k : ℕ) → d.at p ≡ Some k → z.server.by_stream.opening ≡ Some p → ⊥) (over : IsOver after (with_dgrams d z))
         (Done : Act Served → Type 0) (done : Done (record l.made { state = with_dgrams d z })) where
-      given : AreGiven ticket_at f.parts.tables d (names_of f.parts.dgram.tables) named (names u) v.ticket v.board l.made.posts (gives_all w.board f.parts.tables v.board).0 (gives_all w.board f.parts.tables v.board).1
-      given = streams_give f.parts.tables d (names_of f.parts.dgram.tables) named (names u) v.ticket w.board v.board l.made.posts waiting (subst (λ ps. Gives named ps l.made.posts (names u)) (sym l.put) l.gives)
+      given : AreGiven ticket_at f.parts.tables d (names_of f.parts.dgram.tables) named (names u) later v.board l.made.posts (gives_all w.board f.parts.tables v.board).0 (gives_all w.board f.parts.tables v.board).1
+      given = streams_give f.parts.tables d (names_of f.parts.dgram.tables) named (names u) later w.board v.board l.made.posts waiting (subst (λ ps. Gives named ps l.made.posts (names u)) (sym l.put) l.gives)
 
       its_due : (i : ℕ) → calls.Owns f.parts.dgram.tables i → (due : ℕ) × (due_of i v.timers.set ≡ Some due)
       its_due i own = slots_are_known.set f.parts.dgram.tables d (sight v) i slots own
@@ -67,7 +67,7 @@ module _ (b c : Conf) (s : ℕ) {S : Type 0} (t : Transport Request S stream.Ask
         settings = settings;
         slots = slots_are_known.same f.parts.dgram.tables d (sight v) (sight w) slots (λ i own. (let q = its_due i own in l.others i q.0 (λ o. timers i own o) q.1 ∙ sym q.1)) l.goes_on.timer l.goes_on.ticket l.goes_on.place;
         streams = tied;
-        waiting = (let g = given.waiting in record { waits = g.waits; below = g.below; tickets = g.tickets; dgrams = g.dgrams; streams = g.streams; jobs_order = rises_below (λ (e : ℕ × Job Request dgram.Asked stream.Asked). e.0) 0 v.ticket w.ticket _ l.goes_on.ticket g.jobs_order; tickets_order = rises_below (λ (e : ℕ × ℕ). e.0) 0 v.ticket w.ticket _ l.goes_on.ticket g.tickets_order });
+        waiting = (let g = given.waiting in record { waits = g.waits; below = g.below; tickets = g.tickets; dgrams = g.dgrams; streams = g.streams; jobs_order = rises_below (λ (e : ℕ × Job Request dgram.Asked stream.Asked). e.0) 0 later w.ticket _ le g.jobs_order; tickets_order = rises_below (λ (e : ℕ × ℕ). e.0) 0 later w.ticket _ le g.tickets_order });
         timers = timers_now;
         places = new;
         apart = apart_now;

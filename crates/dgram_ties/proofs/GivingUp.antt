@@ -47,15 +47,20 @@ use Rattle.dgram_ties.proofs.Staying.{asks_then, openings_are_new, requests_stay
 record Stays (s place : ℕ) (u : Served) (e : Act Served) : Type 0 where
   pub frames : e.state.frames ≡ u.frames
   pub opening : e.state.server.by_stream.opening ≡ u.server.by_stream.opening
-  pub place : e.place ≡ place
+  pub next : e.place ≡ place
 
 stays : (s place k : ℕ) (u : Served) (e : Act Served) → Cancels s place k u e → Stays s place u e
 stays s place k u _ (machine.IsGivenUp x v it) = by x v it
   where
     by : (x : _) (v : server.Server) → server.IsGivenUp s u.clock k u.server x v → Stays s place u (machine.does (machine.has_moved v u) place x)
-    by _ _ (server.Waits a held stage) = record { frames = refl; opening = refl; place = refl }
-    by _ _ (server.HasPlace a p held stage) = record { frames = refl; opening = refl; place = refl }
-    by _ _ (server.AtStreams none) = record { frames = refl; opening = refl; place = refl }
+    by _ _ (server.Waits a held stage) = record { frames = refl; opening = refl; next = refl }
+    by _ _ (server.HasPlace a p held stage) = record { frames = refl; opening = refl; next = refl }
+    by _ _ (server.AtStreams none) = record { frames = refl; opening = refl; next = refl }
+
+-- without what holds besides
+pub leads_first : {U : Type 0} (P Q : U → View → Type 0) (o : Option (U × View)) → Leads (λ g x. P g x × Q g x) o → Leads P o
+leads_first P Q None l = tt
+leads_first P Q (Some x) l = l.0
 
 module _ (b c : Conf) (s : ℕ) {S : Type 0} (t : Transport Request S stream.Asked) (first : S) (Tied : Phase → S → Sight → Served → Type 0) (names : S → ℕ → Option ℕ) (Owns : S → (timer : ℕ) → Type 0) (y : AreStreams b s t first Tied names Owns) where
   abbrev Two : Type 0
@@ -67,18 +72,16 @@ module _ (b c : Conf) (s : ℕ) {S : Type 0} (t : Transport Request S stream.Ask
   abbrev Left : (Act Served → Type 0) → (ℕ → Option ℕ) → Two → View → Phase → Two → View → Type 0
   Left Done named f v phase = Leaves (served c) (IsFallback Tied names Owns s) (names_in Tied names Owns s) (OwnsEither Tied names Owns s) Done named f v phase
 
-  -- what is named otherwise is left as well
-  pub renamed : (Done : Act Served → Type 0) (m n : ℕ → Option ℕ) (f : Two) (v : View) (phase : Phase) (g : Two) (x : View) → ((i : ℕ) → m i ≡ n i) → Left Done m f v phase g x → Left Done n f v phase g x
-  renamed Done m n f v phase g x same l = record { made = l.made; may = l.may; outs = l.outs; place = l.place; board = l.board; put = l.put; gives = gives_as m n (names_in Tied names Owns s g) l.board l.made.posts same l.gives; tied = l.tied; goes_on = l.goes_on; owned = l.owned; others = l.others }
+  -- what is left of other tables, and is named otherwise, is left as well
+  abbrev pub with_others : Tables Request dgram.Asked stream.Asked → Two → Two
+  with_others ts f = record f { parts = with_tables ts f.parts }
 
-  pub leads_renamed : (Done : Act Served → Type 0) (m n : ℕ → Option ℕ) (f : Two) (v : View) (phase : Phase) (o : Option (Two × View)) → ((i : ℕ) → m i ≡ n i) → Leads (Left Done m f v phase) o → Leads (Left Done n f v phase) o
-  leads_renamed Done m n f v phase None same l = tt
-  leads_renamed Done m n f v phase (Some x) same l = renamed Done m n f v phase x.0 x.1 same l
+  pub renamed : (Done : Act Served → Type 0) (m n : ℕ → Option ℕ) (ts : Tables Request dgram.Asked stream.Asked) (f : Two) (v : View) (phase : Phase) (g : Two) (x : View) → ((i : ℕ) → m i ≡ n i) → Left Done m (with_others ts f) v phase g x → Left Done n f v phase g x
+  renamed Done m n ts f v phase g x same l = record { made = l.made; may = l.may; outs = l.outs; place = l.place; board = l.board; put = l.put; gives = gives_as m n (names_in Tied names Owns s g) l.board l.made.posts same l.gives; tied = l.tied; goes_on = l.goes_on; owned = l.owned; others = l.others }
 
-  -- without what was asked besides
-  pub leads_first : (P Q : Two → View → Type 0) (o : Option (Two × View)) → Leads (λ g x. P g x × Q g x) o → Leads P o
-  leads_first P Q None l = tt
-  leads_first P Q (Some x) l = l.0
+  pub leads_renamed : (Done : Act Served → Type 0) (m n : ℕ → Option ℕ) (ts : Tables Request dgram.Asked stream.Asked) (f : Two) (v : View) (phase : Phase) (o : Option (Two × View)) → ((i : ℕ) → m i ≡ n i) → Leads (Left Done m (with_others ts f) v phase) o → Leads (Left Done n f v phase) o
+  leads_renamed Done m n ts f v phase None same l = tt
+  leads_renamed Done m n ts f v phase (Some x) same l = renamed Done m n ts f v phase x.0 x.1 same l
 
   -- what holds of what the datagrams leave holds of what is left
   pub leads_dgrams : (f : Two) (v : View) (Q : dgram.Tables Request → View → Type 0) (R : Two → View → Type 0) (o : Option (dgram.Tables Request × View)) → calls.Leads Q o → ((z : dgram.Tables Request) (w : View) → Q z w → Leads R (with_parts f (fallback.collects f.server t w.board [] (record f.parts { dgram = record f.parts.dgram { tables = z } }) (onto v.board w))))
@@ -113,8 +116,8 @@ module _ (b c : Conf) (s : ℕ) {S : Type 0} (t : Transport Request S stream.Ask
       abbrev less : AreWaiting ticket_at (without i f.parts.tables) d (with_at lower None (names_of f.parts.dgram.tables)) (names f.parts.stream) v.ticket × ((u : ℕ) → numbers_of (without i f.parts.tables) (names f.parts.stream) u ≡ with_at i None (numbers_of f.parts.tables (names f.parts.stream)) u)
       less = tables_change.less f.parts.tables d (names_of f.parts.dgram.tables) (names f.parts.stream) v.ticket i lower k r z g.waiting is
 
-      done : (e m : Act Dgrams) → calls.LetsGo k v.place d e → Steps s v.now e.place e.state m → (then_act e m).posts ≡ [] → Done (record { state = with_dgrams m.state a; place = m.place; outs = (then_act e m).outs; posts = (then_act e m).posts })
-      done e m lets steps none = (Calls (at_server a with_dgrams e) (at_server (with_dgrams e.state a) with_dgrams m) (servers_move.lets_go s v.place k a e lets) (servers_move.steps c s e.place (with_dgrams e.state a) m (subst (λ n. Steps s n e.place e.state m) (sym clock) steps)), none)
+      dgram_done : (e m : Act Dgrams) → calls.LetsGo k v.place d e → Steps s v.now e.place e.state m → (then_act e m).posts ≡ [] → Done (record { state = with_dgrams m.state a; place = m.place; outs = (then_act e m).outs; posts = (then_act e m).posts })
+      dgram_done e m lets steps none = (Calls (at_server a with_dgrams e) (at_server (with_dgrams e.state a) with_dgrams m) (servers_move.lets_go s v.place k a e lets) (servers_move.steps c s e.place (with_dgrams e.state a) m (subst (λ n. Steps s n e.place e.state m) (sym clock) steps)), none)
 
       dropped : (z : dgram.Tables Request) (x : View) → HasDropped s lower k f.parts.dgram.tables d (onto [] v) z x → Leads (Left Done (numbers_of (without i f.parts.tables) (names f.parts.stream)) fewer v (Untold w)) (with_parts fewer (fallback.collects fewer.server t x.board [] (record fewer.parts { dgram = record f.parts.dgram { tables = z } }) (onto v.board x)))
       dropped z x h = leads_first _ _ _
@@ -122,10 +125,10 @@ module _ (b c : Conf) (s : ℕ) {S : Type 0} (t : Transport Request S stream.Ask
           (asks_then d h.first.state h.made.state (requests_stay.lets_go k v.place d h.first h.lets) (requests_stay.steps s v.now h.first.place h.first.state h.made h.steps)) (Untold w) (Untold w) a g.streams g.places g.apart
           v.ticket (with_at lower None (names_of f.parts.dgram.tables)) less.0 h.leaves.after.ticket
           (record { board = []; put = h.board; gives = subst (λ xs. Gives (with_at lower None (names_of f.parts.dgram.tables)) [] xs (names_of z)) (sym h.nothing) h.names })
-          (subst AllWhole (sym h.nothing) tt) tt Done (done h.first h.made h.lets h.steps h.nothing))
+          (subst AllWhole (sym h.nothing) tt) tt Done (dgram_done h.first h.made h.lets h.steps h.nothing))
 
       pub dgram_up : Goal (with_parts f (drops_at f.server (dgram.transport for_one) t fewer.parts v (Some (Dgram lower k r z))))
-      dgram_up = leads_renamed Done (numbers_of (without i f.parts.tables) (names f.parts.stream)) (with_at i None (names_in Tied names Owns s f)) f v (Untold w) _ less.1
+      dgram_up = leads_renamed Done (numbers_of (without i f.parts.tables) (names f.parts.stream)) (with_at i None (names_in Tied names Owns s f)) (without i f.parts.tables) f v (Untold w) _ less.1
           (leads_dgrams fewer v (HasDropped s lower k f.parts.dgram.tables d (onto [] v)) (Left Done (numbers_of (without i f.parts.tables) (names f.parts.stream)) fewer v (Untold w)) (dgram.drops f.parts.dgram.server z.ticket f.parts.dgram.tables (onto [] v))
           (subst (λ n. calls.Leads (HasDropped s lower k f.parts.dgram.tables d (onto [] v)) (dgram.drops n z.ticket f.parts.dgram.tables (onto [] v))) (sym g.dgram_server)
           (subst (λ n. calls.Leads (HasDropped s lower k f.parts.dgram.tables d (onto [] v)) (dgram.drops s n f.parts.dgram.tables (onto [] v))) (sym at)
@@ -163,8 +166,8 @@ module _ (b c : Conf) (s : ℕ) {S : Type 0} (t : Transport Request S stream.Ask
         pub begun : Begins (Cancels s v.place k a) (Chain (served c) s) (beside d e)
         pub new : (p n : ℕ) → d.at p ≡ Some n → e.state.server.by_stream.opening ≡ Some p → ⊥
 
-      done : (e : Act Served) → Begins (Cancels s v.place k alone) (Chain (served b) s) e → e.state.taken ≡ false → Done_so e
-      done _ (Calls e m call chain) untaken =
+      stream_done : (e : Act Served) → Begins (Cancels s v.place k alone) (Chain (served b) s) e → e.state.taken ≡ false → Done_so e
+      stream_done _ (Calls e m call chain) untaken =
           let o = streams_move.cancels s v.place k alone d e refl free call in
           let st = stays s v.place k alone e call in
           let more = sitting_beside c b s d e.place e.state m o.0 (st.frames ∙ (y.pending w f.parts.stream (sight v) alone g.streams).2) chain untaken in
@@ -172,7 +175,7 @@ module _ (b c : Conf) (s : ℕ) {S : Type 0} (t : Transport Request S stream.Ask
             begun = Calls (beside d e) (beside d m) o.1 more;
             new = λ p n at op. elim ((openings_are_new c s e.place (with_dgrams d e.state) (beside d m) more).1 p op) [
               | inl was ↦ g.places p n at (sym st.opening ∙ was)
-              | inr le ↦ below_all p v.place (slots_are_known.placed f.parts.dgram.tables d (sight v) p n g.slots at) (subst (λ n. n ≤ p) st.place le)
+              | inr le ↦ below_all p v.place (slots_are_known.placed f.parts.dgram.tables d (sight v) p n g.slots at) (subst (λ n. n ≤ p) st.next le)
             ];
           }
 
@@ -183,15 +186,15 @@ module _ (b c : Conf) (s : ℕ) {S : Type 0} (t : Transport Request S stream.Ask
       apart j n held e = g.apart n held (asked j n (was_there lower (names f.parts.stream) j n e).1)
 
       pub stream_up : Goal (with_parts f (drops_at f.server (dgram.transport for_one) t fewer.parts v (Some (Stream lower z))))
-      stream_up = leads_renamed Done (numbers_of (without i f.parts.tables) left) (with_at i None (names_in Tied names Owns s f)) f v (Untold w) _ numbers
-          (leads_both b c s t first Tied names Owns y fewer v d fair g.server g.dgram_server g.settings g.slots left waits g.timers apart (Leaves (served b) Tied names Owns May left f.parts.stream (onto [] v) (Untold w)) (Left Done (numbers_of (without i f.parts.tables) left) fewer v (Untold w)) (t.cancel z f.parts.stream (onto [] v))
+      stream_up = leads_renamed Done (numbers_of (without i f.parts.tables) left) (with_at i None (names_in Tied names Owns s f)) (without i f.parts.tables) f v (Untold w) _ numbers
+          (leads_both b c s t first Tied names Owns y fewer v d fair g.server g.dgram_server g.settings g.slots left v.ticket waits g.timers apart (Leaves (served b) Tied names Owns May left f.parts.stream (onto [] v) (Untold w)) (Left Done (numbers_of (without i f.parts.tables) left) fewer v (Untold w)) (t.cancel z f.parts.stream (onto [] v))
           (subst (λ n. Leads (Leaves (served b) Tied names Owns May (with_at n None (names f.parts.stream)) f.parts.stream (onto [] v) (Untold w)) (t.cancel z f.parts.stream (onto [] v))) at
           (y.tie.cancels f.parts.stream (onto [] v) alone w z k g.streams fair_on (subst (λ n. names f.parts.stream n ≡ Some k) (sym at) below)))
           (λ u x l.
             let untaken = (y.pending w u (sight x) l.made.state l.tied).1 in
             let none = y.alone (Untold w) u (sight x) l.made.state l.tied in
-            let did = done l.made l.may.0 untaken in
-            streams_leave b c s t first Tied names Owns y fewer v d fair g.server g.dgram_server g.settings g.slots left waits g.timers apart May (Untold w) u x l (Untold w) l.made.state
+            let did = stream_done l.made l.may.0 untaken in
+            streams_leave b c s t first Tied names Owns y fewer v d fair g.server g.dgram_server g.settings g.slots left v.ticket waits g.timers apart May (Untold w) u x l l.goes_on.ticket (Untold w) l.made.state
             (subst (Tied (Untold w) u (sight x)) (ap (λ (e : Dgrams). with_dgrams e l.made.state) none) l.tied) did.new tt Done (did.begun, l.may.1)))
 
     pub gives_up_one : Goal (with_parts f (fallback.drops f.server (dgram.transport for_one) t i f.parts v))

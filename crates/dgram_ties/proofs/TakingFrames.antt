@@ -66,7 +66,7 @@ module _ (b c : Conf) (s : ℕ) {S : Type 0} (t : Transport Request S stream.Ask
           left = q.left;
           may_be = q.may_be;
           more = q.more;
-          leaves = streams_leave b c s t first Tied names Owns y f v d fair g.server g.dgram_server g.settings g.slots (names f.parts.stream) g.waiting g.timers apart (Chain (served b) s v.place alone) after u x l after z
+          leaves = streams_leave b c s t first Tied names Owns y f v d fair g.server g.dgram_server g.settings g.slots (names f.parts.stream) v.ticket g.waiting g.timers apart (Chain (served b) s v.place alone) after u x l l.goes_on.ticket after z
               (subst (Tied after u (sight x)) (ap (λ (e : Dgrams). with_dgrams e z) o.0) l.tied)
               (λ p n at op. elim ((openings_are_new c s v.place a (beside d l.made) o.1).1 p op) [ inl was ↦ g.places p n at was | inr le ↦ below_all p v.place (slots_are_known.placed f.parts.dgram.tables d (sight v) p n g.slots at) le ])
               (still_ignored b s d v.place alone l.made refl ignored in_time l.may) (Chain (served c) s v.place a) o.1;
@@ -74,7 +74,7 @@ module _ (b c : Conf) (s : ℕ) {S : Type 0} (t : Transport Request S stream.Ask
 
     -- what the streams do is what the fallback does
     pub they_tell : (o : Option (S × View)) → Leads Streams_tell o → Leads Tell (with_parts f (option_and_then (settles_stream f.server (dgram.transport for_one) t [] f.parts v) o))
-    they_tell o l = leads_both b c s t first Tied names Owns y f v d fair g.server g.dgram_server g.settings g.slots (names f.parts.stream) g.waiting g.timers apart Streams_tell Tell o l tell
+    they_tell o l = leads_both b c s t first Tied names Owns y f v d fair g.server g.dgram_server g.settings g.slots (names f.parts.stream) v.ticket g.waiting g.timers apart Streams_tell Tell o l tell
 
   fair_on : (v : View) → IsFair v → IsFair (onto [] v)
   fair_on v fair = record { order = fair.order; words = fair.words }

@@ -128,14 +128,14 @@ module _ (b c : Conf) (s : ℕ) {S : Type 0} (t : Transport Request S stream.Ask
           let z = l.made.state in
           let untaken = (y.pending w u (sight x) z l.tied).1 in
           let chain = sitting_beside c b s d v.place alone l.made refl (y.pending w f.parts.stream (sight v) alone g.streams).2 l.may untaken in
-          streams_leave b c s t first Tied names Owns y f vc d fair_c g.server g.dgram_server g.settings slots_c (names f.parts.stream) g.waiting g.timers apart (Chain (served b) s v.place alone) (Untold w) u x l (Untold w) z
+          streams_leave b c s t first Tied names Owns y f vc d fair_c g.server g.dgram_server g.settings slots_c (names f.parts.stream) v.ticket g.waiting g.timers apart (Chain (served b) s v.place alone) (Untold w) u x l l.goes_on.ticket (Untold w) z
           (subst (Tied (Untold w) u (sight x)) (ap (λ (e : Dgrams). with_dgrams e z) (y.alone (Untold w) u (sight x) z l.tied)) l.tied)
           (λ p n at op. elim ((openings_are_new c s v.place a (beside d l.made) chain).1 p op) [ inl was ↦ g.places p n at was | inr le ↦ below_all p v.place (slots_are_known.placed tables d (sight v) p n g.slots at) le ])
           tt (Chain (served c) s v.place a) chain
 
       streams_fire : Leads Goal ((fallback.transport (dgram.transport for_one) t).step (due_timer i) f vc)
       streams_fire = subst (λ o. Leads Goal (with_parts f (option_and_then (hears_stream f.server (dgram.transport for_one) t (due_timer i) f.parts vc) (dgram.with_tables f.parts.dgram o)))) (sym (late_passes f.parts.dgram.server i tables (onto [] vc) none))
-          (leads_both b c s t first Tied names Owns y f vc d fair_c g.server g.dgram_server g.settings slots_c (names f.parts.stream) g.waiting g.timers apart Streams_leave Goal (t.step (due_timer i) f.parts.stream (onto [] vc))
+          (leads_both b c s t first Tied names Owns y f vc d fair_c g.server g.dgram_server g.settings slots_c (names f.parts.stream) v.ticket g.waiting g.timers apart Streams_leave Goal (t.step (due_timer i) f.parts.stream (onto [] vc))
           (y.tie.fires f.parts.stream (onto [] v) alone w i due g.streams fair_on set late) left)
 
     pub fires_one : Leads Goal ((fallback.transport (dgram.transport for_one) t).step (due_timer i) f vc)
