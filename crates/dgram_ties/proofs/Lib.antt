@@ -31,3 +31,4 @@ pub mod GivingUp
 pub mod TakingFrames
 pub mod HandingIn
 pub mod Timing
+pub mod Told
