@@ -32,3 +32,5 @@ pub mod TakingFrames
 pub mod HandingIn
 pub mod Timing
 pub mod Told
+pub mod GoingOnByStream
+pub mod FallbackTied
