@@ -52,7 +52,7 @@ module _ (s : Both) (d : Dgrams) (by_dgram by_stream : ℕ → Option ℕ) (tick
 
   -- A request waits at the datagrams no more.
   module _ (t lower k : ℕ) (r : Request) (x : dgram.Asked) (is : entry_at t s.jobs ≡ Some (Dgram lower k r x)) where
-    abbrev fewer : Both
+    abbrev pub fewer : Both
     fewer = record { jobs = frees t s.jobs; tickets = frees lower s.tickets }
 
     it_is : without t s ≡ fewer
@@ -74,7 +74,7 @@ module _ (s : Both) (d : Dgrams) (by_dgram by_stream : ℕ → Option ℕ) (tick
     waits_on _ ne (AtDgrams i l q y a n at held same) = AtDgrams i l q y a (with_there lower None by_dgram i ne ∙ n) at held same
     waits_on _ ne (AtStreams i l y n at) = AtStreams i l y n at
 
-    less_waiting : AreWaiting ticket_at fewer d (with_at lower None by_dgram) by_stream ticket
+    pub less_waiting : AreWaiting ticket_at fewer d (with_at lower None by_dgram) by_stream ticket
     less_waiting = record {
       waits = λ u job e. (let w = was_job u job e in waits_on job (unlike u job w.0 w.1) (f.waits u job w.1));
       below = λ u job e. (let w = was_job u job e in still_ticket (lower_of job) (unlike u job w.0 w.1) ∙ f.below u job w.1);
@@ -85,7 +85,7 @@ module _ (s : Both) (d : Dgrams) (by_dgram by_stream : ℕ → Option ℕ) (tick
       tickets_order = sorted_frees lower 0 ticket s.tickets f.tickets_order;
     }
 
-    less_numbers : (u : ℕ) → numbers_of fewer by_stream u ≡ with_at t None (numbers_of s by_stream) u
+    pub less_numbers : (u : ℕ) → numbers_of fewer by_stream u ≡ with_at t None (numbers_of s by_stream) u
     less_numbers u = elim (cases_eq t u) [
       | inl e ↦ subst (λ u. numbers_of fewer by_stream u ≡ with_at t None (numbers_of s by_stream) u) e (ap (λ o. option_and_then (number_in by_stream) o) (at_frees t t 0 ticket s.jobs f.jobs_order ∙ with_here t None (λ u. entry_at u s.jobs)) ∙ sym (with_here t None (numbers_of s by_stream)))
       | inr ne ↦ ap (λ o. option_and_then (number_in by_stream) o) (still_job u ne) ∙ sym (with_there t None (numbers_of s by_stream) u ne)

@@ -13,9 +13,9 @@ use Rattle.client_stream.specs.Plain as stream
 use Rattle.client_multi.specs.Fallback as fallback
 use Rattle.client_multi.specs.declared.dgram_stream.job.Job.{Job}
 use Rattle.headline.specs.Trace.{Conf}
-use Rattle.headline.specs.machine.Dgrams.{no_datagram, IsIgnored}
+use Rattle.headline.specs.machine.Dgrams.{Dgrams, no_datagram, IsIgnored}
 use Rattle.headline.specs.machine.Served.{Served, unserved, holds, row_begun, RestsNow}
-use Rattle.client_ties.specs.PartTie.{Phase, Untold, Told, IsNobodys}
+use Rattle.client_ties.specs.PartTie.{Phase, Untold, Told, IsNobodys, MayEnd}
 use Rattle.client_ties.specs.Sights.{Sight, sight, IsEarly}
 use Rattle.client_ties.proofs.Tables.{rises_below, present_below}
 use Rattle.dgram_ties.specs.AtServer.{with_dgrams, DgramsRest}
@@ -109,13 +109,14 @@ module _ (b : Conf) (s : ℕ) {S : Type 0} (t : Transport Request S stream.Asked
       | inr at ↦ (let i = y.tie.held phase f.parts.stream x (with_dgrams no_datagram a) k g.streams at in let w = g.waiting.streams i.0 k i.1 in (w.0, ap (λ o. option_and_then (number_in (names f.parts.stream)) o) w.2 ∙ i.1))
     ]
 
-  pub begins : (f : Both Tied names Owns s) (x : Sight) (a : Served) (p : ℕ) (e : Event) → Falls (Told p 0) f x a → Falls (Untold e.what) f (record x { now = max e.moment.0 x.now }) (row_begun e a)
-  begins f x a p e g = record {
+  -- a row begins where the last one may end, and where no timer is due it rests
+  pub begins : (phase : Phase) (f : Both Tied names Owns s) (x : Sight) (a : Served) (e : Event) → MayEnd phase → Falls phase f x a → Falls (Untold e.what) f (record x { now = max e.moment.0 x.now }) (row_begun e a)
+  begins phase f x a e may g = record {
     server = g.server;
     dgram_server = g.dgram_server;
     settings = g.settings;
     slots = slots_are_known.same f.parts.dgram.tables a.server.by_dgram x (record x { now = max e.moment.0 x.now }) g.slots (λ i own. refl) (le_refl x.timer) (le_refl x.ticket) (le_refl x.place);
-    streams = y.tie.begins f.parts.stream x (with_dgrams no_datagram a) p e g.streams;
+    streams = y.tie.begins phase f.parts.stream x (with_dgrams no_datagram a) e may g.streams;
     waiting = g.waiting;
     timers = g.timers;
     places = g.places;
@@ -123,27 +124,18 @@ module _ (b : Conf) (s : ℕ) {S : Type 0} (t : Transport Request S stream.Asked
     over = tt;
   }
 
-  pub passes : (f : Both Tied names Owns s) (x : Sight) (a : Served) (w : What) → IsNobodys w → Falls (Untold w) f x a → Falls (Told 0 0) f x a
-  passes f x a w nobody g = record {
-    server = g.server;
-    dgram_server = g.dgram_server;
-    settings = g.settings;
-    slots = g.slots;
-    streams = y.tie.passes f.parts.stream x (with_dgrams no_datagram a) w nobody g.streams;
-    waiting = g.waiting;
-    timers = g.timers;
-    places = g.places;
-    apart = g.apart;
-    over = subst (λ w. IsIgnored w a.server.by_dgram) (sym (y.pending w f.parts.stream x (with_dgrams no_datagram a) g.streams).0) (ignored w nobody);
-  }
-    where
-      ignored : (w : What) → IsNobodys w → IsIgnored w a.server.by_dgram
-      ignored (Ask r) i = tt
-      ignored Tick i = tt
-      ignored _ i = absurd i
+  -- an event of nobody is none of the datagrams'
+  nobodys : (w : What) (d : Dgrams) → IsNobodys w → IsIgnored w d
+  nobodys (Ask r) d i = tt
+  nobodys Tick d i = tt
+  nobodys _ d i = absurd i
 
-  pub rests : (f : Both Tied names Owns s) (v : View) (a : Served) (p : ℕ) → IsEarly v → Falls (Told p 0) f (sight v) a → RestsNow a
-  rests f v a p early g =
-      let at = y.clock (Told p 0) f.parts.stream (sight v) (with_dgrams no_datagram a) g.streams in
-      streams_move.rests (with_dgrams no_datagram a) a.server.by_dgram (y.tie.rests f.parts.stream v (with_dgrams no_datagram a) p early g.streams)
-      (subst (λ n. DgramsRest n a.server.by_dgram) (sym at) (slots_are_known.rests f.parts.dgram.tables a.server.by_dgram (sight v) g.slots (λ i due own e. early i due e))) g.over
+  is_over : (phase : Phase) (f : Both Tied names Owns s) (x : Sight) (a : Served) → MayEnd phase → Falls phase f x a → IsIgnored a.pending a.server.by_dgram
+  is_over (Untold w) f x a may g = subst (λ w. IsIgnored w a.server.by_dgram) (sym (y.pending w f.parts.stream x (with_dgrams no_datagram a) g.streams).0) (nobodys w a.server.by_dgram may)
+  is_over (Told p left) f x a may g = g.over
+
+  pub rests : (phase : Phase) (f : Both Tied names Owns s) (v : View) (a : Served) → MayEnd phase → IsEarly v → Falls phase f (sight v) a → RestsNow a
+  rests phase f v a may early g =
+      let at = y.clock phase f.parts.stream (sight v) (with_dgrams no_datagram a) g.streams in
+      streams_move.rests (with_dgrams no_datagram a) a.server.by_dgram (y.tie.rests phase f.parts.stream v (with_dgrams no_datagram a) may early g.streams)
+      (subst (λ n. DgramsRest n a.server.by_dgram) (sym at) (slots_are_known.rests f.parts.dgram.tables a.server.by_dgram (sight v) g.slots (λ i due own e. early i due e))) (is_over phase f (sight v) a may g)

@@ -20,16 +20,16 @@ use Rattle.dgram_ties.specs.AtServer.{with_dgrams, DgramsRest}
 use Rattle.dgram_ties.specs.Halves.{IsByStreams, beside, AreInTime, StreamsMove}
 
 -- nobody is held where nothing was asked of datagrams
-nobody : (d : Dgrams) (k : ℕ) (a : Tryer) → d ≡ no_datagram → d.held k ≡ Some a → ⊥
+pub nobody : (d : Dgrams) (k : ℕ) (a : Tryer) → d ≡ no_datagram → d.held k ≡ Some a → ⊥
 nobody d k a none held = (let z : None ≡ Some a = sym (ap (λ (d : Dgrams). d.held k) none) ∙ held in cc)
 
-no_tries : (s n next : ℕ) (d e : Dgrams) (x : multi.Act) → d ≡ no_datagram → Tries s n next d x e → ⊥
+pub no_tries : (s n next : ℕ) (d e : Dgrams) (x : multi.Act) → d ≡ no_datagram → Tries s n next d x e → ⊥
 no_tries s n next d _ _ none (dgrams.Opens k a held stage few) = nobody d k a none held
 no_tries s n next d _ _ none (dgrams.Retries k a p id t held stage late few) = nobody d k a none held
 no_tries s n next d _ _ none (dgrams.StopsTrying k a p id t held stage late six) = nobody d k a none held
 no_tries s n next d _ _ none (dgrams.Ends k a x held stage) = nobody d k a none held
 
-no_meets : (n : ℕ) (d e : Dgrams) (w : What) (x : multi.Act) → d ≡ no_datagram → Meets n d w x e → ⊥
+pub no_meets : (n : ℕ) (d e : Dgrams) (w : What) (x : multi.Act) → d ≡ no_datagram → Meets n d w x e → ⊥
 no_meets n d _ _ _ none (dgrams.IsSent k a p id o at held stage carries) = nobody d k a none held
 no_meets n d _ _ _ none (dgrams.CannotBeSent k a p e at held stage bad) = nobody d k a none held
 no_meets n d _ _ _ none (dgrams.DoesNotOpen k a p f at held stage) = nobody d k a none held
@@ -61,6 +61,13 @@ chain c b s d _ _ _ none ignored early (Goes place u a e act rest) =
     let m = moves s place u d a none ignored early act in
     let g = chain c b s d a.place a.state e m.alone m.ignored (subst (λ n. AreInTime n d) (sym m.clock) early) rest in
     (g.0, Goes place (with_dgrams d u) (beside d a) (beside d e) m.act g.1)
+
+-- an event that is nothing to the datagrams stays so
+pub still_ignored : (b : Conf) (s : ℕ) (d : Dgrams) (place : ℕ) (u : Served) (e : Act Served) → IsByStreams u → IsIgnored u.pending d → AreInTime u.clock d → Chain (served b) s place u e → IsIgnored e.state.pending d
+still_ignored b s d _ _ _ none ignored early (Stays place u) = ignored
+still_ignored b s d _ _ _ none ignored early (Goes place u a e act rest) =
+    let m = moves s place u d a none ignored early act in
+    still_ignored b s d a.place a.state e m.alone m.ignored (subst (λ n. AreInTime n d) (sym m.clock) early) rest
 
 handed : (b : Conf) (s place k : ℕ) (r : Request) (u : Served) (d : Dgrams) (a : Tryer) (e : Act Served) → use_at s b.servers ≡ Some ByStreams → IsByStreams u → d.held k ≡ Some a → a.stage ≡ Cut → a.request ≡ r → Starts b s place k r u e → IsByStreams e.state × Acts s place (with_dgrams d u) (beside (forget k d) e)
 handed b s place k r u d a _ used none held cut same (machine.IsHanded how x v is it) = by how x v is it

@@ -18,7 +18,7 @@ use Rattle.client_ties.proofs.Tables.{at_frees, sorted_frees}
 use Rattle.dgram_ties.specs.Waiting.{WaitsBelow, AtDgrams, AtStreams, AreWaiting, number_in, numbers_of, AreGiven, ticket_at, StreamsGive}
 
 -- one naming for another that says the same
-gives_as : (m n left : ℕ → Option ℕ) (ps : List Posted) (xs : List Post) → ((i : ℕ) → m i ≡ n i) → Gives m ps xs left → Gives n ps xs left
+pub gives_as : (m n left : ℕ → Option ℕ) (ps : List Posted) (xs : List Post) → ((i : ℕ) → m i ≡ n i) → Gives m ps xs left → Gives n ps xs left
 gives_as m n left [] [] same g = λ t. g t ∙ same t
 gives_as m n left [] (x ∷ xs) same g = absurd g
 gives_as m n left (p ∷ ps) [] same g = absurd g
@@ -32,7 +32,7 @@ gives_as m n left (p ∷ ps) (x ∷ xs) same g = (sym (same p.ticket) ∙ g.0, g
 
 module _ {Q : Type 0} (ticket_of : Q → ℕ) (s : Tables Request dgram.Asked Q) (d : Dgrams) (by_dgram by_stream : ℕ → Option ℕ) (ticket : ℕ) (f : AreWaiting ticket_of s d by_dgram by_stream ticket) where
   -- without the job of ticket t, which has this ticket below
-  abbrev without : (t lower : ℕ) → Tables Request dgram.Asked Q
+  abbrev pub without : (t lower : ℕ) → Tables Request dgram.Asked Q
   without t lower = record { jobs = frees t s.jobs; tickets = frees lower s.tickets }
 
   was_job : (t u : ℕ) (job : Job Request dgram.Asked Q) → entry_at u (frees t s.jobs) ≡ Some job → (t ≡ u → ⊥) × (entry_at u s.jobs ≡ Some job)
@@ -71,7 +71,7 @@ module _ {Q : Type 0} (ticket_of : Q → ℕ) (s : Tables Request dgram.Asked Q)
       tickets_order = sorted_frees lower 0 ticket s.tickets f.tickets_order;
     }
 
-    numbers_less : (u : ℕ) → numbers_of (without t lower) left u ≡ with_at t None (numbers_of s by_stream) u
+    pub numbers_less : (u : ℕ) → numbers_of (without t lower) left u ≡ with_at t None (numbers_of s by_stream) u
     numbers_less u = elim (cases_eq t u) [
       | inl e ↦ subst (λ u. numbers_of (without t lower) left u ≡ with_at t None (numbers_of s by_stream) u) e (ap (λ o. option_and_then (number_in left) o) (at_frees t t 0 ticket s.jobs f.jobs_order ∙ with_here t None (λ u. entry_at u s.jobs)) ∙ sym (with_here t None (numbers_of s by_stream)))
       | inr ne ↦ ap (λ o. option_and_then (number_in left) o) (still_job t u ne) ∙ (go (entry_at u s.jobs) refl ne ∙ sym (with_there t None (numbers_of s by_stream) u ne))
@@ -85,7 +85,7 @@ module _ {Q : Type 0} (ticket_of : Q → ℕ) (s : Tables Request dgram.Asked Q)
         go None e ne = refl
         go (Some job) e ne = one job (unlike u job ne e)
 
-    numbered : numbers_of s by_stream t ≡ Some k
+    pub numbered : numbers_of s by_stream t ≡ Some k
     numbered = ap (λ o. option_and_then (number_in by_stream) o) is ∙ named
 
     -- it is found by its ticket below

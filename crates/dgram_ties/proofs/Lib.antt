@@ -22,3 +22,15 @@ pub mod Handing
 pub mod Staying
 pub mod Admitting
 pub mod Falling
+pub mod Sitting
+pub mod Settling
+pub mod Wholes
+pub mod BesideStreams
+pub mod BesideDgrams
+pub mod GivingUp
+pub mod TakingFrames
+pub mod HandingIn
+pub mod Timing
+pub mod Told
+pub mod GoingOnByStream
+pub mod FallbackTied

@@ -30,7 +30,7 @@ changed d k b c held same j a e = elim (is_or_was k (Some c) d.held j a e) [
 gone : (d : Dgrams) (k : ℕ) → AsksTheSame d (forget k d)
 gone d k j a e = (a, (was_there k d.held j a e).1, refl)
 
-asks_then : (d e f : Dgrams) → AsksTheSame d e → AsksTheSame e f → AsksTheSame d f
+pub asks_then : (d e f : Dgrams) → AsksTheSame d e → AsksTheSame e f → AsksTheSame d f
 asks_then d e f a b k x is = (let y = b k x is in let z = a k y.0 y.1 in (z.0, z.1, z.2 ∙ y.2))
 
 tries : (s n place : ℕ) (d e : Dgrams) (x : multi.Act) → Tries s n place d x e → AsksTheSame d e

@@ -74,6 +74,7 @@ module _ (server : ℕ) (s : Tables Request) (d : Dgrams) (v : View) (r : Reques
       after = record { fair = record { order = fair.order; words = fair.words }; now = refl; request = refl; more = refl; timer = le_refl v.timers.next; ticket = over v.ticket; place = le_refl v.place; later = λ i due e. inl e };
       apart = record { owned = λ i o. inl o; others = λ i due none e. e; places = λ p k e. inl (k, e) };
     };
+    drawn = next v.ticket;
     posts = record { board = []; put = sym (append-nil v.board); gives = names_more v.ticket job s.jobs };
   }
 
@@ -98,6 +99,7 @@ module _ (server : ℕ) (s : Tables Request) (d : Dgrams) (v : View) (r : Reques
           after = record { fair = record { order = fair.order; words = fair.words }; now = refl; request = refl; more = refl; timer = le_refl v.timers.next; ticket = over v.ticket; place = over v.place; later = λ i due e. inl e };
           apart = record { owned = λ i o. inl o; others = λ i due none e. e; places = λ q i e. elim (is_or_was p (Some k) d.at q i e) [ inl x ↦ inr (subst (λ q. p ≤ q) x.0 (le_refl p)) | inr x ↦ inl (i, x.1) ] };
         };
+        drawn = next v.ticket;
         posts = record { board = []; put = sym (append-nil v.board); gives = names_more v.ticket (record job { stage = at.Opening p }) s.jobs };
       }
 

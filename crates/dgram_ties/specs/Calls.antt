@@ -79,6 +79,7 @@ pub record HasTaken (server : ℕ) (r : Request) (s : Tables Request) (d : Dgram
   pub made : Act Dgrams
   pub steps : Steps server v.now v.place (with_request v.request r d) made
   pub leaves : Leaves s d v made t w
+  pub drawn : v.ticket < w.ticket
   pub posts : Posts (with_at v.ticket (Some v.request) (names_of s)) v made t w
 
 -- A request is let go: it waits, or has a place, which is closed.

@@ -1,7 +1,9 @@
 -- A fallback over datagrams and streams that are tied, as a part of a client.
-use Rattle.std.specs.Prelude.{◌≡◌, ℕ, ◌<◌, ◌⊎◌, true, false, is_some, Option, Some}
+use Rattle.std.specs.Prelude.{◌≡◌, ℕ, ◌<◌, ◌⊎◌, true, false, is_some, [], Option, Some}
+use Rattle.client_request.specs.Carries.{IsOfOctets}
 use Rattle.client_request.specs.Request.{Request}
-use Rattle.client_request.specs.View.{View, Transport, told, due_timer}
+use Rattle.client_request.specs.View.{View, Transport, told, due_timer, asks}
+use Rattle.client_request.specs.declared.event.Out.TheVariants.{Start}
 use Rattle.client_request.specs.declared.event.Via.TheVariants.{Stream}
 use Rattle.client_request.specs.declared.event.What.{What}
 use Rattle.client_dgram.specs.Plain as dgram
@@ -11,10 +13,10 @@ use Rattle.client_multi.specs.Fallback.{Fallback}
 use Rattle.headline.specs.Orderly.{use_at}
 use Rattle.headline.specs.Trace.{Conf, ByStreams}
 use Rattle.headline.specs.machine.Dgrams.{no_datagram, IsIgnored}
-use Rattle.headline.specs.machine.Served.{Served, served, has_taken_it}
+use Rattle.headline.specs.machine.Served.{Served, served, holds, has_taken_it}
 use Rattle.headline.specs.machine.Streams.{IsForeign}
-use Rattle.client_ties.specs.PartTie.{Phase, Untold, Told, IsTie}
-use Rattle.client_ties.specs.Sights.{Sight, sight}
+use Rattle.client_ties.specs.PartTie.{Phase, Untold, Told, Leads, IsTie}
+use Rattle.client_ties.specs.Sights.{Sight, sight, IsFair}
 use Rattle.dgram_ties.specs.AtServer.{with_dgrams}
 use Rattle.dgram_ties.specs.Calls as dgrams
 use Rattle.dgram_ties.specs.Halves.{IsByStreams}
@@ -27,12 +29,14 @@ pub record AreStreams (b : Conf) (s : ℕ) {S : Type 0} (t : Transport Request S
   pub tie : IsTie (served b) s Stream t ticket_at first Tied names Owns
   pub alone : (phase : Phase) (u : S) (x : Sight) (a : Served) → Tied phase u x a → IsByStreams a
   pub clock : (phase : Phase) (u : S) (x : Sight) (a : Served) → Tied phase u x a → a.clock ≡ x.now
-  pub pending : (w : What) (u : S) (x : Sight) (a : Served) → Tied (Untold w) u x a → (a.pending ≡ w) × (a.taken ≡ false)
+  pub pending : (w : What) (u : S) (x : Sight) (a : Served) → Tied (Untold w) u x a → (a.pending ≡ w) × (a.taken ≡ false) × (a.frames ≡ [])
   pub opening : (phase : Phase) (u : S) (x : Sight) (a : Served) (p : ℕ) → Tied phase u x a → a.server.by_stream.opening ≡ Some p → p < x.place
   -- an event of another place, and a timer of another
   pub foreign : (w : What) (u : S) (v : View) (a : Served) → Tied (Untold w) u (sight v) a → IsForeign w a.server.by_stream → t.step (told w) u v ≡ Some (u, v)
   pub taken : (w : What) (u : S) (x : Sight) (a : Served) → Tied (Untold w) u x a → IsForeign w a.server.by_stream → Tied (Told 0 0) u x (has_taken_it a.server a)
   pub others : (phase : Phase) (u : S) (x : Sight) (v : View) (a : Served) (i : ℕ) → Tied phase u x a → (Owns u i → ⊥) → t.step (due_timer i) u v ≡ Some (u, v)
+  -- where a request is taken on, a ticket is drawn, and no frame is told of
+  pub drawn : (u : S) (v : View) (a : Served) (w : What) (r : Request) → Tied (Untold w) u (sight v) a → IsFair v → IsOfOctets r → holds a v.request ≡ false → Leads (λ x y. (v.ticket < y.ticket) × (y.more ≡ v.more)) (t.send r u (asks (Start v.request s Stream) v))
 
 -- once it was told, the event is nothing to the datagrams any more
 abbrev pub IsOver : Phase → Served → Type 0
