@@ -12,5 +12,6 @@ pub mod Serverless
 pub mod Idling
 pub mod Fitting
 pub mod Silence
-pub mod Traces
 pub mod StreamsBelow
+pub mod Datagrams
+pub mod Traces

@@ -37,6 +37,7 @@ use Rattle.multi_ties.specs.Servers.{Server, desk_of, names_at, nothing_under_wa
 use Rattle.multi_ties.specs.Tied.{Streams, by_streams, frames_at, IsStream, TiedAs, names_of, owns}
 use Rattle.multi_ties.proofs.Fields.{stream_of, frames_none}
 use Rattle.multi_ties.proofs.StreamsTied.{streams_are_tied}
+use Rattle.multi_ties.proofs.Tying.{draws_one}
 
 -- A table in order is the same once an entry is taken out and put back
 module _ {A : Type 0} where
@@ -271,4 +272,5 @@ reconnection_is_streams b s used = record {
   foreign = λ w u v a t f. passes_by s u (sight v) a t.stream w v f;
   taken = λ w u x a t f. taken_beside s w u x a t;
   others = λ phase u x v a i t free. others_fire s u x a (stream_of s phase u x a t) v i free;
+  drawn = λ u v a w r t fair octets free. draws_one b s used u v a w r t fair octets free;
 }

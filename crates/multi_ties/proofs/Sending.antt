@@ -49,6 +49,8 @@ pub record Sent (server : ℕ) (frames : ℕ → List Octets) (r : Request) (d :
   pub board : w.board ≡ v.board
   pub stands : Stands nothing_under_way (desk_of t) t made.state frames w
   pub on : GoesOn v w
+  pub drawn : v.ticket < w.ticket
+  pub more : w.more ≡ v.more
   pub owned : (i : ℕ) → Owns (desk_of t) i → Owns d i ⊎ (v.timers.next ≤ i)
   pub others : (i due : ℕ) → (Owns d i → ⊥) → dues v i ≡ Some due → dues w i ≡ Some due
   pub named : (u : ℕ) → numbers (desk_of t) u ≡ with_at v.ticket (Some v.request) (numbers d) u
@@ -207,6 +209,8 @@ module _ (server : ℕ) (frames : ℕ → List Octets) (s : Server) (m : Multi) 
     board = b.board;
     stands = b.stands;
     on = goes_then v w1 w on1 b.on;
+    drawn = past v.ticket w.ticket b.on.ticket;
+    more = b.more;
     owned = λ i o. elim (b.owned i o) [
       | inl q ↦ owns i q
       | inr le ↦ inr (le_trans (up i0) le)
@@ -216,6 +220,9 @@ module _ (server : ℕ) (frames : ℕ → List Octets) (s : Server) (m : Multi) 
     quiet = b.quiet;
   }
     where
+      past : (n k : ℕ) → n + 1 ≤ k → n < k
+      past n k le = omega arith
+
       owns : (i : ℕ) → Owns e i → Owns d i ⊎ (i0 ≤ i)
       owns i (inl o) = elim (old_timer i o.0 o.1) [ inl b ↦ inr (at_most i0 i b.0) | inr b ↦ inl (inl (o.0, b)) ]
         where

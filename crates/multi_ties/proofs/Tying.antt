@@ -156,10 +156,18 @@ module _ (c : Conf) (s : ℕ) where
       others = g.others;
     }
 
-    pub takes_on_one : Leads L (by_streams.send r u (asks (Start v.request s Stream) v))
-    takes_on_one = leads_whole (Sent s (frames_at a.place a.frames) r sd sm v) L u (takes (one_stream for_one) u.server u.settings u.shut r u.tables (asks (Start v.request s Stream) v))
+    -- what follows of a request that was taken on
+    sent_so : (Q : Streams → View → Type 0) → ((x : Server) (y : View) → Sent s (frames_at a.place a.frames) r sd sm v x y → Q (record u { tables = x }) y) → Leads Q (by_streams.send r u (asks (Start v.request s Stream) v))
+    sent_so Q f = leads_whole (Sent s (frames_at a.place a.frames) r sd sm v) Q u (takes (one_stream for_one) u.server u.settings u.shut r u.tables (asks (Start v.request s Stream) v))
         (subst (λ n. Leads (Sent s (frames_at a.place a.frames) r sd sm v) (takes (one_stream for_one) n u.settings u.shut r u.tables (asks (Start v.request s Stream) v))) (sym t.stream.server)
         (subst (λ (set : Settings). Leads (Sent s (frames_at a.place a.frames) r sd sm v) (takes (one_stream for_one) s set u.shut r u.tables (asks (Start v.request s Stream) v))) (sym t.stream.settings)
         (subst (λ b. Leads (Sent s (frames_at a.place a.frames) r sd sm v) (takes (one_stream for_one) s default_settings b r u.tables (asks (Start v.request s Stream) v))) (sym t.stream.takes)
         (sends_so s (frames_at a.place a.frames) u.tables sm v (stands_of s u v a t.stream fair) t.quiet r octets no_ask))))
-        sent_leaves
+        f
+
+    pub takes_on_one : Leads L (by_streams.send r u (asks (Start v.request s Stream) v))
+    takes_on_one = sent_so L sent_leaves
+
+    -- a ticket was drawn, and no frame is told of
+    pub draws_one : Leads (λ x y. (v.ticket < y.ticket) × (y.more ≡ v.more)) (by_streams.send r u (asks (Start v.request s Stream) v))
+    draws_one = sent_so (λ x y. (v.ticket < y.ticket) × (y.more ≡ v.more)) (λ x y g. (g.drawn, g.more))
