@@ -26,7 +26,7 @@ use Rattle.client_ties.proofs.Keys.{was_there}
 use Rattle.dgram_ties.specs.AtServer.{with_dgrams, at_server}
 use Rattle.dgram_ties.specs.Calls as calls
 use Rattle.dgram_ties.specs.Calls.{HasDropped}
-use Rattle.dgram_ties.specs.Halves.{IsByStreams, beside}
+use Rattle.dgram_ties.specs.Halves.{beside}
 use Rattle.dgram_ties.specs.Slots.{names_of}
 use Rattle.dgram_ties.specs.Steps.{Steps}
 use Rattle.dgram_ties.specs.Waiting.{WaitsBelow, AtDgrams, AtStreams, AreWaiting, number_in, numbers_of, ticket_at}
@@ -191,11 +191,11 @@ module _ (b c : Conf) (s : ℕ) {S : Type 0} (t : Transport Request S stream.Ask
           (subst (λ n. Leads (Leaves (served b) Tied names Owns May (with_at n None (names f.parts.stream)) f.parts.stream (onto [] v) (Untold w)) (t.cancel z f.parts.stream (onto [] v))) at
           (y.tie.cancels f.parts.stream (onto [] v) alone w z k g.streams fair_on (subst (λ n. names f.parts.stream n ≡ Some k) (sym at) below)))
           (λ u x l.
-            let untaken = (y.pending w u (sight x) l.made.state l.tied).1 in
-            let none = y.alone (Untold w) u (sight x) l.made.state l.tied in
-            let did = stream_done l.made l.may.0 untaken in
-            streams_leave b c s t first Tied names Owns y fewer v d fair g.server g.dgram_server g.settings g.slots left v.ticket waits g.timers apart May (Untold w) u x l l.goes_on.ticket (Untold w) l.made.state
-            (subst (Tied (Untold w) u (sight x)) (ap (λ (e : Dgrams). with_dgrams e l.made.state) none) l.tied) did.new tt Done (did.begun, l.may.1)))
+          let untaken = (y.pending w u (sight x) l.made.state l.tied).1 in
+          let none = y.alone (Untold w) u (sight x) l.made.state l.tied in
+          let did = stream_done l.made l.may.0 untaken in
+          streams_leave b c s t first Tied names Owns y fewer v d fair g.server g.dgram_server g.settings g.slots left v.ticket waits g.timers apart May (Untold w) u x l l.goes_on.ticket (Untold w) l.made.state
+          (subst (Tied (Untold w) u (sight x)) (ap (λ (e : Dgrams). with_dgrams e l.made.state) none) l.tied) did.new tt Done (did.begun, l.may.1)))
 
     pub gives_up_one : Goal (with_parts f (fallback.drops f.server (dgram.transport for_one) t i f.parts v))
     gives_up_one = go (entry_at i f.parts.tables.jobs) refl named

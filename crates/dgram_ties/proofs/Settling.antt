@@ -53,9 +53,9 @@ module _ (server : ℕ) {S : Type 0} (t : Transport Request S stream.Asked) wher
         let fewer : Tables Request dgram.Asked stream.Asked = record { jobs = frees u p.tables.jobs; tickets = frees q.ticket p.tables.tickets } in
         let first : Posted = record { ticket = u; part = q.part } in
         let one : settles server t q p board v ≡ Some ((with_tables fewer p, board), answers u q.part v) =
-            ap (λ o. settles_at server t q.part (with_tables (without_at o (record p.tables { tickets = frees q.ticket p.tables.tickets })) p) board v (waiting_at p.tables o)) (f.below u _ h.3)
-            ∙ (ap (λ o. settles_at server t q.part (with_tables fewer p) board v (option_map (λ job. (u, job)) o)) h.3
-            ∙ ap (λ b. settles_whole server t u x.request r q.part (with_tables fewer p) board v b) (ap is_truncated g.1 ∙ whole.0)) in
+        ap (λ o. settles_at server t q.part (with_tables (without_at o (record p.tables { tickets = frees q.ticket p.tables.tickets })) p) board v (waiting_at p.tables o)) (f.below u _ h.3)
+        ∙ (ap (λ o. settles_at server t q.part (with_tables fewer p) board v (option_map (λ job. (u, job)) o)) h.3
+        ∙ ap (λ b. settles_whole server t u x.request r q.part (with_tables fewer p) board v b) (ap is_truncated g.1 ∙ whole.0)) in
         let rest = settled_so qs xs (with_tables fewer p) (answers u q.part v) (with_at q.ticket None by_dgram) (less_waiting p.tables d by_dgram by_stream ticket f u q.ticket x.request r z h.3) g.2 whole.1 in
         record {
           tables = rest.tables;
