@@ -1,5 +1,5 @@
 -- What a call of the streams leaves is settled, beside datagrams that stay as they are.
-use Rattle.std.proofs.Common.{◌≡◌, ℕ, ◌<◌, ◌≤◌, ◌⊎◌, inl, inr, true, is_some, List, [], ◌∷◌, Option, Some, None, refl, sym, ap, subst, ◌∙◌}
+use Rattle.std.proofs.Common.{◌≡◌, ℕ, ◌≤◌, inl, inr, true, is_some, List, [], ◌∷◌, Option, Some, None, sym, subst, ◌∙◌}
 use Rattle.std.specs.Prelude.{option_and_then}
 use Rattle.client_request.specs.Request.{Request}
 use Rattle.client_request.specs.Requests.{for_one}
@@ -16,7 +16,7 @@ use Rattle.headline.specs.machine.Streams.{with_at}
 use Rattle.headline.specs.machine.Dgrams.{Dgrams, no_datagram}
 use Rattle.headline.specs.machine.Served.{Served, served}
 use Rattle.client_ties.specs.Chains.{Gives}
-use Rattle.client_ties.specs.PartTie.{Phase, Leads, GoesOn, Leaves}
+use Rattle.client_ties.specs.PartTie.{Phase, Leads, Leaves}
 use Rattle.client_ties.specs.Sights.{Sight, sight, due_of, IsFair}
 use Rattle.client_ties.proofs.GoingOn.{none_next}
 use Rattle.client_ties.proofs.Keys.{was_there}

@@ -1,6 +1,5 @@
 -- A fallback over streams that are tied is tied to the part of a server by datagrams and streams.
 use Rattle.std.proofs.Common.{◌≡◌, ℕ, false, [], Option, Some, refl, sym, subst}
-use Rattle.std.specs.Prelude.{option_and_then}
 use Rattle.client_request.specs.Request.{Request}
 use Rattle.client_request.specs.Requests.{for_one}
 use Rattle.client_request.specs.View.{View, Transport, told}

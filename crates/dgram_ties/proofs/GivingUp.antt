@@ -26,7 +26,7 @@ use Rattle.client_ties.proofs.Keys.{was_there}
 use Rattle.dgram_ties.specs.AtServer.{with_dgrams, at_server}
 use Rattle.dgram_ties.specs.Calls as calls
 use Rattle.dgram_ties.specs.Calls.{HasDropped}
-use Rattle.dgram_ties.specs.Halves.{IsByStreams, beside}
+use Rattle.dgram_ties.specs.Halves.{beside}
 use Rattle.dgram_ties.specs.Slots.{names_of}
 use Rattle.dgram_ties.specs.Steps.{Steps}
 use Rattle.dgram_ties.specs.Waiting.{WaitsBelow, AtDgrams, AtStreams, AreWaiting, number_in, numbers_of, ticket_at}

@@ -1,6 +1,6 @@
 -- A cut answer came: its request goes on by the streams.
-use Rattle.std.proofs.Common.{◌≡◌, ℕ, ◌+◌, ◌<◌, ◌≤◌, ◌⊎◌, inl, inr, Bool, true, false, is_some, List, [], ◌∷◌, ◌++◌, Option, Some, None, refl, sym, ap, subst, ◌∙◌, arith, le_refl, le_trans, append_assoc}
-use Rattle.std.specs.Prelude.{Ok, option_and_then, option_map, nat_lt}
+use Rattle.std.proofs.Common.{◌≡◌, ℕ, ◌+◌, ◌<◌, ◌≤◌, ◌⊎◌, inl, inr, Bool, true, false, is_some, [], ◌++◌, Option, Some, None, refl, sym, ap, subst, ◌∙◌, arith, le_trans, append_assoc}
+use Rattle.std.specs.Prelude.{Ok, option_and_then, option_map}
 use mathlib.Core.Path.{fun_ext}
 use Rattle.client_request.specs.Carries.{IsOfOctets}
 use Rattle.client_request.specs.Numbered.{frees, entry_at}
@@ -19,38 +19,36 @@ use Rattle.client_multi.specs.Fallback.{Tables, is_truncated, onto, with_tables,
 use Rattle.client_multi.specs.declared.dgram_stream.job.Job.{Job}
 use Rattle.client_multi.specs.declared.dgram_stream.job.Job.TheVariants.{Dgram, Stream}
 use Rattle.headline.specs.Messages.{Octets, truncated}
-use Rattle.headline.specs.Orderly.{use_at}
-use Rattle.headline.specs.Trace.{Use, Conf, ByStreams}
+use Rattle.headline.specs.Trace.{Conf}
 use Rattle.headline.specs.machine.Part.{Act}
 use Rattle.headline.specs.machine.Streams as multi
 use Rattle.headline.specs.machine.Streams.{IsForeign, with_at}
-use Rattle.headline.specs.machine.Server as server
 use Rattle.headline.specs.machine.Dgrams.{Cut, Tryer, Dgrams, no_datagram, staged, leave, forget}
 use Rattle.headline.specs.machine.Served as machine
 use Rattle.headline.specs.machine.Served.{Served, served, holds, has_taken_it, Starts}
-use Rattle.client_ties.specs.Chains.{Chain, Stays, Goes, Begins, Calls, then_act, Gives}
-use Rattle.client_ties.specs.PartTie.{Phase, Untold, Told, Leads, GoesOn, Leaves, Tells, MayLeave}
+use Rattle.client_ties.specs.Chains.{Chain, Goes, Begins, Calls, then_act, Gives}
+use Rattle.client_ties.specs.PartTie.{Phase, Untold, Told, Leads, GoesOn, Leaves}
 use Rattle.client_ties.specs.Sights.{Sight, sight, due_of, IsFair, IsEarly}
 use Rattle.client_ties.proofs.GoingOn.{goes_then, none_next}
-use Rattle.client_ties.proofs.Keys.{with_here, with_there, was_there, is_or_was, with_again, with_same}
-use Rattle.client_ties.proofs.Tables.{at_frees, absent_above, present_below, sorted_frees, rises_below}
+use Rattle.client_ties.proofs.Keys.{with_here, was_there, is_or_was, with_again, with_same}
+use Rattle.client_ties.proofs.Tables.{at_frees, absent_above, present_below}
 use Rattle.dgram_ties.specs.AtServer.{with_dgrams, taken_by, at_server}
 use Rattle.dgram_ties.specs.Calls as calls
 use Rattle.dgram_ties.specs.Calls.{HasCut}
-use Rattle.dgram_ties.specs.Halves.{IsByStreams, beside}
+use Rattle.dgram_ties.specs.Halves.{beside}
 use Rattle.dgram_ties.specs.Slots.{names_of}
 use Rattle.dgram_ties.specs.Staying.{AsksTheSame}
-use Rattle.dgram_ties.specs.Steps.{made_by, AsItIs, Steps}
+use Rattle.dgram_ties.specs.Steps.{made_by, AsItIs}
 use Rattle.dgram_ties.specs.Waiting.{WaitsBelow, AtDgrams, AtStreams, AreWaiting, number_in, numbers_of, ticket_at}
 use Rattle.dgram_ties.specs.Fallback.{AreStreams, IsFallback, Both, names_in, OwnsEither}
 use Rattle.dgram_ties.proofs.Admitting.{tables_change, less_waiting, less_numbers}
-use Rattle.dgram_ties.proofs.AtServer.{chain_then, servers_move}
+use Rattle.dgram_ties.proofs.AtServer.{chain_then}
 use Rattle.dgram_ties.proofs.BesideDgrams.{timers_now, tied_now, places_now}
 use Rattle.dgram_ties.proofs.BesideStreams.{streams_leave}
 use Rattle.dgram_ties.proofs.Halves.{streams_move}
 use Rattle.dgram_ties.proofs.Handing.{gives_as}
 use Rattle.dgram_ties.proofs.Known.{slots_are_known}
-use Rattle.dgram_ties.proofs.Sitting.{sits, Sitting, sitting}
+use Rattle.dgram_ties.proofs.Sitting.{sits, sitting}
 use Rattle.dgram_ties.proofs.Staying.{asks_then, openings_are_new, requests_stay}
 use Rattle.dgram_ties.proofs.Timing.{settled_alone}
 use Rattle.dgram_ties.proofs.Told.{IsTheirs, theirs, none_more, Tell, takes_it, passed_by}

@@ -1,8 +1,7 @@
 -- A request is handed to a fallback: it goes to the datagrams.
-use Rattle.std.proofs.Common.{◌≡◌, ℕ, suc, ◌+◌, ◌<◌, ◌≤◌, inl, inr, Bool, true, false, ◌||◌, is_some, [], ◌∷◌, ◌++◌, Option, Some, None, refl, sym, ap, subst, ◌∙◌, arith, le_refl, append_assoc}
+use Rattle.std.proofs.Common.{◌≡◌, ℕ, ◌+◌, ◌<◌, ◌≤◌, inl, inr, Bool, true, false, ◌||◌, is_some, [], ◌∷◌, Option, Some, None, refl, sym, ap, subst, ◌∙◌, arith, le_refl, append_assoc}
 use Rattle.std.specs.Prelude.{option_and_then, if◌then◌else◌}
 use Rattle.client_request.specs.Carries.{IsOfOctets}
-use Rattle.client_request.specs.Numbered.{entry_at}
 use Rattle.client_request.specs.Request.{Request}
 use Rattle.client_request.specs.Requests.{for_one}
 use Rattle.client_request.specs.Timers.{can_draw}
@@ -11,16 +10,15 @@ use Rattle.client_request.specs.declared.event.Out.TheVariants.{Start}
 use Rattle.client_request.specs.declared.event.Via.TheVariants as via
 use Rattle.client_request.specs.declared.event.What.{What}
 use Rattle.client_dgram.specs.Plain as dgram
-use Rattle.client_dgram.specs.Settings as dgram_settings
 use Rattle.client_stream.specs.Plain as stream
 use Rattle.client_multi.specs.Fallback as fallback
 use Rattle.client_multi.specs.Fallback.{Tables, onto, with_tables, admits, with_parts, settles_dgram}
 use Rattle.client_multi.specs.declared.dgram_stream.job.Job.{Job}
-use Rattle.client_multi.specs.declared.dgram_stream.job.Job.TheVariants.{Dgram, Stream}
+use Rattle.client_multi.specs.declared.dgram_stream.job.Job.TheVariants.{Dgram}
 use Rattle.headline.specs.Orderly.{use_at}
 use Rattle.headline.specs.Trace.{Conf, ByDatagrams}
 use Rattle.headline.specs.machine.Part.{Act}
-use Rattle.headline.specs.machine.Streams.{Asker, with_at}
+use Rattle.headline.specs.machine.Streams.{with_at}
 use Rattle.headline.specs.machine.Dgrams.{Queued, Ending, Tryer, Dgrams, no_datagram}
 use Rattle.headline.specs.machine.Served.{Served, served, holds, Starts}
 use Rattle.client_ties.specs.Chains.{Chain, Begins, Calls}

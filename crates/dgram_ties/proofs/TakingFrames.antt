@@ -1,6 +1,6 @@
 -- What the streams of a fallback do with frames, with an event that is none of the datagrams', or with a timer of theirs.
-use Rattle.std.proofs.Common.{◌≡◌, ℕ, suc, ◌<◌, ◌≤◌, ◌⊎◌, inl, inr, true, false, is_some, [], Option, Some, None, refl, sym, ap, subst, ◌∙◌, arith}
-use Rattle.std.specs.Prelude.{option_and_then, nat_lt}
+use Rattle.std.proofs.Common.{◌≡◌, ℕ, suc, ◌<◌, ◌≤◌, inl, inr, true, false, is_some, [], Option, Some, refl, sym, ap, subst, arith}
+use Rattle.std.specs.Prelude.{option_and_then}
 use Rattle.client_request.specs.Request.{Request}
 use Rattle.client_request.specs.Requests.{for_one}
 use Rattle.client_request.specs.View.{View, Transport, told, more_at}
@@ -9,17 +9,14 @@ use Rattle.client_dgram.specs.Plain as dgram
 use Rattle.client_stream.specs.Plain as stream
 use Rattle.client_multi.specs.Fallback as fallback
 use Rattle.client_multi.specs.Fallback.{onto, with_parts, settles_stream}
-use Rattle.headline.specs.Time.{read_timeout}
 use Rattle.headline.specs.Trace.{Conf}
-use Rattle.headline.specs.machine.Part.{Act}
 use Rattle.headline.specs.machine.Dgrams.{Dgrams, no_datagram, IsIgnored}
 use Rattle.headline.specs.machine.Served.{Served, served}
 use Rattle.client_ties.specs.Chains.{Chain}
-use Rattle.client_ties.specs.PartTie.{Phase, Untold, Told, Leads, Leaves, Tells, MayLeave}
+use Rattle.client_ties.specs.PartTie.{Phase, Untold, Told, Leads, Tells, MayLeave}
 use Rattle.client_ties.specs.Sights.{Sight, sight, IsFair, IsEarly}
 use Rattle.dgram_ties.specs.AtServer.{with_dgrams}
-use Rattle.dgram_ties.specs.Halves.{IsByStreams, beside, AreInTime}
-use Rattle.dgram_ties.specs.Slots.{names_of}
+use Rattle.dgram_ties.specs.Halves.{beside, AreInTime}
 use Rattle.dgram_ties.specs.Fallback.{AreStreams, IsFallback, Both, names_in, OwnsEither}
 use Rattle.dgram_ties.proofs.BesideStreams.{leads_both, streams_leave}
 use Rattle.dgram_ties.proofs.Halves.{streams_move, still_ignored}

@@ -1,5 +1,5 @@
 -- A timer of a fallback fires: it is the datagrams' or the streams'.
-use Rattle.std.proofs.Common.{◌≡◌, ℕ, ◌<◌, ◌≤◌, inl, inr, true, false, is_some, [], Option, Some, None, refl, sym, ap, subst, ◌∙◌, arith, le_refl}
+use Rattle.std.proofs.Common.{◌≡◌, ℕ, ◌<◌, ◌≤◌, inl, inr, true, is_some, [], Option, Some, None, refl, sym, ap, subst, ◌∙◌, arith, le_refl}
 use Rattle.std.specs.Prelude.{option_and_then}
 use Rattle.client_request.specs.Numbered.{frees, entry_at}
 use Rattle.client_request.specs.Request.{Request}
@@ -12,7 +12,6 @@ use Rattle.client_stream.specs.Plain as stream
 use Rattle.client_multi.specs.Fallback as fallback
 use Rattle.client_multi.specs.Fallback.{onto, with_parts, settles_stream, hears_stream}
 use Rattle.headline.specs.Trace.{Conf}
-use Rattle.headline.specs.machine.Part.{Act}
 use Rattle.headline.specs.machine.Dgrams.{Dgrams, no_datagram}
 use Rattle.headline.specs.machine.Served.{Served, served}
 use Rattle.client_ties.specs.Chains.{Chain}

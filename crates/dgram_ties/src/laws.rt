@@ -55,9 +55,9 @@ pub fn openings_are_new()
     ensures { OpeningsAreNew }
 {}
 
-/// How the tables of a fallback change with those who wait below. The laws of its tie that speak of no call are proved over
-/// any streams that are tied, so no contract can state them: their proofs are named here.
-#[tactic(auto, using(crate::proofs::Admitting::tables_change, crate::proofs::Falling::fresh, crate::proofs::Falling::same, crate::proofs::Falling::set, crate::proofs::Falling::named, crate::proofs::Falling::held, crate::proofs::Falling::begins, crate::proofs::Falling::rests, crate::proofs::Sitting::sitting, crate::proofs::Settling::settled_so, crate::proofs::Wholes::steps_whole, crate::proofs::BesideStreams::streams_leave, crate::proofs::BesideDgrams::dgrams_leave, crate::proofs::GivingUp::gives_up_one, crate::proofs::TakingFrames::takes_one, crate::proofs::TakingFrames::streams_told, crate::proofs::HandingIn::sends_one, crate::proofs::Timing::fires_one, crate::proofs::Told::dgrams_told, crate::proofs::GoingOnByStream::cut_told, crate::proofs::FallbackTied::fallback_is_tied))]
+/// How the tables of a fallback change with those who wait below. The tie of a fallback is proved over any streams that are
+/// tied, so no contract can state it: its proof is named here.
+#[tactic(auto, using(crate::proofs::Admitting::tables_change, crate::proofs::FallbackTied::fallback_is_tied))]
 pub fn tables_change()
     ensures { TablesChange }
 {}
