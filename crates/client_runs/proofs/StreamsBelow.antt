@@ -267,7 +267,7 @@ reconnection_is_streams b s used = record {
   tie = streams_are_tied b s used;
   alone = λ phase u x a t. (stream_of s phase u x a t).dgram;
   clock = λ phase u x a t. (stream_of s phase u x a t).clock;
-  pending = λ w u x a t. (t.pending, t.taken);
+  pending = λ w u x a t. (t.pending, t.taken, t.frames);
   opening = λ phase u x a p t e. (let st = stream_of s phase u x a t in (st.order.opening p (st.ties.tables.opening ∙ e)).0);
   foreign = λ w u v a t f. passes_by s u (sight v) a t.stream w v f;
   taken = λ w u x a t f. taken_beside s w u x a t;
