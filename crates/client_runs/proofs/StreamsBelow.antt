@@ -224,8 +224,8 @@ module _ (s : ℕ) (u : Streams) (x : Sight) (a : Served) (st : IsStream s u x a
       by (Some l) e = rests_so p l e (more_at p) v (not_read p l e (lent v) none)
 
 -- the event was the other half's
-taken_beside : (s : ℕ) (w : What) (u : Streams) (x : Sight) (a : Served) → TiedAs s (Untold w) u x a → TiedAs s (Told 0 0) u x (has_taken_it a.server a)
-taken_beside s w u x a t = record {
+taken_beside : (s : ℕ) (w : What) (u : Streams) (x : Sight) (a : Served) → ((i due : ℕ) → owns u i → x.dues i ≡ Some due → x.now < due) → TiedAs s (Untold w) u x a → TiedAs s (Told 0 0) u x (has_taken_it a.server a)
+taken_beside s w u x a early t = record {
   stream = record {
     server = t.stream.server;
     settings = t.stream.settings;
@@ -238,7 +238,7 @@ taken_beside s w u x a t = record {
   count = refl;
   at = inl refl;
   row = inl refl;
-  told = inl (tt, t.quiet);
+  told = (early, tt);
 }
 
 -- A place reads nothing where all frames are taken, or those that are left stand at another.
@@ -270,7 +270,7 @@ reconnection_is_streams b s used = record {
   pending = λ w u x a t. (t.pending, t.taken, t.frames);
   opening = λ phase u x a p t e. (let st = stream_of s phase u x a t in (st.order.opening p (st.ties.tables.opening ∙ e)).0);
   foreign = λ w u v a t f. passes_by s u (sight v) a t.stream w v f;
-  taken = λ w u x a t f. taken_beside s w u x a t;
+  taken = λ w u x a early t f. taken_beside s w u x a early t;
   others = λ phase u x v a i t free. others_fire s u x a (stream_of s phase u x a t) v i free;
   drawn = λ u v a w r t fair octets free. draws_one b s used u v a w r t fair octets free;
 }

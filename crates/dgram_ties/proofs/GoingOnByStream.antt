@@ -294,10 +294,17 @@ module _ (b c : Conf) (s : ℕ) {S : Type 0} (t : Transport Request S stream.Ask
       foreign : IsForeign w m.server.by_stream
       foreign = (theirs v.now d left w (multi.Puts (Close h.at)) m.server.by_stream new_before h.meets).foreign
 
+      -- none of the streams' timers is due
+      early_now : (i due : ℕ) → Owns n i → due_of i x.timers.set ≡ Some due → x.now < due
+      early_now i due own e = subst (λ n. n < due) (sym (l.goes_on.now ∙ h.leaves.after.now)) (elim (l.goes_on.later i due e) [
+        | inl was ↦ elim (h.leaves.after.later i due was) [ inl old ↦ early i due old | inr late ↦ late ]
+        | inr late ↦ subst (λ n. n < due) h.leaves.after.now late
+      ])
+
       tied : Tied (Told 0 0) n (sight x) (with_dgrams no_datagram after)
       tied = subst (Tied (Told 0 0) n (sight x))
           (ap (λ (z : Served). has_taken_it m.server z) did.same ∙ ap (λ (e : Dgrams). record taken { server = record { by_dgram = e; by_stream = m.server.by_stream } }) (y.alone (Untold w) n (sight x) m l.tied))
-          (y.taken w n (sight x) m l.tied foreign)
+          (y.taken w n (sight x) m early_now l.tied foreign)
 
       chain : Chain (served c) s v.place a (then_act pre (record l.made { state = after }))
       chain = chain_then c s v.place a pre (record l.made { state = after }) chain_first (subst (λ p. Chain (served c) s p mid (record l.made { state = after })) h.leaves.place did.chain)

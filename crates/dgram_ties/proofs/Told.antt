@@ -80,7 +80,7 @@ module _ (b c : Conf) (s : ℕ) {S : Type 0} (t : Transport Request S stream.Ask
 
     -- no request is at a timeout
     pub in_time : IsForeign w a.server.by_stream → IsInTime a.clock a.server
-    in_time foreign = (let r : RestsNow (has_taken_it alone.server alone) = y.tie.rests (Told 0 0) f.parts.stream v (has_taken_it alone.server alone) refl early (y.taken w f.parts.stream (sight v) alone g.streams foreign) in record { sent = reading; asked = r.rests.silent })
+    in_time foreign = (let r : RestsNow (has_taken_it alone.server alone) = y.tie.rests (Told 0 0) f.parts.stream v (has_taken_it alone.server alone) refl early (y.taken w f.parts.stream (sight v) alone (λ i due own e. early i due e) g.streams foreign) in record { sent = reading; asked = r.rests.silent })
 
     -- the datagrams take the event
     pub takes_it : (x : multi.Act) (e : Dgrams) (one : Act Dgrams) → Meets v.now d w x e → IsForeign w a.server.by_stream → AtOnce v.place x e one → (more : Act Dgrams) → Steps s v.now one.place one.state more → Chain (served c) s v.place a (then_act (at_server a taken_by one) (at_server (taken_by one.state a) with_dgrams more))
@@ -114,5 +114,5 @@ module _ (b c : Conf) (s : ℕ) {S : Type 0} (t : Transport Request S stream.Ask
           let w2 = at_once_whole v.place x e one w1.0 w1.1 at in
           passed_by z q (then_act one more) l asks it_is.foreign Tell
           (leads_told _ (settled_alone b c s t first Tied names Owns y f v z q) (λ u x k. k)
-          (dgrams_leave b c s t first Tied names Owns y f v d d fair g.server g.dgram_server g.settings (then_act one more) z q l g.timers asks (Untold w) (Told 0 0) taken (y.taken w f.parts.stream (sight v) alone g.streams it_is.foreign) g.places g.apart
+          (dgrams_leave b c s t first Tied names Owns y f v d d fair g.server g.dgram_server g.settings (then_act one more) z q l g.timers asks (Untold w) (Told 0 0) taken (y.taken w f.parts.stream (sight v) alone (λ i due own e. early i due e) g.streams it_is.foreign) g.places g.apart
           v.ticket (names_of tables) g.waiting l.after.ticket posts (all_then one.posts more.posts w2.1 (steps_whole s v.now one.place one.state more w2.0 steps)) tt (Chain (served c) s v.place a) (takes_it x e one meets it_is.foreign at more steps)))

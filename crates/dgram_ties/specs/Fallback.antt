@@ -33,7 +33,7 @@ pub record AreStreams (b : Conf) (s : ℕ) {S : Type 0} (t : Transport Request S
   pub opening : (phase : Phase) (u : S) (x : Sight) (a : Served) (p : ℕ) → Tied phase u x a → a.server.by_stream.opening ≡ Some p → p < x.place
   -- an event of another place, and a timer of another
   pub foreign : (w : What) (u : S) (v : View) (a : Served) → Tied (Untold w) u (sight v) a → IsForeign w a.server.by_stream → t.step (told w) u v ≡ Some (u, v)
-  pub taken : (w : What) (u : S) (x : Sight) (a : Served) → Tied (Untold w) u x a → IsForeign w a.server.by_stream → Tied (Told 0 0) u x (has_taken_it a.server a)
+  pub taken : (w : What) (u : S) (x : Sight) (a : Served) → ((i due : ℕ) → Owns u i → x.dues i ≡ Some due → x.now < due) → Tied (Untold w) u x a → IsForeign w a.server.by_stream → Tied (Told 0 0) u x (has_taken_it a.server a)
   pub others : (phase : Phase) (u : S) (x : Sight) (v : View) (a : Served) (i : ℕ) → Tied phase u x a → (Owns u i → ⊥) → t.step (due_timer i) u v ≡ Some (u, v)
   -- where a request is taken on, a ticket is drawn, and no frame is told of
   pub drawn : (u : S) (v : View) (a : Served) (w : What) (r : Request) → Tied (Untold w) u (sight v) a → IsFair v → IsOfOctets r → holds a v.request ≡ false → Leads (λ x y. (v.ticket < y.ticket) × (y.more ≡ v.more)) (t.send r u (asks (Start v.request s Stream) v))
