@@ -238,7 +238,7 @@ taken_beside s w u x a early t = record {
   count = refl;
   at = inl refl;
   row = inl refl;
-  told = (early, tt);
+  told = (early, λ p e. absurd (let z : false ≡ true = e in cc));
 }
 
 -- A place reads nothing where all frames are taken, or those that are left stand at another.
