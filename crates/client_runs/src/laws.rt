@@ -18,7 +18,6 @@ pub fn plain_traces_are_runs()
 
 /// The headline: each reply is a message that came for its request on an exchange open for it, or an error
 /// with its cause; who waits is busy; what comes and matches is the reply at once.
-#[tactic(auto, using(crate::proofs::Traces::every_plain_trace_is_right))]
 pub fn every_plain_trace_is_right()
     ensures { EveryPlainTraceIsRight }
 {}
