@@ -4,10 +4,11 @@ use Rattle.std.specs.Prelude.{IfSome}
 use Rattle.client_request.specs.declared.error.Error.{Error}
 use Rattle.dns_values.specs.Sink.{with_octets}
 use Rattle.dns_values.specs.declared.numbers.Status.{Status}
-use Rattle.dnsq_run.specs.Program.{IsBegun, IsRefused, IsSaid, RefusalIsSaid, numbers_line}
+use Rattle.dnsq_run.specs.Program.{Configures, EndsByLine, IsBegun, IsRefused, IsSaid, RefusalIsSaid, numbers_line}
 use Rattle.dnsq_run.specs.Query.{EndsSo, IsAsked, IsDue, StopsAsking, World, answer_line, is_answer, is_message, is_refusal, stops}
 use Rattle.dnsq_run.specs.declared.query_words.Query.{Query}
 use Rattle.dnsq_run.specs.declared.usage.Command.TheVariants.{Conf}
+use Rattle.resolv_conf.specs.declared.conf.ResolvConf.{ResolvConf}
 
 -- the statuses of an answer that is written
 abbrev pub Written : ℕ → Type 0
@@ -18,6 +19,18 @@ not_written n (inl e) = (λ h. omega arith, λ h. omega arith, λ h. omega arith
 not_written n (inr (inl e)) = (λ h. omega arith, λ h. omega arith, λ h. omega arith)
 not_written n (inr (inr (inl e))) = (λ h. omega arith, λ h. omega arith, λ h. omega arith)
 not_written n (inr (inr (inr e))) = (λ h. omega arith, λ h. omega arith, λ h. omega arith)
+
+-- of the statuses at which a line tells why nothing else is written, an answer that is written has that of no message alone
+pub by_reply : {P : Type 0} (n : ℕ) → Written n → (n ≡ 5 → P) → EndsByLine n → P
+by_reply n w f (inl e) = absurd ((not_written n w).0 e)
+by_reply n w f (inr (inl e)) = absurd ((not_written n w).1 e)
+by_reply n w f (inr (inr (inl e))) = f e
+by_reply n w f (inr (inr (inr e))) = absurd ((not_written n w).2 e)
+
+-- what is said of the configuration of a source that was read to its end
+pub configured : (told left : Option (List ℕ)) (conf : ResolvConf) → IfSome told (λ text. Configures text conf × (left ≡ Some [])) → IfSome told (λ text. Configures text conf)
+configured None left conf h = tt
+configured (Some text) left conf h = h.0
 
 told_to : (told : Option (List ℕ)) (P Q : List ℕ → Type 0) → ((text : List ℕ) → P text → Q text) → IfSome told P → IfSome told Q
 told_to None P Q f h = h
