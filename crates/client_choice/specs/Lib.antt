@@ -1,0 +1,4 @@
+pub mod Choice
+pub mod Roots
+pub mod Servers
+pub mod Stats

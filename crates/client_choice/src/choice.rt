@@ -1,0 +1,167 @@
+//! The requests of a choice: which server is started when, and whose result is given.
+
+ghost use Rattle.std.specs.Prelude.{◌≡◌, ◌+◌, ◌<◌, true, OnOk, OnErr, IfOk, IfErr, IsErrOf, Some, length};
+ghost use Rattle.client_request.specs.Calls.{Steps, NumbersRunOut};
+ghost use Rattle.client_request.specs.Cx.{view_of, heard, LendsTheSame};
+ghost use Rattle.client_request.specs.Response.{IsRefusal};
+ghost use Rattle.client_request.specs.Timers.{IsWant};
+ghost use Rattle.client_choice.specs.Choice as plain;
+ghost use Rattle.client_choice.specs.Servers as of_servers;
+
+use crate::job::{Job, Started};
+use crate::servers::{Server, give_up_at, judge_at};
+use client_request::{ComposeRequest, Cx, Error, SendRequest, TimerId, Words};
+use client_settings::redundant::Config;
+use dns_base::{Message, NoMemory, OptRcode};
+use std::alloc::Global;
+use std::collections::BTreeMap;
+use std::marker::Model;
+
+/// Refused by policy (RFC 1035 4.1.1).
+const REFUSED: OptRcode = OptRcode(5);
+
+/// The server could not go on (RFC 1035 4.1.1).
+const SERVFAIL: OptRcode = OptRcode(2);
+
+/// The servers; the requests by ticket, and the ticket of each timer that starts the next server.
+#[derive(Drop)]
+pub struct Choice<Req, U: SendRequest<Req>> {
+    pub(crate) alloc: Global,
+    pub(crate) servers: Vec<Server<U>>,
+    pub(crate) jobs: BTreeMap<u64, Job<Req, U::Response>>,
+    pub(crate) timers: BTreeMap<u64, u64>,
+}
+
+impl<Req, U: SendRequest<Req>> Model for Choice<Req, U> {
+    ghost use Rattle.client_choice.specs.Choice.{Choice};
+
+    ghost Value = { Choice Req U U.Response };
+
+    ghost view = { λ c. record { servers = c.servers.items; jobs = c.jobs.entries; timers = c.timers.entries } };
+}
+
+impl<Req, U: SendRequest<Req>> Choice<Req, U> {
+    /// A choice without servers. It takes no memory.
+    pub(crate) fn new(alloc: Global) -> Choice<Req, U>
+        ensures { result ≡ plain.empty }
+    {
+        Choice {
+            alloc,
+            servers: Vec::new(alloc),
+            jobs: BTreeMap::new(alloc),
+            timers: BTreeMap::new(alloc),
+        }
+    }
+}
+
+impl<Req, U: SendRequest<Req> + Drop> Choice<Req, U> {
+    /// Adds a server behind the others. After want of memory none was added.
+    pub(crate) fn add(&mut self, upstream: U) -> Result<(), NoMemory>
+        ensures ok { OnOk result (self.new ≡ plain.with_server upstream self.old) }
+        ensures err { OnErr result (self.new ≡ self.old) }
+    {
+        let server = Server::new(self.alloc, upstream);
+        match self.servers.push(server) {
+            Ok(()) => Ok(()),
+            Err(_) => Err(NoMemory),
+        }
+    }
+}
+
+/// Whether a result is put off while another server may still give a better one.
+pub(crate) fn is_deferred(config: &Config, part: &Result<Option<Message>, Error>) -> bool
+    ensures { result ≡ plain.is_deferred config.now part.now }
+{
+    match part {
+        Ok(Some(message)) => {
+            let code = message.opt_rcode();
+            (config.defer_refused() && code == REFUSED)
+                || (config.defer_servfail() && code == SERVFAIL)
+        }
+        Ok(None) => false,
+        Err(_) => config.defer_transport_error(),
+    }
+}
+
+/// Sets the timer that starts the next server, if there is one.
+pub(crate) fn arm<Req: Drop, P: Drop, W: Words>(
+    timers: &mut BTreeMap<u64, u64>,
+    cx: &mut Cx<'_, W>,
+    ticket: u64,
+    job: &mut Job<Req, P>,
+    due: u128,
+) -> Result<(), Error>
+    ensures lends { LendsTheSame cx.old cx.new }
+    ensures ok { Steps result (plain.arms ticket due job.old timers.old.entries (view_of W.stream cx.old)) ((job.new, timers.new.entries), view_of W.stream cx.new) }
+    ensures numbers { NumbersRunOut result (plain.arms ticket due job.old timers.old.entries (view_of W.stream cx.old)) }
+    ensures want { IfErr result IsWant }
+{
+    if job.left.is_empty() {
+        return Ok(());
+    }
+    let timer = cx.timers.set(due)?;
+    if timers.insert(timer.0, ticket).is_err() {
+        return Err(Error::NoMemory);
+    }
+    job.timer = Some(timer.0);
+    Ok(())
+}
+
+/// Cancels the timer that would start the next server, if one is set.
+pub(crate) fn disarm<W: Words>(timers: &mut BTreeMap<u64, u64>, cx: &mut Cx<'_, W>, timer: Option<u64>)
+    ensures lends { LendsTheSame cx.old cx.new }
+    ensures timers { timers.new.entries ≡ plain.unset timer timers.old.entries }
+    ensures view { view_of W.stream cx.new ≡ plain.stopped timer (view_of W.stream cx.old) }
+{
+    if let Some(timer) = timer {
+        let _ = timers.remove(&timer);
+        cx.timers.cancel(TimerId(timer));
+    }
+}
+
+/// Each server that was started is judged: the one that gave the result, and those that were waited for.
+pub(crate) fn judge_all<U, P>(servers: &mut Vec<Server<U>>, started: &[Started<P>], giver: usize, now: u64)
+    ensures { servers.new.items ≡ plain.judges_each giver now started.now servers.old.items }
+{
+    for s in started {
+        judge_at(servers, s.server, s.server == giver, now.saturating_sub(s.since));
+    }
+}
+
+/// A server gives a request up, if it gave no result yet.
+fn give_up_one<Req: ComposeRequest, U: SendRequest<Req>, W: Words>(
+    servers: &mut Vec<Server<U>>,
+    cx: &mut Cx<'_, W>,
+    started: Started<U::Response>,
+) -> Result<(), Error>
+    ensures lends { LendsTheSame cx.old cx.new }
+    ensures ok { Steps result (plain.drops_response U.transport started servers.old.items (view_of W.stream cx.old) started.response) (servers.new.items, view_of W.stream cx.new) }
+    ensures numbers { NumbersRunOut result (plain.drops_response U.transport started servers.old.items (view_of W.stream cx.old) started.response) }
+    ensures keeps { OnOk result (of_servers.flags U.holds_failed servers.new.items ≡ of_servers.flags U.holds_failed servers.old.items) }
+    ensures refused { IfErr result IsRefusal }
+    ensures failed_only { IsErrOf result Error.Failed → of_servers.holds_failed U.holds_failed servers.old.items ≡ true }
+{
+    match started.response {
+        None => Ok(()),
+        Some(response) => give_up_at(servers, started.server, cx, started.lower, response),
+    }
+}
+
+/// Each server that gave no result yet gives a request up, in order.
+pub(crate) fn give_up_all<Req: ComposeRequest, U: SendRequest<Req>, W: Words>(
+    servers: &mut Vec<Server<U>>,
+    cx: &mut Cx<'_, W>,
+    started: Vec<Started<U::Response>>,
+) -> Result<(), Error>
+    ensures lends { LendsTheSame cx.old cx.new }
+    ensures ok { Steps result (plain.drops_each U.transport started.items servers.old.items (view_of W.stream cx.old)) (servers.new.items, view_of W.stream cx.new) }
+    ensures numbers { NumbersRunOut result (plain.drops_each U.transport started.items servers.old.items (view_of W.stream cx.old)) }
+    ensures keeps { OnOk result (of_servers.flags U.holds_failed servers.new.items ≡ of_servers.flags U.holds_failed servers.old.items) }
+    ensures refused { IfErr result IsRefusal }
+    ensures failed_only { IsErrOf result Error.Failed → of_servers.holds_failed U.holds_failed servers.old.items ≡ true }
+{
+    for s in started {
+        give_up_one(servers, cx, s)?;
+    }
+    Ok(())
+}

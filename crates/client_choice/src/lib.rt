@@ -1,0 +1,14 @@
+//! A choice among several servers: which is asked first, when the next one is asked, and whose answer
+//! is taken.
+#![tactic(auto)]
+
+mod choice;
+mod job;
+mod servers;
+mod stats;
+mod steps;
+
+pub use choice::Choice;
+pub use job::{Entry, Job, Started};
+pub use servers::{Reply, Server};
+pub use stats::{Stats, stats_law};

@@ -1,0 +1,280 @@
+//! The servers of a choice.
+
+ghost use Rattle.std.specs.Prelude.{◌≡◌, ◌<◌, length, true, OnOk, IfOk, IfErr, IsErrOf, slice_get, [], Some, map};
+ghost use Rattle.client_request.specs.Calls.{Steps, NumbersRunOut};
+ghost use Rattle.client_request.specs.Cx.{view_of, heard, LendsTheSame};
+ghost use Rattle.client_request.specs.Response.{IsRefusal};
+ghost use Rattle.client_choice.specs.Servers as plain;
+ghost use Rattle.client_choice.specs.Stats as estimates;
+
+use crate::stats::Stats;
+use client_request::{
+    Board, ComposeRequest, Cx, Error, GetResponse, SendRequest, Signal, Words, cancel_below,
+    send_below, step_below,
+};
+use dns_base::Message;
+use std::alloc::Global;
+use std::collections::BTreeMap;
+use std::marker::Model;
+use std::mem;
+
+/// A server of a choice: its transport, and what is known of it.
+#[derive(Drop)]
+pub struct Server<U> {
+    pub(crate) upstream: U,
+    /// How long it took so far.
+    pub(crate) stats: Stats,
+    /// How many requests were started there; the count stands still at its last value.
+    pub(crate) starts: u64,
+    /// The ticket of each request that waits there, by its ticket there.
+    pub(crate) waiting: BTreeMap<u64, u64>,
+    /// What its transport posted and was not taken yet.
+    pub(crate) posted: Board,
+}
+
+impl<U> Model for Server<U> {
+    ghost use Rattle.client_choice.specs.Servers.{Server};
+
+    ghost Value = { Server U };
+
+    ghost view = { λ s. record {
+      upstream = s.upstream;
+      stats = s.stats;
+      starts = s.starts;
+      waiting = s.waiting.entries;
+      posted = s.posted;
+    } };
+}
+
+/// What a request got that was started at a server.
+#[derive(Drop)]
+pub enum Reply<P> {
+    /// Its result is still to come.
+    Later(P),
+    /// Its result, at once.
+    Now(Result<Option<Message>, Error>),
+}
+
+impl<U> Server<U> {
+    /// A server that was not asked yet. It takes no memory.
+    pub(crate) fn new(alloc: Global, upstream: U) -> Server<U>
+        ensures { result ≡ plain.added upstream }
+    {
+        Server {
+            upstream,
+            stats: Stats::new(),
+            starts: 0,
+            waiting: BTreeMap::new(alloc),
+            posted: Board::new(alloc),
+        }
+    }
+
+    /// It answered after so many microseconds, or was waited for that long while another one did.
+    fn judge(&mut self, is_giver: bool, elapsed: u64)
+        ensures { self.new ≡ plain.judged is_giver elapsed self.old }
+    {
+        if is_giver {
+            self.stats.update(elapsed);
+        } else {
+            self.stats.fail(elapsed);
+        }
+    }
+}
+
+/// Starts a request, the one of `ticket`, at a server.
+fn start<Req: ComposeRequest, U: SendRequest<Req>, W: Words>(
+    server: &mut Server<U>,
+    cx: &mut Cx<'_, W>,
+    ticket: u64,
+    request: Req,
+) -> Result<Reply<U::Response>, Error>
+    ensures lends { LendsTheSame cx.old cx.new }
+    ensures ok { IfOk result (λ r. plain.starts U.transport ticket request server.old (view_of W.stream cx.old) ≡ Some ((r, server.new), view_of W.stream cx.new)) }
+    ensures numbers { NumbersRunOut result (plain.starts U.transport ticket request server.old (view_of W.stream cx.old)) }
+    ensures keeps { OnOk result (U.holds_failed server.new.upstream ≡ U.holds_failed server.old.upstream) }
+    ensures refused { IfErr result IsRefusal }
+    ensures failed_only { IsErrOf result Error.Failed → U.holds_failed server.old.upstream ≡ true }
+{
+    server.starts = server.starts.saturating_add(1);
+    let response = send_below(&mut server.upstream, &mut server.posted, cx, request)?;
+    let lower = response.ticket();
+    match server.posted.take(lower) {
+        Some(part) => Ok(Reply::Now(part)),
+        None => {
+            if server.waiting.insert(lower, ticket).is_err() {
+                return Err(Error::NoMemory);
+            }
+            Ok(Reply::Later(response))
+        }
+    }
+}
+
+/// Sends a request to a server past the choice: its result comes under its ticket there.
+fn send<Req: ComposeRequest, U: SendRequest<Req>, W: Words>(
+    server: &mut Server<U>,
+    cx: &mut Cx<'_, W>,
+    request: Req,
+) -> Result<U::Response, Error>
+    ensures lends { LendsTheSame cx.old cx.new }
+    ensures ok { IfOk result (λ r. plain.sends U.transport request server.old (view_of W.stream cx.old) ≡ Some ((r, server.new), view_of W.stream cx.new)) }
+    ensures numbers { NumbersRunOut result (plain.sends U.transport request server.old (view_of W.stream cx.old)) }
+    ensures keeps { OnOk result (U.holds_failed server.new.upstream ≡ U.holds_failed server.old.upstream) }
+    ensures refused { IfErr result IsRefusal }
+    ensures failed_only { IsErrOf result Error.Failed → U.holds_failed server.old.upstream ≡ true }
+{
+    let response = send_below(&mut server.upstream, &mut server.posted, cx, request)?;
+    let lower = response.ticket();
+    if let Some(part) = server.posted.take(lower) {
+        cx.board.put(lower, part)?;
+    }
+    Ok(response)
+}
+
+/// A server hears a signal. What it posted is taken.
+fn hear<Req: ComposeRequest, U: SendRequest<Req>, W: Words>(
+    server: &mut Server<U>,
+    alloc: Global,
+    cx: &mut Cx<'_, W>,
+    signal: Signal<'_>,
+) -> Result<Board, Error>
+    ensures lends { LendsTheSame cx.old cx.new }
+    ensures ok { IfOk result (λ b. plain.hears U.transport (heard signal.entry) server.old (view_of W.stream cx.old) ≡ Some ((b, server.new), view_of W.stream cx.new)) }
+    ensures numbers { NumbersRunOut result (plain.hears U.transport (heard signal.entry) server.old (view_of W.stream cx.old)) }
+    ensures keeps { OnOk result (U.holds_failed server.new.upstream ≡ U.holds_failed server.old.upstream) }
+    ensures refused { IfErr result IsRefusal }
+    ensures failed_only { IsErrOf result Error.Failed → U.holds_failed server.old.upstream ≡ true }
+{
+    step_below(&mut server.upstream, &mut server.posted, cx, signal)?;
+    Ok(mem::replace(&mut server.posted, Board::new(alloc)))
+}
+
+/// Gives a request up at a server.
+fn give_up<Req: ComposeRequest, U: SendRequest<Req>, W: Words>(
+    server: &mut Server<U>,
+    cx: &mut Cx<'_, W>,
+    lower: u64,
+    response: U::Response,
+) -> Result<(), Error>
+    ensures lends { LendsTheSame cx.old cx.new }
+    ensures ok { Steps result (plain.drops U.transport lower response server.old (view_of W.stream cx.old)) (server.new, view_of W.stream cx.new) }
+    ensures numbers { NumbersRunOut result (plain.drops U.transport lower response server.old (view_of W.stream cx.old)) }
+    ensures keeps { OnOk result (U.holds_failed server.new.upstream ≡ U.holds_failed server.old.upstream) }
+    ensures refused { IfErr result IsRefusal }
+    ensures failed_only { IsErrOf result Error.Failed → U.holds_failed server.old.upstream ≡ true }
+{
+    let _ = server.waiting.remove(&lower);
+    cancel_below(&mut server.upstream, &mut server.posted, cx, response)
+}
+
+/// Starts a request at the server of an index, if there is one. The others stay as they are.
+pub(crate) fn start_at<Req: ComposeRequest, U: SendRequest<Req>, W: Words>(
+    servers: &mut Vec<Server<U>>,
+    index: usize,
+    cx: &mut Cx<'_, W>,
+    ticket: u64,
+    request: Req,
+) -> Result<Option<Reply<U::Response>>, Error>
+    ensures lends { LendsTheSame cx.old cx.new }
+    ensures ok { IfOk result (λ r. plain.starts_at U.transport index ticket request servers.old.items (view_of W.stream cx.old) ≡ Some ((r, servers.new.items), view_of W.stream cx.new)) }
+    ensures numbers { NumbersRunOut result (plain.starts_at U.transport index ticket request servers.old.items (view_of W.stream cx.old)) }
+    ensures keeps { OnOk result (plain.flags U.holds_failed servers.new.items ≡ plain.flags U.holds_failed servers.old.items) }
+    ensures refused { IfErr result IsRefusal }
+    ensures failed_only { IsErrOf result Error.Failed → plain.holds_failed U.holds_failed servers.old.items ≡ true }
+{
+    let Some(server) = servers.get_mut(index) else {
+        return Ok(None);
+    };
+    let reply = start(server, cx, ticket, request)?;
+    Ok(Some(reply))
+}
+
+/// Sends a request to the server of an index past the choice, if there is one.
+pub(crate) fn send_at<Req: ComposeRequest, U: SendRequest<Req>, W: Words>(
+    servers: &mut Vec<Server<U>>,
+    index: usize,
+    cx: &mut Cx<'_, W>,
+    request: Req,
+) -> Result<Option<U::Response>, Error>
+    ensures lends { LendsTheSame cx.old cx.new }
+    ensures ok { IfOk result (λ r. plain.sends_at U.transport index request servers.old.items (view_of W.stream cx.old) ≡ Some ((r, servers.new.items), view_of W.stream cx.new)) }
+    ensures numbers { NumbersRunOut result (plain.sends_at U.transport index request servers.old.items (view_of W.stream cx.old)) }
+    ensures keeps { OnOk result (plain.flags U.holds_failed servers.new.items ≡ plain.flags U.holds_failed servers.old.items) }
+    ensures refused { IfErr result IsRefusal }
+    ensures failed_only { IsErrOf result Error.Failed → plain.holds_failed U.holds_failed servers.old.items ≡ true }
+{
+    let Some(server) = servers.get_mut(index) else {
+        return Ok(None);
+    };
+    let response = send(server, cx, request)?;
+    Ok(Some(response))
+}
+
+/// The server of an index hears a signal. What it posted is taken.
+pub(crate) fn hear_at<Req: ComposeRequest, U: SendRequest<Req>, W: Words>(
+    servers: &mut Vec<Server<U>>,
+    index: usize,
+    alloc: Global,
+    cx: &mut Cx<'_, W>,
+    signal: Signal<'_>,
+) -> Result<Board, Error>
+    ensures lends { LendsTheSame cx.old cx.new }
+    ensures ok { IfOk result (λ b. plain.hears_at U.transport index (heard signal.entry) servers.old.items (view_of W.stream cx.old) ≡ Some ((b, servers.new.items), view_of W.stream cx.new)) }
+    ensures numbers { NumbersRunOut result (plain.hears_at U.transport index (heard signal.entry) servers.old.items (view_of W.stream cx.old)) }
+    ensures keeps { OnOk result (plain.flags U.holds_failed servers.new.items ≡ plain.flags U.holds_failed servers.old.items) }
+    ensures refused { IfErr result IsRefusal }
+    ensures failed_only { IsErrOf result Error.Failed → plain.holds_failed U.holds_failed servers.old.items ≡ true }
+{
+    let Some(server) = servers.get_mut(index) else {
+        return Ok(Board::new(alloc));
+    };
+    hear(server, alloc, cx, signal)
+}
+
+/// Gives a request up at the server of an index.
+pub(crate) fn give_up_at<Req: ComposeRequest, U: SendRequest<Req>, W: Words>(
+    servers: &mut Vec<Server<U>>,
+    index: usize,
+    cx: &mut Cx<'_, W>,
+    lower: u64,
+    response: U::Response,
+) -> Result<(), Error>
+    ensures lends { LendsTheSame cx.old cx.new }
+    ensures ok { Steps result (plain.drops_at U.transport index lower response servers.old.items (view_of W.stream cx.old)) (servers.new.items, view_of W.stream cx.new) }
+    ensures numbers { NumbersRunOut result (plain.drops_at U.transport index lower response servers.old.items (view_of W.stream cx.old)) }
+    ensures keeps { OnOk result (plain.flags U.holds_failed servers.new.items ≡ plain.flags U.holds_failed servers.old.items) }
+    ensures refused { IfErr result IsRefusal }
+    ensures failed_only { IsErrOf result Error.Failed → plain.holds_failed U.holds_failed servers.old.items ≡ true }
+{
+    let Some(server) = servers.get_mut(index) else {
+        return Ok(());
+    };
+    give_up(server, cx, lower, response)
+}
+
+/// The server of an index answered, or was waited for while another one did.
+pub(crate) fn judge_at<U>(
+    servers: &mut Vec<Server<U>>,
+    index: usize,
+    is_giver: bool,
+    elapsed: u64,
+)
+    ensures value { servers.new.items ≡ plain.judges index is_giver elapsed servers.old.items }
+{
+    let Some(server) = servers.get_mut(index) else {
+        return;
+    };
+    server.judge(is_giver, elapsed);
+}
+
+/// The ticket of the request that waits under a ticket at the server of an index, and waits there no more.
+pub(crate) fn take_owner<U>(
+    servers: &mut Vec<Server<U>>,
+    index: usize,
+    lower: u64,
+) -> Option<u64>
+    ensures value { result ≡ plain.owner index lower servers.old.items }
+    ensures after { servers.new.items ≡ plain.disowned index lower servers.old.items }
+{
+    let server = servers.get_mut(index)?;
+    server.waiting.remove(&lower)
+}

@@ -1,0 +1,387 @@
+//! What each call of a choice does.
+
+ghost use Rattle.std.specs.Prelude.{◌≡◌, ◌+◌, ◌-◌, true, OnOk, IfOk, IfErr, IsErrOf, Some, None, length};
+ghost use Rattle.client_request.specs.Calls.{Steps, NumbersRunOut};
+ghost use Rattle.client_request.specs.Cx.{view_of, heard, LendsTheSame};
+ghost use Rattle.client_request.specs.Response.{IsRefusal};
+ghost use Rattle.client_choice.specs.Choice as plain;
+ghost use Rattle.client_choice.specs.Servers as of_servers;
+
+use crate::choice::{Choice, arm, disarm, give_up_all, is_deferred, judge_all};
+use crate::job::{Entry, Job, parted};
+use crate::servers::{hear_at, start_at, take_owner};
+use client_request::{Board, ComposeRequest, Cx, Error, Posted, SendRequest, Signal, TimerId, Words};
+use client_settings::redundant::Config;
+use dns_base::{Message, NoMemory};
+use std::collections::VecDeque;
+
+/// Starts a request at a server. When the estimate of that one has passed, the next one is started.
+fn begin<Req: ComposeRequest, U: SendRequest<Req>, W: Words>(
+    choice: &mut Choice<Req, U>,
+    cx: &mut Cx<'_, W>,
+    ticket: u64,
+    job: &mut Job<Req, U::Response>,
+    entry: Entry,
+) -> Result<Option<Result<Option<Message>, Error>>, Error>
+    ensures lends { LendsTheSame cx.old cx.new }
+    ensures ok { IfOk result (λ part. plain.begins U.transport ticket entry job.old choice.old (view_of W.stream cx.old) ≡ Some (((part, job.new), choice.new), view_of W.stream cx.new)) }
+    ensures numbers { NumbersRunOut result (plain.begins U.transport ticket entry job.old choice.old (view_of W.stream cx.old)) }
+    ensures left { OnOk result (job.new.left ≡ job.old.left) }
+    ensures keeps { OnOk result (of_servers.flags U.holds_failed choice.new.servers ≡ of_servers.flags U.holds_failed choice.old.servers) }
+    ensures refused { IfErr result IsRefusal }
+    ensures failed_only { IsErrOf result Error.Failed → of_servers.holds_failed U.holds_failed choice.old.servers ≡ true }
+{
+    let (since, lower) = (cx.now.0, cx.ticket);
+    cx.request = job.number;
+    let copy = job.request.try_clone(choice.alloc)?;
+    let reply = start_at(&mut choice.servers, entry.server, cx, ticket, copy)?;
+    let (response, part) = parted(reply);
+    job.note(entry.server, since, lower, response)?;
+    let due = u128::from(since) + u128::from(entry.estimate);
+    arm(&mut choice.timers, cx, ticket, job, due)?;
+    Ok(part)
+}
+
+/// Keeps a request that waits.
+fn keep<Req: ComposeRequest, U: SendRequest<Req>>(
+    choice: &mut Choice<Req, U>,
+    ticket: u64,
+    job: Job<Req, U::Response>,
+) -> Result<(), NoMemory>
+    ensures { OnOk result (choice.new ≡ plain.keeps ticket job choice.old) }
+{
+    match choice.jobs.insert(ticket, job) {
+        Ok(_) => Ok(()),
+        Err(_) => Err(NoMemory),
+    }
+}
+
+/// A server gave the result of a request: each that was started is judged, and the others give it up.
+fn end<Req: ComposeRequest, U: SendRequest<Req>, W: Words>(
+    choice: &mut Choice<Req, U>,
+    cx: &mut Cx<'_, W>,
+    ticket: u64,
+    giver: usize,
+    job: Job<Req, U::Response>,
+    part: Result<Option<Message>, Error>,
+) -> Result<(), Error>
+    ensures lends { LendsTheSame cx.old cx.new }
+    ensures ok { Steps result (plain.ends U.transport ticket giver part job choice.old (view_of W.stream cx.old)) (choice.new, view_of W.stream cx.new) }
+    ensures numbers { NumbersRunOut result (plain.ends U.transport ticket giver part job choice.old (view_of W.stream cx.old)) }
+    ensures keeps { OnOk result (of_servers.flags U.holds_failed choice.new.servers ≡ of_servers.flags U.holds_failed choice.old.servers) }
+    ensures refused { IfErr result IsRefusal }
+    ensures failed_only { IsErrOf result Error.Failed → of_servers.holds_failed U.holds_failed choice.old.servers ≡ true }
+{
+    judge_all(&mut choice.servers, &job.started, giver, cx.now.0);
+    disarm(&mut choice.timers, cx, job.timer);
+    cx.board.put(ticket, part)?;
+    give_up_all(&mut choice.servers, cx, job.started)
+}
+
+/// A request waits on. Where each server gave a result, the best of those that were put off is given.
+fn rest<Req: ComposeRequest, U: SendRequest<Req>, W: Words>(
+    choice: &mut Choice<Req, U>,
+    cx: &mut Cx<'_, W>,
+    ticket: u64,
+    job: Job<Req, U::Response>,
+) -> Result<(), Error>
+    ensures lends { LendsTheSame cx.old cx.new }
+    ensures ok { Steps result (plain.rests ticket job choice.old (view_of W.stream cx.old)) (choice.new, view_of W.stream cx.new) }
+    ensures numbers { NumbersRunOut result (plain.rests ticket job choice.old (view_of W.stream cx.old)) }
+    ensures keeps { OnOk result (of_servers.flags U.holds_failed choice.new.servers ≡ of_servers.flags U.holds_failed choice.old.servers) }
+    ensures refused { IfErr result IsRefusal }
+    ensures failed_only { IsErrOf result Error.Failed → of_servers.holds_failed U.holds_failed choice.old.servers ≡ true }
+{
+    if !job.is_over() {
+        keep(choice, ticket, job)?;
+        return Ok(());
+    }
+    if let Some(part) = job.deferred {
+        cx.board.put(ticket, part)?;
+    }
+    Ok(())
+}
+
+/// The servers that are left are started in order, up to the first whose result is not put off at
+/// once.
+fn run<Req: ComposeRequest, U: SendRequest<Req>, W: Words>(
+    choice: &mut Choice<Req, U>,
+    config: &Config,
+    cx: &mut Cx<'_, W>,
+    ticket: u64,
+    job: Job<Req, U::Response>,
+) -> Result<(), Error>
+    ensures lends { LendsTheSame cx.old cx.new }
+    ensures ok { Steps result (plain.runs U.transport config.now ticket job.left job choice.old (view_of W.stream cx.old)) (choice.new, view_of W.stream cx.new) }
+    ensures numbers { NumbersRunOut result (plain.runs U.transport config.now ticket job.left job choice.old (view_of W.stream cx.old)) }
+    ensures keeps { OnOk result (of_servers.flags U.holds_failed choice.new.servers ≡ of_servers.flags U.holds_failed choice.old.servers) }
+    ensures refused { IfErr result IsRefusal }
+    ensures failed_only { IsErrOf result Error.Failed → of_servers.holds_failed U.holds_failed choice.old.servers ≡ true }
+{
+    let mut job = job;
+    while let Some(entry) = job.left.pop_front() {
+        let Some(part) = begin(choice, cx, ticket, &mut job, entry)? else {
+            keep(choice, ticket, job)?;
+            return Ok(());
+        };
+        if !is_deferred(config, &part) {
+            return end(choice, cx, ticket, entry.server, job, part);
+        }
+        disarm(&mut choice.timers, cx, job.timer);
+        job.timer = None;
+        job.put_off(part);
+    }
+    rest(choice, cx, ticket, job)
+}
+
+/// The result of a server was put off: where that one was started last, the next one is started.
+fn go_on<Req: ComposeRequest, U: SendRequest<Req>, W: Words>(
+    choice: &mut Choice<Req, U>,
+    config: &Config,
+    cx: &mut Cx<'_, W>,
+    ticket: u64,
+    server: usize,
+    job: Job<Req, U::Response>,
+) -> Result<(), Error>
+    ensures lends { LendsTheSame cx.old cx.new }
+    ensures ok { Steps result (plain.puts_off U.transport config.now ticket server job choice.old (view_of W.stream cx.old)) (choice.new, view_of W.stream cx.new) }
+    ensures numbers { NumbersRunOut result (plain.puts_off U.transport config.now ticket server job choice.old (view_of W.stream cx.old)) }
+    ensures keeps { OnOk result (of_servers.flags U.holds_failed choice.new.servers ≡ of_servers.flags U.holds_failed choice.old.servers) }
+    ensures refused { IfErr result IsRefusal }
+    ensures failed_only { IsErrOf result Error.Failed → of_servers.holds_failed U.holds_failed choice.old.servers ≡ true }
+{
+    if !job.is_last(server) {
+        return rest(choice, cx, ticket, job);
+    }
+    let mut job = job;
+    disarm(&mut choice.timers, cx, job.timer);
+    job.timer = None;
+    run(choice, config, cx, ticket, job)
+}
+
+/// A server gave its result for a request, which is in no table any more.
+fn get<Req: ComposeRequest, U: SendRequest<Req>, W: Words>(
+    choice: &mut Choice<Req, U>,
+    config: &Config,
+    cx: &mut Cx<'_, W>,
+    ticket: u64,
+    server: usize,
+    job: Job<Req, U::Response>,
+    part: Result<Option<Message>, Error>,
+) -> Result<(), Error>
+    ensures lends { LendsTheSame cx.old cx.new }
+    ensures ok { Steps result (plain.gets U.transport config.now ticket server part job choice.old (view_of W.stream cx.old)) (choice.new, view_of W.stream cx.new) }
+    ensures numbers { NumbersRunOut result (plain.gets U.transport config.now ticket server part job choice.old (view_of W.stream cx.old)) }
+    ensures keeps { OnOk result (of_servers.flags U.holds_failed choice.new.servers ≡ of_servers.flags U.holds_failed choice.old.servers) }
+    ensures refused { IfErr result IsRefusal }
+    ensures failed_only { IsErrOf result Error.Failed → of_servers.holds_failed U.holds_failed choice.old.servers ≡ true }
+{
+    if !is_deferred(config, &part) {
+        return end(choice, cx, ticket, server, job, part);
+    }
+    let mut job = job;
+    job.put_off(part);
+    go_on(choice, config, cx, ticket, server, job)
+}
+
+/// What a server posted is the result of the request that waits under that ticket. Else it is handed
+/// on as it is: it is of a request that was sent past the choice.
+fn settle<Req: ComposeRequest, U: SendRequest<Req>, W: Words>(
+    choice: &mut Choice<Req, U>,
+    config: &Config,
+    cx: &mut Cx<'_, W>,
+    server: usize,
+    posted: Posted,
+) -> Result<(), Error>
+    ensures lends { LendsTheSame cx.old cx.new }
+    ensures ok { Steps result (plain.settles U.transport config.now server posted choice.old (view_of W.stream cx.old)) (choice.new, view_of W.stream cx.new) }
+    ensures numbers { NumbersRunOut result (plain.settles U.transport config.now server posted choice.old (view_of W.stream cx.old)) }
+    ensures keeps { OnOk result (of_servers.flags U.holds_failed choice.new.servers ≡ of_servers.flags U.holds_failed choice.old.servers) }
+    ensures refused { IfErr result IsRefusal }
+    ensures failed_only { IsErrOf result Error.Failed → of_servers.holds_failed U.holds_failed choice.old.servers ≡ true }
+{
+    let Posted {
+        ticket: lower,
+        part,
+    } = posted;
+    let Some(ticket) = take_owner(&mut choice.servers, server, lower) else {
+        cx.board.put(lower, part)?;
+        return Ok(());
+    };
+    let Some(job) = choice.jobs.remove(&ticket) else {
+        return Ok(());
+    };
+    let mut job = job;
+    job.settle(server);
+    get(choice, config, cx, ticket, server, job, part)
+}
+
+/// What a server posted is settled, in order.
+fn settle_all<Req: ComposeRequest, U: SendRequest<Req>, W: Words>(
+    choice: &mut Choice<Req, U>,
+    config: &Config,
+    cx: &mut Cx<'_, W>,
+    server: usize,
+    board: Board,
+) -> Result<(), Error>
+    ensures lends { LendsTheSame cx.old cx.new }
+    ensures ok { Steps result (plain.settles_all U.transport config.now server board choice.old (view_of W.stream cx.old)) (choice.new, view_of W.stream cx.new) }
+    ensures numbers { NumbersRunOut result (plain.settles_all U.transport config.now server board choice.old (view_of W.stream cx.old)) }
+    ensures keeps { OnOk result (of_servers.flags U.holds_failed choice.new.servers ≡ of_servers.flags U.holds_failed choice.old.servers) }
+    ensures refused { IfErr result IsRefusal }
+    ensures failed_only { IsErrOf result Error.Failed → of_servers.holds_failed U.holds_failed choice.old.servers ≡ true }
+{
+    let mut board = board;
+    while let Some(posted) = board.take_first() {
+        settle(choice, config, cx, server, posted)?;
+    }
+    Ok(())
+}
+
+/// A server hears a signal, and what it posted is settled.
+fn hear_one<Req: ComposeRequest, U: SendRequest<Req>, W: Words>(
+    choice: &mut Choice<Req, U>,
+    config: &Config,
+    cx: &mut Cx<'_, W>,
+    server: usize,
+    signal: Signal<'_>,
+) -> Result<(), Error>
+    ensures lends { LendsTheSame cx.old cx.new }
+    ensures ok { Steps result (plain.hears_one U.transport config.now server (heard signal.entry) choice.old (view_of W.stream cx.old)) (choice.new, view_of W.stream cx.new) }
+    ensures numbers { NumbersRunOut result (plain.hears_one U.transport config.now server (heard signal.entry) choice.old (view_of W.stream cx.old)) }
+    ensures keeps { OnOk result (of_servers.flags U.holds_failed choice.new.servers ≡ of_servers.flags U.holds_failed choice.old.servers) }
+    ensures refused { IfErr result IsRefusal }
+    ensures failed_only { IsErrOf result Error.Failed → of_servers.holds_failed U.holds_failed choice.old.servers ≡ true }
+{
+    let board = hear_at(&mut choice.servers, server, choice.alloc, cx, signal)?;
+    settle_all(choice, config, cx, server, board)
+}
+
+/// The servers hear a signal one after another.
+fn hear_all<Req: ComposeRequest, U: SendRequest<Req>, W: Words>(
+    choice: &mut Choice<Req, U>,
+    config: &Config,
+    cx: &mut Cx<'_, W>,
+    signal: Signal<'_>,
+) -> Result<(), Error>
+    ensures lends { LendsTheSame cx.old cx.new }
+    ensures ok { Steps result (plain.hears_all U.transport config.now (heard signal.entry) choice.old (view_of W.stream cx.old)) (choice.new, view_of W.stream cx.new) }
+    ensures numbers { NumbersRunOut result (plain.hears_all U.transport config.now (heard signal.entry) choice.old (view_of W.stream cx.old)) }
+    ensures keeps { OnOk result (of_servers.flags U.holds_failed choice.new.servers ≡ of_servers.flags U.holds_failed choice.old.servers) }
+    ensures refused { IfErr result IsRefusal }
+    ensures failed_only { IsErrOf result Error.Failed → of_servers.holds_failed U.holds_failed choice.old.servers ≡ true }
+{
+    for server in 0..choice.servers.len() {
+        hear_one(choice, config, cx, server, signal)?;
+    }
+    Ok(())
+}
+
+/// An estimate has passed: the next server is started.
+fn fire<Req: ComposeRequest, U: SendRequest<Req>, W: Words>(
+    choice: &mut Choice<Req, U>,
+    config: &Config,
+    cx: &mut Cx<'_, W>,
+    ticket: u64,
+) -> Result<(), Error>
+    ensures lends { LendsTheSame cx.old cx.new }
+    ensures ok { Steps result (plain.fires_at U.transport config.now ticket choice.old (view_of W.stream cx.old)) (choice.new, view_of W.stream cx.new) }
+    ensures numbers { NumbersRunOut result (plain.fires_at U.transport config.now ticket choice.old (view_of W.stream cx.old)) }
+    ensures keeps { OnOk result (of_servers.flags U.holds_failed choice.new.servers ≡ of_servers.flags U.holds_failed choice.old.servers) }
+    ensures refused { IfErr result IsRefusal }
+    ensures failed_only { IsErrOf result Error.Failed → of_servers.holds_failed U.holds_failed choice.old.servers ≡ true }
+{
+    let Some(job) = choice.jobs.remove(&ticket) else {
+        return Ok(());
+    };
+    let mut job = job;
+    job.timer = None;
+    run(choice, config, cx, ticket, job)
+}
+
+/// A timer fired: that of a request, or one of a server.
+fn due<Req: ComposeRequest, U: SendRequest<Req>, W: Words>(
+    choice: &mut Choice<Req, U>,
+    config: &Config,
+    cx: &mut Cx<'_, W>,
+    timer: TimerId,
+) -> Result<(), Error>
+    ensures lends { LendsTheSame cx.old cx.new }
+    ensures ok { Steps result (plain.due U.transport config.now timer.0 choice.old (view_of W.stream cx.old)) (choice.new, view_of W.stream cx.new) }
+    ensures numbers { NumbersRunOut result (plain.due U.transport config.now timer.0 choice.old (view_of W.stream cx.old)) }
+    ensures keeps { OnOk result (of_servers.flags U.holds_failed choice.new.servers ≡ of_servers.flags U.holds_failed choice.old.servers) }
+    ensures refused { IfErr result IsRefusal }
+    ensures failed_only { IsErrOf result Error.Failed → of_servers.holds_failed U.holds_failed choice.old.servers ≡ true }
+{
+    match choice.timers.remove(&timer.0) {
+        Some(ticket) => fire(choice, config, cx, ticket),
+        None => hear_all(choice, config, cx, Signal::Due(timer)),
+    }
+}
+
+/// What a signal does.
+pub(crate) fn hear<Req: ComposeRequest, U: SendRequest<Req>, W: Words>(
+    choice: &mut Choice<Req, U>,
+    config: &Config,
+    cx: &mut Cx<'_, W>,
+    signal: Signal<'_>,
+) -> Result<(), Error>
+    ensures lends { LendsTheSame cx.old cx.new }
+    ensures ok { Steps result (plain.hears U.transport config.now (heard signal.entry) choice.old (view_of W.stream cx.old)) (choice.new, view_of W.stream cx.new) }
+    ensures numbers { NumbersRunOut result (plain.hears U.transport config.now (heard signal.entry) choice.old (view_of W.stream cx.old)) }
+    ensures keeps { OnOk result (of_servers.flags U.holds_failed choice.new.servers ≡ of_servers.flags U.holds_failed choice.old.servers) }
+    ensures refused { IfErr result IsRefusal }
+    ensures failed_only { IsErrOf result Error.Failed → of_servers.holds_failed U.holds_failed choice.old.servers ≡ true }
+{
+    match signal {
+        Signal::Due(timer) => due(choice, config, cx, timer),
+        Signal::Told(_) | Signal::More { .. } => hear_all(choice, config, cx, signal),
+    }
+}
+
+/// Takes a request on, with the servers that it is to be started at, in order.
+pub(crate) fn take_on<Req: ComposeRequest, U: SendRequest<Req>, W: Words>(
+    choice: &mut Choice<Req, U>,
+    config: &Config,
+    cx: &mut Cx<'_, W>,
+    ticket: u64,
+    entries: VecDeque<Entry>,
+    request: Req,
+) -> Result<(), Error>
+    ensures lends { LendsTheSame cx.old cx.new }
+    ensures ok { Steps result (plain.takes_on U.transport config.now ticket entries.items request choice.old (view_of W.stream cx.old)) (choice.new, view_of W.stream cx.new) }
+    ensures numbers { NumbersRunOut result (plain.takes_on U.transport config.now ticket entries.items request choice.old (view_of W.stream cx.old)) }
+    ensures keeps { OnOk result (of_servers.flags U.holds_failed choice.new.servers ≡ of_servers.flags U.holds_failed choice.old.servers) }
+    ensures refused { IfErr result IsRefusal }
+    ensures failed_only { IsErrOf result Error.Failed → of_servers.holds_failed U.holds_failed choice.old.servers ≡ true }
+{
+    let job = Job {
+        number: cx.request,
+        request,
+        left: entries,
+        started: Vec::new(choice.alloc),
+        timer: None,
+        deferred: None,
+    };
+    run(choice, config, cx, ticket, job)
+}
+
+/// Gives a request up, where it waits.
+pub(crate) fn give_up<Req: ComposeRequest, U: SendRequest<Req>, W: Words>(
+    choice: &mut Choice<Req, U>,
+    cx: &mut Cx<'_, W>,
+    ticket: u64,
+) -> Result<(), Error>
+    ensures lends { LendsTheSame cx.old cx.new }
+    ensures ok { Steps result (plain.drops U.transport ticket choice.old (view_of W.stream cx.old)) (choice.new, view_of W.stream cx.new) }
+    ensures numbers { NumbersRunOut result (plain.drops U.transport ticket choice.old (view_of W.stream cx.old)) }
+    ensures keeps { OnOk result (of_servers.flags U.holds_failed choice.new.servers ≡ of_servers.flags U.holds_failed choice.old.servers) }
+    ensures refused { IfErr result IsRefusal }
+    ensures failed_only { IsErrOf result Error.Failed → of_servers.holds_failed U.holds_failed choice.old.servers ≡ true }
+{
+    let Some(job) = choice.jobs.remove(&ticket) else {
+        return Ok(());
+    };
+    disarm(&mut choice.timers, cx, job.timer);
+    give_up_all(&mut choice.servers, cx, job.started)
+}
