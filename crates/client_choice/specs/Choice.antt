@@ -92,6 +92,10 @@ module _ {P : Type 0} where
   abbrev pub silenced : ℕ → List (Started P) → List (Started P)
   silenced server started = silenced_at started (place_of server started)
 
+  -- whether each server that was started gave a result
+  abbrev pub all_gave : List (Started P) → Bool
+  all_gave started = list_all (λ s. is_none s.response) started
+
   abbrev pub is_of : ℕ → Option (Started P) → Bool
   is_of server None = false
   is_of server (Some s) = s.server == server
@@ -116,7 +120,7 @@ module _ {R P : Type 0} where
 
   -- whether each server was started and gave a result
   abbrev pub is_over : Job R P → Bool
-  is_over job = (length job.left == 0) && list_all (λ s. is_none s.response) job.started
+  is_over job = (length job.left == 0) && all_gave job.started
 
   abbrev pub disarmed : Job R P → Job R P
   disarmed job = record job { timer = None }

@@ -1,4 +1,5 @@
 pub mod Choice
+pub mod Redundant
 pub mod Roots
 pub mod Servers
 pub mod Stats

@@ -141,9 +141,15 @@ fn give_up_one<Req: ComposeRequest, U: SendRequest<Req>, W: Words>(
     ensures refused { IfErr result IsRefusal }
     ensures failed_only { IsErrOf result Error.Failed → of_servers.holds_failed U.holds_failed servers.old.items ≡ true }
 {
-    match started.response {
+    let Started {
+        server,
+        since: _since,
+        lower,
+        response,
+    } = started;
+    match response {
         None => Ok(()),
-        Some(response) => give_up_at(servers, started.server, cx, started.lower, response),
+        Some(response) => give_up_at(servers, server, cx, lower, response),
     }
 }
 

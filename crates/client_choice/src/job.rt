@@ -86,6 +86,13 @@ fn place_of<P>(started: &[Started<P>], server: usize) -> Option<usize>
     started.iter().position(|s| s.server == server)
 }
 
+/// Whether each server that was started gave a result.
+fn all_gave<P>(started: &[Started<P>]) -> bool
+    ensures { result ≡ plain.all_gave started.now }
+{
+    started.iter().all(|s| s.response.is_none())
+}
+
 impl<Req: Drop, P: Drop> Job<Req, P> {
     /// Puts a result off.
     pub(crate) fn put_off(&mut self, part: Result<Option<Message>, Error>)
@@ -144,7 +151,7 @@ impl<Req: Drop, P: Drop> Job<Req, P> {
     pub(crate) fn is_over(&self) -> bool
         ensures { result ≡ plain.is_over self.now }
     {
-        self.left.is_empty() && self.started.iter().all(|s| s.response.is_none())
+        self.left.is_empty() && all_gave(&self.started)
     }
 }
 

@@ -96,10 +96,21 @@ fn rest<Req: ComposeRequest, U: SendRequest<Req>, W: Words>(
         keep(choice, ticket, job)?;
         return Ok(());
     }
-    if let Some(part) = job.deferred {
-        cx.board.put(ticket, part)?;
+    let Job {
+        number: _number,
+        request: _request,
+        left: _left,
+        started: _started,
+        timer: _timer,
+        deferred,
+    } = job;
+    match deferred {
+        None => Ok(()),
+        Some(part) => {
+            cx.board.put(ticket, part)?;
+            Ok(())
+        }
     }
-    Ok(())
 }
 
 /// The servers that are left are started in order, up to the first whose result is not put off at

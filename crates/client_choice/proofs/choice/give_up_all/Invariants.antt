@@ -1,0 +1,15 @@
+use Rattle.std.proofs.Common.{◌≡◌}
+use Rattle.client_request.specs.Cx.{view_of, LendsTheSame}
+use Rattle.client_choice.specs.Choice as plain
+use Rattle.client_choice.specs.Servers.{flags}
+use Rattle.client_choice.proofs.choice.give_up_all.Given as goal
+
+abbrev pub invariant-loop-s : goal.invariant-loop-s
+invariant-loop-s g l =
+    record {
+      lends : LendsTheSame l.fn.cx l.cx;
+      same :
+          plain.drops_each g.U.SendRequest.transport l.s-iterator l.servers.items (view_of g.W.Words.stream l.cx)
+          ≡ plain.drops_each g.U.SendRequest.transport l.started.items l.fn.servers.items (view_of g.W.Words.stream l.fn.cx);
+      keeps : flags g.U.SendRequest.holds_failed l.servers.items ≡ flags g.U.SendRequest.holds_failed l.fn.servers.items;
+    }

@@ -1,0 +1,119 @@
+-- The plain machine of a choice by estimate, over any transport.
+use Rattle.std.specs.Prelude.{ℕ, ◌+◌, ◌-◌, ◌*◌, ◌/◌, ◌^◌, ◌==◌, ◌||◌, nat_lt, nat_le, Bool, false, if◌then◌else◌, List, [], ◌∷◌, length, Option, Some, None, option_map, option_and_then, Err, slice_get}
+use Rattle.std.specs.List.{insert, remove, position_or_len}
+use Rattle.client_request.specs.View.{View, Heard, Transport, word, drawn, answers, draws_ticket}
+use Rattle.client_request.specs.declared.error.Error.TheVariants as errors
+use Rattle.client_settings.specs.Settings.{RedundantSettings}
+use Rattle.client_choice.specs.Choice.{Choice, After, empty, takes_on, hears, drops}
+use Rattle.client_choice.specs.Servers as of_servers
+use Rattle.client_choice.specs.Servers.{Server}
+use Rattle.client_choice.specs.Stats.{estimate}
+use Rattle.client_choice.specs.declared.job.Entry.{Entry}
+
+-- ---- which servers a request is to be started at, in order
+
+abbrev pub entry_of : {U : Type 0} → ℕ → Server U → Entry
+entry_of index s = record { server = index; estimate = estimate s.stats }
+
+-- the place of an entry in a list: before the first of which more is expected
+abbrev pub place_in : (estimate : ℕ) → List Entry → ℕ
+place_in estimate entries = position_or_len (λ x. nat_lt estimate x.estimate) entries
+
+abbrev pub lined_up : Entry → List Entry → List Entry
+lined_up e entries = insert entries (place_in e.estimate entries) e
+
+-- Servers by estimate, ties in the order in which they were added.
+abbrev pub all_lined_up : {U : Type 0} → ℕ → List (Server U) → List Entry → List Entry
+all_lined_up index [] entries = entries
+all_lined_up index (s ∷ more) entries = all_lined_up (index + 1) more (lined_up (entry_of index s) entries)
+
+abbrev pub by_estimate : {U : Type 0} → List (Server U) → List Entry
+by_estimate servers = all_lined_up 0 servers []
+
+-- ---- probes
+
+-- One word in twenty asks for a probe; the next one says of which entry behind the first.
+abbrev pub asks_for_probe : ℕ → Bool
+asks_for_probe word = nat_lt (word * 20) (2 ^ 64)
+
+abbrev pub probed_place : (count word : ℕ) → ℕ
+probed_place count word = 1 + word * (count - 1) / 2 ^ 64
+
+-- which of so many entries is probed, and what is left of the words; of one alone none is, and no word is drawn
+abbrev pub probe : ℕ → View → Option ℕ × View
+probe count v =
+    if nat_lt 1 count then (if asks_for_probe (word v) then (Some (probed_place count (word (drawn v))), drawn (drawn v)) else (None, drawn v)) else (None, v)
+
+-- An entry goes first, with an estimate.
+abbrev pub put_first : ℕ → Option Entry → List Entry → List Entry
+put_first estimate None entries = entries
+put_first estimate (Some e) entries = record e { estimate = estimate } ∷ entries
+
+-- the entry at a place goes first
+abbrev pub promoted : (place estimate : ℕ) → List Entry → List Entry
+promoted place estimate entries = put_first estimate (slice_get entries place) (if nat_lt place (length entries) then remove entries place else entries)
+
+-- the entry that is probed goes first, with the least estimate, which is that of the first
+abbrev pub with_probe : Option ℕ → Entry → List Entry → List Entry
+with_probe None first entries = entries
+with_probe (Some place) first entries = promoted place first.estimate entries
+
+-- ---- the machine
+
+module _ {R U P : Type 0} (settings : RedundantSettings) (below : Transport R U P) where
+  -- A request is taken on: where there is no server, it gets that error.
+  abbrev pub takes_listed : ℕ → R → List Entry → Choice R U P → View → After R U P
+  takes_listed ticket request [] c v = Some (c, answers ticket (Err errors.NoTransportAvailable) v)
+  takes_listed ticket request (e ∷ more) c v =
+      takes_on below settings ticket (with_probe (probe (length (e ∷ more)) v).0 e (e ∷ more)) request c (probe (length (e ∷ more)) v).1
+
+  abbrev pub takes : R → Choice R U P → View → After R U P
+  takes request c v = option_and_then (takes_listed v.ticket request (by_estimate c.servers) c) (draws_ticket v)
+
+-- the whole machine: its settings, its servers and requests; and whether it gave up
+pub record Redundant (R U P : Type 0) : Type 0 where
+  pub settings : RedundantSettings
+  pub choice : Choice R U P
+  pub failed : Bool
+
+-- what stands for the result of a request
+pub record Asked : Type 0 where
+  pub ticket : ℕ
+  pub given : Bool
+
+-- the identifier of the first server that is added; the others follow
+abbrev pub first_identifier : ℕ
+first_identifier = 10
+
+-- the place of the server of an identifier, if it is one
+abbrev pub index_of : ℕ → Option ℕ
+index_of id = if nat_le first_identifier id then Some (id - first_identifier) else None
+
+module _ {R U P : Type 0} where
+  abbrev pub started : RedundantSettings → Redundant R U P
+  started settings = record { settings = settings; choice = empty; failed = false }
+
+  abbrev pub holds_failed : (U → Bool) → Redundant R U P → Bool
+  holds_failed has_failed r = r.failed || of_servers.holds_failed has_failed r.choice.servers
+
+  abbrev pub with_choice : Redundant R U P → After R U P → Option (Redundant R U P × View)
+  with_choice r after = option_map (λ x. (record r { choice = x.0 }, x.1)) after
+
+  abbrev pub transport : Transport R U P → Transport R (Redundant R U P) Asked
+  transport below = record {
+    send = λ request r v. with_choice r (takes r.settings below request r.choice v);
+    step = λ h r v. with_choice r (hears below r.settings h r.choice v);
+    cancel = λ asked r v. with_choice r (drops below asked.ticket r.choice v);
+    response = λ request r v. record { ticket = v.ticket; given = false };
+  }
+
+  -- A request that goes to the server of an identifier past the choice. There is none where none was added under it.
+  abbrev pub with_sent : Redundant R U P → (Option P × List (Server U)) × View → (Option P × Redundant R U P) × View
+  with_sent r x = ((x.0.0, record r { choice = record r.choice { servers = x.0.1 } }), x.1)
+
+  abbrev pub sends_to : Transport R U P → R → Redundant R U P → View → Option ℕ → Option ((Option P × Redundant R U P) × View)
+  sends_to below request r v None = Some ((None, r), v)
+  sends_to below request r v (Some index) = option_map (with_sent r) (of_servers.sends_at below index request r.choice.servers v)
+
+  abbrev pub sends_on : Transport R U P → ℕ → R → Redundant R U P → View → Option ((Option P × Redundant R U P) × View)
+  sends_on below id request r v = sends_to below request r v (index_of id)

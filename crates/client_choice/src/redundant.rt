@@ -1,0 +1,294 @@
+//! A choice by estimate: the server that is expected to answer first is asked first, and the next one
+//! where it takes longer than that.
+//!
+//! ```text
+//! send_request ──► a list of the servers by estimate; now and then one of the others goes first
+//!                       │
+//!                       ▼
+//!                  the next one of the list ──its estimate passed, its result is put off──► the next ..
+//!                       │
+//!                       └──its result──► result; the others give the request up
+//! ```
+
+ghost use Rattle.std.specs.Prelude.{◌≡◌, ◌+◌, ◌<◌, true, false, OnOk, OnErr, IfOk, IfErr, IsErrOf, Some, None, length};
+ghost use Rattle.client_request.specs.Calls.{Steps, NumbersRunOut};
+ghost use Rattle.client_request.specs.Cx.{view_of, LendsTheSame};
+ghost use Rattle.client_request.specs.Response.{IsRefusal};
+ghost use Rattle.client_settings.specs.Settings.{default_redundant};
+ghost use Rattle.client_choice.specs.Choice as requests;
+ghost use Rattle.client_choice.specs.Redundant as plain;
+ghost use Rattle.client_choice.specs.Servers as of_servers;
+
+use crate::choice::Choice;
+use crate::entries::{by_estimate, probe, promote};
+use crate::job::Entry;
+use crate::servers::send_at;
+use crate::steps::{give_up, hear, take_on};
+use client_request::{
+    Board, ComposeRequest, Cx, Error, GetResponse, Poll, SendRequest, Signal, Words, take_response,
+};
+use dns_base::{Message, NoMemory};
+use std::alloc::Global;
+use std::collections::VecDeque;
+use std::fmt;
+use std::marker::Model;
+
+pub use client_settings::redundant::Config;
+
+/// The identifier of the first server that is added. The others follow.
+const FIRST_IDENTIFIER: u64 = 10;
+
+/// Several servers, of which the one that is expected to answer first is asked first.
+#[derive(Drop)]
+pub struct Connection<Req, U: SendRequest<Req>> {
+    config: Config,
+    choice: Choice<Req, U>,
+    failed: bool,
+}
+
+/// The same: a connection is a transport.
+pub type Transport<Req, U> = Connection<Req, U>;
+
+impl<Req, U: SendRequest<Req>> Model for Connection<Req, U> {
+    ghost use Rattle.client_choice.specs.Redundant.{Redundant};
+
+    ghost Value = { Redundant Req U U.Response };
+
+    ghost view = { λ c. record { settings = c.config; choice = c.choice; failed = c.failed } };
+}
+
+impl<Req, U: SendRequest<Req>> Connection<Req, U> {
+    /// A choice without servers, with the default settings: no result is put off. It takes no memory.
+    pub fn new(alloc: Global) -> Connection<Req, U>
+        ensures { result ≡ plain.started default_redundant }
+    {
+        Connection::with_config(alloc, Config::new())
+    }
+
+    /// A choice without servers, with settings of one's own. It takes no memory.
+    pub fn with_config(alloc: Global, config: Config) -> Connection<Req, U>
+        ensures { result ≡ plain.started config }
+    {
+        Connection {
+            config,
+            choice: Choice::new(alloc),
+            failed: false,
+        }
+    }
+}
+
+/// The place of the server of an identifier, if it is one.
+fn index_of(id: u64) -> Option<usize>
+    ensures { result ≡ plain.index_of id }
+{
+    if id < FIRST_IDENTIFIER {
+        return None;
+    }
+    Some((id - FIRST_IDENTIFIER) as usize)
+}
+
+/// The entry that is probed goes first, with the least estimate. Its list is in order, so the first
+/// entry has it.
+fn draw_probe<W: Words>(
+    entries: &mut VecDeque<Entry>,
+    cx: &mut Cx<'_, W>,
+    first: Entry,
+) -> Result<(), NoMemory>
+    ensures lends { LendsTheSame cx.old cx.new }
+    ensures entries { OnOk result (entries.new.items ≡ plain.with_probe (plain.probe (length entries.old.items) (view_of W.stream cx.old)).0 first entries.old.items) }
+    ensures view { view_of W.stream cx.new ≡ (plain.probe (length entries.old.items) (view_of W.stream cx.old)).1 }
+{
+    match probe(cx, entries.len()) {
+        None => Ok(()),
+        Some(place) => promote(entries, place, first.estimate),
+    }
+}
+
+/// Takes a request on, with the servers in order. Where there is none, it gets that error.
+fn take_listed<Req: ComposeRequest, U: SendRequest<Req>, W: Words>(
+    choice: &mut Choice<Req, U>,
+    config: &Config,
+    cx: &mut Cx<'_, W>,
+    ticket: u64,
+    entries: VecDeque<Entry>,
+    request: Req,
+) -> Result<(), Error>
+    ensures lends { LendsTheSame cx.old cx.new }
+    ensures ok { Steps result (plain.takes_listed config.now U.transport ticket request entries.items choice.old (view_of W.stream cx.old)) (choice.new, view_of W.stream cx.new) }
+    ensures numbers { NumbersRunOut result (plain.takes_listed config.now U.transport ticket request entries.items choice.old (view_of W.stream cx.old)) }
+    ensures keeps { OnOk result (of_servers.flags U.holds_failed choice.new.servers ≡ of_servers.flags U.holds_failed choice.old.servers) }
+    ensures refused { IfErr result IsRefusal }
+    ensures failed_only { IsErrOf result Error.Failed → of_servers.holds_failed U.holds_failed choice.old.servers ≡ true }
+{
+    let mut entries = entries;
+    let Some(first) = entries.front().copied() else {
+        cx.board.put(ticket, Err(Error::NoTransportAvailable))?;
+        return Ok(());
+    };
+    draw_probe(&mut entries, cx, first)?;
+    take_on(choice, config, cx, ticket, entries, request)
+}
+
+/// Takes a request on.
+fn take<Req: ComposeRequest, U: SendRequest<Req>, W: Words>(
+    choice: &mut Choice<Req, U>,
+    config: &Config,
+    cx: &mut Cx<'_, W>,
+    request: Req,
+) -> Result<u64, Error>
+    ensures lends { LendsTheSame cx.old cx.new }
+    ensures ok { Steps result (plain.takes config.now U.transport request choice.old (view_of W.stream cx.old)) (choice.new, view_of W.stream cx.new) }
+    ensures ticket { IfOk result (λ ticket. ticket ≡ cx.old.ticket) }
+    ensures numbers { NumbersRunOut result (plain.takes config.now U.transport request choice.old (view_of W.stream cx.old)) }
+    ensures keeps { OnOk result (of_servers.flags U.holds_failed choice.new.servers ≡ of_servers.flags U.holds_failed choice.old.servers) }
+    ensures refused { IfErr result IsRefusal }
+    ensures failed_only { IsErrOf result Error.Failed → of_servers.holds_failed U.holds_failed choice.old.servers ≡ true }
+{
+    let ticket = cx.ticket;
+    let Some(next) = ticket.checked_add(1) else {
+        return Err(Error::NumbersUsed);
+    };
+    cx.ticket = next;
+    let entries = by_estimate(choice.alloc, &choice.servers)?;
+    take_listed(choice, config, cx, ticket, entries, request)?;
+    Ok(ticket)
+}
+
+impl<Req: ComposeRequest, U: SendRequest<Req> + Drop> Connection<Req, U> {
+    /// Adds a server behind the others, whose identifier is one more than that of the last: the first
+    /// has 10. It is asked from the next request on. `Failed` comes where an earlier call found no memory
+    /// or no number; after `NoMemory` each later call answers `Failed`.
+    pub fn add(&mut self, conn: U) -> Result<(), Error>
+        ensures ok { OnOk result (self.new ≡ record self.old { choice = requests.with_server conn self.old.choice }) }
+        ensures want { IfErr result (λ e. e ≡ (if self.old.failed then Error.Failed else Error.NoMemory)) }
+        ensures err { OnErr result (self.new ≡ record self.old { failed = true }) }
+    {
+        if self.failed {
+            return Err(Error::Failed);
+        }
+        if self.choice.add(conn).is_err() {
+            self.failed = true;
+            return Err(Error::NoMemory);
+        }
+        Ok(())
+    }
+}
+
+impl<Req: ComposeRequest, U: SendRequest<Req>> Connection<Req, U> {
+    /// Sends a request to the server of an identifier, past the choice: its result stands on the board under
+    /// the response's ticket, and counts in no estimate. `RedundantTransportNotFound` comes exactly where
+    /// no server was added under the identifier; then nothing is changed.
+    pub fn send_on<W: Words>(
+        &mut self,
+        cx: &mut Cx<'_, W>,
+        id: u64,
+        request: Req,
+    ) -> Result<U::Response, Error>
+        ensures lends { LendsTheSame cx.old cx.new }
+        ensures ok { IfOk result (λ r. plain.sends_on U.transport id request self.old (view_of W.stream cx.old) ≡ Some ((Some r, self.new), view_of W.stream cx.new)) }
+        ensures numbers { NumbersRunOut result (plain.sends_on U.transport id request self.old (view_of W.stream cx.old)) }
+    {
+        if self.failed {
+            return Err(Error::Failed);
+        }
+        let Some(index) = index_of(id) else {
+            return Err(Error::RedundantTransportNotFound);
+        };
+        match send_at(&mut self.choice.servers, index, cx, request) {
+            Ok(Some(response)) => Ok(response),
+            Ok(None) => Err(Error::RedundantTransportNotFound),
+            Err(error) => {
+                self.failed = true;
+                Err(error)
+            }
+        }
+    }
+}
+
+/// What stands for the result of a request.
+#[derive(Drop)]
+pub struct Request {
+    ticket: u64,
+    given: bool,
+}
+
+impl Model for Request {
+    ghost use Rattle.client_choice.specs.Redundant.{Asked};
+
+    ghost Value = { Asked };
+
+    ghost view = { λ r. record { ticket = r.ticket; given = r.given } };
+}
+
+impl fmt::Debug for Request {
+    fn fmt<W: fmt::Write>(&self, f: &mut fmt::Formatter<W>) -> fmt::Result {
+        f.write_str("Request { fut: _ }")
+    }
+}
+
+impl GetResponse for Request {
+    ghost ticket_of = { λ r. r.ticket };
+
+    ghost has_given = { λ r. r.given };
+
+    fn get_response(&mut self, board: &mut Board) -> Poll<Result<Message, Error>> {
+        take_response(board, self.ticket, &mut self.given)
+    }
+
+    fn ticket(&self) -> u64 {
+        self.ticket
+    }
+}
+
+impl<Req: ComposeRequest, U: SendRequest<Req>> SendRequest<Req> for Connection<Req, U> {
+    type Response = Request;
+
+    ghost has_failed = { λ c. c.failed };
+
+    ghost holds_failed = { plain.holds_failed U.holds_failed };
+
+    ghost transport = { plain.transport U.transport };
+
+    fn send_request<W: Words>(
+        &mut self,
+        cx: &mut Cx<'_, W>,
+        request: Req,
+    ) -> Result<Request, Error> {
+        if self.failed {
+            return Err(Error::Failed);
+        }
+        let result = take(&mut self.choice, &self.config, cx, request);
+        match result {
+            Ok(ticket) => Ok(Request {
+                ticket,
+                given: false,
+            }),
+            Err(error) => {
+                self.failed = true;
+                Err(error)
+            }
+        }
+    }
+
+    fn step<W: Words>(&mut self, cx: &mut Cx<'_, W>, signal: Signal<'_>) -> Result<(), Error> {
+        if self.failed {
+            return Err(Error::Failed);
+        }
+        let result = hear(&mut self.choice, &self.config, cx, signal);
+        if result.is_err() {
+            self.failed = true;
+        }
+        result
+    }
+
+    fn cancel<W: Words>(&mut self, cx: &mut Cx<'_, W>, response: Request) -> Result<(), Error> {
+        if self.failed {
+            return Err(Error::Failed);
+        }
+        let result = give_up(&mut self.choice, cx, response.ticket);
+        if result.is_err() {
+            self.failed = true;
+        }
+        result
+    }
+}
