@@ -1,0 +1,6 @@
+use Rattle.choice_runs.proofs.Silence.{numbers_are_tied}
+use Rattle.choice_runs.proofs.AtServer.{others_stay_tied}
+use Rattle.choice_runs.proofs.laws.numbers_are_tied.Goals as goal
+
+pub returns : goal.returns
+returns c = numbers_are_tied

@@ -1,0 +1,4 @@
+pub mod Choosing
+pub mod Leading
+pub mod Servers
+pub mod Silent
