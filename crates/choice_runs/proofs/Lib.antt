@@ -1,2 +1,4 @@
 pub mod AtServer
+pub mod Leading
+pub mod ServerCalls
 pub mod Silence

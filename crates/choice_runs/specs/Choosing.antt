@@ -1,6 +1,7 @@
 -- A choice among servers, each of which is tied to a part of the machine of small moves.
 use Rattle.std.specs.Prelude.{◌≡◌, ℕ, ◌<◌, ◌⊎◌, Bool, true, false, Option, Some, None, option_map, List, [], ◌∷◌, ◌++◌, length}
 use Rattle.client_request.specs.Board.{Part}
+use Rattle.client_request.specs.Carries.{IsOfOctets}
 use Rattle.client_request.specs.Request.{Request}
 use Rattle.client_request.specs.View.{View, Heard, Transport, told, more_at, due_timer, asks}
 use Rattle.client_request.specs.declared.board.Posted.{Posted}
@@ -12,8 +13,10 @@ use Rattle.client_settings.specs.Settings.{RedundantSettings}
 use Rattle.headline.specs.Settings.{Settings}
 use Rattle.headline.specs.Trace.{Conf}
 use Rattle.headline.specs.machine.Part.{ServerPart}
-use Rattle.client_ties.specs.PartTie.{Phase, Untold, Told, IsTie}
-use Rattle.client_ties.specs.Sights.{Sight, sight}
+use Rattle.headline.specs.machine.Streams.{with_at}
+use Rattle.client_ties.specs.Chains.{Chain, Begins}
+use Rattle.client_ties.specs.PartTie.{Phase, Untold, Told, IsTie, Leads, Leaves}
+use Rattle.client_ties.specs.Sights.{Sight, sight, IsFair}
 
 -- T is the transport t, which puts out `Start` before it hands a request on, as server s.
 pub record IsStarting (s : ℕ) (via : Via) {U R : Type 0} (t T : Transport Request U R) (IsPlaced : U → Type 0) : Type 0 where
@@ -47,6 +50,11 @@ pub record Ignores {A U R : Type 0} (T : Transport Request U R) (Tied : Phase �
   -- what comes at once of a request is its own result
   pub sends : (phase : Phase) (u : U) (v : View) (a : A) (r : Request) (w : U) (x : View) → Tied phase u (sight v) a → T.send r u v ≡ Some (w, x) → HasOneMore v.ticket v.board x.board
 
+-- A request may be handed to server s in any phase, since other servers give results in any: where the tie speaks of the phase before the event alone.
+abbrev pub SendsInAnyPhase : {c : Conf} (P : ServerPart c) (s : ℕ) (via : Via) {U R : Type 0} (t : Transport Request U R) (Tied : Phase → U → Sight → P.State → Type 0) (names : U → ℕ → Option ℕ) (Owns : U → ℕ → Type 0) → Type 0
+SendsInAnyPhase P s via {U} t Tied names Owns = (phase : Phase) (u : U) (v : View) (a : P.State) (r : Request) → Tied phase u (sight v) a → IsFair v → IsOfOctets r → P.holds a v.request ≡ false
+    → Leads (Leaves P Tied names Owns (Begins (P.Starts s v.place v.request r a) (Chain P s)) (with_at v.ticket (Some v.request) (names u)) u v phase) (t.send r u (asks (Start v.request s via) v))
+
 -- what is put off here is what is deferred there
 pub record SameDeferring (here : RedundantSettings) (there : Settings) : Type 0 where
   pub errors : here.defer_transport_error ≡ there.defers_errors
@@ -75,4 +83,5 @@ pub record Choosing : Type 1 where
   pub placed : (s : ℕ) (phase : Phase) (u : U) (x : Sight) (a : P.State) → Tied s phase u x a → IsPlaced s u
   pub tie : (s : ℕ) → s < length c.servers → IsTie P s (via s) (bare s) ticket (first s) (Tied s) names Owns
   pub layer : (s : ℕ) → s < length c.servers → IsStarting s (via s) (bare s) below (IsPlaced s)
+  pub sends : (s : ℕ) → s < length c.servers → SendsInAnyPhase P s (via s) (bare s) (Tied s) names Owns
   pub ignores : (s : ℕ) → s < length c.servers → Ignores below (Tied s) Owns has
