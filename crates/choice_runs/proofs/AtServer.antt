@@ -14,7 +14,7 @@ use Rattle.client_ties.proofs.GoingOn.{none_next}
 use Rattle.client_ties.proofs.Keys.{each_number}
 use Rattle.choice_runs.specs.Choosing.{Choosing}
 use Rattle.choice_runs.specs.Leading.{IsMoved}
-use Rattle.choice_runs.specs.Servers.{State, Listed, AreTied, SeenAlike, IsCalled, OthersStayTied}
+use Rattle.choice_runs.specs.Servers.{State, Listed, AreTied, OthersAreTied, SeenAlike, IsCalled, OthersStayTied}
 
 module _ {A : Type 0} where
   pub set_here : (xs : List A) (i : ℕ) (a b : A) → slice_get xs i ≡ Some a → slice_get (set xs i b) i ≡ Some b
@@ -50,8 +50,11 @@ up_to a b c d e le f = omega arith
 pub fair_as : (v w : View) → w.timers ≡ v.timers → w.words ≡ v.words → IsFair v → IsFair w
 fair_as v w timers words fair = subst₂ (λ (t : TimerList) (f : ℕ → ℕ). IsFair (record w { timers = t; words = f })) (sym timers) (sym words) (record { order = fair.order; words = fair.words })
 
+pub but : (g : Choosing) (s : ℕ) (phase : ℕ → Phase) (servers : Listed g) (v : View) (x : State g) → AreTied g phase servers v x → OthersAreTied g s phase servers v x
+but g s phase servers v x t = record { count = t.count; tied = λ q a ne at. t.tied q a at; apart = t.apart; fair = t.fair; place = t.place }
+
 module _ (g : Choosing) (s : ℕ) (May : Act g.P.State → Type 0) (named : ℕ → Option ℕ) (phase after : ℕ → Phase) (servers : Listed g) (a b : Server g.U) (v w : View) (x y : State g)
-    (t : AreTied g phase servers v x) (at : slice_get servers s ≡ Some a) (k : IsCalled g s May named a b v w (after s) x y) (others : (q : ℕ) → (s ≡ q → ⊥) → after q ≡ phase q) where
+    (t : OthersAreTied g s phase servers v x) (at : slice_get servers s ≡ Some a) (k : IsCalled g s May named a b v w (after s) x y) (others : (q : ℕ) → (s ≡ q → ⊥) → after q ≡ phase q) where
   within : (q : ℕ) (e : Server g.U) → slice_get servers q ≡ Some e → q < length (g.c).servers
   within q e is = subst (λ n. q < n) t.count (slice_get_within servers q e is)
 
@@ -62,12 +65,12 @@ module _ (g : Choosing) (s : ℕ) (May : Act g.P.State → Type 0) (named : ℕ 
   not_mine : (q : ℕ) (e : Server g.U) (i : ℕ) → (s ≡ q → ⊥) → slice_get servers q ≡ Some e → g.Owns e.upstream i → g.Owns a.upstream i → ⊥
   not_mine q e i ne is o mine = ne (t.apart s q i a e at is mine o)
 
-  is_set : (q : ℕ) (e : Server g.U) (i : ℕ) → slice_get servers q ≡ Some e → g.Owns e.upstream i → (due : ℕ) × (due_of i v.timers.set ≡ Some due)
-  is_set q e i is o = (g.tie q (within q e is)).set (phase q) e.upstream (sight v) (x.ups q) i (t.tied q e is) o
+  is_set : (q : ℕ) (e : Server g.U) (i : ℕ) → (s ≡ q → ⊥) → slice_get servers q ≡ Some e → g.Owns e.upstream i → (due : ℕ) × (due_of i v.timers.set ≡ Some due)
+  is_set q e i ne is o = (g.tie q (within q e is)).set (phase q) e.upstream (sight v) (x.ups q) i (t.tied q e ne is) o
 
   still_due : (q : ℕ) (e : Server g.U) (i : ℕ) → (s ≡ q → ⊥) → slice_get servers q ≡ Some e → g.Owns e.upstream i → due_of i w.timers.set ≡ due_of i v.timers.set
   still_due q e i ne is o =
-      let d = is_set q e i is o in
+      let d = is_set q e i ne is o in
       ap (λ (l : TimerList). due_of i l.set) k.to.timers
       ∙ (k.leaves.others i d.0 (not_mine q e i ne is o) (ap (λ (l : TimerList). due_of i l.set) k.from.timers ∙ d.1) ∙ sym d.1)
 
@@ -78,7 +81,7 @@ module _ (g : Choosing) (s : ℕ) (May : Act g.P.State → Type 0) (named : ℕ 
 
   tied_there : (q : ℕ) (e : Server g.U) → (s ≡ q → ⊥) → slice_get servers q ≡ Some e → g.Tied q (after q) e.upstream (sight w) (y.ups q)
   tied_there q e ne is = subst₂ (λ p z. g.Tied q p e.upstream (sight w) z) (sym (others q ne)) (sym (k.moved.others q ne))
-      ((g.tie q (within q e is)).same (phase q) e.upstream (sight v) (sight w) (x.ups q) (t.tied q e is) now (λ i o. still_due q e i ne is o)
+      ((g.tie q (within q e is)).same (phase q) e.upstream (sight v) (sight w) (x.ups q) (t.tied q e ne is) now (λ i o. still_due q e i ne is o)
       (up_to v.timers.next k.before.timers.next k.after.timers.next w.timers.next (ap (λ (l : TimerList). l.next) k.from.timers) k.leaves.goes_on.timer (ap (λ (l : TimerList). l.next) k.to.timers))
       (up_to v.ticket k.before.ticket k.after.ticket w.ticket k.from.ticket k.leaves.goes_on.ticket k.to.ticket)
       (up_to v.place k.before.place k.after.place w.place k.from.place k.leaves.goes_on.place k.to.place))
@@ -87,7 +90,7 @@ module _ (g : Choosing) (s : ℕ) (May : Act g.P.State → Type 0) (named : ℕ 
   none_of : (q : ℕ) (e : Server g.U) (i : ℕ) → (s ≡ q → ⊥) → slice_get servers q ≡ Some e → g.Owns b.upstream i → g.Owns e.upstream i → ⊥
   none_of q e i ne is mine o = elim (k.leaves.owned i mine) [
     | inl was ↦ not_mine q e i ne is o was
-    | inr le ↦ (let d = is_set q e i is o in none_is (due_of i v.timers.set) d.0 (none_next v i t.fair (subst (λ (l : TimerList). l.next ≤ i) k.from.timers le)) d.1)
+    | inr le ↦ (let d = is_set q e i ne is o in none_is (due_of i v.timers.set) d.0 (none_next v i t.fair (subst (λ (l : TimerList). l.next ≤ i) k.from.timers le)) d.1)
   ]
 
   is_here : (e : Server g.U) → slice_get (set servers s b) s ≡ Some e → b ≡ e

@@ -1,5 +1,5 @@
 -- What a call of one server is to all of them and to the machine.
-use Rattle.std.proofs.Common.{◌≡◌, ℕ, zero, suc, ◌+◌, ◌<◌, ◌≤◌, ◌⊎◌, inl, inr, Bool, true, false, cond, ◌==◌, ◌||◌, List, [], ◌∷◌, ◌++◌, length, Option, Some, None, slice_get, refl, sym, ap, ap₂, subst, subst₂, ◌∙◌, arith}
+use Rattle.std.proofs.Common.{◌≡◌, ℕ, zero, suc, ◌+◌, ◌<◌, ◌≤◌, ◌⊎◌, inl, inr, Bool, true, false, cond, ◌==◌, ◌||◌, List, [], ◌∷◌, ◌++◌, length, Option, Some, None, slice_get, refl, sym, ap, ap₂, subst, subst₂, ◌∙◌, arith, le_refl}
 use Rattle.std.proofs.lemmas.Bool.Decides.{nat_tests}
 use Rattle.std.specs.Prelude.{set, option_map, option_and_then, nat_lt, not, Result}
 use Rattle.std.proofs.lemmas.Option.{slice_get_within}
@@ -23,11 +23,12 @@ use Rattle.headline.specs.machine.Streams.{with_at}
 use Rattle.client_ties.specs.Chains.{Chain, Begins, Gives, part_of}
 use Rattle.client_ties.specs.PartTie.{Phase, Untold, Told, MayLeave, Leaves, Tells, GoesOn, Leads as IfLeft}
 use Rattle.client_ties.specs.Sights.{sight, due_of, IsFair, IsEarly}
-use Rattle.client_ties.proofs.Keys.{with_here, with_again, with_same}
+use Rattle.client_ties.proofs.GoingOn.{fair_without, dues_without}
+use Rattle.client_ties.proofs.Keys.{with_there, with_here, with_again, with_same}
 use Rattle.choice_runs.specs.Choosing.{Choosing, HasOneMore}
 use Rattle.choice_runs.specs.Leading.{IsMoved, Reaches}
-use Rattle.choice_runs.specs.Servers.{State, Listed, AreTied, SeenAlike, IsCalled, AfterCall, IsDropped, HasReply, Comes, Came, IsStarted, IsHeard, IsTold}
-use Rattle.choice_runs.proofs.AtServer.{stay_tied, both_are, none_is}
+use Rattle.choice_runs.specs.Servers.{State, Listed, AreTied, OthersAreTied, SeenAlike, IsCalled, AfterCall, IsDropped, HasReply, Comes, Came, IsStarted, IsHeard, IsTold}
+use Rattle.choice_runs.proofs.AtServer.{stay_tied, but, both_are, none_is}
 use Rattle.choice_runs.proofs.Leading.{cancel_moves, start_moves, chain_moves, up_here, up_other}
 
 -- where no results are given the board is as it was
@@ -69,7 +70,7 @@ module _ (g : Choosing) where
 
   -- What a call leaves, from a view with another board, is what it leaves of all.
   pub called : (phase after : ℕ → Phase) (s : ℕ) (May : Act g.P.State → Type 0) (named : ℕ → Option ℕ) (a b : Server g.U) (servers : Listed g) (v : View) (from x : State g) (w : View)
-      → AreTied g phase servers v x → slice_get servers s ≡ Some a → ((q : ℕ) → (s ≡ q → ⊥) → after q ≡ phase q)
+      → OthersAreTied g s phase servers v x → slice_get servers s ≡ Some a → ((q : ℕ) → (s ≡ q → ⊥) → after q ≡ phase q)
       → (l : Leaves g.P (g.Tied s) g.names g.Owns May named a.upstream (onto [] v) (after s) b.upstream w) → Reaches g.st composed g.P s from x l.made
       → AfterCall g after s a b named w.board servers v from x (onto v.board w)
   called phase after s May named a b servers v from x w t at others l r = record {
@@ -130,7 +131,7 @@ module _ (g : Choosing) where
           board = refl;
           call = subst (λ n. AfterCall g phase s a (dropped g.below lower a v (u, w)).0 (with_at n None (g.names a.upstream)) [] servers v x x (onto v.board w)) same
               (subst (λ bs. AfterCall g phase s a (dropped g.below lower a v (u, w)).0 (with_at (g.ticket r) None (g.names a.upstream)) bs servers v x x (onto v.board w)) nothing
-              (called phase phase s (λ d. Begins (g.P.Cancels s v.place k (x.ups s)) (Chain g.P s) d × (d.posts ≡ [])) (with_at (g.ticket r) None (g.names a.upstream)) a (dropped g.below lower a v (u, w)).0 servers v x x w t at (λ q ne. refl) l
+              (called phase phase s (λ d. Begins (g.P.Cancels s v.place k (x.ups s)) (Chain g.P s) d × (d.posts ≡ [])) (with_at (g.ticket r) None (g.names a.upstream)) a (dropped g.below lower a v (u, w)).0 servers v x x w (but g s phase servers v x t) at (λ q ne. refl) l
               (cancel_moves g.st composed g.P s within x k l.made none holds (subst (λ p. Begins (g.P.Cancels s p k (x.ups s)) (Chain g.P s) l.made) (sym t.place) l.may.0))));
         }
           where
@@ -158,7 +159,7 @@ module _ (g : Choosing) where
           waiting = refl;
           posted = refl;
           board = refl;
-          call = called phase after s May (g.names a.upstream) a (heard g.below a v (u, w)).0.1 servers v x x w t at others l (moves l.made l.may);
+          call = called phase after s May (g.names a.upstream) a (heard g.below a v (u, w)).0.1 servers v x x w (but g s phase servers v x t) at others l (moves l.made l.may);
         }
 
     -- a request is started: this is what it got
@@ -225,7 +226,7 @@ module _ (g : Choosing) where
             posted = r.1;
             board = refl;
             given = w.board;
-            call = called phase phase s (MayStart k) (with_at v.ticket (Some k) (g.names a.upstream)) a b servers v x (hand k s ask x) w after_hand at (λ q ne. refl) n
+            call = called phase phase s (MayStart k) (with_at v.ticket (Some k) (g.names a.upstream)) a b servers v x (hand k s ask x) w (but g s phase servers v (hand k s ask x) after_hand) at (λ q ne. refl) n
                 (start_moves g.st composed g.P s within x k ask n.made held untried begins);
             reply = r.0;
           }
@@ -274,7 +275,7 @@ module _ (g : Choosing) where
                 waiting = refl;
                 posted = refl;
                 board = refl;
-                call = called phase after s May (g.names a.upstream) a (heard g.below a v (u, w)).0.1 servers v x x w t at (λ q ne. up_other s q (Told l.at l.left) phase ne) leaves (moves leaves.made leaves.may);
+                call = called phase after s May (g.names a.upstream) a (heard g.below a v (u, w)).0.1 servers v x x w (but g s phase servers v x t) at (λ q ne. up_other s q (Told l.at l.left) phase ne) leaves (moves leaves.made leaves.may);
               };
             }
           where
@@ -309,3 +310,41 @@ module _ (g : Choosing) where
         as_it_was [] i a e q = absurd (cc)
         as_it_was (b ∷ bs) zero a e q = ap₂ (λ (c : Server g.U) (ps : List Posted). record c { posted = ps } ∷ bs) (sym (both_are (Some b) b a refl e)) (sym (ap (λ (c : Server g.U). c.posted) (both_are (Some b) b a refl e) ∙ q))
         as_it_was (b ∷ bs) (suc i) a e q = ap (λ cs. b ∷ cs) (as_it_was bs i a e q)
+
+  -- A timer of a server fires: it was taken out before.
+  module _ (phase : ℕ → Phase) (servers : Listed g) (v : View) (x : State g) (s : ℕ) (a : Server g.U) (t : AreTied g phase servers v x) (at : slice_get servers s ≡ Some a) (quiet : a.posted ≡ []) (i due : ℕ) (own : g.Owns a.upstream i) (set_then : due_of i v.timers.set ≡ Some due) (passed : due ≤ v.now) where
+    abbrev gone : View
+    gone = record v { timers = cancelled i v.timers }
+
+    others_tied : OthersAreTied g s phase servers gone x
+    others_tied = record {
+      count = t.count;
+      tied = λ q e ne is. (g.tie q (in_conf phase servers v x q e t is)).same (phase q) e.upstream (sight v) (sight gone) (x.ups q) (t.tied q e is) refl
+          (λ j o. dues_without v i j t.fair ∙ with_there i None (λ (j : ℕ). due_of j v.timers.set) j (λ same. ne (t.apart s q i a e at is own (subst (λ j. g.Owns e.upstream j) (sym same) o))))
+          (le_refl v.timers.next) (le_refl v.ticket) (le_refl v.place);
+      apart = t.apart;
+      fair = fair_without v i t.fair;
+      place = t.place;
+    }
+
+    fired_so : (u : g.U) (w : View) → Leaves g.P (g.Tied s) g.names g.Owns (Chain g.P s v.place (x.ups s)) (g.names a.upstream) a.upstream (onto [] gone) (phase s) u w
+        → IsHeard g phase s a servers gone x ((heard g.below a gone (u, w)).0.0, set servers s (heard g.below a gone (u, w)).0.1) (heard g.below a gone (u, w)).1
+    fired_so u w l = record {
+      server = (heard g.below a gone (u, w)).0.1;
+      lists = refl;
+      waiting = refl;
+      posted = refl;
+      board = refl;
+      call = called phase phase s (Chain g.P s v.place (x.ups s)) (g.names a.upstream) a (heard g.below a gone (u, w)).0.1 servers gone x x w others_tied at (λ q ne. refl) l
+          (chain_moves g.st composed g.P s (in_conf phase servers v x s a t at) v.place (x.ups s) l.made l.may x t.place refl);
+    }
+
+    pub one_fires : IfLeft (IsHeard g phase s a servers gone x) (hears_at g.below s (due_timer i) servers gone)
+    one_fires =
+        subst (λ o. IfLeft (IsHeard g phase s a servers gone x) (hears_found g.below s (due_timer i) servers gone o)) (sym at)
+        (subst (λ bs. IfLeft (IsHeard g phase s a servers gone x) (option_map (λ z. ((z.0.0, set servers s z.0.1), z.1)) (option_map (heard g.below a gone) (g.below.step (due_timer i) a.upstream (onto bs gone))))) (sym quiet)
+        (subst (λ o. IfLeft (IsHeard g phase s a servers gone x) (option_map (λ z. ((z.0.0, set servers s z.0.1), z.1)) (option_map (heard g.below a gone) o))) (sym ((g.layer s (in_conf phase servers v x s a t at)).step (due_timer i) a.upstream (onto [] gone)))
+        (left_map (λ (y : List Posted × Server g.U) (w : View). IsHeard g phase s a servers gone x (y.0, set servers s y.1) w) (IsHeard g phase s a servers gone x) (λ z. ((z.0.0, set servers s z.0.1), z.1)) (option_map (heard g.below a gone) ((g.bare s).step (due_timer i) a.upstream (onto [] gone))) (λ y w d. d)
+        (left_map (Leaves g.P (g.Tied s) g.names g.Owns (Chain g.P s v.place (x.ups s)) (g.names a.upstream) a.upstream (onto [] gone) (phase s))
+        (λ (y : List Posted × Server g.U) (w : View). IsHeard g phase s a servers gone x (y.0, set servers s y.1) w) (heard g.below a gone) ((g.bare s).step (due_timer i) a.upstream (onto [] gone)) fired_so
+        ((g.tie s (in_conf phase servers v x s a t at)).fires (phase s) a.upstream (onto [] v) (x.ups s) i due (t.tied s a at) (record { order = t.fair.order; words = t.fair.words }) set_then passed)))))

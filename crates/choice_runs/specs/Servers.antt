@@ -33,6 +33,14 @@ module _ (g : Choosing) where
     pub fair : IsFair v
     pub place : x.place ≡ v.place
 
+  -- so is each but server s, while it is called
+  pub record OthersAreTied (s : ℕ) (phase : ℕ → Phase) (servers : Listed) (v : View) (x : State) : Type 0 where
+    pub count : length servers ≡ length (g.c).servers
+    pub tied : (q : ℕ) (a : Server g.U) → (s ≡ q → ⊥) → slice_get servers q ≡ Some a → g.Tied q (phase q) a.upstream (sight v) (x.ups q)
+    pub apart : (s q i : ℕ) (a b : Server g.U) → slice_get servers s ≡ Some a → slice_get servers q ≡ Some b → g.Owns a.upstream i → g.Owns b.upstream i → s ≡ q
+    pub fair : IsFair v
+    pub place : x.place ≡ v.place
+
   -- two views of one moment, with the same timers and numbers
   pub record SeenAlike (v w : View) : Type 0 where
     pub now : w.now ≡ v.now
@@ -107,4 +115,4 @@ module _ (g : Choosing) where
 -- Whatever server is called, the others stay tied as they were.
 abbrev pub OthersStayTied : Type 1
 OthersStayTied = (g : Choosing) (s : ℕ) (May : Act g.P.State → Type 0) (named : ℕ → Option ℕ) (phase after : ℕ → Phase) (servers : Listed g) (a b : Server g.U) (v w : View) (x y : State g)
-    → AreTied g phase servers v x → slice_get servers s ≡ Some a → IsCalled g s May named a b v w (after s) x y → ((q : ℕ) → (s ≡ q → ⊥) → after q ≡ phase q) → AreTied g after (set servers s b) w y
+    → OthersAreTied g s phase servers v x → slice_get servers s ≡ Some a → IsCalled g s May named a b v w (after s) x y → ((q : ℕ) → (s ≡ q → ⊥) → after q ≡ phase q) → AreTied g after (set servers s b) w y
