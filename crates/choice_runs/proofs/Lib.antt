@@ -1,4 +1,6 @@
 pub mod AtServer
 pub mod Leading
 pub mod ServerCalls
+pub mod Keeping
+pub mod Dropping
 pub mod Silence

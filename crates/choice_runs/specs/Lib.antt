@@ -1,4 +1,5 @@
 pub mod Choosing
 pub mod Leading
+pub mod Requests
 pub mod Servers
 pub mod Silent
