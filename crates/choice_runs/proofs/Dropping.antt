@@ -83,6 +83,7 @@ module _ (g : Choosing) where
       foreign = λ i t q e is found o. (let d = timer_due i t is in far_on i d.0 d.1 (λ q e at own. st.foreign i t q e is at own) q e found o);
       timers = st.timers;
       due = λ i m is. call.others i m (st.far i m s a is at) (st.due i m is);
+      own = st.own;
       far = λ i m q e is found o. far_on i m (st.due i m is) (λ q e at own. st.far i m q e is at own) q e found o;
     }
 
@@ -231,7 +232,7 @@ module _ (g : Choosing) where
             → ((named : ℕ → ℕ → Option ℕ) (c : Choice Request g.U g.R) (v : View) (x : State g) → x.held over ≡ None → AreApart es → ((b : Begun g) → IsIn b es → (r : g.R) → b.response ≡ Some r → (cur ≡ b.server → ⊥) × Waits g (desk_of g jobs named c v x) t0 over b r)
                 → Stands g dl phase cur jobs named over es c v x → IfLeft (AreOff [] named c v x) (drops_each g.below es c.servers v))
             → IfLeft (AreOff [] named c v x) (option_and_then (λ z. drops_each g.below es z.0 z.1) (drops_response g.below e c.servers v o))
-        by None is ih = ih named c v x none apart.1 (λ b m r p. waits b (inr m) r p) (record { servers = st.servers; quiet = st.quiet; is_named = st.is_named; kept = none_dropped g over e es (desk_of g jobs named c v x) is st.kept; foreign = st.foreign; timers = st.timers; due = st.due; far = st.far })
+        by None is ih = ih named c v x none apart.1 (λ b m r p. waits b (inr m) r p) (record { servers = st.servers; quiet = st.quiet; is_named = st.is_named; kept = none_dropped g over e es (desk_of g jobs named c v x) is st.kept; foreign = st.foreign; timers = st.timers; due = st.due; own = st.own; far = st.far })
         by (Some r) is ih =
             let m = waits e (inl refl) r is in
             left_then (AreOff es named c v x) (AreOff [] named c v x) (λ z. drops_each g.below es z.0 z.1) (drops_at g.below e.server e.lower r c.servers v)

@@ -3,5 +3,7 @@ pub mod Leading
 pub mod ServerCalls
 pub mod Keeping
 pub mod Changing
+pub mod Outcomes
+pub mod Disarming
 pub mod Dropping
 pub mod Silence

@@ -115,6 +115,7 @@ module _ (g : Choosing) where
     pub foreign : (i t s : ℕ) (a : Server g.U) → entry_at i c.timers ≡ Some t → slice_get c.servers s ≡ Some a → g.Owns a.upstream i → ⊥
     pub timers : (hi : ℕ) × Sorted 0 hi c.timers
     pub due : (i moment : ℕ) → deadlines i ≡ Some moment → due_of i v.timers.set ≡ Some moment
+    pub own : (i moment t : ℕ) → deadlines i ≡ Some moment → entry_at i c.timers ≡ Some t → ⊥
     pub far : (i moment s : ℕ) (a : Server g.U) → deadlines i ≡ Some moment → slice_get c.servers s ≡ Some a → g.Owns a.upstream i → ⊥
 
   -- what moves left of the machine, while a call left w of the view v
