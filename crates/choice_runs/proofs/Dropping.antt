@@ -90,18 +90,18 @@ module _ (g : Choosing) where
     pub dues_on : (i t due : ℕ) → entry_at i c.timers ≡ Some t → due_of i v.timers.set ≡ Some due → due_of i w.timers.set ≡ Some due
     dues_on i t due is d = call.others i due (λ o. st.foreign i t s a is at o) d
 
-  left_then : {U V : Type 0} (A : U → View → Type 0) (B : V → View → Type 0) (k : U × View → Option (V × View)) (o : Option (U × View)) → ((u : U) (w : View) → A u w → IfLeft B (k (u, w))) → IfLeft A o → IfLeft B (option_and_then k o)
+  pub left_then : {U V : Type 0} (A : U → View → Type 0) (B : V → View → Type 0) (k : U × View → Option (V × View)) (o : Option (U × View)) → ((u : U) (w : View) → A u w → IfLeft B (k (u, w))) → IfLeft A o → IfLeft B (option_and_then k o)
   left_then A B k None f l = tt
   left_then A B k (Some z) f l = f z.0 z.1 l
 
-  left_on : {U : Type 0} (A B : U → View → Type 0) (o : Option (U × View)) → ((u : U) (w : View) → A u w → B u w) → IfLeft A o → IfLeft B o
+  pub left_on : {U : Type 0} (A B : U → View → Type 0) (o : Option (U × View)) → ((u : U) (w : View) → A u w → B u w) → IfLeft A o → IfLeft B o
   left_on A B None f l = tt
   left_on A B (Some z) f l = f z.0 z.1 l
 
-  owner_there : (xs : Listed g) (s q i : ℕ) (b : Server g.U) → (s ≡ q → ⊥) → owner q i (set xs s b) ≡ owner q i xs
+  pub owner_there : (xs : Listed g) (s q i : ℕ) (b : Server g.U) → (s ≡ q → ⊥) → owner q i (set xs s b) ≡ owner q i xs
   owner_there xs s q i b ne = ap (λ o. owner_at i o) (set_there xs s q b ne)
 
-  owner_here : (xs : Listed g) (s i : ℕ) (a : Server g.U) → slice_get xs s ≡ Some a → owner s i xs ≡ entry_at i a.waiting
+  pub owner_here : (xs : Listed g) (s i : ℕ) (a : Server g.U) → slice_get xs s ≡ Some a → owner s i xs ≡ entry_at i a.waiting
   owner_here xs s i a at = ap (λ o. owner_at i o) at
 
   module _ (dl : ℕ → Option ℕ) (phase : ℕ → Phase) (cur : ℕ) (jobs : ℕ → Option (Work g)) (over t0 : ℕ) (gone : jobs t0 ≡ None) where

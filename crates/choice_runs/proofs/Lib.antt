@@ -5,5 +5,6 @@ pub mod Keeping
 pub mod Changing
 pub mod Outcomes
 pub mod Disarming
+pub mod Ending
 pub mod Dropping
 pub mod Silence
