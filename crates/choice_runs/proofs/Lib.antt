@@ -6,5 +6,6 @@ pub mod Changing
 pub mod Outcomes
 pub mod Disarming
 pub mod Ending
+pub mod Noting
 pub mod Dropping
 pub mod Silence
