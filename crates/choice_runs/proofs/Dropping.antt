@@ -1,5 +1,5 @@
 -- The servers that still owe a request its result give it up, one after another.
-use Rattle.std.proofs.Common.{◌≡◌, ℕ, zero, suc, ◌+◌, ◌<◌, ◌≤◌, ◌⊎◌, inl, inr, Bool, true, false, List, [], ◌∷◌, ◌++◌, length, map, Option, Some, None, slice_get, refl, sym, ap, ap₂, subst, subst₂, ◌∙◌, arith, append_assoc, append-nil}
+use Rattle.std.proofs.Common.{◌≡◌, ℕ, zero, suc, ◌+◌, ◌<◌, ◌≤◌, ◌⊎◌, inl, inr, Bool, true, false, List, [], ◌∷◌, ◌++◌, length, map, Option, Some, None, slice_get, refl, sym, ap, ap₂, subst, subst₂, ◌∙◌, arith, le_trans, append_assoc, append-nil}
 use Rattle.std.specs.Prelude.{set, option_and_then, option_map}
 use Rattle.client_request.specs.Composed.{composed}
 use Rattle.client_request.specs.Numbered.{entry_at, frees}
@@ -17,13 +17,13 @@ use Rattle.client_ties.specs.Chains.{Gives}
 use Rattle.client_ties.specs.Lines.{Sorted}
 use Rattle.client_ties.specs.PartTie.{Phase, GoesOn, Leads as IfLeft}
 use Rattle.client_ties.specs.Sights.{due_of}
-use Rattle.client_ties.proofs.GoingOn.{goes_nowhere, goes_then, none_next}
+use Rattle.client_ties.proofs.GoingOn.{goes_nowhere, none_next}
 use Rattle.client_ties.proofs.Keys.{each_number, with_here, with_there}
 use Rattle.client_ties.proofs.Tables.{at_frees, sorted_frees}
 use Rattle.choice_runs.specs.Choosing.{Choosing}
 use Rattle.choice_runs.specs.Leading.{Leads, Arrives}
 use Rattle.choice_runs.specs.Servers.{State, Listed, AreTied, AfterCall, IsDropped}
-use Rattle.choice_runs.specs.Requests.{Work, Begun, Desk, Waits, IsKept, IsOwed, IsNamed, AreKept, AreApart, desk_of, Stands, Went}
+use Rattle.choice_runs.specs.Requests.{Work, Begun, Desk, Waits, IsKept, IsOwed, IsNamed, AreKept, AreApart, desk_of, Stands, Went, Follows}
 use Rattle.choice_runs.proofs.AtServer.{both_are, none_is, set_here, set_there}
 use Rattle.choice_runs.proofs.Keeping.{Differ, one_dropped, none_dropped, waits_on}
 use Rattle.choice_runs.proofs.Leading.{leads_on, up_here, up_other}
@@ -38,7 +38,23 @@ found_at (x ∷ xs) (suc i) lt = found_at xs i (less i (length xs) lt)
     less a b lt = omega arith
 
 module _ (g : Choosing) where
-  pub went_nowhere : (v : View) (x : State g) → GoesOn v v → Went g v x v x
+  pub follows_of : (v w : View) → GoesOn v w → Follows g v w
+  follows_of v w o = record { fair = o.fair; now = o.now; timer = o.timer; ticket = o.ticket; place = o.place; later = λ i due is. elim (o.later i due is) [ inl p ↦ inl p | inr lt ↦ inr (no_less v.now due lt) ] }
+    where
+      no_less : (a b : ℕ) → a < b → a ≤ b
+      no_less a b lt = omega arith
+
+  pub follows_then : (v w u : View) → Follows g v w → Follows g w u → Follows g v u
+  follows_then v w u a b = record {
+    fair = b.fair;
+    now = b.now ∙ a.now;
+    timer = le_trans a.timer b.timer;
+    ticket = le_trans a.ticket b.ticket;
+    place = le_trans a.place b.place;
+    later = λ i due is. elim (b.later i due is) [ inl p ↦ a.later i due p | inr le ↦ inr (subst (λ n. n ≤ due) a.now le) ];
+  }
+
+  pub went_nowhere : (v : View) (x : State g) → Follows g v v → Went g v x v x
   went_nowhere v x on = record { outs = []; leads = Arrives x; put = sym (append-nil v.outs); goes_on = on; now = refl; asked = refl; pending = refl }
 
   pub went_then : (v : View) (x : State g) (w : View) (y : State g) (u : View) (z : State g) → Went g v x w y → Went g w y u z → Went g v x u z
@@ -46,7 +62,7 @@ module _ (g : Choosing) where
     outs = a.outs ++ b.outs;
     leads = leads_on g.st composed g.P x a.outs y b.outs z a.leads b.leads;
     put = b.put ∙ (ap (λ (o : List Out). o ++ b.outs) a.put ∙ append_assoc v.outs a.outs b.outs);
-    goes_on = goes_then v w u a.goes_on b.goes_on;
+    goes_on = follows_then v w u a.goes_on b.goes_on;
     now = b.now ∙ a.now;
     asked = b.asked ∙ a.asked;
     pending = b.pending ∙ a.pending;
@@ -135,7 +151,7 @@ module _ (g : Choosing) where
             off servers y d = subst (λ xs. AreOff es named c v x xs y) (sym d.lists) (record {
               named' = named';
               end = d.call.end;
-              went = record { outs = d.call.made.outs; leads = d.call.leads; put = d.call.put; goes_on = d.call.goes_on; now = d.call.moved.now; asked = d.call.moved.asked; pending = d.call.moved.pending };
+              went = record { outs = d.call.made.outs; leads = d.call.leads; put = d.call.put; goes_on = follows_of v y d.call.goes_on; now = d.call.moved.now; asked = d.call.moved.asked; pending = d.call.moved.pending };
               stands = stands_on dl phase phase cur jobs named over (e ∷ es) c v x st e.server a d.server found.1 (with_at e.lower None (g.names a.upstream)) [] x x y d.call jobs named' over es
                   (d.posted, ((st.quiet e.server a found.1).1.0, subst (λ (ws : List (ℕ × ℕ)). Sorted 0 (st.quiet e.server a found.1).1.0 ws) (sym d.waiting) (sorted_frees e.lower 0 (st.quiet e.server a found.1).1.0 a.waiting (st.quiet e.server a found.1).1.1)))
                   (λ ne i. here i ∙ names_now i) there kept;
@@ -217,7 +233,7 @@ module _ (g : Choosing) where
     all_off [] named c v x none apart waits st = record {
       named' = named;
       end = x;
-      went = went_nowhere v x (goes_nowhere v st.servers.fair);
+      went = went_nowhere v x (follows_of v v (goes_nowhere v st.servers.fair));
       stands = st;
       held = refl;
       leaving = refl;

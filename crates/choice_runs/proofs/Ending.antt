@@ -1,5 +1,5 @@
 -- A request ends: it has its result, and each server that still owes it one gives it up.
-use Rattle.std.proofs.Common.{◌≡◌, ℕ, zero, suc, ◌+◌, ◌<◌, ◌≤◌, ◌⊎◌, inl, inr, Bool, true, false, List, [], ◌∷◌, ◌++◌, length, Option, Some, None, slice_get, refl, sym, ap, ap₂, subst, subst₂, ◌∙◌, append_assoc}
+use Rattle.std.proofs.Common.{◌≡◌, ℕ, zero, suc, ◌+◌, ◌<◌, ◌≤◌, ◌⊎◌, inl, inr, Bool, true, false, List, [], ◌∷◌, ◌++◌, length, Option, Some, None, slice_get, refl, sym, ap, ap₂, subst, subst₂, ◌∙◌, le_refl}
 use mathlib.Core.Path.{fun_ext}
 use Rattle.std.specs.Prelude.{option_map, Result}
 use Rattle.client_request.specs.Board.{Part}
@@ -19,7 +19,6 @@ use Rattle.headline.specs.machine.Streams.{with_at}
 use Rattle.client_ties.specs.Chains.{part_of}
 use Rattle.client_ties.specs.PartTie.{Phase, GoesOn, Leads as IfLeft}
 use Rattle.client_ties.specs.Sights.{IsFair}
-use Rattle.client_ties.proofs.GoingOn.{goes_then}
 use Rattle.client_ties.proofs.Keys.{with_here, with_same}
 use Rattle.choice_runs.specs.Choosing.{Choosing}
 use Rattle.choice_runs.specs.Leading.{Leads, Then}
@@ -27,7 +26,7 @@ use Rattle.choice_runs.specs.Servers.{State, Listed, AreTied}
 use Rattle.choice_runs.specs.Requests.{Work, Begun, Desk, Waits, IsKept, AreKept, AreApart, desk_of, Stands, Went}
 use Rattle.choice_runs.proofs.Changing.{ended}
 use Rattle.choice_runs.proofs.Disarming.{goes_stopped, again_path, disarms, stands_judged}
-use Rattle.choice_runs.proofs.Dropping.{AreOff, all_off, left_on, went_then}
+use Rattle.choice_runs.proofs.Dropping.{AreOff, all_off, follows_of, follows_then}
 use Rattle.choice_runs.proofs.Outcomes.{IsLeft, left_so}
 
 module _ (g : Choosing) (dl : ℕ → Option ℕ) (phase : ℕ → Phase) (cur : ℕ) where
@@ -108,8 +107,8 @@ module _ (g : Choosing) (dl : ℕ → Option ℕ) (phase : ℕ → Phase) (cur :
             outs = l.went.outs;
             leads = Then x (unmade left) l.went.outs l.end leaves l.went.leads;
             put = l.went.put ∙ ap (λ (o : List Out). o ++ l.went.outs) (outs_of job.timer v);
-            goes_on = goes_then v (stopped job.timer v) y.1 (goes_stopped job.timer v st.servers.fair)
-                (goes_then (stopped job.timer v) told_of y.1 (record { fair = over.servers.fair; now = refl; request = refl; timer = (goes_stopped None (stopped job.timer v) calm.servers.fair).timer; ticket = (goes_stopped None (stopped job.timer v) calm.servers.fair).ticket; place = (goes_stopped None (stopped job.timer v) calm.servers.fair).place; later = (goes_stopped None (stopped job.timer v) calm.servers.fair).later }) l.went.goes_on);
+            goes_on = follows_then g v (stopped job.timer v) y.1 (follows_of g v (stopped job.timer v) (goes_stopped job.timer v st.servers.fair))
+                (follows_then g (stopped job.timer v) told_of y.1 (follows_of g (stopped job.timer v) told_of (record { fair = over.servers.fair; now = refl; request = refl; timer = le_refl (stopped job.timer v).timers.next; ticket = le_refl (stopped job.timer v).ticket; place = le_refl (stopped job.timer v).place; later = λ i due is. inl is })) l.went.goes_on);
             now = l.went.now;
             asked = l.went.asked;
             pending = l.went.pending;

@@ -7,5 +7,6 @@ pub mod Outcomes
 pub mod Disarming
 pub mod Ending
 pub mod Noting
+pub mod Starting
 pub mod Dropping
 pub mod Silence

@@ -14,8 +14,8 @@ use Rattle.headline.specs.Parts.{IsIn}
 use Rattle.headline.specs.machine.Client.{Waiting, best}
 use Rattle.client_ties.specs.Chains.{part_of}
 use Rattle.client_ties.specs.Lines.{Sorted}
-use Rattle.client_ties.specs.PartTie.{Phase, GoesOn}
-use Rattle.client_ties.specs.Sights.{due_of}
+use Rattle.client_ties.specs.PartTie.{Phase}
+use Rattle.client_ties.specs.Sights.{due_of, IsFair}
 use Rattle.choice_runs.specs.Choosing.{Choosing}
 use Rattle.choice_runs.specs.Leading.{Leads}
 use Rattle.choice_runs.specs.Servers.{State, AreTied}
@@ -118,12 +118,21 @@ module _ (g : Choosing) where
     pub own : (i moment t : ℕ) → deadlines i ≡ Some moment → entry_at i c.timers ≡ Some t → ⊥
     pub far : (i moment s : ℕ) (a : Server g.U) → deadlines i ≡ Some moment → slice_get c.servers s ≡ Some a → g.Owns a.upstream i → ⊥
 
+  -- The view after calls: it is fair, its moment is the same, numbers go on, and a timer that is set was set before or is not past.
+  pub record Follows (v w : View) : Type 0 where
+    pub fair : IsFair w
+    pub now : w.now ≡ v.now
+    pub timer : v.timers.next ≤ w.timers.next
+    pub ticket : v.ticket ≤ w.ticket
+    pub place : v.place ≤ w.place
+    pub later : (i due : ℕ) → due_of i w.timers.set ≡ Some due → (due_of i v.timers.set ≡ Some due) ⊎ (v.now ≤ due)
+
   -- what moves left of the machine, while a call left w of the view v
   pub record Went (v : View) (x : State g) (w : View) (y : State g) : Type 0 where
     pub outs : List Out
     pub leads : Leads g.st composed g.P x outs y
     pub put : w.outs ≡ v.outs ++ outs
-    pub goes_on : GoesOn v w
+    pub goes_on : Follows v w
     pub now : y.now ≡ x.now
     pub asked : y.asked ≡ x.asked
     pub pending : y.pending ≡ x.pending
