@@ -8,5 +8,6 @@ pub mod Disarming
 pub mod Ending
 pub mod Noting
 pub mod Starting
+pub mod Beginning
 pub mod Dropping
 pub mod Silence

@@ -176,7 +176,7 @@ module _ (g : Choosing) where
 
         empty : (bs : List Posted) → bs ≡ [] → Gives (with_at lower (Some k) (g.names a.upstream)) bs [] (g.names b.upstream) → b.waiting ≡ waits (board.part_of lower bs) lower ticket a.waiting
             → HasReply g k lower ticket a b [] (Some (reply (board.part_of lower bs) r)) × (board.without_part lower bs ≡ [])
-        empty [] e gives waiting = (Comes r is refl waiting gives, refl)
+        empty [] e gives waiting = (Comes r refl is refl waiting gives, refl)
         empty (p ∷ ps) e gives waiting = absurd (cc)
     replied request lower ticket k b bs posts r is new (inr one) gives waiting =
         subst (λ bs. HasReply g k lower ticket a b posts (Some (reply (board.part_of lower bs) r)) × (board.without_part lower bs ≡ [])) (sym one.1)
@@ -188,7 +188,7 @@ module _ (g : Choosing) where
         single (q ∷ []) gives waiting = (
           subst (λ o. HasReply g k lower ticket a b (q ∷ []) (Some (reply o r))) (sym (part_there lower one.0))
           (subst (λ part. HasReply g k lower ticket a b (q ∷ []) (Some (Now part))) (sym gives.1)
-          (Came q.result (ap (λ n. record { request = n; result = q.result } ∷ []) (some_is q.request k (sym gives.0 ∙ with_here lower (Some k) (g.names a.upstream))))
+          (Came q.result refl (ap (λ n. record { request = n; result = q.result } ∷ []) (some_is q.request k (sym gives.0 ∙ with_here lower (Some k) (g.names a.upstream))))
           (waiting ∙ ap (λ o. waits o lower ticket a.waiting) (part_there lower one.0))
           (λ i. gives.2 i ∙ (with_again lower None (Some k) (g.names a.upstream) i ∙ with_same lower None (g.names a.upstream) i new)))),
           none_there lower one.0)

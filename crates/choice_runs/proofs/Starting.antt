@@ -41,7 +41,7 @@ use Rattle.choice_runs.proofs.ServerCalls.{one_starts, in_conf, left_map}
 up_one : (n : ℕ) → n ≤ n + 1
 up_one n = omega arith
 
-sorted_more : {A : Type 0} (k : ℕ) (v : A) (es : List (ℕ × A)) → (hi : ℕ) × Sorted 0 hi es → (hi : ℕ) × Sorted 0 hi (puts k v es)
+pub sorted_more : {A : Type 0} (k : ℕ) (v : A) (es : List (ℕ × A)) → (hi : ℕ) × Sorted 0 hi es → (hi : ℕ) × Sorted 0 hi (puts k v es)
 sorted_more k v es s = (s.0 + suc k, sorted_puts k v 0 (s.0 + suc k) es (none_below k) (past s.0 k) (rises_below _ 0 s.0 (s.0 + suc k) es (less s.0 k) s.1))
   where
     none_below : (k : ℕ) → 0 ≤ k

@@ -81,9 +81,9 @@ module _ (g : Choosing) where
     pub call : AfterCall phase s a server (with_at ticket None (g.names a.upstream)) [] servers v x x w
 
   -- What a request got that was started: what stands for its result, which is to come under `ticket`; or the result.
-  pub data HasReply (k lower ticket : ℕ) (a b : Server g.U) (posts : List Post) : Option (Reply g.R) → Type 0 where
-    Comes : (r : g.R) → g.ticket r ≡ lower → posts ≡ [] → b.waiting ≡ puts lower ticket a.waiting → ((i : ℕ) → g.names b.upstream i ≡ with_at lower (Some k) (g.names a.upstream) i) → HasReply k lower ticket a b posts (Some (Later r))
-    Came : (result : Result Octets Error) → posts ≡ record { request = k; result = result } ∷ [] → b.waiting ≡ a.waiting → ((i : ℕ) → g.names b.upstream i ≡ g.names a.upstream i) → HasReply k lower ticket a b posts (Some (Now (part_of result)))
+  pub data HasReply (k lower ticket : ℕ) (a b : Server g.U) (posts : List Post) (y : Option (Reply g.R)) : Type 0 where
+    Comes : (r : g.R) → y ≡ Some (Later r) → g.ticket r ≡ lower → posts ≡ [] → b.waiting ≡ puts lower ticket a.waiting → ((i : ℕ) → g.names b.upstream i ≡ with_at lower (Some k) (g.names a.upstream) i) → HasReply k lower ticket a b posts y
+    Came : (result : Result Octets Error) → y ≡ Some (Now (part_of result)) → posts ≡ record { request = k; result = result } ∷ [] → b.waiting ≡ a.waiting → ((i : ℕ) → g.names b.upstream i ≡ g.names a.upstream i) → HasReply k lower ticket a b posts y
 
   -- Request k, which is tried as `ask` says, is started at server s.
   pub record IsStarted (phase : ℕ → Phase) (s k ticket : ℕ) (ask : Waiting) (a : Server g.U) (servers : Listed) (v : View) (x : State) (y : Option (Reply g.R) × Listed) (w : View) : Type 0 where

@@ -1,5 +1,6 @@
 use Rattle.choice_runs.proofs.Silence.{numbers_are_tied}
 use Rattle.choice_runs.proofs.AtServer.{others_stay_tied}
+use Rattle.choice_runs.proofs.Beginning.{begins_do}
 use Rattle.choice_runs.proofs.Starting.{stands_for, arms_do}
 use Rattle.choice_runs.proofs.Noting.{noted_so}
 use Rattle.choice_runs.proofs.Ending.{ends_with}
