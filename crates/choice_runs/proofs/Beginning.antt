@@ -140,7 +140,7 @@ module _ (g : Choosing) (dl : ℕ → Option ℕ) (phase : ℕ → Phase) (cur :
         stands = stands_on g dl phase phase cur (with_at t (Some job) tab) named 0 [] c asked_view x stands_asked e.server a b at (with_at v.ticket (Some job.number) (g.names a.upstream)) i.given x (hand job.number e.server mine.ask x) w i.call
             (with_at t (Some (noting g job es one)) tab) named' 0 []
             (i.posted, subst (λ (ws : List (ℕ × ℕ)). (hi : ℕ) × Sorted 0 hi ws) (sym waiting) (sorted_more v.ticket t a.waiting (st.quiet e.server a at).1))
-            (λ ne j. here j ∙ (with_as j ∙ sym (names j))) there
+            (λ ne j. here j ∙ (with_as j ∙ sym (names j))) (λ same. absurd (aside same)) there
             (noted_so g t job e es one mine.ask before after (record {
               jobs = sym (again_path t (Some (noting g job es one)) (Some job) tab);
               is = with_here t (Some job) tab;
@@ -201,7 +201,7 @@ module _ (g : Choosing) (dl : ℕ → Option ℕ) (phase : ℕ → Phase) (cur :
         stands = stands_on g dl phase phase cur (with_at t (Some job) tab) named 0 [] c asked_view x stands_asked e.server a b at (with_at v.ticket (Some job.number) (g.names a.upstream)) i.given x (hand job.number e.server mine.ask x) w i.call
             (with_at t (Some (noting g job es one)) tab) named 0 []
             (i.posted, subst (λ (ws : List (ℕ × ℕ)). (hi : ℕ) × Sorted 0 hi ws) (sym waiting) (st.quiet e.server a at).1)
-            (λ ne j. st.is_named e.server a at ne j ∙ sym (names j)) (λ q j ne. refl)
+            (λ ne j. st.is_named e.server a at ne j ∙ sym (names j)) (λ same. absurd (aside same)) (λ q j ne. refl)
             (noted_so g t job e es one mine.ask before after (record {
               jobs = sym (again_path t (Some (noting g job es one)) (Some job) tab);
               is = with_here t (Some job) tab;

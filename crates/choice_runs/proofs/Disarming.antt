@@ -55,6 +55,7 @@ module _ (g : Choosing) where
           servers = tied_without phase c.servers v x i (λ s a at own. st.foreign i t s a mine.0 at own) st.servers;
           quiet = st.quiet;
           is_named = st.is_named;
+          still = st.still;
           kept = changed g t job (disarmed job) over (desk_of g (with_at t (Some job) tab) named c v x) d' changes st.kept;
           foreign = λ j u s a is at own. st.foreign j u s a (was j u is).1 at own;
           timers = (st.timers.0, sorted_frees i 0 st.timers.0 c.timers st.timers.1);
@@ -148,6 +149,7 @@ module _ (g : Choosing) where
       };
       quiet = λ q e is. (let w = was q e is in let m = st.quiet q w.0 w.1 in (w.4 ∙ m.0, (m.1.0, subst (λ (ws : List (ℕ × ℕ)). Sorted 0 m.1.0 ws) (sym w.3) m.1.1)));
       is_named = λ q e is other i. (let w = was q e is in st.is_named q w.0 w.1 other i ∙ ap (λ u. g.names u i) (sym w.2));
+      still = λ e is i k n. (let w = was cur e is in st.still w.0 w.1 i k (subst (λ u. g.names u i ≡ Some k) w.2 n));
       kept = subst (λ (o : ℕ → ℕ → Option ℕ). AreKept g over dropping (record (desk_of g jobs named c v x) { waiting = o })) (fun_ext (λ q. fun_ext (λ i. same_owner q i))) st.kept;
       foreign = λ i t q e is found o. (let w = was q e found in st.foreign i t q w.0 is w.1 (subst (λ u. g.Owns u i) w.2 o));
       timers = st.timers;

@@ -73,6 +73,7 @@ module _ (g : Choosing) (dl : ℕ → Option ℕ) (phase : ℕ → Phase) (cur :
       servers = record { count = calm.servers.count; tied = calm.servers.tied; apart = calm.servers.apart; fair = record { order = calm.servers.fair.order; words = calm.servers.fair.words }; place = calm.servers.place };
       quiet = calm.quiet;
       is_named = calm.is_named;
+      still = calm.still;
       kept = ended g t (disarmed job) (desk_of g (with_at t (Some (disarmed job)) tab) named mid (stopped job.timer v) x) (desk_of g tab named mid told_of left)
           (with_here t (Some (disarmed job)) tab) refl (sym (again_path t None (Some (disarmed job)) tab ∙ fun_ext (λ j. none_again t tab j new))) refl refl refl
           (ap (λ k. with_at k None x.held) numbered) refl 0 calm.kept;

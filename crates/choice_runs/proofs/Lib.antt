@@ -9,5 +9,8 @@ pub mod Ending
 pub mod Noting
 pub mod Starting
 pub mod Beginning
+pub mod Keepsakes
+pub mod PuttingOff
+pub mod Resting
 pub mod Dropping
 pub mod Silence

@@ -66,6 +66,7 @@ module _ (g : Choosing) (dl : ℕ → Option ℕ) (phase : ℕ → Phase) (cur :
         servers = record { count = st.servers.count; tied = st.servers.tied; apart = st.servers.apart; fair = record { order = st.servers.fair.order; words = st.servers.fair.words }; place = st.servers.place };
         quiet = st.quiet;
         is_named = st.is_named;
+        still = st.still;
         kept = st.kept;
         foreign = st.foreign;
         timers = st.timers;
@@ -189,6 +190,7 @@ module _ (g : Choosing) (dl : ℕ → Option ℕ) (phase : ℕ → Phase) (cur :
         };
         quiet = st.quiet;
         is_named = st.is_named;
+        still = st.still;
         kept = changed g t job armed_job 0 before after changes st.kept;
         foreign = λ i u q e is found o. elim (timers_then i u is) [ inl p ↦ not_owned q e found (subst (λ i. g.Owns e.upstream i) (sym p.0) o) | inr p ↦ st.foreign i u q e p.1 found o ];
         timers = sorted_more v.timers.next t c.timers st.timers;

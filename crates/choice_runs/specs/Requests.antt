@@ -111,6 +111,7 @@ module _ (g : Choosing) where
     pub servers : AreTied g phase c.servers v x
     pub quiet : (s : ℕ) (a : Server g.U) → slice_get c.servers s ≡ Some a → (a.posted ≡ []) × ((hi : ℕ) × Sorted 0 hi a.waiting)
     pub is_named : (s : ℕ) (a : Server g.U) → slice_get c.servers s ≡ Some a → (current ≡ s → ⊥) → (i : ℕ) → named s i ≡ g.names a.upstream i
+    pub still : (a : Server g.U) → slice_get c.servers current ≡ Some a → (i k : ℕ) → g.names a.upstream i ≡ Some k → named current i ≡ Some k
     pub kept : AreKept over dropping (desk_of jobs named c v x)
     pub foreign : (i t s : ℕ) (a : Server g.U) → entry_at i c.timers ≡ Some t → slice_get c.servers s ≡ Some a → g.Owns a.upstream i → ⊥
     pub timers : (hi : ℕ) × Sorted 0 hi c.timers

@@ -1,5 +1,7 @@
 use Rattle.choice_runs.proofs.Silence.{numbers_are_tied}
 use Rattle.choice_runs.proofs.AtServer.{others_stay_tied}
+use Rattle.choice_runs.proofs.Resting.{rests_do}
+use Rattle.choice_runs.proofs.PuttingOff.{keeps_it_back}
 use Rattle.choice_runs.proofs.Beginning.{begins_do}
 use Rattle.choice_runs.proofs.Starting.{stands_for, arms_do}
 use Rattle.choice_runs.proofs.Noting.{noted_so}
