@@ -45,11 +45,11 @@ module _ (g : Choosing) (dl : ℕ → Option ℕ) (phase : ℕ → Phase) (cur :
     pub put : w.board ≡ v.board ++ record { ticket = t; part = part } ∷ []
     pub current : (i : ℕ) → named' cur i ≡ named cur i
 
-  outs_of : (o : Option ℕ) (v : View) → (stopped o v).outs ≡ v.outs
+  pub outs_of : (o : Option ℕ) (v : View) → (stopped o v).outs ≡ v.outs
   outs_of None v = refl
   outs_of (Some i) v = refl
 
-  board_of : (o : Option ℕ) (v : View) → (stopped o v).board ≡ v.board
+  pub board_of : (o : Option ℕ) (v : View) → (stopped o v).board ≡ v.board
   board_of None v = refl
   board_of (Some i) v = refl
 

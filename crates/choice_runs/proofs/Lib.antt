@@ -12,5 +12,6 @@ pub mod Beginning
 pub mod Keepsakes
 pub mod PuttingOff
 pub mod Resting
+pub mod Runs
 pub mod Dropping
 pub mod Silence

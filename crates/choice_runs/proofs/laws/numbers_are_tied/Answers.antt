@@ -1,5 +1,6 @@
 use Rattle.choice_runs.proofs.Silence.{numbers_are_tied}
 use Rattle.choice_runs.proofs.AtServer.{others_stay_tied}
+use Rattle.choice_runs.proofs.Runs.{runs_do}
 use Rattle.choice_runs.proofs.Resting.{rests_do}
 use Rattle.choice_runs.proofs.PuttingOff.{keeps_it_back}
 use Rattle.choice_runs.proofs.Beginning.{begins_do}
