@@ -25,6 +25,7 @@ use Rattle.client_ties.proofs.Tables.{at_puts, puts_path}
 use Rattle.choice_runs.specs.Choosing.{Choosing}
 use Rattle.choice_runs.specs.Leading.{Leads}
 use Rattle.choice_runs.specs.Servers.{State, Listed, AreTied}
+use Rattle.choice_runs.specs.Doing.{HasCome, WaitsOn, Goes, HasDone}
 use Rattle.choice_runs.specs.Requests.{Work, Begun, Desk, IsKept, IsOwed, IsToStart, AreKept, desk_of, Stands, Went, Follows}
 use Rattle.choice_runs.proofs.AtServer.{both_are, none_is}
 use Rattle.choice_runs.proofs.Changing.{ended}
@@ -53,22 +54,6 @@ none_so None e = refl
 none_so (Some x) e = absurd (cc)
 
 module _ (g : Choosing) (dl : ℕ → Option ℕ) (phase : ℕ → Phase) (cur : ℕ) where
-  -- What becomes of a request that was in hand: it waits in the table, or its result stands on the board and leaves in the machine.
-  pub data HasCome (t k : ℕ) (v : View) (x : State g) (d : Choice Request g.U g.R) (w : View) (y : State g) : Type 0 where
-    WaitsOn : (job : Work g) → entry_at t d.jobs ≡ Some job → job.number ≡ k → w.board ≡ v.board → y.leaving ≡ x.leaving → HasCome t k v x d w y
-    Goes : (z : Leaving) → entry_at t d.jobs ≡ None → y.leaving ≡ x.leaving ++ z ∷ [] → z.request ≡ k → w.board ≡ v.board ++ record { ticket = t; part = part_of z.result } ∷ [] → HasCome t k v x d w y
-
-  pub record HasDone (t k : ℕ) (tab : ℕ → Option (Work g)) (rest : List Posted) (named : ℕ → ℕ → Option ℕ) (v : View) (x : State g) (d : Choice Request g.U g.R) (w : View) : Type 0 where
-    pub named' : ℕ → ℕ → Option ℕ
-    pub end : State g
-    pub went : Went g v x w end
-    pub stands : Stands g dl phase cur (λ j. entry_at j d.jobs) named' 0 [] d w end
-    pub sorted : (hi : ℕ) × Sorted 0 hi d.jobs
-    pub others : (j : ℕ) → (t ≡ j → ⊥) → entry_at j d.jobs ≡ tab j
-    pub board : end.board ≡ rest
-    pub current : (i : ℕ) → named' cur i ≡ named cur i
-    pub come : HasCome t k v x d w end
-
   -- nothing is owed
   nothing_owed : (over : ℕ) (es : List (Begun g)) (d : Desk g) → ((e : Begun g) → IsIn e es → e.response ≡ None) → AreKept g over es d → AreKept g over [] d
   nothing_owed over [] d none k = k
@@ -108,7 +93,7 @@ module _ (g : Choosing) (dl : ℕ → Option ℕ) (phase : ℕ → Phase) (cur :
     follows_itself = record { fair = st.servers.fair; now = refl; timer = le_refl v.timers.next; ticket = le_refl v.ticket; place = le_refl v.place; later = λ i due is. inl is }
 
     -- it waits on
-    pub it_waits : HasDone t job.number tab x.board named v x (keeps t job c) v
+    pub it_waits : HasDone g dl phase cur t job.number tab x.board named v x (keeps t job c) v
     it_waits = record {
       named' = named;
       end = x;
@@ -158,15 +143,15 @@ module _ (g : Choosing) (dl : ℕ → Option ℕ) (phase : ℕ → Phase) (cur :
                   absurd (owed h.0 (each_number (λ q. (a : _) → slice_get c.servers q ≡ Some a → g.names a.upstream h.0 ≡ Some job.number → named q h.0 ≡ Some job.number) cur
                   (λ a at n. st.still a at h.0 job.number n) (λ q ne a at n. st.is_named q a at ne h.0 ∙ n) s found.0 found.1 h.1))
 
-      pub it_goes : HasDone t job.number tab x.board named v x c (gives job.deferred t v)
+      pub it_goes : HasDone g dl phase cur t job.number tab x.board named v x c (gives job.deferred t v)
       it_goes = go (first_of_all (best mine.ask.kept_back) mine.deferred)
         where
-          go : (y : Result Octets Error) × (best mine.ask.kept_back ≡ Some y) × (part ≡ part_of y) → HasDone t job.number tab x.board named v x c (gives job.deferred t v)
+          go : (y : Result Octets Error) × (best mine.ask.kept_back ≡ Some y) × (part ≡ part_of y) → HasDone g dl phase cur t job.number tab x.board named v x c (gives job.deferred t v)
           go f =
               let z : IsLeft g.st job.number mine.ask.request f.0 = left_so g.st job.number mine.ask.request f.0 in
-              subst (λ d. HasDone t job.number tab x.board named v x c (gives d t v)) (sym (has ∙ ap (λ (p : Part). Some p) (f.2 ∙ ap part_of (sym z.result)))) (gone z)
+              subst (λ d. HasDone g dl phase cur t job.number tab x.board named v x c (gives d t v)) (sym (has ∙ ap (λ (p : Part). Some p) (f.2 ∙ ap part_of (sym z.result)))) (gone z)
             where
-              gone : (z : IsLeft g.st job.number mine.ask.request f.0) → HasDone t job.number tab x.board named v x c (answers t (part_of z.leaving.result) v)
+              gone : (z : IsLeft g.st job.number mine.ask.request f.0) → HasDone g dl phase cur t job.number tab x.board named v x c (answers t (part_of z.leaving.result) v)
               gone z = record {
                 named' = named;
                 end = left;
@@ -204,9 +189,9 @@ module _ (g : Choosing) (dl : ℕ → Option ℕ) (phase : ℕ → Phase) (cur :
                   left = leave z.leaving x
 
     -- it waits on, unless no result is to come
-    pub rests_do : (part : Part) → job.deferred ≡ Some part → NoneOf g.c g.st composed g.P job.number x.board → IfLeft (HasDone t job.number tab x.board named v x) (rests t job c v)
+    pub rests_do : (part : Part) → job.deferred ≡ Some part → NoneOf g.c g.st composed g.P job.number x.board → IfLeft (HasDone g dl phase cur t job.number tab x.board named v x) (rests t job c v)
     rests_do part has clear = by (is_over job) refl
       where
-        by : (b : Bool) → is_over job ≡ b → IfLeft (HasDone t job.number tab x.board named v x) (if b then Some (c, gives job.deferred t v) else Some (keeps t job c, v))
+        by : (b : Bool) → is_over job ≡ b → IfLeft (HasDone g dl phase cur t job.number tab x.board named v x) (if b then Some (c, gives job.deferred t v) else Some (keeps t job c, v))
         by true over = it_goes over part has clear
         by false over = it_waits

@@ -22,6 +22,7 @@ use Rattle.client_ties.proofs.Keys.{with_here}
 use Rattle.choice_runs.specs.Choosing.{Choosing}
 use Rattle.choice_runs.specs.Leading.{Leads}
 use Rattle.choice_runs.specs.Servers.{State}
+use Rattle.choice_runs.specs.Doing.{HasCome, WaitsOn, Goes, HasDone, InHand, RunsAreMoves}
 use Rattle.choice_runs.specs.Requests.{Work, Begun, Desk, IsKept, IsOwed, IsToStart, AreKept, desk_of, Stands, Went, Follows}
 use Rattle.choice_runs.proofs.AtServer.{both_are, none_is}
 use Rattle.choice_runs.proofs.Beginning.{Gave, Nothing, AResult, HasBegun, begins_do}
@@ -32,7 +33,7 @@ use Rattle.choice_runs.proofs.Keepsakes.{some_with}
 use Rattle.choice_runs.proofs.Noting.{front_or_end}
 use Rattle.choice_runs.proofs.Outcomes.{deferred_alike}
 use Rattle.choice_runs.proofs.PuttingOff.{put_off_is, IsKeptBack, keeps_it_back}
-use Rattle.choice_runs.proofs.Resting.{HasCome, WaitsOn, Goes, HasDone, over_any, stands_as, it_waits, rests_do}
+use Rattle.choice_runs.proofs.Resting.{over_any, stands_as, it_waits, rests_do}
 
 module _ (g : Choosing) (dl : ℕ → Option ℕ) (phase : ℕ → Phase) (cur : ℕ) where
   -- what was done before
@@ -72,19 +73,6 @@ module _ (g : Choosing) (dl : ℕ → Option ℕ) (phase : ℕ → Phase) (cur :
       table : tab ≡ (λ j. entry_at j d.jobs)
       table = is_tab ∙ ap (λ (js : List (ℕ × Work g)). λ (j : ℕ). entry_at j js) (sym h.jobs)
 
-  -- What is known of a request in hand, whose timer is not set.
-  pub record InHand (t : ℕ) (es : List Entry) (job : Work g) (tab : ℕ → Option (Work g)) (named : ℕ → ℕ → Option ℕ) (c : Choice Request g.U g.R) (v : View) (x : State g) : Type 0 where
-    pub left : job.left ≡ es
-    pub calm : job.timer ≡ None
-    pub has : es ≡ [] → (part : Part) × (job.deferred ≡ Some part)
-    pub aside : IsToStart cur es → ⊥
-    pub clear : (b : Begun g) → IsIn b job.started → (r : g.R) → b.response ≡ Some r → cur ≡ b.server → ⊥
-    pub pending : (y : Posted) → IsIn y x.board → (cur < length (g.c).servers) × ((i : ℕ) × (named cur i ≡ Some y.request))
-    pub is_tab : tab ≡ (λ j. entry_at j c.jobs)
-    pub new : tab t ≡ None
-    pub sorted : (hi : ℕ) × Sorted 0 hi c.jobs
-    pub stands : Stands g dl phase cur (with_at t (Some job) tab) named 0 [] c v x
-
   -- no result of it is to be taken
   pub none_of : (t : ℕ) (job : Work g) (tab : ℕ → Option (Work g)) (named : ℕ → ℕ → Option ℕ) (c : Choice Request g.U g.R) (v : View) (x : State g) → Stands g dl phase cur (with_at t (Some job) tab) named 0 [] c v x
       → ((b : Begun g) → IsIn b job.started → (r : g.R) → b.response ≡ Some r → cur ≡ b.server → ⊥) → ((y : Posted) → IsIn y x.board → (cur < length (g.c).servers) × ((i : ℕ) × (named cur i ≡ Some y.request))) → NoneOf g.c g.st composed g.P job.number x.board
@@ -98,7 +86,7 @@ module _ (g : Choosing) (dl : ℕ → Option ℕ) (phase : ℕ → Phase) (cur :
         | inr o ↦ (o.1).is
       ]
 
-  pub runs_do : (es : List Entry) (t : ℕ) (job : Work g) (tab : ℕ → Option (Work g)) (named : ℕ → ℕ → Option ℕ) (c : Choice Request g.U g.R) (v : View) (x : State g) → InHand t es job tab named c v x → IfLeft (HasDone g dl phase cur t job.number tab x.board named v x) (runs g.below g.settings t es job c v)
+  pub runs_do : (es : List Entry) (t : ℕ) (job : Work g) (tab : ℕ → Option (Work g)) (named : ℕ → ℕ → Option ℕ) (c : Choice Request g.U g.R) (v : View) (x : State g) → InHand g dl phase cur t es job tab named c v x → IfLeft (HasDone g dl phase cur t job.number tab x.board named v x) (runs g.below g.settings t es job c v)
   runs_do [] t job tab named c v x h = (let p = h.has refl in rests_do g dl phase cur t job tab named c v x h.is_tab h.new h.sorted h.stands p.0 p.1 (none_of t job tab named c v x h.stands h.clear h.pending))
   runs_do (e ∷ es) t job tab named c v x h =
       left_then g (HasBegun g dl phase cur t job e es tab named c v x h.calm h.left not_cur h.stands) (HasDone g dl phase cur t job.number tab x.board named v x)
@@ -109,7 +97,7 @@ module _ (g : Choosing) (dl : ℕ → Option ℕ) (phase : ℕ → Phase) (cur :
       not_cur same = h.aside (inl (sym same))
 
       by : (o : Option Part) (job' : Work g) (c' : Choice Request g.U g.R) (w : View) (n : HasBegun g dl phase cur t job e es tab named c v x h.calm h.left not_cur h.stands ((o, job'), c') w)
-          → ((job : Work g) (tab : ℕ → Option (Work g)) (named : ℕ → ℕ → Option ℕ) (c : Choice Request g.U g.R) (v : View) (x : State g) → InHand t es job tab named c v x → IfLeft (HasDone g dl phase cur t job.number tab x.board named v x) (runs g.below g.settings t es job c v))
+          → ((job : Work g) (tab : ℕ → Option (Work g)) (named : ℕ → ℕ → Option ℕ) (c : Choice Request g.U g.R) (v : View) (x : State g) → InHand g dl phase cur t es job tab named c v x → IfLeft (HasDone g dl phase cur t job.number tab x.board named v x) (runs g.below g.settings t es job c v))
           → Gave job.number e.server x.board n.end.board o → IfLeft (HasDone g dl phase cur t job.number tab x.board named v x) (goes_on g.below g.settings t e.server (runs g.below g.settings t es) job' c' w o)
       by o job' c' w n ih gave = on o gave
         where
@@ -165,7 +153,7 @@ module _ (g : Choosing) (dl : ℕ → Option ℕ) (phase : ℕ → Phase) (cur :
                   some_kept : (part : Part) × (job2.deferred ≡ Some part)
                   some_kept = (let p = some_with job'.deferred (part_of result) in (p.0, ap (λ (j : Work g). j.deferred) shape ∙ p.1))
 
-                  in_hand : InHand t es job2 tab n.named' (unarmed job'.timer c') calm_view kept.end
+                  in_hand : InHand g dl phase cur t es job2 tab n.named' (unarmed job'.timer c') calm_view kept.end
                   in_hand = record {
                     left = ap (λ (j : Work g). j.left) shape ∙ n.left;
                     calm = ap (λ (j : Work g). j.timer) shape;
@@ -178,3 +166,6 @@ module _ (g : Choosing) (dl : ℕ → Option ℕ) (phase : ℕ → Phase) (cur :
                     sorted = sorted';
                     stands = kept.stands;
                   }
+
+pub runs_are_moves : (g : Choosing) → RunsAreMoves g
+runs_are_moves g dl phase cur es t job tab named c v x h = runs_do g dl phase cur es t job tab named c v x h

@@ -8,6 +8,7 @@ use Rattle.client_request.specs.declared.event.Out.TheVariants.{Start}
 use Rattle.client_request.specs.declared.event.Via.TheVariants.{Dgram}
 use Rattle.client_request.specs.declared.event.What.{What}
 use Rattle.client_request.specs.declared.event.What.TheVariants.{Ask, Opened, OpenFailed, SendFailed, ShortSend, Datagram, RecvFailed, Wrote, WriteFailed, Bytes, ReadFailed, Ended, Tick}
+use Rattle.headline.specs.Trace.{Conf}
 use Rattle.client_ties.specs.Chains.{Chain, Stays, Begins, Calls}
 use Rattle.client_ties.specs.Sights.{IsFair}
 use Rattle.client_ties.specs.PartTie.{Untold, Told, Leads, Leaves, MayLeave}
@@ -15,8 +16,9 @@ use Rattle.client_ties.specs.Silent.{silent_part, closed_at_once}
 use Rattle.headline.specs.machine.Streams.{with_at}
 use Rattle.std.proofs.lemmas.Bool.Decides.{nat_tests}
 use Rattle.client_ties.proofs.GoingOn.{nothing_done, goes_without}
-use Rattle.choice_runs.specs.Choosing.{Ignores, IsStarting, HasOneMore}
-use Rattle.choice_runs.specs.Silent.{unstarted, numbered, NumbersAreTied}
+use Rattle.choice_runs.specs.Choosing.{Ignores, IsStarting, HasOneMore, SendsInAnyPhase}
+use Rattle.choice_runs.specs.Silent.{unstarted, numbered, NumbersAreTied, NumbersChoose, SilentRunsAreMoves, silent_choice}
+use Rattle.choice_runs.proofs.Runs.{runs_are_moves}
 
 -- no frame is left
 none_left : (w : What) → (p : ℕ) × MayLeave w p 0
@@ -84,3 +86,56 @@ numbers_are_tied c s = record {
       owned = λ i o. absurd o;
       others = λ i due n e. e;
     }
+
+starts_with : (s : ℕ) → IsStarting s Dgram unstarted numbered (λ u. u ≡ s)
+starts_with s = record {
+  send = λ r u v is. ap (λ n. unstarted.send r u (asks (Start v.request n Dgram) v)) is;
+  step = λ h u v. refl;
+  cancel = λ r u v. refl;
+  response = λ r u v. refl;
+}
+
+ignores_others : (s : ℕ) → Ignores numbered (λ phase u x (a : Unit {0}). u ≡ s) (λ u i. ⊥) (λ u p. false)
+ignores_others s = record {
+  knows = λ u i. inr (λ o. o);
+  timers = λ phase u v a i tied none. refl;
+  frames = λ u v a p q left tied ne. refl;
+  events = λ u v a w tied none. refl;
+  sends = λ phase u v a r w x tied is. by u v w x (can_draw v.ticket) is;
+}
+  where
+    by : (u : ℕ) (v : View) (w : ℕ) (x : View) (b : Bool) → option_map {U = ℕ × View} (λ (y : View). (u, answers v.ticket (Err ConnectionClosed) y)) (if b then Some (record (asks (Start v.request u Dgram) v) { ticket = v.ticket + 1 }) else None) ≡ Some (w, x) → HasOneMore v.ticket v.board x.board
+    by u v w x false is = absurd (cc)
+    by u v w x true is = inr (Err ConnectionClosed, ap (λ (y : View). y.board) (ap (λ (y : ℕ × View). y.1) (sym (some_is _ (w, x) is))))
+      where
+        some_is : {A : Type 0} → (a b : A) → Some a ≡ Some b → a ≡ b
+        some_is a b e = cc
+
+sends_anywhere : (c : Conf) (s : ℕ) → SendsInAnyPhase (silent_part c) s Dgram unstarted (λ phase u x a. u ≡ s) (λ u t. None) (λ u i. ⊥)
+sends_anywhere c s phase u v a r tied fair octets free = by (can_draw v.ticket)
+  where
+    more : (n : ℕ) → n ≤ n + 1
+    more n = omega arith
+
+    by : (b : Bool) → Leads (Leaves (silent_part c) (λ phase u x a. u ≡ s) (λ u t. None) (λ u i. ⊥) (Begins (λ d. d ≡ closed_at_once s v.place v.request) (Chain (silent_part c) s)) (with_at v.ticket (Some v.request) (λ t. None)) u v phase)
+        (option_map (λ w. (u, answers v.ticket (Err ConnectionClosed) w)) (if b then Some (record (asks (Start v.request s Dgram) v) { ticket = v.ticket + 1 }) else None))
+    by false = tt
+    by true = record {
+      made = _;
+      may = Calls (closed_at_once s v.place v.request) _ refl (Stays v.place tt);
+      outs = refl;
+      place = refl;
+      board = record { ticket = v.ticket; part = Err ConnectionClosed } ∷ [];
+      put = refl;
+      gives = (here v.ticket v.request, refl, back_again v.ticket v.request);
+      tied = tied;
+      goes_on = record { fair = record { order = fair.order; words = fair.words }; now = refl; request = refl; timer = le_refl v.timers.next; ticket = more v.ticket; place = le_refl v.place; later = λ i due e. inl e };
+      owned = λ i o. absurd o;
+      others = λ i due n e. e;
+    }
+
+choose_numbers : (c : Conf) → NumbersChoose c
+choose_numbers c = record { tied = numbers_are_tied c; starts = starts_with; sends = sends_anywhere c; ignores = ignores_others }
+
+pub silent_runs_are_moves : SilentRunsAreMoves
+silent_runs_are_moves c = (choose_numbers c, λ st settings same. runs_are_moves (silent_choice c st settings same (choose_numbers c)))

@@ -1,8 +1,9 @@
 //! What holds of a choice above any servers that are tied to a part of `headline`'s machine.
 
-ghost use Rattle.choice_runs.specs.Silent.{NumbersAreTied};
+ghost use Rattle.choice_runs.specs.Silent.{SilentRunsAreMoves};
 
-/// Servers that give every request an error at once are tied, each under its number.
-pub fn numbers_are_tied()
-    ensures { NumbersAreTied }
+/// The laws of a choice among tied servers can be met: among servers that give every request an error at once, as many
+/// as are there, whichever a request is started at, what is left is what moves of the machine leave.
+pub fn silent_runs_are_moves()
+    ensures { SilentRunsAreMoves }
 {}

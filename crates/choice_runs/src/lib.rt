@@ -3,4 +3,4 @@
 
 mod laws;
 
-pub use laws::numbers_are_tied;
+pub use laws::silent_runs_are_moves;

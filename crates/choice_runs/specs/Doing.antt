@@ -1,0 +1,52 @@
+-- What a call of the choice leaves of a request: it waits on in the table, or its result stands on the board and leaves in the machine.
+use Rattle.std.specs.Prelude.{◌≡◌, ℕ, ◌<◌, List, [], ◌∷◌, ◌++◌, length, Option, Some, None}
+use Rattle.client_request.specs.Board.{Part}
+use Rattle.client_request.specs.Numbered.{entry_at}
+use Rattle.client_request.specs.Request.{Request}
+use Rattle.client_request.specs.View.{View}
+use Rattle.client_choice.specs.Choice.{Choice, runs}
+use Rattle.client_choice.specs.declared.job.Entry.{Entry}
+use Rattle.headline.specs.Parts.{IsIn}
+use Rattle.headline.specs.machine.Client.{Posted, Leaving}
+use Rattle.headline.specs.machine.Streams.{with_at}
+use Rattle.client_ties.specs.Chains.{part_of}
+use Rattle.client_ties.specs.Lines.{Sorted}
+use Rattle.client_ties.specs.PartTie.{Phase, Leads}
+use Rattle.choice_runs.specs.Choosing.{Choosing}
+use Rattle.choice_runs.specs.Servers.{State}
+use Rattle.choice_runs.specs.Requests.{Work, Begun, IsToStart, Stands, Went}
+
+module _ (g : Choosing) (dl : ℕ → Option ℕ) (phase : ℕ → Phase) (cur : ℕ) where
+  -- What becomes of a request that was in hand: it waits in the table, or its result stands on the board and leaves in the machine.
+  pub data HasCome (t k : ℕ) (v : View) (x : State g) (d : Choice Request g.U g.R) (w : View) (y : State g) : Type 0 where
+    WaitsOn : (job : Work g) → entry_at t d.jobs ≡ Some job → job.number ≡ k → w.board ≡ v.board → y.leaving ≡ x.leaving → HasCome t k v x d w y
+    Goes : (z : Leaving) → entry_at t d.jobs ≡ None → y.leaving ≡ x.leaving ++ z ∷ [] → z.request ≡ k → w.board ≡ v.board ++ record { ticket = t; part = part_of z.result } ∷ [] → HasCome t k v x d w y
+
+  pub record HasDone (t k : ℕ) (tab : ℕ → Option (Work g)) (rest : List Posted) (named : ℕ → ℕ → Option ℕ) (v : View) (x : State g) (d : Choice Request g.U g.R) (w : View) : Type 0 where
+    pub named' : ℕ → ℕ → Option ℕ
+    pub end : State g
+    pub went : Went g v x w end
+    pub stands : Stands g dl phase cur (λ j. entry_at j d.jobs) named' 0 [] d w end
+    pub sorted : (hi : ℕ) × Sorted 0 hi d.jobs
+    pub others : (j : ℕ) → (t ≡ j → ⊥) → entry_at j d.jobs ≡ tab j
+    pub board : end.board ≡ rest
+    pub current : (i : ℕ) → named' cur i ≡ named cur i
+    pub come : HasCome t k v x d w end
+
+  -- What is known of a request in hand, whose timer is not set.
+  pub record InHand (t : ℕ) (es : List Entry) (job : Work g) (tab : ℕ → Option (Work g)) (named : ℕ → ℕ → Option ℕ) (c : Choice Request g.U g.R) (v : View) (x : State g) : Type 0 where
+    pub left : job.left ≡ es
+    pub calm : job.timer ≡ None
+    pub has : es ≡ [] → (part : Part) × (job.deferred ≡ Some part)
+    pub aside : IsToStart cur es → ⊥
+    pub clear : (b : Begun g) → IsIn b job.started → (r : g.R) → b.response ≡ Some r → cur ≡ b.server → ⊥
+    pub pending : (y : Posted) → IsIn y x.board → (cur < length (g.c).servers) × ((i : ℕ) × (named cur i ≡ Some y.request))
+    pub is_tab : tab ≡ (λ j. entry_at j c.jobs)
+    pub new : tab t ≡ None
+    pub sorted : (hi : ℕ) × Sorted 0 hi c.jobs
+    pub stands : Stands g dl phase cur (with_at t (Some job) tab) named 0 [] c v x
+
+-- Whichever servers a request is started at: what the choice leaves is what moves of the machine leave.
+abbrev pub RunsAreMoves : Choosing → Type 0
+RunsAreMoves g = (dl : ℕ → Option ℕ) (phase : ℕ → Phase) (cur : ℕ) (es : List Entry) (t : ℕ) (job : Work g) (tab : ℕ → Option (Work g)) (named : ℕ → ℕ → Option ℕ) (c : Choice Request g.U g.R) (v : View) (x : State g)
+    → InHand g dl phase cur t es job tab named c v x → Leads (HasDone g dl phase cur t job.number tab x.board named v x) (runs g.below g.settings t es job c v)
