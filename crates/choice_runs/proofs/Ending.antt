@@ -57,7 +57,7 @@ module _ (g : Choosing) (dl : ℕ → Option ℕ) (phase : ℕ → Phase) (cur :
   module _ (t : ℕ) (job : Work g) (tab : ℕ → Option (Work g)) (named : ℕ → ℕ → Option ℕ) (c : Choice Request g.U g.R) (v : View) (x : State g) (new : tab t ≡ None) (st : Stands g dl phase cur (with_at t (Some job) tab) named 0 [] c v x) (giver now : ℕ)
       (rest : List Posted) (z : Leaving) (leaves : Move g.c g.st composed g.P x (unmade (leave z (record x { board = rest })))) (numbered : z.request ≡ job.number) (others : (b : Begun g) → IsIn b job.started → (r : g.R) → b.response ≡ Some r → cur ≡ b.server → ⊥) where
     abbrev mid : Choice Request g.U g.R
-    mid = judged g.below giver job now c
+    mid = unarmed job.timer (judged giver job now c)
 
     abbrev told_of : View
     told_of = answers t (part_of z.result) (stopped job.timer v)

@@ -13,5 +13,6 @@ pub mod Keepsakes
 pub mod PuttingOff
 pub mod Resting
 pub mod Runs
+pub mod Silencing
 pub mod Dropping
 pub mod Silence

@@ -1,4 +1,5 @@
 use Rattle.choice_runs.proofs.Silence.{silent_runs_are_moves}
+use Rattle.choice_runs.proofs.Silencing.{still_apart}
 use Rattle.choice_runs.proofs.laws.silent_runs_are_moves.Goals as goal
 
 pub returns : goal.returns
