@@ -14,5 +14,6 @@ pub mod PuttingOff
 pub mod Resting
 pub mod Runs
 pub mod Silencing
+pub mod Settling
 pub mod Dropping
 pub mod Silence
