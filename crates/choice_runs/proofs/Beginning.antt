@@ -26,7 +26,7 @@ use Rattle.client_ties.proofs.Keys.{each_number, with_here, with_there, is_or_wa
 use Rattle.client_ties.proofs.Tables.{at_puts}
 use Rattle.choice_runs.specs.Choosing.{Choosing}
 use Rattle.choice_runs.specs.Servers.{State, Listed, AreTied, AfterCall, IsStarted, HasReply, Comes, Came}
-use Rattle.choice_runs.specs.Requests.{Work, Begun, Desk, Waits, IsKept, IsOwed, AreKept, AreToStart, IsToStart, desk_of, Stands, Went, Follows}
+use Rattle.choice_runs.specs.Requests.{Beside, Work, Begun, Desk, Waits, IsKept, IsOwed, AreKept, AreToStart, IsToStart, desk_of, Stands, Went, Follows}
 use Rattle.choice_runs.proofs.AtServer.{both_are, none_is, set_here, set_there}
 use Rattle.choice_runs.proofs.Disarming.{again_path}
 use Rattle.choice_runs.proofs.Dropping.{found_at, stands_on, dues_on, left_then, left_on, owner_there, owner_here, follows_of, follows_then}
@@ -47,7 +47,7 @@ pub data Gave (k s : ℕ) (old new : List Posted) : Option Part → Type 0 where
   Nothing : new ≡ old → Gave k s old new None
   AResult : (result : Result Octets Error) → new ≡ old ++ record { server = s; request = k; result = result } ∷ [] → Gave k s old new (Some (part_of result))
 
-module _ (g : Choosing) (dl : ℕ → Option ℕ) (phase : ℕ → Phase) (cur : ℕ) (t : ℕ) (job : Work g) (e : Entry) (es : List Entry) (tab : ℕ → Option (Work g)) (named : ℕ → ℕ → Option ℕ) (c : Choice Request g.U g.R) (v : View) (x : State g)
+module _ (g : Choosing) (dl : Beside) (phase : ℕ → Phase) (cur : ℕ) (t : ℕ) (job : Work g) (e : Entry) (es : List Entry) (tab : ℕ → Option (Work g)) (named : ℕ → ℕ → Option ℕ) (c : Choice Request g.U g.R) (v : View) (x : State g)
     (calm : job.timer ≡ None) (lined : job.left ≡ e ∷ es) (aside : cur ≡ e.server → ⊥) (st : Stands g dl phase cur (with_at t (Some job) tab) named 0 [] c v x) where
   abbrev entry : Option (Reply g.R) → Begun g
   entry o = record { server = e.server; since = v.now; lower = v.ticket; response = (parted o).0 }
@@ -140,7 +140,7 @@ module _ (g : Choosing) (dl : ℕ → Option ℕ) (phase : ℕ → Phase) (cur :
         stands = stands_on g dl phase phase cur (with_at t (Some job) tab) named 0 [] c asked_view x stands_asked e.server a b at (with_at v.ticket (Some job.number) (g.names a.upstream)) i.given x (hand job.number e.server mine.ask x) w i.call
             (with_at t (Some (noting g job es one)) tab) named' 0 []
             (i.posted, subst (λ (ws : List (ℕ × ℕ)). (hi : ℕ) × Sorted 0 hi ws) (sym waiting) (sorted_more v.ticket t a.waiting (st.quiet e.server a at).1))
-            (λ ne j. here j ∙ (with_as j ∙ sym (names j))) (λ same. absurd (aside same)) there
+            (λ ne j. here j ∙ (with_as j ∙ sym (names j))) aside there
             (noted_so g t job e es one mine.ask before after (record {
               jobs = sym (again_path t (Some (noting g job es one)) (Some job) tab);
               is = with_here t (Some job) tab;
@@ -201,7 +201,7 @@ module _ (g : Choosing) (dl : ℕ → Option ℕ) (phase : ℕ → Phase) (cur :
         stands = stands_on g dl phase phase cur (with_at t (Some job) tab) named 0 [] c asked_view x stands_asked e.server a b at (with_at v.ticket (Some job.number) (g.names a.upstream)) i.given x (hand job.number e.server mine.ask x) w i.call
             (with_at t (Some (noting g job es one)) tab) named 0 []
             (i.posted, subst (λ (ws : List (ℕ × ℕ)). (hi : ℕ) × Sorted 0 hi ws) (sym waiting) (st.quiet e.server a at).1)
-            (λ ne j. st.is_named e.server a at ne j ∙ sym (names j)) (λ same. absurd (aside same)) (λ q j ne. refl)
+            (λ ne j. st.is_named e.server a at ne j ∙ sym (names j)) aside (λ q j ne. refl)
             (noted_so g t job e es one mine.ask before after (record {
               jobs = sym (again_path t (Some (noting g job es one)) (Some job) tab);
               is = with_here t (Some job) tab;

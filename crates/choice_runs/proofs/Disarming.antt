@@ -18,7 +18,7 @@ use Rattle.client_ties.proofs.Keys.{each_number, with_here, with_there, with_aga
 use Rattle.client_ties.proofs.Tables.{at_frees, sorted_frees}
 use Rattle.choice_runs.specs.Choosing.{Choosing}
 use Rattle.choice_runs.specs.Servers.{State, Listed, AreTied}
-use Rattle.choice_runs.specs.Requests.{Work, Begun, Desk, Waits, IsKept, IsOwed, AreKept, desk_of, Stands}
+use Rattle.choice_runs.specs.Requests.{Beside, Work, Begun, Desk, Waits, IsKept, IsOwed, AreKept, desk_of, Stands}
 use Rattle.choice_runs.proofs.AtServer.{both_are, none_is, set_here, set_there, set_length}
 use Rattle.choice_runs.proofs.Changing.{Changes, changed}
 use Rattle.choice_runs.proofs.ServerCalls.{in_conf}
@@ -43,7 +43,7 @@ module _ (g : Choosing) where
     place = t.place;
   }
 
-  module _ (dl : ℕ → Option ℕ) (phase : ℕ → Phase) (cur : ℕ) (named : ℕ → ℕ → Option ℕ) (over : ℕ) where
+  module _ (dl : Beside) (phase : ℕ → Phase) (cur : ℕ) (named : ℕ → ℕ → Option ℕ) (over : ℕ) where
     -- The timer of the request in hand goes, if there is one.
     pub disarms : (t : ℕ) (job : Work g) (tab : ℕ → Option (Work g)) (c : Choice Request g.U g.R) (v : View) (x : State g) → Stands g dl phase cur (with_at t (Some job) tab) named over [] c v x
         → Stands g dl phase cur (with_at t (Some (disarmed job)) tab) named over [] (unarmed job.timer c) (stopped job.timer v) x
@@ -56,6 +56,7 @@ module _ (g : Choosing) where
           quiet = st.quiet;
           is_named = st.is_named;
           still = st.still;
+          less = st.less;
           kept = changed g t job (disarmed job) over (desk_of g (with_at t (Some job) tab) named c v x) d' changes st.kept;
           foreign = λ j u s a is at own. st.foreign j u s a (was j u is).1 at own;
           timers = (st.timers.0, sorted_frees i 0 st.timers.0 c.timers st.timers.1);
@@ -149,7 +150,8 @@ module _ (g : Choosing) where
       };
       quiet = λ q e is. (let w = was q e is in let m = st.quiet q w.0 w.1 in (w.4 ∙ m.0, (m.1.0, subst (λ (ws : List (ℕ × ℕ)). Sorted 0 m.1.0 ws) (sym w.3) m.1.1)));
       is_named = λ q e is other i. (let w = was q e is in st.is_named q w.0 w.1 other i ∙ ap (λ u. g.names u i) (sym w.2));
-      still = λ e is i k n. (let w = was cur e is in st.still w.0 w.1 i k (subst (λ u. g.names u i ≡ Some k) w.2 n));
+      still = λ e is i. (let w = was cur e is in ap (λ u. g.names u i) w.2 ∙ st.still w.0 w.1 i);
+      less = st.less;
       kept = subst (λ (o : ℕ → ℕ → Option ℕ). AreKept g over dropping (record (desk_of g jobs named c v x) { waiting = o })) (fun_ext (λ q. fun_ext (λ i. same_owner q i))) st.kept;
       foreign = λ i t q e is found o. (let w = was q e found in st.foreign i t q w.0 is w.1 (subst (λ u. g.Owns u i) w.2 o));
       timers = st.timers;

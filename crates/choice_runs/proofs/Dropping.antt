@@ -23,7 +23,7 @@ use Rattle.client_ties.proofs.Tables.{at_frees, sorted_frees}
 use Rattle.choice_runs.specs.Choosing.{Choosing}
 use Rattle.choice_runs.specs.Leading.{Leads, Arrives}
 use Rattle.choice_runs.specs.Servers.{State, Listed, AreTied, AfterCall, IsDropped}
-use Rattle.choice_runs.specs.Requests.{Work, Begun, Desk, Waits, IsKept, IsOwed, IsNamed, AreKept, AreApart, desk_of, Stands, Went, Follows}
+use Rattle.choice_runs.specs.Requests.{Beside, Work, Begun, Desk, Waits, IsKept, IsOwed, IsNamed, AreKept, AreApart, desk_of, Stands, Went, Follows}
 use Rattle.choice_runs.proofs.AtServer.{both_are, none_is, set_here, set_there}
 use Rattle.choice_runs.proofs.Keeping.{Differ, one_dropped, none_dropped, waits_on}
 use Rattle.choice_runs.proofs.Leading.{leads_on, up_here, up_other}
@@ -69,7 +69,7 @@ module _ (g : Choosing) where
   }
 
   -- What stands after a call of server s, where the requests are kept.
-  module _ (dl : ℕ → Option ℕ) (phase after : ℕ → Phase) (cur : ℕ) (jobs : ℕ → Option (Work g)) (named : ℕ → ℕ → Option ℕ) (over : ℕ) (dropping : List (Begun g)) (c : Choice Request g.U g.R) (v : View) (x : State g) (st : Stands g dl phase cur jobs named over dropping c v x)
+  module _ (dl : Beside) (phase after : ℕ → Phase) (cur : ℕ) (jobs : ℕ → Option (Work g)) (named : ℕ → ℕ → Option ℕ) (over : ℕ) (dropping : List (Begun g)) (c : Choice Request g.U g.R) (v : View) (x : State g) (st : Stands g dl phase cur jobs named over dropping c v x)
       (s : ℕ) (a b : Server g.U) (at : slice_get c.servers s ≡ Some a) (nm : ℕ → Option ℕ) (board : List Posted) (from y : State g) (w : View) (call : AfterCall g after s a b nm board c.servers v from y w) where
     -- a timer of others is not of a server then
     far_on : (i due : ℕ) → due_of i v.timers.set ≡ Some due → ((q : ℕ) (e : Server g.U) → slice_get c.servers q ≡ Some e → g.Owns e.upstream i → ⊥) → (q : ℕ) (e : Server g.U) → slice_get (set c.servers s b) q ≡ Some e → g.Owns e.upstream i → ⊥
@@ -85,9 +85,9 @@ module _ (g : Choosing) where
     timer_due i t is = (let m = st.kept.timers i t is in ((st.kept.kept t m.0 m.1).timer i m.2).1)
 
     pub stands_on : (jobs' : ℕ → Option (Work g)) (named' : ℕ → ℕ → Option ℕ) (over' : ℕ) (dropping' : List (Begun g)) → (b.posted ≡ []) × ((hi : ℕ) × Sorted 0 hi b.waiting)
-        → ((cur ≡ s → ⊥) → (i : ℕ) → named' s i ≡ g.names b.upstream i) → ((cur ≡ s) → (i k : ℕ) → g.names b.upstream i ≡ Some k → named' s i ≡ Some k) → ((q i : ℕ) → (s ≡ q → ⊥) → named' q i ≡ named q i)
+        → ((cur ≡ s → ⊥) → (i : ℕ) → named' s i ≡ g.names b.upstream i) → (cur ≡ s → ⊥) → ((q i : ℕ) → (s ≡ q → ⊥) → named' q i ≡ named q i)
         → AreKept g over' dropping' (desk_of g jobs' named' (record c { servers = set c.servers s b }) w call.end) → Stands g dl after cur jobs' named' over' dropping' (record c { servers = set c.servers s b }) w call.end
-    stands_on jobs' named' over' dropping' quiet here now there kept = record {
+    stands_on jobs' named' over' dropping' quiet here aside there kept = record {
       servers = call.tied;
       quiet = λ q e is. each_number (λ q. slice_get (set c.servers s b) q ≡ Some e → (e.posted ≡ []) × ((hi : ℕ) × Sorted 0 hi e.waiting)) s
           (λ is. subst (λ (e : Server g.U). (e.posted ≡ []) × ((hi : ℕ) × Sorted 0 hi e.waiting)) (both_are (slice_get (set c.servers s b) s) b e (set_here c.servers s a b at) is) quiet)
@@ -95,9 +95,8 @@ module _ (g : Choosing) where
       is_named = λ q e is other i. each_number (λ q. slice_get (set c.servers s b) q ≡ Some e → (cur ≡ q → ⊥) → named' q i ≡ g.names e.upstream i) s
           (λ is other. subst (λ (e : Server g.U). named' s i ≡ g.names e.upstream i) (both_are (slice_get (set c.servers s b) s) b e (set_here c.servers s a b at) is) (here other i))
           (λ q ne is other. there q i ne ∙ st.is_named q e (sym (set_there c.servers s q b ne) ∙ is) other i) q is other;
-      still = λ e is i k n. each_number (λ q. (cur ≡ q) → slice_get (set c.servers s b) q ≡ Some e → named' q i ≡ Some k) s
-          (λ same is. now same i k (subst (λ (e : Server g.U). g.names e.upstream i ≡ Some k) (sym (both_are (slice_get (set c.servers s b) s) b e (set_here c.servers s a b at) is)) n))
-          (λ q ne same is. there q i ne ∙ subst (λ q. named q i ≡ Some k) same (st.still e (subst (λ q. slice_get c.servers q ≡ Some e) (sym same) (sym (set_there c.servers s q b ne) ∙ is)) i k n)) cur refl is;
+      still = λ e is. st.still e (sym (set_there c.servers s cur b (λ same. aside (sym same))) ∙ is);
+      less = λ i k is. there cur i (λ same. aside (sym same)) ∙ st.less i k is;
       kept = kept;
       foreign = λ i t q e is found o. (let d = timer_due i t is in far_on i d.0 d.1 (λ q e at own. st.foreign i t q e is at own) q e found o);
       timers = st.timers;
@@ -123,7 +122,7 @@ module _ (g : Choosing) where
   pub owner_here : (xs : Listed g) (s i : ℕ) (a : Server g.U) → slice_get xs s ≡ Some a → owner s i xs ≡ entry_at i a.waiting
   owner_here xs s i a at = ap (λ o. owner_at i o) at
 
-  module _ (dl : ℕ → Option ℕ) (phase : ℕ → Phase) (cur : ℕ) (jobs : ℕ → Option (Work g)) (over t0 : ℕ) (gone : jobs t0 ≡ None) where
+  module _ (dl : Beside) (phase : ℕ → Phase) (cur : ℕ) (jobs : ℕ → Option (Work g)) (over t0 : ℕ) (gone : jobs t0 ≡ None) where
     -- So many servers have given it up; `es` are left.
     pub record AreOff (es : List (Begun g)) (named : ℕ → ℕ → Option ℕ) (c : Choice Request g.U g.R) (v : View) (x : State g) (servers : Listed g) (w : View) : Type 0 where
       pub named' : ℕ → ℕ → Option ℕ
@@ -157,7 +156,7 @@ module _ (g : Choosing) where
               went = record { outs = d.call.made.outs; leads = d.call.leads; put = d.call.put; goes_on = follows_of v y d.call.goes_on; now = d.call.moved.now; asked = d.call.moved.asked; pending = d.call.moved.pending };
               stands = stands_on dl phase phase cur jobs named over (e ∷ es) c v x st e.server a d.server found.1 (with_at e.lower None (g.names a.upstream)) [] x x y d.call jobs named' over es
                   (d.posted, ((st.quiet e.server a found.1).1.0, subst (λ (ws : List (ℕ × ℕ)). Sorted 0 (st.quiet e.server a found.1).1.0 ws) (sym d.waiting) (sorted_frees e.lower 0 (st.quiet e.server a found.1).1.0 a.waiting (st.quiet e.server a found.1).1.1)))
-                  (λ ne i. here i ∙ names_now i) (λ same. absurd (other same)) there kept;
+                  (λ ne i. here i ∙ names_now i) other there kept;
               held = d.call.moved.held;
               leaving = d.call.moved.leaving;
               board = d.call.moved.board ∙ no_more d.call.made.posts d.call.gives;
@@ -251,7 +250,7 @@ module _ (g : Choosing) where
             → ((named : ℕ → ℕ → Option ℕ) (c : Choice Request g.U g.R) (v : View) (x : State g) → x.held over ≡ None → AreApart es → ((b : Begun g) → IsIn b es → (r : g.R) → b.response ≡ Some r → (cur ≡ b.server → ⊥) × Waits g (desk_of g jobs named c v x) t0 over b r)
                 → Stands g dl phase cur jobs named over es c v x → IfLeft (AreOff [] named c v x) (drops_each g.below es c.servers v))
             → IfLeft (AreOff [] named c v x) (option_and_then (λ z. drops_each g.below es z.0 z.1) (drops_response g.below e c.servers v o))
-        by None is ih = ih named c v x none apart.1 (λ b m r p. waits b (inr m) r p) (record { servers = st.servers; quiet = st.quiet; is_named = st.is_named; still = st.still; kept = none_dropped g over e es (desk_of g jobs named c v x) is st.kept; foreign = st.foreign; timers = st.timers; due = st.due; own = st.own; far = st.far })
+        by None is ih = ih named c v x none apart.1 (λ b m r p. waits b (inr m) r p) (record { servers = st.servers; quiet = st.quiet; is_named = st.is_named; still = st.still; less = st.less; kept = none_dropped g over e es (desk_of g jobs named c v x) is st.kept; foreign = st.foreign; timers = st.timers; due = st.due; own = st.own; far = st.far })
         by (Some r) is ih =
             let m = waits e (inl refl) r is in
             left_then (AreOff es named c v x) (AreOff [] named c v x) (λ z. drops_each g.below es z.0 z.1) (drops_at g.below e.server e.lower r c.servers v)

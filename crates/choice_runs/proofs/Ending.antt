@@ -23,13 +23,13 @@ use Rattle.client_ties.proofs.Keys.{with_here, with_same}
 use Rattle.choice_runs.specs.Choosing.{Choosing}
 use Rattle.choice_runs.specs.Leading.{Leads, Then}
 use Rattle.choice_runs.specs.Servers.{State, Listed, AreTied}
-use Rattle.choice_runs.specs.Requests.{Work, Begun, Desk, Waits, IsKept, AreKept, AreApart, desk_of, Stands, Went}
+use Rattle.choice_runs.specs.Requests.{Beside, Work, Begun, Desk, Waits, IsKept, AreKept, AreApart, desk_of, Stands, Went}
 use Rattle.choice_runs.proofs.Changing.{ended}
 use Rattle.choice_runs.proofs.Disarming.{goes_stopped, again_path, disarms, stands_judged}
 use Rattle.choice_runs.proofs.Dropping.{AreOff, all_off, follows_of, follows_then}
 use Rattle.choice_runs.proofs.Outcomes.{IsLeft, left_so}
 
-module _ (g : Choosing) (dl : ℕ → Option ℕ) (phase : ℕ → Phase) (cur : ℕ) where
+module _ (g : Choosing) (dl : Beside) (phase : ℕ → Phase) (cur : ℕ) where
   -- The request of ticket t, whose number is k, has this result: it leaves in the machine, and its result stands on the board.
   pub record HasEnded (t k : ℕ) (tab : ℕ → Option (Work g)) (part : Part) (rest : List Posted) (named : ℕ → ℕ → Option ℕ) (c : Choice Request g.U g.R) (v : View) (x : State g) (d : Choice Request g.U g.R) (w : View) : Type 0 where
     pub named' : ℕ → ℕ → Option ℕ
@@ -74,6 +74,7 @@ module _ (g : Choosing) (dl : ℕ → Option ℕ) (phase : ℕ → Phase) (cur :
       quiet = calm.quiet;
       is_named = calm.is_named;
       still = calm.still;
+      less = calm.less;
       kept = ended g t (disarmed job) (desk_of g (with_at t (Some (disarmed job)) tab) named mid (stopped job.timer v) x) (desk_of g tab named mid told_of left)
           (with_here t (Some (disarmed job)) tab) refl (sym (again_path t None (Some (disarmed job)) tab ∙ fun_ext (λ j. none_again t tab j new))) refl refl refl
           (ap (λ k. with_at k None x.held) numbered) refl 0 calm.kept;

@@ -15,5 +15,6 @@ pub mod Resting
 pub mod Runs
 pub mod Silencing
 pub mod Settling
+pub mod Taking
 pub mod Dropping
 pub mod Silence

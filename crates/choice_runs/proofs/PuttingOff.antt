@@ -15,7 +15,7 @@ use Rattle.client_ties.proofs.Keys.{each_number, with_here, with_there, is_or_wa
 use Rattle.choice_runs.specs.Choosing.{Choosing}
 use Rattle.choice_runs.specs.Leading.{Leads}
 use Rattle.choice_runs.specs.Servers.{State, AreTied}
-use Rattle.choice_runs.specs.Requests.{Work, Begun, Desk, IsKept, IsOwed, AreKept, desk_of, Stands}
+use Rattle.choice_runs.specs.Requests.{Beside, Work, Begun, Desk, IsKept, IsOwed, AreKept, desk_of, Stands}
 use Rattle.choice_runs.proofs.AtServer.{both_are, none_is}
 use Rattle.choice_runs.proofs.Changing.{Changes, changed}
 use Rattle.choice_runs.proofs.Disarming.{again_path}
@@ -34,7 +34,7 @@ put_off_is part job = by (is_better job.deferred part)
     by true = refl
     by false = refl
 
-module _ (g : Choosing) (dl : ℕ → Option ℕ) (phase : ℕ → Phase) (cur : ℕ) (t : ℕ) (job : Work g) (tab : ℕ → Option (Work g)) (named : ℕ → ℕ → Option ℕ) (c : Choice Request g.U g.R) (v : View) (x : State g)
+module _ (g : Choosing) (dl : Beside) (phase : ℕ → Phase) (cur : ℕ) (t : ℕ) (job : Work g) (tab : ℕ → Option (Work g)) (named : ℕ → ℕ → Option ℕ) (c : Choice Request g.U g.R) (v : View) (x : State g)
     (before after : List Posted) (q : Posted) (on : x.board ≡ before ++ q ∷ after) (numbered : q.request ≡ job.number) (waits : waits_for_others g.st q.result ≡ true) (st : Stands g dl phase cur (with_at t (Some job) tab) named 0 [] c v x) where
   pub record IsKeptBack : Type 0 where
     pub end : State g
@@ -123,6 +123,7 @@ module _ (g : Choosing) (dl : ℕ → Option ℕ) (phase : ℕ → Phase) (cur :
       quiet = st.quiet;
       is_named = st.is_named;
       still = st.still;
+      less = st.less;
       kept = changed g t job better 0 old new changes st.kept;
       foreign = st.foreign;
       timers = st.timers;

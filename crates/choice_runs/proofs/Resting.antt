@@ -26,7 +26,7 @@ use Rattle.choice_runs.specs.Choosing.{Choosing}
 use Rattle.choice_runs.specs.Leading.{Leads}
 use Rattle.choice_runs.specs.Servers.{State, Listed, AreTied}
 use Rattle.choice_runs.specs.Doing.{HasCome, WaitsOn, Goes, HasDone}
-use Rattle.choice_runs.specs.Requests.{Work, Begun, Desk, IsKept, IsOwed, IsToStart, AreKept, desk_of, Stands, Went, Follows}
+use Rattle.choice_runs.specs.Requests.{Beside, Work, Begun, Desk, IsKept, IsOwed, IsToStart, AreKept, desk_of, Stands, Went, Follows}
 use Rattle.choice_runs.proofs.AtServer.{both_are, none_is}
 use Rattle.choice_runs.proofs.Changing.{ended}
 use Rattle.choice_runs.proofs.Disarming.{again_path}
@@ -53,7 +53,7 @@ none_so : {A : Type 0} (o : Option A) → is_none o ≡ true → o ≡ None
 none_so None e = refl
 none_so (Some x) e = absurd (cc)
 
-module _ (g : Choosing) (dl : ℕ → Option ℕ) (phase : ℕ → Phase) (cur : ℕ) where
+module _ (g : Choosing) (dl : Beside) (phase : ℕ → Phase) (cur : ℕ) where
   -- nothing is owed
   nothing_owed : (over : ℕ) (es : List (Begun g)) (d : Desk g) → ((e : Begun g) → IsIn e es → e.response ≡ None) → AreKept g over es d → AreKept g over [] d
   nothing_owed over [] d none k = k
@@ -69,6 +69,7 @@ module _ (g : Choosing) (dl : ℕ → Option ℕ) (phase : ℕ → Phase) (cur :
     quiet = st.quiet;
     is_named = st.is_named;
     still = st.still;
+    less = st.less;
     kept = record { kept = st.kept.kept; named = λ s i k lt is. elim (st.kept.named s i k lt is) [ inl m ↦ inl m | inr o ↦ absurd (nothing k s i o.1) ]; held = st.kept.held; timers = st.kept.timers; apart = st.kept.apart };
     foreign = st.foreign;
     timers = st.timers;
@@ -83,7 +84,7 @@ module _ (g : Choosing) (dl : ℕ → Option ℕ) (phase : ℕ → Phase) (cur :
   -- other requests in the table
   pub stands_as : (jobs jobs' : ℕ → Option (Work g)) (named : ℕ → ℕ → Option ℕ) (c : Choice Request g.U g.R) (table : List (ℕ × Work g)) (v : View) (x : State g) → jobs' ≡ jobs → Stands g dl phase cur jobs named 0 [] c v x → Stands g dl phase cur jobs' named 0 [] (record c { jobs = table }) v x
   stands_as jobs jobs' named c table v x same st = subst (λ f. Stands g dl phase cur f named 0 [] (record c { jobs = table }) v x) (sym same)
-      (record { servers = st.servers; quiet = st.quiet; is_named = st.is_named; still = st.still; kept = record { kept = st.kept.kept; named = st.kept.named; held = st.kept.held; timers = st.kept.timers; apart = st.kept.apart }; foreign = st.foreign; timers = st.timers; due = st.due; own = st.own; far = st.far })
+      (record { servers = st.servers; quiet = st.quiet; is_named = st.is_named; still = st.still; less = st.less; kept = record { kept = st.kept.kept; named = st.kept.named; held = st.kept.held; timers = st.kept.timers; apart = st.kept.apart }; foreign = st.foreign; timers = st.timers; due = st.due; own = st.own; far = st.far })
 
   module _ (t : ℕ) (job : Work g) (tab : ℕ → Option (Work g)) (named : ℕ → ℕ → Option ℕ) (c : Choice Request g.U g.R) (v : View) (x : State g) (is_tab : tab ≡ (λ j. entry_at j c.jobs)) (new : tab t ≡ None) (sorted : (hi : ℕ) × Sorted 0 hi c.jobs) (st : Stands g dl phase cur (with_at t (Some job) tab) named 0 [] c v x) where
     mine : IsKept g (desk_of g (with_at t (Some job) tab) named c v x) t job
@@ -141,7 +142,7 @@ module _ (g : Choosing) (dl : ℕ → Option ℕ) (phase : ℕ → Phase) (cur :
               by true is =
                   let h = (g.tie s lt).held (phase s) (found.0).upstream (sight v) (x.ups s) job.number (st.servers.tied s found.0 found.1) is in
                   absurd (owed h.0 (each_number (λ q. (a : _) → slice_get c.servers q ≡ Some a → g.names a.upstream h.0 ≡ Some job.number → named q h.0 ≡ Some job.number) cur
-                  (λ a at n. st.still a at h.0 job.number n) (λ q ne a at n. st.is_named q a at ne h.0 ∙ n) s found.0 found.1 h.1))
+                  (λ a at n. st.less h.0 job.number (sym (st.still a at h.0) ∙ n)) (λ q ne a at n. st.is_named q a at ne h.0 ∙ n) s found.0 found.1 h.1))
 
       pub it_goes : HasDone g dl phase cur t job.number tab x.board named v x c (gives job.deferred t v)
       it_goes = go (first_of_all (best mine.ask.kept_back) mine.deferred)
@@ -169,6 +170,7 @@ module _ (g : Choosing) (dl : ℕ → Option ℕ) (phase : ℕ → Phase) (cur :
                   quiet = st.quiet;
                   is_named = st.is_named;
                   still = st.still;
+                  less = st.less;
                   kept = nothing_owed job.number job.started (desk_of g (λ j. entry_at j c.jobs) named c (answers t (part_of z.leaving.result) v) left) gave_all
                       (ended g t job (desk_of g (with_at t (Some job) tab) named c v x) (desk_of g (λ j. entry_at j c.jobs) named c (answers t (part_of z.leaving.result) v) left) (with_here t (Some job) tab) (mine.armed none_left)
                       (sym is_tab ∙ sym (again_path t None (Some job) tab ∙ fun_ext (λ j. with_same t None tab j new))) refl refl refl (ap (λ k. with_at k None x.held) z.request) refl 0 st.kept);

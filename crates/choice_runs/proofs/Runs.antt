@@ -23,7 +23,7 @@ use Rattle.choice_runs.specs.Choosing.{Choosing}
 use Rattle.choice_runs.specs.Leading.{Leads}
 use Rattle.choice_runs.specs.Servers.{State}
 use Rattle.choice_runs.specs.Doing.{HasCome, WaitsOn, Goes, HasDone, InHand, RunsAreMoves}
-use Rattle.choice_runs.specs.Requests.{Work, Begun, Desk, IsKept, IsOwed, IsToStart, AreKept, desk_of, Stands, Went, Follows}
+use Rattle.choice_runs.specs.Requests.{Beside, Work, Begun, Desk, IsKept, IsOwed, IsToStart, AreKept, desk_of, Stands, Went, Follows}
 use Rattle.choice_runs.proofs.AtServer.{both_are, none_is}
 use Rattle.choice_runs.proofs.Beginning.{Gave, Nothing, AResult, HasBegun, begins_do}
 use Rattle.choice_runs.proofs.Disarming.{goes_stopped, disarms}
@@ -35,7 +35,7 @@ use Rattle.choice_runs.proofs.Outcomes.{deferred_alike}
 use Rattle.choice_runs.proofs.PuttingOff.{put_off_is, IsKeptBack, keeps_it_back}
 use Rattle.choice_runs.proofs.Resting.{over_any, stands_as, it_waits, rests_do}
 
-module _ (g : Choosing) (dl : ℕ → Option ℕ) (phase : ℕ → Phase) (cur : ℕ) where
+module _ (g : Choosing) (dl : Beside) (phase : ℕ → Phase) (cur : ℕ) where
   -- what was done before
   pub done_after : (t k : ℕ) (tab : ℕ → Option (Work g)) (rest : List Posted) (named named1 : ℕ → ℕ → Option ℕ) (v : View) (x : State g) (w : View) (y : State g) (d : Choice Request g.U g.R) (u : View)
       → Went g v x w y → y.leaving ≡ x.leaving → w.board ≡ v.board → ((i : ℕ) → named1 cur i ≡ named cur i) → HasDone g dl phase cur t k tab rest named1 w y d u → HasDone g dl phase cur t k tab rest named v x d u

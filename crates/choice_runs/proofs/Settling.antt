@@ -25,7 +25,7 @@ use Rattle.client_ties.proofs.Keys.{each_number, with_here, with_there, was_ther
 use Rattle.client_ties.proofs.Tables.{at_frees, sorted_frees, frees_path}
 use Rattle.choice_runs.specs.Choosing.{Choosing}
 use Rattle.choice_runs.specs.Servers.{State, Listed, AreTied}
-use Rattle.choice_runs.specs.Requests.{Work, Begun, Desk, Waits, IsKept, IsOwed, IsNamed, AreKept, IsToStart, AreToStart, desk_of, Stands, Went, Follows}
+use Rattle.choice_runs.specs.Requests.{Beside, Work, Begun, Desk, Waits, IsKept, IsOwed, IsNamed, AreKept, IsToStart, AreToStart, desk_of, Stands, Went, Follows}
 use Rattle.choice_runs.specs.Doing.{HasDone}
 use Rattle.choice_runs.proofs.AtServer.{both_are, none_is, set_here, set_there, set_length}
 use Rattle.choice_runs.proofs.Changing.{Changes, changed}
@@ -63,7 +63,7 @@ tried_no count {s = s} (e ∷ l) tried m line is = elim m [
     or_true true c e = refl
     or_true false c e = e
 
-module _ (g : Choosing) (dl : ℕ → Option ℕ) (phase : ℕ → Phase) (cur : ℕ) where
+module _ (g : Choosing) (dl : Beside) (phase : ℕ → Phase) (cur : ℕ) where
   -- Nothing more comes to the request of ticket t from the server whose results are taken, which gave its result under `lower`.
   module _ (t lower : ℕ) (job : Work g) (e : Begun g) (named : ℕ → ℕ → Option ℕ) (c : Choice Request g.U g.R) (v : View) (x : State g) (a : Server g.U)
       (st : Stands g dl phase cur (λ j. entry_at j c.jobs) named 0 [] c v x) (table : (hi : ℕ) × Sorted 0 hi c.jobs) (at : slice_get c.servers cur ≡ Some a) (is : entry_at t c.jobs ≡ Some job) (mine : IsIn e job.started) (server : e.server ≡ cur) (under : e.lower ≡ lower)
@@ -194,10 +194,8 @@ module _ (g : Choosing) (dl : ℕ → Option ℕ) (phase : ℕ → Phase) (cur :
             ((st.quiet cur a at).0, (sorted_a.0, sorted_frees lower 0 sorted_a.0 a.waiting sorted_a.1)))
           (λ q ne m. st.quiet q f (sym (set_there c.servers cur q b ne) ∙ m)) q m;
       is_named = λ q f m ne i. (let w = was q f m in there_named q i ne ∙ (st.is_named q w.0 w.1 ne i ∙ ap (λ u. g.names u i) (sym w.2)));
-      still = λ f m i k n.
-          (let p = both_are (slice_get (set c.servers cur b) cur) b f (set_here c.servers cur a b at) m in
-          let nm : g.names a.upstream i ≡ Some k = subst (λ (f : Server g.U). g.names f.upstream i ≡ Some k) (sym p) n in
-          here_named i ∙ (with_there lower None (named cur) i (λ same. none_is (g.names a.upstream i) k (subst (λ i. g.names a.upstream i ≡ None) same gone) nm) ∙ st.still a at i k nm));
+      still = λ f m i. (let w = was cur f m in ap (λ u. g.names u i) w.2 ∙ st.still w.0 w.1 i);
+      less = λ i k n. here_named i ∙ (with_there lower None (named cur) i (λ same. none_is (dl.left i) k (subst (λ i. dl.left i ≡ None) same (sym (st.still a at lower) ∙ gone)) n) ∙ st.less i k n);
       kept = changed g t job job1 0 old new changes st.kept;
       foreign = λ i u q f m n o. (let w = was q f n in st.foreign i u q w.0 m w.1 (subst (λ u. g.Owns u i) w.2 o));
       timers = st.timers;

@@ -29,7 +29,7 @@ use Rattle.client_ties.proofs.Keys.{each_number, with_here, with_there, is_or_wa
 use Rattle.client_ties.proofs.Tables.{at_puts, sorted_puts, rises_below}
 use Rattle.choice_runs.specs.Choosing.{Choosing}
 use Rattle.choice_runs.specs.Servers.{State, Listed, AreTied, IsStarted, HasReply, Comes, Came}
-use Rattle.choice_runs.specs.Requests.{Work, Begun, Desk, Waits, IsKept, IsOwed, AreKept, AreToStart, desk_of, Stands, Went, Follows}
+use Rattle.choice_runs.specs.Requests.{Beside, Work, Begun, Desk, Waits, IsKept, IsOwed, AreKept, AreToStart, desk_of, Stands, Went, Follows}
 use Rattle.choice_runs.proofs.AtServer.{both_are, none_is, set_here, set_there}
 use Rattle.choice_runs.proofs.Changing.{Changes, changed}
 use Rattle.choice_runs.proofs.Disarming.{again_path}
@@ -53,7 +53,7 @@ sorted_more k v es s = (s.0 + suc k, sorted_puts k v 0 (s.0 + suc k) es (none_be
     less : (h k : ℕ) → h ≤ h + suc k
     less h k = omega arith
 
-module _ (g : Choosing) (dl : ℕ → Option ℕ) (phase : ℕ → Phase) (cur : ℕ) where
+module _ (g : Choosing) (dl : Beside) (phase : ℕ → Phase) (cur : ℕ) where
   -- the view of another request's outs, or another board
   pub stands_for : (jobs : ℕ → Option (Work g)) (named : ℕ → ℕ → Option ℕ) (over : ℕ) (dropping : List (Begun g)) (c : Choice Request g.U g.R) (v w : View) (x : State g) → w.now ≡ v.now → w.timers ≡ v.timers → w.ticket ≡ v.ticket → w.place ≡ v.place → w.words ≡ v.words → Stands g dl phase cur jobs named over dropping c v x → Stands g dl phase cur jobs named over dropping c w x
   stands_for jobs named over dropping c v w x now timers ticket place words st =
@@ -67,6 +67,7 @@ module _ (g : Choosing) (dl : ℕ → Option ℕ) (phase : ℕ → Phase) (cur :
         quiet = st.quiet;
         is_named = st.is_named;
         still = st.still;
+        less = st.less;
         kept = st.kept;
         foreign = st.foreign;
         timers = st.timers;
@@ -191,6 +192,7 @@ module _ (g : Choosing) (dl : ℕ → Option ℕ) (phase : ℕ → Phase) (cur :
         quiet = st.quiet;
         is_named = st.is_named;
         still = st.still;
+        less = st.less;
         kept = changed g t job armed_job 0 before after changes st.kept;
         foreign = λ i u q e is found o. elim (timers_then i u is) [ inl p ↦ not_owned q e found (subst (λ i. g.Owns e.upstream i) (sym p.0) o) | inr p ↦ st.foreign i u q e p.1 found o ];
         timers = sorted_more v.timers.next t c.timers st.timers;

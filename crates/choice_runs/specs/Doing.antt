@@ -1,22 +1,25 @@
 -- What a call of the choice leaves of a request: it waits on in the table, or its result stands on the board and leaves in the machine.
-use Rattle.std.specs.Prelude.{◌≡◌, ℕ, ◌<◌, List, [], ◌∷◌, ◌++◌, length, Option, Some, None}
+use Rattle.std.specs.Prelude.{◌≡◌, ℕ, ◌<◌, List, [], ◌∷◌, ◌++◌, length, map, Option, Some, None, option_map, slice_get}
 use Rattle.client_request.specs.Board.{Part}
 use Rattle.client_request.specs.Numbered.{entry_at}
 use Rattle.client_request.specs.Request.{Request}
 use Rattle.client_request.specs.View.{View}
-use Rattle.client_choice.specs.Choice.{Choice, runs}
+use Rattle.client_request.specs.declared.board.Posted.{Posted as OnBoard}
+use Rattle.client_choice.specs.Choice.{Choice, runs, settles_all}
+use Rattle.client_choice.specs.Servers.{Server}
 use Rattle.client_choice.specs.declared.job.Entry.{Entry}
 use Rattle.headline.specs.Parts.{IsIn}
-use Rattle.headline.specs.machine.Client.{Posted, Leaving}
+use Rattle.headline.specs.machine.Client.{Posted, Leaving, tag}
+use Rattle.headline.specs.machine.Part.{Post}
 use Rattle.headline.specs.machine.Streams.{with_at}
-use Rattle.client_ties.specs.Chains.{part_of}
+use Rattle.client_ties.specs.Chains.{part_of, Gives}
 use Rattle.client_ties.specs.Lines.{Sorted}
 use Rattle.client_ties.specs.PartTie.{Phase, Leads}
 use Rattle.choice_runs.specs.Choosing.{Choosing}
 use Rattle.choice_runs.specs.Servers.{State}
-use Rattle.choice_runs.specs.Requests.{Work, Begun, IsToStart, Stands, Went}
+use Rattle.choice_runs.specs.Requests.{Beside, Work, Begun, IsToStart, Stands, Went}
 
-module _ (g : Choosing) (dl : ℕ → Option ℕ) (phase : ℕ → Phase) (cur : ℕ) where
+module _ (g : Choosing) (dl : Beside) (phase : ℕ → Phase) (cur : ℕ) where
   -- What becomes of a request that was in hand: it waits in the table, or its result stands on the board and leaves in the machine.
   pub data HasCome (t k : ℕ) (v : View) (x : State g) (d : Choice Request g.U g.R) (w : View) (y : State g) : Type 0 where
     WaitsOn : (job : Work g) → entry_at t d.jobs ≡ Some job → job.number ≡ k → w.board ≡ v.board → y.leaving ≡ x.leaving → HasCome t k v x d w y
@@ -46,7 +49,35 @@ module _ (g : Choosing) (dl : ℕ → Option ℕ) (phase : ℕ → Phase) (cur :
     pub sorted : (hi : ℕ) × Sorted 0 hi c.jobs
     pub stands : Stands g dl phase cur (with_at t (Some job) tab) named 0 [] c v x
 
+  -- the number of the request of each ticket
+  abbrev pub numbers_of : List (ℕ × Work g) → ℕ → Option ℕ
+  numbers_of jobs t = option_map (λ job. job.number) (entry_at t jobs)
+
+  abbrev pub post_of : Leaving → Post
+  post_of z = record { request = z.request; result = z.result }
+
+  -- The results of the current server that stand on the machine's board are taken: what is put on the board then leaves in the machine.
+  pub record AreTaken (named : ℕ → ℕ → Option ℕ) (left : ℕ → Option ℕ) (c : Choice Request g.U g.R) (v : View) (x : State g) (d : Choice Request g.U g.R) (w : View) : Type 0 where
+    pub named' : ℕ → ℕ → Option ℕ
+    pub end : State g
+    pub went : Went g v x w end
+    pub stands : Stands g dl phase cur (λ j. entry_at j d.jobs) named' 0 [] d w end
+    pub sorted : (hi : ℕ) × Sorted 0 hi d.jobs
+    pub board : end.board ≡ []
+    pub names : (i : ℕ) → named' cur i ≡ left i
+    pub given : List OnBoard
+    pub leaving : List Leaving
+    pub put : w.board ≡ v.board ++ given
+    pub leaves : end.leaving ≡ x.leaving ++ leaving
+    pub answers : Gives (numbers_of c.jobs) given (map post_of leaving) (numbers_of d.jobs)
+
 -- Whichever servers a request is started at: what the choice leaves is what moves of the machine leave.
 abbrev pub RunsAreMoves : Choosing → Type 0
-RunsAreMoves g = (dl : ℕ → Option ℕ) (phase : ℕ → Phase) (cur : ℕ) (es : List Entry) (t : ℕ) (job : Work g) (tab : ℕ → Option (Work g)) (named : ℕ → ℕ → Option ℕ) (c : Choice Request g.U g.R) (v : View) (x : State g)
+RunsAreMoves g = (dl : Beside) (phase : ℕ → Phase) (cur : ℕ) (es : List Entry) (t : ℕ) (job : Work g) (tab : ℕ → Option (Work g)) (named : ℕ → ℕ → Option ℕ) (c : Choice Request g.U g.R) (v : View) (x : State g)
     → InHand g dl phase cur t es job tab named c v x → Leads (HasDone g dl phase cur t job.number tab x.board named v x) (runs g.below g.settings t es job c v)
+
+-- What a server posted is taken: what the choice leaves is what moves of the machine leave, and each request that has its result had the ticket of that.
+abbrev pub ResultsAreMoves : Choosing → Type 0
+ResultsAreMoves g = (dl : Beside) (phase : ℕ → Phase) (cur : ℕ) (ps : List OnBoard) (qs : List Post) (named : ℕ → ℕ → Option ℕ) (c : Choice Request g.U g.R) (v : View) (x : State g) (a : Server g.U)
+    → Stands g dl phase cur (λ j. entry_at j c.jobs) named 0 [] c v x → (hi : ℕ) × Sorted 0 hi c.jobs → slice_get c.servers cur ≡ Some a → Gives (named cur) ps qs (g.names a.upstream) → x.board ≡ map (tag cur) qs
+    → Leads (AreTaken g dl phase cur named (g.names a.upstream) c v x) (settles_all g.below g.settings cur ps c v)

@@ -34,6 +34,11 @@ abbrev pub AreApart : {P : Type 0} → List (Started P) → Type 0
 AreApart [] = Unit {0}
 AreApart (e ∷ es) = ((f : Started _) → IsIn f es → e.server ≡ f.server → ⊥) × AreApart es
 
+-- What stands beside a call: when each timer of others is due; and the number of the request of each ticket whose result is still to come from the server whose results are taken.
+pub record Beside : Type 0 where
+  pub deadlines : ℕ → Option ℕ
+  pub left : ℕ → Option ℕ
+
 module _ (g : Choosing) where
   abbrev pub Work : Type 0
   Work = Job Request g.R
@@ -106,18 +111,19 @@ module _ (g : Choosing) where
     dues = λ i. due_of i v.timers.set;
   }
 
-  -- The choice beside the machine, within a call. `jobs` has its requests, with the one in hand; `current` is the server whose results are taken; `deadlines` says when the timers of others are due.
-  pub record Stands (deadlines : ℕ → Option ℕ) (phase : ℕ → Phase) (current : ℕ) (jobs : ℕ → Option Work) (named : (s lower : ℕ) → Option ℕ) (over : ℕ) (dropping : List Begun) (c : Choice Request g.U g.R) (v : View) (x : State g) : Type 0 where
+  -- The choice beside the machine, within a call. `jobs` has its requests, with the one in hand; `current` is the server whose results are taken; `beside` says when the timers of others are due, and what is left to come from the current server.
+  pub record Stands (beside : Beside) (phase : ℕ → Phase) (current : ℕ) (jobs : ℕ → Option Work) (named : (s lower : ℕ) → Option ℕ) (over : ℕ) (dropping : List Begun) (c : Choice Request g.U g.R) (v : View) (x : State g) : Type 0 where
     pub servers : AreTied g phase c.servers v x
     pub quiet : (s : ℕ) (a : Server g.U) → slice_get c.servers s ≡ Some a → (a.posted ≡ []) × ((hi : ℕ) × Sorted 0 hi a.waiting)
     pub is_named : (s : ℕ) (a : Server g.U) → slice_get c.servers s ≡ Some a → (current ≡ s → ⊥) → (i : ℕ) → named s i ≡ g.names a.upstream i
-    pub still : (a : Server g.U) → slice_get c.servers current ≡ Some a → (i k : ℕ) → g.names a.upstream i ≡ Some k → named current i ≡ Some k
+    pub still : (a : Server g.U) → slice_get c.servers current ≡ Some a → (i : ℕ) → g.names a.upstream i ≡ beside.left i
+    pub less : (i k : ℕ) → beside.left i ≡ Some k → named current i ≡ Some k
     pub kept : AreKept over dropping (desk_of jobs named c v x)
     pub foreign : (i t s : ℕ) (a : Server g.U) → entry_at i c.timers ≡ Some t → slice_get c.servers s ≡ Some a → g.Owns a.upstream i → ⊥
     pub timers : (hi : ℕ) × Sorted 0 hi c.timers
-    pub due : (i moment : ℕ) → deadlines i ≡ Some moment → due_of i v.timers.set ≡ Some moment
-    pub own : (i moment t : ℕ) → deadlines i ≡ Some moment → entry_at i c.timers ≡ Some t → ⊥
-    pub far : (i moment s : ℕ) (a : Server g.U) → deadlines i ≡ Some moment → slice_get c.servers s ≡ Some a → g.Owns a.upstream i → ⊥
+    pub due : (i moment : ℕ) → beside.deadlines i ≡ Some moment → due_of i v.timers.set ≡ Some moment
+    pub own : (i moment t : ℕ) → beside.deadlines i ≡ Some moment → entry_at i c.timers ≡ Some t → ⊥
+    pub far : (i moment s : ℕ) (a : Server g.U) → beside.deadlines i ≡ Some moment → slice_get c.servers s ≡ Some a → g.Owns a.upstream i → ⊥
 
   -- The view after calls: it is fair, its moment is the same, numbers go on, and a timer that is set was set before or is not past.
   pub record Follows (v w : View) : Type 0 where

@@ -1,0 +1,114 @@
+-- The results that a server gave are taken, one after another.
+use Rattle.std.proofs.Common.{◌≡◌, ℕ, zero, suc, ◌+◌, ◌<◌, ◌≤◌, ◌⊎◌, inl, inr, Bool, true, false, List, [], ◌∷◌, ◌++◌, length, map, Option, Some, None, slice_get, Result, Ok, Err, refl, sym, ap, ap₂, subst, subst₂, ◌∙◌, le_refl, append_assoc, append-nil}
+use mathlib.Core.Path.{fun_ext}
+use Rattle.std.specs.Prelude.{option_map, option_and_then, set}
+use Rattle.std.proofs.lemmas.List.{map-append}
+use Rattle.client_request.specs.Numbered.{entry_at, frees}
+use Rattle.client_request.specs.Request.{Request}
+use Rattle.client_request.specs.View.{View}
+use Rattle.client_request.specs.declared.board.Posted.{Posted as OnBoard}
+use Rattle.client_request.specs.declared.error.Error.{Error}
+use Rattle.client_choice.specs.Choice.{Choice, Job, settled, settles, settles_owner, settles_job, settles_all, gets, without_owner}
+use Rattle.client_choice.specs.Servers.{Server, owner, owner_at, disowned_at}
+use Rattle.headline.specs.Messages.{Octets}
+use Rattle.headline.specs.Parts.{IsIn}
+use Rattle.headline.specs.machine.Client.{Posted, Leaving, tag}
+use Rattle.headline.specs.machine.Part.{Post}
+use Rattle.headline.specs.machine.Streams.{with_at}
+use Rattle.client_ties.specs.Chains.{part_of, Gives}
+use Rattle.client_ties.specs.Lines.{Sorted}
+use Rattle.client_ties.specs.PartTie.{Phase, Leads as IfLeft}
+use Rattle.client_ties.proofs.Keys.{each_number, with_here, with_there, was_there}
+use Rattle.client_ties.proofs.Tables.{at_frees}
+use Rattle.choice_runs.specs.Choosing.{Choosing}
+use Rattle.choice_runs.specs.Doing.{HasCome, WaitsOn, Goes, HasDone, numbers_of, post_of, AreTaken, ResultsAreMoves}
+use Rattle.choice_runs.specs.Servers.{State, Listed}
+use Rattle.choice_runs.specs.Requests.{Beside, Work, Begun, IsOwed, IsNamed, desk_of, Stands, Went, Follows}
+use Rattle.choice_runs.proofs.Dropping.{left_on, left_then, went_then, went_nowhere}
+use Rattle.choice_runs.proofs.ServerCalls.{in_conf}
+use Rattle.choice_runs.proofs.Settling.{IsSettled, gets_it, gives_less}
+
+-- what is not named is not named after results are given
+gives_none : (named : ℕ → Option ℕ) (bs : List OnBoard) (posts : List Post) (left : ℕ → Option ℕ) (i : ℕ) → Gives named bs posts left → named i ≡ None → left i ≡ None
+gives_none named [] [] left i gives is = gives i ∙ is
+gives_none named [] (q ∷ qs) left i gives is = absurd gives
+gives_none named (p ∷ ps) [] left i gives is = absurd gives
+gives_none named (p ∷ ps) (q ∷ qs) left i gives is = gives_none (with_at p.ticket None named) ps qs left i gives.2
+    (each_number (λ i. named i ≡ None → with_at p.ticket None named i ≡ None) p.ticket (λ is. with_here p.ticket None named) (λ j ne is. with_there p.ticket None named j ne ∙ is) i is)
+
+-- each result is that of a request that is named
+gives_named : (s : ℕ) (named : ℕ → Option ℕ) (bs : List OnBoard) (posts : List Post) (left : ℕ → Option ℕ) (y : Posted) → Gives named bs posts left → IsIn y (map (tag s) posts) → (i : ℕ) × (named i ≡ Some y.request)
+gives_named s named [] [] left y gives m = absurd m
+gives_named s named [] (q ∷ qs) left y gives m = absurd gives
+gives_named s named (p ∷ ps) [] left y gives m = absurd gives
+gives_named s named (p ∷ ps) (q ∷ qs) left y gives m = elim m [
+  | inl same ↦ (p.ticket, gives.0 ∙ ap (λ (y : Posted). Some y.request) same)
+  | inr n ↦ (let r = gives_named s (with_at p.ticket None named) ps qs left y gives.2 n in (r.0, (was_there p.ticket named r.0 y.request r.1).1))
+]
+
+-- some results, and then more
+pub gives_then : (named mid left : ℕ → Option ℕ) (bs cs : List OnBoard) (ps qs : List Post) → Gives named bs ps mid → Gives mid cs qs left → Gives named (bs ++ cs) (ps ++ qs) left
+gives_then named mid left [] cs [] qs a b = subst (λ f. Gives f cs qs left) (fun_ext a) b
+gives_then named mid left [] cs (p ∷ ps) qs a b = absurd a
+gives_then named mid left (x ∷ bs) cs [] qs a b = absurd a
+gives_then named mid left (x ∷ bs) cs (p ∷ ps) qs a b = (a.0, a.1, gives_then (with_at x.ticket None named) mid left bs cs ps qs a.2 b)
+
+module _ (g : Choosing) (dl : Beside) (phase : ℕ → Phase) (cur : ℕ) where
+  -- what one result made of the requests that wait
+  record IsAnswered (c : Choice Request g.U g.R) (v : View) (x : State g) (d : Choice Request g.U g.R) (w : View) (y : State g) : Type 0 where
+    pub given : List OnBoard
+    pub leaving : List Leaving
+    pub put : w.board ≡ v.board ++ given
+    pub leaves : y.leaving ≡ x.leaving ++ leaving
+    pub answers : Gives (numbers_of g dl phase cur c.jobs) given (map (post_of g dl phase cur) leaving) (numbers_of g dl phase cur d.jobs)
+
+  answered : (t : ℕ) (job : Work g) (c : Choice Request g.U g.R) (v : View) (x : State g) (d : Choice Request g.U g.R) (w : View) (y : State g) → (hi : ℕ) × Sorted 0 hi c.jobs → entry_at t c.jobs ≡ Some job
+      → ((j : ℕ) → (t ≡ j → ⊥) → entry_at j d.jobs ≡ entry_at j (frees t c.jobs)) → HasCome g dl phase cur t job.number v x d w y → IsAnswered c v x d w y
+  answered t job c v x d w y table was others come = by come
+    where
+      number : Option (Work g) → Option ℕ
+      number o = option_map (λ job. job.number) o
+
+      kept : (j : ℕ) → (t ≡ j → ⊥) → entry_at j d.jobs ≡ entry_at j c.jobs
+      kept j ne = others j ne ∙ (at_frees t j 0 table.0 c.jobs table.1 ∙ with_there t None (λ j. entry_at j c.jobs) j ne)
+
+      by : HasCome g dl phase cur t job.number v x d w y → IsAnswered c v x d w y
+      by (WaitsOn other is same put left) = record {
+        given = [];
+        leaving = [];
+        put = put ∙ sym (append-nil v.board);
+        leaves = left ∙ sym (append-nil x.leaving);
+        answers = λ j. each_number (λ j. numbers_of g dl phase cur d.jobs j ≡ numbers_of g dl phase cur c.jobs j) t
+            (ap (λ (o : Option (Work g)). option_map (λ job. job.number) o) is ∙ (ap (λ n. Some n) same ∙ sym (ap (λ (o : Option (Work g)). option_map (λ job. job.number) o) was)))
+            (λ j ne. ap (λ (o : Option (Work g)). option_map (λ job. job.number) o) (kept j ne)) j;
+      }
+      by (Goes z gone left request put) = record {
+        given = record { ticket = t; part = part_of z.result } ∷ [];
+        leaving = z ∷ [];
+        put = put;
+        leaves = left;
+        answers = (ap (λ (o : Option (Work g)). option_map (λ job. job.number) o) was ∙ ap (λ n. Some n) (sym request), refl,
+          λ j. each_number (λ j. numbers_of g dl phase cur d.jobs j ≡ with_at t None (numbers_of g dl phase cur c.jobs) j) t
+              (ap (λ (o : Option (Work g)). option_map (λ job. job.number) o) gone ∙ sym (with_here t None (numbers_of g dl phase cur c.jobs)))
+              (λ j ne. ap (λ (o : Option (Work g)). option_map (λ job. job.number) o) (kept j ne) ∙ sym (with_there t None (numbers_of g dl phase cur c.jobs) j ne)) j);
+      }
+
+  -- one result is taken
+  one_settles : (p : OnBoard) (ps : List OnBoard) (q : Post) (qs : List Post) (named : ℕ → ℕ → Option ℕ) (c : Choice Request g.U g.R) (v : View) (x : State g) (a : Server g.U) → Stands g dl phase cur (λ j. entry_at j c.jobs) named 0 [] c v x → (hi : ℕ) × Sorted 0 hi c.jobs
+      → slice_get c.servers cur ≡ Some a → Gives (named cur) (p ∷ ps) (q ∷ qs) (g.names a.upstream) → x.board ≡ map (tag cur) (q ∷ qs) → IfLeft (IsSettled g dl phase cur p.ticket (map (tag cur) qs) named c v x) (settles g.below g.settings cur p c v)
+  one_settles p ps q qs named c v x a st table at gives board = go (st.kept.named cur p.ticket q.request (in_conf g phase c.servers v x cur a st.servers at) gives.0)
+    where
+      go : IsNamed g (desk_of g (λ j. entry_at j c.jobs) named c v x) cur p.ticket q.request ⊎ ((0 ≡ q.request) × IsOwed g q.request [] cur p.ticket) → IfLeft (IsSettled g dl phase cur p.ticket (map (tag cur) qs) named c v x) (settles g.below g.settings cur p c v)
+      go (inr o) = absurd (o.1).is
+      go (inl m) =
+          let e : Begun g = m.owed.entry in
+          let w = (st.kept.kept m.ticket m.job m.is).waits e m.owed.is m.owed.response m.owed.to_come in
+          let waits : owner cur p.ticket c.servers ≡ Some m.ticket = subst₂ (λ s l. owner s l c.servers ≡ Some m.ticket) m.owed.server m.owed.lower w.waiting in
+          subst (λ o. IfLeft (IsSettled g dl phase cur p.ticket (map (tag cur) qs) named c v x) (settles_owner g.below g.settings cur p (without_owner cur p.ticket c) v o)) (sym waits)
+          (subst (λ o. IfLeft (IsSettled g dl phase cur p.ticket (map (tag cur) qs) named c v x) (settles_job g.below g.settings m.ticket cur p.part (without_owner cur p.ticket c) v o)) (sym m.is)
+          (subst (λ o. IfLeft (IsSettled g dl phase cur p.ticket (map (tag cur) qs) named c v x) (gets g.below g.settings m.ticket cur p.part (settled cur m.job) (record c { servers = disowned_at cur p.ticket c.servers o; jobs = frees m.ticket c.jobs }) v)) (sym at)
+          (subst (λ z. IfLeft (IsSettled g dl phase cur p.ticket (map (tag cur) qs) named c v x) (gets g.below g.settings m.ticket cur z (settled cur m.job) (record c { servers = set c.servers cur (record a { waiting = frees p.ticket a.waiting }); jobs = frees m.ticket c.jobs }) v)) (sym gives.1)
+          (gets_it g dl phase cur m.ticket p.ticket m.job e q.result qs named c v x a st table at m.is m.owed.is m.owed.server m.owed.lower waits
+          (gives_none (with_at p.ticket None (named cur)) ps qs (g.names a.upstream) p.ticket gives.2 (with_here p.ticket None (named cur)))
+          (board ∙ ap (λ k. map (tag cur) (record { request = k; result = q.result } ∷ qs)) (sym m.number))
+          (λ y i. gives_named cur (with_at p.ticket None (named cur)) ps qs (g.names a.upstream) y gives.2 i)))))
