@@ -24,7 +24,7 @@ use Rattle.choice_runs.specs.Choosing.{Choosing}
 use Rattle.choice_runs.specs.Doing.{HasCome, WaitsOn, Goes, HasDone, numbers_of, post_of, AreTaken, ResultsAreMoves}
 use Rattle.choice_runs.specs.Servers.{State, Listed}
 use Rattle.choice_runs.specs.Requests.{Beside, Work, Begun, IsOwed, IsNamed, desk_of, Stands, Went, Follows}
-use Rattle.choice_runs.proofs.Dropping.{left_on, left_then, went_then, went_nowhere}
+use Rattle.choice_runs.proofs.Dropping.{found_at, left_on, left_then, went_then, went_nowhere}
 use Rattle.choice_runs.proofs.ServerCalls.{in_conf}
 use Rattle.choice_runs.proofs.Settling.{IsSettled, gets_it, gives_less}
 
@@ -112,3 +112,49 @@ module _ (g : Choosing) (dl : Beside) (phase : ℕ → Phase) (cur : ℕ) where
           (gives_none (with_at p.ticket None (named cur)) ps qs (g.names a.upstream) p.ticket gives.2 (with_here p.ticket None (named cur)))
           (board ∙ ap (λ k. map (tag cur) (record { request = k; result = q.result } ∷ qs)) (sym m.number))
           (λ y i. gives_named cur (with_at p.ticket None (named cur)) ps qs (g.names a.upstream) y gives.2 i)))))
+
+  pub all_settle : (ps : List OnBoard) (qs : List Post) (named : ℕ → ℕ → Option ℕ) (c : Choice Request g.U g.R) (v : View) (x : State g) → Stands g dl phase cur (λ j. entry_at j c.jobs) named 0 [] c v x → (hi : ℕ) × Sorted 0 hi c.jobs → cur < length (g.c).servers
+      → Gives (named cur) ps qs dl.left → x.board ≡ map (tag cur) qs → IfLeft (AreTaken g dl phase cur dl.left c v x) (settles_all g.below g.settings cur ps c v)
+  all_settle [] [] named c v x st table within gives board = record {
+    named' = named;
+    end = x;
+    went = went_nowhere g v x (record { fair = st.servers.fair; now = refl; timer = le_refl v.timers.next; ticket = le_refl v.ticket; place = le_refl v.place; later = λ i due is. inl is });
+    stands = st;
+    sorted = table;
+    board = board;
+    names = λ i. sym (gives i);
+    given = [];
+    leaving = [];
+    put = sym (append-nil v.board);
+    leaves = sym (append-nil x.leaving);
+    answers = λ i. refl;
+  }
+  all_settle [] (q ∷ qs) named c v x st table within gives board = absurd gives
+  all_settle (p ∷ ps) [] named c v x st table within gives board = absurd gives
+  all_settle (p ∷ ps) (q ∷ qs) named c v x st table within gives board =
+      let found = found_at c.servers cur (subst (λ n. cur < n) (sym st.servers.count) within) in
+      left_then g (IsSettled g dl phase cur p.ticket (map (tag cur) qs) named c v x) (AreTaken g dl phase cur dl.left c v x) (λ z. settles_all g.below g.settings cur ps z.0 z.1) (settles g.below g.settings cur p c v)
+      (λ d w s. left_on g (AreTaken g dl phase cur dl.left d w s.done.end) (AreTaken g dl phase cur dl.left c v x) (settles_all g.below g.settings cur ps d w)
+      (λ e u r. after d w s e u r (answered s.ticket s.job c v x d w s.done.end table s.was s.done.others s.done.come))
+      (all_settle ps qs s.done.named' d w s.done.end s.done.stands s.done.sorted within (subst (λ f. Gives f ps qs dl.left) (fun_ext (λ i. sym (s.here i) ∙ sym (s.done.current i))) gives.2) s.done.board))
+      (one_settles p ps q qs named c v x found.0 st table found.1 (subst (λ f. Gives (named cur) (p ∷ ps) (q ∷ qs) f) (fun_ext (λ i. sym (st.still found.0 found.1 i))) gives) board)
+    where
+      after : (d : Choice Request g.U g.R) (w : View) (s : IsSettled g dl phase cur p.ticket (map (tag cur) qs) named c v x d w) (e : Choice Request g.U g.R) (u : View) (r : AreTaken g dl phase cur dl.left d w s.done.end e u) → IsAnswered c v x d w s.done.end → AreTaken g dl phase cur dl.left c v x e u
+      after d w s e u r a = record {
+        named' = r.named';
+        end = r.end;
+        went = went_then g v x w s.done.end u r.end s.done.went r.went;
+        stands = r.stands;
+        sorted = r.sorted;
+        board = r.board;
+        names = r.names;
+        given = a.given ++ r.given;
+        leaving = a.leaving ++ r.leaving;
+        put = r.put ∙ (ap (λ (bs : List OnBoard). bs ++ r.given) a.put ∙ append_assoc v.board a.given r.given);
+        leaves = r.leaves ∙ (ap (λ (zs : List Leaving). zs ++ r.leaving) a.leaves ∙ append_assoc x.leaving a.leaving r.leaving);
+        answers = subst (λ ps. Gives (numbers_of g dl phase cur c.jobs) (a.given ++ r.given) ps (numbers_of g dl phase cur e.jobs)) (sym (map-append (post_of g dl phase cur) a.leaving r.leaving))
+            (gives_then (numbers_of g dl phase cur c.jobs) (numbers_of g dl phase cur d.jobs) (numbers_of g dl phase cur e.jobs) a.given r.given (map (post_of g dl phase cur) a.leaving) (map (post_of g dl phase cur) r.leaving) a.answers r.answers);
+      }
+
+pub results_are_moves : (g : Choosing) → ResultsAreMoves g
+results_are_moves g dl phase cur ps qs named c v x st table within gives board = all_settle g dl phase cur ps qs named c v x st table within gives board

@@ -57,7 +57,7 @@ module _ (g : Choosing) (dl : Beside) (phase : ℕ → Phase) (cur : ℕ) where
   post_of z = record { request = z.request; result = z.result }
 
   -- The results of the current server that stand on the machine's board are taken: what is put on the board then leaves in the machine.
-  pub record AreTaken (named : ℕ → ℕ → Option ℕ) (left : ℕ → Option ℕ) (c : Choice Request g.U g.R) (v : View) (x : State g) (d : Choice Request g.U g.R) (w : View) : Type 0 where
+  pub record AreTaken (left : ℕ → Option ℕ) (c : Choice Request g.U g.R) (v : View) (x : State g) (d : Choice Request g.U g.R) (w : View) : Type 0 where
     pub named' : ℕ → ℕ → Option ℕ
     pub end : State g
     pub went : Went g v x w end
@@ -76,8 +76,8 @@ abbrev pub RunsAreMoves : Choosing → Type 0
 RunsAreMoves g = (dl : Beside) (phase : ℕ → Phase) (cur : ℕ) (es : List Entry) (t : ℕ) (job : Work g) (tab : ℕ → Option (Work g)) (named : ℕ → ℕ → Option ℕ) (c : Choice Request g.U g.R) (v : View) (x : State g)
     → InHand g dl phase cur t es job tab named c v x → Leads (HasDone g dl phase cur t job.number tab x.board named v x) (runs g.below g.settings t es job c v)
 
--- What a server posted is taken: what the choice leaves is what moves of the machine leave, and each request that has its result had the ticket of that.
+-- What a server posted is taken: what the choice leaves is what moves of the machine leave, and each result on the board is that of the request of its ticket.
 abbrev pub ResultsAreMoves : Choosing → Type 0
-ResultsAreMoves g = (dl : Beside) (phase : ℕ → Phase) (cur : ℕ) (ps : List OnBoard) (qs : List Post) (named : ℕ → ℕ → Option ℕ) (c : Choice Request g.U g.R) (v : View) (x : State g) (a : Server g.U)
-    → Stands g dl phase cur (λ j. entry_at j c.jobs) named 0 [] c v x → (hi : ℕ) × Sorted 0 hi c.jobs → slice_get c.servers cur ≡ Some a → Gives (named cur) ps qs (g.names a.upstream) → x.board ≡ map (tag cur) qs
-    → Leads (AreTaken g dl phase cur named (g.names a.upstream) c v x) (settles_all g.below g.settings cur ps c v)
+ResultsAreMoves g = (dl : Beside) (phase : ℕ → Phase) (cur : ℕ) (ps : List OnBoard) (qs : List Post) (named : ℕ → ℕ → Option ℕ) (c : Choice Request g.U g.R) (v : View) (x : State g)
+    → Stands g dl phase cur (λ j. entry_at j c.jobs) named 0 [] c v x → (hi : ℕ) × Sorted 0 hi c.jobs → cur < length (g.c).servers → Gives (named cur) ps qs dl.left → x.board ≡ map (tag cur) qs
+    → Leads (AreTaken g dl phase cur dl.left c v x) (settles_all g.below g.settings cur ps c v)
