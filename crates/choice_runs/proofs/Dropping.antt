@@ -72,7 +72,7 @@ module _ (g : Choosing) where
   module _ (dl : Beside) (phase after : ℕ → Phase) (cur : ℕ) (jobs : ℕ → Option (Work g)) (named : ℕ → ℕ → Option ℕ) (over : ℕ) (dropping : List (Begun g)) (c : Choice Request g.U g.R) (v : View) (x : State g) (st : Stands g dl phase cur jobs named over dropping c v x)
       (s : ℕ) (a b : Server g.U) (at : slice_get c.servers s ≡ Some a) (nm : ℕ → Option ℕ) (board : List Posted) (from y : State g) (w : View) (call : AfterCall g after s a b nm board c.servers v from y w) where
     -- a timer of others is not of a server then
-    far_on : (i due : ℕ) → due_of i v.timers.set ≡ Some due → ((q : ℕ) (e : Server g.U) → slice_get c.servers q ≡ Some e → g.Owns e.upstream i → ⊥) → (q : ℕ) (e : Server g.U) → slice_get (set c.servers s b) q ≡ Some e → g.Owns e.upstream i → ⊥
+    pub far_on : (i due : ℕ) → due_of i v.timers.set ≡ Some due → ((q : ℕ) (e : Server g.U) → slice_get c.servers q ≡ Some e → g.Owns e.upstream i → ⊥) → (q : ℕ) (e : Server g.U) → slice_get (set c.servers s b) q ≡ Some e → g.Owns e.upstream i → ⊥
     far_on i due is far q e found o = each_number (λ q. slice_get (set c.servers s b) q ≡ Some e → ⊥) s
         (λ found. here (subst (λ (e : Server g.U). g.Owns e.upstream i) (sym (both_are (slice_get (set c.servers s b) s) b e (set_here c.servers s a b at) found)) o))
         (λ q ne found. far q e (sym (set_there c.servers s q b ne) ∙ found) o) q found
@@ -81,7 +81,7 @@ module _ (g : Choosing) where
         here o = elim (call.owned i o) [ inl p ↦ far s a at p | inr le ↦ none_is (due_of i v.timers.set) due (none_next v i st.servers.fair le) is ]
 
     -- a timer of the choice is due at some moment
-    timer_due : (i t : ℕ) → entry_at i c.timers ≡ Some t → (due : ℕ) × (due_of i v.timers.set ≡ Some due)
+    pub timer_due : (i t : ℕ) → entry_at i c.timers ≡ Some t → (due : ℕ) × (due_of i v.timers.set ≡ Some due)
     timer_due i t is = (let m = st.kept.timers i t is in ((st.kept.kept t m.0 m.1).timer i m.2).1)
 
     pub stands_on : (jobs' : ℕ → Option (Work g)) (named' : ℕ → ℕ → Option ℕ) (over' : ℕ) (dropping' : List (Begun g)) → (b.posted ≡ []) × ((hi : ℕ) × Sorted 0 hi b.waiting)

@@ -16,5 +16,6 @@ pub mod Runs
 pub mod Silencing
 pub mod Settling
 pub mod Taking
+pub mod Hearing
 pub mod Dropping
 pub mod Silence

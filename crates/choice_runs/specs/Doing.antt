@@ -71,6 +71,20 @@ module _ (g : Choosing) (dl : Beside) (phase : ℕ → Phase) (cur : ℕ) where
     pub leaves : end.leaving ≡ x.leaving ++ leaving
     pub answers : Gives (numbers_of c.jobs) given (map post_of leaving) (numbers_of d.jobs)
 
+  -- Server `cur` hears something: what it posted is taken, and no result is left.
+  pub record IsTakenAt (after : ℕ → Phase) (c : Choice Request g.U g.R) (v : View) (x : State g) (d : Choice Request g.U g.R) (w : View) : Type 0 where
+    pub named' : ℕ → ℕ → Option ℕ
+    pub end : State g
+    pub went : Went g v x w end
+    pub stands : Stands g dl after (length (g.c).servers) (λ j. entry_at j d.jobs) named' 0 [] d w end
+    pub sorted : (hi : ℕ) × Sorted 0 hi d.jobs
+    pub board : end.board ≡ []
+    pub given : List OnBoard
+    pub leaving : List Leaving
+    pub put : w.board ≡ v.board ++ given
+    pub leaves : end.leaving ≡ x.leaving ++ leaving
+    pub answers : Gives (numbers_of c.jobs) given (map post_of leaving) (numbers_of d.jobs)
+
 -- Whichever servers a request is started at: what the choice leaves is what moves of the machine leave.
 abbrev pub RunsAreMoves : Choosing → Type 0
 RunsAreMoves g = (dl : Beside) (phase : ℕ → Phase) (cur : ℕ) (es : List Entry) (t : ℕ) (job : Work g) (tab : ℕ → Option (Work g)) (named : ℕ → ℕ → Option ℕ) (c : Choice Request g.U g.R) (v : View) (x : State g)

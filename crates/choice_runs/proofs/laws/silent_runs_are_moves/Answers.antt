@@ -1,4 +1,5 @@
 use Rattle.choice_runs.proofs.Silence.{silent_runs_are_moves}
+use Rattle.choice_runs.proofs.Hearing.{hears_and_settles}
 use Rattle.choice_runs.proofs.Taking.{results_are_moves}
 use Rattle.choice_runs.proofs.Settling.{settled_stands, gets_it}
 use Rattle.choice_runs.proofs.Silencing.{still_apart}
