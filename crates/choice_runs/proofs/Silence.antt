@@ -16,9 +16,13 @@ use Rattle.client_ties.specs.Silent.{silent_part, closed_at_once}
 use Rattle.headline.specs.machine.Streams.{with_at}
 use Rattle.std.proofs.lemmas.Bool.Decides.{nat_tests}
 use Rattle.client_ties.proofs.GoingOn.{nothing_done, goes_without}
-use Rattle.choice_runs.specs.Choosing.{Ignores, IsStarting, HasOneMore, SendsInAnyPhase}
-use Rattle.choice_runs.specs.Silent.{unstarted, numbered, NumbersAreTied, NumbersChoose, SilentRunsAreMoves, silent_choice}
+use Rattle.choice_runs.specs.Choosing.{Choosing, Ignores, IsStarting, HasOneMore, SendsInAnyPhase}
+use Rattle.choice_runs.specs.Silent.{unstarted, numbered, NumbersAreTied, NumbersChoose, SilentChoicesMove, silent_choice}
+use Rattle.choice_runs.specs.Doing.{CallsAreMoves}
 use Rattle.choice_runs.proofs.Runs.{runs_are_moves}
+use Rattle.choice_runs.proofs.Taking.{results_are_moves}
+use Rattle.choice_runs.proofs.Hearing.{hears_and_settles}
+use Rattle.choice_runs.proofs.ServerCalls.{one_tells}
 
 -- no frame is left
 none_left : (w : What) → (p : ℕ) × MayLeave w p 0
@@ -137,5 +141,13 @@ sends_anywhere c s phase u v a r tied fair octets free = by (can_draw v.ticket)
 choose_numbers : (c : Conf) → NumbersChoose c
 choose_numbers c = record { tied = numbers_are_tied c; starts = starts_with; sends = sends_anywhere c; ignores = ignores_others }
 
-pub silent_runs_are_moves : SilentRunsAreMoves
-silent_runs_are_moves c = (choose_numbers c, λ st settings same. runs_are_moves (silent_choice c st settings same (choose_numbers c)))
+calls_are_moves : (g : Choosing) → CallsAreMoves g
+calls_are_moves g = record {
+  telling = λ phase servers v x s a what tied at quiet untold early calm. one_tells g phase servers v x s a tied at quiet what untold early calm;
+  hearing = λ deadlines phase after s named c v x a h st table at quiet l. hears_and_settles g deadlines phase after s named c v x a st table at quiet h l;
+  results = results_are_moves g;
+  runs = runs_are_moves g;
+}
+
+pub silent_choices_move : SilentChoicesMove
+silent_choices_move c = (choose_numbers c, λ st settings same. calls_are_moves (silent_choice c st settings same (choose_numbers c)))

@@ -1,12 +1,13 @@
 -- What a call of the choice leaves of a request: it waits on in the table, or its result stands on the board and leaves in the machine.
-use Rattle.std.specs.Prelude.{◌≡◌, ℕ, ◌<◌, List, [], ◌∷◌, ◌++◌, length, map, Option, Some, None, option_map, slice_get}
+use Rattle.std.specs.Prelude.{◌≡◌, ℕ, ◌<◌, List, [], ◌∷◌, ◌++◌, length, map, Option, Some, None, option_map, slice_get, false}
 use Rattle.client_request.specs.Board.{Part}
 use Rattle.client_request.specs.Numbered.{entry_at}
 use Rattle.client_request.specs.Request.{Request}
-use Rattle.client_request.specs.View.{View}
+use Rattle.client_request.specs.View.{View, Heard, told}
 use Rattle.client_request.specs.declared.board.Posted.{Posted as OnBoard}
-use Rattle.client_choice.specs.Choice.{Choice, runs, settles_all}
-use Rattle.client_choice.specs.Servers.{Server}
+use Rattle.client_choice.specs.Choice.{Choice, runs, settles_all, hears_one}
+use Rattle.client_choice.specs.Servers.{Server, hears_at}
+use Rattle.client_request.specs.declared.event.What.{What}
 use Rattle.client_choice.specs.declared.job.Entry.{Entry}
 use Rattle.headline.specs.Parts.{IsIn}
 use Rattle.headline.specs.machine.Client.{Posted, Leaving, tag}
@@ -14,9 +15,10 @@ use Rattle.headline.specs.machine.Part.{Post}
 use Rattle.headline.specs.machine.Streams.{with_at}
 use Rattle.client_ties.specs.Chains.{part_of, Gives}
 use Rattle.client_ties.specs.Lines.{Sorted}
-use Rattle.client_ties.specs.PartTie.{Phase, Leads}
+use Rattle.client_ties.specs.PartTie.{Phase, Untold, MayLeave, Leads}
+use Rattle.client_ties.specs.Sights.{IsEarly}
 use Rattle.choice_runs.specs.Choosing.{Choosing}
-use Rattle.choice_runs.specs.Servers.{State}
+use Rattle.choice_runs.specs.Servers.{State, AreTied, IsHeard, IsTold}
 use Rattle.choice_runs.specs.Requests.{Beside, Work, Begun, IsToStart, Stands, Went}
 
 module _ (g : Choosing) (dl : Beside) (phase : ℕ → Phase) (cur : ℕ) where
@@ -95,3 +97,25 @@ abbrev pub ResultsAreMoves : Choosing → Type 0
 ResultsAreMoves g = (dl : Beside) (phase : ℕ → Phase) (cur : ℕ) (ps : List OnBoard) (qs : List Post) (named : ℕ → ℕ → Option ℕ) (c : Choice Request g.U g.R) (v : View) (x : State g)
     → Stands g dl phase cur (λ j. entry_at j c.jobs) named 0 [] c v x → (hi : ℕ) × Sorted 0 hi c.jobs → cur < length (g.c).servers → Gives (named cur) ps qs dl.left → x.board ≡ map (tag cur) qs
     → Leads (AreTaken g dl phase cur dl.left c v x) (settles_all g.below g.settings cur ps c v)
+
+-- no server's results are being taken
+abbrev pub at_rest : (deadlines : ℕ → Option ℕ) → Beside
+at_rest deadlines = record { deadlines = deadlines; left = λ i. None }
+
+-- Where what server s hears is what moves leave, so is that with what it posted taken.
+abbrev pub HearingIsMoves : Choosing → Type 0
+HearingIsMoves g = (deadlines : ℕ → Option ℕ) (phase after : ℕ → Phase) (s : ℕ) (named : ℕ → ℕ → Option ℕ) (c : Choice Request g.U g.R) (v : View) (x : State g) (a : Server g.U) (h : Heard)
+    → Stands g (at_rest deadlines) phase (length (g.c).servers) (λ j. entry_at j c.jobs) named 0 [] c v x → (hi : ℕ) × Sorted 0 hi c.jobs → slice_get c.servers s ≡ Some a → x.board ≡ []
+    → Leads (λ y w. IsHeard g after s a c.servers v x y w) (hears_at g.below s h c.servers v) → Leads (IsTakenAt g (at_rest deadlines) phase s after c v x) (hears_one g.below g.settings s h c v)
+
+-- What a server is told is what moves leave.
+abbrev pub TellingIsMoves : Choosing → Type 0
+TellingIsMoves g = (phase : ℕ → Phase) (servers : List (Server g.U)) (v : View) (x : State g) (s : ℕ) (a : Server g.U) (what : What) → AreTied g phase servers v x → slice_get servers s ≡ Some a → a.posted ≡ []
+    → phase s ≡ Untold what → IsEarly v → v.more ≡ false → Leads (IsTold g phase s a servers v x (MayLeave what)) (hears_at g.below s (told what) servers v)
+
+-- All of these.
+pub record CallsAreMoves (g : Choosing) : Type 0 where
+  pub telling : TellingIsMoves g
+  pub hearing : HearingIsMoves g
+  pub results : ResultsAreMoves g
+  pub runs : RunsAreMoves g

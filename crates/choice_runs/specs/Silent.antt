@@ -11,7 +11,7 @@ use Rattle.client_settings.specs.Settings.{RedundantSettings}
 use Rattle.client_ties.specs.PartTie.{IsTie}
 use Rattle.client_ties.specs.Silent.{silent_part}
 use Rattle.choice_runs.specs.Choosing.{Choosing, SameDeferring, IsStarting, SendsInAnyPhase, Ignores}
-use Rattle.choice_runs.specs.Doing.{RunsAreMoves}
+use Rattle.choice_runs.specs.Doing.{CallsAreMoves}
 
 -- It knows its number alone. A request has its error as it is handed in.
 abbrev pub unstarted : Transport Request ℕ ℕ
@@ -64,6 +64,6 @@ silent_choice c st settings same choose = record {
   ignores = λ s lt. choose.ignores s;
 }
 
--- The laws of a choice can be met: among silent servers, whichever are started, what is left is what moves of the machine leave.
-abbrev pub SilentRunsAreMoves : Type 0
-SilentRunsAreMoves = (c : Conf) → (choose : NumbersChoose c) × ((st : Settings) (settings : RedundantSettings) (same : SameDeferring settings st) → RunsAreMoves (silent_choice c st settings same choose))
+-- The laws of a choice can be met: among silent servers, what its calls leave is what moves of the machine leave.
+abbrev pub SilentChoicesMove : Type 0
+SilentChoicesMove = (c : Conf) → (choose : NumbersChoose c) × ((st : Settings) (settings : RedundantSettings) (same : SameDeferring settings st) → CallsAreMoves (silent_choice c st settings same choose))

@@ -1,9 +1,9 @@
 //! What holds of a choice above any servers that are tied to a part of `headline`'s machine.
 
-ghost use Rattle.choice_runs.specs.Silent.{SilentRunsAreMoves};
+ghost use Rattle.choice_runs.specs.Silent.{SilentChoicesMove};
 
 /// The laws of a choice among tied servers can be met: among servers that give every request an error at once, as many
-/// as are there, whichever a request is started at, what is left is what moves of the machine leave.
-pub fn silent_runs_are_moves()
-    ensures { SilentRunsAreMoves }
+/// as are there, what its calls leave is what moves of the machine leave.
+pub fn silent_choices_move()
+    ensures { SilentChoicesMove }
 {}

@@ -3,4 +3,4 @@
 
 mod laws;
 
-pub use laws::silent_runs_are_moves;
+pub use laws::silent_choices_move;
