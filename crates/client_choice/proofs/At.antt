@@ -1,8 +1,8 @@
 -- One server of the list is changed, and the others stay as they are.
-use Rattle.std.proofs.Common.{◌≡◌, ℕ, zero, suc, ◌<◌, ◌∙◌, ap, sym, refl, arith, List, [], ◌∷◌, length, Bool, true, false, Option, Some, None, slice_index_or, slice_set, slice_get, map, ◌||◌, Result, Ok, Err, OnOk}
+use Rattle.std.proofs.Common.{◌≡◌, ℕ, zero, suc, ◌<◌, ◌∙◌, ap, refl, List, [], ◌∷◌, length, Bool, true, false, Some, slice_index_or, slice_set, slice_get, ◌||◌, Result, Ok, Err, OnOk}
 use Rattle.std.proofs.Math.Seq.{map-set_same}
 use Rattle.std.proofs.lemmas.Option.{slice_get_read}
-use Rattle.client_choice.specs.Servers.{Server, flags, holds_failed, is_any}
+use Rattle.client_choice.specs.Servers.{Server, flags, holds_failed}
 
 -- of each server is known what was known, where that is so of the one that is changed
 pub kept_at : {U : Type 0} (f : U → Bool) (servers : List (Server U)) (i : ℕ) (old new : Server U) → old ≡ slice_index_or servers i old → f new.upstream ≡ f old.upstream → flags f (slice_set servers i new) ≡ flags f servers

@@ -149,6 +149,12 @@ module _ {R U P : Type 0} where
   abbrev pub unarmed : Option ℕ → Choice R U P → Choice R U P
   unarmed timer c = record c { timers = unset timer c.timers }
 
+  abbrev pub without_owner : (server lower : ℕ) → Choice R U P → Choice R U P
+  without_owner server lower c = record c { servers = disowned server lower c.servers }
+
+  abbrev pub judged : ℕ → Job R P → ℕ → Choice R U P → Choice R U P
+  judged giver job now c = record c { servers = judges_each giver now job.started c.servers }
+
   -- A request waits on, unless no result is to come.
   abbrev pub rests : ℕ → Job R P → Choice R U P → View → After R U P
   rests ticket job c v = if is_over job then Some (c, gives job.deferred ticket v) else Some (keeps ticket job c, v)
@@ -167,11 +173,8 @@ module _ {R U P : Type 0} (below : Transport R U P) where
   gives_up started c v = option_map (λ x. (record c { servers = x.0 }, x.1)) (drops_each started c.servers v)
 
   -- A server gave the result: each that was started is judged, and the others give the request up.
-  abbrev pub judged : ℕ → Job R P → ℕ → Choice R U P → Choice R U P
-  judged giver job now c = record c { servers = judges_each giver now job.started c.servers; timers = unset job.timer c.timers }
-
   abbrev pub ends : (ticket giver : ℕ) → Part → Job R P → Choice R U P → View → After R U P
-  ends ticket giver part job c v = gives_up job.started (judged giver job v.now c) (answers ticket part (stopped job.timer v))
+  ends ticket giver part job c v = gives_up job.started (unarmed job.timer (judged giver job v.now c)) (answers ticket part (stopped job.timer v))
 
   -- A server is started. When its estimate has passed, the next one is.
   abbrev pub begun_at : Option Part → Choice R U P → List (Server U) → (Job R P × List (ℕ × ℕ)) × View → ((Option Part × Job R P) × Choice R U P) × View
@@ -223,7 +226,7 @@ module _ {R U P : Type 0} (below : Transport R U P) where
     settles_owner server p c v (Some ticket) = settles_job ticket server p.part c v (entry_at ticket c.jobs)
 
     abbrev pub settles : ℕ → Posted → Choice R U P → View → After R U P
-    settles server p c v = settles_owner server p (record c { servers = disowned server p.ticket c.servers }) v (owner server p.ticket c.servers)
+    settles server p c v = settles_owner server p (without_owner server p.ticket c) v (owner server p.ticket c.servers)
 
     abbrev pub settles_all : ℕ → List Posted → Choice R U P → View → After R U P
     settles_all server [] c v = Some (c, v)

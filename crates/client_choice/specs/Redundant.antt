@@ -1,7 +1,9 @@
 -- The plain machine of a choice by estimate, over any transport.
-use Rattle.std.specs.Prelude.{ℕ, ◌+◌, ◌-◌, ◌*◌, ◌/◌, ◌^◌, ◌==◌, ◌||◌, nat_lt, nat_le, Bool, false, if◌then◌else◌, List, [], ◌∷◌, length, Option, Some, None, option_map, option_and_then, Err, slice_get}
-use Rattle.std.specs.List.{insert, remove, position_or_len}
-use Rattle.client_request.specs.View.{View, Heard, Transport, word, drawn, answers, draws_ticket}
+use Rattle.std.specs.Prelude.{ℕ, ◌+◌, ◌-◌, ◌*◌, ◌/◌, ◌^◌, ◌||◌, nat_lt, nat_le, Bool, false, if◌then◌else◌, List, [], ◌∷◌, ◌++◌, length, Option, Some, None, option_map, option_and_then, Err, slice_get}
+use Rattle.std.specs.List.{insert, remove, position}
+use Rattle.client_request.specs.View.{View, Transport, word, drawn, answers, draws_ticket}
+use Rattle.client_request.specs.Response.{IsRefusal}
+use Rattle.client_request.specs.declared.error.Error.{Error}
 use Rattle.client_request.specs.declared.error.Error.TheVariants as errors
 use Rattle.client_settings.specs.Settings.{RedundantSettings}
 use Rattle.client_choice.specs.Choice.{Choice, After, empty, takes_on, hears, drops}
@@ -15,12 +17,17 @@ use Rattle.client_choice.specs.declared.job.Entry.{Entry}
 abbrev pub entry_of : {U : Type 0} → ℕ → Server U → Entry
 entry_of index s = record { server = index; estimate = estimate s.stats }
 
--- the place of an entry in a list: before the first of which more is expected
-abbrev pub place_in : (estimate : ℕ) → List Entry → ℕ
-place_in estimate entries = position_or_len (λ x. nat_lt estimate x.estimate) entries
+-- the place of the first entry of which more is expected
+abbrev pub first_above : (estimate : ℕ) → List Entry → Option ℕ
+first_above estimate entries = position (λ x. nat_lt estimate x.estimate) entries
+
+-- the entries with one more, which stands before that place
+abbrev pub lined_up_at : Entry → List Entry → Option ℕ → List Entry
+lined_up_at e entries None = entries ++ e ∷ []
+lined_up_at e entries (Some place) = insert entries place e
 
 abbrev pub lined_up : Entry → List Entry → List Entry
-lined_up e entries = insert entries (place_in e.estimate entries) e
+lined_up e entries = lined_up_at e entries (first_above e.estimate entries)
 
 -- Servers by estimate, ties in the order in which they were added.
 abbrev pub all_lined_up : {U : Type 0} → ℕ → List (Server U) → List Entry → List Entry
@@ -107,13 +114,29 @@ module _ {R U P : Type 0} where
     response = λ request r v. record { ticket = v.ticket; given = false };
   }
 
-  -- A request that goes to the server of an identifier past the choice. There is none where none was added under it.
-  abbrev pub with_sent : Redundant R U P → (Option P × List (Server U)) × View → (Option P × Redundant R U P) × View
-  with_sent r x = ((x.0.0, record r { choice = record r.choice { servers = x.0.1 } }), x.1)
+  -- A request goes to the server of an identifier, past the choice. There is none where none was added under it.
+  abbrev pub with_servers : Choice R U P → (Option P × List (Server U)) × View → (Option P × Choice R U P) × View
+  with_servers c x = ((x.0.0, record c { servers = x.0.1 }), x.1)
 
-  abbrev pub sends_to : Transport R U P → R → Redundant R U P → View → Option ℕ → Option ((Option P × Redundant R U P) × View)
-  sends_to below request r v None = Some ((None, r), v)
-  sends_to below request r v (Some index) = option_map (with_sent r) (of_servers.sends_at below index request r.choice.servers v)
+  abbrev pub sends_to : Transport R U P → R → Choice R U P → View → Option ℕ → Option ((Option P × Choice R U P) × View)
+  sends_to below request c v None = Some ((None, c), v)
+  sends_to below request c v (Some index) = option_map (with_servers c) (of_servers.sends_at below index request c.servers v)
+
+  abbrev pub sends_past : Transport R U P → ℕ → R → Choice R U P → View → Option ((Option P × Choice R U P) × View)
+  sends_past below id request c v = sends_to below request c v (index_of id)
 
   abbrev pub sends_on : Transport R U P → ℕ → R → Redundant R U P → View → Option ((Option P × Redundant R U P) × View)
-  sends_on below id request r v = sends_to below request r v (index_of id)
+  sends_on below id request r v = option_map (λ x. ((x.0.0, record r { choice = x.0.1 }), x.1)) (sends_past below id request r.choice v)
+
+-- whether a server was added under an identifier
+abbrev pub is_known_at : {U : Type 0} → List (Server U) → Option ℕ → Bool
+is_known_at servers None = false
+is_known_at servers (Some index) = nat_lt index (length servers)
+
+abbrev pub is_known : {U : Type 0} → ℕ → List (Server U) → Bool
+is_known id servers = is_known_at servers (index_of id)
+
+-- why no request goes past the choice
+abbrev pub IsRefusalOrUnknown : Error → Type 0
+IsRefusalOrUnknown errors.RedundantTransportNotFound = Unit {0}
+IsRefusalOrUnknown error = IsRefusal error

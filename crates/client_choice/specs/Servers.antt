@@ -2,7 +2,7 @@
 --
 -- What the transport of a server posts stands on a board of its own. What comes for the request that is handed to it is taken at once; all else
 -- stands there until the server hears the next signal.
-use Rattle.std.specs.Prelude.{ℕ, ◌+◌, ◌-◌, ◌==◌, ◌||◌, nat_lt, Bool, List, [], ◌∷◌, ◌++◌, Option, Some, None, option_map, map, set, slice_get, if◌then◌else◌}
+use Rattle.std.specs.Prelude.{ℕ, Bool, List, [], Option, Some, None, option_map, map, set, slice_get, if◌then◌else◌}
 use Rattle.std.specs.List.{list_any}
 use Rattle.dns_values.specs.Source.{one_more}
 use Rattle.client_request.specs.Board.{Part, posted, part_of, without_part}

@@ -9,7 +9,7 @@ ghost use Rattle.client_choice.specs.Choice as plain;
 ghost use Rattle.client_choice.specs.Servers as of_servers;
 
 use crate::job::{Job, Started};
-use crate::servers::{Server, give_up_at, judge_at};
+use crate::servers::{Server, give_up_at, judge_at, take_owner};
 use client_request::{ComposeRequest, Cx, Error, SendRequest, TimerId, Words};
 use client_settings::redundant::Config;
 use dns_base::{Message, NoMemory, OptRcode};
@@ -108,7 +108,11 @@ pub(crate) fn arm<Req: Drop, P: Drop, W: Words>(
 }
 
 /// Cancels the timer that would start the next server, if one is set.
-pub(crate) fn disarm<W: Words>(timers: &mut BTreeMap<u64, u64>, cx: &mut Cx<'_, W>, timer: Option<u64>)
+pub(crate) fn disarm<W: Words>(
+    timers: &mut BTreeMap<u64, u64>,
+    cx: &mut Cx<'_, W>,
+    timer: Option<u64>,
+)
     ensures lends { LendsTheSame cx.old cx.new }
     ensures timers { timers.new.entries ≡ plain.unset timer timers.old.entries }
     ensures view { view_of W.stream cx.new ≡ plain.stopped timer (view_of W.stream cx.old) }
@@ -119,13 +123,46 @@ pub(crate) fn disarm<W: Words>(timers: &mut BTreeMap<u64, u64>, cx: &mut Cx<'_, 
     }
 }
 
-/// Each server that was started is judged: the one that gave the result, and those that were waited for.
-pub(crate) fn judge_all<U, P>(servers: &mut Vec<Server<U>>, started: &[Started<P>], giver: usize, now: u64)
+/// Each server that was started is judged, in order.
+fn judge_each<U, P>(servers: &mut Vec<Server<U>>, started: &[Started<P>], giver: usize, now: u64)
     ensures { servers.new.items ≡ plain.judges_each giver now started.now servers.old.items }
 {
     for s in started {
-        judge_at(servers, s.server, s.server == giver, now.saturating_sub(s.since));
+        judge_at(
+            servers,
+            s.server,
+            s.server == giver,
+            now.saturating_sub(s.since),
+        );
     }
+}
+
+/// Each server that was started is judged: the one that gave the result, and those that were waited for.
+#[tactic(auto, using(crate::proofs::Keeping::kept_each))]
+pub(crate) fn judge_all<Req: ComposeRequest, U: SendRequest<Req>>(
+    choice: &mut Choice<Req, U>,
+    job: &Job<Req, U::Response>,
+    giver: usize,
+    now: u64,
+)
+    ensures value { choice.new ≡ plain.judged giver job.now now choice.old }
+    ensures keeps { of_servers.flags U.holds_failed choice.new.servers ≡ of_servers.flags U.holds_failed choice.old.servers }
+{
+    judge_each(&mut choice.servers, &job.started, giver, now);
+}
+
+/// The ticket of the request that waits under a ticket at a server, and waits there no more.
+#[tactic(auto, using(crate::proofs::Keeping::kept_disowned))]
+pub(crate) fn disown<Req: ComposeRequest, U: SendRequest<Req>>(
+    choice: &mut Choice<Req, U>,
+    server: usize,
+    lower: u64,
+) -> Option<u64>
+    ensures value { result ≡ of_servers.owner server lower choice.old.servers }
+    ensures after { choice.new ≡ plain.without_owner server lower choice.old }
+    ensures keeps { of_servers.flags U.holds_failed choice.new.servers ≡ of_servers.flags U.holds_failed choice.old.servers }
+{
+    take_owner(&mut choice.servers, server, lower)
 }
 
 /// A server gives a request up, if it gave no result yet.

@@ -11,22 +11,23 @@ use dns_base::NoMemory;
 use std::alloc::Global;
 use std::collections::VecDeque;
 
-/// The place of an entry in a list: before the first of which more is expected.
-fn place_in(entries: &VecDeque<Entry>, estimate: u64) -> usize
-    ensures { result ≡ plain.place_in estimate entries.now.items }
+/// The place of the first entry of which more is expected.
+fn first_above(entries: &VecDeque<Entry>, estimate: u64) -> Option<usize>
+    ensures value { result ≡ plain.first_above estimate entries.now.items }
+    ensures within { IfSome result (λ i. i < length entries.now.items) }
 {
-    entries
-        .iter()
-        .position(|x| estimate < x.estimate)
-        .unwrap_or(entries.len())
+    entries.iter().position(|x| estimate < x.estimate)
 }
 
 /// Lines an entry up: those of which more is expected stand behind it.
-pub(crate) fn line_up(entries: &mut VecDeque<Entry>, entry: Entry) -> Result<(), NoMemory>
+fn line_up(entries: &mut VecDeque<Entry>, entry: Entry) -> Result<(), NoMemory>
     ensures { OnOk result (entries.new.items ≡ plain.lined_up entry entries.old.items) }
 {
-    let place = place_in(entries, entry.estimate);
-    match entries.insert(place, entry) {
+    let result = match first_above(entries, entry.estimate) {
+        None => entries.push_back(entry),
+        Some(place) => entries.insert(place, entry),
+    };
+    match result {
         Ok(()) => Ok(()),
         Err(_) => Err(NoMemory),
     }
@@ -40,12 +41,14 @@ pub(crate) fn by_estimate<U>(
     ensures { IfOk result (λ entries. entries.items ≡ plain.by_estimate servers.now) }
 {
     let mut entries = VecDeque::new(alloc);
-    for (index, server) in servers.iter().enumerate() {
+    let mut index = 0;
+    for server in servers {
         let entry = Entry {
             server: index,
             estimate: server.stats.estimate(),
         };
         line_up(&mut entries, entry)?;
+        index += 1;
     }
     Ok(entries)
 }
@@ -77,7 +80,11 @@ pub(crate) fn probe<W: Words>(cx: &mut Cx<'_, W>, count: usize) -> Option<usize>
 }
 
 /// The entry that is probed goes first, with an estimate.
-pub(crate) fn promote(entries: &mut VecDeque<Entry>, place: usize, estimate: u64) -> Result<(), NoMemory>
+pub(crate) fn promote(
+    entries: &mut VecDeque<Entry>,
+    place: usize,
+    estimate: u64,
+) -> Result<(), NoMemory>
     ensures { OnOk result (entries.new.items ≡ plain.promoted place estimate entries.old.items) }
 {
     let Some(entry) = entries.remove(place) else {

@@ -10,8 +10,8 @@
 //!                       └──its result──► result; the others give the request up
 //! ```
 
-ghost use Rattle.std.specs.Prelude.{◌≡◌, ◌+◌, ◌<◌, true, false, OnOk, OnErr, IfOk, IfErr, IsErrOf, Some, None, length};
-ghost use Rattle.client_request.specs.Calls.{Steps, NumbersRunOut};
+ghost use Rattle.std.specs.Prelude.{◌≡◌, ◌+◌, ◌<◌, true, false, OnOk, OnErr, IfOk, IfErr, IsErrOf, Some, None, Ok, Err, length, is_some, if◌then◌else◌};
+ghost use Rattle.client_request.specs.Calls.{Steps, NumbersRunOut, AnswersFailed};
 ghost use Rattle.client_request.specs.Cx.{view_of, LendsTheSame};
 ghost use Rattle.client_request.specs.Response.{IsRefusal};
 ghost use Rattle.client_settings.specs.Settings.{default_redundant};
@@ -27,13 +27,12 @@ use crate::steps::{give_up, hear, take_on};
 use client_request::{
     Board, ComposeRequest, Cx, Error, GetResponse, Poll, SendRequest, Signal, Words, take_response,
 };
+pub use client_settings::redundant::Config;
 use dns_base::{Message, NoMemory};
 use std::alloc::Global;
 use std::collections::VecDeque;
 use std::fmt;
 use std::marker::Model;
-
-pub use client_settings::redundant::Config;
 
 /// The identifier of the first server that is added. The others follow.
 const FIRST_IDENTIFIER: u64 = 10;
@@ -85,6 +84,30 @@ fn index_of(id: u64) -> Option<usize>
         return None;
     }
     Some((id - FIRST_IDENTIFIER) as usize)
+}
+
+/// Sends a request to the server of an identifier, past the choice, if there is one.
+fn send_past<Req: ComposeRequest, U: SendRequest<Req>, W: Words>(
+    choice: &mut Choice<Req, U>,
+    cx: &mut Cx<'_, W>,
+    id: u64,
+    request: Req,
+) -> Result<Option<U::Response>, Error>
+    ensures lends { LendsTheSame cx.old cx.new }
+    ensures ok { IfOk result (λ r. plain.sends_past U.transport id request choice.old (view_of W.stream cx.old) ≡ Some ((r, choice.new), view_of W.stream cx.new)) }
+    ensures found { IfOk result (λ r. is_some r ≡ plain.is_known id choice.old.servers) }
+    ensures unknown { plain.is_known id choice.old.servers ≡ false → result ≡ Ok None }
+    ensures none { result ≡ Ok None → choice.new ≡ choice.old }
+    ensures none_view { result ≡ Ok None → view_of W.stream cx.new ≡ view_of W.stream cx.old }
+    ensures numbers { NumbersRunOut result (plain.sends_past U.transport id request choice.old (view_of W.stream cx.old)) }
+    ensures keeps { OnOk result (of_servers.flags U.holds_failed choice.new.servers ≡ of_servers.flags U.holds_failed choice.old.servers) }
+    ensures refused { IfErr result IsRefusal }
+    ensures failed_only { IsErrOf result Error.Failed → of_servers.holds_failed U.holds_failed choice.old.servers ≡ true }
+{
+    let Some(index) = index_of(id) else {
+        return Ok(None);
+    };
+    send_at(&mut choice.servers, index, cx, request)
 }
 
 /// The entry that is probed goes first, with the least estimate. Its list is in order, so the first
@@ -160,7 +183,7 @@ impl<Req: ComposeRequest, U: SendRequest<Req> + Drop> Connection<Req, U> {
     /// or no number; after `NoMemory` each later call answers `Failed`.
     pub fn add(&mut self, conn: U) -> Result<(), Error>
         ensures ok { OnOk result (self.new ≡ record self.old { choice = requests.with_server conn self.old.choice }) }
-        ensures want { IfErr result (λ e. e ≡ (if self.old.failed then Error.Failed else Error.NoMemory)) }
+        ensures refused { IfErr result (λ e. e ≡ (if self.old.failed then Error.Failed else Error.NoMemory)) }
         ensures err { OnErr result (self.new ≡ record self.old { failed = true }) }
     {
         if self.failed {
@@ -177,7 +200,8 @@ impl<Req: ComposeRequest, U: SendRequest<Req> + Drop> Connection<Req, U> {
 impl<Req: ComposeRequest, U: SendRequest<Req>> Connection<Req, U> {
     /// Sends a request to the server of an identifier, past the choice: its result stands on the board under
     /// the response's ticket, and counts in no estimate. `RedundantTransportNotFound` comes exactly where
-    /// no server was added under the identifier; then nothing is changed.
+    /// no server was added under the identifier; then nothing is changed. `Failed` comes where an earlier
+    /// call found no memory or no number, or the server gave up.
     pub fn send_on<W: Words>(
         &mut self,
         cx: &mut Cx<'_, W>,
@@ -187,14 +211,21 @@ impl<Req: ComposeRequest, U: SendRequest<Req>> Connection<Req, U> {
         ensures lends { LendsTheSame cx.old cx.new }
         ensures ok { IfOk result (λ r. plain.sends_on U.transport id request self.old (view_of W.stream cx.old) ≡ Some ((Some r, self.new), view_of W.stream cx.new)) }
         ensures numbers { NumbersRunOut result (plain.sends_on U.transport id request self.old (view_of W.stream cx.old)) }
+        ensures known { OnOk result (plain.is_known id self.old.choice.servers ≡ true) }
+        ensures not_found { IsErrOf result Error.RedundantTransportNotFound → plain.is_known id self.old.choice.servers ≡ false }
+        ensures unknown { plain.is_known id self.old.choice.servers ≡ false → result ≡ Err (if self.old.failed then Error.Failed else Error.RedundantTransportNotFound) }
+        ensures unchanged { IsErrOf result Error.RedundantTransportNotFound → self.new ≡ self.old }
+        ensures unseen { IsErrOf result Error.RedundantTransportNotFound → view_of W.stream cx.new ≡ view_of W.stream cx.old }
+        ensures keeps { OnOk result (plain.holds_failed U.holds_failed self.new ≡ plain.holds_failed U.holds_failed self.old) }
+        ensures refused { IfErr result plain.IsRefusalOrUnknown }
+        ensures err { IfErr result (λ e. IsRefusal e → self.new.failed ≡ true) }
+        ensures failed { self.old.failed ≡ true → AnswersFailed result (self.old, view_of W.stream cx.old) (self.new, view_of W.stream cx.new) }
+        ensures failed_only { IsErrOf result Error.Failed → plain.holds_failed U.holds_failed self.old ≡ true }
     {
         if self.failed {
             return Err(Error::Failed);
         }
-        let Some(index) = index_of(id) else {
-            return Err(Error::RedundantTransportNotFound);
-        };
-        match send_at(&mut self.choice.servers, index, cx, request) {
+        match send_past(&mut self.choice, cx, id, request) {
             Ok(Some(response)) => Ok(response),
             Ok(None) => Err(Error::RedundantTransportNotFound),
             Err(error) => {

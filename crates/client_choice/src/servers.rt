@@ -1,6 +1,6 @@
 //! The servers of a choice.
 
-ghost use Rattle.std.specs.Prelude.{◌≡◌, ◌<◌, length, true, OnOk, IfOk, IfErr, IsErrOf, slice_get, [], Some, map};
+ghost use Rattle.std.specs.Prelude.{◌≡◌, ◌<◌, length, true, false, OnOk, IfOk, IfErr, IsErrOf, slice_get, [], Some, None, Ok, map, is_some, nat_lt};
 ghost use Rattle.client_request.specs.Calls.{Steps, NumbersRunOut};
 ghost use Rattle.client_request.specs.Cx.{view_of, heard, LendsTheSame};
 ghost use Rattle.client_request.specs.Response.{IsRefusal};
@@ -197,6 +197,10 @@ pub(crate) fn send_at<Req: ComposeRequest, U: SendRequest<Req>, W: Words>(
 ) -> Result<Option<U::Response>, Error>
     ensures lends { LendsTheSame cx.old cx.new }
     ensures ok { IfOk result (λ r. plain.sends_at U.transport index request servers.old.items (view_of W.stream cx.old) ≡ Some ((r, servers.new.items), view_of W.stream cx.new)) }
+    ensures found { IfOk result (λ r. is_some r ≡ nat_lt index (length servers.old.items)) }
+    ensures unknown { nat_lt index (length servers.old.items) ≡ false → result ≡ Ok None }
+    ensures none { result ≡ Ok None → servers.new.items ≡ servers.old.items }
+    ensures none_view { result ≡ Ok None → view_of W.stream cx.new ≡ view_of W.stream cx.old }
     ensures numbers { NumbersRunOut result (plain.sends_at U.transport index request servers.old.items (view_of W.stream cx.old)) }
     ensures keeps { OnOk result (plain.flags U.holds_failed servers.new.items ≡ plain.flags U.holds_failed servers.old.items) }
     ensures refused { IfErr result IsRefusal }
@@ -252,12 +256,7 @@ pub(crate) fn give_up_at<Req: ComposeRequest, U: SendRequest<Req>, W: Words>(
 }
 
 /// The server of an index answered, or was waited for while another one did.
-pub(crate) fn judge_at<U>(
-    servers: &mut Vec<Server<U>>,
-    index: usize,
-    is_giver: bool,
-    elapsed: u64,
-)
+pub(crate) fn judge_at<U>(servers: &mut Vec<Server<U>>, index: usize, is_giver: bool, elapsed: u64)
     ensures value { servers.new.items ≡ plain.judges index is_giver elapsed servers.old.items }
 {
     let Some(server) = servers.get_mut(index) else {
@@ -267,11 +266,7 @@ pub(crate) fn judge_at<U>(
 }
 
 /// The ticket of the request that waits under a ticket at the server of an index, and waits there no more.
-pub(crate) fn take_owner<U>(
-    servers: &mut Vec<Server<U>>,
-    index: usize,
-    lower: u64,
-) -> Option<u64>
+pub(crate) fn take_owner<U>(servers: &mut Vec<Server<U>>, index: usize, lower: u64) -> Option<u64>
     ensures value { result ≡ plain.owner index lower servers.old.items }
     ensures after { servers.new.items ≡ plain.disowned index lower servers.old.items }
 {

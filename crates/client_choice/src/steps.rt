@@ -7,10 +7,12 @@ ghost use Rattle.client_request.specs.Response.{IsRefusal};
 ghost use Rattle.client_choice.specs.Choice as plain;
 ghost use Rattle.client_choice.specs.Servers as of_servers;
 
-use crate::choice::{Choice, arm, disarm, give_up_all, is_deferred, judge_all};
+use crate::choice::{Choice, arm, disarm, disown, give_up_all, is_deferred, judge_all};
 use crate::job::{Entry, Job, parted};
-use crate::servers::{hear_at, start_at, take_owner};
-use client_request::{Board, ComposeRequest, Cx, Error, Posted, SendRequest, Signal, TimerId, Words};
+use crate::servers::{hear_at, start_at};
+use client_request::{
+    Board, ComposeRequest, Cx, Error, Posted, SendRequest, Signal, TimerId, Words,
+};
 use client_settings::redundant::Config;
 use dns_base::{Message, NoMemory};
 use std::collections::VecDeque;
@@ -72,7 +74,7 @@ fn end<Req: ComposeRequest, U: SendRequest<Req>, W: Words>(
     ensures refused { IfErr result IsRefusal }
     ensures failed_only { IsErrOf result Error.Failed → of_servers.holds_failed U.holds_failed choice.old.servers ≡ true }
 {
-    judge_all(&mut choice.servers, &job.started, giver, cx.now.0);
+    judge_all(choice, &job, giver, cx.now.0);
     disarm(&mut choice.timers, cx, job.timer);
     cx.board.put(ticket, part)?;
     give_up_all(&mut choice.servers, cx, job.started)
@@ -215,7 +217,7 @@ fn settle<Req: ComposeRequest, U: SendRequest<Req>, W: Words>(
         ticket: lower,
         part,
     } = posted;
-    let Some(ticket) = take_owner(&mut choice.servers, server, lower) else {
+    let Some(ticket) = disown(choice, server, lower) else {
         cx.board.put(lower, part)?;
         return Ok(());
     };

@@ -1,4 +1,4 @@
-use Rattle.std.proofs.Common.{◌≡◌, refl, rules, IsErrOf}
+use Rattle.std.proofs.Common.{refl, rules, IsErrOf}
 use Rattle.client_request.specs.declared.error.Error.TheVariants.{Failed}
 use Rattle.client_choice.proofs.At.{kept_at, any_at, found_at}
 use Rattle.client_choice.proofs.servers.start_at.Goals as goal

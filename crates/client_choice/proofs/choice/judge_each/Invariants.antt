@@ -1,6 +1,6 @@
 use Rattle.std.proofs.Common.{◌≡◌, drop}
 use Rattle.client_choice.specs.Choice as plain
-use Rattle.client_choice.proofs.choice.judge_all.Given as goal
+use Rattle.client_choice.proofs.choice.judge_each.Given as goal
 
 abbrev pub invariant-loop-s : goal.invariant-loop-s
 invariant-loop-s g l =

@@ -1,0 +1,16 @@
+use Rattle.std.proofs.Common.{◌<◌, ◌∙◌, length, rules, arith}
+use Rattle.std.proofs.lemmas.Grind.{common_steps}
+use Rattle.client_choice.proofs.Hearing.{hears_next}
+use Rattle.client_choice.proofs.steps.hear_all.Goals as goal
+
+pub loop-server-preserved : goal.loop-server-preserved
+loop-server-preserved g c =
+    let next : c.loop-server.server < length c.args.choice.now.servers = grind (arith, common_steps) in
+    record {
+      lends = search rules;
+      within = omega (arith, next);
+      same =
+          hears_next g.U.SendRequest.transport c.args.config.now (length c.args.choice.now.servers) c.loop-server.server _ c.loop-server.choice c.hear_one.new.choice _ _ next c.in_ok-hear_one.ensures.ok
+          ∙ c.loop-server.invariant.same;
+      keeps = c.in_ok-hear_one.ensures.keeps ∙ c.loop-server.invariant.keeps;
+    }
