@@ -1,20 +1,17 @@
 -- One server of the list is called, and the others stay tied as they were.
-use Rattle.std.proofs.Common.{◌≡◌, ℕ, zero, suc, ◌<◌, ◌≤◌, ◌⊎◌, inl, inr, List, [], ◌∷◌, length, Option, Some, None, slice_get, refl, sym, ap, subst, subst₂, ◌∙◌, arith}
+use Rattle.std.proofs.Common.{◌≡◌, ℕ, zero, suc, ◌<◌, ◌≤◌, inl, inr, List, [], ◌∷◌, length, Option, Some, None, slice_get, refl, sym, ap, subst, subst₂, ◌∙◌, arith}
 use Rattle.std.specs.Prelude.{set}
 use Rattle.std.proofs.lemmas.Option.{slice_get_within}
-use Rattle.client_request.specs.Composed.{composed}
 use Rattle.client_request.specs.Timers.{TimerList}
 use Rattle.client_request.specs.View.{View}
 use Rattle.client_choice.specs.Servers.{Server}
 use Rattle.headline.specs.machine.Part.{Act}
-use Rattle.headline.specs.machine.Client.{Upper}
-use Rattle.client_ties.specs.PartTie.{Phase, Leaves, IsTie}
+use Rattle.client_ties.specs.PartTie.{Phase}
 use Rattle.client_ties.specs.Sights.{sight, due_of, IsFair}
 use Rattle.client_ties.proofs.GoingOn.{none_next}
 use Rattle.client_ties.proofs.Keys.{each_number}
 use Rattle.choice_runs.specs.Choosing.{Choosing}
-use Rattle.choice_runs.specs.Leading.{IsMoved}
-use Rattle.choice_runs.specs.Servers.{State, Listed, AreTied, OthersAreTied, SeenAlike, IsCalled, OthersStayTied}
+use Rattle.choice_runs.specs.Servers.{State, Listed, AreTied, OthersAreTied, IsCalled, OthersStayTied}
 
 module _ {A : Type 0} where
   pub set_here : (xs : List A) (i : ℕ) (a b : A) → slice_get xs i ≡ Some a → slice_get (set xs i b) i ≡ Some b
@@ -107,10 +104,10 @@ module _ (g : Choosing) (s : ℕ) (May : Act g.P.State → Type 0) (named : ℕ 
         (λ q ne is. tied_there q e ne (was_there q e ne is)) q is;
     apart = λ q r i e f is it o p. each_number (λ q. slice_get (set servers s b) q ≡ Some e → q ≡ r) s
         (λ is. each_number (λ r. slice_get (set servers s b) r ≡ Some f → s ≡ r) s (λ it. refl)
-            (λ r ne it. absurd (none_of r f i ne (was_there r f ne it) (subst (λ (e : Server g.U). g.Owns e.upstream i) (sym (is_here e is)) o) p)) r it)
+        (λ r ne it. absurd (none_of r f i ne (was_there r f ne it) (subst (λ (e : Server g.U). g.Owns e.upstream i) (sym (is_here e is)) o) p)) r it)
         (λ q ne is. each_number (λ r. slice_get (set servers s b) r ≡ Some f → q ≡ r) s
-            (λ it. absurd (none_of q e i ne (was_there q e ne is) (subst (λ (e : Server g.U). g.Owns e.upstream i) (sym (is_here f it)) p) o))
-            (λ r re it. t.apart q r i e f (was_there q e ne is) (was_there r f re it) o p) r it) q is;
+        (λ it. absurd (none_of q e i ne (was_there q e ne is) (subst (λ (e : Server g.U). g.Owns e.upstream i) (sym (is_here f it)) p) o))
+        (λ r re it. t.apart q r i e f (was_there q e ne is) (was_there r f re it) o p) r it) q is;
     fair = fair_as k.after w k.to.timers k.to.words k.leaves.goes_on.fair;
     place = k.moved.place ∙ (sym k.leaves.place ∙ sym k.to.place);
   }

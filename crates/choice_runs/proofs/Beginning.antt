@@ -1,38 +1,33 @@
 -- A request is started at the next server, and the timer is set that starts the one behind it.
-use Rattle.std.proofs.Common.{◌≡◌, ℕ, zero, suc, ◌+◌, ◌<◌, ◌≤◌, ◌⊎◌, inl, inr, Bool, true, false, if◌then◌else◌, ◌==◌, List, [], ◌∷◌, ◌++◌, length, map, Option, Some, None, slice_get, refl, sym, ap, ap₂, subst, subst₂, ◌∙◌, arith, le_refl, append-nil}
-use Rattle.std.specs.Prelude.{set, option_map, option_and_then, Result}
+use Rattle.std.proofs.Common.{◌≡◌, ℕ, ◌+◌, ◌<◌, ◌≤◌, inl, inr, Bool, true, false, List, [], ◌∷◌, ◌++◌, length, map, Option, Some, None, slice_get, refl, sym, ap, subst, ◌∙◌, arith, append-nil}
+use Rattle.std.specs.Prelude.{set, Result}
 use Rattle.client_request.specs.Board.{Part}
-use Rattle.client_request.specs.Carries.{IsOfOctets}
-use Rattle.client_request.specs.Composed.{composed}
-use Rattle.client_request.specs.Numbered.{entry_at, puts, frees}
+use Rattle.client_request.specs.Numbered.{entry_at}
 use Rattle.client_request.specs.Request.{Request}
 use Rattle.client_request.specs.View.{View}
 use Rattle.client_request.specs.declared.error.Error.{Error}
-use Rattle.client_choice.specs.Choice.{Choice, Job, arms, noted, begun, begun_at, begins, parted}
-use Rattle.client_choice.specs.Servers.{Server, owner, owner_at, for_request, starts_at}
+use Rattle.client_choice.specs.Choice.{Choice, arms, begun, begun_at, begins, parted}
+use Rattle.client_choice.specs.Servers.{Server, owner, for_request, starts_at}
 use Rattle.client_choice.specs.declared.job.Entry.{Entry}
 use Rattle.client_choice.specs.declared.servers.Reply.{Reply}
-use Rattle.client_choice.specs.declared.servers.Reply.TheVariants.{Later, Now}
 use Rattle.headline.specs.Messages.{Octets}
-use Rattle.headline.specs.Parts.{IsIn}
-use Rattle.headline.specs.machine.Client.{Waiting, Posted, hand, handing, with_up, tag}
+use Rattle.headline.specs.machine.Client.{Posted, hand, with_up, tag}
 use Rattle.headline.specs.machine.Part.{Post}
 use Rattle.headline.specs.machine.Streams.{with_at}
 use Rattle.client_ties.specs.Chains.{part_of}
 use Rattle.client_ties.specs.Lines.{Sorted}
 use Rattle.client_ties.specs.PartTie.{Phase, Leads as IfLeft}
-use Rattle.client_ties.specs.Sights.{sight, due_of, IsFair}
+use Rattle.client_ties.specs.Sights.{sight, due_of}
 use Rattle.client_ties.proofs.Keys.{each_number, with_here, with_there, is_or_was}
 use Rattle.client_ties.proofs.Tables.{at_puts}
 use Rattle.choice_runs.specs.Choosing.{Choosing}
-use Rattle.choice_runs.specs.Servers.{State, Listed, AreTied, AfterCall, IsStarted, HasReply, Comes, Came}
-use Rattle.choice_runs.specs.Requests.{Beside, Work, Begun, Desk, Waits, IsKept, IsOwed, AreKept, AreToStart, IsToStart, desk_of, Stands, Went, Follows}
-use Rattle.choice_runs.proofs.AtServer.{both_are, none_is, set_here, set_there}
+use Rattle.choice_runs.specs.Servers.{State, Listed, IsStarted, HasReply, Comes, Came}
+use Rattle.choice_runs.specs.Requests.{Beside, Work, Begun, Desk, Waits, IsKept, IsOwed, AreToStart, desk_of, Stands, Went}
+use Rattle.choice_runs.proofs.AtServer.{both_are, set_here}
 use Rattle.choice_runs.proofs.Disarming.{again_path}
-use Rattle.choice_runs.proofs.Dropping.{found_at, stands_on, dues_on, left_then, left_on, owner_there, owner_here, follows_of, follows_then}
-use Rattle.choice_runs.proofs.Keeping.{Differ}
+use Rattle.choice_runs.proofs.Dropping.{found_at, stands_on, dues_on, left_then, owner_there, owner_here, follows_of, follows_then}
 use Rattle.choice_runs.proofs.Leading.{up_here, up_other}
-use Rattle.choice_runs.proofs.Noting.{noting, Notes, noted_so}
+use Rattle.choice_runs.proofs.Noting.{noting, noted_so}
 use Rattle.choice_runs.proofs.ServerCalls.{one_starts, in_conf, left_map}
 use Rattle.choice_runs.proofs.Starting.{sorted_more, stands_for, IsArmed, arms_do}
 

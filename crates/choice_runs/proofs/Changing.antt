@@ -1,11 +1,10 @@
 -- What agrees of the requests stays so while one of them changes, or ends.
-use Rattle.std.proofs.Common.{◌≡◌, ℕ, zero, suc, ◌<◌, ◌≤◌, ◌⊎◌, inl, inr, Bool, true, false, List, [], ◌∷◌, ◌++◌, length, Option, Some, None, refl, sym, ap, ap₂, subst, subst₂, ◌∙◌, arith}
-use Rattle.headline.specs.Parts.{IsIn}
+use Rattle.std.proofs.Common.{◌≡◌, ℕ, ◌<◌, ◌⊎◌, inl, inr, [], length, Option, Some, None, refl, sym, ap, subst, ◌∙◌}
 use Rattle.headline.specs.machine.Client.{Waiting}
 use Rattle.headline.specs.machine.Streams.{with_at}
-use Rattle.client_ties.proofs.Keys.{each_number, with_here, with_there, was_there, is_or_was}
+use Rattle.client_ties.proofs.Keys.{each_number, with_here, with_there, was_there}
 use Rattle.choice_runs.specs.Choosing.{Choosing}
-use Rattle.choice_runs.specs.Requests.{Work, Begun, Desk, Waits, IsKept, IsOwed, IsNamed, AreKept, AreApart}
+use Rattle.choice_runs.specs.Requests.{Work, Begun, Desk, Waits, IsKept, IsOwed, IsNamed, AreKept}
 use Rattle.choice_runs.proofs.AtServer.{both_are, none_is}
 
 module _ (g : Choosing) where
@@ -36,10 +35,10 @@ module _ (g : Choosing) where
     ];
     apart = λ u w a b p q n. each_number (λ u. d'.jobs u ≡ Some a → u ≡ w) t
         (λ p. each_number (λ w. d'.jobs w ≡ Some b → t ≡ w) t (λ q. refl)
-            (λ w ne q. k.apart t w job b f.is (was w b ne q) (sym f.number ∙ (ap (λ (x : Work g). x.number) (both_are (d'.jobs t) job' a at_t p) ∙ n))) w q)
+        (λ w ne q. k.apart t w job b f.is (was w b ne q) (sym f.number ∙ (ap (λ (x : Work g). x.number) (both_are (d'.jobs t) job' a at_t p) ∙ n))) w q)
         (λ u ne p. each_number (λ w. d'.jobs w ≡ Some b → u ≡ w) t
-            (λ q. k.apart u t a job (was u a ne p) f.is (n ∙ (sym (ap (λ (x : Work g). x.number) (both_are (d'.jobs t) job' b at_t q)) ∙ f.number)))
-            (λ w re q. k.apart u w a b (was u a ne p) (was w b re q) n) w q) u p;
+        (λ q. k.apart u t a job (was u a ne p) f.is (n ∙ (sym (ap (λ (x : Work g). x.number) (both_are (d'.jobs t) job' b at_t q)) ∙ f.number)))
+        (λ w re q. k.apart u w a b (was u a ne p) (was w b re q) n) w q) u p;
   }
     where
       at_t : d'.jobs t ≡ Some job'
@@ -62,7 +61,7 @@ module _ (g : Choosing) where
       still : (s i n : ℕ) → (IsOwed g n job.started s i → IsOwed g n job'.started s i) → IsNamed g d s i n → IsNamed g d' s i n
       still s i n on m = each_number (λ u. d.jobs u ≡ Some m.job → IsNamed g d' s i n) t
           (λ is. (let e = both_are (d.jobs t) job m.job f.is is in
-            record { ticket = t; job = job'; is = at_t; number = f.number ∙ (ap (λ (x : Work g). x.number) e ∙ m.number); owed = on (subst (λ (x : Work g). IsOwed g n x.started s i) (sym e) m.owed) }))
+          record { ticket = t; job = job'; is = at_t; number = f.number ∙ (ap (λ (x : Work g). x.number) e ∙ m.number); owed = on (subst (λ (x : Work g). IsOwed g n x.started s i) (sym e) m.owed) }))
           (λ u ne is. record { ticket = u; job = m.job; is = now u m.job ne is; number = m.number; owed = m.owed }) m.ticket m.is
 
   -- The request of ticket t ends: what is owed to it is to be given up.
@@ -78,7 +77,7 @@ module _ (g : Choosing) where
     ];
     held = λ n a is. (let w = was_held n a is in let m = k.held n a w.1 in (m.0, m.1, now m.0 m.1 (λ same. w.0 (ap (λ (x : Work g). x.number) (both_are (d.jobs m.0) job m.1 (subst (λ u. d.jobs u ≡ Some job) same is_job) m.2) ∙ m.3)) m.2, m.3));
     timers = λ i u is. (let m = k.timers i u (subst (λ (h : ℕ → Option ℕ). h i ≡ Some u) timers is) in
-      (m.0, now u m.0 (λ same. none_is job.timer i calm (ap (λ (x : Work g). x.timer) (both_are (d.jobs u) job m.0 (subst (λ u. d.jobs u ≡ Some job) same is_job) m.1) ∙ m.2)) m.1, m.2));
+        (m.0, now u m.0 (λ same. none_is job.timer i calm (ap (λ (x : Work g). x.timer) (both_are (d.jobs u) job m.0 (subst (λ u. d.jobs u ≡ Some job) same is_job) m.1) ∙ m.2)) m.1, m.2));
     apart = λ u w a b p q n. k.apart u w a b (was u a p).1 (was w b q).1 n;
   }
     where

@@ -1,14 +1,13 @@
 -- What stands while a timer of the choice goes, while servers are judged, and while nothing is changed that is looked at.
-use Rattle.std.proofs.Common.{◌≡◌, ℕ, zero, suc, ◌+◌, ◌-◌, ◌==◌, ◌<◌, ◌≤◌, ◌⊎◌, inl, inr, Bool, true, false, List, [], ◌∷◌, ◌++◌, length, Option, Some, None, slice_get, refl, sym, ap, ap₂, subst, subst₂, ◌∙◌, arith, le_refl}
+use Rattle.std.proofs.Common.{◌≡◌, ℕ, ◌-◌, ◌==◌, inl, List, [], ◌∷◌, Option, Some, None, slice_get, refl, sym, ap, subst, ◌∙◌, le_refl}
 use mathlib.Core.Path.{fun_ext}
 use Rattle.std.specs.Prelude.{set}
 use Rattle.client_request.specs.Numbered.{entry_at, frees}
 use Rattle.client_request.specs.Request.{Request}
 use Rattle.client_request.specs.Timers.{cancelled}
 use Rattle.client_request.specs.View.{View}
-use Rattle.client_choice.specs.Choice.{Choice, Job, unset, stopped, unarmed, disarmed, judges_each}
+use Rattle.client_choice.specs.Choice.{Choice, stopped, unarmed, disarmed, judges_each}
 use Rattle.client_choice.specs.Servers.{Server, owner, owner_at, judges, judges_found, judged}
-use Rattle.headline.specs.machine.Client.{Waiting}
 use Rattle.headline.specs.machine.Streams.{with_at}
 use Rattle.client_ties.specs.Lines.{Sorted}
 use Rattle.client_ties.specs.PartTie.{Phase, GoesOn}
@@ -18,8 +17,8 @@ use Rattle.client_ties.proofs.Keys.{each_number, with_here, with_there, with_aga
 use Rattle.client_ties.proofs.Tables.{at_frees, sorted_frees}
 use Rattle.choice_runs.specs.Choosing.{Choosing}
 use Rattle.choice_runs.specs.Servers.{State, Listed, AreTied}
-use Rattle.choice_runs.specs.Requests.{Beside, Work, Begun, Desk, Waits, IsKept, IsOwed, AreKept, desk_of, Stands}
-use Rattle.choice_runs.proofs.AtServer.{both_are, none_is, set_here, set_there, set_length}
+use Rattle.choice_runs.specs.Requests.{Beside, Work, Begun, Desk, IsKept, AreKept, desk_of, Stands}
+use Rattle.choice_runs.proofs.AtServer.{both_are, set_here, set_there, set_length}
 use Rattle.choice_runs.proofs.Changing.{Changes, changed}
 use Rattle.choice_runs.proofs.ServerCalls.{in_conf}
 
@@ -98,9 +97,10 @@ module _ (g : Choosing) where
               waits = λ b p r q. (let w = m.waits b p r q in record { within = w.within; ticket = w.ticket; waiting = w.waiting; named = w.named });
               apart = m.apart;
               deferred = m.deferred;
-              timer = λ j p. (let q = m.timer j p in
-                (at_frees i j 0 st.timers.0 c.timers st.timers.1 ∙ (with_there i None (λ (j : ℕ). entry_at j c.timers) j (ne j p) ∙ q.0),
-                (q.1.0, dues_without v i j st.servers.fair ∙ (with_there i None (λ (j : ℕ). due_of j v.timers.set) j (ne j p) ∙ q.1.1))));
+              timer = λ j p. (let q = m.timer j p in (
+                at_frees i j 0 st.timers.0 c.timers st.timers.1 ∙ (with_there i None (λ (j : ℕ). entry_at j c.timers) j (ne j p) ∙ q.0),
+                (q.1.0, dues_without v i j st.servers.fair ∙ (with_there i None (λ (j : ℕ). due_of j v.timers.set) j (ne j p) ∙ q.1.1)),
+              ));
               armed = m.armed;
             }
 
@@ -163,7 +163,7 @@ module _ (g : Choosing) where
         was : (q : ℕ) (e : Server g.U) → slice_get (set c.servers s b) q ≡ Some e → (f : Server g.U) × (slice_get c.servers q ≡ Some f) × (e.upstream ≡ f.upstream) × (e.waiting ≡ f.waiting) × (e.posted ≡ f.posted)
         was q e is = each_number (λ q. slice_get (set c.servers s b) q ≡ Some e → (f : Server g.U) × (slice_get c.servers q ≡ Some f) × (e.upstream ≡ f.upstream) × (e.waiting ≡ f.waiting) × (e.posted ≡ f.posted)) s
             (λ is. (let p = both_are (slice_get (set c.servers s b) s) b e (set_here c.servers s a b at) is in
-              (a, at, ap (λ (e : Server g.U). e.upstream) (sym p) ∙ up, ap (λ (e : Server g.U). e.waiting) (sym p) ∙ waiting, ap (λ (e : Server g.U). e.posted) (sym p) ∙ posted)))
+            (a, at, ap (λ (e : Server g.U). e.upstream) (sym p) ∙ up, ap (λ (e : Server g.U). e.waiting) (sym p) ∙ waiting, ap (λ (e : Server g.U). e.posted) (sym p) ∙ posted)))
             (λ q ne is. (e, sym (set_there c.servers s q b ne) ∙ is, refl, refl, refl)) q is
 
         same_owner : (q i : ℕ) → owner q i c.servers ≡ owner q i (set c.servers s b)

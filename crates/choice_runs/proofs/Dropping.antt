@@ -1,16 +1,16 @@
 -- The servers that still owe a request its result give it up, one after another.
-use Rattle.std.proofs.Common.{◌≡◌, ℕ, zero, suc, ◌+◌, ◌<◌, ◌≤◌, ◌⊎◌, inl, inr, Bool, true, false, List, [], ◌∷◌, ◌++◌, length, map, Option, Some, None, slice_get, refl, sym, ap, ap₂, subst, subst₂, ◌∙◌, arith, le_trans, append_assoc, append-nil}
-use Rattle.std.specs.Prelude.{set, option_and_then, option_map}
+use Rattle.std.proofs.Common.{◌≡◌, ℕ, zero, suc, ◌<◌, ◌≤◌, inl, inr, List, [], ◌∷◌, ◌++◌, length, map, Option, Some, None, slice_get, refl, sym, ap, subst, ◌∙◌, arith, le_trans, append_assoc, append-nil}
+use Rattle.std.specs.Prelude.{set, option_and_then}
 use Rattle.client_request.specs.Composed.{composed}
-use Rattle.client_request.specs.Numbered.{entry_at, frees}
+use Rattle.client_request.specs.Numbered.{entry_at}
 use Rattle.client_request.specs.Request.{Request}
 use Rattle.client_request.specs.View.{View}
 use Rattle.client_request.specs.declared.event.Out.{Out}
 use Rattle.client_request.specs.declared.board.Posted.{Posted}
-use Rattle.client_choice.specs.Choice.{Choice, drops_each, drops_response, gives_up}
+use Rattle.client_choice.specs.Choice.{Choice, drops_each, drops_response}
 use Rattle.client_choice.specs.Servers.{Server, owner, owner_at, drops_at}
 use Rattle.headline.specs.Parts.{IsIn}
-use Rattle.headline.specs.machine.Client.{Waiting, with_up, tag, Posted as OnBoard}
+use Rattle.headline.specs.machine.Client.{Waiting, with_up, tag}
 use Rattle.headline.specs.machine.Part.{Post}
 use Rattle.headline.specs.machine.Streams.{with_at}
 use Rattle.client_ties.specs.Chains.{Gives}
@@ -21,9 +21,9 @@ use Rattle.client_ties.proofs.GoingOn.{goes_nowhere, none_next}
 use Rattle.client_ties.proofs.Keys.{each_number, with_here, with_there}
 use Rattle.client_ties.proofs.Tables.{at_frees, sorted_frees}
 use Rattle.choice_runs.specs.Choosing.{Choosing}
-use Rattle.choice_runs.specs.Leading.{Leads, Arrives}
-use Rattle.choice_runs.specs.Servers.{State, Listed, AreTied, AfterCall, IsDropped}
-use Rattle.choice_runs.specs.Requests.{Beside, Work, Begun, Desk, Waits, IsKept, IsOwed, IsNamed, AreKept, AreApart, desk_of, Stands, Went, Follows}
+use Rattle.choice_runs.specs.Leading.{Arrives}
+use Rattle.choice_runs.specs.Servers.{State, Listed, AfterCall, IsDropped}
+use Rattle.choice_runs.specs.Requests.{Beside, Work, Begun, Desk, Waits, AreKept, AreApart, desk_of, Stands, Went, Follows}
 use Rattle.choice_runs.proofs.AtServer.{both_are, none_is, set_here, set_there}
 use Rattle.choice_runs.proofs.Keeping.{Differ, one_dropped, none_dropped, waits_on}
 use Rattle.choice_runs.proofs.Leading.{leads_on, up_here, up_other}
@@ -198,9 +198,9 @@ module _ (g : Choosing) where
                 differ = record {
                   waiting = λ q i ne. each_number (λ q. (e.server ≡ q → e.lower ≡ i → ⊥) → owner q i (set c.servers e.server d.server) ≡ owner q i c.servers) e.server
                       (λ ne. owner_here (set c.servers e.server d.server) e.server i d.server (set_here c.servers e.server a d.server found.1)
-                        ∙ (ap (λ (ws : List (ℕ × ℕ)). entry_at i ws) d.waiting
-                        ∙ (at_frees e.lower i 0 (st.quiet e.server a found.1).1.0 a.waiting (st.quiet e.server a found.1).1.1
-                        ∙ (with_there e.lower None (λ j. entry_at j a.waiting) i (λ same. ne refl same) ∙ sym (owner_here c.servers e.server i a found.1)))))
+                      ∙ (ap (λ (ws : List (ℕ × ℕ)). entry_at i ws) d.waiting
+                      ∙ (at_frees e.lower i 0 (st.quiet e.server a found.1).1.0 a.waiting (st.quiet e.server a found.1).1.1
+                      ∙ (with_there e.lower None (λ j. entry_at j a.waiting) i (λ same. ne refl same) ∙ sym (owner_here c.servers e.server i a found.1)))))
                       (λ q differs ne. owner_there c.servers e.server q i d.server differs) q ne;
                   named = λ q i ne. each_number (λ q. (e.server ≡ q → e.lower ≡ i → ⊥) → named' q i ≡ named q i) e.server
                       (λ ne. here i ∙ with_there e.lower None (named e.server) i (λ same. ne refl same)) (λ q differs ne. there q i differs) q ne;
@@ -248,7 +248,7 @@ module _ (g : Choosing) where
       where
         by : (o : Option g.R) → e.response ≡ o
             → ((named : ℕ → ℕ → Option ℕ) (c : Choice Request g.U g.R) (v : View) (x : State g) → x.held over ≡ None → AreApart es → ((b : Begun g) → IsIn b es → (r : g.R) → b.response ≡ Some r → (cur ≡ b.server → ⊥) × Waits g (desk_of g jobs named c v x) t0 over b r)
-                → Stands g dl phase cur jobs named over es c v x → IfLeft (AreOff [] named c v x) (drops_each g.below es c.servers v))
+            → Stands g dl phase cur jobs named over es c v x → IfLeft (AreOff [] named c v x) (drops_each g.below es c.servers v))
             → IfLeft (AreOff [] named c v x) (option_and_then (λ z. drops_each g.below es z.0 z.1) (drops_response g.below e c.servers v o))
         by None is ih = ih named c v x none apart.1 (λ b m r p. waits b (inr m) r p) (record { servers = st.servers; quiet = st.quiet; is_named = st.is_named; still = st.still; less = st.less; kept = none_dropped g over e es (desk_of g jobs named c v x) is st.kept; foreign = st.foreign; timers = st.timers; due = st.due; own = st.own; far = st.far })
         by (Some r) is ih =

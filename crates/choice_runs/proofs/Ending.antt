@@ -1,29 +1,24 @@
 -- A request ends: it has its result, and each server that still owes it one gives it up.
-use Rattle.std.proofs.Common.{◌≡◌, ℕ, zero, suc, ◌+◌, ◌<◌, ◌≤◌, ◌⊎◌, inl, inr, Bool, true, false, List, [], ◌∷◌, ◌++◌, length, Option, Some, None, slice_get, refl, sym, ap, ap₂, subst, subst₂, ◌∙◌, le_refl}
+use Rattle.std.proofs.Common.{◌≡◌, ℕ, inl, false, List, [], ◌∷◌, ◌++◌, Option, Some, None, refl, sym, ap, subst, ◌∙◌, le_refl}
 use mathlib.Core.Path.{fun_ext}
-use Rattle.std.specs.Prelude.{option_map, Result}
+use Rattle.std.specs.Prelude.{option_map}
 use Rattle.client_request.specs.Board.{Part}
 use Rattle.client_request.specs.Composed.{composed}
-use Rattle.client_request.specs.Numbered.{entry_at}
 use Rattle.client_request.specs.Request.{Request}
 use Rattle.client_request.specs.View.{View, answers}
-use Rattle.client_request.specs.declared.error.Error.{Error}
 use Rattle.client_request.specs.declared.event.Out.{Out}
-use Rattle.client_choice.specs.Choice.{Choice, Job, ends, gives_up, judged, drops_each, judges_each, unset, stopped, unarmed, disarmed}
-use Rattle.client_choice.specs.Servers.{Server}
-use Rattle.headline.specs.Messages.{Octets}
+use Rattle.client_choice.specs.Choice.{Choice, ends, gives_up, judged, drops_each, stopped, unarmed, disarmed}
 use Rattle.headline.specs.Parts.{IsIn}
 use Rattle.headline.specs.Validity.{waits_for_others}
-use Rattle.headline.specs.machine.Client.{Waiting, Posted, Leaving, IsOutcome, Move, Delivers, leave, unmade, with_held}
+use Rattle.headline.specs.machine.Client.{Posted, Leaving, Move, Delivers, leave, unmade}
 use Rattle.headline.specs.machine.Streams.{with_at}
 use Rattle.client_ties.specs.Chains.{part_of}
-use Rattle.client_ties.specs.PartTie.{Phase, GoesOn, Leads as IfLeft}
-use Rattle.client_ties.specs.Sights.{IsFair}
+use Rattle.client_ties.specs.PartTie.{Phase, Leads as IfLeft}
 use Rattle.client_ties.proofs.Keys.{with_here, with_same}
 use Rattle.choice_runs.specs.Choosing.{Choosing}
-use Rattle.choice_runs.specs.Leading.{Leads, Then}
-use Rattle.choice_runs.specs.Servers.{State, Listed, AreTied}
-use Rattle.choice_runs.specs.Requests.{Beside, Work, Begun, Desk, Waits, IsKept, AreKept, AreApart, desk_of, Stands, Went}
+use Rattle.choice_runs.specs.Leading.{Then}
+use Rattle.choice_runs.specs.Servers.{State, Listed}
+use Rattle.choice_runs.specs.Requests.{Beside, Work, Begun, IsKept, desk_of, Stands, Went}
 use Rattle.choice_runs.proofs.Changing.{ended}
 use Rattle.choice_runs.proofs.Disarming.{goes_stopped, again_path, disarms, stands_judged}
 use Rattle.choice_runs.proofs.Dropping.{AreOff, all_off, follows_of, follows_then}

@@ -1,27 +1,24 @@
 -- A server hears something, and what it posted is taken before the next one hears.
-use Rattle.std.proofs.Common.{◌≡◌, ℕ, zero, suc, ◌+◌, ◌<◌, ◌≤◌, ◌⊎◌, inl, inr, Bool, true, false, List, [], ◌∷◌, ◌++◌, length, map, Option, Some, None, slice_get, refl, sym, ap, ap₂, subst, subst₂, ◌∙◌, arith, append_assoc}
+use Rattle.std.proofs.Common.{◌≡◌, ℕ, ◌<◌, inl, inr, List, [], ◌++◌, length, map, Option, Some, None, slice_get, refl, sym, ap, subst, ◌∙◌, arith}
 use mathlib.Core.Path.{fun_ext}
-use Rattle.std.specs.Prelude.{option_map, option_and_then, set}
+use Rattle.std.specs.Prelude.{set}
 use Rattle.std.proofs.lemmas.Option.{slice_get_within}
 use Rattle.client_request.specs.Numbered.{entry_at}
 use Rattle.client_request.specs.Request.{Request}
 use Rattle.client_request.specs.View.{View, Heard}
 use Rattle.client_request.specs.declared.board.Posted.{Posted as OnBoard}
-use Rattle.client_request.specs.declared.event.Out.{Out}
 use Rattle.client_choice.specs.Choice.{Choice, settles_all, hears_one}
-use Rattle.client_choice.specs.Servers.{Server, owner, owner_at, hears_at}
-use Rattle.headline.specs.machine.Client.{Waiting, Posted, tag}
-use Rattle.headline.specs.machine.Part.{Post}
+use Rattle.client_choice.specs.Servers.{Server, owner, hears_at}
+use Rattle.headline.specs.machine.Client.{Posted, tag}
 use Rattle.client_ties.specs.Chains.{Gives}
 use Rattle.client_ties.specs.Lines.{Sorted}
 use Rattle.client_ties.specs.PartTie.{Phase, Leads as IfLeft}
-use Rattle.client_ties.specs.Sights.{due_of}
 use Rattle.client_ties.proofs.Keys.{each_number}
 use Rattle.choice_runs.specs.Choosing.{Choosing}
 use Rattle.choice_runs.specs.Doing.{AreTaken, IsTakenAt}
-use Rattle.choice_runs.specs.Servers.{State, Listed, AreTied, IsHeard}
-use Rattle.choice_runs.specs.Requests.{Beside, Work, Begun, Desk, Waits, IsKept, AreKept, desk_of, Stands, Went}
-use Rattle.choice_runs.proofs.AtServer.{both_are, none_is, set_here, set_there}
+use Rattle.choice_runs.specs.Servers.{State, Listed, IsHeard}
+use Rattle.choice_runs.specs.Requests.{Beside, Desk, AreKept, desk_of, Stands}
+use Rattle.choice_runs.proofs.AtServer.{both_are, set_here, set_there}
 use Rattle.choice_runs.proofs.Dropping.{far_on, timer_due, dues_on, left_then, left_on, owner_there, owner_here, follows_of, went_then}
 use Rattle.choice_runs.proofs.Settling.{gives_less}
 use Rattle.choice_runs.proofs.Taking.{all_settle}
@@ -92,7 +89,7 @@ module _ (g : Choosing) where
           servers = h.call.tied;
           quiet = λ q e is. each_number (λ q. slice_get (set c.servers s b) q ≡ Some e → (e.posted ≡ []) × ((hi : ℕ) × Sorted 0 hi e.waiting)) s
               (λ is. subst (λ (e : Server g.U). (e.posted ≡ []) × ((hi : ℕ) × Sorted 0 hi e.waiting)) (both_are (slice_get (set c.servers s b) s) b e (set_here c.servers s a b at) is)
-                (h.posted, subst (λ (ws : List (ℕ × ℕ)). (hi : ℕ) × Sorted 0 hi ws) (sym h.waiting) (st.quiet s a at).1))
+              (h.posted, subst (λ (ws : List (ℕ × ℕ)). (hi : ℕ) × Sorted 0 hi ws) (sym h.waiting) (st.quiet s a at).1))
               (λ q ne is. st.quiet q e (sym (set_there c.servers s q b ne) ∙ is)) q is;
           is_named = λ q e is ne i. (let old = sym (set_there c.servers s q b ne) ∙ is in st.is_named q e old (not_last q e old) i);
           still = λ e is i. ap (λ (e : Server g.U). g.names e.upstream i) (sym (both_are (slice_get (set c.servers s b) s) b e (set_here c.servers s a b at) is));
@@ -100,7 +97,7 @@ module _ (g : Choosing) where
           kept = kept_still (desk_of g (λ j. entry_at j c.jobs) named c v x) (desk_of g (λ j. entry_at j c.jobs) named (record c { servers = set c.servers s b }) w h.call.end) refl refl (fun_ext (λ q. fun_ext (λ i. same_owner q i))) refl h.call.moved.held
               (λ i t due is m. dues_on g at_rest phase after count (λ j. entry_at j c.jobs) named 0 [] c v x st s a b at (g.names a.upstream) ps x x w h.call i t due is m) st.kept;
           foreign = λ i t q e is found o. (let d = timer_due g at_rest phase after count (λ j. entry_at j c.jobs) named 0 [] c v x st s a b at (g.names a.upstream) ps x x w h.call i t is in
-            far_on g at_rest phase after count (λ j. entry_at j c.jobs) named 0 [] c v x st s a b at (g.names a.upstream) ps x x w h.call i d.0 d.1 (λ q e at own. st.foreign i t q e is at own) q e found o);
+              far_on g at_rest phase after count (λ j. entry_at j c.jobs) named 0 [] c v x st s a b at (g.names a.upstream) ps x x w h.call i d.0 d.1 (λ q e at own. st.foreign i t q e is at own) q e found o);
           timers = st.timers;
           due = λ i m is. h.call.others i m (st.far i m s a is at) (st.due i m is);
           own = st.own;

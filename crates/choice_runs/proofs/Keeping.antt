@@ -1,9 +1,8 @@
 -- What agrees of the requests stays so while a server gives one up.
-use Rattle.std.proofs.Common.{◌≡◌, ℕ, zero, suc, ◌<◌, ◌≤◌, ◌⊎◌, inl, inr, Bool, true, false, List, [], ◌∷◌, ◌++◌, length, Option, Some, None, slice_get, refl, sym, ap, ap₂, subst, subst₂, ◌∙◌, arith}
-use Rattle.headline.specs.Parts.{IsIn}
+use Rattle.std.proofs.Common.{◌≡◌, ℕ, inl, inr, List, ◌∷◌, Option, Some, None, sym, ap, subst, subst₂, ◌∙◌}
 use Rattle.headline.specs.machine.Client.{Waiting}
 use Rattle.choice_runs.specs.Choosing.{Choosing}
-use Rattle.choice_runs.specs.Requests.{Work, Begun, Desk, Waits, IsKept, IsOwed, IsNamed, AreKept, AreApart}
+use Rattle.choice_runs.specs.Requests.{Work, Begun, Desk, Waits, IsKept, IsOwed, AreKept}
 use Rattle.choice_runs.proofs.AtServer.{both_are, none_is}
 
 module _ (g : Choosing) where

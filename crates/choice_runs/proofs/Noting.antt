@@ -1,7 +1,6 @@
 -- What agrees of the requests stays so while one is started at one more server.
-use Rattle.std.proofs.Common.{◌≡◌, ℕ, zero, suc, ◌<◌, ◌≤◌, ◌⊎◌, inl, inr, Bool, true, false, ◌==◌, ◌||◌, List, [], ◌∷◌, ◌++◌, length, Option, Some, None, refl, sym, ap, ap₂, subst, subst₂, ◌∙◌, arith}
+use Rattle.std.proofs.Common.{◌≡◌, ℕ, ◌⊎◌, inl, inr, Bool, true, false, ◌==◌, ◌||◌, List, [], ◌∷◌, ◌++◌, length, Option, Some, None, refl, sym, ap, subst, subst₂, ◌∙◌, arith}
 use Rattle.std.proofs.lemmas.Bool.Decides.{nat_tests}
-use Rattle.client_request.specs.Request.{Request}
 use Rattle.client_choice.specs.declared.job.Entry.{Entry}
 use Rattle.client_choice.specs.declared.job.Started.{Started}
 use Rattle.headline.specs.Parts.{IsIn}
@@ -9,9 +8,9 @@ use Rattle.headline.specs.machine.Client.{Waiting, handing, best}
 use Rattle.client_ties.specs.Chains.{part_of}
 use Rattle.std.specs.Prelude.{option_map}
 use Rattle.headline.specs.machine.Streams.{with_at}
-use Rattle.client_ties.proofs.Keys.{each_number, with_here, with_there, was_there, is_or_was}
+use Rattle.client_ties.proofs.Keys.{each_number, with_here, with_there, is_or_was}
 use Rattle.choice_runs.specs.Choosing.{Choosing}
-use Rattle.choice_runs.specs.Requests.{Work, Begun, Desk, Waits, IsKept, IsOwed, IsNamed, AreKept, AreApart, IsToStart, AreToStart}
+use Rattle.choice_runs.specs.Requests.{Work, Begun, Desk, Waits, IsKept, IsOwed, AreKept, AreApart, IsToStart, AreToStart}
 use Rattle.choice_runs.proofs.AtServer.{both_are, none_is}
 use Rattle.choice_runs.proofs.Changing.{Changes, changed}
 use Rattle.choice_runs.proofs.Keeping.{Differ}
@@ -116,6 +115,7 @@ module _ (g : Choosing) where
         timer = λ i p. absurd (none_is job.timer i n.calm p);
         armed = λ p. n.calm;
       }
+
       changes : Changes g t job (noting job es b) d d'
       changes = record {
         jobs = n.jobs;
@@ -147,7 +147,7 @@ module _ (g : Choosing) where
           | inr p ↦ (a, p.1)
         ];
         timers = λ i u is. (let old = subst (λ (h : ℕ → Option ℕ). h i ≡ Some u) n.timers is in let m = k.timers i u old in
-          inl (λ same. none_is job.timer i n.calm (ap (λ (w : Work g). w.timer) (both_are (d.jobs u) job m.0 (subst (λ u. d.jobs u ≡ Some job) same n.is) m.1) ∙ m.2), old));
+            inl (λ same. none_is job.timer i n.calm (ap (λ (w : Work g). w.timer) (both_are (d.jobs u) job m.0 (subst (λ u. d.jobs u ≡ Some job) same n.is) m.1) ∙ m.2), old));
       }
         where
           more : (s i j : ℕ) → IsOwed g j job.started s i → IsOwed g j (job.started ++ b ∷ []) s i

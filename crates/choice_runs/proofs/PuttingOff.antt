@@ -1,22 +1,21 @@
 -- A result is put off: the machine keeps it back.
-use Rattle.std.proofs.Common.{◌≡◌, ℕ, zero, suc, ◌+◌, ◌<◌, ◌≤◌, ◌⊎◌, inl, inr, Bool, true, false, if◌then◌else◌, List, [], ◌∷◌, ◌++◌, length, Option, Some, None, refl, sym, ap, ap₂, subst, subst₂, ◌∙◌}
-use Rattle.std.specs.Prelude.{option_map}
+use Rattle.std.proofs.Common.{◌≡◌, ℕ, ◌⊎◌, inl, inr, Bool, true, false, if◌then◌else◌, List, [], ◌∷◌, ◌++◌, Option, Some, refl, sym, ap, subst, ◌∙◌}
 use Rattle.client_request.specs.Board.{Part}
 use Rattle.client_request.specs.Composed.{composed}
 use Rattle.client_request.specs.Request.{Request}
 use Rattle.client_request.specs.View.{View}
 use Rattle.client_choice.specs.Choice.{Choice, Job, put_off, is_better}
 use Rattle.headline.specs.Validity.{waits_for_others}
-use Rattle.headline.specs.machine.Client.{Waiting, Posted, Given, Keeps_back, keeping, unmade, with_held, best}
+use Rattle.headline.specs.machine.Client.{Waiting, Posted, Given, Keeps_back, keeping, unmade, with_held}
 use Rattle.headline.specs.machine.Streams.{with_at}
 use Rattle.client_ties.specs.Chains.{part_of}
 use Rattle.client_ties.specs.PartTie.{Phase}
 use Rattle.client_ties.proofs.Keys.{each_number, with_here, with_there, is_or_was}
 use Rattle.choice_runs.specs.Choosing.{Choosing}
 use Rattle.choice_runs.specs.Leading.{Leads}
-use Rattle.choice_runs.specs.Servers.{State, AreTied}
-use Rattle.choice_runs.specs.Requests.{Beside, Work, Begun, Desk, IsKept, IsOwed, AreKept, desk_of, Stands}
-use Rattle.choice_runs.proofs.AtServer.{both_are, none_is}
+use Rattle.choice_runs.specs.Servers.{State}
+use Rattle.choice_runs.specs.Requests.{Beside, Work, Desk, IsKept, desk_of, Stands}
+use Rattle.choice_runs.proofs.AtServer.{both_are}
 use Rattle.choice_runs.proofs.Changing.{Changes, changed}
 use Rattle.choice_runs.proofs.Disarming.{again_path}
 use Rattle.choice_runs.proofs.Keepsakes.{best_with}

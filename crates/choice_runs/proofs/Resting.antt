@@ -1,20 +1,18 @@
 -- A request waits on, or each server gave its result and the best one is the reply.
-use Rattle.std.proofs.Common.{◌≡◌, ℕ, zero, suc, ◌+◌, ◌<◌, ◌≤◌, ◌⊎◌, inl, inr, Bool, true, false, if◌then◌else◌, ◌&&◌, ◌==◌, not, is_none, List, [], ◌∷◌, ◌++◌, length, Option, Some, None, slice_get, Result, Ok, Err, refl, sym, ap, ap₂, subst, subst₂, ◌∙◌, arith, le_refl, append-nil}
+use Rattle.std.proofs.Common.{◌≡◌, ℕ, suc, ◌<◌, ◌⊎◌, inl, inr, Bool, true, false, if◌then◌else◌, ◌&&◌, ◌==◌, is_none, List, [], ◌∷◌, length, Option, Some, None, slice_get, Result, refl, sym, ap, subst, ◌∙◌, arith, le_refl, append-nil}
 use Rattle.std.proofs.lemmas.Bool.Decides.{nat_tests}
 use mathlib.Core.Path.{fun_ext}
 use Rattle.std.specs.Prelude.{option_map}
-use Rattle.std.specs.List.{list_all}
 use Rattle.client_request.specs.Board.{Part}
 use Rattle.client_request.specs.Composed.{composed}
 use Rattle.client_request.specs.Numbered.{entry_at, puts}
 use Rattle.client_request.specs.Request.{Request}
 use Rattle.client_request.specs.View.{View, answers}
 use Rattle.client_request.specs.declared.error.Error.{Error}
-use Rattle.client_choice.specs.Choice.{Choice, Job, rests, keeps, gives, is_over, all_gave}
-use Rattle.client_choice.specs.declared.job.Entry.{Entry}
+use Rattle.client_choice.specs.Choice.{Choice, rests, keeps, gives, is_over, all_gave}
 use Rattle.headline.specs.Messages.{Octets}
 use Rattle.headline.specs.Parts.{IsIn}
-use Rattle.headline.specs.machine.Client.{Waiting, Posted, Leaving, NoneOf, Concludes, leave, unmade, best}
+use Rattle.headline.specs.machine.Client.{NoneOf, Concludes, leave, unmade, best}
 use Rattle.headline.specs.machine.Streams.{with_at}
 use Rattle.client_ties.specs.Chains.{part_of}
 use Rattle.client_ties.specs.Lines.{Sorted}
@@ -24,9 +22,9 @@ use Rattle.client_ties.proofs.Keys.{each_number, with_here, with_there, with_sam
 use Rattle.client_ties.proofs.Tables.{at_puts, puts_path}
 use Rattle.choice_runs.specs.Choosing.{Choosing}
 use Rattle.choice_runs.specs.Leading.{Leads}
-use Rattle.choice_runs.specs.Servers.{State, Listed, AreTied}
-use Rattle.choice_runs.specs.Doing.{HasCome, WaitsOn, Goes, HasDone}
-use Rattle.choice_runs.specs.Requests.{Beside, Work, Begun, Desk, IsKept, IsOwed, IsToStart, AreKept, desk_of, Stands, Went, Follows}
+use Rattle.choice_runs.specs.Servers.{State}
+use Rattle.choice_runs.specs.Doing.{WaitsOn, Goes, HasDone}
+use Rattle.choice_runs.specs.Requests.{Beside, Work, Begun, Desk, IsKept, IsOwed, IsToStart, AreKept, desk_of, Stands, Follows}
 use Rattle.choice_runs.proofs.AtServer.{both_are, none_is}
 use Rattle.choice_runs.proofs.Changing.{ended}
 use Rattle.choice_runs.proofs.Disarming.{again_path}
@@ -34,7 +32,6 @@ use Rattle.choice_runs.proofs.Dropping.{found_at}
 use Rattle.choice_runs.proofs.Keeping.{none_dropped}
 use Rattle.choice_runs.proofs.Leading.{one_move}
 use Rattle.choice_runs.proofs.Outcomes.{IsLeft, left_so}
-use Rattle.choice_runs.proofs.ServerCalls.{in_conf}
 use Rattle.choice_runs.proofs.Starting.{sorted_more}
 
 -- one of two tests fails where both do not hold

@@ -1,30 +1,25 @@
 -- The servers that are left are started in order, up to the first whose result is not put off at once.
-use Rattle.std.proofs.Common.{◌≡◌, ℕ, zero, suc, ◌+◌, ◌<◌, ◌≤◌, ◌⊎◌, inl, inr, Bool, true, false, if◌then◌else◌, List, [], ◌∷◌, ◌++◌, length, Option, Some, None, slice_get, Result, Ok, Err, refl, sym, ap, ap₂, subst, subst₂, ◌∙◌, arith, le_refl, append-nil}
-use Rattle.std.specs.Prelude.{option_map, option_and_then}
+use Rattle.std.proofs.Common.{◌≡◌, ℕ, ◌<◌, inl, inr, Bool, true, false, if◌then◌else◌, List, [], ◌∷◌, ◌++◌, length, Option, Some, None, refl, sym, ap, subst, subst₂, ◌∙◌, append-nil}
 use Rattle.client_request.specs.Board.{Part}
 use Rattle.client_request.specs.Composed.{composed}
-use Rattle.client_request.specs.Numbered.{entry_at, puts}
+use Rattle.client_request.specs.Numbered.{entry_at}
 use Rattle.client_request.specs.Request.{Request}
 use Rattle.client_request.specs.View.{View}
-use Rattle.client_request.specs.declared.board.Posted.{Posted as OnBoard}
-use Rattle.client_request.specs.declared.error.Error.{Error}
-use Rattle.client_choice.specs.Choice.{Choice, Job, runs, goes_on, begins, ends, put_off, is_deferred, is_better, disarmed, unarmed, stopped, keeps}
+use Rattle.client_choice.specs.Choice.{Choice, runs, goes_on, begins, ends, put_off, is_deferred, is_better, disarmed, unarmed, stopped, keeps}
 use Rattle.client_choice.specs.declared.job.Entry.{Entry}
-use Rattle.headline.specs.Messages.{Octets}
 use Rattle.headline.specs.Parts.{IsIn}
 use Rattle.headline.specs.Validity.{waits_for_others}
-use Rattle.headline.specs.machine.Client.{Waiting, Posted, Leaving, NoneOf}
+use Rattle.headline.specs.machine.Client.{Posted, NoneOf}
 use Rattle.headline.specs.machine.Streams.{with_at}
 use Rattle.client_ties.specs.Chains.{part_of}
 use Rattle.client_ties.specs.Lines.{Sorted}
 use Rattle.client_ties.specs.PartTie.{Phase, Leads as IfLeft}
 use Rattle.client_ties.proofs.Keys.{with_here}
 use Rattle.choice_runs.specs.Choosing.{Choosing}
-use Rattle.choice_runs.specs.Leading.{Leads}
 use Rattle.choice_runs.specs.Servers.{State}
 use Rattle.choice_runs.specs.Doing.{HasCome, WaitsOn, Goes, HasDone, InHand, RunsAreMoves}
-use Rattle.choice_runs.specs.Requests.{Beside, Work, Begun, Desk, IsKept, IsOwed, IsToStart, AreKept, desk_of, Stands, Went, Follows}
-use Rattle.choice_runs.proofs.AtServer.{both_are, none_is}
+use Rattle.choice_runs.specs.Requests.{Beside, Work, Begun, IsOwed, Stands, Went}
+use Rattle.choice_runs.proofs.AtServer.{both_are}
 use Rattle.choice_runs.proofs.Beginning.{Gave, Nothing, AResult, HasBegun, begins_do}
 use Rattle.choice_runs.proofs.Disarming.{goes_stopped, disarms}
 use Rattle.choice_runs.proofs.Dropping.{left_then, left_on, went_then, follows_of}

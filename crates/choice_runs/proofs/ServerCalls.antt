@@ -1,34 +1,31 @@
 -- What a call of one server is to all of them and to the machine.
-use Rattle.std.proofs.Common.{◌≡◌, ℕ, zero, suc, ◌+◌, ◌<◌, ◌≤◌, ◌⊎◌, inl, inr, Bool, true, false, cond, ◌==◌, ◌||◌, List, [], ◌∷◌, ◌++◌, length, Option, Some, None, slice_get, refl, sym, ap, ap₂, subst, subst₂, ◌∙◌, arith, le_refl}
+use Rattle.std.proofs.Common.{◌≡◌, ℕ, zero, suc, ◌+◌, ◌<◌, ◌≤◌, inl, inr, Bool, true, false, cond, ◌==◌, ◌||◌, List, [], ◌∷◌, length, Option, Some, None, slice_get, refl, sym, ap, ap₂, subst, subst₂, ◌∙◌, arith, le_refl}
 use Rattle.std.proofs.lemmas.Bool.Decides.{nat_tests}
-use Rattle.std.specs.Prelude.{set, option_map, option_and_then, nat_lt, not, Result}
+use Rattle.std.specs.Prelude.{set, option_map, option_and_then, nat_lt, not}
 use Rattle.std.proofs.lemmas.Option.{slice_get_within}
 use Rattle.client_request.specs.Board as board
 use Rattle.client_request.specs.Carries.{IsOfOctets}
 use Rattle.client_request.specs.Composed.{composed}
-use Rattle.client_request.specs.Numbered.{frees, puts}
 use Rattle.client_request.specs.Request.{Request}
-use Rattle.client_request.specs.Timers.{TimerList, cancelled}
+use Rattle.client_request.specs.Timers.{cancelled}
 use Rattle.client_request.specs.View.{View, Heard, told, more_at, due_timer}
 use Rattle.client_request.specs.declared.event.What.{What}
 use Rattle.client_request.specs.declared.board.Posted.{Posted}
-use Rattle.client_request.specs.declared.error.Error.{Error}
-use Rattle.client_choice.specs.Servers.{Server, onto, drops_at, starts_at, hears_at, drops_found, starts_found, hears_found, drops, starts, hears, dropped, started, heard, reply, waits}
+use Rattle.client_choice.specs.Servers.{Server, onto, drops_at, starts_at, hears_at, drops_found, starts_found, hears_found, starts, dropped, started, heard, reply, waits}
 use Rattle.client_choice.specs.declared.servers.Reply.{Reply}
-use Rattle.client_choice.specs.declared.servers.Reply.TheVariants.{Later, Now}
-use Rattle.headline.specs.Messages.{Octets}
+use Rattle.client_choice.specs.declared.servers.Reply.TheVariants.{Now}
 use Rattle.headline.specs.machine.Part.{Act, Post}
-use Rattle.headline.specs.machine.Client.{Upper, Waiting, hand, with_up}
+use Rattle.headline.specs.machine.Client.{Waiting, hand, with_up}
 use Rattle.headline.specs.machine.Streams.{with_at}
-use Rattle.client_ties.specs.Chains.{Chain, Begins, Gives, part_of}
-use Rattle.client_ties.specs.PartTie.{Phase, Untold, Told, MayLeave, Leaves, Tells, GoesOn, Leads as IfLeft}
+use Rattle.client_ties.specs.Chains.{Chain, Begins, Gives}
+use Rattle.client_ties.specs.PartTie.{Phase, Untold, Told, MayLeave, Leaves, Tells, Leads as IfLeft}
 use Rattle.client_ties.specs.Sights.{sight, due_of, IsFair, IsEarly}
 use Rattle.client_ties.proofs.GoingOn.{fair_without, dues_without}
 use Rattle.client_ties.proofs.Keys.{with_there, with_here, with_again, with_same}
 use Rattle.choice_runs.specs.Choosing.{Choosing, HasOneMore}
-use Rattle.choice_runs.specs.Leading.{IsMoved, Reaches}
-use Rattle.choice_runs.specs.Servers.{State, Listed, AreTied, OthersAreTied, SeenAlike, IsCalled, AfterCall, IsDropped, HasReply, Comes, Came, IsStarted, IsHeard, IsTold}
-use Rattle.choice_runs.proofs.AtServer.{stay_tied, but, both_are, none_is}
+use Rattle.choice_runs.specs.Leading.{Reaches}
+use Rattle.choice_runs.specs.Servers.{State, Listed, AreTied, OthersAreTied, AfterCall, IsDropped, HasReply, Comes, Came, IsStarted, IsHeard, IsTold}
+use Rattle.choice_runs.proofs.AtServer.{stay_tied, but, both_are}
 use Rattle.choice_runs.proofs.Leading.{cancel_moves, start_moves, chain_moves, up_here, up_other}
 
 -- where no results are given the board is as it was
@@ -187,11 +184,12 @@ module _ (g : Choosing) where
         single [] gives waiting = absurd gives
         single (q ∷ []) gives waiting = (
           subst (λ o. HasReply g k lower ticket a b (q ∷ []) (Some (reply o r))) (sym (part_there lower one.0))
-          (subst (λ part. HasReply g k lower ticket a b (q ∷ []) (Some (Now part))) (sym gives.1)
-          (Came q.result refl (ap (λ n. record { request = n; result = q.result } ∷ []) (some_is q.request k (sym gives.0 ∙ with_here lower (Some k) (g.names a.upstream))))
-          (waiting ∙ ap (λ o. waits o lower ticket a.waiting) (part_there lower one.0))
-          (λ i. gives.2 i ∙ (with_again lower None (Some k) (g.names a.upstream) i ∙ with_same lower None (g.names a.upstream) i new)))),
-          none_there lower one.0)
+              (subst (λ part. HasReply g k lower ticket a b (q ∷ []) (Some (Now part))) (sym gives.1)
+              (Came q.result refl (ap (λ n. record { request = n; result = q.result } ∷ []) (some_is q.request k (sym gives.0 ∙ with_here lower (Some k) (g.names a.upstream))))
+              (waiting ∙ ap (λ o. waits o lower ticket a.waiting) (part_there lower one.0))
+              (λ i. gives.2 i ∙ (with_again lower None (Some k) (g.names a.upstream) i ∙ with_same lower None (g.names a.upstream) i new)))),
+          none_there lower one.0,
+        )
         single (q ∷ p ∷ ps) gives waiting = absurd gives.2
 
     module _ (request : Request) (k ticket : ℕ) (ask : Waiting) (numbered : v.request ≡ k) (held : x.held k ≡ Some ask) (asked : ask.request ≡ request) (untried : ask.tried s ≡ false) (octets : IsOfOctets request) (free : g.P.holds (x.ups s) k ≡ false) where
@@ -214,12 +212,12 @@ module _ (g : Choosing) where
       started_so u w is l =
           let b : Server g.U = (started g.below ticket request a v (u, w)).0.1 in
           let n : Leaves g.P (g.Tied s) g.names g.Owns (MayStart k) (with_at v.ticket (Some k) (g.names a.upstream)) a.upstream (onto [] v) (phase s) u w =
-              subst (λ j. Leaves g.P (g.Tied s) g.names g.Owns (MayStart j) (with_at v.ticket (Some j) (g.names a.upstream)) a.upstream (onto [] v) (phase s) u w) numbered l in
+          subst (λ j. Leaves g.P (g.Tied s) g.names g.Owns (MayStart j) (with_at v.ticket (Some j) (g.names a.upstream)) a.upstream (onto [] v) (phase s) u w) numbered l in
           let begins : Begins (g.P.Starts s x.place k ask.request (x.ups s)) (Chain g.P s) n.made =
-              subst₂ (λ p r. Begins (g.P.Starts s p k r (x.ups s)) (Chain g.P s) n.made) (sym t.place) (sym asked) n.may in
+          subst₂ (λ p r. Begins (g.P.Starts s p k r (x.ups s)) (Chain g.P s) n.made) (sym t.place) (sym asked) n.may in
           let r = replied request v.ticket ticket k b w.board n.made.posts (g.below.response request a.upstream (onto [] v))
-              (ap g.ticket ((g.layer s within).response request a.upstream (onto [] v)) ∙ (g.tie s within).response request a.upstream (onto [] v)) new_ticket
-              ((g.ignores s within).sends (phase s) a.upstream (onto [] v) (x.ups s) request u w (t.tied s a at) is) (subst (λ bs. Gives (with_at v.ticket (Some k) (g.names a.upstream)) bs n.made.posts (g.names u)) (sym n.put) n.gives) refl in
+          (ap g.ticket ((g.layer s within).response request a.upstream (onto [] v)) ∙ (g.tie s within).response request a.upstream (onto [] v)) new_ticket
+          ((g.ignores s within).sends (phase s) a.upstream (onto [] v) (x.ups s) request u w (t.tied s a at) is) (subst (λ bs. Gives (with_at v.ticket (Some k) (g.names a.upstream)) bs n.made.posts (g.names u)) (sym n.put) n.gives) refl in
           record {
             server = b;
             lists = refl;
@@ -262,8 +260,8 @@ module _ (g : Choosing) where
         so u w l =
             let after : ℕ → Phase = with_up s (Told l.at l.left) phase in
             let leaves : Leaves g.P (g.Tied s) g.names g.Owns May (g.names a.upstream) a.upstream (onto [] v) (after s) u w =
-                subst (λ p. Leaves g.P (g.Tied s) g.names g.Owns May (g.names a.upstream) a.upstream (onto [] v) p u w) (sym (up_here s (Told l.at l.left) phase))
-                (subst (λ w0. Leaves g.P (g.Tied s) g.names g.Owns May (g.names a.upstream) a.upstream w0 (Told l.at l.left) u w) is l.leaves) in
+            subst (λ p. Leaves g.P (g.Tied s) g.names g.Owns May (g.names a.upstream) a.upstream (onto [] v) p u w) (sym (up_here s (Told l.at l.left) phase))
+            (subst (λ w0. Leaves g.P (g.Tied s) g.names g.Owns May (g.names a.upstream) a.upstream w0 (Told l.at l.left) u w) is l.leaves) in
             record {
               at = l.at;
               left = l.left;

@@ -1,18 +1,17 @@
 -- A result that a server gave is taken: the request that waits for it ends, or goes on.
-use Rattle.std.proofs.Common.{◌≡◌, ℕ, zero, suc, ◌+◌, ◌<◌, ◌≤◌, ◌⊎◌, inl, inr, Bool, true, false, if◌then◌else◌, ◌==◌, ◌||◌, List, [], ◌∷◌, ◌++◌, length, map, Option, Some, None, slice_get, Result, Ok, Err, refl, sym, ap, ap₂, subst, subst₂, ◌∙◌, arith, le_refl, append-nil}
-use Rattle.std.specs.Prelude.{set, option_map, option_and_then}
+use Rattle.std.proofs.Common.{◌≡◌, ℕ, ◌<◌, ◌⊎◌, inl, inr, Bool, true, false, if◌then◌else◌, ◌==◌, ◌||◌, List, [], ◌∷◌, length, map, Option, Some, None, slice_get, Result, refl, sym, ap, subst, subst₂, ◌∙◌, le_refl, append-nil}
+use Rattle.std.specs.Prelude.{set}
 use Rattle.client_request.specs.Board.{Part}
-use Rattle.client_request.specs.Composed.{composed}
-use Rattle.client_request.specs.Numbered.{entry_at, puts, frees}
+use Rattle.client_request.specs.Numbered.{entry_at, frees}
 use Rattle.client_request.specs.Request.{Request}
 use Rattle.client_request.specs.View.{View}
 use Rattle.client_request.specs.declared.board.Posted.{Posted as OnBoard}
 use Rattle.client_request.specs.declared.error.Error.{Error}
-use Rattle.client_choice.specs.Choice.{Choice, Job, settled, silenced, settles, settles_owner, settles_job, gets, puts_off, put_off, is_deferred, is_better, is_last, ends, runs, rests, disarmed, unarmed, stopped, without_owner}
-use Rattle.client_choice.specs.Servers.{Server, owner, owner_at, disowned, disowned_at}
+use Rattle.client_choice.specs.Choice.{Choice, settled, silenced, gets, puts_off, put_off, is_deferred, is_better, is_last, ends, runs, rests, disarmed, unarmed, stopped}
+use Rattle.client_choice.specs.Servers.{Server, owner}
 use Rattle.client_choice.specs.declared.job.Entry.{Entry}
 use Rattle.headline.specs.Parts.{IsIn}
-use Rattle.headline.specs.machine.Client.{Waiting, Posted, Leaving, with_up, tag}
+use Rattle.headline.specs.machine.Client.{Posted, with_up, tag}
 use Rattle.headline.specs.Messages.{Octets}
 use Rattle.headline.specs.Validity.{waits_for_others}
 use Rattle.headline.specs.machine.Part.{Post}
@@ -20,12 +19,12 @@ use Rattle.headline.specs.machine.Streams.{with_at}
 use Rattle.client_ties.specs.Chains.{part_of, Gives}
 use Rattle.client_ties.specs.Lines.{Sorted}
 use Rattle.client_ties.specs.PartTie.{Phase, Leads as IfLeft}
-use Rattle.client_ties.specs.Sights.{sight, due_of}
+use Rattle.client_ties.specs.Sights.{sight}
 use Rattle.client_ties.proofs.Keys.{each_number, with_here, with_there, was_there}
 use Rattle.client_ties.proofs.Tables.{at_frees, sorted_frees, frees_path}
 use Rattle.choice_runs.specs.Choosing.{Choosing}
-use Rattle.choice_runs.specs.Servers.{State, Listed, AreTied}
-use Rattle.choice_runs.specs.Requests.{Beside, Work, Begun, Desk, Waits, IsKept, IsOwed, IsNamed, AreKept, IsToStart, AreToStart, desk_of, Stands, Went, Follows}
+use Rattle.choice_runs.specs.Servers.{State}
+use Rattle.choice_runs.specs.Requests.{Beside, Work, Begun, Desk, Waits, IsKept, IsOwed, IsToStart, AreToStart, desk_of, Stands, Went}
 use Rattle.choice_runs.specs.Doing.{HasDone}
 use Rattle.choice_runs.proofs.AtServer.{both_are, none_is, set_here, set_there, set_length}
 use Rattle.choice_runs.proofs.Changing.{Changes, changed}
@@ -39,7 +38,7 @@ use Rattle.choice_runs.proofs.Resting.{rests_do}
 use Rattle.choice_runs.proofs.Runs.{runs_do, done_after, ended_done, none_of}
 use Rattle.choice_runs.proofs.ServerCalls.{in_conf}
 use Rattle.choice_runs.proofs.Leading.{up_here, up_other}
-use Rattle.choice_runs.proofs.Silencing.{WasThere, there_before, stays_there, still_apart, one_alone}
+use Rattle.choice_runs.proofs.Silencing.{there_before, stays_there, still_apart, one_alone}
 
 -- what is named no more after results are given was not named before, or is one of them; what still is was
 pub gives_less : (named : ℕ → Option ℕ) (bs : List OnBoard) (posts : List Post) (left : ℕ → Option ℕ) (i k : ℕ) → Gives named bs posts left → left i ≡ Some k → named i ≡ Some k
@@ -105,7 +104,7 @@ module _ (g : Choosing) (dl : Beside) (phase : ℕ → Phase) (cur : ℕ) where
     other_waiting : (q i : ℕ) → (cur ≡ q → lower ≡ i → ⊥) → owner q i (set c.servers cur b) ≡ owner q i c.servers
     other_waiting q i ne = each_number (λ q. (cur ≡ q → lower ≡ i → ⊥) → owner q i (set c.servers cur b) ≡ owner q i c.servers) cur
         (λ ne. owner_here g (set c.servers cur b) cur i b (set_here c.servers cur a b at) ∙ (at_frees lower i 0 sorted_a.0 a.waiting sorted_a.1
-          ∙ (with_there lower None (λ j. entry_at j a.waiting) i (λ same. ne refl same) ∙ sym (owner_here g c.servers cur i a at))))
+        ∙ (with_there lower None (λ j. entry_at j a.waiting) i (λ same. ne refl same) ∙ sym (owner_here g c.servers cur i a at))))
         (λ q differs ne. owner_there g c.servers cur q i b differs) q ne
 
     waits_so : (u k : ℕ) (f : Begun g) (r : g.R) → (cur ≡ f.server → lower ≡ f.lower → ⊥) → Waits g old u k f r → Waits g new u k f r
@@ -191,7 +190,7 @@ module _ (g : Choosing) (dl : Beside) (phase : ℕ → Phase) (cur : ℕ) where
       };
       quiet = λ q f m. each_number (λ q. slice_get (set c.servers cur b) q ≡ Some f → (f.posted ≡ []) × ((hi : ℕ) × Sorted 0 hi f.waiting)) cur
           (λ m. subst (λ (f : Server g.U). (f.posted ≡ []) × ((hi : ℕ) × Sorted 0 hi f.waiting)) (both_are (slice_get (set c.servers cur b) cur) b f (set_here c.servers cur a b at) m)
-            ((st.quiet cur a at).0, (sorted_a.0, sorted_frees lower 0 sorted_a.0 a.waiting sorted_a.1)))
+          ((st.quiet cur a at).0, (sorted_a.0, sorted_frees lower 0 sorted_a.0 a.waiting sorted_a.1)))
           (λ q ne m. st.quiet q f (sym (set_there c.servers cur q b ne) ∙ m)) q m;
       is_named = λ q f m ne i. (let w = was q f m in there_named q i ne ∙ (st.is_named q w.0 w.1 ne i ∙ ap (λ u. g.names u i) (sym w.2)));
       still = λ f m i. (let w = was cur f m in ap (λ u. g.names u i) w.2 ∙ st.still w.0 w.1 i);
@@ -203,7 +202,6 @@ module _ (g : Choosing) (dl : Beside) (phase : ℕ → Phase) (cur : ℕ) where
       own = st.own;
       far = λ i m q f n h o. (let w = was q f h in st.far i m q w.0 n w.1 (subst (λ u. g.Owns u i) w.2 o));
     }
-
 
   -- What is left once a result was taken: one of the request of some ticket.
   pub record IsSettled (lower : ℕ) (rest : List Posted) (named : ℕ → ℕ → Option ℕ) (c : Choice Request g.U g.R) (v : View) (x : State g) (d : Choice Request g.U g.R) (w : View) : Type 0 where

@@ -1,5 +1,5 @@
 -- Silent servers are tied, and leave alone what is not theirs.
-use Rattle.std.proofs.Common.{◌≡◌, ℕ, ◌+◌, ◌≤◌, inl, inr, refl, arith, le_refl, Bool, true, false, [], ◌∷◌, Option, Some, None, Err, sym, ap, subst, ◌∙◌}
+use Rattle.std.proofs.Common.{◌≡◌, ℕ, ◌+◌, ◌≤◌, inl, inr, refl, arith, le_refl, Bool, true, false, [], ◌∷◌, Some, None, Err, sym, ap}
 use Rattle.std.specs.Prelude.{if◌then◌else◌, option_map, length}
 use Rattle.client_request.specs.Timers.{can_draw}
 use Rattle.client_request.specs.View.{View, answers, asks}

@@ -1,7 +1,6 @@
 -- Nothing more comes from a server: what it is to the list of those that were started.
-use Rattle.std.proofs.Common.{◌≡◌, ℕ, zero, suc, ◌+◌, ◌<◌, ◌⊎◌, inl, inr, Bool, true, false, cond, not, ltb, if◌then◌else◌, ◌==◌, List, [], ◌∷◌, length, Option, Some, None, slice_get, refl, sym, ap, subst, ◌∙◌, arith, one-add}
+use Rattle.std.proofs.Common.{◌≡◌, ℕ, suc, ◌+◌, ◌⊎◌, inl, inr, Bool, true, false, cond, not, ltb, if◌then◌else◌, ◌==◌, List, [], ◌∷◌, length, Option, Some, None, slice_get, refl, sym, ap, subst, ◌∙◌, arith, one-add}
 use Rattle.std.proofs.lemmas.Bool.Decides.{nat_tests}
-use Rattle.std.specs.Prelude.{set}
 use Rattle.std.specs.List.{position_or_len}
 use Rattle.client_choice.specs.Choice.{silenced, silenced_at, silenced_found}
 use Rattle.client_choice.specs.declared.job.Started.{Started}
@@ -70,8 +69,13 @@ module _ {P : Type 0} where
         | inr n ↦ record { before = b; is = inr n; server = refl; lower = refl; owes = λ r p. (p, λ q. apart.0 b n (is_it e.server s is ∙ q)) }
       ]
       by false is m ih = elim m [
-        | inl same ↦ record { before = e; is = inl refl; server = ap (λ (x : Started P). x.server) (sym same); lower = ap (λ (x : Started P). x.lower) (sym same);
-            owes = λ r p. (ap (λ (x : Started P). x.response) same ∙ p, λ q. is_not e.server s is (ap (λ (x : Started P). x.server) same ∙ sym q)) }
+        | inl same ↦ record {
+          before = e;
+          is = inl refl;
+          server = ap (λ (x : Started P). x.server) (sym same);
+          lower = ap (λ (x : Started P). x.lower) (sym same);
+          owes = λ r p. (ap (λ (x : Started P). x.response) same ∙ p, λ q. is_not e.server s is (ap (λ (x : Started P). x.server) same ∙ sym q));
+        }
         | inr n ↦ behind (ih n)
       ]
 

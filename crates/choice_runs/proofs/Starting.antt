@@ -1,42 +1,28 @@
 -- A request is started at the next server.
-use Rattle.std.proofs.Common.{◌≡◌, ℕ, zero, suc, ◌+◌, ◌<◌, ◌≤◌, ◌⊎◌, inl, inr, Bool, true, false, if◌then◌else◌, ◌==◌, List, [], ◌∷◌, ◌++◌, length, map, Option, Some, None, slice_get, refl, sym, ap, ap₂, subst, subst₂, ◌∙◌, arith, le_refl, append-nil}
-use mathlib.Core.Path.{fun_ext}
+use Rattle.std.proofs.Common.{◌≡◌, ℕ, suc, ◌+◌, ◌<◌, ◌≤◌, ◌⊎◌, inl, inr, Bool, true, false, if◌then◌else◌, ◌==◌, List, [], ◌∷◌, length, Option, Some, None, slice_get, refl, sym, ap, subst, ◌∙◌, arith, le_refl}
 use Rattle.std.proofs.lemmas.Bool.Decides.{nat_tests}
-use Rattle.std.specs.Prelude.{set, option_map, option_and_then, Result}
-use Rattle.client_request.specs.Board.{Part}
-use Rattle.client_request.specs.Composed.{composed}
-use Rattle.client_request.specs.Numbered.{entry_at, puts, frees}
+use Rattle.std.specs.Prelude.{option_map}
+use Rattle.client_request.specs.Numbered.{entry_at, puts}
 use Rattle.client_request.specs.Request.{Request}
-use Rattle.client_request.specs.Timers.{TimerList, with_timer, can_draw}
+use Rattle.client_request.specs.Timers.{with_timer, can_draw}
 use Rattle.client_request.specs.View.{View, sets_timer}
-use Rattle.client_request.specs.declared.error.Error.{Error}
-use Rattle.client_choice.specs.Choice.{Choice, Job, arms, noted, begun, begun_at, begins, parted}
-use Rattle.client_choice.specs.Servers.{Server, owner, owner_at, for_request, starts_at}
+use Rattle.client_choice.specs.Choice.{Choice, arms}
+use Rattle.client_choice.specs.Servers.{Server}
 use Rattle.client_choice.specs.declared.job.Entry.{Entry}
-use Rattle.client_choice.specs.declared.servers.Reply.{Reply}
-use Rattle.client_choice.specs.declared.servers.Reply.TheVariants.{Later, Now}
-use Rattle.headline.specs.Messages.{Octets}
-use Rattle.headline.specs.Parts.{IsIn}
-use Rattle.headline.specs.machine.Client.{Waiting, Posted, hand, handing, with_up, tag}
-use Rattle.headline.specs.machine.Part.{Post}
 use Rattle.headline.specs.machine.Streams.{with_at}
-use Rattle.client_ties.specs.Chains.{part_of}
 use Rattle.client_ties.specs.Lines.{Sorted}
 use Rattle.client_ties.specs.PartTie.{Phase, Leads as IfLeft}
-use Rattle.client_ties.specs.Sights.{sight, due_of, IsFair}
+use Rattle.client_ties.specs.Sights.{sight, due_of}
 use Rattle.client_ties.proofs.GoingOn.{fair_set, dues_set, none_next}
-use Rattle.client_ties.proofs.Keys.{each_number, with_here, with_there, is_or_was}
+use Rattle.client_ties.proofs.Keys.{with_here, with_there, is_or_was}
 use Rattle.client_ties.proofs.Tables.{at_puts, sorted_puts, rises_below}
 use Rattle.choice_runs.specs.Choosing.{Choosing}
-use Rattle.choice_runs.specs.Servers.{State, Listed, AreTied, IsStarted, HasReply, Comes, Came}
-use Rattle.choice_runs.specs.Requests.{Beside, Work, Begun, Desk, Waits, IsKept, IsOwed, AreKept, AreToStart, desk_of, Stands, Went, Follows}
-use Rattle.choice_runs.proofs.AtServer.{both_are, none_is, set_here, set_there}
+use Rattle.choice_runs.specs.Servers.{State}
+use Rattle.choice_runs.specs.Requests.{Beside, Work, Begun, Desk, IsKept, desk_of, Stands, Follows}
+use Rattle.choice_runs.proofs.AtServer.{both_are, none_is}
 use Rattle.choice_runs.proofs.Changing.{Changes, changed}
 use Rattle.choice_runs.proofs.Disarming.{again_path}
-use Rattle.choice_runs.proofs.Dropping.{found_at, stands_on, dues_on, left_then, owner_there, owner_here, follows_of, follows_then}
-use Rattle.choice_runs.proofs.Keeping.{Differ}
-use Rattle.choice_runs.proofs.Leading.{up_here, up_other}
-use Rattle.choice_runs.proofs.ServerCalls.{one_starts, in_conf, left_map}
+use Rattle.choice_runs.proofs.ServerCalls.{in_conf}
 
 up_one : (n : ℕ) → n ≤ n + 1
 up_one n = omega arith
@@ -220,8 +206,18 @@ module _ (g : Choosing) (dl : Beside) (phase : ℕ → Phase) (cur : ℕ) where
     arms_do t due job tab c v x calm late st = by job.left refl
       where
         as_it_is : IsArmed t job tab c v x (job, c.timers) v
-        as_it_is = record { job' = job; is = refl; left = refl; started = refl; number = refl; request = refl; stands = st;
-          follows = record { fair = st.servers.fair; now = refl; timer = le_refl v.timers.next; ticket = le_refl v.ticket; place = le_refl v.place; later = λ i due is. inl is }; outs = refl; board = refl }
+        as_it_is = record {
+          job' = job;
+          is = refl;
+          left = refl;
+          started = refl;
+          number = refl;
+          request = refl;
+          stands = st;
+          follows = record { fair = st.servers.fair; now = refl; timer = le_refl v.timers.next; ticket = le_refl v.ticket; place = le_refl v.place; later = λ i due is. inl is };
+          outs = refl;
+          board = refl;
+        }
 
         not_empty : (e : Entry) (es : List Entry) → job.left ≡ e ∷ es → job.left ≡ [] → ⊥
         not_empty e es p q = cc

@@ -1,16 +1,14 @@
 -- The results that a server gave are taken, one after another.
-use Rattle.std.proofs.Common.{◌≡◌, ℕ, zero, suc, ◌+◌, ◌<◌, ◌≤◌, ◌⊎◌, inl, inr, Bool, true, false, List, [], ◌∷◌, ◌++◌, length, map, Option, Some, None, slice_get, Result, Ok, Err, refl, sym, ap, ap₂, subst, subst₂, ◌∙◌, le_refl, append_assoc, append-nil}
+use Rattle.std.proofs.Common.{◌≡◌, ℕ, ◌<◌, ◌⊎◌, inl, inr, List, [], ◌∷◌, ◌++◌, length, map, Option, Some, None, slice_get, refl, sym, ap, subst, subst₂, ◌∙◌, le_refl, append_assoc, append-nil}
 use mathlib.Core.Path.{fun_ext}
-use Rattle.std.specs.Prelude.{option_map, option_and_then, set}
+use Rattle.std.specs.Prelude.{option_map, set}
 use Rattle.std.proofs.lemmas.List.{map-append}
 use Rattle.client_request.specs.Numbered.{entry_at, frees}
 use Rattle.client_request.specs.Request.{Request}
 use Rattle.client_request.specs.View.{View}
 use Rattle.client_request.specs.declared.board.Posted.{Posted as OnBoard}
-use Rattle.client_request.specs.declared.error.Error.{Error}
-use Rattle.client_choice.specs.Choice.{Choice, Job, settled, settles, settles_owner, settles_job, settles_all, gets, without_owner}
-use Rattle.client_choice.specs.Servers.{Server, owner, owner_at, disowned_at}
-use Rattle.headline.specs.Messages.{Octets}
+use Rattle.client_choice.specs.Choice.{Choice, settled, settles, settles_owner, settles_job, settles_all, gets, without_owner}
+use Rattle.client_choice.specs.Servers.{Server, owner, disowned_at}
 use Rattle.headline.specs.Parts.{IsIn}
 use Rattle.headline.specs.machine.Client.{Posted, Leaving, tag}
 use Rattle.headline.specs.machine.Part.{Post}
@@ -21,12 +19,12 @@ use Rattle.client_ties.specs.PartTie.{Phase, Leads as IfLeft}
 use Rattle.client_ties.proofs.Keys.{each_number, with_here, with_there, was_there}
 use Rattle.client_ties.proofs.Tables.{at_frees}
 use Rattle.choice_runs.specs.Choosing.{Choosing}
-use Rattle.choice_runs.specs.Doing.{HasCome, WaitsOn, Goes, HasDone, numbers_of, post_of, AreTaken, ResultsAreMoves}
-use Rattle.choice_runs.specs.Servers.{State, Listed}
-use Rattle.choice_runs.specs.Requests.{Beside, Work, Begun, IsOwed, IsNamed, desk_of, Stands, Went, Follows}
+use Rattle.choice_runs.specs.Doing.{HasCome, WaitsOn, Goes, numbers_of, post_of, AreTaken, ResultsAreMoves}
+use Rattle.choice_runs.specs.Servers.{State}
+use Rattle.choice_runs.specs.Requests.{Beside, Work, Begun, IsOwed, IsNamed, desk_of, Stands}
 use Rattle.choice_runs.proofs.Dropping.{found_at, left_on, left_then, went_then, went_nowhere}
 use Rattle.choice_runs.proofs.ServerCalls.{in_conf}
-use Rattle.choice_runs.proofs.Settling.{IsSettled, gets_it, gives_less}
+use Rattle.choice_runs.proofs.Settling.{IsSettled, gets_it}
 
 -- what is not named is not named after results are given
 gives_none : (named : ℕ → Option ℕ) (bs : List OnBoard) (posts : List Post) (left : ℕ → Option ℕ) (i : ℕ) → Gives named bs posts left → named i ≡ None → left i ≡ None
@@ -87,10 +85,13 @@ module _ (g : Choosing) (dl : Beside) (phase : ℕ → Phase) (cur : ℕ) where
         leaving = z ∷ [];
         put = put;
         leaves = left;
-        answers = (ap (λ (o : Option (Work g)). option_map (λ job. job.number) o) was ∙ ap (λ n. Some n) (sym request), refl,
+        answers = (
+          ap (λ (o : Option (Work g)). option_map (λ job. job.number) o) was ∙ ap (λ n. Some n) (sym request),
+          refl,
           λ j. each_number (λ j. numbers_of g dl phase cur d.jobs j ≡ with_at t None (numbers_of g dl phase cur c.jobs) j) t
               (ap (λ (o : Option (Work g)). option_map (λ job. job.number) o) gone ∙ sym (with_here t None (numbers_of g dl phase cur c.jobs)))
-              (λ j ne. ap (λ (o : Option (Work g)). option_map (λ job. job.number) o) (kept j ne) ∙ sym (with_there t None (numbers_of g dl phase cur c.jobs) j ne)) j);
+              (λ j ne. ap (λ (o : Option (Work g)). option_map (λ job. job.number) o) (kept j ne) ∙ sym (with_there t None (numbers_of g dl phase cur c.jobs) j ne)) j,
+        );
       }
 
   -- one result is taken

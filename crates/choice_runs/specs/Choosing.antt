@@ -1,5 +1,5 @@
 -- A choice among servers, each of which is tied to a part of the machine of small moves.
-use Rattle.std.specs.Prelude.{◌≡◌, ℕ, ◌<◌, ◌⊎◌, Bool, true, false, Option, Some, None, option_map, List, [], ◌∷◌, ◌++◌, length}
+use Rattle.std.specs.Prelude.{◌≡◌, ℕ, ◌<◌, ◌⊎◌, Bool, true, false, Option, Some, option_map, List, [], ◌∷◌, ◌++◌, length}
 use Rattle.client_request.specs.Board.{Part}
 use Rattle.client_request.specs.Carries.{IsOfOctets}
 use Rattle.client_request.specs.Request.{Request}

@@ -1,5 +1,5 @@
 -- The servers of a choice beside the parts of the machine, and what one call of one of them leaves of all.
-use Rattle.std.specs.Prelude.{◌≡◌, ℕ, ◌<◌, ◌≤◌, ◌⊎◌, List, [], ◌∷◌, ◌++◌, length, nat_lt, ◌||◌, Option, Some, None, Result, slice_get, set}
+use Rattle.std.specs.Prelude.{◌≡◌, ℕ, ◌≤◌, ◌⊎◌, List, [], ◌∷◌, ◌++◌, length, nat_lt, ◌||◌, Option, Some, None, Result, slice_get, set}
 use Rattle.client_request.specs.Composed.{composed}
 use Rattle.client_request.specs.Numbered.{puts, frees}
 use Rattle.client_request.specs.View.{View}

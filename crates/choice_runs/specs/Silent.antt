@@ -1,7 +1,7 @@
 -- The choice among servers that give every request an error at once.
-use Rattle.std.specs.Prelude.{◌≡◌, ℕ, ◌<◌, false, [], ◌∷◌, Some, None, option_map, List, Err, length}
+use Rattle.std.specs.Prelude.{◌≡◌, ℕ, false, Some, None, option_map, Err}
 use Rattle.client_request.specs.Request.{Request}
-use Rattle.client_request.specs.View.{View, Transport, answers, asks, draws_ticket}
+use Rattle.client_request.specs.View.{Transport, answers, asks, draws_ticket}
 use Rattle.client_request.specs.declared.error.Error.TheVariants.{ConnectionClosed}
 use Rattle.client_request.specs.declared.event.Out.TheVariants.{Start}
 use Rattle.client_request.specs.declared.event.Via.TheVariants.{Dgram}
