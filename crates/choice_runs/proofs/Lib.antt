@@ -17,5 +17,6 @@ pub mod Silencing
 pub mod Settling
 pub mod Taking
 pub mod Hearing
+pub mod Cancelling
 pub mod Dropping
 pub mod Silence

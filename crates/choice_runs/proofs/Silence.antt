@@ -21,6 +21,7 @@ use Rattle.choice_runs.specs.Silent.{unstarted, numbered, NumbersAreTied, Number
 use Rattle.choice_runs.specs.Doing.{CallsAreMoves}
 use Rattle.choice_runs.proofs.Runs.{runs_are_moves}
 use Rattle.choice_runs.proofs.Taking.{results_are_moves}
+use Rattle.choice_runs.proofs.Cancelling.{gives_it_up}
 use Rattle.choice_runs.proofs.Hearing.{hears_and_settles}
 use Rattle.choice_runs.proofs.ServerCalls.{one_tells}
 
@@ -147,6 +148,7 @@ calls_are_moves g = record {
   hearing = λ deadlines phase after s named c v x a h st table at quiet l. hears_and_settles g deadlines phase after s named c v x a st table at quiet h l;
   results = results_are_moves g;
   runs = runs_are_moves g;
+  cancelling = λ deadlines phase t job named c v x y st table is left. gives_it_up g deadlines phase t job named c v x y st table is left;
 }
 
 pub silent_choices_move : SilentChoicesMove

@@ -1,11 +1,11 @@
 -- What a call of the choice leaves of a request: it waits on in the table, or its result stands on the board and leaves in the machine.
 use Rattle.std.specs.Prelude.{◌≡◌, ℕ, ◌<◌, List, [], ◌∷◌, ◌++◌, length, map, Option, Some, None, option_map, slice_get, false}
 use Rattle.client_request.specs.Board.{Part}
-use Rattle.client_request.specs.Numbered.{entry_at}
+use Rattle.client_request.specs.Numbered.{entry_at, frees}
 use Rattle.client_request.specs.Request.{Request}
 use Rattle.client_request.specs.View.{View, Heard, told}
 use Rattle.client_request.specs.declared.board.Posted.{Posted as OnBoard}
-use Rattle.client_choice.specs.Choice.{Choice, runs, settles_all, hears_one}
+use Rattle.client_choice.specs.Choice.{Choice, drops, runs, settles_all, hears_one}
 use Rattle.client_choice.specs.Servers.{Server, hears_at}
 use Rattle.client_request.specs.declared.event.What.{What}
 use Rattle.client_choice.specs.declared.job.Entry.{Entry}
@@ -102,6 +102,29 @@ ResultsAreMoves g = (dl : Beside) (phase : ℕ → Phase) (cur : ℕ) (ps : List
 abbrev pub at_rest : (deadlines : ℕ → Option ℕ) → Beside
 at_rest deadlines = record { deadlines = deadlines; left = λ i. None }
 
+-- In the machine request k has left: of x, y differs so.
+pub record HasLeft (g : Choosing) (k : ℕ) (x y : State g) : Type 0 where
+  pub held : y.held ≡ with_at k None x.held
+  pub ups : y.ups ≡ x.ups
+  pub place : y.place ≡ x.place
+
+-- The choice gave the request of ticket t up.
+pub record IsGivenUp (g : Choosing) (dl : Beside) (phase : ℕ → Phase) (t : ℕ) (c : Choice Request g.U g.R) (v : View) (y : State g) (d : Choice Request g.U g.R) (w : View) : Type 0 where
+  pub named' : ℕ → ℕ → Option ℕ
+  pub end : State g
+  pub went : Went g v y w end
+  pub stands : Stands g dl phase (length (g.c).servers) (λ j. entry_at j (frees t c.jobs)) named' 0 [] d w end
+  pub jobs : d.jobs ≡ frees t c.jobs
+  pub leaving : end.leaving ≡ y.leaving
+  pub board : end.board ≡ y.board
+  pub put : w.board ≡ v.board
+
+-- A request that has left the machine is given up by moves.
+abbrev pub CancellingIsMoves : Choosing → Type 0
+CancellingIsMoves g = (deadlines : ℕ → Option ℕ) (phase : ℕ → Phase) (t : ℕ) (job : Work g) (named : ℕ → ℕ → Option ℕ) (c : Choice Request g.U g.R) (v : View) (x y : State g)
+    → Stands g (at_rest deadlines) phase (length (g.c).servers) (λ j. entry_at j c.jobs) named 0 [] c v x → (hi : ℕ) × Sorted 0 hi c.jobs → entry_at t c.jobs ≡ Some job → HasLeft g job.number x y
+    → Leads (IsGivenUp g (at_rest deadlines) phase t c v y) (drops g.below t c v)
+
 -- Where what server s hears is what moves leave, so is that with what it posted taken.
 abbrev pub HearingIsMoves : Choosing → Type 0
 HearingIsMoves g = (deadlines : ℕ → Option ℕ) (phase after : ℕ → Phase) (s : ℕ) (named : ℕ → ℕ → Option ℕ) (c : Choice Request g.U g.R) (v : View) (x : State g) (a : Server g.U) (h : Heard)
@@ -119,3 +142,4 @@ pub record CallsAreMoves (g : Choosing) : Type 0 where
   pub hearing : HearingIsMoves g
   pub results : ResultsAreMoves g
   pub runs : RunsAreMoves g
+  pub cancelling : CancellingIsMoves g
