@@ -18,5 +18,6 @@ pub mod Settling
 pub mod Taking
 pub mod Hearing
 pub mod Cancelling
+pub mod Firing
 pub mod Dropping
 pub mod Silence

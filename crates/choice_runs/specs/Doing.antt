@@ -3,9 +3,10 @@ use Rattle.std.specs.Prelude.{◌≡◌, ℕ, ◌<◌, List, [], ◌∷◌, ◌+
 use Rattle.client_request.specs.Board.{Part}
 use Rattle.client_request.specs.Numbered.{entry_at, frees}
 use Rattle.client_request.specs.Request.{Request}
+use Rattle.client_request.specs.Timers.{cancelled}
 use Rattle.client_request.specs.View.{View, Heard, told}
 use Rattle.client_request.specs.declared.board.Posted.{Posted as OnBoard}
-use Rattle.client_choice.specs.Choice.{Choice, drops, runs, settles_all, hears_one}
+use Rattle.client_choice.specs.Choice.{Choice, drops, due, runs, settles_all, hears_one}
 use Rattle.client_choice.specs.Servers.{Server, hears_at}
 use Rattle.client_request.specs.declared.event.What.{What}
 use Rattle.client_choice.specs.declared.job.Entry.{Entry}
@@ -125,6 +126,17 @@ CancellingIsMoves g = (deadlines : ℕ → Option ℕ) (phase : ℕ → Phase) (
     → Stands g (at_rest deadlines) phase (length (g.c).servers) (λ j. entry_at j c.jobs) named 0 [] c v x → (hi : ℕ) × Sorted 0 hi c.jobs → entry_at t c.jobs ≡ Some job → HasLeft g job.number x y
     → Leads (IsGivenUp g (at_rest deadlines) phase t c v y) (drops g.below t c v)
 
+-- The request of ticket t was started at more servers.
+pub record IsDue (g : Choosing) (dl : Beside) (phase : ℕ → Phase) (t : ℕ) (named : ℕ → ℕ → Option ℕ) (c : Choice Request g.U g.R) (v : View) (x : State g) (d : Choice Request g.U g.R) (w : View) : Type 0 where
+  pub number : ℕ
+  pub done : HasDone g dl phase (length (g.c).servers) t number (λ j. entry_at j (frees t c.jobs)) x.board named v x d w
+
+-- A timer of the choice fires, which was taken out before: what is left is what moves leave.
+abbrev pub FiringIsMoves : Choosing → Type 0
+FiringIsMoves g = (deadlines : ℕ → Option ℕ) (phase : ℕ → Phase) (i t : ℕ) (named : ℕ → ℕ → Option ℕ) (c : Choice Request g.U g.R) (v : View) (x : State g)
+    → Stands g (at_rest deadlines) phase (length (g.c).servers) (λ j. entry_at j c.jobs) named 0 [] c v x → (hi : ℕ) × Sorted 0 hi c.jobs → entry_at i c.timers ≡ Some t → x.board ≡ []
+    → Leads (IsDue g (at_rest deadlines) phase t named c (record v { timers = cancelled i v.timers }) x) (due g.below g.settings i c (record v { timers = cancelled i v.timers }))
+
 -- Where what server s hears is what moves leave, so is that with what it posted taken.
 abbrev pub HearingIsMoves : Choosing → Type 0
 HearingIsMoves g = (deadlines : ℕ → Option ℕ) (phase after : ℕ → Phase) (s : ℕ) (named : ℕ → ℕ → Option ℕ) (c : Choice Request g.U g.R) (v : View) (x : State g) (a : Server g.U) (h : Heard)
@@ -143,3 +155,4 @@ pub record CallsAreMoves (g : Choosing) : Type 0 where
   pub results : ResultsAreMoves g
   pub runs : RunsAreMoves g
   pub cancelling : CancellingIsMoves g
+  pub firing : FiringIsMoves g
