@@ -1,26 +1,23 @@
 -- A request that is over is given up by the choice: each server that still owes it a result gives it up.
-use Rattle.std.proofs.Common.{◌≡◌, ℕ, ◌<◌, ◌≤◌, ◌⊎◌, inl, inr, List, [], ◌∷◌, ◌++◌, length, Option, Some, None, slice_get, refl, sym, ap, subst, subst₂, ◌∙◌, arith}
+use Rattle.std.proofs.Common.{◌≡◌, ℕ, ◌<◌, List, [], ◌++◌, length, Option, Some, None, refl, sym, ap, subst, ◌∙◌, arith}
 use mathlib.Core.Path.{fun_ext}
 use Rattle.std.specs.Prelude.{option_map}
-use Rattle.std.proofs.lemmas.Option.{slice_get_within}
 use Rattle.client_request.specs.Numbered.{entry_at, frees}
 use Rattle.client_request.specs.Request.{Request}
 use Rattle.client_request.specs.View.{View}
 use Rattle.client_request.specs.declared.event.Out.{Out}
-use Rattle.client_choice.specs.Choice.{Choice, drops, drops_job, gives_up, drops_each, unset, stopped, unarmed, disarmed}
-use Rattle.client_choice.specs.Servers.{Server}
-use Rattle.headline.specs.Parts.{IsIn}
+use Rattle.client_choice.specs.Choice.{Choice, drops, drops_job, drops_each, unset, stopped, unarmed, disarmed}
 use Rattle.headline.specs.machine.Client.{Waiting}
 use Rattle.headline.specs.machine.Streams.{with_at}
 use Rattle.client_ties.specs.Lines.{Sorted}
 use Rattle.client_ties.specs.PartTie.{Phase, Leads as IfLeft}
 use Rattle.client_ties.specs.Sights.{sight}
 use Rattle.client_ties.proofs.Keys.{with_here, with_same}
-use Rattle.client_ties.proofs.Tables.{at_frees, sorted_frees, frees_path}
+use Rattle.client_ties.proofs.Tables.{at_frees, frees_path}
 use Rattle.choice_runs.specs.Choosing.{Choosing}
 use Rattle.choice_runs.specs.Doing.{at_rest, IsGivenUp, HasLeft}
-use Rattle.choice_runs.specs.Servers.{State, Listed, AreTied}
-use Rattle.choice_runs.specs.Requests.{Beside, Work, Begun, Desk, Waits, IsKept, AreKept, desk_of, Stands, Went}
+use Rattle.choice_runs.specs.Servers.{State, Listed}
+use Rattle.choice_runs.specs.Requests.{Beside, Work, IsKept, desk_of, Stands}
 use Rattle.choice_runs.proofs.Changing.{ended}
 use Rattle.choice_runs.proofs.Disarming.{goes_stopped, again_path, disarms}
 use Rattle.choice_runs.proofs.Dropping.{AreOff, all_off, follows_of, follows_then}
@@ -89,8 +86,15 @@ module _ (g : Choosing) (deadlines : ℕ → Option ℕ) (phase : ℕ → Phase)
       by (Some z) l = record {
         named' = l.named';
         end = l.end;
-        went = record { outs = l.went.outs; leads = l.went.leads; put = l.went.put ∙ ap (λ (o : List Out). o ++ l.went.outs) (outs_of g dl phase count job.timer v);
-          goes_on = follows_then g v (stopped job.timer v) z.1 (follows_of g v (stopped job.timer v) (goes_stopped job.timer v st.servers.fair)) l.went.goes_on; now = l.went.now; asked = l.went.asked; pending = l.went.pending };
+        went = record {
+          outs = l.went.outs;
+          leads = l.went.leads;
+          put = l.went.put ∙ ap (λ (o : List Out). o ++ l.went.outs) (outs_of g dl phase count job.timer v);
+          goes_on = follows_then g v (stopped job.timer v) z.1 (follows_of g v (stopped job.timer v) (goes_stopped job.timer v st.servers.fair)) l.went.goes_on;
+          now = l.went.now;
+          asked = l.went.asked;
+          pending = l.went.pending;
+        };
         stands = over_any g dl phase count tab l.named' job.number 0 (record without { servers = z.0 }) z.1 l.end l.stands;
         jobs = refl;
         leaving = l.leaving;

@@ -1,5 +1,5 @@
 -- An estimate has passed: the next server is started.
-use Rattle.std.proofs.Common.{◌≡◌, ℕ, ◌<◌, ◌⊎◌, inl, inr, Bool, ◌||◌, ◌==◌, List, [], ◌∷◌, length, Option, Some, None, refl, sym, ap, subst, ◌∙◌, arith}
+use Rattle.std.proofs.Common.{◌≡◌, ℕ, ◌<◌, inl, inr, Bool, ◌||◌, ◌==◌, List, [], ◌∷◌, length, Option, Some, None, refl, sym, ap, subst, ◌∙◌, arith}
 use mathlib.Core.Path.{fun_ext}
 use Rattle.client_request.specs.Numbered.{entry_at, frees}
 use Rattle.client_request.specs.Request.{Request}
@@ -17,7 +17,7 @@ use Rattle.client_ties.proofs.Tables.{at_frees, sorted_frees, frees_path}
 use Rattle.choice_runs.specs.Choosing.{Choosing}
 use Rattle.choice_runs.specs.Doing.{at_rest, HasDone, IsDue}
 use Rattle.choice_runs.specs.Servers.{State}
-use Rattle.choice_runs.specs.Requests.{Work, Begun, IsKept, IsToStart, AreToStart, desk_of, Stands}
+use Rattle.choice_runs.specs.Requests.{Work, IsKept, IsToStart, AreToStart, desk_of, Stands}
 use Rattle.choice_runs.proofs.AtServer.{none_is}
 use Rattle.choice_runs.proofs.Disarming.{again_path, disarms}
 use Rattle.choice_runs.proofs.Runs.{runs_do}
