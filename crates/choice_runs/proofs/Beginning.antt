@@ -42,8 +42,8 @@ pub data Gave (k s : ℕ) (old new : List Posted) : Option Part → Type 0 where
   Nothing : new ≡ old → Gave k s old new None
   AResult : (result : Result Octets Error) → new ≡ old ++ record { server = s; request = k; result = result } ∷ [] → Gave k s old new (Some (part_of result))
 
-module _ (g : Choosing) (dl : Beside) (phase : ℕ → Phase) (cur : ℕ) (t : ℕ) (job : Work g) (e : Entry) (es : List Entry) (tab : ℕ → Option (Work g)) (named : ℕ → ℕ → Option ℕ) (c : Choice Request g.U g.R) (v : View) (x : State g)
-    (calm : job.timer ≡ None) (lined : job.left ≡ e ∷ es) (aside : cur ≡ e.server → ⊥) (st : Stands g dl phase cur (with_at t (Some job) tab) named 0 [] c v x) where
+module _ (g : Choosing) (beside : Beside) (phase : ℕ → Phase) (current : ℕ) (t : ℕ) (job : Work g) (e : Entry) (es : List Entry) (tab : ℕ → Option (Work g)) (named : ℕ → ℕ → Option ℕ) (c : Choice Request g.U g.R) (v : View) (x : State g)
+    (calm : job.timer ≡ None) (lined : job.left ≡ e ∷ es) (aside : current ≡ e.server → ⊥) (st : Stands g beside phase current (with_at t (Some job) tab) named 0 [] c v x) where
   abbrev entry : Option (Reply g.R) → Begun g
   entry o = record { server = e.server; since = v.now; lower = v.ticket; response = (parted o).0 }
 
@@ -52,10 +52,10 @@ module _ (g : Choosing) (dl : Beside) (phase : ℕ → Phase) (cur : ℕ) (t : �
     pub named' : ℕ → ℕ → Option ℕ
     pub end : State g
     pub went : Went g v x w end
-    pub stands : Stands g dl phase cur (with_at t (Some (noting g job es (entry o))) tab) named' 0 [] (record c { servers = servers }) w end
+    pub stands : Stands g beside phase current (with_at t (Some (noting g job es (entry o))) tab) named' 0 [] (record c { servers = servers }) w end
     pub leaving : end.leaving ≡ x.leaving
     pub put : w.board ≡ v.board
-    pub current : (i : ℕ) → named' cur i ≡ named cur i
+    pub same_there : (i : ℕ) → named' current i ≡ named current i
     pub gave : Gave job.number e.server x.board end.board (parted o).1
 
   abbrev asked_view : View
@@ -70,8 +70,8 @@ module _ (g : Choosing) (dl : Beside) (phase : ℕ → Phase) (cur : ℕ) (t : �
   line : AreToStart (length (g.c).servers) mine.ask.tried (e ∷ es)
   line = subst (λ l. AreToStart (length (g.c).servers) mine.ask.tried l) lined mine.left
 
-  stands_asked : Stands g dl phase cur (with_at t (Some job) tab) named 0 [] c asked_view x
-  stands_asked = stands_for g dl phase cur (with_at t (Some job) tab) named 0 [] c v asked_view x refl refl refl refl refl st
+  stands_asked : Stands g beside phase current (with_at t (Some job) tab) named 0 [] c asked_view x
+  stands_asked = stands_for g beside phase current (with_at t (Some job) tab) named 0 [] c v asked_view x refl refl refl refl refl st
 
   module _ (a : Server g.U) (at : slice_get c.servers e.server ≡ Some a) where
     within : e.server < length (g.c).servers
@@ -125,14 +125,14 @@ module _ (g : Choosing) (dl : Beside) (phase : ℕ → Phase) (cur : ℕ) (t : �
           (λ q differs ne. owner_there g c.servers e.server q j b differs) q ne
 
       dues_so : (j u due : ℕ) → entry_at j c.timers ≡ Some u → due_of j v.timers.set ≡ Some due → due_of j w.timers.set ≡ Some due
-      dues_so j u due is m = dues_on g dl phase phase cur (with_at t (Some job) tab) named 0 [] c asked_view x stands_asked e.server a b at (with_at v.ticket (Some job.number) (g.names a.upstream)) i.given x (hand job.number e.server mine.ask x) w i.call j u due is m
+      dues_so j u due is m = dues_on g beside phase phase current (with_at t (Some job) tab) named 0 [] c asked_view x stands_asked e.server a b at (with_at v.ticket (Some job.number) (g.names a.upstream)) i.given x (hand job.number e.server mine.ask x) w i.call j u due is m
 
       is_noted : HasReply g job.number v.ticket t a b i.call.made.posts o → IsNoted o (set c.servers e.server b) w
       is_noted (Comes r eq ticket posts waiting names) = subst (λ o. IsNoted o (set c.servers e.server b) w) (sym eq) (record {
         named' = named';
         end = i.call.end;
         went = went_so;
-        stands = stands_on g dl phase phase cur (with_at t (Some job) tab) named 0 [] c asked_view x stands_asked e.server a b at (with_at v.ticket (Some job.number) (g.names a.upstream)) i.given x (hand job.number e.server mine.ask x) w i.call
+        stands = stands_on g beside phase phase current (with_at t (Some job) tab) named 0 [] c asked_view x stands_asked e.server a b at (with_at v.ticket (Some job.number) (g.names a.upstream)) i.given x (hand job.number e.server mine.ask x) w i.call
             (with_at t (Some (noting g job es one)) tab) named' 0 []
             (i.posted, subst (λ (ws : List (ℕ × ℕ)). (hi : ℕ) × Sorted 0 hi ws) (sym waiting) (sorted_more v.ticket t a.waiting (st.quiet e.server a at).1))
             (λ ne j. here j ∙ (with_as j ∙ sym (names j))) aside there
@@ -166,7 +166,7 @@ module _ (g : Choosing) (dl : Beside) (phase : ℕ → Phase) (cur : ℕ) (t : �
             }) st.kept);
         leaving = i.call.moved.leaving;
         put = i.board;
-        current = λ j. there cur j (λ same. aside (sym same));
+        same_there = λ j. there current j (λ same. aside (sym same));
         gave = Nothing (i.call.moved.board ∙ (ap (λ (ps : List Post). x.board ++ map (tag e.server) ps) posts ∙ append-nil x.board));
       })
         where
@@ -193,7 +193,7 @@ module _ (g : Choosing) (dl : Beside) (phase : ℕ → Phase) (cur : ℕ) (t : �
         named' = named;
         end = i.call.end;
         went = went_so;
-        stands = stands_on g dl phase phase cur (with_at t (Some job) tab) named 0 [] c asked_view x stands_asked e.server a b at (with_at v.ticket (Some job.number) (g.names a.upstream)) i.given x (hand job.number e.server mine.ask x) w i.call
+        stands = stands_on g beside phase phase current (with_at t (Some job) tab) named 0 [] c asked_view x stands_asked e.server a b at (with_at v.ticket (Some job.number) (g.names a.upstream)) i.given x (hand job.number e.server mine.ask x) w i.call
             (with_at t (Some (noting g job es one)) tab) named 0 []
             (i.posted, subst (λ (ws : List (ℕ × ℕ)). (hi : ℕ) × Sorted 0 hi ws) (sym waiting) (st.quiet e.server a at).1)
             (λ ne j. st.is_named e.server a at ne j ∙ sym (names j)) aside (λ q j ne. refl)
@@ -217,7 +217,7 @@ module _ (g : Choosing) (dl : Beside) (phase : ℕ → Phase) (cur : ℕ) (t : �
             }) st.kept);
         leaving = i.call.moved.leaving;
         put = i.board;
-        current = λ j. refl;
+        same_there = λ j. refl;
         gave = AResult result (i.call.moved.board ∙ ap (λ (ps : List Post). x.board ++ map (tag e.server) ps) posts);
       })
         where
@@ -232,7 +232,7 @@ module _ (g : Choosing) (dl : Beside) (phase : ℕ → Phase) (cur : ℕ) (t : �
     pub named' : ℕ → ℕ → Option ℕ
     pub end : State g
     pub went : Went g v x w end
-    pub stands : Stands g dl phase cur (with_at t (Some y.0.1) tab) named' 0 [] y.1 w end
+    pub stands : Stands g beside phase current (with_at t (Some y.0.1) tab) named' 0 [] y.1 w end
     pub jobs : y.1.jobs ≡ c.jobs
     pub number : y.0.1.number ≡ job.number
     pub left : y.0.1.left ≡ es
@@ -241,7 +241,7 @@ module _ (g : Choosing) (dl : Beside) (phase : ℕ → Phase) (cur : ℕ) (t : �
     pub started : y.0.1.started ≡ job.started ++ entry ∷ []
     pub leaving : end.leaving ≡ x.leaving
     pub put : w.board ≡ v.board
-    pub current : (i : ℕ) → named' cur i ≡ named cur i
+    pub same_there : (i : ℕ) → named' current i ≡ named current i
     pub gave : Gave job.number e.server x.board end.board y.0.0
 
   pub begins_do : IfLeft HasBegun (begins g.below t e (record job { left = es }) c v)
@@ -252,7 +252,7 @@ module _ (g : Choosing) (dl : Beside) (phase : ℕ → Phase) (cur : ℕ) (t : �
 
       armed : (o : Option (Reply g.R)) (servers : Listed g) (w : View) → IsNoted o servers w → IfLeft HasBegun (begun g.below t e (record job { left = es }) c v ((o, servers), w))
       armed o servers w n =
-          left_map g (IsArmed g dl phase cur n.named' t (noting g job es (entry o)) tab (record c { servers = servers }) w n.end) HasBegun (begun_at g.below (parted o).1 c servers) (arms t (v.now + e.estimate) (noting g job es (entry o)) c.timers w)
+          left_map g (IsArmed g beside phase current n.named' t (noting g job es (entry o)) tab (record c { servers = servers }) w n.end) HasBegun (begun_at g.below (parted o).1 c servers) (arms t (v.now + e.estimate) (noting g job es (entry o)) c.timers w)
           (λ y u m. record {
             named' = n.named';
             end = n.end;
@@ -266,10 +266,10 @@ module _ (g : Choosing) (dl : Beside) (phase : ℕ → Phase) (cur : ℕ) (t : �
             started = ap (λ (j : Work g). j.started) m.is ∙ m.started;
             leaving = n.leaving;
             put = m.board ∙ n.put;
-            current = n.current;
+            same_there = n.same_there;
             gave = n.gave;
           })
-          (arms_do g dl phase cur n.named' t (v.now + e.estimate) (noting g job es (entry o)) tab (record c { servers = servers }) w n.end calm (later v.now e.estimate w.now n.went.goes_on.now) n.stands)
+          (arms_do g beside phase current n.named' t (v.now + e.estimate) (noting g job es (entry o)) tab (record c { servers = servers }) w n.end calm (later v.now e.estimate w.now n.went.goes_on.now) n.stands)
 
       go : (a : Server g.U) × (slice_get c.servers e.server ≡ Some a) → IfLeft HasBegun (begins g.below t e (record job { left = es }) c v)
       go found = left_then g (IsStarted g phase e.server job.number t mine.ask found.0 c.servers asked_view x) HasBegun (begun g.below t e (record job { left = es }) c v) (starts_at g.below e.server t job.request c.servers asked_view)

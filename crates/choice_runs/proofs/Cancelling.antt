@@ -29,8 +29,8 @@ module _ (g : Choosing) (deadlines : ℕ → Option ℕ) (phase : ℕ → Phase)
   abbrev count : ℕ
   count = length (g.c).servers
 
-  abbrev dl : Beside
-  dl = at_rest deadlines
+  abbrev beside : Beside
+  beside = at_rest deadlines
 
   abbrev tab : ℕ → Option (Work g)
   tab = λ j. entry_at j (frees t c.jobs)
@@ -44,10 +44,10 @@ module _ (g : Choosing) (deadlines : ℕ → Option ℕ) (phase : ℕ → Phase)
   in_hand : with_at t (Some job) tab ≡ (λ j. entry_at j c.jobs)
   in_hand = ap (λ f. with_at t (Some job) f) (frees_path t 0 table.0 c.jobs table.1) ∙ (again_path t (Some job) None (λ j. entry_at j c.jobs) ∙ fun_ext (λ j. with_same t (Some job) (λ j. entry_at j c.jobs) j is))
 
-  calm : Stands g dl phase count (with_at t (Some (disarmed job)) tab) named 0 [] (unarmed job.timer c) (stopped job.timer v) x
-  calm = disarms g dl phase count named 0 t job tab c v x (subst (λ f. Stands g dl phase count f named 0 [] c v x) (sym in_hand) st)
+  calm : Stands g beside phase count (with_at t (Some (disarmed job)) tab) named 0 [] (unarmed job.timer c) (stopped job.timer v) x
+  calm = disarms g beside phase count named 0 t job tab c v x (subst (λ f. Stands g beside phase count f named 0 [] c v x) (sym in_hand) st)
 
-  over : Stands g dl phase count tab named job.number job.started without (stopped job.timer v) y
+  over : Stands g beside phase count tab named job.number job.started without (stopped job.timer v) y
   over = record {
     servers = record {
       count = calm.servers.count;
@@ -75,13 +75,13 @@ module _ (g : Choosing) (deadlines : ℕ → Option ℕ) (phase : ℕ → Phase)
   pub gives_it_up : IfLeft (IsGivenUp g (at_rest deadlines) phase t c v y) (drops g.below t c v)
   gives_it_up = subst (λ o. IfLeft (IsGivenUp g (at_rest deadlines) phase t c v y) (drops_job g.below t c v o)) (sym is)
       (by (drops_each g.below job.started c.servers (stopped job.timer v))
-      (all_off g dl phase count tab job.number t new job.started named without (stopped job.timer v) y (ap (λ (h : ℕ → Option Waiting). h job.number) has_left.held ∙ with_here job.number None x.held) owed.apart
+      (all_off g beside phase count tab job.number t new job.started named without (stopped job.timer v) y (ap (λ (h : ℕ → Option Waiting). h job.number) has_left.held ∙ with_here job.number None x.held) owed.apart
       (λ b i r p. (let w = owed.waits b i r p in (λ same. not_below count (subst (λ n. n < count) (sym same) w.within), record { within = w.within; ticket = w.ticket; waiting = w.waiting; named = w.named }))) over))
     where
       not_below : (n : ℕ) → n < n → ⊥
       not_below n lt = omega arith
 
-      by : (o : Option (Listed g × View)) → IfLeft (AreOff g dl phase count tab job.number t new [] named without (stopped job.timer v) y) o → IfLeft (IsGivenUp g (at_rest deadlines) phase t c v y) (option_map (λ z. (record without { servers = z.0 }, z.1)) o)
+      by : (o : Option (Listed g × View)) → IfLeft (AreOff g beside phase count tab job.number t new [] named without (stopped job.timer v) y) o → IfLeft (IsGivenUp g (at_rest deadlines) phase t c v y) (option_map (λ z. (record without { servers = z.0 }, z.1)) o)
       by None l = tt
       by (Some z) l = record {
         named' = l.named';
@@ -89,15 +89,15 @@ module _ (g : Choosing) (deadlines : ℕ → Option ℕ) (phase : ℕ → Phase)
         went = record {
           outs = l.went.outs;
           leads = l.went.leads;
-          put = l.went.put ∙ ap (λ (o : List Out). o ++ l.went.outs) (outs_of g dl phase count job.timer v);
+          put = l.went.put ∙ ap (λ (o : List Out). o ++ l.went.outs) (outs_of g beside phase count job.timer v);
           goes_on = follows_then g v (stopped job.timer v) z.1 (follows_of g v (stopped job.timer v) (goes_stopped job.timer v st.servers.fair)) l.went.goes_on;
           now = l.went.now;
           asked = l.went.asked;
           pending = l.went.pending;
         };
-        stands = over_any g dl phase count tab l.named' job.number 0 (record without { servers = z.0 }) z.1 l.end l.stands;
+        stands = over_any g beside phase count tab l.named' job.number 0 (record without { servers = z.0 }) z.1 l.end l.stands;
         jobs = refl;
         leaving = l.leaving;
         board = l.board;
-        put = l.put ∙ board_of g dl phase count job.timer v;
+        put = l.put ∙ board_of g beside phase count job.timer v;
       }

@@ -42,14 +42,14 @@ module _ (g : Choosing) where
     place = t.place;
   }
 
-  module _ (dl : Beside) (phase : ℕ → Phase) (cur : ℕ) (named : ℕ → ℕ → Option ℕ) (over : ℕ) where
+  module _ (beside : Beside) (phase : ℕ → Phase) (current : ℕ) (named : ℕ → ℕ → Option ℕ) (over : ℕ) where
     -- The timer of the request in hand goes, if there is one.
-    pub disarms : (t : ℕ) (job : Work g) (tab : ℕ → Option (Work g)) (c : Choice Request g.U g.R) (v : View) (x : State g) → Stands g dl phase cur (with_at t (Some job) tab) named over [] c v x
-        → Stands g dl phase cur (with_at t (Some (disarmed job)) tab) named over [] (unarmed job.timer c) (stopped job.timer v) x
+    pub disarms : (t : ℕ) (job : Work g) (tab : ℕ → Option (Work g)) (c : Choice Request g.U g.R) (v : View) (x : State g) → Stands g beside phase current (with_at t (Some job) tab) named over [] c v x
+        → Stands g beside phase current (with_at t (Some (disarmed job)) tab) named over [] (unarmed job.timer c) (stopped job.timer v) x
     disarms t job tab c v x st = by job.timer refl
       where
-        by : (o : Option ℕ) → job.timer ≡ o → Stands g dl phase cur (with_at t (Some (disarmed job)) tab) named over [] (unarmed o c) (stopped o v) x
-        by None e = subst (λ o. Stands g dl phase cur (with_at t (Some (record job { timer = o })) tab) named over [] c v x) e st
+        by : (o : Option ℕ) → job.timer ≡ o → Stands g beside phase current (with_at t (Some (disarmed job)) tab) named over [] (unarmed o c) (stopped o v) x
+        by None e = subst (λ o. Stands g beside phase current (with_at t (Some (record job { timer = o })) tab) named over [] c v x) e st
         by (Some i) e = record {
           servers = tied_without phase c.servers v x i (λ s a at own. st.foreign i t s a mine.0 at own) st.servers;
           quiet = st.quiet;
@@ -139,7 +139,7 @@ module _ (g : Choosing) where
 
     -- one server is another record, of the same transport, with the same tickets
     pub stands_set : (jobs : ℕ → Option (Work g)) (dropping : List (Begun g)) (c : Choice Request g.U g.R) (v : View) (x : State g) (s : ℕ) (a b : Server g.U) → slice_get c.servers s ≡ Some a → b.upstream ≡ a.upstream → b.waiting ≡ a.waiting → b.posted ≡ a.posted
-        → Stands g dl phase cur jobs named over dropping c v x → Stands g dl phase cur jobs named over dropping (record c { servers = set c.servers s b }) v x
+        → Stands g beside phase current jobs named over dropping c v x → Stands g beside phase current jobs named over dropping (record c { servers = set c.servers s b }) v x
     stands_set jobs dropping c v x s a b at up waiting posted st = record {
       servers = record {
         count = set_length c.servers s b ∙ st.servers.count;
@@ -150,7 +150,7 @@ module _ (g : Choosing) where
       };
       quiet = λ q e is. (let w = was q e is in let m = st.quiet q w.0 w.1 in (w.4 ∙ m.0, (m.1.0, subst (λ (ws : List (ℕ × ℕ)). Sorted 0 m.1.0 ws) (sym w.3) m.1.1)));
       is_named = λ q e is other i. (let w = was q e is in st.is_named q w.0 w.1 other i ∙ ap (λ u. g.names u i) (sym w.2));
-      still = λ e is i. (let w = was cur e is in ap (λ u. g.names u i) w.2 ∙ st.still w.0 w.1 i);
+      still = λ e is i. (let w = was current e is in ap (λ u. g.names u i) w.2 ∙ st.still w.0 w.1 i);
       less = st.less;
       kept = subst (λ (o : ℕ → ℕ → Option ℕ). AreKept g over dropping (record (desk_of g jobs named c v x) { waiting = o })) (fun_ext (λ q. fun_ext (λ i. same_owner q i))) st.kept;
       foreign = λ i t q e is found o. (let w = was q e found in st.foreign i t q w.0 is w.1 (subst (λ u. g.Owns u i) w.2 o));
@@ -173,11 +173,11 @@ module _ (g : Choosing) where
 
     -- servers are judged
     pub stands_judged : (jobs : ℕ → Option (Work g)) (dropping : List (Begun g)) (c : Choice Request g.U g.R) (v : View) (x : State g) (giver now : ℕ) (es : List (Begun g))
-        → Stands g dl phase cur jobs named over dropping c v x → Stands g dl phase cur jobs named over dropping (record c { servers = judges_each giver now es c.servers }) v x
+        → Stands g beside phase current jobs named over dropping c v x → Stands g beside phase current jobs named over dropping (record c { servers = judges_each giver now es c.servers }) v x
     stands_judged jobs dropping c v x giver now [] st = st
     stands_judged jobs dropping c v x giver now (e ∷ es) st =
         stands_judged jobs dropping (record c { servers = judges e.server (e.server == giver) (now - e.since) c.servers }) v x giver now es (by (slice_get c.servers e.server) refl)
       where
-        by : (o : Option (Server g.U)) → slice_get c.servers e.server ≡ o → Stands g dl phase cur jobs named over dropping (record c { servers = judges_found e.server (e.server == giver) (now - e.since) c.servers o }) v x
+        by : (o : Option (Server g.U)) → slice_get c.servers e.server ≡ o → Stands g beside phase current jobs named over dropping (record c { servers = judges_found e.server (e.server == giver) (now - e.since) c.servers o }) v x
         by None is = st
         by (Some a) is = stands_set jobs dropping c v x e.server a (judged (e.server == giver) (now - e.since) a) is refl refl refl st

@@ -69,7 +69,7 @@ module _ (g : Choosing) where
   }
 
   -- What stands after a call of server s, where the requests are kept.
-  module _ (dl : Beside) (phase after : ℕ → Phase) (cur : ℕ) (jobs : ℕ → Option (Work g)) (named : ℕ → ℕ → Option ℕ) (over : ℕ) (dropping : List (Begun g)) (c : Choice Request g.U g.R) (v : View) (x : State g) (st : Stands g dl phase cur jobs named over dropping c v x)
+  module _ (beside : Beside) (phase after : ℕ → Phase) (current : ℕ) (jobs : ℕ → Option (Work g)) (named : ℕ → ℕ → Option ℕ) (over : ℕ) (dropping : List (Begun g)) (c : Choice Request g.U g.R) (v : View) (x : State g) (st : Stands g beside phase current jobs named over dropping c v x)
       (s : ℕ) (a b : Server g.U) (at : slice_get c.servers s ≡ Some a) (nm : ℕ → Option ℕ) (board : List Posted) (from y : State g) (w : View) (call : AfterCall g after s a b nm board c.servers v from y w) where
     -- a timer of others is not of a server then
     pub far_on : (i due : ℕ) → due_of i v.timers.set ≡ Some due → ((q : ℕ) (e : Server g.U) → slice_get c.servers q ≡ Some e → g.Owns e.upstream i → ⊥) → (q : ℕ) (e : Server g.U) → slice_get (set c.servers s b) q ≡ Some e → g.Owns e.upstream i → ⊥
@@ -85,18 +85,18 @@ module _ (g : Choosing) where
     timer_due i t is = (let m = st.kept.timers i t is in ((st.kept.kept t m.0 m.1).timer i m.2).1)
 
     pub stands_on : (jobs' : ℕ → Option (Work g)) (named' : ℕ → ℕ → Option ℕ) (over' : ℕ) (dropping' : List (Begun g)) → (b.posted ≡ []) × ((hi : ℕ) × Sorted 0 hi b.waiting)
-        → ((cur ≡ s → ⊥) → (i : ℕ) → named' s i ≡ g.names b.upstream i) → (cur ≡ s → ⊥) → ((q i : ℕ) → (s ≡ q → ⊥) → named' q i ≡ named q i)
-        → AreKept g over' dropping' (desk_of g jobs' named' (record c { servers = set c.servers s b }) w call.end) → Stands g dl after cur jobs' named' over' dropping' (record c { servers = set c.servers s b }) w call.end
+        → ((current ≡ s → ⊥) → (i : ℕ) → named' s i ≡ g.names b.upstream i) → (current ≡ s → ⊥) → ((q i : ℕ) → (s ≡ q → ⊥) → named' q i ≡ named q i)
+        → AreKept g over' dropping' (desk_of g jobs' named' (record c { servers = set c.servers s b }) w call.end) → Stands g beside after current jobs' named' over' dropping' (record c { servers = set c.servers s b }) w call.end
     stands_on jobs' named' over' dropping' quiet here aside there kept = record {
       servers = call.tied;
       quiet = λ q e is. each_number (λ q. slice_get (set c.servers s b) q ≡ Some e → (e.posted ≡ []) × ((hi : ℕ) × Sorted 0 hi e.waiting)) s
           (λ is. subst (λ (e : Server g.U). (e.posted ≡ []) × ((hi : ℕ) × Sorted 0 hi e.waiting)) (both_are (slice_get (set c.servers s b) s) b e (set_here c.servers s a b at) is) quiet)
           (λ q ne is. st.quiet q e (sym (set_there c.servers s q b ne) ∙ is)) q is;
-      is_named = λ q e is other i. each_number (λ q. slice_get (set c.servers s b) q ≡ Some e → (cur ≡ q → ⊥) → named' q i ≡ g.names e.upstream i) s
+      is_named = λ q e is other i. each_number (λ q. slice_get (set c.servers s b) q ≡ Some e → (current ≡ q → ⊥) → named' q i ≡ g.names e.upstream i) s
           (λ is other. subst (λ (e : Server g.U). named' s i ≡ g.names e.upstream i) (both_are (slice_get (set c.servers s b) s) b e (set_here c.servers s a b at) is) (here other i))
           (λ q ne is other. there q i ne ∙ st.is_named q e (sym (set_there c.servers s q b ne) ∙ is) other i) q is other;
-      still = λ e is. st.still e (sym (set_there c.servers s cur b (λ same. aside (sym same))) ∙ is);
-      less = λ i k is. there cur i (λ same. aside (sym same)) ∙ st.less i k is;
+      still = λ e is. st.still e (sym (set_there c.servers s current b (λ same. aside (sym same))) ∙ is);
+      less = λ i k is. there current i (λ same. aside (sym same)) ∙ st.less i k is;
       kept = kept;
       foreign = λ i t q e is found o. (let d = timer_due i t is in far_on i d.0 d.1 (λ q e at own. st.foreign i t q e is at own) q e found o);
       timers = st.timers;
@@ -122,23 +122,23 @@ module _ (g : Choosing) where
   pub owner_here : (xs : Listed g) (s i : ℕ) (a : Server g.U) → slice_get xs s ≡ Some a → owner s i xs ≡ entry_at i a.waiting
   owner_here xs s i a at = ap (λ o. owner_at i o) at
 
-  module _ (dl : Beside) (phase : ℕ → Phase) (cur : ℕ) (jobs : ℕ → Option (Work g)) (over t0 : ℕ) (gone : jobs t0 ≡ None) where
+  module _ (beside : Beside) (phase : ℕ → Phase) (current : ℕ) (jobs : ℕ → Option (Work g)) (over t0 : ℕ) (gone : jobs t0 ≡ None) where
     -- So many servers have given it up; `es` are left.
     pub record AreOff (es : List (Begun g)) (named : ℕ → ℕ → Option ℕ) (c : Choice Request g.U g.R) (v : View) (x : State g) (servers : Listed g) (w : View) : Type 0 where
       pub named' : ℕ → ℕ → Option ℕ
       pub end : State g
       pub went : Went g v x w end
-      pub stands : Stands g dl phase cur jobs named' over es (record c { servers = servers }) w end
+      pub stands : Stands g beside phase current jobs named' over es (record c { servers = servers }) w end
       pub held : end.held ≡ x.held
       pub leaving : end.leaving ≡ x.leaving
       pub board : end.board ≡ x.board
       pub put : w.board ≡ v.board
-      pub current : (i : ℕ) → named' cur i ≡ named cur i
+      pub same_there : (i : ℕ) → named' current i ≡ named current i
       pub waits : (b : Begun g) (r : g.R) → IsIn b es → Waits g (desk_of g jobs named c v x) t0 over b r → Waits g (desk_of g jobs named' (record c { servers = servers }) w end) t0 over b r
 
     -- one more gives it up
-    one_off : (e : Begun g) (es : List (Begun g)) (named : ℕ → ℕ → Option ℕ) (c : Choice Request g.U g.R) (v : View) (x : State g) (r : g.R) → x.held over ≡ None → (cur ≡ e.server → ⊥) → ((f : Begun g) → IsIn f es → e.server ≡ f.server → ⊥)
-        → Waits g (desk_of g jobs named c v x) t0 over e r → Stands g dl phase cur jobs named over (e ∷ es) c v x → IfLeft (AreOff es named c v x) (drops_at g.below e.server e.lower r c.servers v)
+    one_off : (e : Begun g) (es : List (Begun g)) (named : ℕ → ℕ → Option ℕ) (c : Choice Request g.U g.R) (v : View) (x : State g) (r : g.R) → x.held over ≡ None → (current ≡ e.server → ⊥) → ((f : Begun g) → IsIn f es → e.server ≡ f.server → ⊥)
+        → Waits g (desk_of g jobs named c v x) t0 over e r → Stands g beside phase current jobs named over (e ∷ es) c v x → IfLeft (AreOff es named c v x) (drops_at g.below e.server e.lower r c.servers v)
     one_off e es named c v x r none other apart w st = go (found_at c.servers e.server (subst (λ n. e.server < n) (sym st.servers.count) w.within))
       where
         go : (a : Server g.U) × (slice_get c.servers e.server ≡ Some a) → IfLeft (AreOff es named c v x) (drops_at g.below e.server e.lower r c.servers v)
@@ -154,14 +154,14 @@ module _ (g : Choosing) where
               named' = named';
               end = d.call.end;
               went = record { outs = d.call.made.outs; leads = d.call.leads; put = d.call.put; goes_on = follows_of v y d.call.goes_on; now = d.call.moved.now; asked = d.call.moved.asked; pending = d.call.moved.pending };
-              stands = stands_on dl phase phase cur jobs named over (e ∷ es) c v x st e.server a d.server found.1 (with_at e.lower None (g.names a.upstream)) [] x x y d.call jobs named' over es
+              stands = stands_on beside phase phase current jobs named over (e ∷ es) c v x st e.server a d.server found.1 (with_at e.lower None (g.names a.upstream)) [] x x y d.call jobs named' over es
                   (d.posted, ((st.quiet e.server a found.1).1.0, subst (λ (ws : List (ℕ × ℕ)). Sorted 0 (st.quiet e.server a found.1).1.0 ws) (sym d.waiting) (sorted_frees e.lower 0 (st.quiet e.server a found.1).1.0 a.waiting (st.quiet e.server a found.1).1.1)))
                   (λ ne i. here i ∙ names_now i) other there kept;
               held = d.call.moved.held;
               leaving = d.call.moved.leaving;
               board = d.call.moved.board ∙ no_more d.call.made.posts d.call.gives;
               put = d.board;
-              current = λ i. there cur i (λ same. other (sym same));
+              same_there = λ i. there current i (λ same. other (sym same));
               waits = λ b q is m. waits_on g e.server e.lower (desk_of g jobs named c v x) desk' t0 over b q differ (λ same i. apart b is same) m;
             })
               where
@@ -204,7 +204,7 @@ module _ (g : Choosing) where
                       (λ q differs ne. owner_there c.servers e.server q i d.server differs) q ne;
                   named = λ q i ne. each_number (λ q. (e.server ≡ q → e.lower ≡ i → ⊥) → named' q i ≡ named q i) e.server
                       (λ ne. here i ∙ with_there e.lower None (named e.server) i (λ same. ne refl same)) (λ q differs ne. there q i differs) q ne;
-                  dues = λ i u due is m. dues_on dl phase phase cur jobs named over (e ∷ es) c v x st e.server a d.server found.1 (with_at e.lower None (g.names a.upstream)) [] x x y d.call i u due is m;
+                  dues = λ i u due is m. dues_on beside phase phase current jobs named over (e ∷ es) c v x st e.server a d.server found.1 (with_at e.lower None (g.names a.upstream)) [] x x y d.call i u due is m;
                 }
 
                 kept : AreKept g over es desk'
@@ -225,13 +225,13 @@ module _ (g : Choosing) where
       leaving = b.leaving ∙ a.leaving;
       board = b.board ∙ a.board;
       put = b.put ∙ a.put;
-      current = λ i. b.current i ∙ a.current i;
+      same_there = λ i. b.same_there i ∙ a.same_there i;
       waits = λ e r is m. b.waits e r is (a.waits e r (some e is) m);
     }
 
     -- all give it up
-    pub all_off : (es : List (Begun g)) (named : ℕ → ℕ → Option ℕ) (c : Choice Request g.U g.R) (v : View) (x : State g) → x.held over ≡ None → AreApart es → ((b : Begun g) → IsIn b es → (r : g.R) → b.response ≡ Some r → (cur ≡ b.server → ⊥) × Waits g (desk_of g jobs named c v x) t0 over b r)
-        → Stands g dl phase cur jobs named over es c v x → IfLeft (AreOff [] named c v x) (drops_each g.below es c.servers v)
+    pub all_off : (es : List (Begun g)) (named : ℕ → ℕ → Option ℕ) (c : Choice Request g.U g.R) (v : View) (x : State g) → x.held over ≡ None → AreApart es → ((b : Begun g) → IsIn b es → (r : g.R) → b.response ≡ Some r → (current ≡ b.server → ⊥) × Waits g (desk_of g jobs named c v x) t0 over b r)
+        → Stands g beside phase current jobs named over es c v x → IfLeft (AreOff [] named c v x) (drops_each g.below es c.servers v)
     all_off [] named c v x none apart waits st = record {
       named' = named;
       end = x;
@@ -241,14 +241,14 @@ module _ (g : Choosing) where
       leaving = refl;
       board = refl;
       put = refl;
-      current = λ i. refl;
+      same_there = λ i. refl;
       waits = λ b r is m. m;
     }
     all_off (e ∷ es) named c v x none apart waits st = by e.response refl (all_off es)
       where
         by : (o : Option g.R) → e.response ≡ o
-            → ((named : ℕ → ℕ → Option ℕ) (c : Choice Request g.U g.R) (v : View) (x : State g) → x.held over ≡ None → AreApart es → ((b : Begun g) → IsIn b es → (r : g.R) → b.response ≡ Some r → (cur ≡ b.server → ⊥) × Waits g (desk_of g jobs named c v x) t0 over b r)
-            → Stands g dl phase cur jobs named over es c v x → IfLeft (AreOff [] named c v x) (drops_each g.below es c.servers v))
+            → ((named : ℕ → ℕ → Option ℕ) (c : Choice Request g.U g.R) (v : View) (x : State g) → x.held over ≡ None → AreApart es → ((b : Begun g) → IsIn b es → (r : g.R) → b.response ≡ Some r → (current ≡ b.server → ⊥) × Waits g (desk_of g jobs named c v x) t0 over b r)
+            → Stands g beside phase current jobs named over es c v x → IfLeft (AreOff [] named c v x) (drops_each g.below es c.servers v))
             → IfLeft (AreOff [] named c v x) (option_and_then (λ z. drops_each g.below es z.0 z.1) (drops_response g.below e c.servers v o))
         by None is ih = ih named c v x none apart.1 (λ b m r p. waits b (inr m) r p) (record { servers = st.servers; quiet = st.quiet; is_named = st.is_named; still = st.still; less = st.less; kept = none_dropped g over e es (desk_of g jobs named c v x) is st.kept; foreign = st.foreign; timers = st.timers; due = st.due; own = st.own; far = st.far })
         by (Some r) is ih =

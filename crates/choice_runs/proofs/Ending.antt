@@ -24,13 +24,13 @@ use Rattle.choice_runs.proofs.Disarming.{goes_stopped, again_path, disarms, stan
 use Rattle.choice_runs.proofs.Dropping.{AreOff, all_off, follows_of, follows_then}
 use Rattle.choice_runs.proofs.Outcomes.{IsLeft, left_so}
 
-module _ (g : Choosing) (dl : Beside) (phase : ℕ → Phase) (cur : ℕ) where
+module _ (g : Choosing) (beside : Beside) (phase : ℕ → Phase) (current : ℕ) where
   -- The request of ticket t, whose number is k, has this result: it leaves in the machine, and its result stands on the board.
   pub record HasEnded (t k : ℕ) (tab : ℕ → Option (Work g)) (part : Part) (rest : List Posted) (named : ℕ → ℕ → Option ℕ) (c : Choice Request g.U g.R) (v : View) (x : State g) (d : Choice Request g.U g.R) (w : View) : Type 0 where
     pub named' : ℕ → ℕ → Option ℕ
     pub end : State g
     pub went : Went g v x w end
-    pub stands : Stands g dl phase cur tab named' k [] d w end
+    pub stands : Stands g beside phase current tab named' k [] d w end
     pub jobs : d.jobs ≡ c.jobs
     pub leaving : Leaving
     pub leaves : end.leaving ≡ x.leaving ++ leaving ∷ []
@@ -38,7 +38,7 @@ module _ (g : Choosing) (dl : Beside) (phase : ℕ → Phase) (cur : ℕ) where
     pub result : part ≡ part_of leaving.result
     pub board : end.board ≡ rest
     pub put : w.board ≡ v.board ++ record { ticket = t; part = part } ∷ []
-    pub current : (i : ℕ) → named' cur i ≡ named cur i
+    pub same_there : (i : ℕ) → named' current i ≡ named current i
 
   pub outs_of : (o : Option ℕ) (v : View) → (stopped o v).outs ≡ v.outs
   outs_of None v = refl
@@ -49,8 +49,8 @@ module _ (g : Choosing) (dl : Beside) (phase : ℕ → Phase) (cur : ℕ) where
   board_of (Some i) v = refl
 
   -- A request leaves by this move. Those that owe it a result give it up.
-  module _ (t : ℕ) (job : Work g) (tab : ℕ → Option (Work g)) (named : ℕ → ℕ → Option ℕ) (c : Choice Request g.U g.R) (v : View) (x : State g) (new : tab t ≡ None) (st : Stands g dl phase cur (with_at t (Some job) tab) named 0 [] c v x) (giver now : ℕ)
-      (rest : List Posted) (z : Leaving) (leaves : Move g.c g.st composed g.P x (unmade (leave z (record x { board = rest })))) (numbered : z.request ≡ job.number) (others : (b : Begun g) → IsIn b job.started → (r : g.R) → b.response ≡ Some r → cur ≡ b.server → ⊥) where
+  module _ (t : ℕ) (job : Work g) (tab : ℕ → Option (Work g)) (named : ℕ → ℕ → Option ℕ) (c : Choice Request g.U g.R) (v : View) (x : State g) (new : tab t ≡ None) (st : Stands g beside phase current (with_at t (Some job) tab) named 0 [] c v x) (giver now : ℕ)
+      (rest : List Posted) (z : Leaving) (leaves : Move g.c g.st composed g.P x (unmade (leave z (record x { board = rest })))) (numbered : z.request ≡ job.number) (others : (b : Begun g) → IsIn b job.started → (r : g.R) → b.response ≡ Some r → current ≡ b.server → ⊥) where
     abbrev mid : Choice Request g.U g.R
     mid = unarmed job.timer (judged giver job now c)
 
@@ -60,10 +60,10 @@ module _ (g : Choosing) (dl : Beside) (phase : ℕ → Phase) (cur : ℕ) where
     abbrev left : State g
     left = leave z (record x { board = rest })
 
-    calm : Stands g dl phase cur (with_at t (Some (disarmed job)) tab) named 0 [] mid (stopped job.timer v) x
-    calm = stands_judged g dl phase cur named 0 (with_at t (Some (disarmed job)) tab) [] (unarmed job.timer c) (stopped job.timer v) x giver now job.started (disarms g dl phase cur named 0 t job tab c v x st)
+    calm : Stands g beside phase current (with_at t (Some (disarmed job)) tab) named 0 [] mid (stopped job.timer v) x
+    calm = stands_judged g beside phase current named 0 (with_at t (Some (disarmed job)) tab) [] (unarmed job.timer c) (stopped job.timer v) x giver now job.started (disarms g beside phase current named 0 t job tab c v x st)
 
-    over : Stands g dl phase cur tab named job.number job.started mid told_of left
+    over : Stands g beside phase current tab named job.number job.started mid told_of left
     over = record {
       servers = record { count = calm.servers.count; tied = calm.servers.tied; apart = calm.servers.apart; fair = record { order = calm.servers.fair.order; words = calm.servers.fair.words }; place = calm.servers.place };
       quiet = calm.quiet;
@@ -91,11 +91,11 @@ module _ (g : Choosing) (dl : Beside) (phase : ℕ → Phase) (cur : ℕ) where
 
     pub it_ends : IfLeft (HasEnded t job.number tab (part_of z.result) rest named c v x) (gives_up g.below job.started mid told_of)
     it_ends = by (drops_each g.below job.started mid.servers told_of)
-        (all_off g dl phase cur tab job.number t new job.started named mid told_of left
+        (all_off g beside phase current tab job.number t new job.started named mid told_of left
         (ap (λ k. with_at k None x.held job.number) numbered ∙ with_here job.number None x.held) owed.apart
         (λ b i r p. (others b i r p, (let w = owed_then.waits b i r p in record { within = w.within; ticket = w.ticket; waiting = w.waiting; named = w.named }))) over)
       where
-        by : (o : Option (Listed g × View)) → IfLeft (AreOff g dl phase cur tab job.number t new [] named mid told_of left) o → IfLeft (HasEnded t job.number tab (part_of z.result) rest named c v x) (option_map (λ y. (record mid { servers = y.0 }, y.1)) o)
+        by : (o : Option (Listed g × View)) → IfLeft (AreOff g beside phase current tab job.number t new [] named mid told_of left) o → IfLeft (HasEnded t job.number tab (part_of z.result) rest named c v x) (option_map (λ y. (record mid { servers = y.0 }, y.1)) o)
         by None l = tt
         by (Some y) l = record {
           named' = l.named';
@@ -118,12 +118,12 @@ module _ (g : Choosing) (dl : Beside) (phase : ℕ → Phase) (cur : ℕ) where
           result = refl;
           board = l.board;
           put = l.put ∙ ap (λ bs. bs ++ record { ticket = t; part = part_of z.result } ∷ []) (board_of job.timer v);
-          current = l.current;
+          same_there = l.same_there;
         }
 
   -- It ends with a result that a server gave, which stands on the machine's board.
   pub ends_with : (t giver : ℕ) (job : Work g) (tab : ℕ → Option (Work g)) (named : ℕ → ℕ → Option ℕ) (c : Choice Request g.U g.R) (v : View) (x : State g) (before after : List Posted) (q : Posted)
-      → tab t ≡ None → Stands g dl phase cur (with_at t (Some job) tab) named 0 [] c v x → ((b : Begun g) → IsIn b job.started → (r : g.R) → b.response ≡ Some r → cur ≡ b.server → ⊥)
+      → tab t ≡ None → Stands g beside phase current (with_at t (Some job) tab) named 0 [] c v x → ((b : Begun g) → IsIn b job.started → (r : g.R) → b.response ≡ Some r → current ≡ b.server → ⊥)
       → x.board ≡ before ++ q ∷ after → q.request ≡ job.number → waits_for_others g.st q.result ≡ false
       → IfLeft (HasEnded t job.number tab (part_of q.result) (before ++ after) named c v x) (ends g.below t giver (part_of q.result) job c v)
   ends_with t giver job tab named c v x before after q new st others on numbered final =

@@ -66,7 +66,7 @@ module _ (g : Choosing) (deadlines : ℕ → Option ℕ) (phase : ℕ → Phase)
       aside = λ m. none_past count job.left mine.ask.tried mine.left m;
       clear = λ b m r p same. not_below count (subst (λ n. n < count) (sym same) (mine.waits b m r p).within);
       pending = λ y m. absurd (nothing y x.board quiet m);
-      is_tab = refl;
+      is_table = refl;
       new = at_frees t t 0 table.0 c.jobs table.1 ∙ with_here t None (λ j. entry_at j c.jobs);
       sorted = (table.0, sorted_frees t 0 table.0 c.jobs table.1);
       stands = record { servers = calm.servers; quiet = calm.quiet; is_named = calm.is_named; still = calm.still; less = calm.less; kept = record { kept = calm.kept.kept; named = calm.kept.named; held = calm.kept.held; timers = calm.kept.timers; apart = calm.kept.apart }; foreign = calm.foreign; timers = calm.timers; due = calm.due; own = calm.own; far = calm.far };

@@ -33,12 +33,12 @@ put_off_is part job = by (is_better job.deferred part)
     by true = refl
     by false = refl
 
-module _ (g : Choosing) (dl : Beside) (phase : ℕ → Phase) (cur : ℕ) (t : ℕ) (job : Work g) (tab : ℕ → Option (Work g)) (named : ℕ → ℕ → Option ℕ) (c : Choice Request g.U g.R) (v : View) (x : State g)
-    (before after : List Posted) (q : Posted) (on : x.board ≡ before ++ q ∷ after) (numbered : q.request ≡ job.number) (waits : waits_for_others g.st q.result ≡ true) (st : Stands g dl phase cur (with_at t (Some job) tab) named 0 [] c v x) where
+module _ (g : Choosing) (beside : Beside) (phase : ℕ → Phase) (current : ℕ) (t : ℕ) (job : Work g) (tab : ℕ → Option (Work g)) (named : ℕ → ℕ → Option ℕ) (c : Choice Request g.U g.R) (v : View) (x : State g)
+    (before after : List Posted) (q : Posted) (on : x.board ≡ before ++ q ∷ after) (numbered : q.request ≡ job.number) (waits : waits_for_others g.st q.result ≡ true) (st : Stands g beside phase current (with_at t (Some job) tab) named 0 [] c v x) where
   pub record IsKeptBack : Type 0 where
     pub end : State g
     pub leads : Leads g.st composed g.P x [] end
-    pub stands : Stands g dl phase cur (with_at t (Some (put_off (part_of q.result) job)) tab) named 0 [] c v end
+    pub stands : Stands g beside phase current (with_at t (Some (put_off (part_of q.result) job)) tab) named 0 [] c v end
     pub board : end.board ≡ before ++ after
     pub leaving : end.leaving ≡ x.leaving
     pub now : end.now ≡ x.now
@@ -117,7 +117,7 @@ module _ (g : Choosing) (dl : Beside) (phase : ℕ → Phase) (cur : ℕ) (t : �
   keeps_it_back = record {
     end = kept_back;
     leads = one_move g.st composed g.P x (unmade kept_back) (Keeps_back before after q mine.ask on (subst (λ k. x.held k ≡ Some mine.ask) (sym numbered) mine.is) waits);
-    stands = subst (λ (j : Work g). Stands g dl phase cur (with_at t (Some j) tab) named 0 [] c v kept_back) (sym (put_off_is (part_of q.result) job)) (record {
+    stands = subst (λ (j : Work g). Stands g beside phase current (with_at t (Some j) tab) named 0 [] c v kept_back) (sym (put_off_is (part_of q.result) job)) (record {
       servers = record { count = st.servers.count; tied = st.servers.tied; apart = st.servers.apart; fair = st.servers.fair; place = st.servers.place };
       quiet = st.quiet;
       is_named = st.is_named;

@@ -50,7 +50,7 @@ none_so : {A : Type 0} (o : Option A) → is_none o ≡ true → o ≡ None
 none_so None e = refl
 none_so (Some x) e = absurd (cc)
 
-module _ (g : Choosing) (dl : Beside) (phase : ℕ → Phase) (cur : ℕ) where
+module _ (g : Choosing) (beside : Beside) (phase : ℕ → Phase) (current : ℕ) where
   -- nothing is owed
   nothing_owed : (over : ℕ) (es : List (Begun g)) (d : Desk g) → ((e : Begun g) → IsIn e es → e.response ≡ None) → AreKept g over es d → AreKept g over [] d
   nothing_owed over [] d none k = k
@@ -60,7 +60,7 @@ module _ (g : Choosing) (dl : Beside) (phase : ℕ → Phase) (cur : ℕ) where
   all_none [] all e m = absurd m
   all_none (b ∷ es) all e m = (let both = both_hold (is_none b.response) (all_gave es) all in elim m [ inl same ↦ subst (λ (e : Begun g). e.response ≡ None) same (none_so b.response both.0) | inr n ↦ all_none es both.1 e n ])
 
-  pub over_any : (jobs : ℕ → Option (Work g)) (named : ℕ → ℕ → Option ℕ) (over other : ℕ) (c : Choice Request g.U g.R) (v : View) (x : State g) → Stands g dl phase cur jobs named over [] c v x → Stands g dl phase cur jobs named other [] c v x
+  pub over_any : (jobs : ℕ → Option (Work g)) (named : ℕ → ℕ → Option ℕ) (over other : ℕ) (c : Choice Request g.U g.R) (v : View) (x : State g) → Stands g beside phase current jobs named over [] c v x → Stands g beside phase current jobs named other [] c v x
   over_any jobs named over other c v x st = record {
     servers = st.servers;
     quiet = st.quiet;
@@ -79,11 +79,11 @@ module _ (g : Choosing) (dl : Beside) (phase : ℕ → Phase) (cur : ℕ) where
       nothing n s i o = o.is
 
   -- other requests in the table
-  pub stands_as : (jobs jobs' : ℕ → Option (Work g)) (named : ℕ → ℕ → Option ℕ) (c : Choice Request g.U g.R) (table : List (ℕ × Work g)) (v : View) (x : State g) → jobs' ≡ jobs → Stands g dl phase cur jobs named 0 [] c v x → Stands g dl phase cur jobs' named 0 [] (record c { jobs = table }) v x
-  stands_as jobs jobs' named c table v x same st = subst (λ f. Stands g dl phase cur f named 0 [] (record c { jobs = table }) v x) (sym same)
+  pub stands_as : (jobs jobs' : ℕ → Option (Work g)) (named : ℕ → ℕ → Option ℕ) (c : Choice Request g.U g.R) (table : List (ℕ × Work g)) (v : View) (x : State g) → jobs' ≡ jobs → Stands g beside phase current jobs named 0 [] c v x → Stands g beside phase current jobs' named 0 [] (record c { jobs = table }) v x
+  stands_as jobs jobs' named c table v x same st = subst (λ f. Stands g beside phase current f named 0 [] (record c { jobs = table }) v x) (sym same)
       (record { servers = st.servers; quiet = st.quiet; is_named = st.is_named; still = st.still; less = st.less; kept = record { kept = st.kept.kept; named = st.kept.named; held = st.kept.held; timers = st.kept.timers; apart = st.kept.apart }; foreign = st.foreign; timers = st.timers; due = st.due; own = st.own; far = st.far })
 
-  module _ (t : ℕ) (job : Work g) (tab : ℕ → Option (Work g)) (named : ℕ → ℕ → Option ℕ) (c : Choice Request g.U g.R) (v : View) (x : State g) (is_tab : tab ≡ (λ j. entry_at j c.jobs)) (new : tab t ≡ None) (sorted : (hi : ℕ) × Sorted 0 hi c.jobs) (st : Stands g dl phase cur (with_at t (Some job) tab) named 0 [] c v x) where
+  module _ (t : ℕ) (job : Work g) (tab : ℕ → Option (Work g)) (named : ℕ → ℕ → Option ℕ) (c : Choice Request g.U g.R) (v : View) (x : State g) (is_table : tab ≡ (λ j. entry_at j c.jobs)) (new : tab t ≡ None) (sorted : (hi : ℕ) × Sorted 0 hi c.jobs) (st : Stands g beside phase current (with_at t (Some job) tab) named 0 [] c v x) where
     mine : IsKept g (desk_of g (with_at t (Some job) tab) named c v x) t job
     mine = st.kept.kept t job (with_here t (Some job) tab)
 
@@ -91,16 +91,16 @@ module _ (g : Choosing) (dl : Beside) (phase : ℕ → Phase) (cur : ℕ) where
     follows_itself = record { fair = st.servers.fair; now = refl; timer = le_refl v.timers.next; ticket = le_refl v.ticket; place = le_refl v.place; later = λ i due is. inl is }
 
     -- it waits on
-    pub it_waits : HasDone g dl phase cur t job.number tab x.board named v x (keeps t job c) v
+    pub it_waits : HasDone g beside phase current t job.number tab x.board named v x (keeps t job c) v
     it_waits = record {
       named' = named;
       end = x;
       went = record { outs = []; leads = Leads.Arrives x; put = sym (append-nil v.outs); goes_on = follows_itself; now = refl; asked = refl; pending = refl };
-      stands = stands_as (with_at t (Some job) tab) (λ j. entry_at j (puts t job c.jobs)) named c (puts t job c.jobs) v x (puts_path t job c.jobs ∙ ap (λ f. with_at t (Some job) f) (sym is_tab)) st;
+      stands = stands_as (with_at t (Some job) tab) (λ j. entry_at j (puts t job c.jobs)) named c (puts t job c.jobs) v x (puts_path t job c.jobs ∙ ap (λ f. with_at t (Some job) f) (sym is_table)) st;
       sorted = sorted_more t job c.jobs sorted;
-      others = λ j ne. at_puts t job j c.jobs ∙ (with_there t (Some job) (λ j. entry_at j c.jobs) j ne ∙ ap (λ (f : ℕ → Option (Work g)). f j) (sym is_tab));
+      others = λ j ne. at_puts t job j c.jobs ∙ (with_there t (Some job) (λ j. entry_at j c.jobs) j ne ∙ ap (λ (f : ℕ → Option (Work g)). f j) (sym is_table));
       board = refl;
-      current = λ i. refl;
+      same_there = λ i. refl;
       come = WaitsOn job (at_puts t job t c.jobs ∙ with_here t (Some job) (λ j. entry_at j c.jobs)) refl refl refl;
     }
 
@@ -138,18 +138,18 @@ module _ (g : Choosing) (dl : Beside) (phase : ℕ → Phase) (cur : ℕ) where
               by false is = refl
               by true is =
                   let h = (g.tie s lt).held (phase s) (found.0).upstream (sight v) (x.ups s) job.number (st.servers.tied s found.0 found.1) is in
-                  absurd (owed h.0 (each_number (λ q. (a : _) → slice_get c.servers q ≡ Some a → g.names a.upstream h.0 ≡ Some job.number → named q h.0 ≡ Some job.number) cur
+                  absurd (owed h.0 (each_number (λ q. (a : _) → slice_get c.servers q ≡ Some a → g.names a.upstream h.0 ≡ Some job.number → named q h.0 ≡ Some job.number) current
                   (λ a at n. st.less h.0 job.number (sym (st.still a at h.0) ∙ n)) (λ q ne a at n. st.is_named q a at ne h.0 ∙ n) s found.0 found.1 h.1))
 
-      pub it_goes : HasDone g dl phase cur t job.number tab x.board named v x c (gives job.deferred t v)
+      pub it_goes : HasDone g beside phase current t job.number tab x.board named v x c (gives job.deferred t v)
       it_goes = go (first_of_all (best mine.ask.kept_back) mine.deferred)
         where
-          go : (y : Result Octets Error) × (best mine.ask.kept_back ≡ Some y) × (part ≡ part_of y) → HasDone g dl phase cur t job.number tab x.board named v x c (gives job.deferred t v)
+          go : (y : Result Octets Error) × (best mine.ask.kept_back ≡ Some y) × (part ≡ part_of y) → HasDone g beside phase current t job.number tab x.board named v x c (gives job.deferred t v)
           go f =
               let z : IsLeft g.st job.number mine.ask.request f.0 = left_so g.st job.number mine.ask.request f.0 in
-              subst (λ d. HasDone g dl phase cur t job.number tab x.board named v x c (gives d t v)) (sym (has ∙ ap (λ (p : Part). Some p) (f.2 ∙ ap part_of (sym z.result)))) (gone z)
+              subst (λ d. HasDone g beside phase current t job.number tab x.board named v x c (gives d t v)) (sym (has ∙ ap (λ (p : Part). Some p) (f.2 ∙ ap part_of (sym z.result)))) (gone z)
             where
-              gone : (z : IsLeft g.st job.number mine.ask.request f.0) → HasDone g dl phase cur t job.number tab x.board named v x c (answers t (part_of z.leaving.result) v)
+              gone : (z : IsLeft g.st job.number mine.ask.request f.0) → HasDone g beside phase current t job.number tab x.board named v x c (answers t (part_of z.leaving.result) v)
               gone z = record {
                 named' = named;
                 end = left;
@@ -170,7 +170,7 @@ module _ (g : Choosing) (dl : Beside) (phase : ℕ → Phase) (cur : ℕ) where
                   less = st.less;
                   kept = nothing_owed job.number job.started (desk_of g (λ j. entry_at j c.jobs) named c (answers t (part_of z.leaving.result) v) left) gave_all
                       (ended g t job (desk_of g (with_at t (Some job) tab) named c v x) (desk_of g (λ j. entry_at j c.jobs) named c (answers t (part_of z.leaving.result) v) left) (with_here t (Some job) tab) (mine.armed none_left)
-                      (sym is_tab ∙ sym (again_path t None (Some job) tab ∙ fun_ext (λ j. with_same t None tab j new))) refl refl refl (ap (λ k. with_at k None x.held) z.request) refl 0 st.kept);
+                      (sym is_table ∙ sym (again_path t None (Some job) tab ∙ fun_ext (λ j. with_same t None tab j new))) refl refl refl (ap (λ k. with_at k None x.held) z.request) refl 0 st.kept);
                   foreign = st.foreign;
                   timers = st.timers;
                   due = st.due;
@@ -178,19 +178,19 @@ module _ (g : Choosing) (dl : Beside) (phase : ℕ → Phase) (cur : ℕ) where
                   far = st.far;
                 });
                 sorted = sorted;
-                others = λ j ne. ap (λ (h : ℕ → Option (Work g)). h j) (sym is_tab);
+                others = λ j ne. ap (λ (h : ℕ → Option (Work g)). h j) (sym is_table);
                 board = refl;
-                current = λ i. refl;
-                come = Goes z.leaving (ap (λ (h : ℕ → Option (Work g)). h t) (sym is_tab) ∙ new) refl z.request refl;
+                same_there = λ i. refl;
+                come = Goes z.leaving (ap (λ (h : ℕ → Option (Work g)). h t) (sym is_table) ∙ new) refl z.request refl;
               }
                 where
                   left : State g
                   left = leave z.leaving x
 
     -- it waits on, unless no result is to come
-    pub rests_do : (part : Part) → job.deferred ≡ Some part → NoneOf g.c g.st composed g.P job.number x.board → IfLeft (HasDone g dl phase cur t job.number tab x.board named v x) (rests t job c v)
+    pub rests_do : (part : Part) → job.deferred ≡ Some part → NoneOf g.c g.st composed g.P job.number x.board → IfLeft (HasDone g beside phase current t job.number tab x.board named v x) (rests t job c v)
     rests_do part has clear = by (is_over job) refl
       where
-        by : (b : Bool) → is_over job ≡ b → IfLeft (HasDone g dl phase cur t job.number tab x.board named v x) (if b then Some (c, gives job.deferred t v) else Some (keeps t job c, v))
+        by : (b : Bool) → is_over job ≡ b → IfLeft (HasDone g beside phase current t job.number tab x.board named v x) (if b then Some (c, gives job.deferred t v) else Some (keeps t job c, v))
         by true over = it_goes over part has clear
         by false over = it_waits

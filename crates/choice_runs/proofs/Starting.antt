@@ -39,15 +39,15 @@ sorted_more k v es s = (s.0 + suc k, sorted_puts k v 0 (s.0 + suc k) es (none_be
     less : (h k : ℕ) → h ≤ h + suc k
     less h k = omega arith
 
-module _ (g : Choosing) (dl : Beside) (phase : ℕ → Phase) (cur : ℕ) where
+module _ (g : Choosing) (beside : Beside) (phase : ℕ → Phase) (current : ℕ) where
   -- the view of another request's outs, or another board
-  pub stands_for : (jobs : ℕ → Option (Work g)) (named : ℕ → ℕ → Option ℕ) (over : ℕ) (dropping : List (Begun g)) (c : Choice Request g.U g.R) (v w : View) (x : State g) → w.now ≡ v.now → w.timers ≡ v.timers → w.ticket ≡ v.ticket → w.place ≡ v.place → w.words ≡ v.words → Stands g dl phase cur jobs named over dropping c v x → Stands g dl phase cur jobs named over dropping c w x
+  pub stands_for : (jobs : ℕ → Option (Work g)) (named : ℕ → ℕ → Option ℕ) (over : ℕ) (dropping : List (Begun g)) (c : Choice Request g.U g.R) (v w : View) (x : State g) → w.now ≡ v.now → w.timers ≡ v.timers → w.ticket ≡ v.ticket → w.place ≡ v.place → w.words ≡ v.words → Stands g beside phase current jobs named over dropping c v x → Stands g beside phase current jobs named over dropping c w x
   stands_for jobs named over dropping c v w x now timers ticket place words st =
-      subst (λ n. Stands g dl phase cur jobs named over dropping c (record w { now = n }) x) (sym now)
-      (subst (λ n. Stands g dl phase cur jobs named over dropping c (record w { now = v.now; timers = n }) x) (sym timers)
-      (subst (λ n. Stands g dl phase cur jobs named over dropping c (record w { now = v.now; timers = v.timers; ticket = n }) x) (sym ticket)
-      (subst (λ n. Stands g dl phase cur jobs named over dropping c (record w { now = v.now; timers = v.timers; ticket = v.ticket; place = n }) x) (sym place)
-      (subst (λ n. Stands g dl phase cur jobs named over dropping c (record w { now = v.now; timers = v.timers; ticket = v.ticket; place = v.place; words = n }) x) (sym words)
+      subst (λ n. Stands g beside phase current jobs named over dropping c (record w { now = n }) x) (sym now)
+      (subst (λ n. Stands g beside phase current jobs named over dropping c (record w { now = v.now; timers = n }) x) (sym timers)
+      (subst (λ n. Stands g beside phase current jobs named over dropping c (record w { now = v.now; timers = v.timers; ticket = n }) x) (sym ticket)
+      (subst (λ n. Stands g beside phase current jobs named over dropping c (record w { now = v.now; timers = v.timers; ticket = v.ticket; place = n }) x) (sym place)
+      (subst (λ n. Stands g beside phase current jobs named over dropping c (record w { now = v.now; timers = v.timers; ticket = v.ticket; place = v.place; words = n }) x) (sym words)
       (record {
         servers = record { count = st.servers.count; tied = st.servers.tied; apart = st.servers.apart; fair = record { order = st.servers.fair.order; words = st.servers.fair.words }; place = st.servers.place };
         quiet = st.quiet;
@@ -71,12 +71,12 @@ module _ (g : Choosing) (dl : Beside) (phase : ℕ → Phase) (cur : ℕ) where
       pub started : job'.started ≡ job.started
       pub number : job'.number ≡ job.number
       pub request : job'.request ≡ job.request
-      pub stands : Stands g dl phase cur (with_at t (Some y.0) tab) named 0 [] (record c { timers = y.1 }) w x
+      pub stands : Stands g beside phase current (with_at t (Some y.0) tab) named 0 [] (record c { timers = y.1 }) w x
       pub follows : Follows g v w
       pub outs : w.outs ≡ v.outs
       pub board : w.board ≡ v.board
 
-    module _ (t due : ℕ) (job : Work g) (tab : ℕ → Option (Work g)) (c : Choice Request g.U g.R) (v : View) (x : State g) (calm : job.timer ≡ None) (some : job.left ≡ [] → ⊥) (late : v.now ≤ due) (st : Stands g dl phase cur (with_at t (Some job) tab) named 0 [] c v x) where
+    module _ (t due : ℕ) (job : Work g) (tab : ℕ → Option (Work g)) (c : Choice Request g.U g.R) (v : View) (x : State g) (calm : job.timer ≡ None) (some : job.left ≡ [] → ⊥) (late : v.now ≤ due) (st : Stands g beside phase current (with_at t (Some job) tab) named 0 [] c v x) where
       abbrev armed_job : Work g
       armed_job = record job { timer = Some v.timers.next }
 
@@ -164,7 +164,7 @@ module _ (g : Choosing) (dl : Beside) (phase : ℕ → Phase) (cur : ℕ) where
         ];
       }
 
-      pub armed_stands : Stands g dl phase cur (with_at t (Some armed_job) tab) named 0 [] with_one timed x
+      pub armed_stands : Stands g beside phase current (with_at t (Some armed_job) tab) named 0 [] with_one timed x
       armed_stands = record {
         servers = record {
           count = st.servers.count;
@@ -201,7 +201,7 @@ module _ (g : Choosing) (dl : Beside) (phase : ℕ → Phase) (cur : ℕ) where
       }
 
     -- The timer is set, if a server is left.
-    pub arms_do : (t due : ℕ) (job : Work g) (tab : ℕ → Option (Work g)) (c : Choice Request g.U g.R) (v : View) (x : State g) → job.timer ≡ None → v.now ≤ due → Stands g dl phase cur (with_at t (Some job) tab) named 0 [] c v x
+    pub arms_do : (t due : ℕ) (job : Work g) (tab : ℕ → Option (Work g)) (c : Choice Request g.U g.R) (v : View) (x : State g) → job.timer ≡ None → v.now ≤ due → Stands g beside phase current (with_at t (Some job) tab) named 0 [] c v x
         → IfLeft (IsArmed t job tab c v x) (arms t due job c.timers v)
     arms_do t due job tab c v x calm late st = by job.left refl
       where

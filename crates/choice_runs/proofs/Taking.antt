@@ -51,17 +51,17 @@ gives_then named mid left [] cs (p ∷ ps) qs a b = absurd a
 gives_then named mid left (x ∷ bs) cs [] qs a b = absurd a
 gives_then named mid left (x ∷ bs) cs (p ∷ ps) qs a b = (a.0, a.1, gives_then (with_at x.ticket None named) mid left bs cs ps qs a.2 b)
 
-module _ (g : Choosing) (dl : Beside) (phase : ℕ → Phase) (cur : ℕ) where
+module _ (g : Choosing) (beside : Beside) (phase : ℕ → Phase) (current : ℕ) where
   -- what one result made of the requests that wait
   record IsAnswered (c : Choice Request g.U g.R) (v : View) (x : State g) (d : Choice Request g.U g.R) (w : View) (y : State g) : Type 0 where
     pub given : List OnBoard
     pub leaving : List Leaving
     pub put : w.board ≡ v.board ++ given
     pub leaves : y.leaving ≡ x.leaving ++ leaving
-    pub answers : Gives (numbers_of g dl phase cur c.jobs) given (map (post_of g dl phase cur) leaving) (numbers_of g dl phase cur d.jobs)
+    pub answers : Gives (numbers_of g beside phase current c.jobs) given (map (post_of g beside phase current) leaving) (numbers_of g beside phase current d.jobs)
 
   answered : (t : ℕ) (job : Work g) (c : Choice Request g.U g.R) (v : View) (x : State g) (d : Choice Request g.U g.R) (w : View) (y : State g) → (hi : ℕ) × Sorted 0 hi c.jobs → entry_at t c.jobs ≡ Some job
-      → ((j : ℕ) → (t ≡ j → ⊥) → entry_at j d.jobs ≡ entry_at j (frees t c.jobs)) → HasCome g dl phase cur t job.number v x d w y → IsAnswered c v x d w y
+      → ((j : ℕ) → (t ≡ j → ⊥) → entry_at j d.jobs ≡ entry_at j (frees t c.jobs)) → HasCome g beside phase current t job.number v x d w y → IsAnswered c v x d w y
   answered t job c v x d w y table was others come = by come
     where
       number : Option (Work g) → Option ℕ
@@ -70,13 +70,13 @@ module _ (g : Choosing) (dl : Beside) (phase : ℕ → Phase) (cur : ℕ) where
       kept : (j : ℕ) → (t ≡ j → ⊥) → entry_at j d.jobs ≡ entry_at j c.jobs
       kept j ne = others j ne ∙ (at_frees t j 0 table.0 c.jobs table.1 ∙ with_there t None (λ j. entry_at j c.jobs) j ne)
 
-      by : HasCome g dl phase cur t job.number v x d w y → IsAnswered c v x d w y
+      by : HasCome g beside phase current t job.number v x d w y → IsAnswered c v x d w y
       by (WaitsOn other is same put left) = record {
         given = [];
         leaving = [];
         put = put ∙ sym (append-nil v.board);
         leaves = left ∙ sym (append-nil x.leaving);
-        answers = λ j. each_number (λ j. numbers_of g dl phase cur d.jobs j ≡ numbers_of g dl phase cur c.jobs j) t
+        answers = λ j. each_number (λ j. numbers_of g beside phase current d.jobs j ≡ numbers_of g beside phase current c.jobs j) t
             (ap (λ (o : Option (Work g)). option_map (λ job. job.number) o) is ∙ (ap (λ n. Some n) same ∙ sym (ap (λ (o : Option (Work g)). option_map (λ job. job.number) o) was)))
             (λ j ne. ap (λ (o : Option (Work g)). option_map (λ job. job.number) o) (kept j ne)) j;
       }
@@ -88,34 +88,34 @@ module _ (g : Choosing) (dl : Beside) (phase : ℕ → Phase) (cur : ℕ) where
         answers = (
           ap (λ (o : Option (Work g)). option_map (λ job. job.number) o) was ∙ ap (λ n. Some n) (sym request),
           refl,
-          λ j. each_number (λ j. numbers_of g dl phase cur d.jobs j ≡ with_at t None (numbers_of g dl phase cur c.jobs) j) t
-              (ap (λ (o : Option (Work g)). option_map (λ job. job.number) o) gone ∙ sym (with_here t None (numbers_of g dl phase cur c.jobs)))
-              (λ j ne. ap (λ (o : Option (Work g)). option_map (λ job. job.number) o) (kept j ne) ∙ sym (with_there t None (numbers_of g dl phase cur c.jobs) j ne)) j,
+          λ j. each_number (λ j. numbers_of g beside phase current d.jobs j ≡ with_at t None (numbers_of g beside phase current c.jobs) j) t
+              (ap (λ (o : Option (Work g)). option_map (λ job. job.number) o) gone ∙ sym (with_here t None (numbers_of g beside phase current c.jobs)))
+              (λ j ne. ap (λ (o : Option (Work g)). option_map (λ job. job.number) o) (kept j ne) ∙ sym (with_there t None (numbers_of g beside phase current c.jobs) j ne)) j,
         );
       }
 
   -- one result is taken
-  one_settles : (p : OnBoard) (ps : List OnBoard) (q : Post) (qs : List Post) (named : ℕ → ℕ → Option ℕ) (c : Choice Request g.U g.R) (v : View) (x : State g) (a : Server g.U) → Stands g dl phase cur (λ j. entry_at j c.jobs) named 0 [] c v x → (hi : ℕ) × Sorted 0 hi c.jobs
-      → slice_get c.servers cur ≡ Some a → Gives (named cur) (p ∷ ps) (q ∷ qs) (g.names a.upstream) → x.board ≡ map (tag cur) (q ∷ qs) → IfLeft (IsSettled g dl phase cur p.ticket (map (tag cur) qs) named c v x) (settles g.below g.settings cur p c v)
-  one_settles p ps q qs named c v x a st table at gives board = go (st.kept.named cur p.ticket q.request (in_conf g phase c.servers v x cur a st.servers at) gives.0)
+  one_settles : (p : OnBoard) (ps : List OnBoard) (q : Post) (qs : List Post) (named : ℕ → ℕ → Option ℕ) (c : Choice Request g.U g.R) (v : View) (x : State g) (a : Server g.U) → Stands g beside phase current (λ j. entry_at j c.jobs) named 0 [] c v x → (hi : ℕ) × Sorted 0 hi c.jobs
+      → slice_get c.servers current ≡ Some a → Gives (named current) (p ∷ ps) (q ∷ qs) (g.names a.upstream) → x.board ≡ map (tag current) (q ∷ qs) → IfLeft (IsSettled g beside phase current p.ticket (map (tag current) qs) named c v x) (settles g.below g.settings current p c v)
+  one_settles p ps q qs named c v x a st table at gives board = go (st.kept.named current p.ticket q.request (in_conf g phase c.servers v x current a st.servers at) gives.0)
     where
-      go : IsNamed g (desk_of g (λ j. entry_at j c.jobs) named c v x) cur p.ticket q.request ⊎ ((0 ≡ q.request) × IsOwed g q.request [] cur p.ticket) → IfLeft (IsSettled g dl phase cur p.ticket (map (tag cur) qs) named c v x) (settles g.below g.settings cur p c v)
+      go : IsNamed g (desk_of g (λ j. entry_at j c.jobs) named c v x) current p.ticket q.request ⊎ ((0 ≡ q.request) × IsOwed g q.request [] current p.ticket) → IfLeft (IsSettled g beside phase current p.ticket (map (tag current) qs) named c v x) (settles g.below g.settings current p c v)
       go (inr o) = absurd (o.1).is
       go (inl m) =
           let e : Begun g = m.owed.entry in
           let w = (st.kept.kept m.ticket m.job m.is).waits e m.owed.is m.owed.response m.owed.to_come in
-          let waits : owner cur p.ticket c.servers ≡ Some m.ticket = subst₂ (λ s l. owner s l c.servers ≡ Some m.ticket) m.owed.server m.owed.lower w.waiting in
-          subst (λ o. IfLeft (IsSettled g dl phase cur p.ticket (map (tag cur) qs) named c v x) (settles_owner g.below g.settings cur p (without_owner cur p.ticket c) v o)) (sym waits)
-          (subst (λ o. IfLeft (IsSettled g dl phase cur p.ticket (map (tag cur) qs) named c v x) (settles_job g.below g.settings m.ticket cur p.part (without_owner cur p.ticket c) v o)) (sym m.is)
-          (subst (λ o. IfLeft (IsSettled g dl phase cur p.ticket (map (tag cur) qs) named c v x) (gets g.below g.settings m.ticket cur p.part (settled cur m.job) (record c { servers = disowned_at cur p.ticket c.servers o; jobs = frees m.ticket c.jobs }) v)) (sym at)
-          (subst (λ z. IfLeft (IsSettled g dl phase cur p.ticket (map (tag cur) qs) named c v x) (gets g.below g.settings m.ticket cur z (settled cur m.job) (record c { servers = set c.servers cur (record a { waiting = frees p.ticket a.waiting }); jobs = frees m.ticket c.jobs }) v)) (sym gives.1)
-          (gets_it g dl phase cur m.ticket p.ticket m.job e q.result qs named c v x a st table at m.is m.owed.is m.owed.server m.owed.lower waits
-          (gives_none (with_at p.ticket None (named cur)) ps qs (g.names a.upstream) p.ticket gives.2 (with_here p.ticket None (named cur)))
-          (board ∙ ap (λ k. map (tag cur) (record { request = k; result = q.result } ∷ qs)) (sym m.number))
-          (λ y i. gives_named cur (with_at p.ticket None (named cur)) ps qs (g.names a.upstream) y gives.2 i)))))
+          let waits : owner current p.ticket c.servers ≡ Some m.ticket = subst₂ (λ s l. owner s l c.servers ≡ Some m.ticket) m.owed.server m.owed.lower w.waiting in
+          subst (λ o. IfLeft (IsSettled g beside phase current p.ticket (map (tag current) qs) named c v x) (settles_owner g.below g.settings current p (without_owner current p.ticket c) v o)) (sym waits)
+          (subst (λ o. IfLeft (IsSettled g beside phase current p.ticket (map (tag current) qs) named c v x) (settles_job g.below g.settings m.ticket current p.part (without_owner current p.ticket c) v o)) (sym m.is)
+          (subst (λ o. IfLeft (IsSettled g beside phase current p.ticket (map (tag current) qs) named c v x) (gets g.below g.settings m.ticket current p.part (settled current m.job) (record c { servers = disowned_at current p.ticket c.servers o; jobs = frees m.ticket c.jobs }) v)) (sym at)
+          (subst (λ z. IfLeft (IsSettled g beside phase current p.ticket (map (tag current) qs) named c v x) (gets g.below g.settings m.ticket current z (settled current m.job) (record c { servers = set c.servers current (record a { waiting = frees p.ticket a.waiting }); jobs = frees m.ticket c.jobs }) v)) (sym gives.1)
+          (gets_it g beside phase current m.ticket p.ticket m.job e q.result qs named c v x a st table at m.is m.owed.is m.owed.server m.owed.lower waits
+          (gives_none (with_at p.ticket None (named current)) ps qs (g.names a.upstream) p.ticket gives.2 (with_here p.ticket None (named current)))
+          (board ∙ ap (λ k. map (tag current) (record { request = k; result = q.result } ∷ qs)) (sym m.number))
+          (λ y i. gives_named current (with_at p.ticket None (named current)) ps qs (g.names a.upstream) y gives.2 i)))))
 
-  pub all_settle : (ps : List OnBoard) (qs : List Post) (named : ℕ → ℕ → Option ℕ) (c : Choice Request g.U g.R) (v : View) (x : State g) → Stands g dl phase cur (λ j. entry_at j c.jobs) named 0 [] c v x → (hi : ℕ) × Sorted 0 hi c.jobs → cur < length (g.c).servers
-      → Gives (named cur) ps qs dl.left → x.board ≡ map (tag cur) qs → IfLeft (AreTaken g dl phase cur dl.left c v x) (settles_all g.below g.settings cur ps c v)
+  pub all_settle : (ps : List OnBoard) (qs : List Post) (named : ℕ → ℕ → Option ℕ) (c : Choice Request g.U g.R) (v : View) (x : State g) → Stands g beside phase current (λ j. entry_at j c.jobs) named 0 [] c v x → (hi : ℕ) × Sorted 0 hi c.jobs → current < length (g.c).servers
+      → Gives (named current) ps qs beside.left → x.board ≡ map (tag current) qs → IfLeft (AreTaken g beside phase current beside.left c v x) (settles_all g.below g.settings current ps c v)
   all_settle [] [] named c v x st table within gives board = record {
     named' = named;
     end = x;
@@ -133,14 +133,14 @@ module _ (g : Choosing) (dl : Beside) (phase : ℕ → Phase) (cur : ℕ) where
   all_settle [] (q ∷ qs) named c v x st table within gives board = absurd gives
   all_settle (p ∷ ps) [] named c v x st table within gives board = absurd gives
   all_settle (p ∷ ps) (q ∷ qs) named c v x st table within gives board =
-      let found = found_at c.servers cur (subst (λ n. cur < n) (sym st.servers.count) within) in
-      left_then g (IsSettled g dl phase cur p.ticket (map (tag cur) qs) named c v x) (AreTaken g dl phase cur dl.left c v x) (λ z. settles_all g.below g.settings cur ps z.0 z.1) (settles g.below g.settings cur p c v)
-      (λ d w s. left_on g (AreTaken g dl phase cur dl.left d w s.done.end) (AreTaken g dl phase cur dl.left c v x) (settles_all g.below g.settings cur ps d w)
+      let found = found_at c.servers current (subst (λ n. current < n) (sym st.servers.count) within) in
+      left_then g (IsSettled g beside phase current p.ticket (map (tag current) qs) named c v x) (AreTaken g beside phase current beside.left c v x) (λ z. settles_all g.below g.settings current ps z.0 z.1) (settles g.below g.settings current p c v)
+      (λ d w s. left_on g (AreTaken g beside phase current beside.left d w s.done.end) (AreTaken g beside phase current beside.left c v x) (settles_all g.below g.settings current ps d w)
       (λ e u r. after d w s e u r (answered s.ticket s.job c v x d w s.done.end table s.was s.done.others s.done.come))
-      (all_settle ps qs s.done.named' d w s.done.end s.done.stands s.done.sorted within (subst (λ f. Gives f ps qs dl.left) (fun_ext (λ i. sym (s.here i) ∙ sym (s.done.current i))) gives.2) s.done.board))
-      (one_settles p ps q qs named c v x found.0 st table found.1 (subst (λ f. Gives (named cur) (p ∷ ps) (q ∷ qs) f) (fun_ext (λ i. sym (st.still found.0 found.1 i))) gives) board)
+      (all_settle ps qs s.done.named' d w s.done.end s.done.stands s.done.sorted within (subst (λ f. Gives f ps qs beside.left) (fun_ext (λ i. sym (s.here i) ∙ sym (s.done.same_there i))) gives.2) s.done.board))
+      (one_settles p ps q qs named c v x found.0 st table found.1 (subst (λ f. Gives (named current) (p ∷ ps) (q ∷ qs) f) (fun_ext (λ i. sym (st.still found.0 found.1 i))) gives) board)
     where
-      after : (d : Choice Request g.U g.R) (w : View) (s : IsSettled g dl phase cur p.ticket (map (tag cur) qs) named c v x d w) (e : Choice Request g.U g.R) (u : View) (r : AreTaken g dl phase cur dl.left d w s.done.end e u) → IsAnswered c v x d w s.done.end → AreTaken g dl phase cur dl.left c v x e u
+      after : (d : Choice Request g.U g.R) (w : View) (s : IsSettled g beside phase current p.ticket (map (tag current) qs) named c v x d w) (e : Choice Request g.U g.R) (u : View) (r : AreTaken g beside phase current beside.left d w s.done.end e u) → IsAnswered c v x d w s.done.end → AreTaken g beside phase current beside.left c v x e u
       after d w s e u r a = record {
         named' = r.named';
         end = r.end;
@@ -153,9 +153,9 @@ module _ (g : Choosing) (dl : Beside) (phase : ℕ → Phase) (cur : ℕ) where
         leaving = a.leaving ++ r.leaving;
         put = r.put ∙ (ap (λ (bs : List OnBoard). bs ++ r.given) a.put ∙ append_assoc v.board a.given r.given);
         leaves = r.leaves ∙ (ap (λ (zs : List Leaving). zs ++ r.leaving) a.leaves ∙ append_assoc x.leaving a.leaving r.leaving);
-        answers = subst (λ ps. Gives (numbers_of g dl phase cur c.jobs) (a.given ++ r.given) ps (numbers_of g dl phase cur e.jobs)) (sym (map-append (post_of g dl phase cur) a.leaving r.leaving))
-            (gives_then (numbers_of g dl phase cur c.jobs) (numbers_of g dl phase cur d.jobs) (numbers_of g dl phase cur e.jobs) a.given r.given (map (post_of g dl phase cur) a.leaving) (map (post_of g dl phase cur) r.leaving) a.answers r.answers);
+        answers = subst (λ ps. Gives (numbers_of g beside phase current c.jobs) (a.given ++ r.given) ps (numbers_of g beside phase current e.jobs)) (sym (map-append (post_of g beside phase current) a.leaving r.leaving))
+            (gives_then (numbers_of g beside phase current c.jobs) (numbers_of g beside phase current d.jobs) (numbers_of g beside phase current e.jobs) a.given r.given (map (post_of g beside phase current) a.leaving) (map (post_of g beside phase current) r.leaving) a.answers r.answers);
       }
 
 pub results_are_moves : (g : Choosing) → ResultsAreMoves g
-results_are_moves g dl phase cur ps qs named c v x st table within gives board = all_settle g dl phase cur ps qs named c v x st table within gives board
+results_are_moves g beside phase current ps qs named c v x st table within gives board = all_settle g beside phase current ps qs named c v x st table within gives board

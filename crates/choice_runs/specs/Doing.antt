@@ -22,35 +22,35 @@ use Rattle.choice_runs.specs.Choosing.{Choosing}
 use Rattle.choice_runs.specs.Servers.{State, AreTied, IsHeard, IsTold}
 use Rattle.choice_runs.specs.Requests.{Beside, Work, Begun, IsToStart, Stands, Went}
 
-module _ (g : Choosing) (dl : Beside) (phase : ℕ → Phase) (cur : ℕ) where
+module _ (g : Choosing) (beside : Beside) (phase : ℕ → Phase) (current : ℕ) where
   -- What becomes of a request that was in hand: it waits in the table, or its result stands on the board and leaves in the machine.
   pub data HasCome (t k : ℕ) (v : View) (x : State g) (d : Choice Request g.U g.R) (w : View) (y : State g) : Type 0 where
     WaitsOn : (job : Work g) → entry_at t d.jobs ≡ Some job → job.number ≡ k → w.board ≡ v.board → y.leaving ≡ x.leaving → HasCome t k v x d w y
     Goes : (z : Leaving) → entry_at t d.jobs ≡ None → y.leaving ≡ x.leaving ++ z ∷ [] → z.request ≡ k → w.board ≡ v.board ++ record { ticket = t; part = part_of z.result } ∷ [] → HasCome t k v x d w y
 
-  pub record HasDone (t k : ℕ) (tab : ℕ → Option (Work g)) (rest : List Posted) (named : ℕ → ℕ → Option ℕ) (v : View) (x : State g) (d : Choice Request g.U g.R) (w : View) : Type 0 where
+  pub record HasDone (t k : ℕ) (table : ℕ → Option (Work g)) (rest : List Posted) (named : ℕ → ℕ → Option ℕ) (v : View) (x : State g) (d : Choice Request g.U g.R) (w : View) : Type 0 where
     pub named' : ℕ → ℕ → Option ℕ
     pub end : State g
     pub went : Went g v x w end
-    pub stands : Stands g dl phase cur (λ j. entry_at j d.jobs) named' 0 [] d w end
+    pub stands : Stands g beside phase current (λ j. entry_at j d.jobs) named' 0 [] d w end
     pub sorted : (hi : ℕ) × Sorted 0 hi d.jobs
-    pub others : (j : ℕ) → (t ≡ j → ⊥) → entry_at j d.jobs ≡ tab j
+    pub others : (j : ℕ) → (t ≡ j → ⊥) → entry_at j d.jobs ≡ table j
     pub board : end.board ≡ rest
-    pub current : (i : ℕ) → named' cur i ≡ named cur i
+    pub same_there : (i : ℕ) → named' current i ≡ named current i
     pub come : HasCome t k v x d w end
 
   -- What is known of a request in hand, whose timer is not set.
-  pub record InHand (t : ℕ) (es : List Entry) (job : Work g) (tab : ℕ → Option (Work g)) (named : ℕ → ℕ → Option ℕ) (c : Choice Request g.U g.R) (v : View) (x : State g) : Type 0 where
+  pub record InHand (t : ℕ) (es : List Entry) (job : Work g) (table : ℕ → Option (Work g)) (named : ℕ → ℕ → Option ℕ) (c : Choice Request g.U g.R) (v : View) (x : State g) : Type 0 where
     pub left : job.left ≡ es
     pub calm : job.timer ≡ None
     pub has : es ≡ [] → (part : Part) × (job.deferred ≡ Some part)
-    pub aside : IsToStart cur es → ⊥
-    pub clear : (b : Begun g) → IsIn b job.started → (r : g.R) → b.response ≡ Some r → cur ≡ b.server → ⊥
-    pub pending : (y : Posted) → IsIn y x.board → (cur < length (g.c).servers) × ((i : ℕ) × (named cur i ≡ Some y.request))
-    pub is_tab : tab ≡ (λ j. entry_at j c.jobs)
-    pub new : tab t ≡ None
+    pub aside : IsToStart current es → ⊥
+    pub clear : (b : Begun g) → IsIn b job.started → (r : g.R) → b.response ≡ Some r → current ≡ b.server → ⊥
+    pub pending : (y : Posted) → IsIn y x.board → (current < length (g.c).servers) × ((i : ℕ) × (named current i ≡ Some y.request))
+    pub is_table : table ≡ (λ j. entry_at j c.jobs)
+    pub new : table t ≡ None
     pub sorted : (hi : ℕ) × Sorted 0 hi c.jobs
-    pub stands : Stands g dl phase cur (with_at t (Some job) tab) named 0 [] c v x
+    pub stands : Stands g beside phase current (with_at t (Some job) table) named 0 [] c v x
 
   -- the number of the request of each ticket
   abbrev pub numbers_of : List (ℕ × Work g) → ℕ → Option ℕ
@@ -64,22 +64,22 @@ module _ (g : Choosing) (dl : Beside) (phase : ℕ → Phase) (cur : ℕ) where
     pub named' : ℕ → ℕ → Option ℕ
     pub end : State g
     pub went : Went g v x w end
-    pub stands : Stands g dl phase cur (λ j. entry_at j d.jobs) named' 0 [] d w end
+    pub stands : Stands g beside phase current (λ j. entry_at j d.jobs) named' 0 [] d w end
     pub sorted : (hi : ℕ) × Sorted 0 hi d.jobs
     pub board : end.board ≡ []
-    pub names : (i : ℕ) → named' cur i ≡ left i
+    pub names : (i : ℕ) → named' current i ≡ left i
     pub given : List OnBoard
     pub leaving : List Leaving
     pub put : w.board ≡ v.board ++ given
     pub leaves : end.leaving ≡ x.leaving ++ leaving
     pub answers : Gives (numbers_of c.jobs) given (map post_of leaving) (numbers_of d.jobs)
 
-  -- Server `cur` hears something: what it posted is taken, and no result is left.
+  -- Server `current` hears something: what it posted is taken, and no result is left.
   pub record IsTakenAt (after : ℕ → Phase) (c : Choice Request g.U g.R) (v : View) (x : State g) (d : Choice Request g.U g.R) (w : View) : Type 0 where
     pub named' : ℕ → ℕ → Option ℕ
     pub end : State g
     pub went : Went g v x w end
-    pub stands : Stands g dl after (length (g.c).servers) (λ j. entry_at j d.jobs) named' 0 [] d w end
+    pub stands : Stands g beside after (length (g.c).servers) (λ j. entry_at j d.jobs) named' 0 [] d w end
     pub sorted : (hi : ℕ) × Sorted 0 hi d.jobs
     pub board : end.board ≡ []
     pub given : List OnBoard
@@ -90,14 +90,14 @@ module _ (g : Choosing) (dl : Beside) (phase : ℕ → Phase) (cur : ℕ) where
 
 -- Whichever servers a request is started at: what the choice leaves is what moves of the machine leave.
 abbrev pub RunsAreMoves : Choosing → Type 0
-RunsAreMoves g = (dl : Beside) (phase : ℕ → Phase) (cur : ℕ) (es : List Entry) (t : ℕ) (job : Work g) (tab : ℕ → Option (Work g)) (named : ℕ → ℕ → Option ℕ) (c : Choice Request g.U g.R) (v : View) (x : State g)
-    → InHand g dl phase cur t es job tab named c v x → Leads (HasDone g dl phase cur t job.number tab x.board named v x) (runs g.below g.settings t es job c v)
+RunsAreMoves g = (beside : Beside) (phase : ℕ → Phase) (current : ℕ) (es : List Entry) (t : ℕ) (job : Work g) (table : ℕ → Option (Work g)) (named : ℕ → ℕ → Option ℕ) (c : Choice Request g.U g.R) (v : View) (x : State g)
+    → InHand g beside phase current t es job table named c v x → Leads (HasDone g beside phase current t job.number table x.board named v x) (runs g.below g.settings t es job c v)
 
 -- What a server posted is taken: what the choice leaves is what moves of the machine leave, and each result on the board is that of the request of its ticket.
 abbrev pub ResultsAreMoves : Choosing → Type 0
-ResultsAreMoves g = (dl : Beside) (phase : ℕ → Phase) (cur : ℕ) (ps : List OnBoard) (qs : List Post) (named : ℕ → ℕ → Option ℕ) (c : Choice Request g.U g.R) (v : View) (x : State g)
-    → Stands g dl phase cur (λ j. entry_at j c.jobs) named 0 [] c v x → (hi : ℕ) × Sorted 0 hi c.jobs → cur < length (g.c).servers → Gives (named cur) ps qs dl.left → x.board ≡ map (tag cur) qs
-    → Leads (AreTaken g dl phase cur dl.left c v x) (settles_all g.below g.settings cur ps c v)
+ResultsAreMoves g = (beside : Beside) (phase : ℕ → Phase) (current : ℕ) (ps : List OnBoard) (qs : List Post) (named : ℕ → ℕ → Option ℕ) (c : Choice Request g.U g.R) (v : View) (x : State g)
+    → Stands g beside phase current (λ j. entry_at j c.jobs) named 0 [] c v x → (hi : ℕ) × Sorted 0 hi c.jobs → current < length (g.c).servers → Gives (named current) ps qs beside.left → x.board ≡ map (tag current) qs
+    → Leads (AreTaken g beside phase current beside.left c v x) (settles_all g.below g.settings current ps c v)
 
 -- no server's results are being taken
 abbrev pub at_rest : (deadlines : ℕ → Option ℕ) → Beside
@@ -110,11 +110,11 @@ pub record HasLeft (g : Choosing) (k : ℕ) (x y : State g) : Type 0 where
   pub place : y.place ≡ x.place
 
 -- The choice gave the request of ticket t up.
-pub record IsGivenUp (g : Choosing) (dl : Beside) (phase : ℕ → Phase) (t : ℕ) (c : Choice Request g.U g.R) (v : View) (y : State g) (d : Choice Request g.U g.R) (w : View) : Type 0 where
+pub record IsGivenUp (g : Choosing) (beside : Beside) (phase : ℕ → Phase) (t : ℕ) (c : Choice Request g.U g.R) (v : View) (y : State g) (d : Choice Request g.U g.R) (w : View) : Type 0 where
   pub named' : ℕ → ℕ → Option ℕ
   pub end : State g
   pub went : Went g v y w end
-  pub stands : Stands g dl phase (length (g.c).servers) (λ j. entry_at j (frees t c.jobs)) named' 0 [] d w end
+  pub stands : Stands g beside phase (length (g.c).servers) (λ j. entry_at j (frees t c.jobs)) named' 0 [] d w end
   pub jobs : d.jobs ≡ frees t c.jobs
   pub leaving : end.leaving ≡ y.leaving
   pub board : end.board ≡ y.board
@@ -127,9 +127,9 @@ CancellingIsMoves g = (deadlines : ℕ → Option ℕ) (phase : ℕ → Phase) (
     → Leads (IsGivenUp g (at_rest deadlines) phase t c v y) (drops g.below t c v)
 
 -- The request of ticket t was started at more servers.
-pub record IsDue (g : Choosing) (dl : Beside) (phase : ℕ → Phase) (t : ℕ) (named : ℕ → ℕ → Option ℕ) (c : Choice Request g.U g.R) (v : View) (x : State g) (d : Choice Request g.U g.R) (w : View) : Type 0 where
+pub record IsDue (g : Choosing) (beside : Beside) (phase : ℕ → Phase) (t : ℕ) (named : ℕ → ℕ → Option ℕ) (c : Choice Request g.U g.R) (v : View) (x : State g) (d : Choice Request g.U g.R) (w : View) : Type 0 where
   pub number : ℕ
-  pub done : HasDone g dl phase (length (g.c).servers) t number (λ j. entry_at j (frees t c.jobs)) x.board named v x d w
+  pub done : HasDone g beside phase (length (g.c).servers) t number (λ j. entry_at j (frees t c.jobs)) x.board named v x d w
 
 -- A timer of the choice fires, which was taken out before: what is left is what moves leave.
 abbrev pub FiringIsMoves : Choosing → Type 0
