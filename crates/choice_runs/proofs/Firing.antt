@@ -26,7 +26,7 @@ not_below : (n : ℕ) → n < n → ⊥
 not_below n lt = omega arith
 
 -- none is past the last server
-none_past : (count : ℕ) (l : List Entry) (tried : ℕ → Bool) → AreToStart count tried l → IsToStart count l → ⊥
+pub none_past : (count : ℕ) (l : List Entry) (tried : ℕ → Bool) → AreToStart count tried l → IsToStart count l → ⊥
 none_past count [] tried line m = m
 none_past count (e ∷ l) tried line m = elim m [
   | inl same ↦ not_below count (subst (λ n. n < count) same line.0)

@@ -19,5 +19,6 @@ pub mod Taking
 pub mod Hearing
 pub mod Cancelling
 pub mod Firing
+pub mod Coming
 pub mod Dropping
 pub mod Silence

@@ -1,17 +1,18 @@
 -- What a call of the choice leaves of a request: it waits on in the table, or its result stands on the board and leaves in the machine.
 use Rattle.std.specs.Prelude.{◌≡◌, ℕ, ◌<◌, List, [], ◌∷◌, ◌++◌, length, map, Option, Some, None, option_map, slice_get, false}
 use Rattle.client_request.specs.Board.{Part}
+use Rattle.client_request.specs.Carries.{IsOfOctets}
 use Rattle.client_request.specs.Numbered.{entry_at, frees}
 use Rattle.client_request.specs.Request.{Request}
 use Rattle.client_request.specs.Timers.{cancelled}
 use Rattle.client_request.specs.View.{View, Heard, told}
 use Rattle.client_request.specs.declared.board.Posted.{Posted as OnBoard}
-use Rattle.client_choice.specs.Choice.{Choice, drops, due, runs, settles_all, hears_one}
+use Rattle.client_choice.specs.Choice.{Choice, takes_on, drops, due, runs, settles_all, hears_one}
 use Rattle.client_choice.specs.Servers.{Server, hears_at}
 use Rattle.client_request.specs.declared.event.What.{What}
 use Rattle.client_choice.specs.declared.job.Entry.{Entry}
 use Rattle.headline.specs.Parts.{IsIn}
-use Rattle.headline.specs.machine.Client.{Posted, Leaving, tag}
+use Rattle.headline.specs.machine.Client.{newcomer, Posted, Leaving, tag}
 use Rattle.headline.specs.machine.Part.{Post}
 use Rattle.headline.specs.machine.Streams.{with_at}
 use Rattle.client_ties.specs.Chains.{part_of, Gives}
@@ -20,7 +21,7 @@ use Rattle.client_ties.specs.PartTie.{Phase, Untold, MayLeave, Leads}
 use Rattle.client_ties.specs.Sights.{IsEarly}
 use Rattle.choice_runs.specs.Choosing.{Choosing}
 use Rattle.choice_runs.specs.Servers.{State, AreTied, IsHeard, IsTold}
-use Rattle.choice_runs.specs.Requests.{Beside, Work, Begun, IsToStart, Stands, Went}
+use Rattle.choice_runs.specs.Requests.{AreToStart, Beside, Work, Begun, IsToStart, Stands, Went}
 
 module _ (g : Choosing) (beside : Beside) (phase : ℕ → Phase) (current : ℕ) where
   -- What becomes of a request that was in hand: it waits in the table, or its result stands on the board and leaves in the machine.
@@ -137,6 +138,25 @@ FiringIsMoves g = (deadlines : ℕ → Option ℕ) (phase : ℕ → Phase) (i t 
     → Stands g (at_rest deadlines) phase (length (g.c).servers) (λ j. entry_at j c.jobs) named 0 [] c v x → (hi : ℕ) × Sorted 0 hi c.jobs → entry_at i c.timers ≡ Some t → x.board ≡ []
     → Leads (IsDue g (at_rest deadlines) phase t named c (record v { timers = cancelled i v.timers }) x) (due g.below g.settings i c (record v { timers = cancelled i v.timers }))
 
+-- A list of servers has each once.
+pub record IsLinedUp (count : ℕ) (entries : List Entry) : Type 0 where
+  pub line : AreToStart count (λ s. false) entries
+  pub all : (s : ℕ) → s < count → IsToStart s entries
+  pub some : entries ≡ [] → ⊥
+
+-- In the machine request k is tried: of x, y differs so.
+pub record HasTakenOn (g : Choosing) (k : ℕ) (request : Request) (now : ℕ) (x y : State g) : Type 0 where
+  pub unused : x.held k ≡ None
+  pub held : y.held ≡ with_at k (Some (newcomer request now)) x.held
+  pub ups : y.ups ≡ x.ups
+  pub place : y.place ≡ x.place
+
+-- A request that the machine tries is started at servers, in any order that has each: what is left is what moves leave.
+abbrev pub TakingOnIsMoves : Choosing → Type 0
+TakingOnIsMoves g = (deadlines : ℕ → Option ℕ) (phase : ℕ → Phase) (t now : ℕ) (request : Request) (entries : List Entry) (named : ℕ → ℕ → Option ℕ) (c : Choice Request g.U g.R) (v : View) (x y : State g)
+    → Stands g (at_rest deadlines) phase (length (g.c).servers) (λ j. entry_at j c.jobs) named 0 [] c v x → (hi : ℕ) × Sorted 0 hi c.jobs → entry_at t c.jobs ≡ None → IsOfOctets request → IsLinedUp (length (g.c).servers) entries
+    → HasTakenOn g v.request request now x y → y.board ≡ [] → Leads (HasDone g (at_rest deadlines) phase (length (g.c).servers) t v.request (λ j. entry_at j c.jobs) y.board named v y) (takes_on g.below g.settings t entries request c v)
+
 -- Where what server s hears is what moves leave, so is that with what it posted taken.
 abbrev pub HearingIsMoves : Choosing → Type 0
 HearingIsMoves g = (deadlines : ℕ → Option ℕ) (phase after : ℕ → Phase) (s : ℕ) (named : ℕ → ℕ → Option ℕ) (c : Choice Request g.U g.R) (v : View) (x : State g) (a : Server g.U) (h : Heard)
@@ -156,3 +176,4 @@ pub record CallsAreMoves (g : Choosing) : Type 0 where
   pub runs : RunsAreMoves g
   pub cancelling : CancellingIsMoves g
   pub firing : FiringIsMoves g
+  pub taking_on : TakingOnIsMoves g
