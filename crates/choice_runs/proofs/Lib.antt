@@ -20,5 +20,6 @@ pub mod Hearing
 pub mod Cancelling
 pub mod Firing
 pub mod Coming
+pub mod Lining
 pub mod Dropping
 pub mod Silence

@@ -23,6 +23,7 @@ use Rattle.choice_runs.proofs.Runs.{runs_are_moves}
 use Rattle.choice_runs.proofs.Taking.{results_are_moves}
 use Rattle.choice_runs.proofs.Cancelling.{gives_it_up}
 use Rattle.choice_runs.proofs.Coming.{takes_it_on}
+use Rattle.choice_runs.proofs.Lining.{by_estimate_has_each}
 use Rattle.choice_runs.proofs.Firing.{fires_it}
 use Rattle.choice_runs.proofs.Hearing.{hears_and_settles}
 use Rattle.choice_runs.proofs.ServerCalls.{one_tells}
