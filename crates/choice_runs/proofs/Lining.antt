@@ -1,8 +1,13 @@
 -- A list of servers that has each once still does with one more, wherever that stands.
-use Rattle.std.proofs.Common.{◌≡◌, ℕ, zero, suc, ◌+◌, ◌<◌, ◌≤◌, ◌⊎◌, inl, inr, Bool, true, false, ◌==◌, ◌||◌, List, [], ◌∷◌, ◌++◌, length, take, drop, Option, Some, None, refl, sym, ap, subst, ◌∙◌, arith, append-nil}
+use Rattle.std.proofs.Common.{◌≡◌, ℕ, zero, suc, ◌+◌, ◌<◌, ◌⊎◌, inl, inr, Bool, true, false, if◌then◌else◌, ◌==◌, ◌||◌, List, [], ◌∷◌, ◌++◌, length, take, drop, Option, Some, None, slice_get, refl, sym, ap, subst, arith, append-nil}
 use mathlib.Core.Path.{fun_ext}
 use Rattle.std.proofs.lemmas.Bool.Decides.{nat_tests}
-use Rattle.client_choice.specs.Redundant.{entry_of, first_above, lined_up, lined_up_at, all_lined_up, by_estimate}
+use Rattle.std.specs.Prelude.{nat_lt}
+use Rattle.std.specs.List.{remove}
+use Rattle.std.proofs.lemmas.Option.{slice_get_within}
+use Rattle.choice_runs.proofs.AtServer.{both_are, none_is}
+use Rattle.choice_runs.proofs.Dropping.{found_at}
+use Rattle.client_choice.specs.Redundant.{entry_of, first_above, lined_up, lined_up_at, all_lined_up, by_estimate, with_probe, promoted, put_first}
 use Rattle.client_choice.specs.Servers.{Server}
 use Rattle.client_choice.specs.declared.job.Entry.{Entry}
 use Rattle.choice_runs.specs.Requests.{AreToStart, IsToStart}
@@ -23,8 +28,11 @@ is_other s q c ne e = grind (arith, nat_tests)
 
 with_one_tried : (count s : ℕ) (es : List Entry) (tried : ℕ → Bool) → (IsToStart s es → ⊥) → AreToStart count tried es → AreToStart count (λ t. (s == t) || tried t) es
 with_one_tried count s [] tried none line = tt
-with_one_tried count s (e ∷ es) tried none line = (line.0, is_other s e.server (tried e.server) (λ same. none (inl (sym same))) line.1,
-    subst (λ f. AreToStart count f es) (fun_ext (λ t. or_swap (s == t) (e.server == t) (tried t))) (with_one_tried count s es (λ t. (e.server == t) || tried t) (λ m. none (inr m)) line.2))
+with_one_tried count s (e ∷ es) tried none line = (
+  line.0,
+  is_other s e.server (tried e.server) (λ same. none (inl (sym same))) line.1,
+  subst (λ f. AreToStart count f es) (fun_ext (λ t. or_swap (s == t) (e.server == t) (tried t))) (with_one_tried count s es (λ t. (e.server == t) || tried t) (λ m. none (inr m)) line.2),
+)
 
 pub one_between : (count : ℕ) (front bs : List Entry) (e : Entry) (tried : ℕ → Bool) → AreToStart count tried (front ++ bs) → e.server < count → tried e.server ≡ false → (IsToStart e.server (front ++ bs) → ⊥) → AreToStart count tried (front ++ e ∷ bs)
 one_between count [] bs e tried line lt new none = (lt, new, with_one_tried count e.server bs tried none line)
@@ -102,3 +110,56 @@ by_estimate_has_each servers =
 
     none_below : (s : ℕ) → s < 0 → ⊥
     none_below s lt = omega arith
+
+-- One that goes first is in its place no more.
+goes_first : (count : ℕ) (front bs : List Entry) (e : Entry) (tried : ℕ → Bool) → AreToStart count tried (front ++ e ∷ bs) → (e.server < count) × (tried e.server ≡ false) × AreToStart count (λ t. (e.server == t) || tried t) (front ++ bs)
+goes_first count [] bs e tried line = line
+goes_first count (a ∷ front) bs e tried line =
+    let m = goes_first count front bs e (λ t. (a.server == t) || tried t) line.2 in (
+      m.0,
+      second (a.server == e.server) (tried e.server) m.1,
+      (
+        line.0,
+        is_other e.server a.server (tried a.server) (λ same. differ a.server e.server (tried e.server) m.1 (sym same)) line.1,
+        subst (λ f. AreToStart count f (front ++ bs)) (fun_ext (λ t. or_swap (e.server == t) (a.server == t) (tried t))) m.2,
+      ),
+    )
+  where
+    second : (a b : Bool) → (a || b) ≡ false → b ≡ false
+    second true b e = absurd (cc)
+    second false b e = e
+
+    differ : (s q : ℕ) (c : Bool) → ((s == q) || c) ≡ false → s ≡ q → ⊥
+    differ s q c e same = grind (arith, nat_tests)
+
+split_there : {A : Type 0} (xs : List A) (i : ℕ) (x : A) → slice_get xs i ≡ Some x → xs ≡ take i xs ++ x ∷ drop (suc i) xs
+split_there [] i x e = absurd (cc)
+split_there (y ∷ xs) zero x e = ap (λ z. z ∷ xs) (both_are (Some y) y x refl e)
+split_there (y ∷ xs) (suc i) x e = ap (λ ys. y ∷ ys) (split_there xs i x e)
+
+-- The list with the server that is probed in front has each once.
+pub probed_has_each : (count estimate place : ℕ) (es : List Entry) → AreToStart count (λ s. false) es → ((s : ℕ) → s < count → IsToStart s es)
+    → AreToStart count (λ s. false) (promoted place estimate es) × ((s : ℕ) → s < count → IsToStart s (promoted place estimate es))
+probed_has_each count estimate place es line all = by (slice_get es place) refl (nat_lt place (length es)) refl
+  where
+    inside : (i n : ℕ) → nat_lt i n ≡ true → i < n
+    inside i n e = grind (arith, nat_tests)
+
+    outside : (i n : ℕ) → nat_lt i n ≡ false → i < n → ⊥
+    outside i n e lt = grind (arith, nat_tests)
+
+    by : (o : Option Entry) → slice_get es place ≡ o → (b : Bool) → nat_lt place (length es) ≡ b
+        → AreToStart count (λ s. false) (put_first estimate o (if b then remove es place else es)) × ((s : ℕ) → s < count → IsToStart s (put_first estimate o (if b then remove es place else es)))
+    by None e false n = (line, all)
+    by None e true n = (let f = found_at es place (inside place (length es) n) in absurd (none_is (slice_get es place) f.0 e f.1))
+    by (Some x) e false n = absurd (outside place (length es) n (slice_get_within es place x e))
+    by (Some x) e true n =
+        let split = split_there es place x e in (
+          goes_first count (take place es) (drop (suc place) es) x (λ s. false) (subst (λ l. AreToStart count (λ s. false) l) split line),
+          λ s lt. was_between s (take place es) (drop (suc place) es) x (subst (λ l. IsToStart s l) split (all s lt)),
+        )
+
+pub each_has : {U : Type 0} → (servers : List (Server U)) (probed : Option ℕ) (first : Entry)
+    → AreToStart (length servers) (λ s. false) (with_probe probed first (by_estimate servers)) × ((s : ℕ) → s < length servers → IsToStart s (with_probe probed first (by_estimate servers)))
+each_has servers None first = by_estimate_has_each servers
+each_has servers (Some place) first = (let b = by_estimate_has_each servers in probed_has_each (length servers) first.estimate place (by_estimate servers) b.0 b.1)

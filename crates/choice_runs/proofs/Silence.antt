@@ -23,7 +23,7 @@ use Rattle.choice_runs.proofs.Runs.{runs_are_moves}
 use Rattle.choice_runs.proofs.Taking.{results_are_moves}
 use Rattle.choice_runs.proofs.Cancelling.{gives_it_up}
 use Rattle.choice_runs.proofs.Coming.{takes_it_on}
-use Rattle.choice_runs.proofs.Lining.{by_estimate_has_each}
+use Rattle.choice_runs.proofs.Lining.{each_has}
 use Rattle.choice_runs.proofs.Firing.{fires_it}
 use Rattle.choice_runs.proofs.Hearing.{hears_and_settles}
 use Rattle.choice_runs.proofs.ServerCalls.{one_tells}
@@ -154,6 +154,7 @@ calls_are_moves g = record {
   cancelling = λ deadlines phase t job named c v x y st table is left. gives_it_up g deadlines phase t job named c v x y st table is left;
   firing = λ deadlines phase i t named c v x st table is quiet. fires_it g deadlines phase i t named c v x st table is quiet;
   taking_on = λ deadlines phase t now request entries named c v x y st table new octets lined taken quiet. takes_it_on g deadlines phase t now request entries named c v x y st table new octets lined taken quiet;
+  lists = λ servers probed first. each_has servers probed first;
 }
 
 pub silent_choices_move : SilentChoicesMove

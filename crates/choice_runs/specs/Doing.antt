@@ -8,6 +8,7 @@ use Rattle.client_request.specs.Timers.{cancelled}
 use Rattle.client_request.specs.View.{View, Heard, told}
 use Rattle.client_request.specs.declared.board.Posted.{Posted as OnBoard}
 use Rattle.client_choice.specs.Choice.{Choice, takes_on, drops, due, runs, settles_all, hears_one}
+use Rattle.client_choice.specs.Redundant.{by_estimate, with_probe}
 use Rattle.client_choice.specs.Servers.{Server, hears_at}
 use Rattle.client_request.specs.declared.event.What.{What}
 use Rattle.client_choice.specs.declared.job.Entry.{Entry}
@@ -144,6 +145,11 @@ pub record IsLinedUp (count : ℕ) (entries : List Entry) : Type 0 where
   pub all : (s : ℕ) → s < count → IsToStart s entries
   pub some : entries ≡ [] → ⊥
 
+-- The list that the choice makes for a request, with any server probed or none, has each once.
+abbrev pub ListsHaveEach : Choosing → Type 0
+ListsHaveEach g = (servers : List (Server g.U)) (probed : Option ℕ) (first : Entry)
+    → AreToStart (length servers) (λ s. false) (with_probe probed first (by_estimate servers)) × ((s : ℕ) → s < length servers → IsToStart s (with_probe probed first (by_estimate servers)))
+
 -- In the machine request k is tried: of x, y differs so.
 pub record HasTakenOn (g : Choosing) (k : ℕ) (request : Request) (now : ℕ) (x y : State g) : Type 0 where
   pub unused : x.held k ≡ None
@@ -177,3 +183,4 @@ pub record CallsAreMoves (g : Choosing) : Type 0 where
   pub cancelling : CancellingIsMoves g
   pub firing : FiringIsMoves g
   pub taking_on : TakingOnIsMoves g
+  pub lists : ListsHaveEach g
