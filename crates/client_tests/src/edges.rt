@@ -1,7 +1,7 @@
 //! An edge and a clock in memory, by their lists.
 
-use client_core::{Clock, Deed, Edge, ListClock, ListEdge};
-use client_request::{Moment, Out, What};
+use client_core::{Clock, Deed, Edge, ListClock, ListEdge, is_fault};
+use client_request::{Fault, Moment, Out, What};
 use dns_base::{IpAddr, SocketAddr};
 use resolv_conf::{ServerConf, Transport};
 use std::alloc::Global;
@@ -62,5 +62,15 @@ fn an_edge_gives_its_list_and_keeps_what_was_done(rt: HostRuntime) -> Result<(),
     let mut edge = edge(rt.alloc())?;
     assert!(rt; is_served(&mut edge, &server())?);
     assert!(rt; were_done(edge.deeds()));
+    Ok(())
+}
+
+#[test]
+fn an_event_tells_of_a_fault_or_not(rt: HostRuntime) -> Result<(), Fail> {
+    let fault = Fault::Refused;
+    assert!(rt; is_fault(&Some(What::OpenFailed { place: 3, fault })));
+    assert!(rt; is_fault(&Some(What::Ended { place: 3 })));
+    assert!(rt; !is_fault(&Some(What::Opened { place: 3 })));
+    assert!(rt; !is_fault(&None));
     Ok(())
 }
