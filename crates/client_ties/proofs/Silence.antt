@@ -10,7 +10,7 @@ use Rattle.client_request.specs.declared.event.What.{What}
 use Rattle.client_request.specs.declared.event.What.TheVariants.{Ask, Opened, OpenFailed, SendFailed, ShortSend, Datagram, RecvFailed, Wrote, WriteFailed, Bytes, ReadFailed, Ended, Tick}
 use Rattle.client_ties.specs.Chains.{Chain, Stays, Begins, Calls}
 use Rattle.client_ties.specs.Sights.{IsFair}
-use Rattle.client_ties.specs.PartTie.{Untold, Told, Leads, Leaves, MayLeave}
+use Rattle.client_ties.specs.PartTie.{Phase, Untold, Told, Leads, Leaves, MayLeave}
 use Rattle.client_ties.specs.Silent.{silent_part, closed_at_once, SilenceIsTied}
 use Rattle.headline.specs.machine.Streams.{with_at}
 use Rattle.std.proofs.lemmas.Bool.Decides.{nat_tests}
@@ -53,11 +53,12 @@ silence_is_tied c s = record {
   named = λ phase u x a i k tied e. absurd (cc);
   held = λ phase u x a k tied e. absurd (cc);
   response = λ r u v. refl;
+  quiet = λ phase u x a told tied i due owns. absurd owns;
   begins = λ phase u x a e end tied. tt;
   rests = λ phase u v a end early tied. tt;
   fires = λ u v a w i due tied fair set late. (let g = goes_without v i fair in nothing_done (silent_part c) s (λ phase u x a. Unit {0}) (λ u t. None) (λ u i. ⊥) u _ a (Untold w) g.fair tt);
-  sends = λ u v a w r tied fair octets free. send v fair w (can_draw v.ticket);
-  cancels = λ u v a w r k tied fair e. absurd (cc);
+  sends = λ phase u v a r open tied fair octets free. send v fair phase (can_draw v.ticket);
+  cancels = λ phase u v a r k open tied fair e. absurd (cc);
   tells = λ u v a w tied fair early calm. (let l = none_left w in record { at = l.0; left = 0; may_be = l.1; more = calm; leaves = nothing_done (silent_part c) s (λ phase u x a. Unit {0}) (λ u t. None) (λ u i. ⊥) u v a (Told l.0 0) fair tt });
   takes = λ u v a p n tied fair early calm. record { at = p; left = 0; may_be = (refl, few n); more = calm; leaves = nothing_done (silent_part c) s (λ phase u x a. Unit {0}) (λ u t. None) (λ u i. ⊥) u v a (Told p 0) fair tt };
 }
@@ -68,11 +69,11 @@ silence_is_tied c s = record {
     more : (n : ℕ) → n ≤ n + 1
     more n = omega arith
 
-    send : (v : View) → IsFair v → (w : What) → (b : Bool)
-        → Leads (Leaves (silent_part c) (λ phase u x a. Unit {0}) (λ u t. None) (λ u i. ⊥) (Begins (λ d. d ≡ closed_at_once s v.place v.request) (Chain (silent_part c) s)) (with_at v.ticket (Some v.request) (λ t. None)) alone v (Untold w))
+    send : (v : View) → IsFair v → (phase : Phase) → (b : Bool)
+        → Leads (Leaves (silent_part c) (λ phase u x a. Unit {0}) (λ u t. None) (λ u i. ⊥) (Begins (λ d. d ≡ closed_at_once s v.place v.request) (Chain (silent_part c) s)) (with_at v.ticket (Some v.request) (λ t. None)) alone v phase)
         (option_map (λ w. (alone, answers v.ticket (Err ConnectionClosed) w)) (if b then Some (record (asks (Start v.request s Dgram) v) { ticket = v.ticket + 1 }) else None))
-    send v fair w false = tt
-    send v fair w true = record {
+    send v fair phase false = tt
+    send v fair phase true = record {
       made = _;
       may = Calls (closed_at_once s v.place v.request) _ refl (Stays v.place tt);
       outs = refl;

@@ -9,3 +9,6 @@ pub mod Lines
 pub mod Runs
 pub mod Connections
 pub mod Octets
+pub mod Sharing
+pub mod Leading
+pub mod WholeTie

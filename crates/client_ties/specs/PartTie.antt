@@ -9,17 +9,34 @@ use Rattle.client_request.specs.declared.event.Event.{Event}
 use Rattle.client_request.specs.declared.event.Out.TheVariants.{Start}
 use Rattle.client_request.specs.declared.event.Via.{Via}
 use Rattle.client_request.specs.declared.event.What.{What}
-use Rattle.client_request.specs.declared.event.What.TheVariants.{Ask, Bytes, Tick}
+use Rattle.client_request.specs.declared.event.What.TheVariants.{Ask, Opened, OpenFailed, SendFailed, ShortSend, Datagram, RecvFailed, Wrote, WriteFailed, Bytes, ReadFailed, Ended, Tick}
 use Rattle.headline.specs.Trace.{Conf}
 use Rattle.headline.specs.machine.Part.{Act, ServerPart}
 use Rattle.headline.specs.machine.Streams.{with_at}
-use Rattle.client_ties.specs.Sights.{Sight, sight, due_of, IsFair, IsEarly}
+use Rattle.client_ties.specs.Sights.{Sight, sight, due_of, IsFair, NoneDue}
 use Rattle.client_ties.specs.Chains.{Chain, Begins, Gives}
 
--- Where a row is: its event was not told yet, or it was, and so many frames at a place are still to be taken.
+-- Where a row is: its event was not told yet, or it was, and so many frames at a place are still to be taken; or it was told and is about no place of the transport.
 pub data Phase : Type 0 where
   Untold : What → Phase
   Told : (place left : ℕ) → Phase
+  Passed : What → Phase
+
+-- the place that an event is about
+abbrev pub place_in : What → Option ℕ
+place_in (Ask r) = None
+place_in (Opened p) = Some p
+place_in (OpenFailed p f) = Some p
+place_in (SendFailed p f) = Some p
+place_in (ShortSend p) = Some p
+place_in (Datagram p o) = Some p
+place_in (RecvFailed p f) = Some p
+place_in (Wrote p n) = Some p
+place_in (WriteFailed p f) = Some p
+place_in (Bytes p o) = Some p
+place_in (ReadFailed p f) = Some p
+place_in (Ended p) = Some p
+place_in Tick = None
 
 -- an event that no transport is told
 abbrev pub IsNobodys : What → Type 0
@@ -31,6 +48,18 @@ IsNobodys _ = ⊥
 abbrev pub MayEnd : Phase → Type 0
 MayEnd (Untold w) = IsNobodys w
 MayEnd (Told place left) = left ≡ 0
+MayEnd (Passed w) = Unit {0}
+
+-- whether the event was told
+abbrev pub WasTold : Phase → Type 0
+WasTold (Untold w) = ⊥
+WasTold _ = Unit {0}
+
+-- Where requests are started and given up: the transport has taken nothing in this row, and no place that is opened now is the event's.
+abbrev pub IsOpen : Phase → (next : ℕ) → Type 0
+IsOpen (Untold w) next = Unit {0}
+IsOpen (Told place left) next = ⊥
+IsOpen (Passed w) next = (p : ℕ) → place_in w ≡ Some p → p < next
 
 -- how many frames an event may bring to a place: fewer than it has octets, or as many
 abbrev pub MayLeave : What → (place left : ℕ) → Type 0
@@ -84,17 +113,19 @@ pub record IsTie {c : Conf} (P : ServerPart c) (s : ℕ) (via : Via) {U R : Type
   pub named : (phase : Phase) (u : U) (x : Sight) (a : P.State) (i k : ℕ) → Tied phase u x a → names u i ≡ Some k → (i < x.ticket) × (P.holds a k ≡ true)
   pub held : (phase : Phase) (u : U) (x : Sight) (a : P.State) (k : ℕ) → Tied phase u x a → P.holds a k ≡ true → (i : ℕ) × (names u i ≡ Some k)
   pub response : (r : Request) (u : U) (v : View) → ticket (t.response r u v) ≡ v.ticket
-  -- a row begins; and where it may end, and no timer is due, it rests
+  -- once the event was told, none of its timers is due
+  pub quiet : (phase : Phase) (u : U) (x : Sight) (a : P.State) → WasTold phase → Tied phase u x a → NoneDue (Owns u) x
+  -- a row begins; and where it may end, and none of its timers is due, it rests
   pub begins : (phase : Phase) (u : U) (x : Sight) (a : P.State) (e : Event) → MayEnd phase → Tied phase u x a → Tied (Untold e.what) u (record x { now = max e.moment.0 x.now }) (P.begin e a)
-  pub rests : (phase : Phase) (u : U) (v : View) (a : P.State) → MayEnd phase → IsEarly v → Tied phase u (sight v) a → P.Rests a
-  -- The calls. Timers fire, and requests are given up, before the event is told; an event of nobody never is. What is given up gives nothing.
+  pub rests : (phase : Phase) (u : U) (v : View) (a : P.State) → MayEnd phase → NoneDue (Owns u) (sight v) → Tied phase u (sight v) a → P.Rests a
+  -- The calls. Timers fire before the event is told; an event of nobody never is. What is given up gives nothing.
   pub fires : (u : U) (v : View) (a : P.State) (w : What) (i due : ℕ) → Tied (Untold w) u (sight v) a → IsFair v → due_of i v.timers.set ≡ Some due → due ≤ v.now
       → Leads (Leaves P Tied names Owns (Chain P s v.place a) (names u) u (record v { timers = cancelled i v.timers }) (Untold w)) (t.step (due_timer i) u (record v { timers = cancelled i v.timers }))
-  pub sends : (u : U) (v : View) (a : P.State) (w : What) (r : Request) → Tied (Untold w) u (sight v) a → IsFair v → IsOfOctets r → P.holds a v.request ≡ false
-      → Leads (Leaves P Tied names Owns (Begins (P.Starts s v.place v.request r a) (Chain P s)) (with_at v.ticket (Some v.request) (names u)) u v (Untold w)) (t.send r u (asks (Start v.request s via) v))
-  pub cancels : (u : U) (v : View) (a : P.State) (w : What) (r : R) (k : ℕ) → Tied (Untold w) u (sight v) a → IsFair v → names u (ticket r) ≡ Some k
-      → Leads (Leaves P Tied names Owns (λ d. Begins (P.Cancels s v.place k a) (Chain P s) d × (d.posts ≡ [])) (with_at (ticket r) None (names u)) u v (Untold w)) (t.cancel r u v)
-  pub tells : (u : U) (v : View) (a : P.State) (w : What) → Tied (Untold w) u (sight v) a → IsFair v → IsEarly v → v.more ≡ false
+  pub sends : (phase : Phase) (u : U) (v : View) (a : P.State) (r : Request) → IsOpen phase v.place → Tied phase u (sight v) a → IsFair v → IsOfOctets r → P.holds a v.request ≡ false
+      → Leads (Leaves P Tied names Owns (Begins (P.Starts s v.place v.request r a) (Chain P s)) (with_at v.ticket (Some v.request) (names u)) u v phase) (t.send r u (asks (Start v.request s via) v))
+  pub cancels : (phase : Phase) (u : U) (v : View) (a : P.State) (r : R) (k : ℕ) → IsOpen phase v.place → Tied phase u (sight v) a → IsFair v → names u (ticket r) ≡ Some k
+      → Leads (Leaves P Tied names Owns (λ d. Begins (P.Cancels s v.place k a) (Chain P s) d × (d.posts ≡ [])) (with_at (ticket r) None (names u)) u v phase) (t.cancel r u v)
+  pub tells : (u : U) (v : View) (a : P.State) (w : What) → Tied (Untold w) u (sight v) a → IsFair v → NoneDue (Owns u) (sight v) → v.more ≡ false
       → Leads (Tells P Tied names Owns (Chain P s v.place a) u v (MayLeave w)) (t.step (told w) u v)
-  pub takes : (u : U) (v : View) (a : P.State) (p n : ℕ) → Tied (Told p (suc n)) u (sight v) a → IsFair v → IsEarly v → v.more ≡ false
+  pub takes : (u : U) (v : View) (a : P.State) (p n : ℕ) → Tied (Told p (suc n)) u (sight v) a → IsFair v → NoneDue (Owns u) (sight v) → v.more ≡ false
       → Leads (Tells P Tied names Owns (Chain P s v.place a) u v (λ q left. (q ≡ p) × (left ≤ n))) (t.step (more_at p) u v)

@@ -31,3 +31,7 @@ pub record IsFair (v : View) : Type 0 where
 -- no timer is due
 abbrev pub IsEarly : View → Type 0
 IsEarly v = (i due : ℕ) → due_of i v.timers.set ≡ Some due → v.now < due
+
+-- none of these timers is due
+abbrev pub NoneDue : (ℕ → Type 0) → Sight → Type 0
+NoneDue Own x = (i due : ℕ) → Own i → x.dues i ≡ Some due → x.now < due

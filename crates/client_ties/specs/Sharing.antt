@@ -1,0 +1,35 @@
+-- What a transport owes where several of them share timers, places and the board: it leaves alone what is not its own.
+use Rattle.std.specs.Prelude.{◌≡◌, ℕ, ◌<◌, ◌≤◌, ◌⊎◌, Bool, true, false, Option, Some, List, [], ◌∷◌, ◌++◌}
+use Rattle.client_request.specs.Board.{Part}
+use Rattle.client_request.specs.Request.{Request}
+use Rattle.client_request.specs.View.{View, Transport, told, more_at, due_timer}
+use Rattle.client_request.specs.declared.board.Posted.{Posted}
+use Rattle.client_request.specs.declared.event.Event.{Event}
+use Rattle.client_request.specs.declared.event.What.{What}
+use Rattle.headline.specs.Trace.{Conf}
+use Rattle.headline.specs.machine.Part.{Act, ServerPart}
+use Rattle.client_ties.specs.PartTie.{Phase, Untold, Passed, IsOpen, place_in}
+use Rattle.client_ties.specs.Sights.{Sight, sight, NoneDue}
+
+-- `has` says which places a part has open, or opens: moves open none but the next, and never give a number again.
+pub record OpensNext {c : Conf} (P : ServerPart c) (has : P.State → (place : ℕ) → Bool) : Type 0 where
+  pub fresh : (p : ℕ) → has P.fresh p ≡ false
+  pub begins : (e : Event) (a : P.State) (p : ℕ) → has (P.begin e a) p ≡ has a p
+  pub acts : (s place : ℕ) (a : P.State) (d : Act P.State) → P.Acts s place a d → (place ≤ d.place) × ((p : ℕ) → has d.state p ≡ true → (has a p ≡ true) ⊎ ((place ≤ p) × (p < d.place)))
+  pub starts : (s place k : ℕ) (r : Request) (a : P.State) (d : Act P.State) → P.Starts s place k r a d → (place ≤ d.place) × ((p : ℕ) → has d.state p ≡ true → (has a p ≡ true) ⊎ ((place ≤ p) × (p < d.place)))
+  pub cancels : (s place k : ℕ) (a : P.State) (d : Act P.State) → P.Cancels s place k a d → (place ≤ d.place) × ((p : ℕ) → has d.state p ≡ true → (has a p ≡ true) ⊎ ((place ≤ p) × (p < d.place)))
+
+-- a board has one result more at most, which is that of this ticket
+abbrev pub HasOneMore : (ticket : ℕ) → (old new : List Posted) → Type 0
+HasOneMore ticket old new = (new ≡ old) ⊎ ((part : Part) × (new ≡ old ++ record { ticket = ticket; part = part } ∷ []))
+
+pub record IsShared {c : Conf} (P : ServerPart c) (has : P.State → (place : ℕ) → Bool) {U R : Type 0} (t : Transport Request U R) (Tied : Phase → U → Sight → P.State → Type 0) (Owns : U → (timer : ℕ) → Type 0) : Type 0 where
+  -- it is known of each timer whose it is, and one of others is nothing to it
+  pub knows : (u : U) (i : ℕ) → Owns u i ⊎ (Owns u i → ⊥)
+  pub timers : (phase : Phase) (u : U) (v : View) (a : P.State) (i : ℕ) → Tied phase u (sight v) a → (Owns u i → ⊥) → t.step (due_timer i) u v ≡ Some (u, v)
+  -- an event about no place of its own is nothing to it, and passes; nor are the frames that it brings
+  pub ignores : (u : U) (v : View) (a : P.State) (w : What) (p : ℕ) → Tied (Untold w) u (sight v) a → place_in w ≡ Some p → has a p ≡ false → t.step (told w) u v ≡ Some (u, v)
+  pub passes : (u : U) (x : Sight) (a : P.State) (w : What) (p : ℕ) → Tied (Untold w) u x a → place_in w ≡ Some p → has a p ≡ false → NoneDue (Owns u) x → Tied (Passed w) u x a
+  pub frames : (u : U) (v : View) (a : P.State) (w : What) (p : ℕ) → Tied (Passed w) u (sight v) a → place_in w ≡ Some p → t.step (more_at p) u v ≡ Some (u, v)
+  -- what comes at once of a request is its own result
+  pub alone : (phase : Phase) (u : U) (v : View) (a : P.State) (r : Request) (w : U) (x : View) → IsOpen phase v.place → Tied phase u (sight v) a → t.send r u v ≡ Some (w, x) → HasOneMore v.ticket v.board x.board
