@@ -1,5 +1,5 @@
 -- The plain client over any transport: deadlines, replies, and one step for each event.
-use Rattle.std.specs.Prelude.{ℕ, zero, suc, ◌+◌, max, false, List, [], ◌∷◌, length, if◌then◌else◌, Option, Some, None, option_and_then, option_map, Result, Ok, Err}
+use Rattle.std.specs.Prelude.{ℕ, zero, suc, ◌+◌, ◌-◌, ◌^◌, max, false, List, [], ◌∷◌, length, if◌then◌else◌, Option, Some, None, option_and_then, option_map, Result, Ok, Err}
 use Rattle.client_request.specs.Board.{Part}
 use Rattle.client_request.specs.Numbered.{puts, frees, entry_at}
 use Rattle.client_request.specs.Request.{Request}
@@ -84,6 +84,10 @@ pub record Client (U P : Type 0) : Type 0 where
   pub asked : Asked P
   pub view : View
 
+-- As many timers as can fire: each has a number of 64 bits of its own, so where these are not enough, numbers have run out.
+unfoldable pub most_timers : ℕ
+most_timers = 2 ^ 64 - 1
+
 module _ {U P : Type 0} where
   abbrev pub client_of : U → Asked P × View → Client U P
   client_of u x = record { layer = u; asked = x.0; view = x.1 }
@@ -136,13 +140,13 @@ module _ {U P : Type 0} where
     fires_first goes_on c None = Some c
     fires_first goes_on c (Some t) = option_and_then goes_on (fire t.id (record c { view = record c.view { timers = fired c.view.now c.view.timers } }))
 
-    -- timers fire until none is due, at most so many
+    -- Timers fire until none is due. There is no client where so many are not enough.
     abbrev pub fires : ℕ → Client U P → Option (Client U P)
-    fires zero c = Some c
+    fires zero c = None
     fires (suc n) c = fires_first (fires n) c (due_now c.view.now c.view.timers.set)
 
     abbrev pub fires_all : Client U P → Option (Client U P)
-    fires_all c = fires (length c.view.timers.set) c
+    fires_all c = fires most_timers c
 
     -- The transport is told what happened, or takes the next frame of a place.
     abbrev pub tells : What → Client U P → Option (Client U P)

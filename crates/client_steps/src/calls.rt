@@ -83,7 +83,8 @@ fn fire<L: SendRequest<RequestMessage>, W: Words>(
     }
 }
 
-/// Timers fire until none is due, at most as many as are set.
+/// Timers fire until none is due, also where one that fires sets another that is due at once. Each has a number of
+/// its own, so the numbers run out before this goes on forever.
 fn fire_all<L: SendRequest<RequestMessage>, W: Words>(
     layer: &mut L,
     asked: &mut Asked<L::Response>,
@@ -96,15 +97,15 @@ fn fire_all<L: SendRequest<RequestMessage>, W: Words>(
     ensures refused { IfErr result IsRefusal }
     ensures failed_only { IsErrOf result Error.Failed → L.holds_failed layer.old ≡ true }
 {
-    let mut left = cx.timers.len();
-    while left > 0 {
+    let mut count: u64 = 0;
+    while count < u64::MAX {
         let Some(timer) = cx.timers.fire(cx.now) else {
             return Ok(());
         };
         fire(layer, asked, cx, timer)?;
-        left -= 1;
+        count += 1;
     }
-    Ok(())
+    Err(Error::NumbersUsed)
 }
 
 /// The transport is told what happened.
