@@ -26,6 +26,10 @@ module _ {A : Type 0} where
   pub none_is : (o : Option A) (a : A) → o ≡ None → o ≡ Some a → ⊥
   none_is o a p q = cc
 
+-- who is tried was tried before, since the same moment
+abbrev pub WereTried : (before after : ℕ → Option Held) → Type 0
+WereTried before after = (k : ℕ) (b : Held) → after k ≡ Some b → (a : Held) × (before k ≡ Some a) × (b.moment ≡ a.moment)
+
 -- Tables as functions: the requests that wait by ticket, the ticket of each deadline, the number of each ticket's request at the transport, the machine's requests by number, and when each timer is due.
 pub record Desk (P : Type 0) : Type 0 where
   pub waiting : ℕ → Option (Waiting P)
@@ -35,34 +39,30 @@ pub record Desk (P : Type 0) : Type 0 where
   pub dues : ℕ → Option ℕ
 
 module _ {P : Type 0} (timeout : ℕ) (IsFor : (ticket : ℕ) → P → Type 0) where
-  -- A request waits under ticket i.
+  -- A request waits under ticket i. Its timer is set; and if the machine tries it still, the timer is due at its timeout.
   pub record IsKept (next : ℕ) (d : Desk P) (i : ℕ) (w : Waiting P) : Type 0 where
     pub response : IsFor i w.response
     pub named : d.names i ≡ Some w.number
     pub deadline : d.deadlines w.timer ≡ Some i
-    pub ask : Held
-    pub is : d.held w.number ≡ Some ask
-    pub due : d.dues w.timer ≡ Some (ask.moment + timeout)
+    pub due : ℕ
+    pub set : d.dues w.timer ≡ Some due
+    pub timely : (a : Held) → d.held w.number ≡ Some a → due ≡ a.moment + timeout
     pub small : w.number < next
 
   pub record AreKept (next : ℕ) (d : Desk P) : Type 0 where
     pub kept : (i : ℕ) (w : Waiting P) → d.waiting i ≡ Some w → IsKept next d i w
     pub named : (i k : ℕ) → d.names i ≡ Some k → (w : Waiting P) × (d.waiting i ≡ Some w) × (w.number ≡ k)
-    pub held : (k : ℕ) (a : Held) → d.held k ≡ Some a → (i : ℕ) × (w : Waiting P) × (d.waiting i ≡ Some w) × (w.number ≡ k)
     pub late : (t i : ℕ) → d.deadlines t ≡ Some i → (w : Waiting P) × (d.waiting i ≡ Some w) × (w.timer ≡ t)
-    pub apart : (i j : ℕ) (w x : Waiting P) → d.waiting i ≡ Some w → d.waiting j ≡ Some x → w.number ≡ x.number → i ≡ j
 
   -- without the request of ticket i
   abbrev pub without : ℕ → Waiting P → Desk P → Desk P
-  without i w d = record { waiting = with_at i None d.waiting; deadlines = with_at w.timer None d.deadlines; names = with_at i None d.names; held = with_at w.number None d.held; dues = with_at w.timer None d.dues }
+  without i w d = record { waiting = with_at i None d.waiting; deadlines = with_at w.timer None d.deadlines; names = with_at i None d.names; held = d.held; dues = with_at w.timer None d.dues }
 
   pub one_goes : (next : ℕ) (d : Desk P) (i : ℕ) (w : Waiting P) → AreKept next d → d.waiting i ≡ Some w → AreKept next (without i w d)
   one_goes next d i w k is = record {
     kept = λ j x e. stays j x (was_there i d.waiting j x e);
     named = λ j n e. (let f = was_there i d.names j n e in let g = k.named j n f.1 in (g.0, at_other i None d.waiting j f.0 ∙ g.1, g.2));
-    held = λ n a e. (let f = was_there w.number d.held n a e in let g = k.held n a f.1 in (g.0, g.1, at_other i None d.waiting g.0 (λ same. f.0 (ap (λ (x : Waiting P). x.number) (both_are (d.waiting g.0) w g.1 (subst (λ j. d.waiting j ≡ Some w) same is) g.2) ∙ g.3)) ∙ g.2, g.3));
     late = λ t j e. (let f = was_there w.timer d.deadlines t j e in let g = k.late t j f.1 in (g.0, at_other i None d.waiting j (λ same. f.0 (ap (λ (x : Waiting P). x.timer) (both_are (d.waiting j) w g.0 (subst (λ j. d.waiting j ≡ Some w) same is) g.1) ∙ g.2)) ∙ g.1, g.2));
-    apart = λ j l x y e f n. k.apart j l x y (was_there i d.waiting j x e).1 (was_there i d.waiting l y f).1 n;
   }
     where
       mine : IsKept next d i w
@@ -73,9 +73,9 @@ module _ {P : Type 0} (timeout : ℕ) (IsFor : (ticket : ℕ) → P → Type 0) 
         response = f'.response;
         named = at_other i None d.names j f.0 ∙ f'.named;
         deadline = at_other w.timer None d.deadlines x.timer timers ∙ f'.deadline;
-        ask = f'.ask;
-        is = at_other w.number None d.held x.number (λ same. f.0 (k.apart i j w x is f.1 same)) ∙ f'.is;
-        due = at_other w.timer None d.dues x.timer timers ∙ f'.due;
+        due = f'.due;
+        set = at_other w.timer None d.dues x.timer timers ∙ f'.set;
+        timely = f'.timely;
         small = f'.small;
       }
         where
@@ -86,51 +86,36 @@ module _ {P : Type 0} (timeout : ℕ) (IsFor : (ticket : ℕ) → P → Type 0) 
           timers same = f.0 (both_are (d.deadlines x.timer) i j (subst (λ t. d.deadlines t ≡ Some i) same mine.deadline) f'.deadline)
 
   -- with one more request, of the next number
-  abbrev pub and_one : ℕ → Waiting P → Held → (due : ℕ) → Desk P → Desk P
-  and_one i w a due d = record { waiting = with_at i (Some w) d.waiting; deadlines = with_at w.timer (Some i) d.deadlines; names = with_at i (Some w.number) d.names; held = with_at w.number (Some a) d.held; dues = with_at w.timer (Some due) d.dues }
+  abbrev pub and_one : ℕ → Waiting P → Held → Desk P → Desk P
+  and_one i w a d = record { waiting = with_at i (Some w) d.waiting; deadlines = with_at w.timer (Some i) d.deadlines; names = with_at i (Some w.number) d.names; held = with_at w.number (Some a) d.held; dues = with_at w.timer (Some (a.moment + timeout)) d.dues }
 
-  pub one_comes : (next : ℕ) (d : Desk P) (i : ℕ) (w : Waiting P) (a : Held) → AreKept next d → w.number ≡ next → d.waiting i ≡ None → d.deadlines w.timer ≡ None → d.held next ≡ None → IsFor i w.response
-      → AreKept (suc next) (and_one i w a (a.moment + timeout) d)
-  one_comes next d i w a k new no_request no_deadline no_held for = record {
+  pub one_comes : (next : ℕ) (d : Desk P) (i : ℕ) (w : Waiting P) (a : Held) → AreKept next d → w.number ≡ next → d.waiting i ≡ None → d.deadlines w.timer ≡ None → IsFor i w.response → AreKept (suc next) (and_one i w a d)
+  one_comes next d i w a k new no_request no_deadline for = record {
     kept = λ j x e. elim (is_or_was i w d.waiting j x e) [ inl f ↦ subst (λ j. IsKept (suc next) d' j x) f.0 (subst (IsKept (suc next) d' i) f.1 here) | inr f ↦ stays j x f ];
     named = λ j n e. elim (is_or_was i w.number d.names j n e) [
       | inl f ↦ (w, subst (λ j. with_at i (Some w) d.waiting j ≡ Some w) f.0 (at_it i (Some w) d.waiting), f.1)
       | inr f ↦ (let g = k.named j n f.1 in (g.0, at_other i (Some w) d.waiting j f.0 ∙ g.1, g.2))
     ];
-    held = λ n b e. elim (is_or_was w.number a d.held n b e) [
-      | inl f ↦ (i, w, at_it i (Some w) d.waiting, f.0)
-      | inr f ↦ (let g = k.held n b f.1 in (g.0, g.1, at_other i (Some w) d.waiting g.0 (other g.0 g.1 g.2) ∙ g.2, g.3))
-    ];
     late = λ t j e. elim (is_or_was w.timer i d.deadlines t j e) [
       | inl f ↦ (w, subst (λ j. with_at i (Some w) d.waiting j ≡ Some w) f.1 (at_it i (Some w) d.waiting), f.0)
       | inr f ↦ (let g = k.late t j f.1 in (g.0, at_other i (Some w) d.waiting j (other j g.0 g.1) ∙ g.1, g.2))
     ];
-    apart = λ j l x y e f n. elim (is_or_was i w d.waiting j x e) [
-      | inl g ↦ elim (is_or_was i w d.waiting l y f) [ inl h ↦ sym g.0 ∙ h.0 | inr h ↦ absurd (newer l y h.1 (sym n ∙ (sym (ap (λ (x : Waiting P). x.number) g.1) ∙ new))) ]
-      | inr g ↦ elim (is_or_was i w d.waiting l y f) [ inl h ↦ absurd (newer j x g.1 (n ∙ (sym (ap (λ (x : Waiting P). x.number) h.1) ∙ new))) | inr h ↦ k.apart j l x y g.1 h.1 n ]
-    ];
   }
     where
       d' : Desk P
-      d' = and_one i w a (a.moment + timeout) d
+      d' = and_one i w a d
 
       other : (j : ℕ) (x : Waiting P) → d.waiting j ≡ Some x → i ≡ j → ⊥
       other j x e same = none_is (d.waiting j) x (subst (λ j. d.waiting j ≡ None) same no_request) e
-
-      newer : (j : ℕ) (x : Waiting P) → d.waiting j ≡ Some x → x.number ≡ next → ⊥
-      newer j x e same = not_below x.number next (k.kept j x e).small same
-        where
-          not_below : (a b : ℕ) → a < b → a ≡ b → ⊥
-          not_below a b lt e = omega arith
 
       here : IsKept (suc next) d' i w
       here = record {
         response = for;
         named = at_it i (Some w.number) d.names;
         deadline = at_it w.timer (Some i) d.deadlines;
-        ask = a;
-        is = at_it w.number (Some a) d.held;
-        due = at_it w.timer (Some (a.moment + timeout)) d.dues;
+        due = a.moment + timeout;
+        set = at_it w.timer (Some (a.moment + timeout)) d.dues;
+        timely = λ b e. ap (λ (b : Held). b.moment + timeout) (both_are (with_at w.number (Some a) d.held w.number) a b (at_it w.number (Some a) d.held) e);
         small = below w.number next new;
       }
         where
@@ -142,14 +127,17 @@ module _ {P : Type 0} (timeout : ℕ) (IsFor : (ticket : ℕ) → P → Type 0) 
         response = f'.response;
         named = at_other i (Some w.number) d.names j f.0 ∙ f'.named;
         deadline = at_other w.timer (Some i) d.deadlines x.timer timers ∙ f'.deadline;
-        ask = f'.ask;
-        is = at_other w.number (Some a) d.held x.number (λ same. newer j x f.1 (sym same ∙ new)) ∙ f'.is;
-        due = at_other w.timer (Some (a.moment + timeout)) d.dues x.timer timers ∙ f'.due;
+        due = f'.due;
+        set = at_other w.timer (Some (a.moment + timeout)) d.dues x.timer timers ∙ f'.set;
+        timely = λ b e. elim (is_or_was w.number a d.held x.number b e) [ inl p ↦ absurd (not_below x.number next f'.small (sym p.0 ∙ new)) | inr p ↦ f'.timely b p.1 ];
         small = more x.number next f'.small;
       }
         where
           more : (a b : ℕ) → a < b → a < suc b
           more a b lt = omega arith
+
+          not_below : (a b : ℕ) → a < b → a ≡ b → ⊥
+          not_below a b lt e = omega arith
 
           f' : IsKept next d j x
           f' = k.kept j x f.1
@@ -157,14 +145,20 @@ module _ {P : Type 0} (timeout : ℕ) (IsFor : (ticket : ℕ) → P → Type 0) 
           timers : w.timer ≡ x.timer → ⊥
           timers same = none_is (d.deadlines x.timer) j (subst (λ t. d.deadlines t ≡ None) same no_deadline) f'.deadline
 
-  -- other moments at which timers are due, but those of the deadlines
-  pub dues_go : (next : ℕ) (d : Desk P) (dues : ℕ → Option ℕ) → AreKept next d → ((t i due : ℕ) → d.deadlines t ≡ Some i → d.dues t ≡ Some due → dues t ≡ Some due) → AreKept next (record d { dues = dues })
-  dues_go next d dues k same = record {
-    kept = λ i w e. (let f = k.kept i w e in record { response = f.response; named = f.named; deadline = f.deadline; ask = f.ask; is = f.is; due = same w.timer i (f.ask.moment + timeout) f.deadline f.due; small = f.small });
+  -- other moments at which timers are due, but those of the deadlines; and fewer that are tried, since when they were
+  pub go_on : (next : ℕ) (d : Desk P) (dues : ℕ → Option ℕ) (held : ℕ → Option Held) → AreKept next d → ((t i due : ℕ) → d.deadlines t ≡ Some i → d.dues t ≡ Some due → dues t ≡ Some due) → WereTried d.held held → AreKept next (record d { dues = dues; held = held })
+  go_on next d dues held k same tried = record {
+    kept = λ i w e. (let f = k.kept i w e in record {
+      response = f.response;
+      named = f.named;
+      deadline = f.deadline;
+      due = f.due;
+      set = same w.timer i f.due f.deadline f.set;
+      timely = λ b h. (let m = tried w.number b h in f.timely m.0 m.1 ∙ ap (λ n. n + timeout) (sym m.2));
+      small = f.small;
+    });
     named = k.named;
-    held = k.held;
     late = k.late;
-    apart = k.apart;
   }
 
   -- the same tables, written otherwise
@@ -179,11 +173,9 @@ module _ {P : Type 0} (timeout : ℕ) (IsFor : (ticket : ℕ) → P → Type 0) 
   -- a number is passed over
   pub kept_more : (next : ℕ) (d : Desk P) → AreKept next d → AreKept (suc next) d
   kept_more next d k = record {
-    kept = λ i w e. (let f = k.kept i w e in record { response = f.response; named = f.named; deadline = f.deadline; ask = f.ask; is = f.is; due = f.due; small = more w.number next f.small });
+    kept = λ i w e. (let f = k.kept i w e in record { response = f.response; named = f.named; deadline = f.deadline; due = f.due; set = f.set; timely = f.timely; small = more w.number next f.small });
     named = k.named;
-    held = k.held;
     late = k.late;
-    apart = k.apart;
   }
     where
       more : (a b : ℕ) → a < b → a < suc b

@@ -9,9 +9,4 @@ pub mod Hearing
 pub mod Asking
 pub mod Rows
 pub mod Serverless
-pub mod Idling
-pub mod Fitting
 pub mod Silence
-pub mod StreamsBelow
-pub mod Datagrams
-pub mod Traces

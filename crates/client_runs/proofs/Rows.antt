@@ -1,5 +1,5 @@
 -- Every list of rows that the client makes above a tied transport is a run.
-use Rattle.std.proofs.Common.{◌≡◌, ℕ, zero, suc, ◌+◌, ◌<◌, max, Bool, true, false, is_some, List, [], ◌∷◌, ◌++◌, length, Option, Some, None, refl, sym, ap, subst, ◌∙◌, arith, append_assoc, append-nil, le_refl}
+use Rattle.std.proofs.Common.{◌≡◌, ℕ, ◌<◌, max, false, is_some, List, [], ◌∷◌, ◌++◌, Option, Some, None, refl, sym, ap, subst, ◌∙◌, arith, append_assoc, append-nil, le_refl}
 use Rattle.std.specs.Prelude.{option_and_then, option_map}
 use Rattle.client_request.specs.Composed.{composed}
 use Rattle.client_request.specs.View.{View}
@@ -7,96 +7,82 @@ use Rattle.client_request.specs.declared.event.Event.{Event}
 use Rattle.client_request.specs.declared.event.Out.{Out}
 use Rattle.client_request.specs.declared.event.Row.{Row}
 use Rattle.client_request.specs.declared.event.What.{What}
-use Rattle.client_request.specs.declared.event.What.TheVariants.{Ask, Bytes, Tick}
+use Rattle.client_request.specs.declared.event.What.TheVariants.{Ask, Opened, OpenFailed, SendFailed, ShortSend, Datagram, RecvFailed, Wrote, WriteFailed, Bytes, ReadFailed, Ended, Tick}
 use Rattle.headline.specs.Requests.{is_ask}
 use Rattle.headline.specs.Timely.{IsAskedInOctets, AllAskedInOctets}
-use Rattle.headline.specs.machine.Client.{IsDone, IsStep, IsRun, Ends, Goes_on, row_begins, begun, Waiting as Held}
+use Rattle.headline.specs.machine.Client.{IsDone, IsStep, IsRun, Ends, Goes_on, row_begins, begun}
+use Rattle.client_ties.specs.Leading as moves
 use Rattle.client_ties.specs.PartTie.{Phase, Untold, Told, MayEnd, MayLeave}
 use Rattle.client_ties.specs.Sights.{sight, IsEarly}
 use Rattle.client_runs.specs.Above.{Tying, machine, begins_with, AreWords, ClientsAboveTiesRun}
 use Rattle.client_steps.specs.Client.{client_of, at_moment, rested, row_of, row_and_rest, then_rows, asks_request, fires_all, tells, brings, happens, client_step, plain_rows}
 use Rattle.client_runs.proofs.Asking.{Happened, asks_it}
 use Rattle.client_runs.proofs.Calling.{PlainClient, IsTied, Comes}
-use Rattle.client_runs.proofs.Desk.{both_are}
-use Rattle.client_runs.proofs.Firing.{IfSome, some_then, some_on}
+use Rattle.client_runs.proofs.Firing.{IfSome, AreInTime, some_then, some_on}
 use Rattle.client_runs.proofs.Hearing.{IsHeard, tells_it, bytes_do, holds_as}
 use Rattle.client_runs.proofs.Holding.{State}
-use Rattle.client_runs.proofs.Leading.{Arrives, leads_on, all_moves}
-use Rattle.client_runs.proofs.Looping.{Rested, all_fire, early_on}
+use Rattle.client_runs.proofs.Leading.{leads_on, all_moves}
+use Rattle.client_runs.proofs.Looping.{Rested, all_fire, keeps_time, are_in_time}
 
 either_way : (a b : ℕ) → max a b ≡ max b a
 either_way a b = omega arith
 
+-- the place that an event of the transport is about
+abbrev about : What → ℕ
+about (Ask r) = 0
+about (Opened p) = p
+about (OpenFailed p f) = p
+about (SendFailed p f) = p
+about (ShortSend p) = p
+about (Datagram p o) = p
+about (RecvFailed p f) = p
+about (Wrote p n) = p
+about (WriteFailed p f) = p
+about (Bytes p o) = p
+about (ReadFailed p f) = p
+about (Ended p) = p
+about Tick = 0
+
 module _ (g : Tying) where
-  happened_of : (at : ℕ) (e : What) (v : View) (from : State g) (d : PlainClient g) → is_ask e ≡ false → IsEarly v → Comes g (Told at 0) e v from d → Happened g v from d
-  happened_of at e v from d taken early c = record { phase = Told at 0; may_end = refl; may_fire = early_on v d.view c.on early; pending = e; taken = taken; outs = c.outs; end = c.end; leads = c.leads; tied = c.tied; put = c.put }
+  happened_of : (at : ℕ) (e : What) (v : View) (from : State g) (d : PlainClient g) → is_ask e ≡ false → AreInTime g from → Comes g (Told at 0) e v from d → Happened g v from d
+  happened_of at e v from d taken early c = record { phase = Told at 0; may_end = refl; pending = e; taken = taken; outs = c.outs; end = c.end; leads = c.leads; may_fire = keeps_time g (Told at 0) e v from d c early; tied = c.tied; put = c.put }
 
   -- what an event does
-  happens_do : (w : What) (d : PlainClient g) (x : State g) → IsAskedInOctets w → IsTied g (Untold w) w d x → IsEarly d.view → IfSome g (Happened g d.view x) (happens (machine g.T g.number) (g.c).timeout w d)
-  happens_do (Ask r) d x octets t early = subst (λ l. IfSome g (Happened g d.view x) (asks_request (machine g.T g.number) (g.c).timeout r (client_of l (d.asked, d.view)))) (sym t.layer)
-      (asks_it g r t.u d.asked d.view x t.fits t.board t.given octets)
-  happens_do (Bytes p o) d x octets t early = some_on g (Comes g (Told p 0) (Bytes p o) d.view x) (Happened g d.view x) (brings (machine g.T g.number) p o d) (bytes_do g (Bytes p o) p o d x t early)
-      (λ d1 c. happened_of p (Bytes p o) d.view x d1 refl early c)
+  happens_do : (w : What) (d : PlainClient g) (x : State g) → IsAskedInOctets w → IsTied g (Untold w) w d x → IsEarly d.view → IfSome g (Happened g d.view x) (happens (machine g.T g.ticket) (g.c).timeout w d)
+  happens_do (Ask r) d x octets t early = subst (λ l. IfSome g (Happened g d.view x) (asks_request (machine g.T g.ticket) (g.c).timeout r (client_of l (d.asked, d.view)))) (sym t.layer)
+      (asks_it g r t.u d.asked d.view x t.fits t.board octets)
+  happens_do (Bytes p o) d x octets t early =
+      let in_time : AreInTime g x = are_in_time g (Untold (Bytes p o)) (Bytes p o) d x t early in
+      some_on g (Comes g (Told p 0) (Bytes p o) d.view x) (Happened g d.view x) (brings (machine g.T g.ticket) p o d) (bytes_do g (Bytes p o) p o d x t early in_time)
+      (λ d1 c. happened_of p (Bytes p o) d.view x d1 refl in_time c)
   happens_do Tick d x octets t early = record {
     phase = Untold Tick;
     may_end = tt;
-    may_fire = tt;
     pending = Tick;
     taken = refl;
     outs = [];
     end = x;
-    leads = Arrives x;
+    leads = moves.Arrives x;
+    may_fire = tt;
     tied = t;
     put = sym (append-nil d.view.outs);
   }
-  happens_do w d x octets t early = some_on g (IsHeard g w (MayLeave w) d.view x) (Happened g d.view x) (tells (machine g.T g.number) w d) (tells_it g w w d x t early)
-      (λ d1 h. happened_of h.at w d.view x d1 refl early (subst (λ l. Comes g (Told h.at l) w d.view x d1) h.may_be h.comes))
+  happens_do w d x octets t early =
+      let in_time : AreInTime g x = are_in_time g (Untold w) w d x t early in
+      some_on g (IsHeard g w (MayLeave w) d.view x) (Happened g d.view x) (tells (machine g.T g.ticket) w d) (tells_it g w w (about w) d x refl t early)
+      (λ d1 h. happened_of h.at w d.view x d1 refl in_time (subst (λ l. Comes g (Told h.at l) w d.view x d1) h.may_be h.comes))
 
   -- A row is done when no timer is due.
   is_done : (phase : Phase) (e : What) (d : PlainClient g) (x : State g) → MayEnd phase → is_ask e ≡ false → IsTied g phase e d x → IsEarly d.view → IsDone g.c g.st composed g.P x
   is_done phase e d x end taken t early = record {
     taken = subst (λ w. is_ask w ≡ false) (sym t.fits.holds.pending) taken;
-    board = t.given;
-    leaving = t.fits.holds.leaving;
-    rests = rests;
-    tried_alone = tried_alone;
-    goes_on = goes_on;
-    early = in_time;
+    board = g.tie.taken phase t.u (sight d.view) x t.fits.tied;
+    leaving = t.fits.leaving;
+    rests = λ i lt. g.tie.rests phase t.u d.view x i end early t.fits.tied lt;
+    tried_alone = λ i k lt e. g.tie.tried_alone phase t.u (sight d.view) x i k t.fits.tied lt e;
+    goes_on = λ k a e. g.tie.waits phase t.u (sight d.view) x k t.fits.tied (ap is_some e);
+    early = are_in_time g phase e d x t early;
   }
-    where
-      later : (i : ℕ) → 0 ≡ suc i → ⊥
-      later i e = omega arith
-
-      rests : (i : ℕ) → i < length (g.c).servers → g.P.Rests (x.ups i)
-      rests zero lt = g.tie.rests phase t.u d.view (x.ups 0) end early t.fits.tied
-      rests (suc i) lt = g.idle.rests (x.ups (suc i)) (t.fits.holds.idle (suc i) (later i))
-
-      holds_it : (i k : ℕ) → i < length (g.c).servers → g.P.holds (x.ups i) k ≡ true → (a : Held) × (x.held k ≡ Some a)
-      holds_it zero k lt e =
-          let l = g.tie.held phase t.u (sight d.view) (x.ups 0) k t.fits.tied e in
-          let m = t.fits.holds.kept.named l.0 k l.1 in
-          let n = t.fits.holds.kept.kept l.0 m.0 m.1 in
-          (n.ask, subst (λ k. x.held k ≡ Some n.ask) m.2 n.is)
-      holds_it (suc i) k lt e = absurd (both (g.P.holds (x.ups (suc i)) k) e (g.idle.free (x.ups (suc i)) k (t.fits.holds.idle (suc i) (later i))))
-        where
-          both : (b : Bool) → b ≡ true → b ≡ false → ⊥
-          both b p q = cc
-
-      tried_alone : (i k : ℕ) → i < length (g.c).servers → g.P.holds (x.ups i) k ≡ true → is_some (x.held k) ≡ true
-      tried_alone i k lt e = (let h = holds_it i k lt e in ap is_some h.1)
-
-      goes_on : (k : ℕ) (a : Held) → x.held k ≡ Some a → (i : ℕ) × (i < length (g.c).servers) × (g.P.holds (x.ups i) k ≡ true)
-      goes_on k a e =
-          let l = t.fits.holds.kept.held k a e in
-          let m = t.fits.holds.kept.kept l.0 l.1 l.2 in
-          (0, g.some, subst (λ k. g.P.holds (x.ups 0) k ≡ true) l.3 (g.tie.named phase t.u (sight d.view) (x.ups 0) l.0 (l.1).number t.fits.tied m.named).1)
-
-      in_time : (k : ℕ) (a : Held) → x.held k ≡ Some a → x.now < a.moment + (g.c).timeout
-      in_time k a e =
-          let l = t.fits.holds.kept.held k a e in
-          let m = t.fits.holds.kept.kept l.0 l.1 l.2 in
-          let same : m.ask ≡ a = both_are (x.held k) m.ask a (subst (λ k. x.held k ≡ Some m.ask) l.3 m.is) e in
-          subst (λ n. n < a.moment + (g.c).timeout) (sym t.fits.holds.now) (subst (λ (a : Held). d.view.now < a.moment + (g.c).timeout) same (early (l.1).timer (m.ask.moment + (g.c).timeout) m.due))
 
   -- a row begins
   begins_so : (e : Event) (phase : Phase) (w : What) (d : PlainClient g) (x : State g) → MayEnd phase → IsTied g phase w d x → IsTied g (Untold e.what) e.what (at_moment e.moment.0 d) (row_begins g.c g.st composed g.P e x)
@@ -108,29 +94,25 @@ module _ (g : Tying) where
         now = ap (λ n. max e.moment.0 n) t.fits.holds.now ∙ either_way e.moment.0 d.view.now;
         asked = t.fits.holds.asked;
         pending = refl;
-        leaving = t.fits.holds.leaving;
-        idle = λ i ne. g.idle.begins e (x.ups i) (t.fits.holds.idle i ne);
         kept = t.fits.holds.kept;
         waiting = t.fits.holds.waiting;
         deadlines = t.fits.holds.deadlines;
         foreign = t.fits.holds.foreign;
       };
-      place = t.fits.place;
+      leaving = t.fits.leaving;
       fair = record { order = t.fits.fair.order; words = t.fits.fair.words };
-      tied = g.tie.same (Untold e.what) t.u (record (sight d.view) { now = max e.moment.0 d.view.now }) (sight (record d.view { now = max d.view.now e.moment.0 })) (g.P.begin e (x.ups 0)) (g.tie.begins phase t.u (sight d.view) (x.ups 0) e end t.fits.tied)
-          (either_way d.view.now e.moment.0) (λ i o. refl) (le_refl d.view.timers.next) (le_refl d.view.ticket) (le_refl d.view.place);
+      tied = g.tie.same (Untold e.what) t.u (record (sight d.view) { now = max e.moment.0 d.view.now }) (sight (record d.view { now = max d.view.now e.moment.0 })) (row_begins g.c g.st composed g.P e x) (g.tie.begins phase t.u (sight d.view) x e end t.fits.tied)
+          (either_way d.view.now e.moment.0) (λ i o. refl) (le_refl d.view.timers.next) (le_refl d.view.ticket) refl;
     };
     board = t.board;
-    given = t.given;
   }
 
   rests_so : (phase : Phase) (w : What) (d : PlainClient g) (x : State g) → IsTied g phase w d x → IsTied g phase w (rested d) x
   rests_so phase w d x t = record {
     u = t.u;
     layer = t.layer;
-    fits = record { holds = holds_as g w (g.names t.u) t.u d.asked d.view (rested d).view x refl refl t.fits.holds; place = t.fits.place; fair = record { order = t.fits.fair.order; words = t.fits.fair.words }; tied = t.fits.tied };
+    fits = record { holds = holds_as g w (g.names t.u) t.u d.asked d.view (rested d).view x refl refl t.fits.holds; leaving = t.fits.leaving; fair = record { order = t.fits.fair.order; words = t.fits.fair.words }; tied = t.fits.tied };
     board = t.board;
-    given = t.given;
   }
 
   -- what a step of the plain client is to the machine
@@ -143,27 +125,27 @@ module _ (g : Tying) where
     pub tied : IsTied g phase pending (rested d) end
 
   -- Timers fire, the event happens, and timers fire again.
-  steps_do : (e : Event) (phase : Phase) (w : What) (d : PlainClient g) (x : State g) → IsAskedInOctets e.what → MayEnd phase → IsTied g phase w d x → d.view.outs ≡ [] → IfSome g (IsStepped e x) (client_step (machine g.T g.number) (g.c).timeout e d)
+  steps_do : (e : Event) (phase : Phase) (w : What) (d : PlainClient g) (x : State g) → IsAskedInOctets e.what → MayEnd phase → IsTied g phase w d x → d.view.outs ≡ [] → IfSome g (IsStepped e x) (client_step (machine g.T g.ticket) (g.c).timeout e d)
   steps_do e phase w d x octets end t none =
       let d0 : PlainClient g = at_moment e.moment.0 d in
       let x0 : State g = row_begins g.c g.st composed g.P e x in
-      some_then g (Happened g d0.view x0) (IsStepped e x) (fires_all (machine g.T g.number)) (option_and_then (happens (machine g.T g.number) (g.c).timeout e.what) (fires_all (machine g.T g.number) d0))
-      (some_then g (Rested g (Untold e.what) e.what d0.view x0) (Happened g d0.view x0) (happens (machine g.T g.number) (g.c).timeout e.what) (fires_all (machine g.T g.number) d0)
+      some_then g (Happened g d0.view x0) (IsStepped e x) (fires_all (machine g.T g.ticket)) (option_and_then (happens (machine g.T g.ticket) (g.c).timeout e.what) (fires_all (machine g.T g.ticket) d0))
+      (some_then g (Rested g (Untold e.what) e.what d0.view x0) (Happened g d0.view x0) (happens (machine g.T g.ticket) (g.c).timeout e.what) (fires_all (machine g.T g.ticket) d0)
       (all_fire g (Untold e.what) e.what d0 x0 (begins_so e phase w d x end t) tt)
-      (λ d1 r. some_on g (Happened g d1.view r.comes.end) (Happened g d0.view x0) (happens (machine g.T g.number) (g.c).timeout e.what d1) (happens_do e.what d1 r.comes.end octets r.comes.tied r.early)
+      (λ d1 r. some_on g (Happened g d1.view r.comes.end) (Happened g d0.view x0) (happens (machine g.T g.ticket) (g.c).timeout e.what d1) (happens_do e.what d1 r.comes.end octets r.comes.tied r.early)
       (λ d2 h. record {
         phase = h.phase;
         may_end = h.may_end;
-        may_fire = h.may_fire;
         pending = h.pending;
         taken = h.taken;
         outs = r.comes.outs ++ h.outs;
         end = h.end;
         leads = leads_on g.st composed g.P x0 r.comes.outs r.comes.end h.outs h.end r.comes.leads h.leads;
+        may_fire = h.may_fire;
         tied = h.tied;
         put = h.put ∙ (ap (λ (o : List Out). o ++ h.outs) r.comes.put ∙ append_assoc d0.view.outs r.comes.outs h.outs);
       })))
-      (λ d2 h. some_on g (Rested g h.phase h.pending d2.view h.end) (IsStepped e x) (fires_all (machine g.T g.number) d2) (all_fire g h.phase h.pending d2 h.end h.tied h.may_fire)
+      (λ d2 h. some_on g (Rested g h.phase h.pending d2.view h.end) (IsStepped e x) (fires_all (machine g.T g.ticket) d2) (all_fire g h.phase h.pending d2 h.end h.tied h.may_fire)
       (λ d3 r. record {
         phase = h.phase;
         may_end = h.may_end;
@@ -184,22 +166,22 @@ module _ (g : Tying) where
   RunsFrom x None = Unit {0}
   RunsFrom x (Some rows) = IsRun g.c g.st composed g.P x rows
 
-  rows_run : (es : List Event) (phase : Phase) (w : What) (d : PlainClient g) (x : State g) → AllAskedInOctets es → MayEnd phase → IsTied g phase w d x → d.view.outs ≡ [] → RunsFrom x (plain_rows (machine g.T g.number) (g.c).timeout es d)
+  rows_run : (es : List Event) (phase : Phase) (w : What) (d : PlainClient g) (x : State g) → AllAskedInOctets es → MayEnd phase → IsTied g phase w d x → d.view.outs ≡ [] → RunsFrom x (plain_rows (machine g.T g.ticket) (g.c).timeout es d)
   rows_run [] phase w d x octets end t none = Ends x
-  rows_run (e ∷ es) phase w d x octets end t none = by (client_step (machine g.T g.number) (g.c).timeout e d) (steps_do e phase w d x octets.0 end t none) (λ phase w d x end t none. rows_run es phase w d x octets.1 end t none)
+  rows_run (e ∷ es) phase w d x octets end t none = by (client_step (machine g.T g.ticket) (g.c).timeout e d) (steps_do e phase w d x octets.0 end t none) (λ phase w d x end t none. rows_run es phase w d x octets.1 end t none)
     where
       by : (o : Option (PlainClient g)) → IfSome g (IsStepped e x) o
-          → ((phase : Phase) (w : What) (d : PlainClient g) (x : State g) → MayEnd phase → IsTied g phase w d x → d.view.outs ≡ [] → RunsFrom x (plain_rows (machine g.T g.number) (g.c).timeout es d))
-          → RunsFrom x (option_and_then (then_rows (plain_rows (machine g.T g.number) (g.c).timeout es)) (option_map (row_and_rest e) o))
+          → ((phase : Phase) (w : What) (d : PlainClient g) (x : State g) → MayEnd phase → IsTied g phase w d x → d.view.outs ≡ [] → RunsFrom x (plain_rows (machine g.T g.ticket) (g.c).timeout es d))
+          → RunsFrom x (option_and_then (then_rows (plain_rows (machine g.T g.ticket) (g.c).timeout es)) (option_map (row_and_rest e) o))
       by None s ih = tt
-      by (Some d1) s ih = rest (plain_rows (machine g.T g.number) (g.c).timeout es (rested d1)) (ih s.phase s.pending (rested d1) s.end s.may_end s.tied refl)
+      by (Some d1) s ih = rest (plain_rows (machine g.T g.ticket) (g.c).timeout es (rested d1)) (ih s.phase s.pending (rested d1) s.end s.may_end s.tied refl)
         where
           rest : (o : Option (List Row)) → RunsFrom s.end o → RunsFrom x (option_map (λ rows. row_of e d1 ∷ rows) o)
           rest None r = tt
           rest (Some rows) r = Goes_on x (row_of e d1) s.end rows s.step r
 
   -- nothing is tied to nothing
-  starts : (words : ℕ → ℕ) → AreWords words → IsTied g (Told 0 0) Tick (begins_with words (Some (g.up g.first))) (begun g.c g.st composed g.P)
+  starts : (words : ℕ → ℕ) → AreWords words → IsTied g (Told 0 0) Tick (begins_with words (Some g.first)) (begun g.c g.st composed g.P)
   starts words small = record {
     u = g.first;
     layer = refl;
@@ -208,40 +190,35 @@ module _ (g : Tying) where
         now = refl;
         asked = refl;
         pending = refl;
-        leaving = refl;
-        idle = λ i ne. g.idle.fresh;
         kept = record {
           kept = λ i w e. absurd (cc);
-          named = λ i k e. absurd (never i (g.tie.named (Told 0 0) g.first (sight view) g.P.fresh i k tied e).0);
-          held = λ k a e. absurd (cc);
+          named = λ i k e. absurd (never i (g.tie.named (Told 0 0) g.first (sight view) (begun g.c g.st composed g.P) i k tied e).0);
           late = λ t i e. absurd (cc);
-          apart = λ i j w x e f n. absurd (cc);
         };
         waiting = (0, tt);
         deadlines = (0, tt);
         foreign = λ i t d o. cc;
       };
-      place = refl;
+      leaving = refl;
       fair = record { order = tt; words = small };
       tied = tied;
     };
     board = refl;
-    given = refl;
   }
     where
       view : View
       view = record { now = 0; words = words; outs = []; board = []; timers = record { next = 0; set = [] }; ticket = 0; place = 0; request = 0; more = false }
 
-      tied : g.Tied (Told 0 0) g.first (sight view) g.P.fresh
-      tied = g.tie.fresh (sight view) refl
+      tied : g.Tied (Told 0 0) g.first (sight view) (begun g.c g.st composed g.P)
+      tied = g.tie.fresh (sight view) refl refl
 
       never : (i : ℕ) → i < 0 → ⊥
       never i lt = omega arith
 
   -- Every list of rows is a run.
   tied_clients_run : (words : ℕ → ℕ) (events : List Event) (rows : List Row) → AreWords words → AllAskedInOctets events
-      → plain_rows (machine g.T g.number) (g.c).timeout events (begins_with words (Some (g.up g.first))) ≡ Some rows → IsRun g.c g.st composed g.P (begun g.c g.st composed g.P) rows
-  tied_clients_run words events rows small octets e = subst (RunsFrom (begun g.c g.st composed g.P)) e (rows_run events (Told 0 0) Tick (begins_with words (Some (g.up g.first))) (begun g.c g.st composed g.P) octets refl (starts words small) refl)
+      → plain_rows (machine g.T g.ticket) (g.c).timeout events (begins_with words (Some g.first)) ≡ Some rows → IsRun g.c g.st composed g.P (begun g.c g.st composed g.P) rows
+  tied_clients_run words events rows small octets e = subst (RunsFrom (begun g.c g.st composed g.P)) e (rows_run events (Told 0 0) Tick (begins_with words (Some g.first)) (begun g.c g.st composed g.P) octets refl (starts words small) refl)
 
 pub clients_above_ties_run : ClientsAboveTiesRun
 clients_above_ties_run g words events rows small octets e = tied_clients_run g words events rows small octets e

@@ -5,7 +5,7 @@ use Rattle.std.specs.Prelude.{option_and_then, option_map}
 use Rattle.client_request.specs.Composed.{composed}
 use Rattle.client_request.specs.Numbered.{entry_at, puts, frees}
 use Rattle.client_request.specs.Request.{Request}
-use Rattle.client_request.specs.Timers.{can_draw, with_timer, without_timer}
+use Rattle.client_request.specs.Timers.{can_draw, due_now, with_timer, without_timer}
 use Rattle.client_request.specs.View.{View, Transport, asks, answers, drops_timer, sets_timer}
 use Rattle.client_request.specs.declared.board.Posted.{Posted as OnBoard}
 use Rattle.client_request.specs.declared.error.Error.{Error}
@@ -23,15 +23,17 @@ use Rattle.headline.specs.Settings.{Settings}
 use Rattle.headline.specs.Trace.{Conf}
 use Rattle.headline.specs.machine.Part.{ServerPart}
 use Rattle.headline.specs.machine.Client.{Leaving, Entry, Upper, AtOnce, Refused, Nowhere, Answers, Replies, Waiting as Held, answer, store, unmade, outcome, outcome_of, IsDone, IsStep, IsRun, Ends, Goes_on, row_begins, begun}
+use Rattle.client_ties.specs.Leading.{Leads, Arrives, Then}
 use Rattle.client_runs.specs.Above.{machine, begins_with, ClientsWithoutServersRun}
-use Rattle.client_steps.specs.Client.{Asked, Client, client_of, at_moment, rested, row_of, row_and_rest, then_rows, asks_request, sends, accepts, waits, without_request, replies, replies_many, replies_to, fires, fires_all, tells, more_frames, happens, client_step, plain_rows}
+use Rattle.client_steps.specs.Client.{Asked, Client, client_of, at_moment, rested, row_of, row_and_rest, then_rows, asks_request, sends, accepts, waits, without_request, replies, replies_many, replies_to, fires_all, tells, more_frames, happens, client_step, plain_rows}
 use Rattle.client_steps.specs.First as first
 use Rattle.client_steps.specs.First.{First}
 use Rattle.client_steps.specs.declared.asked.Waiting.{Waiting}
 use Rattle.client_steps.specs.declared.first.Passed.{Passed}
 use Rattle.client_steps.specs.declared.first.Passed.TheVariants.{Here}
 use Rattle.client_steps.proofs.TimerLaws.{without_cons}
-use Rattle.client_runs.proofs.Leading.{Leads, Arrives, Then, one_move, all_moves}
+use Rattle.client_steps.proofs.Fuel as fuel
+use Rattle.client_runs.proofs.Leading.{one_move, all_moves}
 
 -- an entry that is put alone, and taken out again
 it_is : (k : ℕ) → is_eq (nat_cmp k k) ≡ true
@@ -88,7 +90,7 @@ module _ {c : Conf} (st : Settings) (P : ServerPart c) {V Q : Type 0} (T : Trans
 
   -- no timer fires
   none_fires : (d : Lone) → d.view.timers.set ≡ [] → fires_all (machine T number) d ≡ Some d
-  none_fires d e = ap (λ (ts : List Timer). fires (machine T number) (length ts) d) e
+  none_fires d e = fuel.none_fires (machine T number) d (ap (λ (ts : List Timer). due_now d.view.now ts) e)
 
   -- the transport that is not there hears nothing
   none_hears : (w : What) (d : Lone) → d.layer ≡ no_layer → d.view.board ≡ [] → tells (machine T number) w d ≡ Some (client_of no_layer (d.asked, record d.view { more = false }))

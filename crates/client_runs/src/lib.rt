@@ -1,6 +1,6 @@
-//! What holds of a client above any transport that is tied to a part of `headline`'s machine, and so of every plain trace.
+//! What holds of a client above any transport that is tied to the whole of `headline`'s client of small moves.
 #![tactic(auto)]
 
 mod laws;
 
-pub use laws::{every_plain_trace_is_right, plain_traces_are_runs, silent_clients_run};
+pub use laws::silent_clients_run;
