@@ -1,0 +1,12 @@
+-- Which places a server's part has: those of its datagrams, its connections, and the one that opens.
+use Rattle.std.specs.Prelude.{ℕ, ◌==◌, ◌||◌, Bool, false, Option, Some, None, is_some}
+use Rattle.headline.specs.machine.Served.{Served}
+
+-- it is this one
+abbrev pub is_this : (p : ℕ) → Option ℕ → Bool
+is_this p None = false
+is_this p (Some q) = q == p
+
+-- A datagram is under way at place p, a connection is open there, or one opens.
+abbrev pub has_place : Served → (p : ℕ) → Bool
+has_place a p = is_some (a.server.by_dgram.at p) || (is_some (a.server.by_stream.conns p) || is_this p a.server.by_stream.opening)
