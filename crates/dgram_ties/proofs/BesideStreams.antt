@@ -1,5 +1,5 @@
 -- What a call of the streams leaves is settled, beside datagrams that stay as they are.
-use Rattle.std.proofs.Common.{◌≡◌, ℕ, ◌≤◌, inl, inr, true, is_some, List, [], ◌∷◌, Option, Some, None, sym, subst, ◌∙◌}
+use Rattle.std.proofs.Common.{◌≡◌, ℕ, ◌<◌, ◌≤◌, inl, inr, true, is_some, List, [], ◌∷◌, Option, Some, None, sym, subst, ◌∙◌}
 use Rattle.std.specs.Prelude.{option_and_then}
 use Rattle.client_request.specs.Request.{Request}
 use Rattle.client_request.specs.Requests.{for_one}

@@ -39,12 +39,12 @@ none_if (Some x) never = absurd (never x refl)
 
 -- an event of a place where nobody is is nothing to the datagrams
 nobody_there : (w : What) (d : Dgrams) → ((p : ℕ) → place_in w ≡ Some p → d.at p ≡ None) → IsIgnored w d
-nobody_there (Opened p) d none x = (let z : None ≡ Some x.0 = sym (none p refl) ∙ x.2 in cc)
-nobody_there (OpenFailed p f) d none x = (let z : None ≡ Some x.0 = sym (none p refl) ∙ x.2 in cc)
-nobody_there (SendFailed p f) d none x = (let z : None ≡ Some x.0 = sym (none p refl) ∙ x.4 in cc)
-nobody_there (ShortSend p) d none x = (let z : None ≡ Some x.0 = sym (none p refl) ∙ x.4 in cc)
-nobody_there (RecvFailed p f) d none x = (let z : None ≡ Some x.0 = sym (none p refl) ∙ x.4 in cc)
-nobody_there (Datagram p o) d none k a id t at held stage long = absurd (let z : None ≡ Some k = sym (none p refl) ∙ at in cc)
+nobody_there (Opened p) d none = λ x. (let z : None ≡ Some x.0 = sym (none p refl) ∙ x.2 in cc)
+nobody_there (OpenFailed p f) d none = λ x. (let z : None ≡ Some x.0 = sym (none p refl) ∙ x.2 in cc)
+nobody_there (SendFailed p f) d none = λ x. (let z : None ≡ Some x.0 = sym (none p refl) ∙ x.4 in cc)
+nobody_there (ShortSend p) d none = λ x. (let z : None ≡ Some x.0 = sym (none p refl) ∙ x.4 in cc)
+nobody_there (RecvFailed p f) d none = λ x. (let z : None ≡ Some x.0 = sym (none p refl) ∙ x.4 in cc)
+nobody_there (Datagram p o) d none = λ k a id t at held stage long. absurd (let z : None ≡ Some k = sym (none p refl) ∙ at in cc)
 nobody_there (Ask r) d none = tt
 nobody_there (Wrote p n) d none = tt
 nobody_there (WriteFailed p f) d none = tt
