@@ -11,13 +11,17 @@ use Rattle.headline.specs.machine.Part.{Act, ServerPart}
 use Rattle.client_ties.specs.PartTie.{Phase, Untold, Passed, IsOpen, place_in}
 use Rattle.client_ties.specs.Sights.{Sight, sight, NoneDue}
 
--- `has` says which places a part has open, or opens: moves open none but the next, and never give a number again.
+-- What a move leaves has no place but those that were had before, and new ones: `place` is the number of the next, and none is given twice.
+abbrev pub Opens : {U : Type 0} → (has : U → (place : ℕ) → Bool) → (place : ℕ) → U → Act U → Type 0
+Opens has place a d = (place ≤ d.place) × ((p : ℕ) → has d.state p ≡ true → (has a p ≡ true) ⊎ ((place ≤ p) × (p < d.place)))
+
+-- `has` says which places a part has open, or opens: each move opens none but the next ones.
 pub record OpensNext {c : Conf} (P : ServerPart c) (has : P.State → (place : ℕ) → Bool) : Type 0 where
   pub fresh : (p : ℕ) → has P.fresh p ≡ false
   pub begins : (e : Event) (a : P.State) (p : ℕ) → has (P.begin e a) p ≡ has a p
-  pub acts : (s place : ℕ) (a : P.State) (d : Act P.State) → P.Acts s place a d → (place ≤ d.place) × ((p : ℕ) → has d.state p ≡ true → (has a p ≡ true) ⊎ ((place ≤ p) × (p < d.place)))
-  pub starts : (s place k : ℕ) (r : Request) (a : P.State) (d : Act P.State) → P.Starts s place k r a d → (place ≤ d.place) × ((p : ℕ) → has d.state p ≡ true → (has a p ≡ true) ⊎ ((place ≤ p) × (p < d.place)))
-  pub cancels : (s place k : ℕ) (a : P.State) (d : Act P.State) → P.Cancels s place k a d → (place ≤ d.place) × ((p : ℕ) → has d.state p ≡ true → (has a p ≡ true) ⊎ ((place ≤ p) × (p < d.place)))
+  pub acts : (s place : ℕ) (a : P.State) (d : Act P.State) → P.Acts s place a d → Opens has place a d
+  pub starts : (s place k : ℕ) (r : Request) (a : P.State) (d : Act P.State) → P.Starts s place k r a d → Opens has place a d
+  pub cancels : (s place k : ℕ) (a : P.State) (d : Act P.State) → P.Cancels s place k a d → Opens has place a d
 
 -- a board has one result more at most, which is that of this ticket
 abbrev pub HasOneMore : (ticket : ℕ) → (old new : List Posted) → Type 0
