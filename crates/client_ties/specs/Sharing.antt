@@ -37,3 +37,6 @@ pub record IsShared {c : Conf} (P : ServerPart c) (has : P.State → (place : �
   pub frames : (u : U) (v : View) (a : P.State) (w : What) (p : ℕ) → Tied (Passed w) u (sight v) a → place_in w ≡ Some p → t.step (more_at p) u v ≡ Some (u, v)
   -- what comes at once of a request is its own result
   pub alone : (phase : Phase) (u : U) (v : View) (a : P.State) (r : Request) (w : U) (x : View) → IsOpen phase v.place → Tied phase u (sight v) a → t.send r u v ≡ Some (w, x) → HasOneMore v.ticket v.board x.board
+  -- a request that is started, or given up, says nothing of frames
+  pub says_none : (phase : Phase) (u : U) (v : View) (a : P.State) (r : Request) (w : U) (x : View) → IsOpen phase v.place → Tied phase u (sight v) a → t.send r u v ≡ Some (w, x) → x.more ≡ v.more
+  pub keeps_more : (phase : Phase) (u : U) (v : View) (a : P.State) (r : R) (w : U) (x : View) → IsOpen phase v.place → Tied phase u (sight v) a → t.cancel r u v ≡ Some (w, x) → x.more ≡ v.more
