@@ -102,9 +102,17 @@ silence_opens_next c = record {
     never : false ≡ true → ⊥
     never e = cc
 
+-- what a send leaves of a view, where it leaves one
 abbrev board_of : Option (Unit {0} × View) → List Posted
 board_of None = []
 board_of (Some y) = (y.1).board
+
+abbrev more_of : Option (Unit {0} × View) → Bool
+more_of None = false
+more_of (Some y) = (y.1).more
+
+abbrev sent : View → Bool → Option (Unit {0} × View)
+sent v b = option_map (λ w. (alone, answers v.ticket (Err ConnectionClosed) w)) (if b then Some (record v { ticket = v.ticket + 1 }) else None)
 
 pub silence_is_shared : SilenceIsShared
 silence_is_shared c = record {
@@ -113,9 +121,15 @@ silence_is_shared c = record {
   ignores = λ u v a w p tied at none. refl;
   passes = λ u x a w p tied at none early. tt;
   frames = λ u v a w p tied at. refl;
-  alone = λ phase u v a r w x calm tied sent. one v x w (can_draw v.ticket) sent;
+  alone = λ phase u v a r w x calm tied fair octets free sent. one v x w (can_draw v.ticket) sent;
+  says_none = λ phase u v a r w x calm tied fair octets free sent. same v x w (can_draw v.ticket) sent;
+  keeps_more = λ phase u v a r w x calm tied left. sym (ap more_of left);
 }
   where
-    one : (v x : View) (w : Unit {0}) (b : Bool) → option_map {U = Unit {0} × View} (λ y. (alone, answers v.ticket (Err ConnectionClosed) y)) (if b then Some (record v { ticket = v.ticket + 1 }) else None) ≡ Some (w, x) → HasOneMore v.ticket v.board x.board
+    one : (v x : View) (w : Unit {0}) (b : Bool) → sent v b ≡ Some (w, x) → HasOneMore v.ticket v.board x.board
     one v x w false e = absurd (let z : None ≡ Some (w, x) = e in cc)
     one v x w true e = inr (Err ConnectionClosed, sym (ap board_of e))
+
+    same : (v x : View) (w : Unit {0}) (b : Bool) → sent v b ≡ Some (w, x) → x.more ≡ v.more
+    same v x w false e = absurd (let z : None ≡ Some (w, x) = e in cc)
+    same v x w true e = sym (ap more_of e)
