@@ -36,4 +36,5 @@ pub mod Timing
 pub mod Told
 pub mod GoingOnByStream
 pub mod FallbackTied
+pub mod LeavingAlone
 pub mod FallbackShared
