@@ -68,6 +68,7 @@ module _ {S : Type 0} (Tied : Phase → S → Sight → Served → Type 0) (name
     pub places : (p k : ℕ) → a.server.by_dgram.at p ≡ Some k → a.server.by_stream.opening ≡ Some p → ⊥
     pub apart : (k : ℕ) → is_some (a.server.by_dgram.held k) ≡ true → is_some (a.server.by_stream.asks k) ≡ true → ⊥
     pub over : IsOver phase a
+    -- once the event was told, none of the datagrams' timers is due
     pub quiet : WasTold phase → NoneDue (dgrams.Owns f.parts.dgram.tables) x
 
   abbrev pub names_in : Both → ℕ → Option ℕ
