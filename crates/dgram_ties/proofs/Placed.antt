@@ -1,7 +1,6 @@
 -- Who is at a place stays there while requests are taken on and given up.
-use Rattle.std.proofs.Common.{◌≡◌, ℕ, ◌<◌, ◌≤◌, ◌⊎◌, inl, inr, Option, Some, refl, ap, subst, ◌∙◌, arith, le_refl, le_trans}
+use Rattle.std.proofs.Common.{◌≡◌, ℕ, ◌<◌, ◌≤◌, inl, inr, Option, Some, refl, subst, arith, le_refl, le_trans}
 use Rattle.std.specs.Prelude.{Result, Err}
-use Rattle.client_request.specs.Request.{Request}
 use Rattle.client_request.specs.declared.error.Error.{Error}
 use Rattle.client_request.specs.declared.error.Error.TheVariants as errors
 use Rattle.client_request.specs.declared.event.What.{What}
@@ -14,7 +13,7 @@ use Rattle.headline.specs.machine.Dgrams as dgrams
 use Rattle.headline.specs.machine.Dgrams.{Queued, Trying, Sent, Ending, Stage, Tryer, Dgrams, staged, leave, forget, Tries, IsIgnored}
 use Rattle.client_ties.specs.PartTie.{place_in}
 use Rattle.client_ties.proofs.Keys.{was_there, is_or_was}
-use Rattle.dgram_ties.specs.Calls.{with_request, Waits, HasPlace, LetsGo}
+use Rattle.dgram_ties.specs.Calls.{Waits, HasPlace, LetsGo}
 use Rattle.dgram_ties.specs.Steps.{AtOnce, AsItIs, WithResult, Steps, Rests, Steps_on}
 use Rattle.dgram_ties.specs.Placed.{IsAt, StayAt, PlacesStay}
 use Rattle.dgram_ties.proofs.Staying.{grows}
