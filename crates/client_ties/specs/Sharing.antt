@@ -1,5 +1,5 @@
 -- What a transport owes where several of them share timers, places and the board: it leaves alone what is not its own.
-use Rattle.std.specs.Prelude.{◌≡◌, ℕ, ◌<◌, ◌≤◌, ◌⊎◌, Bool, true, false, Option, Some, List, [], ◌∷◌, ◌++◌}
+use Rattle.std.specs.Prelude.{◌≡◌, ℕ, ◌<◌, ◌≤◌, ◌⊎◌, Bool, true, false, Some, List, [], ◌∷◌, ◌++◌}
 use Rattle.client_request.specs.Board.{Part}
 use Rattle.client_request.specs.Carries.{IsOfOctets}
 use Rattle.client_request.specs.Request.{Request}
