@@ -10,3 +10,5 @@ pub mod Asking
 pub mod Rows
 pub mod Serverless
 pub mod Silence
+pub mod StreamsBelow
+pub mod Datagrams

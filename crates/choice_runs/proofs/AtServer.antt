@@ -1,0 +1,116 @@
+-- One server of the list is called, and the others stay tied as they were.
+use Rattle.std.proofs.Common.{◌≡◌, ℕ, zero, suc, ◌<◌, ◌≤◌, inl, inr, List, [], ◌∷◌, length, Option, Some, None, slice_get, refl, sym, ap, subst, subst₂, ◌∙◌, arith}
+use Rattle.std.specs.Prelude.{set}
+use Rattle.std.proofs.lemmas.Option.{slice_get_within}
+use Rattle.client_request.specs.Timers.{TimerList}
+use Rattle.client_request.specs.View.{View}
+use Rattle.client_choice.specs.Servers.{Server}
+use Rattle.headline.specs.machine.Part.{Act}
+use Rattle.client_ties.specs.PartTie.{Phase}
+use Rattle.client_ties.specs.Sights.{sight, due_of, IsFair}
+use Rattle.client_ties.proofs.GoingOn.{none_next}
+use Rattle.client_ties.proofs.Keys.{each_number}
+use Rattle.choice_runs.specs.Choosing.{Choosing}
+use Rattle.choice_runs.specs.Servers.{State, Listed, AreTied, OthersAreTied, IsCalled, OthersStayTied}
+
+module _ {A : Type 0} where
+  pub set_here : (xs : List A) (i : ℕ) (a b : A) → slice_get xs i ≡ Some a → slice_get (set xs i b) i ≡ Some b
+  set_here [] i a b e = absurd (cc)
+  set_here (x ∷ xs) zero a b e = refl
+  set_here (x ∷ xs) (suc i) a b e = set_here xs i a b e
+
+  pub set_there : (xs : List A) (i j : ℕ) (b : A) → (i ≡ j → ⊥) → slice_get (set xs i b) j ≡ slice_get xs j
+  set_there [] i j b ne = refl
+  set_there (x ∷ xs) zero zero b ne = absurd (ne refl)
+  set_there (x ∷ xs) zero (suc j) b ne = refl
+  set_there (x ∷ xs) (suc i) zero b ne = refl
+  set_there (x ∷ xs) (suc i) (suc j) b ne = set_there xs i j b (λ e. ne (ap suc e))
+
+  pub set_length : (xs : List A) (i : ℕ) (b : A) → length (set xs i b) ≡ length xs
+  set_length [] i b = refl
+  set_length (x ∷ xs) zero b = refl
+  set_length (x ∷ xs) (suc i) b = ap suc (set_length xs i b)
+
+  pub both_are : (o : Option A) (a b : A) → o ≡ Some a → o ≡ Some b → a ≡ b
+  both_are o a b p q = cc
+
+  pub none_is : (o : Option A) (a : A) → o ≡ None → o ≡ Some a → ⊥
+  none_is o a p q = cc
+
+pub at_most : (a b : ℕ) → a ≡ b → a ≤ b
+at_most a b e = omega arith
+
+pub up_to : (a b c d : ℕ) → b ≡ a → b ≤ c → d ≡ c → a ≤ d
+up_to a b c d e le f = omega arith
+
+-- a view that looks the same is as fair
+pub fair_as : (v w : View) → w.timers ≡ v.timers → w.words ≡ v.words → IsFair v → IsFair w
+fair_as v w timers words fair = subst₂ (λ (t : TimerList) (f : ℕ → ℕ). IsFair (record w { timers = t; words = f })) (sym timers) (sym words) (record { order = fair.order; words = fair.words })
+
+pub but : (g : Choosing) (s : ℕ) (phase : ℕ → Phase) (servers : Listed g) (v : View) (x : State g) → AreTied g phase servers v x → OthersAreTied g s phase servers v x
+but g s phase servers v x t = record { count = t.count; tied = λ q a ne at. t.tied q a at; apart = t.apart; fair = t.fair; place = t.place }
+
+module _ (g : Choosing) (s : ℕ) (May : Act g.P.State → Type 0) (named : ℕ → Option ℕ) (phase after : ℕ → Phase) (servers : Listed g) (a b : Server g.U) (v w : View) (x y : State g)
+    (t : OthersAreTied g s phase servers v x) (at : slice_get servers s ≡ Some a) (k : IsCalled g s May named a b v w (after s) x y) (others : (q : ℕ) → (s ≡ q → ⊥) → after q ≡ phase q) where
+  within : (q : ℕ) (e : Server g.U) → slice_get servers q ≡ Some e → q < length (g.c).servers
+  within q e is = subst (λ n. q < n) t.count (slice_get_within servers q e is)
+
+  now : w.now ≡ v.now
+  now = k.to.now ∙ (k.leaves.goes_on.now ∙ k.from.now)
+
+  -- a timer of another server is not one of this
+  not_mine : (q : ℕ) (e : Server g.U) (i : ℕ) → (s ≡ q → ⊥) → slice_get servers q ≡ Some e → g.Owns e.upstream i → g.Owns a.upstream i → ⊥
+  not_mine q e i ne is o mine = ne (t.apart s q i a e at is mine o)
+
+  is_set : (q : ℕ) (e : Server g.U) (i : ℕ) → (s ≡ q → ⊥) → slice_get servers q ≡ Some e → g.Owns e.upstream i → (due : ℕ) × (due_of i v.timers.set ≡ Some due)
+  is_set q e i ne is o = (g.tie q (within q e is)).set (phase q) e.upstream (sight v) (x.ups q) i (t.tied q e ne is) o
+
+  still_due : (q : ℕ) (e : Server g.U) (i : ℕ) → (s ≡ q → ⊥) → slice_get servers q ≡ Some e → g.Owns e.upstream i → due_of i w.timers.set ≡ due_of i v.timers.set
+  still_due q e i ne is o =
+      let d = is_set q e i ne is o in
+      ap (λ (l : TimerList). due_of i l.set) k.to.timers
+      ∙ (k.leaves.others i d.0 (not_mine q e i ne is o) (ap (λ (l : TimerList). due_of i l.set) k.from.timers ∙ d.1) ∙ sym d.1)
+
+  tied_here : g.Tied s (after s) b.upstream (sight w) (y.ups s)
+  tied_here = subst (λ z. g.Tied s (after s) b.upstream (sight w) z) (sym k.moved.state)
+      ((g.tie s (within s a at)).same (after s) b.upstream (sight k.after) (sight w) k.leaves.made.state k.leaves.tied k.to.now (λ i o. ap (λ (l : TimerList). due_of i l.set) k.to.timers)
+      (at_most k.after.timers.next w.timers.next (ap (λ (l : TimerList). l.next) (sym k.to.timers))) (at_most k.after.ticket w.ticket (sym k.to.ticket)) (at_most k.after.place w.place (sym k.to.place)))
+
+  tied_there : (q : ℕ) (e : Server g.U) → (s ≡ q → ⊥) → slice_get servers q ≡ Some e → g.Tied q (after q) e.upstream (sight w) (y.ups q)
+  tied_there q e ne is = subst₂ (λ p z. g.Tied q p e.upstream (sight w) z) (sym (others q ne)) (sym (k.moved.others q ne))
+      ((g.tie q (within q e is)).same (phase q) e.upstream (sight v) (sight w) (x.ups q) (t.tied q e ne is) now (λ i o. still_due q e i ne is o)
+      (up_to v.timers.next k.before.timers.next k.after.timers.next w.timers.next (ap (λ (l : TimerList). l.next) k.from.timers) k.leaves.goes_on.timer (ap (λ (l : TimerList). l.next) k.to.timers))
+      (up_to v.ticket k.before.ticket k.after.ticket w.ticket k.from.ticket k.leaves.goes_on.ticket k.to.ticket)
+      (up_to v.place k.before.place k.after.place w.place k.from.place k.leaves.goes_on.place k.to.place))
+
+  -- a timer of this server is none of another
+  none_of : (q : ℕ) (e : Server g.U) (i : ℕ) → (s ≡ q → ⊥) → slice_get servers q ≡ Some e → g.Owns b.upstream i → g.Owns e.upstream i → ⊥
+  none_of q e i ne is mine o = elim (k.leaves.owned i mine) [
+    | inl was ↦ not_mine q e i ne is o was
+    | inr le ↦ (let d = is_set q e i ne is o in none_is (due_of i v.timers.set) d.0 (none_next v i t.fair (subst (λ (l : TimerList). l.next ≤ i) k.from.timers le)) d.1)
+  ]
+
+  is_here : (e : Server g.U) → slice_get (set servers s b) s ≡ Some e → b ≡ e
+  is_here e is = both_are (slice_get (set servers s b) s) b e (set_here servers s a b at) is
+
+  was_there : (q : ℕ) (e : Server g.U) → (s ≡ q → ⊥) → slice_get (set servers s b) q ≡ Some e → slice_get servers q ≡ Some e
+  was_there q e ne is = sym (set_there servers s q b ne) ∙ is
+
+  pub stay_tied : AreTied g after (set servers s b) w y
+  stay_tied = record {
+    count = set_length servers s b ∙ t.count;
+    tied = λ q e is. each_number (λ q. slice_get (set servers s b) q ≡ Some e → g.Tied q (after q) e.upstream (sight w) (y.ups q)) s
+        (λ is. subst (λ (e : Server g.U). g.Tied s (after s) e.upstream (sight w) (y.ups s)) (is_here e is) tied_here)
+        (λ q ne is. tied_there q e ne (was_there q e ne is)) q is;
+    apart = λ q r i e f is it o p. each_number (λ q. slice_get (set servers s b) q ≡ Some e → q ≡ r) s
+        (λ is. each_number (λ r. slice_get (set servers s b) r ≡ Some f → s ≡ r) s (λ it. refl)
+        (λ r ne it. absurd (none_of r f i ne (was_there r f ne it) (subst (λ (e : Server g.U). g.Owns e.upstream i) (sym (is_here e is)) o) p)) r it)
+        (λ q ne is. each_number (λ r. slice_get (set servers s b) r ≡ Some f → q ≡ r) s
+        (λ it. absurd (none_of q e i ne (was_there q e ne is) (subst (λ (e : Server g.U). g.Owns e.upstream i) (sym (is_here f it)) p) o))
+        (λ r re it. t.apart q r i e f (was_there q e ne is) (was_there r f re it) o p) r it) q is;
+    fair = fair_as k.after w k.to.timers k.to.words k.leaves.goes_on.fair;
+    place = k.moved.place ∙ (sym k.leaves.place ∙ sym k.to.place);
+  }
+
+pub others_stay_tied : OthersStayTied
+others_stay_tied g s May named phase after servers a b v w x y t at k others = stay_tied g s May named phase after servers a b v w x y t at k others

@@ -1,0 +1,103 @@
+-- A request that is over is given up by the choice: each server that still owes it a result gives it up.
+use Rattle.std.proofs.Common.{◌≡◌, ℕ, ◌<◌, List, [], ◌++◌, length, Option, Some, None, refl, sym, ap, subst, ◌∙◌, arith}
+use mathlib.Core.Path.{fun_ext}
+use Rattle.std.specs.Prelude.{option_map}
+use Rattle.client_request.specs.Numbered.{entry_at, frees}
+use Rattle.client_request.specs.Request.{Request}
+use Rattle.client_request.specs.View.{View}
+use Rattle.client_request.specs.declared.event.Out.{Out}
+use Rattle.client_choice.specs.Choice.{Choice, drops, drops_job, drops_each, unset, stopped, unarmed, disarmed}
+use Rattle.headline.specs.machine.Client.{Waiting}
+use Rattle.headline.specs.machine.Streams.{with_at}
+use Rattle.client_ties.specs.Lines.{Sorted}
+use Rattle.client_ties.specs.PartTie.{Phase, Leads as IfLeft}
+use Rattle.client_ties.specs.Sights.{sight}
+use Rattle.client_ties.proofs.Keys.{with_here, with_same}
+use Rattle.client_ties.proofs.Tables.{at_frees, frees_path}
+use Rattle.choice_runs.specs.Choosing.{Choosing}
+use Rattle.choice_runs.specs.Doing.{at_rest, IsGivenUp, HasLeft}
+use Rattle.choice_runs.specs.Servers.{State, Listed}
+use Rattle.choice_runs.specs.Requests.{Beside, Work, IsKept, desk_of, Stands}
+use Rattle.choice_runs.proofs.Changing.{ended}
+use Rattle.choice_runs.proofs.Disarming.{goes_stopped, again_path, disarms}
+use Rattle.choice_runs.proofs.Dropping.{AreOff, all_off, follows_of, follows_then}
+use Rattle.choice_runs.proofs.Ending.{outs_of, board_of}
+use Rattle.choice_runs.proofs.Resting.{over_any}
+
+module _ (g : Choosing) (deadlines : ℕ → Option ℕ) (phase : ℕ → Phase) (t : ℕ) (job : Work g) (named : ℕ → ℕ → Option ℕ) (c : Choice Request g.U g.R) (v : View) (x y : State g)
+    (st : Stands g (at_rest deadlines) phase (length (g.c).servers) (λ j. entry_at j c.jobs) named 0 [] c v x) (table : (hi : ℕ) × Sorted 0 hi c.jobs) (is : entry_at t c.jobs ≡ Some job) (has_left : HasLeft g job.number x y) where
+  abbrev count : ℕ
+  count = length (g.c).servers
+
+  abbrev beside : Beside
+  beside = at_rest deadlines
+
+  abbrev tab : ℕ → Option (Work g)
+  tab = λ j. entry_at j (frees t c.jobs)
+
+  abbrev without : Choice Request g.U g.R
+  without = record c { jobs = frees t c.jobs; timers = unset job.timer c.timers }
+
+  new : tab t ≡ None
+  new = at_frees t t 0 table.0 c.jobs table.1 ∙ with_here t None (λ j. entry_at j c.jobs)
+
+  in_hand : with_at t (Some job) tab ≡ (λ j. entry_at j c.jobs)
+  in_hand = ap (λ f. with_at t (Some job) f) (frees_path t 0 table.0 c.jobs table.1) ∙ (again_path t (Some job) None (λ j. entry_at j c.jobs) ∙ fun_ext (λ j. with_same t (Some job) (λ j. entry_at j c.jobs) j is))
+
+  calm : Stands g beside phase count (with_at t (Some (disarmed job)) tab) named 0 [] (unarmed job.timer c) (stopped job.timer v) x
+  calm = disarms g beside phase count named 0 t job tab c v x (subst (λ f. Stands g beside phase count f named 0 [] c v x) (sym in_hand) st)
+
+  over : Stands g beside phase count tab named job.number job.started without (stopped job.timer v) y
+  over = record {
+    servers = record {
+      count = calm.servers.count;
+      tied = λ q e m. subst (λ f. g.Tied q (phase q) e.upstream (sight (stopped job.timer v)) (f q)) (sym has_left.ups) (calm.servers.tied q e m);
+      apart = calm.servers.apart;
+      fair = calm.servers.fair;
+      place = has_left.place ∙ calm.servers.place;
+    };
+    quiet = calm.quiet;
+    is_named = calm.is_named;
+    still = calm.still;
+    less = calm.less;
+    kept = ended g t (disarmed job) (desk_of g (with_at t (Some (disarmed job)) tab) named (unarmed job.timer c) (stopped job.timer v) x) (desk_of g tab named without (stopped job.timer v) y)
+        (with_here t (Some (disarmed job)) tab) refl (sym (again_path t None (Some (disarmed job)) tab ∙ fun_ext (λ j. with_same t None tab j new))) refl refl refl has_left.held refl 0 calm.kept;
+    foreign = calm.foreign;
+    timers = calm.timers;
+    due = calm.due;
+    own = calm.own;
+    far = calm.far;
+  }
+
+  owed : IsKept g (desk_of g (with_at t (Some (disarmed job)) tab) named (unarmed job.timer c) (stopped job.timer v) x) t (disarmed job)
+  owed = calm.kept.kept t (disarmed job) (with_here t (Some (disarmed job)) tab)
+
+  pub gives_it_up : IfLeft (IsGivenUp g (at_rest deadlines) phase t c v y) (drops g.below t c v)
+  gives_it_up = subst (λ o. IfLeft (IsGivenUp g (at_rest deadlines) phase t c v y) (drops_job g.below t c v o)) (sym is)
+      (by (drops_each g.below job.started c.servers (stopped job.timer v))
+      (all_off g beside phase count tab job.number t new job.started named without (stopped job.timer v) y (ap (λ (h : ℕ → Option Waiting). h job.number) has_left.held ∙ with_here job.number None x.held) owed.apart
+      (λ b i r p. (let w = owed.waits b i r p in (λ same. not_below count (subst (λ n. n < count) (sym same) w.within), record { within = w.within; ticket = w.ticket; waiting = w.waiting; named = w.named }))) over))
+    where
+      not_below : (n : ℕ) → n < n → ⊥
+      not_below n lt = omega arith
+
+      by : (o : Option (Listed g × View)) → IfLeft (AreOff g beside phase count tab job.number t new [] named without (stopped job.timer v) y) o → IfLeft (IsGivenUp g (at_rest deadlines) phase t c v y) (option_map (λ z. (record without { servers = z.0 }, z.1)) o)
+      by None l = tt
+      by (Some z) l = record {
+        named' = l.named';
+        end = l.end;
+        went = record {
+          outs = l.went.outs;
+          leads = l.went.leads;
+          put = l.went.put ∙ ap (λ (o : List Out). o ++ l.went.outs) (outs_of g beside phase count job.timer v);
+          goes_on = follows_then g v (stopped job.timer v) z.1 (follows_of g v (stopped job.timer v) (goes_stopped job.timer v st.servers.fair)) l.went.goes_on;
+          now = l.went.now;
+          asked = l.went.asked;
+          pending = l.went.pending;
+        };
+        stands = over_any g beside phase count tab l.named' job.number 0 (record without { servers = z.0 }) z.1 l.end l.stands;
+        jobs = refl;
+        leaving = l.leaving;
+        board = l.board;
+        put = l.put ∙ board_of g beside phase count job.timer v;
+      }

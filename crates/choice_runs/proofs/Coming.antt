@@ -1,0 +1,139 @@
+-- A request is taken on, and started at servers.
+use Rattle.std.proofs.Common.{◌≡◌, ℕ, inl, inr, false, List, [], ◌∷◌, length, Option, Some, None, refl, sym, ap, subst, ◌∙◌}
+use Rattle.client_request.specs.Carries.{IsOfOctets}
+use Rattle.client_request.specs.Numbered.{entry_at}
+use Rattle.client_request.specs.Request.{Request}
+use Rattle.client_request.specs.View.{View}
+use Rattle.client_choice.specs.Choice.{Choice, fresh_job, takes_on}
+use Rattle.client_choice.specs.declared.job.Entry.{Entry}
+use Rattle.headline.specs.Parts.{IsIn}
+use Rattle.headline.specs.machine.Client.{Waiting, Posted, newcomer}
+use Rattle.headline.specs.machine.Streams.{with_at}
+use Rattle.client_ties.specs.Lines.{Sorted}
+use Rattle.client_ties.specs.PartTie.{Phase, Leads as IfLeft}
+use Rattle.client_ties.specs.Sights.{sight}
+use Rattle.client_ties.proofs.Keys.{with_here, with_there, is_or_was}
+use Rattle.choice_runs.specs.Choosing.{Choosing}
+use Rattle.choice_runs.specs.Doing.{at_rest, HasDone, HasTakenOn, IsLinedUp}
+use Rattle.choice_runs.specs.Servers.{State}
+use Rattle.choice_runs.specs.Requests.{Work, Desk, IsKept, AreKept, desk_of, Stands}
+use Rattle.choice_runs.proofs.AtServer.{both_are, none_is}
+use Rattle.choice_runs.proofs.Firing.{none_past}
+use Rattle.choice_runs.proofs.Runs.{runs_do}
+
+module _ (g : Choosing) (deadlines : ℕ → Option ℕ) (phase : ℕ → Phase) (t now : ℕ) (request : Request) (entries : List Entry) (named : ℕ → ℕ → Option ℕ) (c : Choice Request g.U g.R) (v : View) (x y : State g)
+    (st : Stands g (at_rest deadlines) phase (length (g.c).servers) (λ j. entry_at j c.jobs) named 0 [] c v x) (sorted : (hi : ℕ) × Sorted 0 hi c.jobs) (new : entry_at t c.jobs ≡ None) (octets : IsOfOctets request) (lined : IsLinedUp (length (g.c).servers) entries)
+    (taken : HasTakenOn g v.request request now x y) (quiet : y.board ≡ []) where
+  abbrev count : ℕ
+  count = length (g.c).servers
+
+  abbrev fresh : Work g
+  fresh = fresh_job v.request request entries
+
+  abbrev table : ℕ → Option (Work g)
+  table = λ j. entry_at j c.jobs
+
+  abbrev old : Desk g
+  old = desk_of g table named c v x
+
+  abbrev then_so : Desk g
+  then_so = desk_of g (with_at t (Some fresh) table) named c v y
+
+  here : with_at t (Some fresh) table t ≡ Some fresh
+  here = with_here t (Some fresh) table
+
+  still : (u : ℕ) (other : Work g) → table u ≡ Some other → with_at t (Some fresh) table u ≡ Some other
+  still u other is = with_there t (Some fresh) table u (λ same. none_is (table u) other (subst (λ u. table u ≡ None) same new) is) ∙ is
+
+  -- no request before had that number
+  numbers : (u : ℕ) (other : Work g) → table u ≡ Some other → v.request ≡ other.number → ⊥
+  numbers u other is same = (let m = st.kept.kept u other is in none_is (x.held other.number) m.ask (subst (λ k. x.held k ≡ None) same taken.unused) m.is)
+
+  kept_fresh : IsKept g then_so t fresh
+  kept_fresh = record {
+    ask = newcomer request now;
+    is = ap (λ (h : ℕ → Option Waiting). h v.request) taken.held ∙ with_here v.request (Some (newcomer request now)) x.held;
+    request = refl;
+    octets = octets;
+    left = lined.line;
+    all = λ s lt. inr (lined.all s lt);
+    tried = λ e m. absurd m;
+    waits = λ e m. absurd m;
+    apart = tt;
+    deferred = refl;
+    timer = λ i p. absurd (cc);
+    armed = λ p. refl;
+  }
+
+  kept_others : (u : ℕ) (other : Work g) → table u ≡ Some other → IsKept g then_so u other
+  kept_others u other is = (let m = st.kept.kept u other is in record {
+    ask = m.ask;
+    is = ap (λ (h : ℕ → Option Waiting). h other.number) taken.held ∙ (with_there v.request (Some (newcomer request now)) x.held other.number (numbers u other is) ∙ m.is);
+    request = m.request;
+    octets = m.octets;
+    left = m.left;
+    all = m.all;
+    tried = m.tried;
+    waits = λ e i r p. (let w = m.waits e i r p in record { within = w.within; ticket = w.ticket; waiting = w.waiting; named = w.named });
+    apart = m.apart;
+    deferred = m.deferred;
+    timer = m.timer;
+    armed = m.armed;
+  })
+
+  kept_then : AreKept g 0 [] then_so
+  kept_then = record {
+    kept = λ u other is. elim (is_or_was t (Some fresh) table u other is) [
+      | inl p ↦ subst (λ u. IsKept g then_so u other) p.0 (subst (λ (w : Work g). IsKept g then_so t w) (both_are (Some fresh) fresh other refl p.1) kept_fresh)
+      | inr p ↦ kept_others u other p.1
+    ];
+    named = λ s i k lt is. elim (st.kept.named s i k lt is) [
+      | inl m ↦ inl (record { ticket = m.ticket; job = m.job; is = still m.ticket m.job m.is; number = m.number; owed = m.owed })
+      | inr o ↦ inr o
+    ];
+    held = λ k a is. elim (is_or_was v.request (Some (newcomer request now)) x.held k a (sym (ap (λ (h : ℕ → Option Waiting). h k) taken.held) ∙ is)) [
+      | inl p ↦ (t, fresh, here, p.0)
+      | inr p ↦ (let m = st.kept.held k a p.1 in (m.0, m.1, still m.0 m.1 m.2, m.3))
+    ];
+    timers = λ i u is. (let m = st.kept.timers i u is in (m.0, still u m.0 m.1, m.2));
+    apart = λ u w a b p q n. elim (is_or_was t (Some fresh) table u a p) [
+      | inl e ↦ elim (is_or_was t (Some fresh) table w b q) [
+        | inl f ↦ sym e.0 ∙ f.0
+        | inr f ↦ absurd (numbers w b f.1 (ap (λ (j : Work g). j.number) (both_are (Some fresh) fresh a refl e.1) ∙ n))
+      ]
+      | inr e ↦ elim (is_or_was t (Some fresh) table w b q) [
+        | inl f ↦ absurd (numbers u a e.1 (ap (λ (j : Work g). j.number) (both_are (Some fresh) fresh b refl f.1) ∙ sym n))
+        | inr f ↦ st.kept.apart u w a b e.1 f.1 n
+      ]
+    ];
+  }
+
+  nothing : (z : Posted) (b : List Posted) → b ≡ [] → IsIn z b → ⊥
+  nothing z [] e m = m
+  nothing z (p ∷ ps) e m = cc
+
+  pub takes_it_on : IfLeft (HasDone g (at_rest deadlines) phase count t v.request table y.board named v y) (takes_on g.below g.settings t entries request c v)
+  takes_it_on = runs_do g (at_rest deadlines) phase count entries t fresh table named c v y (record {
+    left = refl;
+    calm = refl;
+    has = λ none. absurd (lined.some none);
+    aside = λ m. none_past count entries (λ s. false) lined.line m;
+    clear = λ b m. absurd m;
+    pending = λ z m. absurd (nothing z y.board quiet m);
+    is_table = refl;
+    new = new;
+    sorted = sorted;
+    stands = record {
+      servers = record { count = st.servers.count; tied = λ q e m. subst (λ f. g.Tied q (phase q) e.upstream (sight v) (f q)) (sym taken.ups) (st.servers.tied q e m); apart = st.servers.apart; fair = st.servers.fair; place = taken.place ∙ st.servers.place };
+      quiet = st.quiet;
+      is_named = st.is_named;
+      still = st.still;
+      less = st.less;
+      kept = kept_then;
+      foreign = st.foreign;
+      timers = st.timers;
+      due = st.due;
+      own = st.own;
+      far = st.far;
+    };
+  })

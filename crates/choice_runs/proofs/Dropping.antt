@@ -1,0 +1,261 @@
+-- The servers that still owe a request its result give it up, one after another.
+use Rattle.std.proofs.Common.{◌≡◌, ℕ, zero, suc, ◌<◌, ◌≤◌, inl, inr, List, [], ◌∷◌, ◌++◌, length, map, Option, Some, None, slice_get, refl, sym, ap, subst, ◌∙◌, arith, le_trans, append_assoc, append-nil}
+use Rattle.std.specs.Prelude.{set, option_and_then}
+use Rattle.client_request.specs.Composed.{composed}
+use Rattle.client_request.specs.Numbered.{entry_at}
+use Rattle.client_request.specs.Request.{Request}
+use Rattle.client_request.specs.View.{View}
+use Rattle.client_request.specs.declared.event.Out.{Out}
+use Rattle.client_request.specs.declared.board.Posted.{Posted}
+use Rattle.client_choice.specs.Choice.{Choice, drops_each, drops_response}
+use Rattle.client_choice.specs.Servers.{Server, owner, owner_at, drops_at}
+use Rattle.headline.specs.Parts.{IsIn}
+use Rattle.headline.specs.machine.Client.{Waiting, with_up, tag}
+use Rattle.headline.specs.machine.Part.{Post}
+use Rattle.headline.specs.machine.Streams.{with_at}
+use Rattle.client_ties.specs.Chains.{Gives}
+use Rattle.client_ties.specs.Lines.{Sorted}
+use Rattle.client_ties.specs.PartTie.{Phase, GoesOn, Leads as IfLeft}
+use Rattle.client_ties.specs.Sights.{due_of}
+use Rattle.client_ties.proofs.GoingOn.{goes_nowhere, none_next}
+use Rattle.client_ties.proofs.Keys.{each_number, with_here, with_there}
+use Rattle.client_ties.proofs.Tables.{at_frees, sorted_frees}
+use Rattle.choice_runs.specs.Choosing.{Choosing}
+use Rattle.choice_runs.specs.Leading.{Arrives}
+use Rattle.choice_runs.specs.Servers.{State, Listed, AfterCall, IsDropped}
+use Rattle.choice_runs.specs.Requests.{Beside, Work, Begun, Desk, Waits, AreKept, AreApart, desk_of, Stands, Went, Follows}
+use Rattle.choice_runs.proofs.AtServer.{both_are, none_is, set_here, set_there}
+use Rattle.choice_runs.proofs.Keeping.{Differ, one_dropped, none_dropped, waits_on}
+use Rattle.choice_runs.proofs.Leading.{leads_on, up_here, up_other}
+use Rattle.choice_runs.proofs.ServerCalls.{one_drops}
+
+pub found_at : {A : Type 0} (xs : List A) (i : ℕ) → i < length xs → (a : A) × (slice_get xs i ≡ Some a)
+found_at [] i lt = absurd (omega arith)
+found_at (x ∷ xs) zero lt = (x, refl)
+found_at (x ∷ xs) (suc i) lt = found_at xs i (less i (length xs) lt)
+  where
+    less : (a b : ℕ) → suc a < suc b → a < b
+    less a b lt = omega arith
+
+module _ (g : Choosing) where
+  pub follows_of : (v w : View) → GoesOn v w → Follows g v w
+  follows_of v w o = record { fair = o.fair; now = o.now; timer = o.timer; ticket = o.ticket; place = o.place; later = λ i due is. elim (o.later i due is) [ inl p ↦ inl p | inr lt ↦ inr (no_less v.now due lt) ] }
+    where
+      no_less : (a b : ℕ) → a < b → a ≤ b
+      no_less a b lt = omega arith
+
+  pub follows_then : (v w u : View) → Follows g v w → Follows g w u → Follows g v u
+  follows_then v w u a b = record {
+    fair = b.fair;
+    now = b.now ∙ a.now;
+    timer = le_trans a.timer b.timer;
+    ticket = le_trans a.ticket b.ticket;
+    place = le_trans a.place b.place;
+    later = λ i due is. elim (b.later i due is) [ inl p ↦ a.later i due p | inr le ↦ inr (subst (λ n. n ≤ due) a.now le) ];
+  }
+
+  pub went_nowhere : (v : View) (x : State g) → Follows g v v → Went g v x v x
+  went_nowhere v x on = record { outs = []; leads = Arrives x; put = sym (append-nil v.outs); goes_on = on; now = refl; asked = refl; pending = refl }
+
+  pub went_then : (v : View) (x : State g) (w : View) (y : State g) (u : View) (z : State g) → Went g v x w y → Went g w y u z → Went g v x u z
+  went_then v x w y u z a b = record {
+    outs = a.outs ++ b.outs;
+    leads = leads_on g.st composed g.P x a.outs y b.outs z a.leads b.leads;
+    put = b.put ∙ (ap (λ (o : List Out). o ++ b.outs) a.put ∙ append_assoc v.outs a.outs b.outs);
+    goes_on = follows_then v w u a.goes_on b.goes_on;
+    now = b.now ∙ a.now;
+    asked = b.asked ∙ a.asked;
+    pending = b.pending ∙ a.pending;
+  }
+
+  -- What stands after a call of server s, where the requests are kept.
+  module _ (beside : Beside) (phase after : ℕ → Phase) (current : ℕ) (jobs : ℕ → Option (Work g)) (named : ℕ → ℕ → Option ℕ) (over : ℕ) (dropping : List (Begun g)) (c : Choice Request g.U g.R) (v : View) (x : State g) (st : Stands g beside phase current jobs named over dropping c v x)
+      (s : ℕ) (a b : Server g.U) (at : slice_get c.servers s ≡ Some a) (nm : ℕ → Option ℕ) (board : List Posted) (from y : State g) (w : View) (call : AfterCall g after s a b nm board c.servers v from y w) where
+    -- a timer of others is not of a server then
+    pub far_on : (i due : ℕ) → due_of i v.timers.set ≡ Some due → ((q : ℕ) (e : Server g.U) → slice_get c.servers q ≡ Some e → g.Owns e.upstream i → ⊥) → (q : ℕ) (e : Server g.U) → slice_get (set c.servers s b) q ≡ Some e → g.Owns e.upstream i → ⊥
+    far_on i due is far q e found o = each_number (λ q. slice_get (set c.servers s b) q ≡ Some e → ⊥) s
+        (λ found. here (subst (λ (e : Server g.U). g.Owns e.upstream i) (sym (both_are (slice_get (set c.servers s b) s) b e (set_here c.servers s a b at) found)) o))
+        (λ q ne found. far q e (sym (set_there c.servers s q b ne) ∙ found) o) q found
+      where
+        here : g.Owns b.upstream i → ⊥
+        here o = elim (call.owned i o) [ inl p ↦ far s a at p | inr le ↦ none_is (due_of i v.timers.set) due (none_next v i st.servers.fair le) is ]
+
+    -- a timer of the choice is due at some moment
+    pub timer_due : (i t : ℕ) → entry_at i c.timers ≡ Some t → (due : ℕ) × (due_of i v.timers.set ≡ Some due)
+    timer_due i t is = (let m = st.kept.timers i t is in ((st.kept.kept t m.0 m.1).timer i m.2).1)
+
+    pub stands_on : (jobs' : ℕ → Option (Work g)) (named' : ℕ → ℕ → Option ℕ) (over' : ℕ) (dropping' : List (Begun g)) → (b.posted ≡ []) × ((hi : ℕ) × Sorted 0 hi b.waiting)
+        → ((current ≡ s → ⊥) → (i : ℕ) → named' s i ≡ g.names b.upstream i) → (current ≡ s → ⊥) → ((q i : ℕ) → (s ≡ q → ⊥) → named' q i ≡ named q i)
+        → AreKept g over' dropping' (desk_of g jobs' named' (record c { servers = set c.servers s b }) w call.end) → Stands g beside after current jobs' named' over' dropping' (record c { servers = set c.servers s b }) w call.end
+    stands_on jobs' named' over' dropping' quiet here aside there kept = record {
+      servers = call.tied;
+      quiet = λ q e is. each_number (λ q. slice_get (set c.servers s b) q ≡ Some e → (e.posted ≡ []) × ((hi : ℕ) × Sorted 0 hi e.waiting)) s
+          (λ is. subst (λ (e : Server g.U). (e.posted ≡ []) × ((hi : ℕ) × Sorted 0 hi e.waiting)) (both_are (slice_get (set c.servers s b) s) b e (set_here c.servers s a b at) is) quiet)
+          (λ q ne is. st.quiet q e (sym (set_there c.servers s q b ne) ∙ is)) q is;
+      is_named = λ q e is other i. each_number (λ q. slice_get (set c.servers s b) q ≡ Some e → (current ≡ q → ⊥) → named' q i ≡ g.names e.upstream i) s
+          (λ is other. subst (λ (e : Server g.U). named' s i ≡ g.names e.upstream i) (both_are (slice_get (set c.servers s b) s) b e (set_here c.servers s a b at) is) (here other i))
+          (λ q ne is other. there q i ne ∙ st.is_named q e (sym (set_there c.servers s q b ne) ∙ is) other i) q is other;
+      still = λ e is. st.still e (sym (set_there c.servers s current b (λ same. aside (sym same))) ∙ is);
+      less = λ i k is. there current i (λ same. aside (sym same)) ∙ st.less i k is;
+      kept = kept;
+      foreign = λ i t q e is found o. (let d = timer_due i t is in far_on i d.0 d.1 (λ q e at own. st.foreign i t q e is at own) q e found o);
+      timers = st.timers;
+      due = λ i m is. call.others i m (st.far i m s a is at) (st.due i m is);
+      own = st.own;
+      far = λ i m q e is found o. far_on i m (st.due i m is) (λ q e at own. st.far i m q e is at own) q e found o;
+    }
+
+    pub dues_on : (i t due : ℕ) → entry_at i c.timers ≡ Some t → due_of i v.timers.set ≡ Some due → due_of i w.timers.set ≡ Some due
+    dues_on i t due is d = call.others i due (λ o. st.foreign i t s a is at o) d
+
+  pub left_then : {U V : Type 0} (A : U → View → Type 0) (B : V → View → Type 0) (k : U × View → Option (V × View)) (o : Option (U × View)) → ((u : U) (w : View) → A u w → IfLeft B (k (u, w))) → IfLeft A o → IfLeft B (option_and_then k o)
+  left_then A B k None f l = tt
+  left_then A B k (Some z) f l = f z.0 z.1 l
+
+  pub left_on : {U : Type 0} (A B : U → View → Type 0) (o : Option (U × View)) → ((u : U) (w : View) → A u w → B u w) → IfLeft A o → IfLeft B o
+  left_on A B None f l = tt
+  left_on A B (Some z) f l = f z.0 z.1 l
+
+  pub owner_there : (xs : Listed g) (s q i : ℕ) (b : Server g.U) → (s ≡ q → ⊥) → owner q i (set xs s b) ≡ owner q i xs
+  owner_there xs s q i b ne = ap (λ o. owner_at i o) (set_there xs s q b ne)
+
+  pub owner_here : (xs : Listed g) (s i : ℕ) (a : Server g.U) → slice_get xs s ≡ Some a → owner s i xs ≡ entry_at i a.waiting
+  owner_here xs s i a at = ap (λ o. owner_at i o) at
+
+  module _ (beside : Beside) (phase : ℕ → Phase) (current : ℕ) (jobs : ℕ → Option (Work g)) (over t0 : ℕ) (gone : jobs t0 ≡ None) where
+    -- So many servers have given it up; `es` are left.
+    pub record AreOff (es : List (Begun g)) (named : ℕ → ℕ → Option ℕ) (c : Choice Request g.U g.R) (v : View) (x : State g) (servers : Listed g) (w : View) : Type 0 where
+      pub named' : ℕ → ℕ → Option ℕ
+      pub end : State g
+      pub went : Went g v x w end
+      pub stands : Stands g beside phase current jobs named' over es (record c { servers = servers }) w end
+      pub held : end.held ≡ x.held
+      pub leaving : end.leaving ≡ x.leaving
+      pub board : end.board ≡ x.board
+      pub put : w.board ≡ v.board
+      pub same_there : (i : ℕ) → named' current i ≡ named current i
+      pub waits : (b : Begun g) (r : g.R) → IsIn b es → Waits g (desk_of g jobs named c v x) t0 over b r → Waits g (desk_of g jobs named' (record c { servers = servers }) w end) t0 over b r
+
+    -- one more gives it up
+    one_off : (e : Begun g) (es : List (Begun g)) (named : ℕ → ℕ → Option ℕ) (c : Choice Request g.U g.R) (v : View) (x : State g) (r : g.R) → x.held over ≡ None → (current ≡ e.server → ⊥) → ((f : Begun g) → IsIn f es → e.server ≡ f.server → ⊥)
+        → Waits g (desk_of g jobs named c v x) t0 over e r → Stands g beside phase current jobs named over (e ∷ es) c v x → IfLeft (AreOff es named c v x) (drops_at g.below e.server e.lower r c.servers v)
+    one_off e es named c v x r none other apart w st = go (found_at c.servers e.server (subst (λ n. e.server < n) (sym st.servers.count) w.within))
+      where
+        go : (a : Server g.U) × (slice_get c.servers e.server ≡ Some a) → IfLeft (AreOff es named c v x) (drops_at g.below e.server e.lower r c.servers v)
+        go found = on (drops_at g.below e.server e.lower r c.servers v)
+            (one_drops g phase c.servers v x e.server a st.servers found.1 (st.quiet e.server a found.1).0 over e.lower r none
+            (sym (st.is_named e.server a found.1 other (g.ticket r)) ∙ subst (λ i. named e.server i ≡ Some over) (sym w.ticket) w.named) w.ticket)
+          where
+            a : Server g.U
+            a = found.0
+
+            off : (servers : Listed g) (y : View) → IsDropped g phase e.server over e.lower a c.servers v x servers y → AreOff es named c v x servers y
+            off servers y d = subst (λ xs. AreOff es named c v x xs y) (sym d.lists) (record {
+              named' = named';
+              end = d.call.end;
+              went = record { outs = d.call.made.outs; leads = d.call.leads; put = d.call.put; goes_on = follows_of v y d.call.goes_on; now = d.call.moved.now; asked = d.call.moved.asked; pending = d.call.moved.pending };
+              stands = stands_on beside phase phase current jobs named over (e ∷ es) c v x st e.server a d.server found.1 (with_at e.lower None (g.names a.upstream)) [] x x y d.call jobs named' over es
+                  (d.posted, ((st.quiet e.server a found.1).1.0, subst (λ (ws : List (ℕ × ℕ)). Sorted 0 (st.quiet e.server a found.1).1.0 ws) (sym d.waiting) (sorted_frees e.lower 0 (st.quiet e.server a found.1).1.0 a.waiting (st.quiet e.server a found.1).1.1)))
+                  (λ ne i. here i ∙ names_now i) other there kept;
+              held = d.call.moved.held;
+              leaving = d.call.moved.leaving;
+              board = d.call.moved.board ∙ no_more d.call.made.posts d.call.gives;
+              put = d.board;
+              same_there = λ i. there current i (λ same. other (sym same));
+              waits = λ b q is m. waits_on g e.server e.lower (desk_of g jobs named c v x) desk' t0 over b q differ (λ same i. apart b is same) m;
+            })
+              where
+                named' : ℕ → ℕ → Option ℕ
+                named' = with_up e.server (with_at e.lower None (named e.server)) named
+
+                desk' : Desk g
+                desk' = desk_of g jobs named' (record c { servers = set c.servers e.server d.server }) y d.call.end
+
+                here : (i : ℕ) → named' e.server i ≡ with_at e.lower None (named e.server) i
+                here i = ap (λ (f : ℕ → Option ℕ). f i) (up_here e.server (with_at e.lower None (named e.server)) named)
+
+                there : (q i : ℕ) → (e.server ≡ q → ⊥) → named' q i ≡ named q i
+                there q i ne = ap (λ (f : ℕ → Option ℕ). f i) (up_other e.server q (with_at e.lower None (named e.server)) named ne)
+
+                -- nothing was given
+                names_now : (i : ℕ) → with_at e.lower None (named e.server) i ≡ g.names d.server.upstream i
+                names_now i = by_here i ∙ sym (no_gift d.call.made.posts d.call.gives i)
+                  where
+                    by_here : (i : ℕ) → with_at e.lower None (named e.server) i ≡ with_at e.lower None (g.names a.upstream) i
+                    by_here i = each_number (λ j. with_at e.lower None (named e.server) j ≡ with_at e.lower None (g.names a.upstream) j) e.lower
+                        (with_here e.lower None (named e.server) ∙ sym (with_here e.lower None (g.names a.upstream)))
+                        (λ j ne. with_there e.lower None (named e.server) j ne ∙ (st.is_named e.server a found.1 other j ∙ sym (with_there e.lower None (g.names a.upstream) j ne))) i
+
+                    no_gift : (posts : List Post) → Gives (with_at e.lower None (g.names a.upstream)) [] posts (g.names d.server.upstream) → (i : ℕ) → g.names d.server.upstream i ≡ with_at e.lower None (g.names a.upstream) i
+                    no_gift [] gives i = gives i
+                    no_gift (q ∷ qs) gives i = absurd gives
+
+                no_more : (posts : List Post) → Gives (with_at e.lower None (g.names a.upstream)) [] posts (g.names d.server.upstream) → x.board ++ map (tag e.server) posts ≡ x.board
+                no_more [] gives = append-nil x.board
+                no_more (q ∷ qs) gives = absurd gives
+
+                differ : Differ g e.server e.lower (desk_of g jobs named c v x) desk'
+                differ = record {
+                  waiting = λ q i ne. each_number (λ q. (e.server ≡ q → e.lower ≡ i → ⊥) → owner q i (set c.servers e.server d.server) ≡ owner q i c.servers) e.server
+                      (λ ne. owner_here (set c.servers e.server d.server) e.server i d.server (set_here c.servers e.server a d.server found.1)
+                      ∙ (ap (λ (ws : List (ℕ × ℕ)). entry_at i ws) d.waiting
+                      ∙ (at_frees e.lower i 0 (st.quiet e.server a found.1).1.0 a.waiting (st.quiet e.server a found.1).1.1
+                      ∙ (with_there e.lower None (λ j. entry_at j a.waiting) i (λ same. ne refl same) ∙ sym (owner_here c.servers e.server i a found.1)))))
+                      (λ q differs ne. owner_there c.servers e.server q i d.server differs) q ne;
+                  named = λ q i ne. each_number (λ q. (e.server ≡ q → e.lower ≡ i → ⊥) → named' q i ≡ named q i) e.server
+                      (λ ne. here i ∙ with_there e.lower None (named e.server) i (λ same. ne refl same)) (λ q differs ne. there q i differs) q ne;
+                  dues = λ i u due is m. dues_on beside phase phase current jobs named over (e ∷ es) c v x st e.server a d.server found.1 (with_at e.lower None (g.names a.upstream)) [] x x y d.call i u due is m;
+                }
+
+                kept : AreKept g over es desk'
+                kept = one_dropped g over e es (desk_of g jobs named c v x) desk' t0 gone w.waiting refl refl d.call.moved.held differ (here e.lower ∙ with_here e.lower None (named e.server)) st.kept
+
+            on : (o : Option (Listed g × View)) → IfLeft (IsDropped g phase e.server over e.lower a c.servers v x) o → IfLeft (AreOff es named c v x) o
+            on None l = tt
+            on (Some z) l = off z.0 z.1 l
+
+    off_then : (es : List (Begun g)) (fs : List (Begun g)) (named : ℕ → ℕ → Option ℕ) (c : Choice Request g.U g.R) (v : View) (x : State g) (servers : Listed g) (w : View) (a : AreOff fs named c v x servers w) (later : Listed g) (u : View)
+        → ((b : Begun g) → IsIn b es → IsIn b fs) → AreOff es a.named' (record c { servers = servers }) w a.end later u → AreOff es named c v x later u
+    off_then es fs named c v x servers w a later u some b = record {
+      named' = b.named';
+      end = b.end;
+      went = went_then v x w a.end u b.end a.went b.went;
+      stands = b.stands;
+      held = b.held ∙ a.held;
+      leaving = b.leaving ∙ a.leaving;
+      board = b.board ∙ a.board;
+      put = b.put ∙ a.put;
+      same_there = λ i. b.same_there i ∙ a.same_there i;
+      waits = λ e r is m. b.waits e r is (a.waits e r (some e is) m);
+    }
+
+    -- all give it up
+    pub all_off : (es : List (Begun g)) (named : ℕ → ℕ → Option ℕ) (c : Choice Request g.U g.R) (v : View) (x : State g) → x.held over ≡ None → AreApart es → ((b : Begun g) → IsIn b es → (r : g.R) → b.response ≡ Some r → (current ≡ b.server → ⊥) × Waits g (desk_of g jobs named c v x) t0 over b r)
+        → Stands g beside phase current jobs named over es c v x → IfLeft (AreOff [] named c v x) (drops_each g.below es c.servers v)
+    all_off [] named c v x none apart waits st = record {
+      named' = named;
+      end = x;
+      went = went_nowhere v x (follows_of v v (goes_nowhere v st.servers.fair));
+      stands = st;
+      held = refl;
+      leaving = refl;
+      board = refl;
+      put = refl;
+      same_there = λ i. refl;
+      waits = λ b r is m. m;
+    }
+    all_off (e ∷ es) named c v x none apart waits st = by e.response refl (all_off es)
+      where
+        by : (o : Option g.R) → e.response ≡ o
+            → ((named : ℕ → ℕ → Option ℕ) (c : Choice Request g.U g.R) (v : View) (x : State g) → x.held over ≡ None → AreApart es → ((b : Begun g) → IsIn b es → (r : g.R) → b.response ≡ Some r → (current ≡ b.server → ⊥) × Waits g (desk_of g jobs named c v x) t0 over b r)
+            → Stands g beside phase current jobs named over es c v x → IfLeft (AreOff [] named c v x) (drops_each g.below es c.servers v))
+            → IfLeft (AreOff [] named c v x) (option_and_then (λ z. drops_each g.below es z.0 z.1) (drops_response g.below e c.servers v o))
+        by None is ih = ih named c v x none apart.1 (λ b m r p. waits b (inr m) r p) (record { servers = st.servers; quiet = st.quiet; is_named = st.is_named; still = st.still; less = st.less; kept = none_dropped g over e es (desk_of g jobs named c v x) is st.kept; foreign = st.foreign; timers = st.timers; due = st.due; own = st.own; far = st.far })
+        by (Some r) is ih =
+            let m = waits e (inl refl) r is in
+            left_then (AreOff es named c v x) (AreOff [] named c v x) (λ z. drops_each g.below es z.0 z.1) (drops_at g.below e.server e.lower r c.servers v)
+            (λ servers w a. left_on (AreOff [] a.named' (record c { servers = servers }) w a.end) (AreOff [] named c v x) (drops_each g.below es servers w)
+            (λ later u b. off_then [] es named c v x servers w a later u (λ b i. absurd i) b)
+            (ih a.named' (record c { servers = servers }) w a.end (subst (λ (h : ℕ → Option Waiting). h over ≡ None) (sym a.held) none) apart.1
+            (λ b i r p. (let n = waits b (inr i) r p in (n.0, a.waits b r i n.1))) a.stands))
+            (one_off e es named c v x r none m.0 apart.0 m.1 st)

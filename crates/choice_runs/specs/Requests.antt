@@ -1,0 +1,145 @@
+-- The requests of a choice beside those of the machine: who was started, who is still to be, and under which ticket each waits.
+use Rattle.std.specs.Prelude.{◌≡◌, ℕ, ◌<◌, ◌≤◌, ◌⊎◌, ◌||◌, ◌==◌, Bool, true, false, List, [], ◌∷◌, ◌++◌, length, Option, Some, None, option_map, slice_get}
+use Rattle.client_request.specs.Carries.{IsOfOctets}
+use Rattle.client_request.specs.Composed.{composed}
+use Rattle.client_request.specs.Numbered.{entry_at}
+use Rattle.client_request.specs.Request.{Request}
+use Rattle.client_request.specs.View.{View}
+use Rattle.client_choice.specs.Choice.{Choice, Job}
+use Rattle.client_choice.specs.Servers.{Server, owner}
+use Rattle.client_choice.specs.declared.job.Entry.{Entry}
+use Rattle.client_choice.specs.declared.job.Started.{Started}
+use Rattle.client_request.specs.declared.event.Out.{Out}
+use Rattle.headline.specs.Parts.{IsIn}
+use Rattle.headline.specs.machine.Client.{Waiting, best}
+use Rattle.client_ties.specs.Chains.{part_of}
+use Rattle.client_ties.specs.Lines.{Sorted}
+use Rattle.client_ties.specs.PartTie.{Phase}
+use Rattle.client_ties.specs.Sights.{due_of, IsFair}
+use Rattle.choice_runs.specs.Choosing.{Choosing}
+use Rattle.choice_runs.specs.Leading.{Leads}
+use Rattle.choice_runs.specs.Servers.{State, AreTied}
+
+-- each is a server that was not tried yet, when its turn comes
+abbrev pub AreToStart : (count : ℕ) → (tried : ℕ → Bool) → List Entry → Type 0
+AreToStart count tried [] = Unit {0}
+AreToStart count tried (e ∷ es) = (e.server < count) × (tried e.server ≡ false) × AreToStart count (λ t. (e.server == t) || tried t) es
+
+abbrev pub IsToStart : ℕ → List Entry → Type 0
+IsToStart s [] = ⊥
+IsToStart s (e ∷ es) = (e.server ≡ s) ⊎ IsToStart s es
+
+-- no server was started twice
+abbrev pub AreApart : {P : Type 0} → List (Started P) → Type 0
+AreApart [] = Unit {0}
+AreApart (e ∷ es) = ((f : Started _) → IsIn f es → e.server ≡ f.server → ⊥) × AreApart es
+
+-- What stands beside a call: when each timer of others is due; and the number of the request of each ticket whose result is still to come from the server whose results are taken.
+pub record Beside : Type 0 where
+  pub deadlines : ℕ → Option ℕ
+  pub left : ℕ → Option ℕ
+
+module _ (g : Choosing) where
+  abbrev pub Work : Type 0
+  Work = Job Request g.R
+
+  abbrev pub Begun : Type 0
+  Begun = Started g.R
+
+  -- The tables as functions: the requests by ticket, the ticket of each timer, at each server the ticket and the number of what waits there, the machine's requests by number, and when each timer is due.
+  pub record Desk : Type 0 where
+    pub jobs : ℕ → Option Work
+    pub timers : ℕ → Option ℕ
+    pub waiting : (s lower : ℕ) → Option ℕ
+    pub named : (s lower : ℕ) → Option ℕ
+    pub held : ℕ → Option Waiting
+    pub dues : ℕ → Option ℕ
+
+  -- the result of a server that was started is to come there
+  pub record Waits (d : Desk) (t k : ℕ) (e : Begun) (r : g.R) : Type 0 where
+    pub within : e.server < length (g.c).servers
+    pub ticket : g.ticket r ≡ e.lower
+    pub waiting : d.waiting e.server e.lower ≡ Some t
+    pub named : d.named e.server e.lower ≡ Some k
+
+  -- A request waits under ticket t.
+  pub record IsKept (d : Desk) (t : ℕ) (job : Work) : Type 0 where
+    pub ask : Waiting
+    pub is : d.held job.number ≡ Some ask
+    pub request : ask.request ≡ job.request
+    pub octets : IsOfOctets job.request
+    pub left : AreToStart (length (g.c).servers) ask.tried job.left
+    pub all : (s : ℕ) → s < length (g.c).servers → (ask.tried s ≡ true) ⊎ IsToStart s job.left
+    pub tried : (e : Begun) → IsIn e job.started → ask.tried e.server ≡ true
+    pub waits : (e : Begun) → IsIn e job.started → (r : g.R) → e.response ≡ Some r → Waits d t job.number e r
+    pub apart : AreApart job.started
+    pub deferred : job.deferred ≡ option_map part_of (best ask.kept_back)
+    pub timer : (i : ℕ) → job.timer ≡ Some i → (d.timers i ≡ Some t) × ((due : ℕ) × (d.dues i ≡ Some due))
+    pub armed : job.left ≡ [] → job.timer ≡ None
+
+  -- a server owes a request its result
+  pub record IsOwed (k : ℕ) (started : List Begun) (s under : ℕ) : Type 0 where
+    pub entry : Begun
+    pub is : IsIn entry started
+    pub server : entry.server ≡ s
+    pub lower : entry.lower ≡ under
+    pub response : g.R
+    pub to_come : entry.response ≡ Some response
+
+  pub record IsNamed (d : Desk) (s under k : ℕ) : Type 0 where
+    pub ticket : ℕ
+    pub job : Work
+    pub is : d.jobs ticket ≡ Some job
+    pub number : job.number ≡ k
+    pub owed : IsOwed k job.started s under
+
+  -- The tables and the machine agree. Request `over` has its result, and is still to be given up by those of `dropping`.
+  pub record AreKept (over : ℕ) (dropping : List Begun) (d : Desk) : Type 0 where
+    pub kept : (t : ℕ) (job : Work) → d.jobs t ≡ Some job → IsKept d t job
+    pub named : (s i k : ℕ) → s < length (g.c).servers → d.named s i ≡ Some k → IsNamed d s i k ⊎ ((over ≡ k) × IsOwed k dropping s i)
+    pub held : (k : ℕ) (a : Waiting) → d.held k ≡ Some a → (t : ℕ) × (job : Work) × (d.jobs t ≡ Some job) × (job.number ≡ k)
+    pub timers : (i t : ℕ) → d.timers i ≡ Some t → (job : Work) × (d.jobs t ≡ Some job) × (job.timer ≡ Some i)
+    pub apart : (t u : ℕ) (job other : Work) → d.jobs t ≡ Some job → d.jobs u ≡ Some other → job.number ≡ other.number → t ≡ u
+
+  abbrev pub desk_of : (jobs : ℕ → Option Work) → (named : (s lower : ℕ) → Option ℕ) → Choice Request g.U g.R → View → State g → Desk
+  desk_of jobs named c v x = record {
+    jobs = jobs;
+    timers = λ i. entry_at i c.timers;
+    waiting = λ s i. owner s i c.servers;
+    named = named;
+    held = x.held;
+    dues = λ i. due_of i v.timers.set;
+  }
+
+  -- The choice beside the machine, within a call. `jobs` has its requests, with the one in hand; `current` is the server whose results are taken; `beside` says when the timers of others are due, and what is left to come from the current server.
+  pub record Stands (beside : Beside) (phase : ℕ → Phase) (current : ℕ) (jobs : ℕ → Option Work) (named : (s lower : ℕ) → Option ℕ) (over : ℕ) (dropping : List Begun) (c : Choice Request g.U g.R) (v : View) (x : State g) : Type 0 where
+    pub servers : AreTied g phase c.servers v x
+    pub quiet : (s : ℕ) (a : Server g.U) → slice_get c.servers s ≡ Some a → (a.posted ≡ []) × ((hi : ℕ) × Sorted 0 hi a.waiting)
+    pub is_named : (s : ℕ) (a : Server g.U) → slice_get c.servers s ≡ Some a → (current ≡ s → ⊥) → (i : ℕ) → named s i ≡ g.names a.upstream i
+    pub still : (a : Server g.U) → slice_get c.servers current ≡ Some a → (i : ℕ) → g.names a.upstream i ≡ beside.left i
+    pub less : (i k : ℕ) → beside.left i ≡ Some k → named current i ≡ Some k
+    pub kept : AreKept over dropping (desk_of jobs named c v x)
+    pub foreign : (i t s : ℕ) (a : Server g.U) → entry_at i c.timers ≡ Some t → slice_get c.servers s ≡ Some a → g.Owns a.upstream i → ⊥
+    pub timers : (hi : ℕ) × Sorted 0 hi c.timers
+    pub due : (i moment : ℕ) → beside.deadlines i ≡ Some moment → due_of i v.timers.set ≡ Some moment
+    pub own : (i moment t : ℕ) → beside.deadlines i ≡ Some moment → entry_at i c.timers ≡ Some t → ⊥
+    pub far : (i moment s : ℕ) (a : Server g.U) → beside.deadlines i ≡ Some moment → slice_get c.servers s ≡ Some a → g.Owns a.upstream i → ⊥
+
+  -- The view after calls: it is fair, its moment is the same, numbers go on, and a timer that is set was set before or is not past.
+  pub record Follows (v w : View) : Type 0 where
+    pub fair : IsFair w
+    pub now : w.now ≡ v.now
+    pub timer : v.timers.next ≤ w.timers.next
+    pub ticket : v.ticket ≤ w.ticket
+    pub place : v.place ≤ w.place
+    pub later : (i due : ℕ) → due_of i w.timers.set ≡ Some due → (due_of i v.timers.set ≡ Some due) ⊎ (v.now ≤ due)
+
+  -- what moves left of the machine, while a call left w of the view v
+  pub record Went (v : View) (x : State g) (w : View) (y : State g) : Type 0 where
+    pub outs : List Out
+    pub leads : Leads g.st composed g.P x outs y
+    pub put : w.outs ≡ v.outs ++ outs
+    pub goes_on : Follows v w
+    pub now : y.now ≡ x.now
+    pub asked : y.asked ≡ x.asked
+    pub pending : y.pending ≡ x.pending
