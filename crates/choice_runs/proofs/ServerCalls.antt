@@ -109,14 +109,14 @@ module _ (g : Choosing) where
 
     -- a request is given up
     pub one_drops : (k lower : ℕ) (r : g.R) → IsOpen (phase s) v.place → x.held k ≡ None → g.names a.upstream (g.ticket r) ≡ Some k → g.ticket r ≡ lower → IfLeft (IsDropped g phase s k lower a servers v x) (drops_at g.below s lower r servers v)
-    one_drops k lower r open none named same =
+    one_drops k lower r may_call none named same =
         subst (λ o. IfLeft (IsDropped g phase s k lower a servers v x) (drops_found g.below s lower r servers v o)) (sym at)
         (subst (λ bs. IfLeft (IsDropped g phase s k lower a servers v x) (option_map (λ z. (set servers s z.0, z.1)) (option_map (dropped g.below lower a v) (g.below.cancel r a.upstream (onto bs v))))) (sym quiet)
         (subst (λ o. IfLeft (IsDropped g phase s k lower a servers v x) (option_map (λ z. (set servers s z.0, z.1)) (option_map (dropped g.below lower a v) o))) (sym ((g.layer s within).cancel r a.upstream bare_view))
         (left_map (λ (b : Server g.U) (w : View). IsDropped g phase s k lower a servers v x (set servers s b) w) (IsDropped g phase s k lower a servers v x) (λ z. (set servers s z.0, z.1)) (option_map (dropped g.below lower a v) ((g.bare s).cancel r a.upstream bare_view)) (λ b w d. d)
         (left_so (Leaves g.P (g.Tied s) g.names g.Owns (λ d. Begins (g.P.Cancels s v.place k (x.ups s)) (Chain g.P s) d × (d.posts ≡ [])) (with_at (g.ticket r) None (g.names a.upstream)) a.upstream bare_view (phase s))
         (λ (b : Server g.U) (w : View). IsDropped g phase s k lower a servers v x (set servers s b) w) (dropped g.below lower a v) ((g.bare s).cancel r a.upstream bare_view) given_up
-        ((g.tie s within).cancels (phase s) a.upstream bare_view (x.ups s) r k open (t.tied s a at) fair named)))))
+        ((g.tie s within).cancels (phase s) a.upstream bare_view (x.ups s) r k may_call (t.tied s a at) fair named)))))
       where
         holds : g.P.holds (x.ups s) k ≡ true
         holds = ((g.tie s within).named (phase s) a.upstream (sight v) (x.ups s) (g.ticket r) k (t.tied s a at) named).1
@@ -129,7 +129,7 @@ module _ (g : Choosing) where
           waiting = refl;
           posted = nothing;
           board = refl;
-          more = (g.shared s within).keeps_more (phase s) a.upstream bare_view (x.ups s) r u w open (t.tied s a at) is;
+          more = (g.shared s within).keeps_more (phase s) a.upstream bare_view (x.ups s) r u w may_call (t.tied s a at) is;
           call = subst (λ n. AfterCall g phase s a (dropped g.below lower a v (u, w)).0 (with_at n None (g.names a.upstream)) [] servers v x x (onto v.board w)) same
               (subst (λ bs. AfterCall g phase s a (dropped g.below lower a v (u, w)).0 (with_at (g.ticket r) None (g.names a.upstream)) bs servers v x x (onto v.board w)) nothing
               (called phase phase s (λ d. Begins (g.P.Cancels s v.place k (x.ups s)) (Chain g.P s) d × (d.posts ≡ [])) (with_at (g.ticket r) None (g.names a.upstream)) a (dropped g.below lower a v (u, w)).0 servers v x x w (but g s phase servers v x t) at (λ q ne. refl) l
@@ -175,7 +175,7 @@ module _ (g : Choosing) where
         )
         single (q ∷ p ∷ ps) gives waiting = absurd gives.2
 
-    module _ (request : Request) (k ticket : ℕ) (ask : Waiting) (open : IsOpen (phase s) v.place) (numbered : v.request ≡ k) (held : x.held k ≡ Some ask) (asks_it : ask.request ≡ request) (untried : ask.tried s ≡ false) (octets : IsOfOctets request) (free : g.P.holds (x.ups s) k ≡ false) where
+    module _ (request : Request) (k ticket : ℕ) (ask : Waiting) (may_call : IsOpen (phase s) v.place) (numbered : v.request ≡ k) (held : x.held k ≡ Some ask) (asks_it : ask.request ≡ request) (untried : ask.tried s ≡ false) (octets : IsOfOctets request) (free : g.P.holds (x.ups s) k ≡ false) where
       abbrev MayStart : ℕ → Act g.P.State → Type 0
       MayStart j d = Begins (g.P.Starts s v.place j request (x.ups s)) (Chain g.P s) d
 
@@ -209,13 +209,13 @@ module _ (g : Choosing) where
           subst₂ (λ p r. Begins (g.P.Starts s p k r (x.ups s)) (Chain g.P s) n.made) (sym t.place) (sym asks_it) n.may in
           let r = replied request v.ticket ticket k b w.board n.made.posts (g.below.response request a.upstream (onto [] v))
           (ap g.ticket ((g.layer s within).response request a.upstream (onto [] v)) ∙ (g.tie s within).response request a.upstream (onto [] v)) new_ticket
-          ((g.shared s within).alone (phase s) a.upstream asked (x.ups s) request u w open (t.tied s a at) (sent_so u w is)) (subst (λ bs. Gives (with_at v.ticket (Some k) (g.names a.upstream)) bs n.made.posts (g.names u)) (sym n.put) n.gives) refl in
+          ((g.shared s within).alone (phase s) a.upstream asked (x.ups s) request u w may_call (t.tied s a at) (sent_so u w is)) (subst (λ bs. Gives (with_at v.ticket (Some k) (g.names a.upstream)) bs n.made.posts (g.names u)) (sym n.put) n.gives) refl in
           record {
             server = b;
             lists = refl;
             posted = r.1;
             board = refl;
-            more = (g.shared s within).says_none (phase s) a.upstream asked (x.ups s) request u w open (t.tied s a at) (sent_so u w is);
+            more = (g.shared s within).says_none (phase s) a.upstream asked (x.ups s) request u w may_call (t.tied s a at) (sent_so u w is);
             given = w.board;
             call = called phase phase s (MayStart k) (with_at v.ticket (Some k) (g.names a.upstream)) a b servers v x (hand k s ask x) w (but g s phase servers v (hand k s ask x) after_hand) at (λ q ne. refl) n
                 (start_moves g.st composed g.P s within x k ask n.made held untried begins) (start_opens g s x.place k ask.request (x.ups s) n.made begins);
@@ -234,7 +234,7 @@ module _ (g : Choosing) where
           (left_so (Leaves g.P (g.Tied s) g.names g.Owns (MayStart v.request) (with_at v.ticket (Some v.request) (g.names a.upstream)) a.upstream (onto [] v) (phase s))
           (λ (y : Reply g.R × Server g.U) (w : View). IsStarted g phase s k ticket ask a servers v x (Some y.0, set servers s y.1) w) (started g.below ticket request (record a { posted = [] }) v) (g.below.send request a.upstream (onto [] v)) started_so
           (subst (λ o. IfLeft (Leaves g.P (g.Tied s) g.names g.Owns (MayStart v.request) (with_at v.ticket (Some v.request) (g.names a.upstream)) a.upstream (onto [] v) (phase s)) o) (sym hands_on)
-          ((g.tie s within).sends (phase s) a.upstream (onto [] v) (x.ups s) request open (t.tied s a at) fair octets (subst (λ j. g.P.holds (x.ups s) j ≡ false) (sym numbered) free))))))
+          ((g.tie s within).sends (phase s) a.upstream (onto [] v) (x.ups s) request may_call (t.tied s a at) fair octets (subst (λ j. g.P.holds (x.ups s) j ≡ false) (sym numbered) free))))))
 
     -- It hears what is its own: an event, a frame, a timer.
 

@@ -68,8 +68,8 @@ numbers_are_tied c s = record {
   begins = λ phase u x a e end tied. tied;
   rests = λ phase u v a end early tied. tt;
   fires = λ u v a w i due tied fair set late. (let g = goes_without v i fair in nothing_done (silent_part c) s (λ phase u x a. u ≡ s) (λ u t. None) (λ u i. ⊥) u _ a (Untold w) g.fair tied);
-  sends = λ phase u v a r open tied fair octets free. send u tied v fair phase (can_draw v.ticket);
-  cancels = λ phase u v a r k open tied fair e. absurd (cc);
+  sends = λ phase u v a r may_call tied fair octets free. send u tied v fair phase (can_draw v.ticket);
+  cancels = λ phase u v a r k may_call tied fair e. absurd (cc);
   tells = λ u v a w tied fair early calm. (let l = none_left w in record { at = l.0; left = 0; may_be = l.1; more = calm; leaves = nothing_done (silent_part c) s (λ phase u x a. u ≡ s) (λ u t. None) (λ u i. ⊥) u v a (Told l.0 0) fair tied });
   takes = λ u v a p n tied fair early calm. record { at = p; left = 0; may_be = (refl, few n); more = calm; leaves = nothing_done (silent_part c) s (λ phase u x a. u ≡ s) (λ u t. None) (λ u i. ⊥) u v a (Told p 0) fair tied };
 }
@@ -122,9 +122,9 @@ shares c s = record {
   ignores = λ u v a w p tied place none. refl;
   passes = λ u x a w p tied place none early. tied;
   frames = λ u v a w p tied place. refl;
-  alone = λ phase u v a r w x open tied is. one u v w x (can_draw v.ticket) is;
-  says_none = λ phase u v a r w x open tied is. same u v w x (can_draw v.ticket) is;
-  keeps_more = λ phase u v a r w x open tied is. ap (λ (y : ℕ × View). (y.1).more) (sym (some_is (u, v) (w, x) is));
+  alone = λ phase u v a r w x may_call tied is. one u v w x (can_draw v.ticket) is;
+  says_none = λ phase u v a r w x may_call tied is. same u v w x (can_draw v.ticket) is;
+  keeps_more = λ phase u v a r w x may_call tied is. ap (λ (y : ℕ × View). (y.1).more) (sym (some_is (u, v) (w, x) is));
 }
   where
     some_is : {A : Type 0} → (a b : A) → Some a ≡ Some b → a ≡ b

@@ -11,7 +11,7 @@ not_below : (n : ℕ) → n < n → ⊥
 not_below n lt = omega arith
 
 pub turning_away : (g : Choosing) → TurningAway g
-turning_away g others phase s left named c v x is_still open =
+turning_away g others phase s left named c v x is_still may_call =
     let st = is_still.stands in
     record {
       stands = record {
@@ -24,7 +24,7 @@ turning_away g others phase s left named c v x is_still open =
         kept = st.kept;
         foreign = st.foreign;
         timers = st.timers;
-        is_open = λ q lt ne. each_number (λ q. q < length (g.c).servers → IsOpen (phase q) v.place) s (λ lt. open) (λ q ne lt. st.is_open q lt ne) q lt;
+        is_open = λ q lt ne. each_number (λ q. q < length (g.c).servers → IsOpen (phase q) v.place) s (λ lt. may_call) (λ q ne lt. st.is_open q lt ne) q lt;
         drawn = st.drawn;
         due = st.due;
         own = st.own;
