@@ -185,6 +185,12 @@ module _ (g : Choosing) where
       hands_on : g.below.send request a.upstream (onto [] v) ≡ (g.bare s).send request a.upstream asked
       hands_on = (g.layer s within).send request a.upstream (onto [] v) (g.placed s (phase s) a.upstream (sight v) (x.ups s) (t.tied s a at))
 
+      fair_asked : IsFair asked
+      fair_asked = record { order = t.fair.order; words = t.fair.words }
+
+      free_so : g.P.holds (x.ups s) v.request ≡ false
+      free_so = subst (λ j. g.P.holds (x.ups s) j ≡ false) (sym numbered) free
+
       sent_so : (u : g.U) (w : View) → g.below.send request a.upstream (onto [] v) ≡ Some (u, w) → (g.bare s).send request a.upstream asked ≡ Some (u, w)
       sent_so u w is = sym hands_on ∙ is
 
@@ -209,13 +215,13 @@ module _ (g : Choosing) where
           subst₂ (λ p r. Begins (g.P.Starts s p k r (x.ups s)) (Chain g.P s) n.made) (sym t.place) (sym asks_it) n.may in
           let r = replied request v.ticket ticket k b w.board n.made.posts (g.below.response request a.upstream (onto [] v))
           (ap g.ticket ((g.layer s within).response request a.upstream (onto [] v)) ∙ (g.tie s within).response request a.upstream (onto [] v)) new_ticket
-          ((g.shared s within).alone (phase s) a.upstream asked (x.ups s) request u w may_call (t.tied s a at) (sent_so u w is)) (subst (λ bs. Gives (with_at v.ticket (Some k) (g.names a.upstream)) bs n.made.posts (g.names u)) (sym n.put) n.gives) refl in
+          ((g.shared s within).alone (phase s) a.upstream asked (x.ups s) request u w may_call (t.tied s a at) fair_asked octets free_so (sent_so u w is)) (subst (λ bs. Gives (with_at v.ticket (Some k) (g.names a.upstream)) bs n.made.posts (g.names u)) (sym n.put) n.gives) refl in
           record {
             server = b;
             lists = refl;
             posted = r.1;
             board = refl;
-            more = (g.shared s within).says_none (phase s) a.upstream asked (x.ups s) request u w may_call (t.tied s a at) (sent_so u w is);
+            more = (g.shared s within).says_none (phase s) a.upstream asked (x.ups s) request u w may_call (t.tied s a at) fair_asked octets free_so (sent_so u w is);
             given = w.board;
             call = called phase phase s (MayStart k) (with_at v.ticket (Some k) (g.names a.upstream)) a b servers v x (hand k s ask x) w (but g s phase servers v (hand k s ask x) after_hand) at (λ q ne. refl) n
                 (start_moves g.st composed g.P s within x k ask n.made held untried begins) (start_opens g s x.place k ask.request (x.ups s) n.made begins);
@@ -234,7 +240,7 @@ module _ (g : Choosing) where
           (left_so (Leaves g.P (g.Tied s) g.names g.Owns (MayStart v.request) (with_at v.ticket (Some v.request) (g.names a.upstream)) a.upstream (onto [] v) (phase s))
           (λ (y : Reply g.R × Server g.U) (w : View). IsStarted g phase s k ticket ask a servers v x (Some y.0, set servers s y.1) w) (started g.below ticket request (record a { posted = [] }) v) (g.below.send request a.upstream (onto [] v)) started_so
           (subst (λ o. IfLeft (Leaves g.P (g.Tied s) g.names g.Owns (MayStart v.request) (with_at v.ticket (Some v.request) (g.names a.upstream)) a.upstream (onto [] v) (phase s)) o) (sym hands_on)
-          ((g.tie s within).sends (phase s) a.upstream (onto [] v) (x.ups s) request may_call (t.tied s a at) fair octets (subst (λ j. g.P.holds (x.ups s) j ≡ false) (sym numbered) free))))))
+          ((g.tie s within).sends (phase s) a.upstream (onto [] v) (x.ups s) request may_call (t.tied s a at) fair octets free_so)))))
 
     -- It hears what is its own: an event, a frame, a timer.
 

@@ -122,8 +122,8 @@ shares c s = record {
   ignores = λ u v a w p tied place none. refl;
   passes = λ u x a w p tied place none early. tied;
   frames = λ u v a w p tied place. refl;
-  alone = λ phase u v a r w x may_call tied is. one u v w x (can_draw v.ticket) is;
-  says_none = λ phase u v a r w x may_call tied is. same u v w x (can_draw v.ticket) is;
+  alone = λ phase u v a r w x may_call tied fair octets free is. one u v w x (can_draw v.ticket) is;
+  says_none = λ phase u v a r w x may_call tied fair octets free is. same u v w x (can_draw v.ticket) is;
   keeps_more = λ phase u v a r w x may_call tied is. ap (λ (y : ℕ × View). (y.1).more) (sym (some_is (u, v) (w, x) is));
 }
   where
