@@ -1,5 +1,6 @@
 pub mod AtServer
 pub mod Leading
+pub mod Opening
 pub mod ServerCalls
 pub mod Keeping
 pub mod Changing
@@ -26,4 +27,6 @@ pub mod Firing
 pub mod Coming
 pub mod Lining
 pub mod Dropping
+pub mod Turning
+pub mod Passing
 pub mod Silence

@@ -123,8 +123,8 @@ TurningAway g = (others : Others) (phase : ℕ → Phase) (s : ℕ) (left : ℕ 
 
 -- And the results of any may be taken next.
 abbrev pub TurningTo : Choosing → Type 0
-TurningTo g = (others : Others) (phase : ℕ → Phase) (s : ℕ) (a : Server g.U) (left : ℕ → Option ℕ) (named : ℕ → ℕ → Option ℕ) (c : Choice Request g.U g.R) (v : View) (x : State g)
-    → IsStill g others phase (nobody g) left named c v x → slice_get c.servers s ≡ Some a → IsStill g others phase s (named s) named c v x
+TurningTo g = (others : Others) (phase : ℕ → Phase) (s : ℕ) (left : ℕ → Option ℕ) (named : ℕ → ℕ → Option ℕ) (c : Choice Request g.U g.R) (v : View) (x : State g)
+    → IsStill g others phase (nobody g) left named c v x → IsStill g others phase s (named s) named c v x
 
 -- ---- requests
 

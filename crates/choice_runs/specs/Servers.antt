@@ -26,9 +26,9 @@ module _ (g : Choosing) where
   Listed = List (Server g.U)
 
   -- No place is open at two servers, and each that is open was given.
-  pub record AreApartAt (x : State) : Type 0 where
-    pub places : (s q p : ℕ) → s < length (g.c).servers → q < length (g.c).servers → g.has (x.ups s) p ≡ true → g.has (x.ups q) p ≡ true → s ≡ q
-    pub below : (s p : ℕ) → s < length (g.c).servers → g.has (x.ups s) p ≡ true → p < x.place
+  pub record AreApartAt (ups : ℕ → g.P.State) (next : ℕ) : Type 0 where
+    pub places : (s q p : ℕ) → s < length (g.c).servers → q < length (g.c).servers → g.has (ups s) p ≡ true → g.has (ups q) p ≡ true → s ≡ q
+    pub below : (s p : ℕ) → s < length (g.c).servers → g.has (ups s) p ≡ true → p < next
 
   -- Each server is tied to its part, at its phase, and no two own the same timer or have the same place.
   pub record AreTied (phase : ℕ → Phase) (servers : Listed) (v : View) (x : State) : Type 0 where
@@ -37,7 +37,7 @@ module _ (g : Choosing) where
     pub apart : (s q i : ℕ) (a b : Server g.U) → slice_get servers s ≡ Some a → slice_get servers q ≡ Some b → g.Owns a.upstream i → g.Owns b.upstream i → s ≡ q
     pub fair : IsFair v
     pub place : x.place ≡ v.place
-    pub places : AreApartAt x
+    pub places : AreApartAt x.ups x.place
 
   -- so is each but server s, while it is called
   pub record OthersAreTied (s : ℕ) (phase : ℕ → Phase) (servers : Listed) (v : View) (x : State) : Type 0 where
@@ -46,7 +46,7 @@ module _ (g : Choosing) where
     pub apart : (s q i : ℕ) (a b : Server g.U) → slice_get servers s ≡ Some a → slice_get servers q ≡ Some b → g.Owns a.upstream i → g.Owns b.upstream i → s ≡ q
     pub fair : IsFair v
     pub place : x.place ≡ v.place
-    pub places : AreApartAt x
+    pub places : AreApartAt x.ups x.place
 
   -- An act opens no place but the next ones.
   pub record OpensOn (place : ℕ) (u : g.P.State) (made : Act g.P.State) : Type 0 where

@@ -3,6 +3,7 @@ pub mod Tables
 pub mod TimerLaws
 pub mod GoingOn
 pub mod Silence
+pub mod Opening
 pub mod FrameReads
 pub mod Waits
 pub mod FirstKeys

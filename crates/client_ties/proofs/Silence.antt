@@ -1,8 +1,9 @@
--- The least transport is tied to its part.
-use Rattle.std.proofs.Common.{◌≡◌, ℕ, ◌+◌, ◌≤◌, inl, refl, arith, le_refl, Bool, true, false, [], ◌∷◌, Some, None, Err}
+-- The least transport is tied to its part, and leaves alone what is not its own.
+use Rattle.std.proofs.Common.{◌≡◌, ℕ, ◌+◌, ◌≤◌, inl, inr, refl, sym, ap, subst, arith, le_refl, Bool, true, false, List, [], ◌∷◌, ◌++◌, Option, Some, None, Err}
 use Rattle.std.specs.Prelude.{if◌then◌else◌, option_map, length}
 use Rattle.client_request.specs.Timers.{can_draw}
 use Rattle.client_request.specs.View.{View, answers, asks}
+use Rattle.client_request.specs.declared.board.Posted.{Posted}
 use Rattle.client_request.specs.declared.error.Error.TheVariants.{ConnectionClosed}
 use Rattle.client_request.specs.declared.event.Out.TheVariants.{Start}
 use Rattle.client_request.specs.declared.event.Via.TheVariants.{Dgram}
@@ -11,7 +12,9 @@ use Rattle.client_request.specs.declared.event.What.TheVariants.{Ask, Opened, Op
 use Rattle.client_ties.specs.Chains.{Chain, Stays, Begins, Calls}
 use Rattle.client_ties.specs.Sights.{IsFair}
 use Rattle.client_ties.specs.PartTie.{Phase, Untold, Told, Leads, Leaves, MayLeave}
-use Rattle.client_ties.specs.Silent.{silent_part, closed_at_once, SilenceIsTied}
+use Rattle.client_ties.specs.Sharing.{HasOneMore}
+use Rattle.client_ties.specs.Silent.{silent_part, closed_at_once, SilenceIsTied, SilenceOpensNext, SilenceIsShared}
+use Rattle.headline.specs.machine.Part.{Act}
 use Rattle.headline.specs.machine.Streams.{with_at}
 use Rattle.std.proofs.lemmas.Bool.Decides.{nat_tests}
 use Rattle.client_ties.proofs.GoingOn.{nothing_done, goes_without}
@@ -57,8 +60,8 @@ silence_is_tied c s = record {
   begins = λ phase u x a e end tied. tt;
   rests = λ phase u v a end early tied. tt;
   fires = λ u v a w i due tied fair set late. (let g = goes_without v i fair in nothing_done (silent_part c) s (λ phase u x a. Unit {0}) (λ u t. None) (λ u i. ⊥) u _ a (Untold w) g.fair tt);
-  sends = λ phase u v a r open tied fair octets free. send v fair phase (can_draw v.ticket);
-  cancels = λ phase u v a r k open tied fair e. absurd (cc);
+  sends = λ phase u v a r calm tied fair octets free. send v fair phase (can_draw v.ticket);
+  cancels = λ phase u v a r k calm tied fair e. absurd (cc);
   tells = λ u v a w tied fair early calm. (let l = none_left w in record { at = l.0; left = 0; may_be = l.1; more = calm; leaves = nothing_done (silent_part c) s (λ phase u x a. Unit {0}) (λ u t. None) (λ u i. ⊥) u v a (Told l.0 0) fair tt });
   takes = λ u v a p n tied fair early calm. record { at = p; left = 0; may_be = (refl, few n); more = calm; leaves = nothing_done (silent_part c) s (λ phase u x a. Unit {0}) (λ u t. None) (λ u i. ⊥) u v a (Told p 0) fair tt };
 }
@@ -86,3 +89,47 @@ silence_is_tied c s = record {
       owned = λ i o. absurd o;
       others = λ i due n e. e;
     }
+
+pub silence_opens_next : SilenceOpensNext
+silence_opens_next c = record {
+  fresh = λ p. refl;
+  begins = λ e a p. refl;
+  acts = λ s place a d acts. absurd acts;
+  starts = λ s place k r a d starts. (subst (λ n. place ≤ n) (sym (ap (λ (d : Act (Unit {0})). d.place) starts)) (le_refl place), λ p h. absurd (never h));
+  cancels = λ s place k a d cancels. absurd cancels;
+}
+  where
+    never : false ≡ true → ⊥
+    never e = cc
+
+-- what a send leaves of a view, where it leaves one
+abbrev board_of : Option (Unit {0} × View) → List Posted
+board_of None = []
+board_of (Some y) = (y.1).board
+
+abbrev more_of : Option (Unit {0} × View) → Bool
+more_of None = false
+more_of (Some y) = (y.1).more
+
+abbrev sent : View → Bool → Option (Unit {0} × View)
+sent v b = option_map (λ w. (alone, answers v.ticket (Err ConnectionClosed) w)) (if b then Some (record v { ticket = v.ticket + 1 }) else None)
+
+pub silence_is_shared : SilenceIsShared
+silence_is_shared c = record {
+  knows = λ u i. inr (λ owns. owns);
+  timers = λ phase u v a i tied others. refl;
+  ignores = λ u v a w p tied at none. refl;
+  passes = λ u x a w p tied at none early. tt;
+  frames = λ u v a w p tied at. refl;
+  alone = λ phase u v a r w x calm tied fair octets free sent. one v x w (can_draw v.ticket) sent;
+  says_none = λ phase u v a r w x calm tied fair octets free sent. same v x w (can_draw v.ticket) sent;
+  keeps_more = λ phase u v a r w x calm tied left. sym (ap more_of left);
+}
+  where
+    one : (v x : View) (w : Unit {0}) (b : Bool) → sent v b ≡ Some (w, x) → HasOneMore v.ticket v.board x.board
+    one v x w false e = absurd (let z : None ≡ Some (w, x) = e in cc)
+    one v x w true e = inr (Err ConnectionClosed, sym (ap board_of e))
+
+    same : (v x : View) (w : Unit {0}) (b : Bool) → sent v b ≡ Some (w, x) → x.more ≡ v.more
+    same v x w false e = absurd (let z : None ≡ Some (w, x) = e in cc)
+    same v x w true e = sym (ap more_of e)

@@ -9,6 +9,7 @@ pub mod Lines
 pub mod Runs
 pub mod Connections
 pub mod Octets
+pub mod Places
 pub mod Sharing
 pub mod Leading
 pub mod WholeTie

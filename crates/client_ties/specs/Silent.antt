@@ -8,6 +8,7 @@ use Rattle.client_request.specs.declared.event.Via.TheVariants.{Dgram}
 use Rattle.headline.specs.Trace.{Conf}
 use Rattle.headline.specs.machine.Part.{Act, ServerPart}
 use Rattle.client_ties.specs.PartTie.{IsTie}
+use Rattle.client_ties.specs.Sharing.{OpensNext, IsShared}
 
 abbrev pub silent : Transport Request (Unit {0}) ℕ
 silent = record {
@@ -36,3 +37,10 @@ silent_part c = record {
 -- The laws of a tie can be met: it is tied as it is.
 abbrev pub SilenceIsTied : Type 0
 SilenceIsTied = (c : Conf) (s : ℕ) → IsTie (silent_part c) s Dgram silent (λ t. t) tt (λ phase u x a. Unit {0}) (λ u t. None) (λ u i. ⊥)
+
+-- The laws of sharing can be met: it has no place, opens none, and leaves alone what is not its own.
+abbrev pub SilenceOpensNext : Type 0
+SilenceOpensNext = (c : Conf) → OpensNext (silent_part c) (λ a p. false)
+
+abbrev pub SilenceIsShared : Type 0
+SilenceIsShared = (c : Conf) → IsShared (silent_part c) (λ a p. false) silent (λ phase u x a. Unit {0}) (λ u i. ⊥)

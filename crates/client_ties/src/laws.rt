@@ -3,13 +3,27 @@
 ghost use Rattle.client_ties.specs.Connections.{LinesAreTied};
 ghost use Rattle.client_ties.specs.Framed.{FramesCarry};
 ghost use Rattle.client_ties.specs.Octets.{LinksRead};
+ghost use Rattle.client_ties.specs.Places.{ServersOpenNext};
 ghost use Rattle.client_ties.specs.Reading.{BackOffIsShort, IdleIsTold, KeptIsRead};
-ghost use Rattle.client_ties.specs.Silent.{SilenceIsTied};
+ghost use Rattle.client_ties.specs.Silent.{SilenceIsShared, SilenceIsTied, SilenceOpensNext};
 
 /// The laws of a tie can be met: a transport that gives every request an error meets them.
 #[tactic(auto, using(crate::proofs::Silence::silence_is_tied))]
 pub fn silence_is_tied()
     ensures { SilenceIsTied }
+{}
+
+/// So can the laws of sharing: it leaves alone what is not its own.
+#[tactic(auto, using(crate::proofs::Silence::silence_opens_next, crate::proofs::Silence::silence_is_shared))]
+pub fn silence_is_shared()
+    ensures opens { SilenceOpensNext }
+    ensures shared { SilenceIsShared }
+{}
+
+/// A server opens no place but the next, and is never given a place again that it had.
+#[tactic(auto, using(crate::proofs::Opening::servers_open_next))]
+pub fn servers_open_next()
+    ensures { ServersOpenNext }
 {}
 
 /// Octets that are kept until a frame of them is taken are those that were read one by one.

@@ -4,5 +4,6 @@
 mod laws;
 
 pub use laws::{
-    frames_carry, kept_is_read, lines_are_tied, links_read, silence_is_tied, waits_are_told,
+    frames_carry, kept_is_read, lines_are_tied, links_read, servers_open_next, silence_is_shared,
+    silence_is_tied, waits_are_told,
 };
