@@ -1,3 +1,4 @@
 pub mod AskedOctets
 pub mod Replaying
 pub mod Rightness
+pub mod Serving

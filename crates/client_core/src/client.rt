@@ -1,6 +1,6 @@
 //! The client: one step for each event, and the replay of a list of events.
 
-ghost use Rattle.std.specs.Prelude.{◌≡◌, true, false, Some, None, Ok, Err, OnOk, OnErr, IfOk, IfErr, IsErrOf, IsOkAnd, map, option_map};
+ghost use Rattle.std.specs.Prelude.{◌≡◌, true, false, Some, None, Ok, Err, OnOk, OnErr, IfOk, IfErr, IsErrOf, IsOkAnd, length, map, option_map};
 ghost use Rattle.client_request.specs.Calls.{Steps, NumbersRunOut, AnswersFailed};
 ghost use Rattle.client_request.specs.Cx.{LendsTheSame};
 ghost use Rattle.client_request.specs.Response.{IsRefusal};
@@ -9,23 +9,24 @@ ghost use Rattle.client_steps.specs.Client as plain;
 ghost use Rattle.client_steps.specs.Machines.{client_in};
 ghost use Rattle.client_steps.specs.First.{holds_failed};
 ghost use Rattle.client_runs.specs.Above.{AreWords};
-ghost use Rattle.client_steps.specs.Headline.{conf_of};
+ghost use Rattle.client_steps.specs.Headline.{conf_of, settings_of};
 ghost use Rattle.client_steps.specs.Upstream as upstream;
-ghost use Rattle.client_steps.specs.Whole.{machine, started, first_upstream, asks_by_streams, upstream_at, plain_step, plain_trace, client_with};
+ghost use Rattle.client_steps.specs.Whole.{machine, started, servers_of, with_servers, asks_by_streams, upstream_at, plain_step, plain_trace, client_with};
+ghost use Rattle.client_choice.specs.Redundant as choice;
 ghost use Rattle.headline.specs.Right.{Right};
-ghost use Rattle.headline.specs.Settings.{first_settings};
 ghost use Rattle.headline.specs.Timely.{Timely};
 
 use crate::octets::all_asked_in_octets;
+use crate::servers::{Servers, servers_of};
 use crate::{cache, redundant};
-use client_multi::{dgram_stream, multi_stream};
 use client_request::{
     Board, Cx, Error, Event, Moment, Outs, RequestMessage, Row, Rows, Timers, Trace, Words,
 };
 use client_runs::every_plain_trace_is_right;
-use client_steps::{Asked, FirstServer, Handed, Passed, Upstream, take_in};
-use dns_base::{Duration, NoMemory};
-use resolv_conf::{ResolvConf, ResolvOptions, ServerConf, Transport};
+use client_choice::redundant as choice;
+use client_steps::{Asked, FirstServer, Passed, take_in};
+use dns_base::Duration;
+use resolv_conf::ResolvConf;
 use std::alloc::Global;
 use std::marker::Model;
 
@@ -35,8 +36,8 @@ use std::marker::Model;
 #[derive(Drop)]
 pub struct Client {
     alloc: Global,
-    layer: FirstServer<Upstream<RequestMessage>>,
-    asked: Asked<Passed<Handed>>,
+    layer: FirstServer<Servers>,
+    asked: Asked<Passed<choice::Request>>,
     timeout: Duration,
     now: Moment,
     board: Board,
@@ -66,53 +67,13 @@ impl Model for Client {
       failed = c.failed;
     } };
 
-    ghost invariant = { λ c. c.failed ≡ false → holds_failed upstream.holds_failed c.layer ≡ false };
-}
-
-/// Whether a server is asked by streams alone.
-fn asks_by_streams(options: &ResolvOptions, server: &ServerConf) -> bool
-    ensures { result ≡ asks_by_streams options.now server.now }
-{
-    options.use_vc || server.transport == Transport::Tcp
-}
-
-/// A server by its number, with the default settings.
-fn upstream_at(
-    alloc: Global,
-    number: u32,
-    by_streams: bool,
-) -> Result<Upstream<RequestMessage>, NoMemory>
-    ensures { IsOkAnd result (λ u. u ≡ upstream_at number by_streams) }
-{
-    if by_streams {
-        let connection = multi_stream::Connection::new(alloc, number)?;
-        Ok(Upstream::Stream(connection))
-    } else {
-        let connection = dgram_stream::Connection::new(alloc, number)?;
-        Ok(Upstream::DgramStream(connection))
-    }
-}
-
-/// The first server of a configuration, if it has one.
-fn first_upstream(
-    alloc: Global,
-    conf: &ResolvConf,
-) -> Result<Option<Upstream<RequestMessage>>, NoMemory>
-    ensures { IsOkAnd result (λ u. u ≡ first_upstream conf.now.options conf.now.servers) }
-{
-    match conf.servers.as_slice() {
-        [] => Ok(None),
-        [server, ..] => {
-            let by_streams = asks_by_streams(&conf.options, server);
-            Ok(Some(upstream_at(alloc, 0, by_streams)?))
-        }
-    }
+    ghost invariant = { λ c. c.failed ≡ false → holds_failed (choice.holds_failed upstream.holds_failed) c.layer ≡ false };
 }
 
 /// A step over this very transport.
 fn turn<W: Words>(
-    layer: &mut FirstServer<Upstream<RequestMessage>>,
-    asked: &mut Asked<Passed<Handed>>,
+    layer: &mut FirstServer<Servers>,
+    asked: &mut Asked<Passed<choice::Request>>,
     cx: &mut Cx<'_, W>,
     alloc: Global,
     timeout: Duration,
@@ -121,30 +82,32 @@ fn turn<W: Words>(
     ensures lends { LendsTheSame cx.old cx.new }
     ensures ok { Steps result (plain.client_step machine timeout event.now (client_in layer.old asked.old W.stream cx.old)) (client_in layer.new asked.new W.stream cx.new) }
     ensures numbers { NumbersRunOut result (plain.client_step machine timeout event.now (client_in layer.old asked.old W.stream cx.old)) }
-    ensures keeps { OnOk result (holds_failed upstream.holds_failed layer.new ≡ holds_failed upstream.holds_failed layer.old) }
+    ensures keeps { OnOk result (holds_failed (choice.holds_failed upstream.holds_failed) layer.new ≡ holds_failed (choice.holds_failed upstream.holds_failed) layer.old) }
     ensures refused { IfErr result IsRefusal }
-    ensures failed_only { IsErrOf result Error.Failed → holds_failed upstream.holds_failed layer.old ≡ true }
+    ensures failed_only { IsErrOf result Error.Failed → holds_failed (choice.holds_failed upstream.holds_failed) layer.old ≡ true }
 {
     take_in(layer, asked, cx, alloc, timeout, event)
 }
 
 impl Client {
-    /// A client of the first server of a configuration, with the default settings. It asks by streams alone
-    /// where the server or `use_vc` says so, and else by datagrams, with a stream where an answer is
-    /// truncated. `redundant` and `cache` have no effect yet.
+    /// A client of the servers of a configuration, in order, with the default settings of transports. It asks
+    /// a server by streams alone where the server or `use_vc` says so, and else by datagrams, with a stream
+    /// where an answer is truncated. `redundant` says which results are put off. `cache` has no effect yet.
+    ///
+    /// More than 2^32 servers count as want of memory: their numbers have 32 bits.
     pub fn new(
         alloc: Global,
         conf: &ResolvConf,
-        _redundant: redundant::Config,
+        redundant: redundant::Config,
         _cache: cache::Config,
     ) -> Result<Client, Error>
-        ensures made { IfOk result (λ c. c ≡ started conf.now) }
+        ensures made { IfOk result (λ c. c ≡ started redundant conf.now) }
         ensures refused { IfErr result (λ e. e ≡ Error.NoMemory) }
     {
-        let upstream = first_upstream(alloc, conf)?;
+        let servers = servers_of(alloc, conf, redundant)?;
         Ok(Client {
             alloc,
-            layer: FirstServer::new(upstream),
+            layer: FirstServer::new(servers),
             asked: Asked::new(alloc),
             timeout: conf.options.timeout,
             now: Moment(0),
@@ -230,11 +193,11 @@ impl Client {
         words: &mut W,
         events: &[Event],
     ) -> Result<Trace, Error>
-        ensures plain { IfOk result (λ t. plain_trace conf.now (W.stream words.old) events.now ≡ Some t.rows) }
+        ensures plain { IfOk result (λ t. plain_trace redundant conf.now (W.stream words.old) events.now ≡ Some t.rows) }
         ensures events { IfOk result (λ t. map (λ row. row.event) t.rows ≡ events.now) }
-        ensures right { IfOk result (λ t. AreWords (W.stream words.old) → Right (conf_of conf.now) first_settings t.rows) }
+        ensures right { IfOk result (λ t. AreWords (W.stream words.old) → Right (conf_of conf.now) (settings_of redundant cache) t.rows) }
         ensures timely { IfOk result (λ t. AreWords (W.stream words.old) → Timely (conf_of conf.now) t.rows) }
-        ensures numbers { IsErrOf result Error.NumbersUsed → plain_trace conf.now (W.stream words.old) events.now ≡ None }
+        ensures numbers { IsErrOf result Error.NumbersUsed → plain_trace redundant conf.now (W.stream words.old) events.now ≡ None }
         ensures refused { IfErr result IsWant }
     {
         let mut client = Client::new(alloc, conf, redundant, cache)?;

@@ -9,6 +9,7 @@ mod deed;
 mod edge;
 mod list_edge;
 mod octets;
+mod servers;
 
 pub use client::Client;
 pub use client_request::{Event, Moment, Out, Row, Rows, Trace, Via, What};
@@ -19,3 +20,4 @@ pub use clock::{Clock, ListClock};
 pub use deed::Deed;
 pub use edge::{Edge, is_fault};
 pub use list_edge::ListEdge;
+pub use servers::Servers;

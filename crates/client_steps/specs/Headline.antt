@@ -1,25 +1,30 @@
--- The configuration of the plain client, as the headline speaks of it.
-use Rattle.std.specs.Prelude.{◌≡◌, Bool, true, false, List, [], ◌∷◌, map}
-use Rattle.headline.specs.Trace.{Conf, Use, ByDatagrams, ByStreams}
+-- The configuration and the settings of the plain client, as the headline speaks of them.
+use Rattle.std.specs.Prelude.{Bool, true, false, map}
+use Rattle.client_settings.specs.Settings.{RedundantSettings, CacheSettings}
 use Rattle.client_steps.specs.Whole.{asks_by_streams}
+use Rattle.headline.specs.Settings.{Settings}
+use Rattle.headline.specs.Trace.{Conf, Use, ByDatagrams, ByStreams}
 use Rattle.resolv_conf.specs.declared.conf.ResolvConf.{ResolvConf}
-use Rattle.resolv_conf.specs.declared.options.ResolvOptions.{ResolvOptions}
-use Rattle.resolv_conf.specs.declared.server.ServerConf.{ServerConf}
-use Rattle.resolv_conf.specs.declared.server.Transport.TheVariants.{UdpTcp}
 
--- The configuration as the headline speaks of it. No server but the first is asked yet.
 abbrev pub use_of : (by_streams : Bool) → Use
 use_of true = ByStreams
 use_of false = ByDatagrams
 
+-- each server by how it is asked, and the timeout in microseconds
 abbrev pub conf_of : ResolvConf → Conf
 conf_of conf = record { servers = map (λ s. use_of (asks_by_streams conf.options s)) conf.servers; timeout = conf.options.timeout }
 
--- The first server, where there is one, is asked by datagrams: neither it nor `options use-vc` asks for streams alone.
-abbrev pub AsksFirst : List ServerConf → ResolvOptions → Type 0
-AsksFirst [] options = Unit {0}
-AsksFirst (server ∷ others) options = (server.transport ≡ UdpTcp) × (options.use_vc ≡ false)
-
--- It asks by datagrams first, if it asks at all.
-abbrev pub AsksByDatagram : ResolvConf → Type 0
-AsksByDatagram conf = AsksFirst conf.servers conf.options
+-- what is deferred, and how long what may be kept
+abbrev pub settings_of : RedundantSettings → CacheSettings → Settings
+settings_of redundant cache = record {
+  defers_errors = redundant.defer_transport_error;
+  defers_refused = redundant.defer_refused;
+  defers_servfail = redundant.defer_servfail;
+  max_validity = cache.max_validity;
+  transport_failure_duration = cache.transport_failure_duration;
+  misc_error_duration = cache.misc_error_duration;
+  max_nxdomain_validity = cache.max_nxdomain_validity;
+  max_nodata_validity = cache.max_nodata_validity;
+  max_delegation_validity = cache.max_delegation_validity;
+  cache_truncated = cache.cache_truncated;
+}

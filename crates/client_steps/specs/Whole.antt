@@ -1,5 +1,5 @@
--- The whole plain client: the first server of a configuration, by datagrams and streams or by streams alone.
-use Rattle.std.specs.Prelude.{ℕ, Bool, true, false, ◌||◌, if◌then◌else◌, List, [], ◌∷◌, Option, Some, None}
+-- The whole plain client: a choice among the servers of a configuration, each by datagrams and streams or by streams alone.
+use Rattle.std.specs.Prelude.{ℕ, ◌+◌, Bool, true, false, ◌||◌, if◌then◌else◌, List, [], ◌∷◌, Option, Some, None}
 use Rattle.client_request.specs.Composed.{composed}
 use Rattle.client_request.specs.Request.{Request}
 use Rattle.client_request.specs.Requests.{Requests, for_one}
@@ -7,9 +7,14 @@ use Rattle.client_request.specs.Timers.{TimerList}
 use Rattle.client_request.specs.declared.board.Posted.{Posted}
 use Rattle.client_request.specs.declared.event.Event.{Event}
 use Rattle.client_request.specs.declared.event.Row.{Row}
+use Rattle.client_choice.specs.Choice.{Choice, empty, with_server}
+use Rattle.client_choice.specs.Redundant as redundant
+use Rattle.client_choice.specs.Redundant.{Redundant}
 use Rattle.client_multi.specs.DgramStream as dgram_stream
 use Rattle.client_multi.specs.MultiStream as multi_stream
 use Rattle.client_multi.specs.Settings as stream_settings
+use Rattle.client_request.specs.View.{Transport as Plain}
+use Rattle.client_settings.specs.Settings.{RedundantSettings}
 use Rattle.client_steps.specs.Client as plain
 use Rattle.client_steps.specs.Client.{Machine, Asked, nothing_asked, plain_rows}
 use Rattle.client_steps.specs.First as first
@@ -26,17 +31,24 @@ use Rattle.resolv_conf.specs.declared.server.ServerConf.{ServerConf}
 use Rattle.resolv_conf.specs.declared.server.Transport.{Transport}
 use Rattle.resolv_conf.specs.declared.server.Transport.TheVariants.{UdpTcp, Tcp}
 
+-- the choice among servers, and above it what gives an error at once to a request that can't be sent
+abbrev pub Servers : Type 0
+Servers = Redundant Request (Upstream Request) Handed
+
 abbrev pub Layer : Type 0
-Layer = First (Upstream Request)
+Layer = First Servers
 
 abbrev pub Response : Type 0
-Response = Passed Handed
+Response = Passed redundant.Asked
 
 abbrev pub requests : Requests Request
 requests = for_one
 
+abbrev pub choice : Plain Request Servers redundant.Asked
+choice = redundant.transport (upstream.transport for_one)
+
 abbrev pub machine : Machine Layer Response
-machine = machine_of (first.transport composed (upstream.transport for_one)) (first.ticket_of upstream.ticket_of)
+machine = machine_of (first.transport composed choice) (first.ticket_of (λ r. r.ticket))
 
 -- the client between two rows: its timeout is in microseconds
 pub record Whole : Type 0 where
@@ -84,14 +96,19 @@ abbrev pub upstream_at : ℕ → (by_streams : Bool) → Upstream Request
 upstream_at number true = Stream (multi_stream.started number stream_settings.default_settings)
 upstream_at number false = DgramStream (dgram_stream.started number dgram_stream.default_settings)
 
--- the first server
-abbrev pub first_upstream : ResolvOptions → List ServerConf → Option (Upstream Request)
-first_upstream options [] = None
-first_upstream options (s ∷ ss) = Some (upstream_at 0 (asks_by_streams options s))
+-- servers are added to a choice in order, numbered from n on
+abbrev pub with_servers : (n : ℕ) → ResolvOptions → List ServerConf → Servers → Servers
+with_servers n options [] r = r
+with_servers n options (s ∷ ss) r = with_servers (n + 1) options ss (record r { choice = with_server (upstream_at n (asks_by_streams options s)) r.choice })
 
-abbrev pub started : ResolvConf → Whole
-started conf = record {
-  layer = record { upstream = first_upstream conf.options conf.servers; failed = false };
+-- a choice among the servers of a configuration, if it has any
+abbrev pub servers_of : RedundantSettings → ResolvOptions → List ServerConf → Option Servers
+servers_of settings options [] = None
+servers_of settings options (s ∷ ss) = Some (with_servers 0 options (s ∷ ss) (redundant.started settings))
+
+abbrev pub started : RedundantSettings → ResolvConf → Whole
+started settings conf = record {
+  layer = record { upstream = servers_of settings conf.options conf.servers; failed = false };
   asked = nothing_asked;
   timeout = conf.options.timeout;
   now = 0;
@@ -107,5 +124,5 @@ abbrev pub plain_step : (ℕ → ℕ) → Event → Whole → Option (Row × Cli
 plain_step words e s = plain.row_step machine s.timeout e (client_with words s)
 
 -- The plain trace of some events.
-abbrev pub plain_trace : ResolvConf → (ℕ → ℕ) → List Event → Option (List Row)
-plain_trace conf words events = plain_rows machine conf.options.timeout events (client_with words (started conf))
+abbrev pub plain_trace : RedundantSettings → ResolvConf → (ℕ → ℕ) → List Event → Option (List Row)
+plain_trace settings conf words events = plain_rows machine conf.options.timeout events (client_with words (started settings conf))

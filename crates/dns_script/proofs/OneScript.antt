@@ -1,18 +1,14 @@
 -- A text says one script, and a script is not refused.
 use Rattle.std.proofs.Common.{◌≡◌, ℕ, ◌<◌, Bool, true, false, List, [], ◌∷◌, ◌++◌, Option, Some, None, Result, Ok, Err, MatchResult, ◌*◌, refl, sym, ap, ◌∙◌, subst, arith, append_assoc, decimal, length}
-use Rattle.std.specs.Net.Grammar.{IsDotted}
-use Rattle.std.specs.Net.Text.{dotted_text}
 use Rattle.std.specs.Str.Lines.{lines}
-use Rattle.std.proofs.lemmas.Fmt.{decimal_injective}
 use Rattle.std.proofs.lemmas.Option.{same_Some}
 use Rattle.dns_names.proofs.Heads.{none_some}
-use Rattle.dns_values.specs.declared.address.IpAddr.TheVariants.{V4}
+use Rattle.dns_values.proofs.Addresses.{one_address}
 use Rattle.resolv_conf.specs.declared.conf.ResolvConf.{ResolvConf}
-use Rattle.resolv_conf.specs.Conf.{default_options, name_server}
-use Rattle.resolv_conf.specs.Script.{script_address, script_seconds, TakesScriptLine, takes_server, takes_timeout, takes_use_vc}
-use Rattle.resolv_conf.proofs.Scripts.{no_seconds, not_a_server, server_refused}
+use Rattle.resolv_conf.specs.Line.{Outcome, LineGives, takes}
+use Rattle.resolv_conf.proofs.Outcomes.{one_outcome}
+use Rattle.dns_script.specs.declared.settings.Settings.{Settings}
 use Rattle.client_request.specs.declared.event.Event.{Event}
-use Rattle.client_settings.specs.Settings.{default_cache, default_redundant}
 use Rattle.dns_script.specs.declared.names.ScriptName.{ScriptName}
 use Rattle.dns_script.specs.declared.names.ScriptName.TheVariants as name
 use Rattle.dns_script.specs.declared.script.Script.{Script}
@@ -22,66 +18,16 @@ use Rattle.dns_script.specs.declared.script_lines.ScriptReader.{ScriptReader}
 use Rattle.dns_script.specs.Names.{script_names}
 use Rattle.dns_script.specs.Reading.{cut, named, parts}
 use Rattle.dns_script.specs.ScriptReading.{IsScript, ReadsScript, RefusesLine, TakesLine, TakesLines, TakesNamed, TakesParts, TakesSkipped, begun_with, is_skipped, misses_lane, refuses_line}
-use Rattle.dns_script.proofs.Decimals.{decimal_is_above}
-use Rattle.dns_script.proofs.Joined.{parts_alone, parts_at}
 use Rattle.dns_script.proofs.OneTrace.{first_same, rest_same}
 
-part : (n : ℕ) (rest : List ℕ) → n < 256 → parts 46 (decimal n ++ 46 ∷ rest) ≡ decimal n ∷ parts 46 rest
-part n rest small = parts_at 46 (decimal n) rest (decimal_is_above 46 n (omega arith) (omega arith))
-
-dotted_grouped : (a b c d : ℕ) → dotted_text a b c d ≡ decimal a ++ 46 ∷ (decimal b ++ 46 ∷ (decimal c ++ 46 ∷ decimal d))
-dotted_grouped a b c d = simp append_assoc
-
-dotted_parts : (a b c d : ℕ) → (a < 256) × (b < 256) × (c < 256) × (d < 256) → parts 46 (dotted_text a b c d) ≡ decimal a ∷ decimal b ∷ decimal c ∷ decimal d ∷ []
-dotted_parts a b c d small =
-    ap (parts 46) (dotted_grouped a b c d) ∙ part a (decimal b ++ 46 ∷ (decimal c ++ 46 ∷ decimal d)) small.0
-    ∙ ap (λ ps. decimal a ∷ ps) (part b (decimal c ++ 46 ∷ decimal d) small.1
-    ∙ ap (λ ps. decimal b ∷ ps) (part c (decimal d) small.2
-    ∙ ap (λ ps. decimal c ∷ ps) (parts_alone 46 (decimal d) (decimal_is_above 46 d (omega arith) (let s = small.3 in omega arith)))))
-
-number_is_one : (m n : ℕ) → m < 256 → n < 256 → decimal m ≡ decimal n → m ≡ n
-number_is_one m n x y e = decimal_injective m n (omega arith) (omega arith) e
-
--- a text has one address
-dotted_is_one : (text one other : List ℕ) → IsDotted text one → IsDotted text other → one ≡ other
-dotted_is_one text one other h k =
-    let all = sym (dotted_parts h.a h.b h.c h.d h.fit) ∙ ap (parts 46) (sym h.spelled ∙ k.spelled) ∙ dotted_parts k.a k.b k.c k.d k.fit in
-    let b = rest_same _ _ _ _ all in
-    let c = rest_same _ _ _ _ b in
-    let d = rest_same _ _ _ _ c in
-    let is_a = number_is_one h.a k.a h.fit.0 k.fit.0 (first_same _ _ _ _ all) in
-    let is_b = number_is_one h.b k.b h.fit.1 k.fit.1 (first_same _ _ _ _ b) in
-    let is_c = number_is_one h.c k.c h.fit.2 k.fit.2 (first_same _ _ _ _ c) in
-    let is_d = number_is_one h.d k.d h.fit.3 k.fit.3 (first_same _ _ _ _ d) in
-    h.value ∙ rw (is_a, is_b, is_c, is_d) refl ∙ sym k.value
-
--- a configuration that has a server takes no other
-with_server : ResolvConf
-with_server = record { servers = name_server (V4 []) ∷ []; options = default_options }
-
--- no line has an address and a number of seconds
-address_or_seconds : (line text : List ℕ) (seconds : ℕ) → script_address line ≡ Some text → script_seconds line ≡ Some seconds → ⊥
-unfolding with_server
-address_or_seconds line text seconds e f =
-    server_refused line text with_server (record with_server { options = record default_options { timeout = seconds * 1000000 } }) e (λ octets dotted none. absurd (omega (arith, ap length none))) (takes_timeout seconds f)
-
-conf_is_one : (line : List ℕ) (old one other : ResolvConf) → TakesScriptLine line old one → TakesScriptLine line old other → one ≡ other
-conf_is_one line old _ _ (takes_server t o e dotted none) (takes_server u p f spelled empty) =
-    let same = same_Some t u (sym e ∙ f) in
-    ap (λ octets. record old { servers = name_server (V4 octets) ∷ [] }) (dotted_is_one t o p dotted (subst (λ w. IsDotted w p) (sym same) spelled))
-conf_is_one line old _ _ (takes_server t o e dotted none) (takes_timeout n f) = absurd (address_or_seconds line t n e f)
-conf_is_one line old _ _ (takes_timeout n f) (takes_server t o e dotted none) = absurd (address_or_seconds line t n e f)
-conf_is_one line old _ _ (takes_timeout m e) (takes_timeout n f) =
-    ap (λ seconds. record old { options = record old.options { timeout = seconds * 1000000 } }) (same_Some m n (sym e ∙ f))
-conf_is_one line old _ _ (takes_server t o e dotted none) (takes_use_vc is) = absurd (not_a_server line t e is)
-conf_is_one line old _ _ (takes_use_vc is) (takes_server t o e dotted none) = absurd (not_a_server line t e is)
-conf_is_one line old _ _ (takes_timeout n f) (takes_use_vc is) = absurd (no_seconds line n f is)
-conf_is_one line old _ _ (takes_use_vc is) (takes_timeout n f) = absurd (no_seconds line n f is)
-conf_is_one line old _ _ (takes_use_vc e) (takes_use_vc f) = refl
+-- a line makes one thing of a configuration
+pub conf_is_one : (line : List ℕ) (old one other : ResolvConf) → LineGives line old (takes one) → LineGives line old (takes other) → one ≡ other
+conf_is_one line old one other h k = ap (λ (o : Outcome). o.conf) (one_outcome one_address line old (takes one) (takes other) h k)
 
 named_is_one : (kind : Option ScriptName) (text : List ℕ) (s t u : ScriptReader) → TakesNamed kind text s t → TakesNamed kind text s u → t ≡ u
 named_is_one None text s t u h k = absurd h
 named_is_one (Some name.Conf) text s t u h k = h.after ∙ ap (λ conf. record s { conf = conf }) (conf_is_one text s.conf h.conf k.conf h.taken k.taken) ∙ sym k.after
+named_is_one (Some name.Set) text s t u h k = h.after ∙ ap (λ (settings : Settings). record s { settings = settings }) (same_Some h.settings k.settings (sym h.set ∙ k.set)) ∙ sym k.after
 named_is_one (Some name.Words) text s t u h k = h.after ∙ ap (λ numbers. record s { words = s.words ++ numbers }) (same_Some h.numbers k.numbers (sym h.read ∙ k.read)) ∙ sym k.after
 named_is_one (Some name.At) text s t u h k =
     let event : h.event ≡ k.event = same_Some h.event k.event (sym h.read ∙ k.read) in
@@ -124,7 +70,7 @@ pub script_is_one : (many : Bool) (text : List ℕ) (one other : Script) → IsS
 script_is_one many text one other h k =
     let reader : h.reader ≡ k.reader = lines_are_one (lines text) (begun_with many) h.reader k.reader h.lines_taken k.lines_taken in
     let lane : h.lane ≡ k.lane = same_Some h.lane k.lane (sym h.last_lane ∙ ap (λ (r : ScriptReader). r.lane) reader ∙ k.last_lane) in
-    let made : ScriptReader → List Event → Script = λ r l. record { conf = r.conf; redundant = default_redundant; cache = default_cache; words = r.words; lanes = r.lanes ++ l ∷ [] } in
+    let made : ScriptReader → List Event → Script = λ r l. record { conf = r.conf; redundant = (r.settings).redundant; cache = (r.settings).cache; words = r.words; lanes = r.lanes ++ l ∷ [] } in
     h.says ∙ ap (λ r. made r h.lane) reader ∙ ap (made k.reader) lane ∙ sym k.says
 
 pub script_is_taken : (many : Bool) (text : List ℕ) (script : Script) (n : ℕ) → IsScript many text script → RefusesLine many text n → ⊥

@@ -3,6 +3,7 @@ pub mod Lines
 pub mod Names
 pub mod Reading
 pub mod ScriptReading
+pub mod Settings
 pub mod TextLaws
 pub mod Told
 pub mod TraceReading

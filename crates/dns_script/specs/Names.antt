@@ -106,6 +106,7 @@ out_names =
 abbrev pub script_names : List (List ℕ × ScriptName)
 script_names =
     (codes "conf", script.Conf)
+    ∷ (codes "set", script.Set)
     ∷ (codes "words", script.Words)
     ∷ (codes "at", script.At)
     ∷ []

@@ -6,7 +6,7 @@ use Rattle.std.specs.Str.{IsUtf8}
 use Rattle.client_request.specs.declared.event.Event.{Event}
 use Rattle.resolv_conf.specs.declared.conf.ResolvConf.{ResolvConf}
 use Rattle.resolv_conf.specs.Conf.{default_options}
-use Rattle.resolv_conf.specs.Script.{TakesScriptLine}
+use Rattle.resolv_conf.specs.Line.{LineGives, takes}
 use Rattle.dns_script.specs.declared.names.ScriptName.{ScriptName}
 use Rattle.dns_script.specs.declared.names.ScriptName.TheVariants as script
 use Rattle.dns_script.specs.declared.script.Script.{Script}
@@ -15,16 +15,25 @@ use Rattle.dns_script.specs.declared.script.ScriptFault.TheVariants as scripts
 use Rattle.dns_script.specs.declared.script_lines.ScriptReader.{ScriptReader}
 use Rattle.dns_script.specs.Grammar.{event_at, whole}
 use Rattle.dns_script.specs.Names.{script_names}
+use Rattle.dns_script.specs.declared.settings.Settings.{Settings}
 use Rattle.dns_script.specs.Reading.{◌>>=◌, cut, named, numbers_of, words_of}
+use Rattle.dns_script.specs.Settings.{sets}
 use Rattle.dns_script.specs.Told.{tells_well}
 use Rattle.client_settings.specs.Settings.{default_redundant, default_cache}
 
--- what stands behind `conf `, before any event
+-- what stands behind `conf `, before any event: a line of a configuration
 pub record TakesConf (text : List ℕ) (s t : ScriptReader) : Type 0 where
   pub early : s.begun ≡ false
   pub conf : ResolvConf
-  pub taken : TakesScriptLine text s.conf conf
+  pub taken : LineGives text s.conf (takes conf)
   pub after : t ≡ record s { conf = conf }
+
+-- the setting and its value behind `set `, before any event
+pub record TakesSet (text : List ℕ) (s t : ScriptReader) : Type 0 where
+  pub early : s.begun ≡ false
+  pub settings : Settings
+  pub set : sets (words_of text) s.settings ≡ Some settings
+  pub after : t ≡ record s { settings = settings }
 
 -- the numbers behind `words `, before any event
 pub record TakesWords (text : List ℕ) (s t : ScriptReader) : Type 0 where
@@ -56,6 +65,7 @@ pub record TakesLane (s t : ScriptReader) : Type 0 where
 abbrev pub TakesNamed : Option ScriptName → List ℕ → ScriptReader → ScriptReader → Type 0
 TakesNamed None text s t = ⊥
 TakesNamed (Some script.Conf) text s t = TakesConf text s t
+TakesNamed (Some script.Set) text s t = TakesSet text s t
 TakesNamed (Some script.Words) text s t = TakesWords text s t
 TakesNamed (Some script.At) text s t = TakesEvent text s t
 
@@ -88,6 +98,7 @@ begun_with many = record {
   many = many;
   begun = false;
   conf = record { servers = []; options = default_options };
+  settings = record { redundant = default_redundant; cache = default_cache };
   words = [];
   lanes = [];
   lane = (if many then None else Some []);
@@ -99,7 +110,7 @@ pub record IsScript (many : Bool) (text : List ℕ) (script : Script) : Type 0 w
   pub lines_taken : TakesLines (lines text) (begun_with many) reader
   pub lane : List Event
   pub last_lane : reader.lane ≡ Some lane
-  pub says : script ≡ record { conf = reader.conf; redundant = default_redundant; cache = default_cache; words = reader.words; lanes = reader.lanes ++ lane ∷ [] }
+  pub says : script ≡ record { conf = reader.conf; redundant = (reader.settings).redundant; cache = (reader.settings).cache; words = reader.words; lanes = reader.lanes ++ lane ∷ [] }
 
 -- Line n of the text is refused, counted from 1: the lines before it are taken, and it is not; or there is no lane at the end.
 pub data RefusesLine (many : Bool) (text : List ℕ) (n : ℕ) : Type 0 where

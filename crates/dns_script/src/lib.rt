@@ -20,6 +20,7 @@ mod printing;
 mod reading;
 mod script;
 mod script_lines;
+mod settings;
 mod told;
 mod trace_lines;
 mod words;

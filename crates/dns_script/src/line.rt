@@ -77,7 +77,7 @@ fn with_digit(greatest: u64, number: u64, digit: u8) -> Option<u64>
 
 /// A decimal number without sign or leading zeros that is at most the greatest.
 #[tactic(auto, unfolding(crate::specs::Reading::number_of))]
-fn number_of(greatest: u64, word: &[u8]) -> Option<u64>
+pub(crate) fn number_of(greatest: u64, word: &[u8]) -> Option<u64>
     ensures value { result ≡ number_of greatest word.now }
     ensures below { IfSome result (λ n. n ≤ greatest) }
 {

@@ -28,6 +28,7 @@ pub(crate) enum EventName {
 #[derive(Clone, Copy, Debug, PartialEq, Eq)]
 pub(crate) enum ScriptName {
     Conf,
+    Set,
     Words,
     At,
 }
@@ -264,6 +265,9 @@ pub(crate) fn script_named(word: &[u8]) -> Option<ScriptName>
 {
     if word == b"conf".as_slice() {
         return Some(ScriptName::Conf);
+    }
+    if word == b"set".as_slice() {
+        return Some(ScriptName::Set);
     }
     if word == b"words".as_slice() {
         return Some(ScriptName::Words);

@@ -4,16 +4,16 @@ ghost use Rattle.std.specs.Prelude.{◌≡◌, ◌++◌, Some, option_map};
 ghost use Rattle.dns_script.specs.Reading.{Makes, MakesBy, Reads, named, numbers_of};
 ghost use Rattle.dns_script.specs.Names.{script_names};
 ghost use Rattle.std.specs.Str.{IsUtf8};
-ghost use Rattle.dns_script.specs.ScriptReading.{ReadsScript, begun_with, event_of, TakesConf, TakesEvent, TakesLane, TakesLine, TakesNamed, TakesWords};
+ghost use Rattle.dns_script.specs.ScriptReading.{ReadsScript, begun_with, event_of, TakesConf, TakesEvent, TakesLane, TakesLine, TakesNamed, TakesSet, TakesWords};
 
 use crate::line::{LineFault, Lines, Words, split_first};
 use crate::names::{ScriptName, script_named};
 use crate::reading::event;
 use crate::script::{Lanes, Script, ScriptFault};
+use crate::settings::Settings;
 use crate::told::check_what;
 use client_request::{Event, Events, WordList};
-use client_settings::{cache, redundant};
-use resolv_conf::ResolvConf;
+use resolv_conf::{ResolvConf, line_laws};
 use std::alloc::Global;
 use std::str;
 
@@ -25,6 +25,7 @@ pub(crate) struct ScriptReader {
     /// An event or a lane came.
     pub begun: bool,
     pub conf: ResolvConf,
+    pub settings: Settings,
     pub words: WordList,
     /// The lanes that are whole.
     pub lanes: Lanes,
@@ -61,23 +62,35 @@ impl ScriptReader {
             many,
             begun: false,
             conf: ResolvConf::new(alloc),
+            settings: Settings::new(),
             words: WordList::new(alloc),
             lanes: Lanes::new(alloc),
             lane: if many { None } else { Some(Events::new(alloc)) },
         }
     }
 
-    fn conf_line(&mut self, text: &str) -> Result<(), LineFault>
+    fn conf_line(&mut self, alloc: Global, text: &str) -> Result<(), LineFault>
         ensures { MakesBy result self.new (TakesConf text.now self.old) }
     {
         if self.begun {
             return Err(LineFault::Refused);
         }
-        match self.conf.script_conf_line(text) {
+        // A line makes one thing of a configuration, so one that is refused is never taken.
+        line_laws();
+        match self.conf.parse_line(alloc, text) {
             Ok(()) => Ok(()),
             Err(resolv_conf::LineFault::Parse) => Err(LineFault::Refused),
             Err(resolv_conf::LineFault::NoMemory) => Err(LineFault::NoMemory),
         }
+    }
+
+    fn set_line(&mut self, text: &[u8]) -> Result<(), LineFault>
+        ensures { MakesBy result self.new (TakesSet text.now self.old) }
+    {
+        if self.begun {
+            return Err(LineFault::Refused);
+        }
+        self.settings.set(&mut Words::of(text))
     }
 
     fn words_line(&mut self, text: &[u8]) -> Result<(), LineFault>
@@ -126,9 +139,10 @@ impl ScriptReader {
         match script_named(name) {
             None => Err(LineFault::Refused),
             Some(ScriptName::Conf) => match str::from_utf8(text) {
-                Ok(text) => self.conf_line(text),
+                Ok(text) => self.conf_line(alloc, text),
                 Err(_) => Err(LineFault::Refused),
             },
+            Some(ScriptName::Set) => self.set_line(text),
             Some(ScriptName::Words) => self.words_line(text),
             Some(ScriptName::At) => self.event_line(alloc, text),
         }
@@ -157,8 +171,9 @@ impl ScriptReader {
 /// Reads a script. Where `lanes`, its events stand in lanes, of which there is one at least.
 ///
 /// Its events are those of a trace, but that a fault is one that a socket tells: `expired`, `short-send`,
-/// `nothing-taken` and `end-of-data` are found by the client itself. Its configuration has one IPv4 server
-/// at most, `options timeout:N` and `options use-vc`.
+/// `nothing-taken` and `end-of-data` are found by the client itself. Each `conf` line is one that
+/// `ResolvConf::parse_line` takes, and a `set` line has a setting of the choice among servers or of the cache, and
+/// `on` or `off`, a number, or a number of seconds, which is cut into the setting's limits.
 ///
 /// A text that is no script gives the first line that is refused, or the line after the last where a
 /// lane is wanted and none came.
@@ -179,6 +194,7 @@ pub fn read_script(alloc: Global, text: &[u8], lanes: bool) -> Result<Script, Sc
     }
     let ScriptReader {
         conf,
+        settings,
         words,
         mut lanes,
         lane,
@@ -189,8 +205,8 @@ pub fn read_script(alloc: Global, text: &[u8], lanes: bool) -> Result<Script, Sc
         Some(lane) => match lanes.push(lane) {
             Ok(()) => Ok(Script {
                 conf,
-                redundant: redundant::Config::new(),
-                cache: cache::Config::new(),
+                redundant: settings.redundant,
+                cache: settings.cache,
                 words,
                 lanes,
             }),

@@ -6,10 +6,9 @@ use Rattle.dns_values.specs.Source.{Rose}
 use Rattle.client_request.specs.Words.{listed}
 use Rattle.client_request.specs.declared.event.Event.{Event}
 use Rattle.client_request.specs.declared.event.Row.{Row}
-use Rattle.client_steps.specs.Headline.{conf_of}
+use Rattle.client_steps.specs.Headline.{conf_of, settings_of}
 use Rattle.client_steps.specs.Whole.{plain_trace}
 use Rattle.headline.specs.Right.{Right}
-use Rattle.headline.specs.Settings.{first_settings}
 use Rattle.headline.specs.Timely.{Timely}
 use Rattle.dns_script.specs.ScriptReading.{IsScript, RefusesLine}
 use Rattle.dns_script.specs.TraceText.{trace_text_of}
@@ -32,9 +31,9 @@ abbrev pub first_lane : List (List Event) → List Event
 first_lane [] = []
 first_lane (events ∷ lanes) = events
 
--- the rows of a script: the plain trace of its events, with its words and 0 past their end; none where a number would pass 64 bits
+-- the rows of a script: the plain trace of its events with its settings, with its words and 0 past their end; none where a number would pass 64 bits
 abbrev pub rows_of : Script → Option (List Row)
-rows_of script = plain_trace script.conf (listed script.words) (first_lane script.lanes)
+rows_of script = plain_trace script.redundant script.conf (listed script.words) (first_lane script.lanes)
 
 -- The text is a script, not too long, and these octets are the text of its plain trace, which is right and timely.
 pub record IsReplayed (text out : List ℕ) : Type 0 where
@@ -43,7 +42,7 @@ pub record IsReplayed (text out : List ℕ) : Type 0 where
   pub is_script : IsScript false text script
   pub rows : List Row
   pub plain : rows_of script ≡ Some rows
-  pub right : Right (conf_of script.conf) first_settings rows
+  pub right : Right (conf_of script.conf) (settings_of script.redundant script.cache) rows
   pub timely : Timely (conf_of script.conf) rows
   pub says : out ≡ trace_text_of rows
 

@@ -9,7 +9,8 @@ use Rattle.client_request.specs.declared.event.Out.TheVariants.{Reply}
 use Rattle.client_request.specs.declared.event.Row.{Row}
 use Rattle.client_request.specs.declared.event.What.TheVariants.{Ask, Tick}
 use Rattle.client_runs.specs.Above.{AreWords}
-use Rattle.client_steps.specs.Headline.{conf_of}
+use Rattle.client_settings.specs.Settings.{default_cache, default_redundant}
+use Rattle.client_steps.specs.Headline.{conf_of, settings_of}
 use Rattle.client_steps.specs.Whole.{Whole, plain_trace, started}
 use Rattle.client_core.specs.declared.deed.Deed.{Deed}
 use Rattle.client_core.specs.declared.deed.Deed.TheVariants.{Learned}
@@ -17,7 +18,6 @@ use Rattle.client_turns.specs.Asking.{IsAnswered, Scene, rows_of, scene}
 use Rattle.client_turns.specs.Turns.{AreGivenOn, after_deeds, events_of}
 use Rattle.dns_script.specs.Lines.{line, out_words}
 use Rattle.headline.specs.Right.{Right}
-use Rattle.headline.specs.Settings.{first_settings}
 use Rattle.headline.specs.Timely.{Timely}
 use Rattle.resolv_conf.specs.declared.conf.ResolvConf.{ResolvConf}
 use Rattle.resolv_conf.specs.declared.server.ServerConf.{ServerConf}
@@ -54,7 +54,7 @@ pub record World : Type 0 where
 
 -- a new client of a configuration, whose servers the edge has learned
 abbrev pub begun : ResolvConf → World → Scene
-begun conf old = scene (started conf) old.words (after_deeds (map (λ server. Learned server) conf.servers) old.deeds) old.polls old.moments
+begun conf old = scene (started default_redundant conf) old.words (after_deeds (map (λ server. Learned server) conf.servers) old.deeds) old.polls old.moments
 
 abbrev pub world : (ℕ → ℕ) → Option (List Deed) → ℕ → Option (List ℕ) → World
 world words deeds polls moments = record { words = words; deeds = deeds; polls = polls; moments = moments }
@@ -68,7 +68,7 @@ around deeds polls given stream old new P = P (world (stream old.2) (deeds old.0
 pub record IsReplied (q : Query) (conf : ResolvConf) (old new : World) (answer : Option (Result (List ℕ) Error)) : Type 0 where
   pub left : Whole
   pub answered : IsAnswered 0 1000000 (request_of q) (begun conf old) (scene left new.words new.deeds new.polls new.moments) answer
-  pub right : AreWords old.words → Right (conf_of conf) first_settings (rows_of answered.asked.asking answered.asked.turns)
+  pub right : AreWords old.words → Right (conf_of conf) (settings_of default_redundant default_cache) (rows_of answered.asked.asking answered.asked.turns)
   pub timely : AreWords old.words → Timely (conf_of conf) (rows_of answered.asked.asking answered.asked.turns)
 
 -- The configuration is what the text says, finalized, with the query's port; the text is that of the source, where it tells it.
@@ -88,7 +88,7 @@ pub record Stops (q : Query) (conf : ResolvConf) (words : ℕ → ℕ) (old new 
   pub asking : Event
   pub later : List Event
   pub asks : asking.what ≡ Ask (request_of q)
-  pub stops : plain_trace conf words (asking ∷ later) ≡ None
+  pub stops : plain_trace default_redundant conf words (asking ∷ later) ≡ None
   pub moments : AreGivenOn old new (map (λ event. event.moment.0) (asking ∷ later))
 
 pub record StopsAsking (q : Query) (told : Option (List ℕ)) (words : ℕ → ℕ) (old new : Option (List ℕ)) : Type 0 where

@@ -2,9 +2,8 @@
 
 ghost use Rattle.std.specs.Prelude.{◌≡◌, ◌≢◌, ◌≤◌, [], length, false, Some, None, IfSome, IfOk, IfErr};
 ghost use Rattle.dns_values.specs.Source.{Rose};
-ghost use Rattle.client_steps.specs.Headline.{conf_of};
+ghost use Rattle.client_steps.specs.Headline.{conf_of, settings_of};
 ghost use Rattle.headline.specs.Right.{Right};
-ghost use Rattle.headline.specs.Settings.{first_settings};
 ghost use Rattle.headline.specs.Timely.{Timely};
 ghost use Rattle.dns_script.specs.ScriptReading.{IsScript};
 ghost use Rattle.dnsq_run.specs.Program.{first_lane, rows_of, IsReplayed, IsRefused, StopsForNumbers, IsEarly, status_of, line_of, numbers_line};
@@ -68,7 +67,7 @@ fn first_lane(lanes: &Lanes) -> &[Event]
 /// The trace of a script with one lane.
 fn trace_of(alloc: Global, script: Script) -> Result<Trace, Ending>
     ensures plain { IfOk result (λ t. rows_of script ≡ Some t.rows) }
-    ensures right { IfOk result (λ t. Right (conf_of script.conf) first_settings t.rows) }
+    ensures right { IfOk result (λ t. Right (conf_of script.conf) (settings_of script.redundant script.cache) t.rows) }
     ensures timely { IfOk result (λ t. Timely (conf_of script.conf) t.rows) }
     ensures early { IfErr result IsEarly }
     ensures numbers { IfErr result (λ e. status_of e ≡ 7 → rows_of script ≡ None) }

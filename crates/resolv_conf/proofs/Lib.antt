@@ -1,5 +1,4 @@
 pub mod Numbers
-pub mod Scripts
 pub mod Splits
 pub mod Lines
 pub mod Parses

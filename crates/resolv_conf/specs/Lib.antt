@@ -10,7 +10,6 @@ pub mod Number
 pub mod OptionWord
 pub mod Options
 pub mod Parse
-pub mod Script
 pub mod Server
 pub mod Show
 pub mod Words

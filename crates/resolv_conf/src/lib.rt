@@ -21,7 +21,6 @@ mod number;
 mod option_words;
 mod options;
 mod parse;
-mod script;
 mod search;
 mod server;
 mod show;

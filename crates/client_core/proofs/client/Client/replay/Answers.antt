@@ -32,7 +32,7 @@ loop-event-preserved g c =
     }
 
 pub returns-clause-right : goal.returns-clause-right
-returns-clause-right g c = λ small. (right_at_the_end c.every_plain_trace_is_right.ensures c.args.conf.now (g.W.Words.stream c.args.words.now) c.args.events.now c.loop-event.rows c.loop-event.event-index c.args.conf.now.options.timeout (client_with (g.W.Words.stream c.loop-event.words) c.loop-event.client) c.loop-event.invariant.same c.loop-event-test.false c.all_asked_in_octets.ensures small).0
+returns-clause-right g c = λ small. (right_at_the_end c.every_plain_trace_is_right.ensures c.args.redundant c.args.cache c.args.conf.now (g.W.Words.stream c.args.words.now) c.args.events.now c.loop-event.rows c.loop-event.event-index c.args.conf.now.options.timeout (client_with (g.W.Words.stream c.loop-event.words) c.loop-event.client) c.loop-event.invariant.same c.loop-event-test.false c.all_asked_in_octets.ensures small).0
 
 pub returns-clause-timely : goal.returns-clause-timely
-returns-clause-timely g c = λ small. (right_at_the_end c.every_plain_trace_is_right.ensures c.args.conf.now (g.W.Words.stream c.args.words.now) c.args.events.now c.loop-event.rows c.loop-event.event-index c.args.conf.now.options.timeout (client_with (g.W.Words.stream c.loop-event.words) c.loop-event.client) c.loop-event.invariant.same c.loop-event-test.false c.all_asked_in_octets.ensures small).1
+returns-clause-timely g c = λ small. (right_at_the_end c.every_plain_trace_is_right.ensures c.args.redundant c.args.cache c.args.conf.now (g.W.Words.stream c.args.words.now) c.args.events.now c.loop-event.rows c.loop-event.event-index c.args.conf.now.options.timeout (client_with (g.W.Words.stream c.loop-event.words) c.loop-event.client) c.loop-event.invariant.same c.loop-event-test.false c.all_asked_in_octets.ensures small).1

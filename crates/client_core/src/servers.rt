@@ -1,0 +1,80 @@
+//! The servers of a configuration, as the client asks them.
+
+ghost use Rattle.std.specs.Prelude.{◌≡◌, [], ◌∷◌, IfOk, IsOkAnd, OnOk};
+ghost use Rattle.client_steps.specs.Whole.{asks_by_streams, servers_of, upstream_at, with_servers};
+
+use client_choice::redundant;
+use client_multi::{dgram_stream, multi_stream};
+use client_request::{Error, RequestMessage};
+use client_steps::Upstream;
+use dns_base::NoMemory;
+use resolv_conf::{ResolvConf, ResolvOptions, ServerConf, Transport};
+use std::alloc::Global;
+
+/// The choice among the servers of a client.
+pub type Servers = redundant::Connection<RequestMessage, Upstream<RequestMessage>>;
+
+/// Whether a server is asked by streams alone.
+fn asks_by_streams(options: &ResolvOptions, server: &ServerConf) -> bool
+    ensures { result ≡ asks_by_streams options.now server.now }
+{
+    options.use_vc || server.transport == Transport::Tcp
+}
+
+/// A server by its number, with the default settings.
+fn upstream_at(
+    alloc: Global,
+    number: u32,
+    by_streams: bool,
+) -> Result<Upstream<RequestMessage>, NoMemory>
+    ensures { IsOkAnd result (λ u. u ≡ upstream_at number by_streams) }
+{
+    if by_streams {
+        let connection = multi_stream::Connection::new(alloc, number)?;
+        Ok(Upstream::Stream(connection))
+    } else {
+        let connection = dgram_stream::Connection::new(alloc, number)?;
+        Ok(Upstream::DgramStream(connection))
+    }
+}
+
+/// Adds a server of this number. A number past 32 bits counts as want of memory.
+fn add_server(
+    alloc: Global,
+    servers: &mut Servers,
+    number: usize,
+    options: &ResolvOptions,
+    server: &ServerConf,
+) -> Result<(), NoMemory>
+    ensures { OnOk result (with_servers number options.now (server.now ∷ []) servers.old ≡ servers.new) }
+{
+    if number > u32::MAX as usize {
+        return Err(NoMemory);
+    }
+    let upstream = upstream_at(alloc, number as u32, asks_by_streams(options, server))?;
+    match servers.add(upstream) {
+        Ok(()) => Ok(()),
+        Err(_) => Err(NoMemory),
+    }
+}
+
+/// The choice among the servers of a configuration, if it has any.
+pub(crate) fn servers_of(
+    alloc: Global,
+    conf: &ResolvConf,
+    settings: redundant::Config,
+) -> Result<Option<Servers>, NoMemory>
+    ensures { IfOk result (λ servers. servers ≡ servers_of settings conf.now.options conf.now.servers) }
+{
+    let listed = conf.servers.as_slice();
+    if listed.len() == 0 {
+        return Ok(None);
+    }
+    let mut servers = Servers::with_config(alloc, settings);
+    let mut number: usize = 0;
+    for server in listed {
+        add_server(alloc, &mut servers, number, &conf.options, server)?;
+        number += 1;
+    }
+    Ok(Some(servers))
+}
