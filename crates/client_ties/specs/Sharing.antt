@@ -12,7 +12,7 @@ use Rattle.headline.specs.machine.Part.{Act, ServerPart}
 use Rattle.client_ties.specs.PartTie.{Phase, Untold, Passed, IsOpen, place_in}
 use Rattle.client_ties.specs.Sights.{Sight, sight, IsFair, NoneDue}
 
--- What a move leaves has no place but those that were had before, and new ones: `place` is the number of the next, and none is given twice.
+-- Each place that a move leaves was there before, or is a new one: `place` is the next number.
 abbrev pub Opens : {U : Type 0} → (has : U → (place : ℕ) → Bool) → (place : ℕ) → U → Act U → Type 0
 Opens has place a d = (place ≤ d.place) × ((p : ℕ) → has d.state p ≡ true → (has a p ≡ true) ⊎ ((place ≤ p) × (p < d.place)))
 

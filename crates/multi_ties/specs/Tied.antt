@@ -68,6 +68,7 @@ pub record IsPassed (s : ℕ) (w : What) (u : Streams) (x : Sight) (a : Served) 
   pub early : AreEarly (desk_of u.tables) x
   pub apart : (p : ℕ) → place_in w ≡ Some p → has_place a p ≡ false
 
+-- server s, by where a row is
 abbrev pub TiedAs : (s : ℕ) → Phase → Streams → Sight → Served → Type 0
 TiedAs s (Untold w) u x a = IsUntold s w u x a
 TiedAs s (Told p left) u x a = IsTold s p left u x a
