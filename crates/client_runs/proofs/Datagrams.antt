@@ -9,7 +9,6 @@ use Rattle.dgram_ties.proofs.FallbackShared.{fallback_is_shared}
 use Rattle.dgram_ties.proofs.FallbackTied.{fallback_is_tied}
 use Rattle.multi_ties.specs.Tied.{by_streams, TiedAs, names_of, owns}
 use Rattle.client_runs.specs.Fallbacks.{FallsBack, named_by, OwnsOne, FallbacksAreTied, FallbacksAreShared}
-use Rattle.client_runs.specs.Ties.{DatagramsAreTied}
 use Rattle.client_runs.proofs.StreamsBelow.{reconnection_is_streams}
 
 -- the same servers, each by streams alone
@@ -29,12 +28,3 @@ fallbacks_are_tied c s used = fallback_is_tied (alone c) c s used by_streams (st
 
 pub fallbacks_are_shared : FallbacksAreShared
 fallbacks_are_shared c s used = fallback_is_shared (alone c) c s by_streams (started s default_settings) (TiedAs s) names_of owns (streams_of c s used)
-
-pub datagrams_tied : DatagramsAreTied
-datagrams_tied c used = record {
-  Tied = FallsBack 0;
-  names = named_by 0;
-  Owns = OwnsOne 0;
-  tie = fallbacks_are_tied c 0 used;
-  placed = λ phase f x a t. t.server;
-}

@@ -12,3 +12,7 @@ pub mod Serverless
 pub mod Silence
 pub mod StreamsBelow
 pub mod Datagrams
+pub mod Lifting
+pub mod Joining
+pub mod Servers
+pub mod Traces

@@ -1,4 +1,5 @@
 pub mod Above
 pub mod Silent
-pub mod Ties
 pub mod Fallbacks
+pub mod Upstreams
+pub mod Ties
