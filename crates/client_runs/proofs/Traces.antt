@@ -18,7 +18,7 @@ use Rattle.choice_runs.specs.Choosing.{Choosing}
 use Rattle.choice_runs.specs.Whole.{with_all}
 use Rattle.choice_runs.specs.Whole as whole
 use Rattle.choice_runs.proofs.Whole.{choices_are_whole}
-use Rattle.choice_runs.proofs.Outcomes.{calls_are_moves}
+use Rattle.choice_runs.proofs.Silence.{calls_are_moves}
 use Rattle.client_runs.specs.Above.{AreWords, Tying, begins_with}
 use Rattle.client_runs.specs.Ties.{EveryPlainTraceRuns, EveryPlainTraceIsRight, PlainTracesKeepTheirEvents}
 use Rattle.client_steps.specs.Client.{plain_rows}

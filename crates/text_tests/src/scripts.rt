@@ -2,14 +2,15 @@
 
 use crate::traces::text_of;
 use client_request::{Event, Events, Moment, What};
-use dns_base::NoMemory;
+use dns_base::{Duration, NoMemory};
 use dns_script::{Lanes, Script, ScriptFault, read_script};
 use std::alloc::Global;
 use std::test::Fail;
 
 /// A script with comments, a line that is empty, and none behind its last.
 const SCRIPT: &str =
-    "# a script\r\n\nconf nameserver 192.0.2.1\nconf options use-vc\nwords 1 2\nwords 3
+    "# a script\r\n\nconf nameserver 192.0.2.1\nconf nameserver 2001:db8::53\nconf options use-vc\nset defer-refused on
+set max-validity 59\nwords 1 2\nwords 3
 at 0 ask 000001000001000000000000026831076578616d706c6503636f6d0000010001 00000100 -
 at 5 opened 0\nat 6 datagram 0 00\n#\nat 7 tick";
 
@@ -17,8 +18,10 @@ fn has_its_parts(script: &Script) -> bool {
     let conf = &script.conf;
     script.words.len() == 3
         && script.lanes.len() == 1
-        && conf.servers.len() == 1
+        && conf.servers.len() == 2
         && conf.options.use_vc
+        && script.redundant.defer_refused()
+        && script.cache.max_validity() == Duration::from_secs(60)
 }
 
 #[test]
@@ -65,9 +68,56 @@ fn a_whole_zone_and_no_question_are_refused(rt: HostRuntime) -> Result<(), Fail>
     Ok(())
 }
 
+/// First lines, and whether a script has them: what a configuration has, and settings.
+const FIRST_LINES: [(&str, bool); 24] = [
+    ("conf nameserver  192.0.2.53 ", true),
+    ("conf nameserver 2001:db8::53", true),
+    ("conf options timeout:1 rotate", true),
+    ("conf search example. example.com.", true),
+    ("conf # x", true),
+    ("conf ", true),
+    ("conf", false),
+    ("conf nameserver", false),
+    ("conf nameserver 192.0.2.53 x", false),
+    ("conf options timeout:", false),
+    ("set defer-transport-error on", true),
+    ("set defer-servfail off", true),
+    ("set cache-truncated on", true),
+    ("set max-cache-entries 0", true),
+    ("set max-validity 0", true),
+    ("set max-delegation-validity 18446744073709551615", true),
+    ("set max-nodata-validity 18446744073709551616", false),
+    ("set misc-error-duration 01", false),
+    ("set defer-refused 1", false),
+    ("set defer-refused", false),
+    ("set defer-refused on ", false),
+    ("set defer_refused on", false),
+    ("set timeout 1", false),
+    ("set ", false),
+];
+
+/// Why a script with this first line is not read.
+fn fault_first(alloc: Global, line: &str) -> Result<Option<ScriptFault>, Fail> {
+    let text = text_of(alloc, &[line, "\nat 0 tick\n"])?;
+    Ok(read_script(alloc, text.as_slice(), false).err())
+}
+
+#[test]
+fn a_script_has_a_configuration_and_settings(rt: HostRuntime) -> Result<(), Fail> {
+    for (line, taken) in FIRST_LINES {
+        let fault = if taken {
+            None
+        } else {
+            Some(ScriptFault::Line(1))
+        };
+        assert!(rt; fault_first(rt.alloc(), line)? == fault, "{line}");
+    }
+    Ok(())
+}
+
 /// Lines behind an event, and whether a script has them: what happens at a stream, a truncated datagram, what lacks a part
 /// or has one too many, faults that the client finds itself, what was put out, and what stands before every event.
-const LINES: [(&str, bool); 28] = [
+const LINES: [(&str, bool); 29] = [
     ("at 1 wrote 0 46", true),
     ("at 1 wrote 0 0", true),
     ("at 1 write-failed 0 broken", true),
@@ -94,6 +144,7 @@ const LINES: [(&str, bool); 28] = [
     ("at 1 resume 0 00", false),
     ("> resume 0 00", false),
     ("conf options use-vc", false),
+    ("set defer-refused on", false),
     ("words 1", false),
     ("lane", false),
 ];
