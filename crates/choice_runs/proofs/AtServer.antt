@@ -1,5 +1,5 @@
 -- One server of the list is called, and the others stay tied as they were.
-use Rattle.std.proofs.Common.{◌≡◌, ℕ, zero, suc, ◌<◌, ◌≤◌, inl, inr, List, [], ◌∷◌, length, Option, Some, None, slice_get, refl, sym, ap, subst, subst₂, ◌∙◌, arith}
+use Rattle.std.proofs.Common.{◌≡◌, ℕ, zero, suc, ◌<◌, ◌≤◌, ◌⊎◌, inl, inr, true, List, [], ◌∷◌, length, Option, Some, None, slice_get, refl, sym, ap, subst, subst₂, ◌∙◌, arith}
 use Rattle.std.specs.Prelude.{set}
 use Rattle.std.proofs.lemmas.Option.{slice_get_within}
 use Rattle.client_request.specs.Timers.{TimerList}
@@ -11,6 +11,7 @@ use Rattle.client_ties.specs.Sights.{sight, due_of, IsFair}
 use Rattle.client_ties.proofs.GoingOn.{none_next}
 use Rattle.client_ties.proofs.Keys.{each_number}
 use Rattle.choice_runs.specs.Choosing.{Choosing}
+use Rattle.choice_runs.proofs.Opening.{below_up_to}
 use Rattle.choice_runs.specs.Servers.{State, Listed, AreTied, OthersAreTied, IsCalled, OthersStayTied}
 
 module _ {A : Type 0} where
@@ -48,7 +49,7 @@ pub fair_as : (v w : View) → w.timers ≡ v.timers → w.words ≡ v.words →
 fair_as v w timers words fair = subst₂ (λ (t : TimerList) (f : ℕ → ℕ). IsFair (record w { timers = t; words = f })) (sym timers) (sym words) (record { order = fair.order; words = fair.words })
 
 pub but : (g : Choosing) (s : ℕ) (phase : ℕ → Phase) (servers : Listed g) (v : View) (x : State g) → AreTied g phase servers v x → OthersAreTied g s phase servers v x
-but g s phase servers v x t = record { count = t.count; tied = λ q a ne at. t.tied q a at; apart = t.apart; fair = t.fair; place = t.place }
+but g s phase servers v x t = record { count = t.count; tied = λ q a ne at. t.tied q a at; apart = t.apart; fair = t.fair; place = t.place; places = t.places }
 
 module _ (g : Choosing) (s : ℕ) (May : Act g.P.State → Type 0) (named : ℕ → Option ℕ) (phase after : ℕ → Phase) (servers : Listed g) (a b : Server g.U) (v w : View) (x y : State g)
     (t : OthersAreTied g s phase servers v x) (at : slice_get servers s ≡ Some a) (k : IsCalled g s May named a b v w (after s) x y) (others : (q : ℕ) → (s ≡ q → ⊥) → after q ≡ phase q) where
@@ -96,6 +97,32 @@ module _ (g : Choosing) (s : ℕ) (May : Act g.P.State → Type 0) (named : ℕ 
   was_there : (q : ℕ) (e : Server g.U) → (s ≡ q → ⊥) → slice_get (set servers s b) q ≡ Some e → slice_get servers q ≡ Some e
   was_there q e ne is = sym (set_there servers s q b ne) ∙ is
 
+  grows : x.place ≤ y.place
+  grows = subst (λ n. x.place ≤ n) (sym k.moved.place) k.opens.on
+
+  -- a place that is open was, or this server opened it
+  had : (q p : ℕ) → g.has (y.ups q) p ≡ true → (g.has (x.ups q) p ≡ true) ⊎ ((s ≡ q) × (x.place ≤ p))
+  had q p is = each_number (λ q. g.has (y.ups q) p ≡ true → (g.has (x.ups q) p ≡ true) ⊎ ((s ≡ q) × (x.place ≤ p))) s
+      (λ is. elim (k.opens.opened p (subst (λ z. g.has z p ≡ true) k.moved.state is)) [ inl old ↦ inl old | inr new ↦ inr (refl, new.0) ])
+      (λ q ne is. inl (subst (λ z. g.has z p ≡ true) (k.moved.others q ne) is)) q is
+
+  given : (q p : ℕ) → q < length (g.c).servers → g.has (y.ups q) p ≡ true → p < y.place
+  given q p lt is = each_number (λ q. q < length (g.c).servers → g.has (y.ups q) p ≡ true → p < y.place) s
+      (λ lt is. elim (k.opens.opened p (subst (λ z. g.has z p ≡ true) k.moved.state is)) [
+        | inl old ↦ below_up_to p x.place y.place (t.places.below s p lt old) grows
+        | inr new ↦ subst (λ n. p < n) (sym k.moved.place) new.1
+      ])
+      (λ q ne lt is. below_up_to p x.place y.place (t.places.below q p lt (subst (λ z. g.has z p ≡ true) (k.moved.others q ne) is)) grows) q lt is
+
+  not_yet : (p : ℕ) → p < x.place → x.place ≤ p → ⊥
+  not_yet p lt le = omega arith
+
+  one_place : (q r p : ℕ) → q < length (g.c).servers → r < length (g.c).servers → g.has (y.ups q) p ≡ true → g.has (y.ups r) p ≡ true → q ≡ r
+  one_place q r p lt le is it = elim (had q p is) [
+    | inl a ↦ elim (had r p it) [ inl b ↦ t.places.places q r p lt le a b | inr b ↦ absurd (not_yet p (t.places.below q p lt a) b.1) ]
+    | inr a ↦ elim (had r p it) [ inl b ↦ absurd (not_yet p (t.places.below r p le b) a.1) | inr b ↦ sym a.0 ∙ b.0 ]
+  ]
+
   pub stay_tied : AreTied g after (set servers s b) w y
   stay_tied = record {
     count = set_length servers s b ∙ t.count;
@@ -110,6 +137,7 @@ module _ (g : Choosing) (s : ℕ) (May : Act g.P.State → Type 0) (named : ℕ 
         (λ r re it. t.apart q r i e f (was_there q e ne is) (was_there r f re it) o p) r it) q is;
     fair = fair_as k.after w k.to.timers k.to.words k.leaves.goes_on.fair;
     place = k.moved.place ∙ (sym k.leaves.place ∙ sym k.to.place);
+    places = record { places = one_place; below = given };
   }
 
 pub others_stay_tied : OthersStayTied

@@ -25,7 +25,7 @@ use Rattle.choice_runs.specs.Servers.{State, Listed, IsStarted, HasReply, Comes,
 use Rattle.choice_runs.specs.Requests.{Beside, Work, Begun, Desk, Waits, IsKept, IsOwed, AreToStart, desk_of, Stands, Went}
 use Rattle.choice_runs.proofs.AtServer.{both_are, set_here}
 use Rattle.choice_runs.proofs.Disarming.{again_path}
-use Rattle.choice_runs.proofs.Dropping.{found_at, stands_on, dues_on, left_then, owner_there, owner_here, follows_of, follows_then}
+use Rattle.choice_runs.proofs.Dropping.{found_at, without_none, stands_on, dues_on, left_then, owner_there, owner_here, follows_of, follows_then}
 use Rattle.choice_runs.proofs.Leading.{up_here, up_other}
 use Rattle.choice_runs.proofs.Noting.{noting, noted_so}
 use Rattle.choice_runs.proofs.ServerCalls.{one_starts, in_conf, left_map}
@@ -55,6 +55,7 @@ module _ (g : Choosing) (beside : Beside) (phase : ℕ → Phase) (current : ℕ
     pub stands : Stands g beside phase current (with_at t (Some (noting g job es (entry o))) tab) named' 0 [] (record c { servers = servers }) w end
     pub leaving : end.leaving ≡ x.leaving
     pub put : w.board ≡ v.board
+    pub more : w.more ≡ v.more
     pub same_there : (i : ℕ) → named' current i ≡ named current i
     pub gave : Gave job.number e.server x.board end.board (parted o).1
 
@@ -125,14 +126,14 @@ module _ (g : Choosing) (beside : Beside) (phase : ℕ → Phase) (current : ℕ
           (λ q differs ne. owner_there g c.servers e.server q j b differs) q ne
 
       dues_so : (j u due : ℕ) → entry_at j c.timers ≡ Some u → due_of j v.timers.set ≡ Some due → due_of j w.timers.set ≡ Some due
-      dues_so j u due is m = dues_on g beside phase phase current (with_at t (Some job) tab) named 0 [] c asked_view x stands_asked e.server a b at (with_at v.ticket (Some job.number) (g.names a.upstream)) i.given x (hand job.number e.server mine.ask x) w i.call j u due is m
+      dues_so j u due is m = dues_on g beside phase phase current (with_at t (Some job) tab) named 0 [] c asked_view x stands_asked e.server a b at (with_at v.ticket (Some job.number) (g.names a.upstream)) i.given x (hand job.number e.server mine.ask x) asked_view w (without_none g (g.Owns a.upstream) asked_view) i.call j u due is m
 
       is_noted : HasReply g job.number v.ticket t a b i.call.made.posts o → IsNoted o (set c.servers e.server b) w
       is_noted (Comes r eq ticket posts waiting names) = subst (λ o. IsNoted o (set c.servers e.server b) w) (sym eq) (record {
         named' = named';
         end = i.call.end;
         went = went_so;
-        stands = stands_on g beside phase phase current (with_at t (Some job) tab) named 0 [] c asked_view x stands_asked e.server a b at (with_at v.ticket (Some job.number) (g.names a.upstream)) i.given x (hand job.number e.server mine.ask x) w i.call
+        stands = stands_on g beside phase phase current (with_at t (Some job) tab) named 0 [] c asked_view x stands_asked e.server a b at (with_at v.ticket (Some job.number) (g.names a.upstream)) i.given x (hand job.number e.server mine.ask x) asked_view w (without_none g (g.Owns a.upstream) asked_view) i.call (λ q ne. refl)
             (with_at t (Some (noting g job es one)) tab) named' 0 []
             (i.posted, subst (λ (ws : List (ℕ × ℕ)). (hi : ℕ) × Sorted 0 hi ws) (sym waiting) (sorted_more v.ticket t a.waiting (st.quiet e.server a at).1))
             (λ ne j. here j ∙ (with_as j ∙ sym (names j))) aside there
@@ -166,6 +167,7 @@ module _ (g : Choosing) (beside : Beside) (phase : ℕ → Phase) (current : ℕ
             }) st.kept);
         leaving = i.call.moved.leaving;
         put = i.board;
+        more = i.more;
         same_there = λ j. there current j (λ same. aside (sym same));
         gave = Nothing (i.call.moved.board ∙ (ap (λ (ps : List Post). x.board ++ map (tag e.server) ps) posts ∙ append-nil x.board));
       })
@@ -193,7 +195,7 @@ module _ (g : Choosing) (beside : Beside) (phase : ℕ → Phase) (current : ℕ
         named' = named;
         end = i.call.end;
         went = went_so;
-        stands = stands_on g beside phase phase current (with_at t (Some job) tab) named 0 [] c asked_view x stands_asked e.server a b at (with_at v.ticket (Some job.number) (g.names a.upstream)) i.given x (hand job.number e.server mine.ask x) w i.call
+        stands = stands_on g beside phase phase current (with_at t (Some job) tab) named 0 [] c asked_view x stands_asked e.server a b at (with_at v.ticket (Some job.number) (g.names a.upstream)) i.given x (hand job.number e.server mine.ask x) asked_view w (without_none g (g.Owns a.upstream) asked_view) i.call (λ q ne. refl)
             (with_at t (Some (noting g job es one)) tab) named 0 []
             (i.posted, subst (λ (ws : List (ℕ × ℕ)). (hi : ℕ) × Sorted 0 hi ws) (sym waiting) (st.quiet e.server a at).1)
             (λ ne j. st.is_named e.server a at ne j ∙ sym (names j)) aside (λ q j ne. refl)
@@ -217,6 +219,7 @@ module _ (g : Choosing) (beside : Beside) (phase : ℕ → Phase) (current : ℕ
             }) st.kept);
         leaving = i.call.moved.leaving;
         put = i.board;
+        more = i.more;
         same_there = λ j. refl;
         gave = AResult result (i.call.moved.board ∙ ap (λ (ps : List Post). x.board ++ map (tag e.server) ps) posts);
       })
@@ -241,6 +244,7 @@ module _ (g : Choosing) (beside : Beside) (phase : ℕ → Phase) (current : ℕ
     pub started : y.0.1.started ≡ job.started ++ entry ∷ []
     pub leaving : end.leaving ≡ x.leaving
     pub put : w.board ≡ v.board
+    pub more : w.more ≡ v.more
     pub same_there : (i : ℕ) → named' current i ≡ named current i
     pub gave : Gave job.number e.server x.board end.board y.0.0
 
@@ -266,6 +270,7 @@ module _ (g : Choosing) (beside : Beside) (phase : ℕ → Phase) (current : ℕ
             started = ap (λ (j : Work g). j.started) m.is ∙ m.started;
             leaving = n.leaving;
             put = m.board ∙ n.put;
+            more = m.more ∙ n.more;
             same_there = n.same_there;
             gave = n.gave;
           })
@@ -274,4 +279,4 @@ module _ (g : Choosing) (beside : Beside) (phase : ℕ → Phase) (current : ℕ
       go : (a : Server g.U) × (slice_get c.servers e.server ≡ Some a) → IfLeft HasBegun (begins g.below t e (record job { left = es }) c v)
       go found = left_then g (IsStarted g phase e.server job.number t mine.ask found.0 c.servers asked_view x) HasBegun (begun g.below t e (record job { left = es }) c v) (starts_at g.below e.server t job.request c.servers asked_view)
           (λ y w i. armed y.0 y.1 w (subst (λ xs. IsNoted y.0 xs w) (sym i.lists) (is_noted found.0 found.1 y.0 y.1 w i i.reply)))
-          (one_starts g phase c.servers asked_view x e.server found.0 stands_asked.servers found.1 (st.quiet e.server found.0 found.1).0 job.request job.number t mine.ask refl mine.is mine.request line.1 mine.octets (is_free found.0 found.1))
+          (one_starts g phase c.servers asked_view x e.server found.0 stands_asked.servers found.1 (st.quiet e.server found.0 found.1).0 job.request job.number t mine.ask (st.is_open e.server (in_conf g phase c.servers v x e.server found.0 st.servers found.1) aside) refl mine.is mine.request line.1 mine.octets (is_free found.0 found.1))

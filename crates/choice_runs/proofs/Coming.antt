@@ -1,5 +1,5 @@
 -- A request is taken on, and started at servers.
-use Rattle.std.proofs.Common.{◌≡◌, ℕ, inl, inr, false, List, [], ◌∷◌, length, Option, Some, None, refl, sym, ap, subst, ◌∙◌}
+use Rattle.std.proofs.Common.{◌≡◌, ℕ, inl, inr, false, List, [], ◌∷◌, length, Option, Some, None, refl, sym, ap, subst, subst₂, ◌∙◌}
 use Rattle.client_request.specs.Carries.{IsOfOctets}
 use Rattle.client_request.specs.Numbered.{entry_at}
 use Rattle.client_request.specs.Request.{Request}
@@ -14,18 +14,29 @@ use Rattle.client_ties.specs.PartTie.{Phase, Leads as IfLeft}
 use Rattle.client_ties.specs.Sights.{sight}
 use Rattle.client_ties.proofs.Keys.{with_here, with_there, is_or_was}
 use Rattle.choice_runs.specs.Choosing.{Choosing}
-use Rattle.choice_runs.specs.Doing.{at_rest, HasDone, HasTakenOn, IsLinedUp}
-use Rattle.choice_runs.specs.Servers.{State}
-use Rattle.choice_runs.specs.Requests.{Work, Desk, IsKept, AreKept, desk_of, Stands}
+use Rattle.client_ties.specs.WholeTie.{HasTakenOn}
+use Rattle.choice_runs.specs.Doing.{numbers_of, nobody, IsStill, HasDone, HasActed, IsLinedUp, TakingOnIsMoves}
+use Rattle.choice_runs.specs.Servers.{State, AreApartAt}
+use Rattle.choice_runs.specs.Requests.{Others, Beside, Work, Desk, IsKept, AreKept, desk_of, Stands}
 use Rattle.choice_runs.proofs.AtServer.{both_are, none_is}
+use Rattle.choice_runs.proofs.Dropping.{left_on}
 use Rattle.choice_runs.proofs.Firing.{none_past}
 use Rattle.choice_runs.proofs.Runs.{runs_do}
+use Rattle.choice_runs.proofs.Taking.{has_acted}
 
-module _ (g : Choosing) (deadlines : ℕ → Option ℕ) (phase : ℕ → Phase) (t now : ℕ) (request : Request) (entries : List Entry) (named : ℕ → ℕ → Option ℕ) (c : Choice Request g.U g.R) (v : View) (x y : State g)
-    (st : Stands g (at_rest deadlines) phase (length (g.c).servers) (λ j. entry_at j c.jobs) named 0 [] c v x) (sorted : (hi : ℕ) × Sorted 0 hi c.jobs) (new : entry_at t c.jobs ≡ None) (octets : IsOfOctets request) (lined : IsLinedUp (length (g.c).servers) entries)
-    (taken : HasTakenOn g v.request request now x y) (quiet : y.board ≡ []) where
+module _ (g : Choosing) (others : Others) (phase : ℕ → Phase) (t : ℕ) (request : Request) (entries : List Entry) (left : ℕ → Option ℕ) (named : ℕ → ℕ → Option ℕ) (c : Choice Request g.U g.R) (v : View) (x y : State g)
+    (is_still : IsStill g others phase (nobody g) left named c v x) (new : entry_at t c.jobs ≡ None) (octets : IsOfOctets request) (lined : IsLinedUp (length (g.c).servers) entries) (taken : HasTakenOn v.request request x y) where
   abbrev count : ℕ
   count = length (g.c).servers
+
+  abbrev beside : Beside
+  beside = record { others = others; left = left }
+
+  abbrev st : Stands g (record { others = others; left = left }) phase (length (g.c).servers) (λ j. entry_at j c.jobs) named 0 [] c v x
+  st = is_still.stands
+
+  abbrev now : ℕ
+  now = taken.moment
 
   abbrev fresh : Work g
   fresh = fresh_job v.request request entries
@@ -112,19 +123,19 @@ module _ (g : Choosing) (deadlines : ℕ → Option ℕ) (phase : ℕ → Phase)
   nothing z [] e m = m
   nothing z (p ∷ ps) e m = cc
 
-  pub takes_it_on : IfLeft (HasDone g (at_rest deadlines) phase count t v.request table y.board named v y) (takes_on g.below g.settings t entries request c v)
-  takes_it_on = runs_do g (at_rest deadlines) phase count entries t fresh table named c v y (record {
+  takes_it : IfLeft (HasDone g beside phase count t v.request table y.board named v y) (takes_on g.below g.settings t entries request c v)
+  takes_it = runs_do g beside phase count entries t fresh table named c v y (record {
     left = refl;
     calm = refl;
     has = λ none. absurd (lined.some none);
     aside = λ m. none_past count entries (λ s. false) lined.line m;
     clear = λ b m. absurd m;
-    pending = λ z m. absurd (nothing z y.board quiet m);
+    pending = λ z m. absurd (nothing z y.board (taken.board ∙ is_still.board) m);
     is_table = refl;
     new = new;
-    sorted = sorted;
+    sorted = is_still.sorted;
     stands = record {
-      servers = record { count = st.servers.count; tied = λ q e m. subst (λ f. g.Tied q (phase q) e.upstream (sight v) (f q)) (sym taken.ups) (st.servers.tied q e m); apart = st.servers.apart; fair = st.servers.fair; place = taken.place ∙ st.servers.place };
+      servers = record { count = st.servers.count; tied = λ q e m. subst (λ f. g.Tied q (phase q) e.upstream (sight v) (f q)) (sym taken.ups) (st.servers.tied q e m); apart = st.servers.apart; fair = st.servers.fair; place = taken.place ∙ st.servers.place; places = subst₂ (λ u n. AreApartAt g u n) (sym taken.ups) (sym taken.place) st.servers.places };
       quiet = st.quiet;
       is_named = st.is_named;
       still = st.still;
@@ -132,8 +143,18 @@ module _ (g : Choosing) (deadlines : ℕ → Option ℕ) (phase : ℕ → Phase)
       kept = kept_then;
       foreign = st.foreign;
       timers = st.timers;
+      is_open = st.is_open;
+      drawn = st.drawn;
       due = st.due;
       own = st.own;
       far = st.far;
     };
   })
+
+  pub takes_it_on : IfLeft (HasActed g others phase (nobody g) (with_at t (Some v.request) (numbers_of g c.jobs)) left v.more v y) (takes_on g.below g.settings t entries request c v)
+  takes_it_on = left_on g (HasDone g beside phase count t v.request table y.board named v y) (HasActed g others phase (nobody g) (with_at t (Some v.request) (numbers_of g c.jobs)) left v.more v y) (takes_on g.below g.settings t entries request c v)
+      (λ d w h. has_acted g beside phase count t v.request (with_at t (Some v.request) (numbers_of g c.jobs)) table y.board named v y d w (with_here t (Some v.request) (numbers_of g c.jobs))
+      (λ j ne. sym (with_there t (Some v.request) (numbers_of g c.jobs) j ne)) is_still.names (taken.board ∙ is_still.board) h) takes_it
+
+pub taking_on_is_moves : (g : Choosing) → TakingOnIsMoves g
+taking_on_is_moves g others phase t request entries left named c v x y is_still new octets lined taken = takes_it_on g others phase t request entries left named c v x y is_still new octets lined taken

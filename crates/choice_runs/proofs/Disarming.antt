@@ -40,6 +40,7 @@ module _ (g : Choosing) where
     apart = t.apart;
     fair = fair_without v i t.fair;
     place = t.place;
+    places = t.places;
   }
 
   module _ (beside : Beside) (phase : ℕ → Phase) (current : ℕ) (named : ℕ → ℕ → Option ℕ) (over : ℕ) where
@@ -59,8 +60,10 @@ module _ (g : Choosing) where
           kept = changed g t job (disarmed job) over (desk_of g (with_at t (Some job) tab) named c v x) d' changes st.kept;
           foreign = λ j u s a is at own. st.foreign j u s a (was j u is).1 at own;
           timers = (st.timers.0, sorted_frees i 0 st.timers.0 c.timers st.timers.1);
-          due = λ j m is. dues_without v i j st.servers.fair ∙ (with_there i None (λ (j : ℕ). due_of j v.timers.set) j (λ same. st.own j m t is (subst (λ j. entry_at j c.timers ≡ Some t) same mine.0)) ∙ st.due j m is);
-          own = λ j m u is there. st.own j m u is (was j u there).1;
+          is_open = st.is_open;
+          drawn = st.drawn;
+          due = λ j m are is. dues_without v i j st.servers.fair ∙ (with_there i None (λ (j : ℕ). due_of j v.timers.set) j (λ same. st.own j t are (subst (λ j. entry_at j c.timers ≡ Some t) same mine.0)) ∙ st.due j m are is);
+          own = λ j u are there. st.own j u are (was j u there).1;
           far = st.far;
         }
           where
@@ -147,6 +150,7 @@ module _ (g : Choosing) where
         apart = λ q r i e f is it o p. (let w = was q e is in let z = was r f it in st.servers.apart q r i w.0 z.0 w.1 z.1 (subst (λ u. g.Owns u i) w.2 o) (subst (λ u. g.Owns u i) z.2 p));
         fair = st.servers.fair;
         place = st.servers.place;
+        places = st.servers.places;
       };
       quiet = λ q e is. (let w = was q e is in let m = st.quiet q w.0 w.1 in (w.4 ∙ m.0, (m.1.0, subst (λ (ws : List (ℕ × ℕ)). Sorted 0 m.1.0 ws) (sym w.3) m.1.1)));
       is_named = λ q e is other i. (let w = was q e is in st.is_named q w.0 w.1 other i ∙ ap (λ u. g.names u i) (sym w.2));
@@ -155,9 +159,11 @@ module _ (g : Choosing) where
       kept = subst (λ (o : ℕ → ℕ → Option ℕ). AreKept g over dropping (record (desk_of g jobs named c v x) { waiting = o })) (fun_ext (λ q. fun_ext (λ i. same_owner q i))) st.kept;
       foreign = λ i t q e is found o. (let w = was q e found in st.foreign i t q w.0 is w.1 (subst (λ u. g.Owns u i) w.2 o));
       timers = st.timers;
+      is_open = st.is_open;
+      drawn = st.drawn;
       due = st.due;
       own = st.own;
-      far = λ i m q e is found o. (let w = was q e found in st.far i m q w.0 is w.1 (subst (λ u. g.Owns u i) w.2 o));
+      far = λ i q e are found o. (let w = was q e found in st.far i q w.0 are w.1 (subst (λ u. g.Owns u i) w.2 o));
     }
       where
         was : (q : ℕ) (e : Server g.U) → slice_get (set c.servers s b) q ≡ Some e → (f : Server g.U) × (slice_get c.servers q ≡ Some f) × (e.upstream ≡ f.upstream) × (e.waiting ≡ f.waiting) × (e.posted ≡ f.posted)

@@ -1,5 +1,5 @@
 -- The servers that still owe a request its result give it up, one after another.
-use Rattle.std.proofs.Common.{◌≡◌, ℕ, zero, suc, ◌<◌, ◌≤◌, inl, inr, List, [], ◌∷◌, ◌++◌, length, map, Option, Some, None, slice_get, refl, sym, ap, subst, ◌∙◌, arith, le_trans, append_assoc, append-nil}
+use Rattle.std.proofs.Common.{◌≡◌, ℕ, zero, suc, ◌<◌, ◌≤◌, ◌⊎◌, inl, inr, true, List, [], ◌∷◌, ◌++◌, length, map, Option, Some, None, slice_get, refl, sym, ap, subst, ◌∙◌, arith, le_trans, append_assoc, append-nil}
 use Rattle.std.specs.Prelude.{set, option_and_then}
 use Rattle.client_request.specs.Composed.{composed}
 use Rattle.client_request.specs.Numbered.{entry_at}
@@ -15,18 +15,20 @@ use Rattle.headline.specs.machine.Part.{Post}
 use Rattle.headline.specs.machine.Streams.{with_at}
 use Rattle.client_ties.specs.Chains.{Gives}
 use Rattle.client_ties.specs.Lines.{Sorted}
-use Rattle.client_ties.specs.PartTie.{Phase, GoesOn, Leads as IfLeft}
+use Rattle.client_ties.specs.PartTie.{Phase, Untold, Told, Passed, IsOpen, GoesOn, Leads as IfLeft}
 use Rattle.client_ties.specs.Sights.{due_of}
 use Rattle.client_ties.proofs.GoingOn.{goes_nowhere, none_next}
 use Rattle.client_ties.proofs.Keys.{each_number, with_here, with_there}
 use Rattle.client_ties.proofs.Tables.{at_frees, sorted_frees}
 use Rattle.choice_runs.specs.Choosing.{Choosing}
-use Rattle.choice_runs.specs.Leading.{Arrives}
+use Rattle.client_ties.specs.Leading.{Arrives}
 use Rattle.choice_runs.specs.Servers.{State, Listed, AfterCall, IsDropped}
-use Rattle.choice_runs.specs.Requests.{Beside, Work, Begun, Desk, Waits, AreKept, AreApart, desk_of, Stands, Went, Follows}
+use Rattle.client_ties.specs.WholeTie.{Follows}
+use Rattle.choice_runs.specs.Requests.{Beside, Work, Begun, Desk, Waits, AreKept, AreApart, desk_of, Stands, Went}
 use Rattle.choice_runs.proofs.AtServer.{both_are, none_is, set_here, set_there}
 use Rattle.choice_runs.proofs.Keeping.{Differ, one_dropped, none_dropped, waits_on}
 use Rattle.choice_runs.proofs.Leading.{leads_on, up_here, up_other}
+use Rattle.choice_runs.proofs.Opening.{below_up_to}
 use Rattle.choice_runs.proofs.ServerCalls.{one_drops}
 
 pub found_at : {A : Type 0} (xs : List A) (i : ℕ) → i < length xs → (a : A) × (slice_get xs i ≡ Some a)
@@ -38,23 +40,23 @@ found_at (x ∷ xs) (suc i) lt = found_at xs i (less i (length xs) lt)
     less a b lt = omega arith
 
 module _ (g : Choosing) where
-  pub follows_of : (v w : View) → GoesOn v w → Follows g v w
-  follows_of v w o = record { fair = o.fair; now = o.now; timer = o.timer; ticket = o.ticket; place = o.place; later = λ i due is. elim (o.later i due is) [ inl p ↦ inl p | inr lt ↦ inr (no_less v.now due lt) ] }
+  pub follows_of : (v w : View) → GoesOn v w → Follows v w
+  follows_of v w o = record { fair = o.fair; now = o.now; timer = o.timer; ticket = o.ticket; place = o.place; later = λ i due is. elim (o.later i due is) [ inl p ↦ inl p | inr new ↦ inr (no_less v.now due new.0, new.1) ] }
     where
       no_less : (a b : ℕ) → a < b → a ≤ b
       no_less a b lt = omega arith
 
-  pub follows_then : (v w u : View) → Follows g v w → Follows g w u → Follows g v u
+  pub follows_then : (v w u : View) → Follows v w → Follows w u → Follows v u
   follows_then v w u a b = record {
     fair = b.fair;
     now = b.now ∙ a.now;
     timer = le_trans a.timer b.timer;
     ticket = le_trans a.ticket b.ticket;
     place = le_trans a.place b.place;
-    later = λ i due is. elim (b.later i due is) [ inl p ↦ a.later i due p | inr le ↦ inr (subst (λ n. n ≤ due) a.now le) ];
+    later = λ i due is. elim (b.later i due is) [ inl p ↦ a.later i due p | inr new ↦ inr (subst (λ n. n ≤ due) a.now new.0, le_trans a.timer new.1) ];
   }
 
-  pub went_nowhere : (v : View) (x : State g) → Follows g v v → Went g v x v x
+  pub went_nowhere : (v : View) (x : State g) → Follows v v → Went g v x v x
   went_nowhere v x on = record { outs = []; leads = Arrives x; put = sym (append-nil v.outs); goes_on = on; now = refl; asked = refl; pending = refl }
 
   pub went_then : (v : View) (x : State g) (w : View) (y : State g) (u : View) (z : State g) → Went g v x w y → Went g w y u z → Went g v x u z
@@ -68,26 +70,69 @@ module _ (g : Choosing) where
     pending = b.pending ∙ a.pending;
   }
 
-  -- What stands after a call of server s, where the requests are kept.
+  -- Of v, u has timers less of its own.
+  pub record IsWithout (Own : ℕ → Type 0) (v u : View) : Type 0 where
+    pub next : u.timers.next ≡ v.timers.next
+    pub place : u.place ≡ v.place
+    pub dues : (i due : ℕ) → (Own i → ⊥) → due_of i v.timers.set ≡ Some due → due_of i u.timers.set ≡ Some due
+
+  pub without_none : (Own : ℕ → Type 0) (v : View) → IsWithout Own v v
+  without_none Own v = record { next = refl; place = refl; dues = λ i due none is. is }
+
+  -- a server that may be called may be while more places are given
+  pub open_on : (phase : Phase) (a b : ℕ) → a ≤ b → IsOpen phase a → IsOpen phase b
+  open_on (Untold w) a b le o = tt
+  open_on (Told p left) a b le o = o
+  open_on (Passed w) a b le o = λ p is. below_up_to p a b (o p is) le
+
+  less_or_not : (a b : ℕ) → (a < b) ⊎ (b ≤ a)
+  less_or_not a b = grind arith
+
+  not_past : (a b : ℕ) → a < b → b ≤ a → ⊥
+  not_past a b lt le = omega arith
+
+  -- What stands after a call of server s, where the requests are kept. Timers of its own may have been taken out before.
   module _ (beside : Beside) (phase after : ℕ → Phase) (current : ℕ) (jobs : ℕ → Option (Work g)) (named : ℕ → ℕ → Option ℕ) (over : ℕ) (dropping : List (Begun g)) (c : Choice Request g.U g.R) (v : View) (x : State g) (st : Stands g beside phase current jobs named over dropping c v x)
-      (s : ℕ) (a b : Server g.U) (at : slice_get c.servers s ≡ Some a) (nm : ℕ → Option ℕ) (board : List Posted) (from y : State g) (w : View) (call : AfterCall g after s a b nm board c.servers v from y w) where
-    -- a timer of others is not of a server then
-    pub far_on : (i due : ℕ) → due_of i v.timers.set ≡ Some due → ((q : ℕ) (e : Server g.U) → slice_get c.servers q ≡ Some e → g.Owns e.upstream i → ⊥) → (q : ℕ) (e : Server g.U) → slice_get (set c.servers s b) q ≡ Some e → g.Owns e.upstream i → ⊥
-    far_on i due is far q e found o = each_number (λ q. slice_get (set c.servers s b) q ≡ Some e → ⊥) s
+      (s : ℕ) (a b : Server g.U) (at : slice_get c.servers s ≡ Some a) (nm : ℕ → Option ℕ) (board : List Posted) (from y : State g) (u w : View) (less : IsWithout (g.Owns a.upstream) v u) (call : AfterCall g after s a b nm board c.servers u from y w) where
+    -- a timer that was given before, and was of no server, is of none then
+    pub far_on : (i : ℕ) → i < v.timers.next → ((q : ℕ) (e : Server g.U) → slice_get c.servers q ≡ Some e → g.Owns e.upstream i → ⊥) → (q : ℕ) (e : Server g.U) → slice_get (set c.servers s b) q ≡ Some e → g.Owns e.upstream i → ⊥
+    far_on i lt far q e found o = each_number (λ q. slice_get (set c.servers s b) q ≡ Some e → ⊥) s
         (λ found. here (subst (λ (e : Server g.U). g.Owns e.upstream i) (sym (both_are (slice_get (set c.servers s b) s) b e (set_here c.servers s a b at) found)) o))
         (λ q ne found. far q e (sym (set_there c.servers s q b ne) ∙ found) o) q found
       where
         here : g.Owns b.upstream i → ⊥
-        here o = elim (call.owned i o) [ inl p ↦ far s a at p | inr le ↦ none_is (due_of i v.timers.set) due (none_next v i st.servers.fair le) is ]
+        here o = elim (call.owned i o) [ inl p ↦ far s a at p | inr le ↦ not_past i v.timers.next lt (subst (λ n. n ≤ i) less.next le) ]
 
-    -- a timer of the choice is due at some moment
-    pub timer_due : (i t : ℕ) → entry_at i c.timers ≡ Some t → (due : ℕ) × (due_of i v.timers.set ≡ Some due)
-    timer_due i t is = (let m = st.kept.timers i t is in ((st.kept.kept t m.0 m.1).timer i m.2).1)
+    -- a timer of the choice was given
+    pub timer_below : (i t : ℕ) → entry_at i c.timers ≡ Some t → i < v.timers.next
+    timer_below i t is =
+        (let m = st.kept.timers i t is in
+        let d = ((st.kept.kept t m.0 m.1).timer i m.2).1 in
+        elim (less_or_not i v.timers.next) [ inl lt ↦ lt | inr le ↦ absurd (none_is (due_of i v.timers.set) d.0 (none_next v i st.servers.fair le) d.1) ])
 
-    pub stands_on : (jobs' : ℕ → Option (Work g)) (named' : ℕ → ℕ → Option ℕ) (over' : ℕ) (dropping' : List (Begun g)) → (b.posted ≡ []) × ((hi : ℕ) × Sorted 0 hi b.waiting)
+    pub dues_on : (i t due : ℕ) → entry_at i c.timers ≡ Some t → due_of i v.timers.set ≡ Some due → due_of i w.timers.set ≡ Some due
+    dues_on i t due is d = call.others i due (λ o. st.foreign i t s a is at o) (less.dues i due (λ o. st.foreign i t s a is at o) d)
+
+    -- what is known of timers and of places then
+    pub foreign_on : (i t q : ℕ) (e : Server g.U) → entry_at i c.timers ≡ Some t → slice_get (set c.servers s b) q ≡ Some e → g.Owns e.upstream i → ⊥
+    foreign_on i t q e is found o = far_on i (timer_below i t is) (λ q e at own. st.foreign i t q e is at own) q e found o
+
+    pub drawn_on : (i : ℕ) → beside.others.are i ≡ true → i < w.timers.next
+    drawn_on i are = below_up_to i v.timers.next w.timers.next (st.drawn i are) (subst (λ n. n ≤ w.timers.next) less.next call.goes_on.timer)
+
+    pub due_on : (i moment : ℕ) → beside.others.are i ≡ true → beside.others.due i ≡ Some moment → due_of i w.timers.set ≡ Some moment
+    due_on i m are is = call.others i m (λ o. st.far i s a are at o) (less.dues i m (λ o. st.far i s a are at o) (st.due i m are is))
+
+    pub far_then : (i q : ℕ) (e : Server g.U) → beside.others.are i ≡ true → slice_get (set c.servers s b) q ≡ Some e → g.Owns e.upstream i → ⊥
+    far_then i q e are found o = far_on i (st.drawn i are) (λ q e at own. st.far i q e are at own) q e found o
+
+    pub is_open_on : (q : ℕ) → IsOpen (phase q) v.place → after q ≡ phase q → IsOpen (after q) w.place
+    is_open_on q o same = open_on (after q) v.place w.place (subst (λ n. n ≤ w.place) less.place call.goes_on.place) (subst (λ p. IsOpen p v.place) (sym same) o)
+
+    pub stands_on : ((q : ℕ) → (current ≡ q → ⊥) → after q ≡ phase q) → (jobs' : ℕ → Option (Work g)) (named' : ℕ → ℕ → Option ℕ) (over' : ℕ) (dropping' : List (Begun g)) → (b.posted ≡ []) × ((hi : ℕ) × Sorted 0 hi b.waiting)
         → ((current ≡ s → ⊥) → (i : ℕ) → named' s i ≡ g.names b.upstream i) → (current ≡ s → ⊥) → ((q i : ℕ) → (s ≡ q → ⊥) → named' q i ≡ named q i)
         → AreKept g over' dropping' (desk_of g jobs' named' (record c { servers = set c.servers s b }) w call.end) → Stands g beside after current jobs' named' over' dropping' (record c { servers = set c.servers s b }) w call.end
-    stands_on jobs' named' over' dropping' quiet here aside there kept = record {
+    stands_on phases jobs' named' over' dropping' quiet here aside there kept = record {
       servers = call.tied;
       quiet = λ q e is. each_number (λ q. slice_get (set c.servers s b) q ≡ Some e → (e.posted ≡ []) × ((hi : ℕ) × Sorted 0 hi e.waiting)) s
           (λ is. subst (λ (e : Server g.U). (e.posted ≡ []) × ((hi : ℕ) × Sorted 0 hi e.waiting)) (both_are (slice_get (set c.servers s b) s) b e (set_here c.servers s a b at) is) quiet)
@@ -98,15 +143,14 @@ module _ (g : Choosing) where
       still = λ e is. st.still e (sym (set_there c.servers s current b (λ same. aside (sym same))) ∙ is);
       less = λ i k is. there current i (λ same. aside (sym same)) ∙ st.less i k is;
       kept = kept;
-      foreign = λ i t q e is found o. (let d = timer_due i t is in far_on i d.0 d.1 (λ q e at own. st.foreign i t q e is at own) q e found o);
+      foreign = λ i t q e is found o. foreign_on i t q e is found o;
       timers = st.timers;
-      due = λ i m is. call.others i m (st.far i m s a is at) (st.due i m is);
+      is_open = λ q lt ne. is_open_on q (st.is_open q lt ne) (phases q ne);
+      drawn = drawn_on;
+      due = due_on;
       own = st.own;
-      far = λ i m q e is found o. far_on i m (st.due i m is) (λ q e at own. st.far i m q e is at own) q e found o;
+      far = λ i q e are found o. far_then i q e are found o;
     }
-
-    pub dues_on : (i t due : ℕ) → entry_at i c.timers ≡ Some t → due_of i v.timers.set ≡ Some due → due_of i w.timers.set ≡ Some due
-    dues_on i t due is d = call.others i due (λ o. st.foreign i t s a is at o) d
 
   pub left_then : {U V : Type 0} (A : U → View → Type 0) (B : V → View → Type 0) (k : U × View → Option (V × View)) (o : Option (U × View)) → ((u : U) (w : View) → A u w → IfLeft B (k (u, w))) → IfLeft A o → IfLeft B (option_and_then k o)
   left_then A B k None f l = tt
@@ -133,6 +177,7 @@ module _ (g : Choosing) where
       pub leaving : end.leaving ≡ x.leaving
       pub board : end.board ≡ x.board
       pub put : w.board ≡ v.board
+      pub more : w.more ≡ v.more
       pub same_there : (i : ℕ) → named' current i ≡ named current i
       pub waits : (b : Begun g) (r : g.R) → IsIn b es → Waits g (desk_of g jobs named c v x) t0 over b r → Waits g (desk_of g jobs named' (record c { servers = servers }) w end) t0 over b r
 
@@ -143,7 +188,7 @@ module _ (g : Choosing) where
       where
         go : (a : Server g.U) × (slice_get c.servers e.server ≡ Some a) → IfLeft (AreOff es named c v x) (drops_at g.below e.server e.lower r c.servers v)
         go found = on (drops_at g.below e.server e.lower r c.servers v)
-            (one_drops g phase c.servers v x e.server a st.servers found.1 (st.quiet e.server a found.1).0 over e.lower r none
+            (one_drops g phase c.servers v x e.server a st.servers found.1 (st.quiet e.server a found.1).0 over e.lower r (st.is_open e.server w.within other) none
             (sym (st.is_named e.server a found.1 other (g.ticket r)) ∙ subst (λ i. named e.server i ≡ Some over) (sym w.ticket) w.named) w.ticket)
           where
             a : Server g.U
@@ -154,13 +199,14 @@ module _ (g : Choosing) where
               named' = named';
               end = d.call.end;
               went = record { outs = d.call.made.outs; leads = d.call.leads; put = d.call.put; goes_on = follows_of v y d.call.goes_on; now = d.call.moved.now; asked = d.call.moved.asked; pending = d.call.moved.pending };
-              stands = stands_on beside phase phase current jobs named over (e ∷ es) c v x st e.server a d.server found.1 (with_at e.lower None (g.names a.upstream)) [] x x y d.call jobs named' over es
+              stands = stands_on beside phase phase current jobs named over (e ∷ es) c v x st e.server a d.server found.1 (with_at e.lower None (g.names a.upstream)) [] x x v y (without_none (g.Owns a.upstream) v) d.call (λ q ne. refl) jobs named' over es
                   (d.posted, ((st.quiet e.server a found.1).1.0, subst (λ (ws : List (ℕ × ℕ)). Sorted 0 (st.quiet e.server a found.1).1.0 ws) (sym d.waiting) (sorted_frees e.lower 0 (st.quiet e.server a found.1).1.0 a.waiting (st.quiet e.server a found.1).1.1)))
                   (λ ne i. here i ∙ names_now i) other there kept;
               held = d.call.moved.held;
               leaving = d.call.moved.leaving;
               board = d.call.moved.board ∙ no_more d.call.made.posts d.call.gives;
               put = d.board;
+              more = d.more;
               same_there = λ i. there current i (λ same. other (sym same));
               waits = λ b q is m. waits_on g e.server e.lower (desk_of g jobs named c v x) desk' t0 over b q differ (λ same i. apart b is same) m;
             })
@@ -204,7 +250,7 @@ module _ (g : Choosing) where
                       (λ q differs ne. owner_there c.servers e.server q i d.server differs) q ne;
                   named = λ q i ne. each_number (λ q. (e.server ≡ q → e.lower ≡ i → ⊥) → named' q i ≡ named q i) e.server
                       (λ ne. here i ∙ with_there e.lower None (named e.server) i (λ same. ne refl same)) (λ q differs ne. there q i differs) q ne;
-                  dues = λ i u due is m. dues_on beside phase phase current jobs named over (e ∷ es) c v x st e.server a d.server found.1 (with_at e.lower None (g.names a.upstream)) [] x x y d.call i u due is m;
+                  dues = λ i u due is m. dues_on beside phase phase current jobs named over (e ∷ es) c v x st e.server a d.server found.1 (with_at e.lower None (g.names a.upstream)) [] x x v y (without_none (g.Owns a.upstream) v) d.call i u due is m;
                 }
 
                 kept : AreKept g over es desk'
@@ -225,6 +271,7 @@ module _ (g : Choosing) where
       leaving = b.leaving ∙ a.leaving;
       board = b.board ∙ a.board;
       put = b.put ∙ a.put;
+      more = b.more ∙ a.more;
       same_there = λ i. b.same_there i ∙ a.same_there i;
       waits = λ e r is m. b.waits e r is (a.waits e r (some e is) m);
     }
@@ -241,6 +288,7 @@ module _ (g : Choosing) where
       leaving = refl;
       board = refl;
       put = refl;
+      more = refl;
       same_there = λ i. refl;
       waits = λ b r is m. m;
     }
@@ -250,7 +298,7 @@ module _ (g : Choosing) where
             → ((named : ℕ → ℕ → Option ℕ) (c : Choice Request g.U g.R) (v : View) (x : State g) → x.held over ≡ None → AreApart es → ((b : Begun g) → IsIn b es → (r : g.R) → b.response ≡ Some r → (current ≡ b.server → ⊥) × Waits g (desk_of g jobs named c v x) t0 over b r)
             → Stands g beside phase current jobs named over es c v x → IfLeft (AreOff [] named c v x) (drops_each g.below es c.servers v))
             → IfLeft (AreOff [] named c v x) (option_and_then (λ z. drops_each g.below es z.0 z.1) (drops_response g.below e c.servers v o))
-        by None is ih = ih named c v x none apart.1 (λ b m r p. waits b (inr m) r p) (record { servers = st.servers; quiet = st.quiet; is_named = st.is_named; still = st.still; less = st.less; kept = none_dropped g over e es (desk_of g jobs named c v x) is st.kept; foreign = st.foreign; timers = st.timers; due = st.due; own = st.own; far = st.far })
+        by None is ih = ih named c v x none apart.1 (λ b m r p. waits b (inr m) r p) (record { servers = st.servers; quiet = st.quiet; is_named = st.is_named; still = st.still; less = st.less; kept = none_dropped g over e es (desk_of g jobs named c v x) is st.kept; foreign = st.foreign; timers = st.timers; is_open = st.is_open; drawn = st.drawn; due = st.due; own = st.own; far = st.far })
         by (Some r) is ih =
             let m = waits e (inl refl) r is in
             left_then (AreOff es named c v x) (AreOff [] named c v x) (λ z. drops_each g.below es z.0 z.1) (drops_at g.below e.server e.lower r c.servers v)

@@ -16,7 +16,7 @@ use Rattle.client_ties.specs.Chains.{part_of}
 use Rattle.client_ties.specs.PartTie.{Phase, Leads as IfLeft}
 use Rattle.client_ties.proofs.Keys.{with_here, with_same}
 use Rattle.choice_runs.specs.Choosing.{Choosing}
-use Rattle.choice_runs.specs.Leading.{Then}
+use Rattle.client_ties.specs.Leading.{Then}
 use Rattle.choice_runs.specs.Servers.{State, Listed}
 use Rattle.choice_runs.specs.Requests.{Beside, Work, Begun, IsKept, desk_of, Stands, Went}
 use Rattle.choice_runs.proofs.Changing.{ended}
@@ -38,6 +38,7 @@ module _ (g : Choosing) (beside : Beside) (phase : ℕ → Phase) (current : ℕ
     pub result : part ≡ part_of leaving.result
     pub board : end.board ≡ rest
     pub put : w.board ≡ v.board ++ record { ticket = t; part = part } ∷ []
+    pub more : w.more ≡ v.more
     pub same_there : (i : ℕ) → named' current i ≡ named current i
 
   pub outs_of : (o : Option ℕ) (v : View) → (stopped o v).outs ≡ v.outs
@@ -47,6 +48,10 @@ module _ (g : Choosing) (beside : Beside) (phase : ℕ → Phase) (current : ℕ
   pub board_of : (o : Option ℕ) (v : View) → (stopped o v).board ≡ v.board
   board_of None v = refl
   board_of (Some i) v = refl
+
+  pub more_of : (o : Option ℕ) (v : View) → (stopped o v).more ≡ v.more
+  more_of None v = refl
+  more_of (Some i) v = refl
 
   -- A request leaves by this move. Those that owe it a result give it up.
   module _ (t : ℕ) (job : Work g) (tab : ℕ → Option (Work g)) (named : ℕ → ℕ → Option ℕ) (c : Choice Request g.U g.R) (v : View) (x : State g) (new : tab t ≡ None) (st : Stands g beside phase current (with_at t (Some job) tab) named 0 [] c v x) (giver now : ℕ)
@@ -65,7 +70,7 @@ module _ (g : Choosing) (beside : Beside) (phase : ℕ → Phase) (current : ℕ
 
     over : Stands g beside phase current tab named job.number job.started mid told_of left
     over = record {
-      servers = record { count = calm.servers.count; tied = calm.servers.tied; apart = calm.servers.apart; fair = record { order = calm.servers.fair.order; words = calm.servers.fair.words }; place = calm.servers.place };
+      servers = record { count = calm.servers.count; tied = calm.servers.tied; apart = calm.servers.apart; fair = record { order = calm.servers.fair.order; words = calm.servers.fair.words }; place = calm.servers.place; places = calm.servers.places };
       quiet = calm.quiet;
       is_named = calm.is_named;
       still = calm.still;
@@ -75,6 +80,8 @@ module _ (g : Choosing) (beside : Beside) (phase : ℕ → Phase) (current : ℕ
           (ap (λ k. with_at k None x.held) numbered) refl 0 calm.kept;
       foreign = calm.foreign;
       timers = calm.timers;
+      is_open = calm.is_open;
+      drawn = calm.drawn;
       due = calm.due;
       own = calm.own;
       far = calm.far;
@@ -105,7 +112,7 @@ module _ (g : Choosing) (beside : Beside) (phase : ℕ → Phase) (current : ℕ
             leads = Then x (unmade left) l.went.outs l.end leaves l.went.leads;
             put = l.went.put ∙ ap (λ (o : List Out). o ++ l.went.outs) (outs_of job.timer v);
             goes_on = follows_then g v (stopped job.timer v) y.1 (follows_of g v (stopped job.timer v) (goes_stopped job.timer v st.servers.fair))
-                (follows_then g (stopped job.timer v) told_of y.1 (follows_of g (stopped job.timer v) told_of (record { fair = over.servers.fair; now = refl; request = refl; timer = le_refl (stopped job.timer v).timers.next; ticket = le_refl (stopped job.timer v).ticket; place = le_refl (stopped job.timer v).place; later = λ i due is. inl is })) l.went.goes_on);
+                (follows_then g (stopped job.timer v) told_of y.1 (follows_of g (stopped job.timer v) told_of (record { fair = over.servers.fair; now = refl; timer = le_refl (stopped job.timer v).timers.next; ticket = le_refl (stopped job.timer v).ticket; place = le_refl (stopped job.timer v).place; later = λ i due is. inl is })) l.went.goes_on);
             now = l.went.now;
             asked = l.went.asked;
             pending = l.went.pending;
@@ -118,6 +125,7 @@ module _ (g : Choosing) (beside : Beside) (phase : ℕ → Phase) (current : ℕ
           result = refl;
           board = l.board;
           put = l.put ∙ ap (λ bs. bs ++ record { ticket = t; part = part_of z.result } ∷ []) (board_of job.timer v);
+          more = l.more ∙ more_of job.timer v;
           same_there = l.same_there;
         }
 

@@ -1,25 +1,31 @@
 -- A server hears something, and what it posted is taken before the next one hears.
-use Rattle.std.proofs.Common.{◌≡◌, ℕ, ◌<◌, inl, inr, List, [], ◌++◌, length, map, Option, Some, None, slice_get, refl, sym, ap, subst, ◌∙◌, arith}
+use Rattle.std.proofs.Common.{◌≡◌, ℕ, suc, ◌+◌, ◌<◌, ◌≤◌, inl, inr, false, List, [], ◌++◌, length, map, Option, Some, None, slice_get, refl, sym, ap, subst, ◌∙◌}
 use mathlib.Core.Path.{fun_ext}
-use Rattle.std.specs.Prelude.{set}
+use Rattle.std.specs.Prelude.{set, nat_lt}
 use Rattle.std.proofs.lemmas.Option.{slice_get_within}
 use Rattle.client_request.specs.Numbered.{entry_at}
 use Rattle.client_request.specs.Request.{Request}
-use Rattle.client_request.specs.View.{View, Heard}
+use Rattle.client_request.specs.Timers.{cancelled}
+use Rattle.client_request.specs.View.{View, Heard, told, more_at, due_timer}
 use Rattle.client_request.specs.declared.board.Posted.{Posted as OnBoard}
+use Rattle.client_request.specs.declared.event.What.{What}
 use Rattle.client_choice.specs.Choice.{Choice, settles_all, hears_one}
 use Rattle.client_choice.specs.Servers.{Server, owner, hears_at}
-use Rattle.headline.specs.machine.Client.{Posted, tag}
+use Rattle.headline.specs.machine.Client.{Posted, tag, with_up}
 use Rattle.client_ties.specs.Chains.{Gives}
 use Rattle.client_ties.specs.Lines.{Sorted}
-use Rattle.client_ties.specs.PartTie.{Phase, Leads as IfLeft}
-use Rattle.client_ties.proofs.Keys.{each_number}
+use Rattle.client_ties.specs.PartTie.{Phase, Untold, Told, MayLeave, Leads as IfLeft}
+use Rattle.client_ties.specs.Sights.{sight, due_of, NoneDue}
+use Rattle.client_ties.proofs.GoingOn.{dues_without}
+use Rattle.client_ties.proofs.Keys.{each_number, with_there}
 use Rattle.choice_runs.specs.Choosing.{Choosing}
-use Rattle.choice_runs.specs.Doing.{AreTaken, IsTakenAt}
-use Rattle.choice_runs.specs.Servers.{State, Listed, IsHeard}
-use Rattle.choice_runs.specs.Requests.{Beside, Desk, AreKept, desk_of, Stands}
+use Rattle.choice_runs.specs.Doing.{numbers_of, IsStill, HasActed, HasHeard, HasTold, TellingIsMoves, TakingIsMoves, WakingIsMoves}
+use Rattle.choice_runs.specs.Servers.{State, Listed, IsHeard, IsTold}
+use Rattle.choice_runs.specs.Requests.{Others, Beside, Desk, AreKept, desk_of, Stands}
 use Rattle.choice_runs.proofs.AtServer.{both_are, set_here, set_there}
-use Rattle.choice_runs.proofs.Dropping.{far_on, timer_due, dues_on, left_then, left_on, owner_there, owner_here, follows_of, went_then}
+use Rattle.choice_runs.proofs.Dropping.{IsWithout, without_none, dues_on, foreign_on, drawn_on, due_on, far_then, is_open_on, left_then, left_on, owner_there, owner_here, follows_of, went_then}
+use Rattle.choice_runs.proofs.Leading.{up_other}
+use Rattle.choice_runs.proofs.ServerCalls.{one_tells, one_takes, one_fires}
 use Rattle.choice_runs.proofs.Settling.{gives_less}
 use Rattle.choice_runs.proofs.Taking.{all_settle}
 
@@ -53,94 +59,127 @@ module _ (g : Choosing) where
         apart = k.apart;
       })))))
 
-  module _ (deadlines : ℕ → Option ℕ) (phase after : ℕ → Phase) where
-    -- no server's results are being taken
-    abbrev at_rest : Beside
-    at_rest = record { deadlines = deadlines; left = λ i. None }
+  module _ (others : Others) (left : ℕ → Option ℕ) (phase : ℕ → Phase) (s : ℕ) (named : ℕ → ℕ → Option ℕ) (c : Choice Request g.U g.R) (v : View) (x : State g) (a : Server g.U) (is_still : IsStill g others phase s left named c v x) (at : slice_get c.servers s ≡ Some a) where
+    abbrev beside : Beside
+    beside = record { others = others; left = left }
 
-    abbrev count : ℕ
-    count = length (g.c).servers
+    abbrev jobs : ℕ → Option _
+    jobs = λ j. entry_at j c.jobs
 
-    module _ (s : ℕ) (named : ℕ → ℕ → Option ℕ) (c : Choice Request g.U g.R) (v : View) (x : State g) (a : Server g.U) (st : Stands g at_rest phase count (λ j. entry_at j c.jobs) named 0 [] c v x) (table : (hi : ℕ) × Sorted 0 hi c.jobs)
-        (at : slice_get c.servers s ≡ Some a) (quiet : x.board ≡ []) where
-      not_below : (n : ℕ) → n < n → ⊥
-      not_below n lt = omega arith
+    abbrev st : Stands g (record { others = others; left = left }) phase s (λ j. entry_at j c.jobs) named 0 [] c v x
+    st = is_still.stands
 
-      inside : (q : ℕ) (e : Server g.U) → slice_get c.servers q ≡ Some e → q < count
-      inside q e is = subst (λ n. q < n) st.servers.count (slice_get_within c.servers q e is)
+    inside : s < length (g.c).servers
+    inside = subst (λ n. s < n) st.servers.count (slice_get_within c.servers s a at)
 
-      not_last : (q : ℕ) (e : Server g.U) → slice_get c.servers q ≡ Some e → count ≡ q → ⊥
-      not_last q e is same = not_below q (subst (λ n. q < n) same (inside q e is))
+    named_so : (i : ℕ) → named s i ≡ g.names a.upstream i
+    named_so i = is_still.names i ∙ sym (st.still a at i)
 
-      module _ (ps : List OnBoard) (servers : Listed g) (w : View) (h : IsHeard g after s a c.servers v x (ps, servers) w) where
-        abbrev b : Server g.U
-        b = h.server
+    -- It hears something, from a view where timers of its own may have been taken out.
+    module _ (after : ℕ → Phase) (u : View) (phases : (q : ℕ) → (s ≡ q → ⊥) → after q ≡ phase q) (fewer : IsWithout g (g.Owns a.upstream) v u) (ps : List OnBoard) (servers : Listed g) (w : View) (h : IsHeard g after s a c.servers u x (ps, servers) w) where
+      abbrev b : Server g.U
+      b = h.server
 
-        abbrev taking : Beside
-        taking = record { deadlines = deadlines; left = g.names b.upstream }
+      abbrev taking : Beside
+      taking = record { others = others; left = g.names b.upstream }
 
-        same_owner : (q i : ℕ) → owner q i (set c.servers s b) ≡ owner q i c.servers
-        same_owner q i = each_number (λ q. owner q i (set c.servers s b) ≡ owner q i c.servers) s
-            (owner_here g (set c.servers s b) s i b (set_here c.servers s a b at) ∙ (ap (λ (ws : List (ℕ × ℕ)). entry_at i ws) h.waiting ∙ sym (owner_here g c.servers s i a at)))
-            (λ q ne. owner_there g c.servers s q i b ne) q
+      abbrev listed : Choice Request g.U g.R
+      listed = record c { servers = set c.servers s b }
 
-        heard_stands : Stands g taking after s (λ j. entry_at j c.jobs) named 0 [] (record c { servers = set c.servers s b }) w h.call.end
-        heard_stands = record {
-          servers = h.call.tied;
-          quiet = λ q e is. each_number (λ q. slice_get (set c.servers s b) q ≡ Some e → (e.posted ≡ []) × ((hi : ℕ) × Sorted 0 hi e.waiting)) s
-              (λ is. subst (λ (e : Server g.U). (e.posted ≡ []) × ((hi : ℕ) × Sorted 0 hi e.waiting)) (both_are (slice_get (set c.servers s b) s) b e (set_here c.servers s a b at) is)
-              (h.posted, subst (λ (ws : List (ℕ × ℕ)). (hi : ℕ) × Sorted 0 hi ws) (sym h.waiting) (st.quiet s a at).1))
-              (λ q ne is. st.quiet q e (sym (set_there c.servers s q b ne) ∙ is)) q is;
-          is_named = λ q e is ne i. (let old = sym (set_there c.servers s q b ne) ∙ is in st.is_named q e old (not_last q e old) i);
-          still = λ e is i. ap (λ (e : Server g.U). g.names e.upstream i) (sym (both_are (slice_get (set c.servers s b) s) b e (set_here c.servers s a b at) is));
-          less = λ i k is. st.is_named s a at (not_last s a at) i ∙ gives_less (g.names a.upstream) ps h.call.made.posts (g.names b.upstream) i k h.call.gives is;
-          kept = kept_still (desk_of g (λ j. entry_at j c.jobs) named c v x) (desk_of g (λ j. entry_at j c.jobs) named (record c { servers = set c.servers s b }) w h.call.end) refl refl (fun_ext (λ q. fun_ext (λ i. same_owner q i))) refl h.call.moved.held
-              (λ i t due is m. dues_on g at_rest phase after count (λ j. entry_at j c.jobs) named 0 [] c v x st s a b at (g.names a.upstream) ps x x w h.call i t due is m) st.kept;
-          foreign = λ i t q e is found o. (let d = timer_due g at_rest phase after count (λ j. entry_at j c.jobs) named 0 [] c v x st s a b at (g.names a.upstream) ps x x w h.call i t is in
-              far_on g at_rest phase after count (λ j. entry_at j c.jobs) named 0 [] c v x st s a b at (g.names a.upstream) ps x x w h.call i d.0 d.1 (λ q e at own. st.foreign i t q e is at own) q e found o);
-          timers = st.timers;
-          due = λ i m is. h.call.others i m (st.far i m s a is at) (st.due i m is);
-          own = st.own;
-          far = λ i m q e is found o. far_on g at_rest phase after count (λ j. entry_at j c.jobs) named 0 [] c v x st s a b at (g.names a.upstream) ps x x w h.call i m (st.due i m is) (λ q e at own. st.far i m q e is at own) q e found o;
-        }
+      same_owner : (q i : ℕ) → owner q i (set c.servers s b) ≡ owner q i c.servers
+      same_owner q i = each_number (λ q. owner q i (set c.servers s b) ≡ owner q i c.servers) s
+          (owner_here g (set c.servers s b) s i b (set_here c.servers s a b at) ∙ (ap (λ (ws : List (ℕ × ℕ)). entry_at i ws) h.waiting ∙ sym (owner_here g c.servers s i a at)))
+          (λ q ne. owner_there g c.servers s q i b ne) q
 
-        given_names : Gives (named s) ps h.call.made.posts (g.names b.upstream)
-        given_names = subst (λ f. Gives f ps h.call.made.posts (g.names b.upstream)) (fun_ext (λ i. sym (st.is_named s a at (not_last s a at) i))) h.call.gives
+      heard_stands : Stands g taking after s (λ j. entry_at j c.jobs) named 0 [] listed w h.call.end
+      heard_stands = record {
+        servers = h.call.tied;
+        quiet = λ q e is. each_number (λ q. slice_get (set c.servers s b) q ≡ Some e → (e.posted ≡ []) × ((hi : ℕ) × Sorted 0 hi e.waiting)) s
+            (λ is. subst (λ (e : Server g.U). (e.posted ≡ []) × ((hi : ℕ) × Sorted 0 hi e.waiting)) (both_are (slice_get (set c.servers s b) s) b e (set_here c.servers s a b at) is)
+            (h.posted, subst (λ (ws : List (ℕ × ℕ)). (hi : ℕ) × Sorted 0 hi ws) (sym h.waiting) (st.quiet s a at).1))
+            (λ q ne is. st.quiet q e (sym (set_there c.servers s q b ne) ∙ is)) q is;
+        is_named = λ q e is ne i. st.is_named q e (sym (set_there c.servers s q b ne) ∙ is) ne i;
+        still = λ e is i. ap (λ (e : Server g.U). g.names e.upstream i) (sym (both_are (slice_get (set c.servers s b) s) b e (set_here c.servers s a b at) is));
+        less = λ i k is. named_so i ∙ gives_less (g.names a.upstream) ps h.call.made.posts (g.names b.upstream) i k h.call.gives is;
+        kept = kept_still (desk_of g (λ j. entry_at j c.jobs) named c v x) (desk_of g (λ j. entry_at j c.jobs) named listed w h.call.end) refl refl (fun_ext (λ q. fun_ext (λ i. same_owner q i))) refl h.call.moved.held
+            (λ i t due is m. dues_on g beside phase after s (λ j. entry_at j c.jobs) named 0 [] c v x st s a b at (g.names a.upstream) ps x x u w fewer h.call i t due is m) st.kept;
+        foreign = λ i t q e is found o. foreign_on g beside phase after s (λ j. entry_at j c.jobs) named 0 [] c v x st s a b at (g.names a.upstream) ps x x u w fewer h.call i t q e is found o;
+        timers = st.timers;
+        is_open = λ q lt ne. is_open_on g beside phase after s (λ j. entry_at j c.jobs) named 0 [] c v x st s a b at (g.names a.upstream) ps x x u w fewer h.call q (st.is_open q lt ne) (phases q ne);
+        drawn = λ i are. drawn_on g beside phase after s (λ j. entry_at j c.jobs) named 0 [] c v x st s a b at (g.names a.upstream) ps x x u w fewer h.call i are;
+        due = λ i m are is. due_on g beside phase after s (λ j. entry_at j c.jobs) named 0 [] c v x st s a b at (g.names a.upstream) ps x x u w fewer h.call i m are is;
+        own = st.own;
+        far = λ i q e are found o. far_then g beside phase after s (λ j. entry_at j c.jobs) named 0 [] c v x st s a b at (g.names a.upstream) ps x x u w fewer h.call i q e are found o;
+      }
 
-        -- at rest again
-        rests_again : (d : Choice Request g.U g.R) (u : View) → AreTaken g taking after s (g.names b.upstream) (record c { servers = set c.servers s b }) w h.call.end d u → IsTakenAt g at_rest phase s after c v x d u
-        rests_again d u r = record {
-          named' = r.named';
-          end = r.end;
-          went = went_then g v x w h.call.end u r.end (record { outs = h.call.made.outs; leads = h.call.leads; put = h.call.put; goes_on = follows_of g v w h.call.goes_on; now = h.call.moved.now; asked = h.call.moved.asked; pending = h.call.moved.pending }) r.went;
-          stands = record {
-            servers = r.stands.servers;
-            quiet = r.stands.quiet;
-            is_named = λ q e is ne i. each_number (λ q. slice_get d.servers q ≡ Some e → r.named' q i ≡ g.names e.upstream i) s
-                (λ is. r.names i ∙ sym (r.stands.still e is i)) (λ q ne is. r.stands.is_named q e is ne i) q is;
-            still = λ e is i. absurd (not_below count (subst (λ n. count < n) r.stands.servers.count (slice_get_within d.servers count e is)));
-            less = λ i k is. absurd (cc);
-            kept = r.stands.kept;
-            foreign = r.stands.foreign;
-            timers = r.stands.timers;
-            due = r.stands.due;
-            own = r.stands.own;
-            far = r.stands.far;
-          };
-          sorted = r.sorted;
-          board = r.board;
-          given = r.given;
-          leaving = r.leaving;
-          put = r.put ∙ ap (λ (bs : List OnBoard). bs ++ r.given) h.board;
-          leaves = r.leaves ∙ ap (λ zs. zs ++ r.leaving) h.call.moved.leaving;
-          answers = r.answers;
-        }
+      given_names : Gives (named s) ps h.call.made.posts (g.names b.upstream)
+      given_names = subst (λ f. Gives f ps h.call.made.posts (g.names b.upstream)) (fun_ext (λ i. sym (named_so i))) h.call.gives
 
-      -- what it hears, whatever it is, is moves
-      pub hears_and_settles : (heard : Heard) → IfLeft (λ y w. IsHeard g after s a c.servers v x y w) (hears_at g.below s heard c.servers v) → IfLeft (IsTakenAt g at_rest phase s after c v x) (hears_one g.below g.settings s heard c v)
-      hears_and_settles heard l = left_then g (λ y w. IsHeard g after s a c.servers v x y w) (IsTakenAt g at_rest phase s after c v x) (λ z. settles_all g.below g.settings s z.0.0 (record c { servers = z.0.1 }) z.1) (hears_at g.below s heard c.servers v)
-          (λ y w h. subst (λ xs. IfLeft (IsTakenAt g at_rest phase s after c v x) (settles_all g.below g.settings s y.0 (record c { servers = xs }) w)) (sym h.lists)
-          (left_on g (AreTaken g (taking y.0 y.1 w h) after s (g.names (h.server).upstream) (record c { servers = set c.servers s h.server }) w h.call.end) (IsTakenAt g at_rest phase s after c v x) (settles_all g.below g.settings s y.0 (record c { servers = set c.servers s h.server }) w)
-          (λ d u r. rests_again y.0 y.1 w h d u r)
-          (all_settle g (taking y.0 y.1 w h) after s y.0 h.call.made.posts named (record c { servers = set c.servers s h.server }) w h.call.end (heard_stands y.0 y.1 w h) table (inside s a at) (given_names y.0 y.1 w h)
-          (h.call.moved.board ∙ ap (λ (b : List Posted). b ++ map (tag s) h.call.made.posts) quiet)))) l
+      -- what was heard comes before
+      heard_before : (d : Choice Request g.U g.R) (z : View) → HasActed g others after s (numbers_of g c.jobs) (g.names b.upstream) w.more w h.call.end d z → HasActed g others after s (numbers_of g c.jobs) (g.names b.upstream) w.more u x d z
+      heard_before d z r = record {
+        named = r.named;
+        end = r.end;
+        went = went_then g u x w h.call.end z r.end (record { outs = h.call.made.outs; leads = h.call.leads; put = h.call.put; goes_on = follows_of g u w h.call.goes_on; now = h.call.moved.now; asked = h.call.moved.asked; pending = h.call.moved.pending }) r.went;
+        still = r.still;
+        given = r.given;
+        leaving = r.leaving;
+        put = r.put ∙ ap (λ (bs : List OnBoard). bs ++ r.given) h.board;
+        leaves = r.leaves ∙ ap (λ zs. zs ++ r.leaving) h.call.moved.leaving;
+        answers = r.answers;
+        says = r.says;
+      }
+
+      pub settles_heard : IfLeft (HasActed g others after s (numbers_of g c.jobs) (g.names b.upstream) w.more u x) (settles_all g.below g.settings s ps (record c { servers = servers }) w)
+      settles_heard = subst (λ xs. IfLeft (HasActed g others after s (numbers_of g c.jobs) (g.names b.upstream) w.more u x) (settles_all g.below g.settings s ps (record c { servers = xs }) w)) (sym h.lists)
+          (left_on g (HasActed g others after s (numbers_of g c.jobs) (g.names b.upstream) w.more w h.call.end) (HasActed g others after s (numbers_of g c.jobs) (g.names b.upstream) w.more u x) (settles_all g.below g.settings s ps listed w)
+          (λ d z r. heard_before d z r)
+          (all_settle g taking after s ps h.call.made.posts named listed w h.call.end heard_stands is_still.sorted inside given_names
+          (h.call.moved.board ∙ ap (λ (b : List Posted). b ++ map (tag s) h.call.made.posts) is_still.board)))
+
+    -- it is told something, or takes a frame
+    told_settles : (heard : Heard) (MayBe : (place frames : ℕ) → Type 0) → IfLeft (IsTold g phase s a c.servers v x MayBe) (hears_at g.below s heard c.servers v) → IfLeft (HasTold g others phase s MayBe (numbers_of g c.jobs) v x) (hears_one g.below g.settings s heard c v)
+    told_settles heard MayBe l = left_then g (IsTold g phase s a c.servers v x MayBe) (HasTold g others phase s MayBe (numbers_of g c.jobs) v x) (λ z. settles_all g.below g.settings s z.0.0 (record c { servers = z.0.1 }) z.1) (hears_at g.below s heard c.servers v)
+        (λ y w t. left_on g (HasActed g others (with_up s (Told t.at t.left) phase) s (numbers_of g c.jobs) (g.names ((t.heard).server).upstream) w.more v x) (HasTold g others phase s MayBe (numbers_of g c.jobs) v x) (settles_all g.below g.settings s y.0 (record c { servers = y.1 }) w)
+        (λ d z r. record {
+          at = t.at;
+          frames = t.left;
+          may_be = t.may_be;
+          left = g.names ((t.heard).server).upstream;
+          acted = subst (λ m. HasActed g others (with_up s (Told t.at t.left) phase) s (numbers_of g c.jobs) (g.names ((t.heard).server).upstream) m v x d z) t.more r;
+        })
+        (settles_heard (with_up s (Told t.at t.left) phase) v (λ q ne. up_other s q (Told t.at t.left) phase ne) (without_none g (g.Owns a.upstream) v) y.0 y.1 w t.heard)) l
+
+    pub tells_it : (what : What) → phase s ≡ Untold what → NoneDue (g.Owns a.upstream) (sight v) → v.more ≡ false → IfLeft (HasTold g others phase s (MayLeave what) (numbers_of g c.jobs) v x) (hears_one g.below g.settings s (told what) c v)
+    tells_it what untold early calm = told_settles (told what) (MayLeave what) (one_tells g phase c.servers v x s a st.servers at (st.quiet s a at).0 what untold early calm)
+
+    pub takes_it : (p n : ℕ) → phase s ≡ Told p (suc n) → v.more ≡ false → IfLeft (HasTold g others phase s (λ q frames. (q ≡ p) × (frames ≤ n)) (numbers_of g c.jobs) v x) (hears_one g.below g.settings s (more_at p) c v)
+    takes_it p n is calm = told_settles (more_at p) (λ q frames. (q ≡ p) × (frames ≤ n)) (one_takes g phase c.servers v x s a st.servers at (st.quiet s a at).0 p n is calm)
+
+    -- a timer of its own fires
+    module _ (i due : ℕ) (own : g.Owns a.upstream i) where
+      abbrev gone : View
+      gone = record v { timers = cancelled i v.timers }
+
+      fewer : IsWithout g (g.Owns a.upstream) v gone
+      fewer = record {
+        next = refl;
+        place = refl;
+        dues = λ j m none is. dues_without v i j st.servers.fair ∙ (with_there i None (λ (j : ℕ). due_of j v.timers.set) j (λ same. none (subst (λ j. g.Owns a.upstream j) same own)) ∙ is);
+      }
+
+      pub wakes_it : (what : What) → phase s ≡ Untold what → due_of i v.timers.set ≡ Some due → due ≤ v.now → IfLeft (HasHeard g others phase s (numbers_of g c.jobs) gone x) (hears_one g.below g.settings s (due_timer i) c gone)
+      wakes_it what untold set passed = left_then g (IsHeard g phase s a c.servers gone x) (HasHeard g others phase s (numbers_of g c.jobs) gone x) (λ z. settles_all g.below g.settings s z.0.0 (record c { servers = z.0.1 }) z.1) (hears_at g.below s (due_timer i) c.servers gone)
+          (λ y w h. left_on g (HasActed g others phase s (numbers_of g c.jobs) (g.names (h.server).upstream) w.more gone x) (HasHeard g others phase s (numbers_of g c.jobs) gone x) (settles_all g.below g.settings s y.0 (record c { servers = y.1 }) w)
+          (λ d z r. record { left = g.names (h.server).upstream; acted = subst (λ m. HasActed g others phase s (numbers_of g c.jobs) (g.names (h.server).upstream) m gone x d z) (sym r.says) r })
+          (settles_heard phase gone (λ q ne. refl) fewer y.0 y.1 w h))
+          (one_fires g phase c.servers v x s a st.servers at (st.quiet s a at).0 i due own set passed what untold)
+
+pub telling_is_moves : (g : Choosing) → TellingIsMoves g
+telling_is_moves g others phase s a what left named c v x is_still at untold early calm = tells_it g others left phase s named c v x a is_still at what untold early calm
+
+pub taking_is_moves : (g : Choosing) → TakingIsMoves g
+taking_is_moves g others phase s a p n left named c v x is_still at is calm = takes_it g others left phase s named c v x a is_still at p n is calm
+
+pub waking_is_moves : (g : Choosing) → WakingIsMoves g
+waking_is_moves g others phase s a what i due left named c v x is_still at untold own set passed = wakes_it g others left phase s named c v x a is_still at i due own what untold set passed

@@ -11,7 +11,7 @@ use Rattle.headline.specs.Settings.{Settings}
 use Rattle.headline.specs.machine.Part.{Act, ServerPart}
 use Rattle.headline.specs.machine.Client.{Posted, Waiting, Upper, Made, Move, Moves, IsDone, Server_moves, Hands_on, Gives_up, moved, hand, tag, with_up}
 use Rattle.client_ties.specs.Chains.{Chain, Stays, Goes, Begins, Calls, then_act}
-use Rattle.choice_runs.specs.Leading.{Leads, Arrives, Then, IsMoved, Reaches}
+use Rattle.client_ties.specs.Leading.{Leads, Arrives, Then, IsMoved, Reaches}
 
 pub up_other : {U : Type 0} → (s i : ℕ) (u : U) (f : ℕ → U) → (s ≡ i → ⊥) → with_up s u f i ≡ f i
 up_other s i u f ne = grind (arith, nat_tests)

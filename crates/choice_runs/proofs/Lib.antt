@@ -1,5 +1,6 @@
 pub mod AtServer
 pub mod Leading
+pub mod Opening
 pub mod ServerCalls
 pub mod Keeping
 pub mod Changing
@@ -14,6 +15,10 @@ pub mod PuttingOff
 pub mod Resting
 pub mod Runs
 pub mod Silencing
+pub mod Leaving
+pub mod Owing
+pub mod Awaiting
+pub mod AwaitingCalls
 pub mod Settling
 pub mod Taking
 pub mod Hearing
@@ -22,4 +27,6 @@ pub mod Firing
 pub mod Coming
 pub mod Lining
 pub mod Dropping
+pub mod Turning
+pub mod Passing
 pub mod Silence

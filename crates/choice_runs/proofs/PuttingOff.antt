@@ -12,7 +12,7 @@ use Rattle.client_ties.specs.Chains.{part_of}
 use Rattle.client_ties.specs.PartTie.{Phase}
 use Rattle.client_ties.proofs.Keys.{each_number, with_here, with_there, is_or_was}
 use Rattle.choice_runs.specs.Choosing.{Choosing}
-use Rattle.choice_runs.specs.Leading.{Leads}
+use Rattle.client_ties.specs.Leading.{Leads}
 use Rattle.choice_runs.specs.Servers.{State}
 use Rattle.choice_runs.specs.Requests.{Beside, Work, Desk, IsKept, desk_of, Stands}
 use Rattle.choice_runs.proofs.AtServer.{both_are}
@@ -118,7 +118,7 @@ module _ (g : Choosing) (beside : Beside) (phase : ℕ → Phase) (current : ℕ
     end = kept_back;
     leads = one_move g.st composed g.P x (unmade kept_back) (Keeps_back before after q mine.ask on (subst (λ k. x.held k ≡ Some mine.ask) (sym numbered) mine.is) waits);
     stands = subst (λ (j : Work g). Stands g beside phase current (with_at t (Some j) tab) named 0 [] c v kept_back) (sym (put_off_is (part_of q.result) job)) (record {
-      servers = record { count = st.servers.count; tied = st.servers.tied; apart = st.servers.apart; fair = st.servers.fair; place = st.servers.place };
+      servers = record { count = st.servers.count; tied = st.servers.tied; apart = st.servers.apart; fair = st.servers.fair; place = st.servers.place; places = st.servers.places };
       quiet = st.quiet;
       is_named = st.is_named;
       still = st.still;
@@ -126,6 +126,8 @@ module _ (g : Choosing) (beside : Beside) (phase : ℕ → Phase) (current : ℕ
       kept = changed g t job better 0 old new changes st.kept;
       foreign = st.foreign;
       timers = st.timers;
+      is_open = st.is_open;
+      drawn = st.drawn;
       due = st.due;
       own = st.own;
       far = st.far;

@@ -21,10 +21,11 @@ use Rattle.client_ties.specs.Sights.{sight}
 use Rattle.client_ties.proofs.Keys.{each_number, with_here, with_there, with_same}
 use Rattle.client_ties.proofs.Tables.{at_puts, puts_path}
 use Rattle.choice_runs.specs.Choosing.{Choosing}
-use Rattle.choice_runs.specs.Leading.{Leads}
+use Rattle.client_ties.specs.Leading.{Leads}
 use Rattle.choice_runs.specs.Servers.{State}
 use Rattle.choice_runs.specs.Doing.{WaitsOn, Goes, HasDone}
-use Rattle.choice_runs.specs.Requests.{Beside, Work, Begun, Desk, IsKept, IsOwed, IsToStart, AreKept, desk_of, Stands, Follows}
+use Rattle.client_ties.specs.WholeTie.{Follows}
+use Rattle.choice_runs.specs.Requests.{Beside, Work, Begun, Desk, IsKept, IsOwed, IsToStart, AreKept, desk_of, Stands}
 use Rattle.choice_runs.proofs.AtServer.{both_are, none_is}
 use Rattle.choice_runs.proofs.Changing.{ended}
 use Rattle.choice_runs.proofs.Disarming.{again_path}
@@ -70,6 +71,8 @@ module _ (g : Choosing) (beside : Beside) (phase : ℕ → Phase) (current : ℕ
     kept = record { kept = st.kept.kept; named = λ s i k lt is. elim (st.kept.named s i k lt is) [ inl m ↦ inl m | inr o ↦ absurd (nothing k s i o.1) ]; held = st.kept.held; timers = st.kept.timers; apart = st.kept.apart };
     foreign = st.foreign;
     timers = st.timers;
+    is_open = st.is_open;
+    drawn = st.drawn;
     due = st.due;
     own = st.own;
     far = st.far;
@@ -81,13 +84,13 @@ module _ (g : Choosing) (beside : Beside) (phase : ℕ → Phase) (current : ℕ
   -- other requests in the table
   pub stands_as : (jobs jobs' : ℕ → Option (Work g)) (named : ℕ → ℕ → Option ℕ) (c : Choice Request g.U g.R) (table : List (ℕ × Work g)) (v : View) (x : State g) → jobs' ≡ jobs → Stands g beside phase current jobs named 0 [] c v x → Stands g beside phase current jobs' named 0 [] (record c { jobs = table }) v x
   stands_as jobs jobs' named c table v x same st = subst (λ f. Stands g beside phase current f named 0 [] (record c { jobs = table }) v x) (sym same)
-      (record { servers = st.servers; quiet = st.quiet; is_named = st.is_named; still = st.still; less = st.less; kept = record { kept = st.kept.kept; named = st.kept.named; held = st.kept.held; timers = st.kept.timers; apart = st.kept.apart }; foreign = st.foreign; timers = st.timers; due = st.due; own = st.own; far = st.far })
+      (record { servers = st.servers; quiet = st.quiet; is_named = st.is_named; still = st.still; less = st.less; kept = record { kept = st.kept.kept; named = st.kept.named; held = st.kept.held; timers = st.kept.timers; apart = st.kept.apart }; foreign = st.foreign; timers = st.timers; is_open = st.is_open; drawn = st.drawn; due = st.due; own = st.own; far = st.far })
 
   module _ (t : ℕ) (job : Work g) (tab : ℕ → Option (Work g)) (named : ℕ → ℕ → Option ℕ) (c : Choice Request g.U g.R) (v : View) (x : State g) (is_table : tab ≡ (λ j. entry_at j c.jobs)) (new : tab t ≡ None) (sorted : (hi : ℕ) × Sorted 0 hi c.jobs) (st : Stands g beside phase current (with_at t (Some job) tab) named 0 [] c v x) where
     mine : IsKept g (desk_of g (with_at t (Some job) tab) named c v x) t job
     mine = st.kept.kept t job (with_here t (Some job) tab)
 
-    follows_itself : Follows g v v
+    follows_itself : Follows v v
     follows_itself = record { fair = st.servers.fair; now = refl; timer = le_refl v.timers.next; ticket = le_refl v.ticket; place = le_refl v.place; later = λ i due is. inl is }
 
     -- it waits on
@@ -100,6 +103,7 @@ module _ (g : Choosing) (beside : Beside) (phase : ℕ → Phase) (current : ℕ
       sorted = sorted_more t job c.jobs sorted;
       others = λ j ne. at_puts t job j c.jobs ∙ (with_there t (Some job) (λ j. entry_at j c.jobs) j ne ∙ ap (λ (f : ℕ → Option (Work g)). f j) (sym is_table));
       board = refl;
+      more = refl;
       same_there = λ i. refl;
       come = WaitsOn job (at_puts t job t c.jobs ∙ with_here t (Some job) (λ j. entry_at j c.jobs)) refl refl refl;
     }
@@ -163,7 +167,7 @@ module _ (g : Choosing) (beside : Beside) (phase : ℕ → Phase) (current : ℕ
                   pending = refl;
                 };
                 stands = over_any (λ j. entry_at j c.jobs) named job.number 0 c (answers t (part_of z.leaving.result) v) left (record {
-                  servers = record { count = st.servers.count; tied = st.servers.tied; apart = st.servers.apart; fair = record { order = st.servers.fair.order; words = st.servers.fair.words }; place = st.servers.place };
+                  servers = record { count = st.servers.count; tied = st.servers.tied; apart = st.servers.apart; fair = record { order = st.servers.fair.order; words = st.servers.fair.words }; place = st.servers.place; places = st.servers.places };
                   quiet = st.quiet;
                   is_named = st.is_named;
                   still = st.still;
@@ -173,6 +177,8 @@ module _ (g : Choosing) (beside : Beside) (phase : ℕ → Phase) (current : ℕ
                       (sym is_table ∙ sym (again_path t None (Some job) tab ∙ fun_ext (λ j. with_same t None tab j new))) refl refl refl (ap (λ k. with_at k None x.held) z.request) refl 0 st.kept);
                   foreign = st.foreign;
                   timers = st.timers;
+                  is_open = st.is_open;
+                  drawn = st.drawn;
                   due = st.due;
                   own = st.own;
                   far = st.far;
@@ -180,6 +186,7 @@ module _ (g : Choosing) (beside : Beside) (phase : ℕ → Phase) (current : ℕ
                 sorted = sorted;
                 others = λ j ne. ap (λ (h : ℕ → Option (Work g)). h j) (sym is_table);
                 board = refl;
+                more = refl;
                 same_there = λ i. refl;
                 come = Goes z.leaving (ap (λ (h : ℕ → Option (Work g)). h t) (sym is_table) ∙ new) refl z.request refl;
               }

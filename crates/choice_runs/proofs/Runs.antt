@@ -23,7 +23,7 @@ use Rattle.choice_runs.proofs.AtServer.{both_are}
 use Rattle.choice_runs.proofs.Beginning.{Gave, Nothing, AResult, HasBegun, begins_do}
 use Rattle.choice_runs.proofs.Disarming.{goes_stopped, disarms}
 use Rattle.choice_runs.proofs.Dropping.{left_then, left_on, went_then, follows_of}
-use Rattle.choice_runs.proofs.Ending.{HasEnded, ends_with, outs_of, board_of}
+use Rattle.choice_runs.proofs.Ending.{HasEnded, ends_with, outs_of, board_of, more_of}
 use Rattle.choice_runs.proofs.Keepsakes.{some_with}
 use Rattle.choice_runs.proofs.Noting.{front_or_end}
 use Rattle.choice_runs.proofs.Outcomes.{deferred_alike}
@@ -33,8 +33,8 @@ use Rattle.choice_runs.proofs.Resting.{over_any, stands_as, it_waits, rests_do}
 module _ (g : Choosing) (beside : Beside) (phase : ℕ → Phase) (current : ℕ) where
   -- what was done before
   pub done_after : (t k : ℕ) (tab : ℕ → Option (Work g)) (rest : List Posted) (named named1 : ℕ → ℕ → Option ℕ) (v : View) (x : State g) (w : View) (y : State g) (d : Choice Request g.U g.R) (u : View)
-      → Went g v x w y → y.leaving ≡ x.leaving → w.board ≡ v.board → ((i : ℕ) → named1 current i ≡ named current i) → HasDone g beside phase current t k tab rest named1 w y d u → HasDone g beside phase current t k tab rest named v x d u
-  done_after t k tab rest named named1 v x w y d u went leaving board same_there h = record {
+      → Went g v x w y → y.leaving ≡ x.leaving → w.board ≡ v.board → w.more ≡ v.more → ((i : ℕ) → named1 current i ≡ named current i) → HasDone g beside phase current t k tab rest named1 w y d u → HasDone g beside phase current t k tab rest named v x d u
+  done_after t k tab rest named named1 v x w y d u went leaving board more same_there h = record {
     named' = h.named';
     end = h.end;
     went = went_then g v x w y u h.end went h.went;
@@ -42,6 +42,7 @@ module _ (g : Choosing) (beside : Beside) (phase : ℕ → Phase) (current : ℕ
     sorted = h.sorted;
     others = h.others;
     board = h.board;
+    more = h.more ∙ more;
     same_there = λ i. h.same_there i ∙ same_there i;
     come = by h.come;
   }
@@ -61,6 +62,7 @@ module _ (g : Choosing) (beside : Beside) (phase : ℕ → Phase) (current : ℕ
     sorted = subst (λ (js : List (ℕ × Work g)). (hi : ℕ) × Sorted 0 hi js) (sym h.jobs) sorted;
     others = λ j ne. ap (λ (f : ℕ → Option (Work g)). f j) (sym table);
     board = h.board;
+    more = h.more;
     same_there = h.same_there;
     come = Goes h.leaving (ap (λ (f : ℕ → Option (Work g)). f t) (sym table) ∙ new) h.leaves h.request (h.put ∙ ap (λ p. v.board ++ record { ticket = t; part = p } ∷ []) h.result);
   }
@@ -109,13 +111,13 @@ module _ (g : Choosing) (beside : Beside) (phase : ℕ → Phase) (current : ℕ
             | inr new ↦ not_cur (same ∙ (ap (λ (b : Begun g). b.server) (sym new) ∙ n.server))
           ]
 
-          after : (rest : List Posted) (named1 : ℕ → ℕ → Option ℕ) (u : View) (y : State g) (k : ℕ) (d : Choice Request g.U g.R) (z : View) → Went g v x u y → y.leaving ≡ x.leaving → u.board ≡ v.board → ((i : ℕ) → named1 current i ≡ named current i) → k ≡ job.number → rest ≡ x.board
+          after : (rest : List Posted) (named1 : ℕ → ℕ → Option ℕ) (u : View) (y : State g) (k : ℕ) (d : Choice Request g.U g.R) (z : View) → Went g v x u y → y.leaving ≡ x.leaving → u.board ≡ v.board → u.more ≡ v.more → ((i : ℕ) → named1 current i ≡ named current i) → k ≡ job.number → rest ≡ x.board
               → HasDone g beside phase current t k tab rest named1 u y d z → HasDone g beside phase current t job.number tab x.board named v x d z
-          after rest named1 u y k d z went leaving board same_there number same done = done_after t job.number tab x.board named named1 v x u y d z went leaving board same_there
+          after rest named1 u y k d z went leaving board more same_there number same done = done_after t job.number tab x.board named named1 v x u y d z went leaving board more same_there
               (subst₂ (λ k rest. HasDone g beside phase current t k tab rest named1 u y d z) number same done)
 
           on : (o : Option Part) → Gave job.number e.server x.board n.end.board o → IfLeft (HasDone g beside phase current t job.number tab x.board named v x) (goes_on g.below g.settings t e.server (runs g.below g.settings t es) job' c' w o)
-          on _ (Nothing same) = after n.end.board n.named' w n.end job'.number (keeps t job' c') w n.went n.leaving n.put n.same_there n.number same (it_waits g beside phase current t job' tab n.named' c' w n.end is_table' h.new sorted' n.stands)
+          on _ (Nothing same) = after n.end.board n.named' w n.end job'.number (keeps t job' c') w n.went n.leaving n.put n.more n.same_there n.number same (it_waits g beside phase current t job' tab n.named' c' w n.end is_table' h.new sorted' n.stands)
           on _ (AResult result same) = either (is_deferred g.settings (part_of result)) (deferred_alike g.settings g.st g.same result)
             where
               q : Posted
@@ -124,10 +126,10 @@ module _ (g : Choosing) (beside : Beside) (phase : ℕ → Phase) (current : ℕ
               either : (b : Bool) → b ≡ waits_for_others g.st result → IfLeft (HasDone g beside phase current t job.number tab x.board named v x)
                   (if b then runs g.below g.settings t es (put_off (part_of result) (disarmed job')) (unarmed job'.timer c') (stopped job'.timer w) else ends g.below t e.server (part_of result) job' c' w)
               either false final = left_on g (HasEnded g beside phase current t job'.number tab (part_of result) (x.board ++ []) n.named' c' w n.end) (HasDone g beside phase current t job.number tab x.board named v x) (ends g.below t e.server (part_of result) job' c' w)
-                  (λ d u m. after (x.board ++ []) n.named' w n.end job'.number d u n.went n.leaving n.put n.same_there n.number (append-nil x.board) (ended_done t job'.number tab (part_of result) (x.board ++ []) n.named' c' w n.end d u is_table' h.new sorted' m))
+                  (λ d u m. after (x.board ++ []) n.named' w n.end job'.number d u n.went n.leaving n.put n.more n.same_there n.number (append-nil x.board) (ended_done t job'.number tab (part_of result) (x.board ++ []) n.named' c' w n.end d u is_table' h.new sorted' m))
                   (ends_with g beside phase current t e.server job' tab n.named' c' w n.end x.board [] q h.new n.stands clear' same (sym n.number) (sym final))
               either true waits = left_on g (HasDone g beside phase current t job2.number tab kept.end.board n.named' calm_view kept.end) (HasDone g beside phase current t job.number tab x.board named v x) (runs g.below g.settings t es job2 (unarmed job'.timer c') calm_view)
-                  (λ d u m. after kept.end.board n.named' calm_view kept.end job2.number d u went (kept.leaving ∙ n.leaving) (board_of g beside phase current job'.timer w ∙ n.put) n.same_there (ap (λ (j : Work g). j.number) shape ∙ n.number) (kept.board ∙ append-nil x.board) m)
+                  (λ d u m. after kept.end.board n.named' calm_view kept.end job2.number d u went (kept.leaving ∙ n.leaving) (board_of g beside phase current job'.timer w ∙ n.put) (more_of g beside phase current job'.timer w ∙ n.more) n.same_there (ap (λ (j : Work g). j.number) shape ∙ n.number) (kept.board ∙ append-nil x.board) m)
                   (ih job2 tab n.named' (unarmed job'.timer c') calm_view kept.end in_hand)
                 where
                   calm_view : View

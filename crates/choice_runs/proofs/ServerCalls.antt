@@ -1,5 +1,5 @@
 -- What a call of one server is to all of them and to the machine.
-use Rattle.std.proofs.Common.{◌≡◌, ℕ, zero, suc, ◌+◌, ◌<◌, ◌≤◌, inl, inr, Bool, true, false, cond, ◌==◌, ◌||◌, List, [], ◌∷◌, length, Option, Some, None, slice_get, refl, sym, ap, ap₂, subst, subst₂, ◌∙◌, arith, le_refl}
+use Rattle.std.proofs.Common.{◌≡◌, ℕ, zero, suc, ◌+◌, ◌<◌, ◌≤◌, inl, inr, Bool, true, false, cond, ◌==◌, List, [], ◌∷◌, length, Option, Some, None, slice_get, refl, sym, ap, ap₂, subst, subst₂, ◌∙◌, arith, le_refl}
 use Rattle.std.proofs.lemmas.Bool.Decides.{nat_tests}
 use Rattle.std.specs.Prelude.{set, option_map, option_and_then, nat_lt, not}
 use Rattle.std.proofs.lemmas.Option.{slice_get_within}
@@ -8,7 +8,8 @@ use Rattle.client_request.specs.Carries.{IsOfOctets}
 use Rattle.client_request.specs.Composed.{composed}
 use Rattle.client_request.specs.Request.{Request}
 use Rattle.client_request.specs.Timers.{cancelled}
-use Rattle.client_request.specs.View.{View, Heard, told, more_at, due_timer}
+use Rattle.client_request.specs.View.{View, Heard, told, more_at, due_timer, asks}
+use Rattle.client_request.specs.declared.event.Out.TheVariants.{Start}
 use Rattle.client_request.specs.declared.event.What.{What}
 use Rattle.client_request.specs.declared.board.Posted.{Posted}
 use Rattle.client_choice.specs.Servers.{Server, onto, drops_at, starts_at, hears_at, drops_found, starts_found, hears_found, starts, dropped, started, heard, reply, waits}
@@ -18,15 +19,17 @@ use Rattle.headline.specs.machine.Part.{Act, Post}
 use Rattle.headline.specs.machine.Client.{Waiting, hand, with_up}
 use Rattle.headline.specs.machine.Streams.{with_at}
 use Rattle.client_ties.specs.Chains.{Chain, Begins, Gives}
-use Rattle.client_ties.specs.PartTie.{Phase, Untold, Told, MayLeave, Leaves, Tells, Leads as IfLeft}
-use Rattle.client_ties.specs.Sights.{sight, due_of, IsFair, IsEarly}
+use Rattle.client_ties.specs.PartTie.{Phase, Untold, Told, Passed, IsOpen, MayLeave, Leaves, Tells, Leads as IfLeft, place_in}
+use Rattle.client_ties.specs.Sharing.{HasOneMore}
+use Rattle.client_ties.specs.Sights.{sight, due_of, IsFair, NoneDue}
 use Rattle.client_ties.proofs.GoingOn.{fair_without, dues_without}
-use Rattle.client_ties.proofs.Keys.{with_there, with_here, with_again, with_same}
-use Rattle.choice_runs.specs.Choosing.{Choosing, HasOneMore}
-use Rattle.choice_runs.specs.Leading.{Reaches}
-use Rattle.choice_runs.specs.Servers.{State, Listed, AreTied, OthersAreTied, AfterCall, IsDropped, HasReply, Comes, Came, IsStarted, IsHeard, IsTold}
+use Rattle.client_ties.proofs.Keys.{each_number, with_there, with_here, with_again, with_same}
+use Rattle.choice_runs.specs.Choosing.{Choosing}
+use Rattle.client_ties.specs.Leading.{Reaches}
+use Rattle.choice_runs.specs.Servers.{State, Listed, AreTied, OthersAreTied, OpensOn, AfterCall, IsDropped, HasReply, Comes, Came, IsStarted, IsHeard, IsTold}
 use Rattle.choice_runs.proofs.AtServer.{stay_tied, but, both_are}
 use Rattle.choice_runs.proofs.Leading.{cancel_moves, start_moves, chain_moves, up_here, up_other}
+use Rattle.choice_runs.proofs.Opening.{chain_opens, start_opens, cancel_opens}
 
 -- where no results are given the board is as it was
 pub no_posts : (named : ℕ → Option ℕ) (b : List Posted) (posts : List Post) (left : ℕ → Option ℕ) → posts ≡ [] → Gives named b posts left → b ≡ []
@@ -68,9 +71,9 @@ module _ (g : Choosing) where
   -- What a call leaves, from a view with another board, is what it leaves of all.
   pub called : (phase after : ℕ → Phase) (s : ℕ) (May : Act g.P.State → Type 0) (named : ℕ → Option ℕ) (a b : Server g.U) (servers : Listed g) (v : View) (from x : State g) (w : View)
       → OthersAreTied g s phase servers v x → slice_get servers s ≡ Some a → ((q : ℕ) → (s ≡ q → ⊥) → after q ≡ phase q)
-      → (l : Leaves g.P (g.Tied s) g.names g.Owns May named a.upstream (onto [] v) (after s) b.upstream w) → Reaches g.st composed g.P s from x l.made
+      → (l : Leaves g.P (g.Tied s) g.names g.Owns May named a.upstream (onto [] v) (after s) b.upstream w) → Reaches g.st composed g.P s from x l.made → OpensOn g x.place (x.ups s) l.made
       → AfterCall g after s a b named w.board servers v from x (onto v.board w)
-  called phase after s May named a b servers v from x w t at others l r = record {
+  called phase after s May named a b servers v from x w t at others l r opens = record {
     made = l.made;
     end = r.end;
     leads = r.leads;
@@ -78,8 +81,8 @@ module _ (g : Choosing) where
     put = l.outs;
     gives = subst (λ bs. Gives named bs l.made.posts (g.names b.upstream)) (sym l.put) l.gives;
     tied = stay_tied g s May named phase after servers a b v (onto v.board w) x r.end t at
-        (record { before = onto [] v; after = w; from = record { now = refl; timers = refl; ticket = refl; place = refl; words = refl }; to = record { now = refl; timers = refl; ticket = refl; place = refl; words = refl }; leaves = l; moved = r.is }) others;
-    goes_on = record { fair = record { order = l.goes_on.fair.order; words = l.goes_on.fair.words }; now = l.goes_on.now; request = l.goes_on.request; timer = l.goes_on.timer; ticket = l.goes_on.ticket; place = l.goes_on.place; later = l.goes_on.later };
+        (record { before = onto [] v; after = w; from = record { now = refl; timers = refl; ticket = refl; place = refl; words = refl }; to = record { now = refl; timers = refl; ticket = refl; place = refl; words = refl }; leaves = l; moved = r.is; opens = opens }) others;
+    goes_on = record { fair = record { order = l.goes_on.fair.order; words = l.goes_on.fair.words }; now = l.goes_on.now; timer = l.goes_on.timer; ticket = l.goes_on.ticket; place = l.goes_on.place; later = l.goes_on.later };
     owned = l.owned;
     others = l.others;
   }
@@ -105,59 +108,39 @@ module _ (g : Choosing) where
     fair = record { order = t.fair.order; words = t.fair.words }
 
     -- a request is given up
-    pub one_drops : (k lower : ℕ) (r : g.R) → x.held k ≡ None → g.names a.upstream (g.ticket r) ≡ Some k → g.ticket r ≡ lower → IfLeft (IsDropped g phase s k lower a servers v x) (drops_at g.below s lower r servers v)
-    one_drops k lower r none named same =
+    pub one_drops : (k lower : ℕ) (r : g.R) → IsOpen (phase s) v.place → x.held k ≡ None → g.names a.upstream (g.ticket r) ≡ Some k → g.ticket r ≡ lower → IfLeft (IsDropped g phase s k lower a servers v x) (drops_at g.below s lower r servers v)
+    one_drops k lower r may_call none named same =
         subst (λ o. IfLeft (IsDropped g phase s k lower a servers v x) (drops_found g.below s lower r servers v o)) (sym at)
         (subst (λ bs. IfLeft (IsDropped g phase s k lower a servers v x) (option_map (λ z. (set servers s z.0, z.1)) (option_map (dropped g.below lower a v) (g.below.cancel r a.upstream (onto bs v))))) (sym quiet)
         (subst (λ o. IfLeft (IsDropped g phase s k lower a servers v x) (option_map (λ z. (set servers s z.0, z.1)) (option_map (dropped g.below lower a v) o))) (sym ((g.layer s within).cancel r a.upstream bare_view))
         (left_map (λ (b : Server g.U) (w : View). IsDropped g phase s k lower a servers v x (set servers s b) w) (IsDropped g phase s k lower a servers v x) (λ z. (set servers s z.0, z.1)) (option_map (dropped g.below lower a v) ((g.bare s).cancel r a.upstream bare_view)) (λ b w d. d)
-        (left_map (Leaves g.P (g.Tied s) g.names g.Owns (λ d. Begins (g.P.Cancels s v.place k (x.ups s)) (Chain g.P s) d × (d.posts ≡ [])) (with_at (g.ticket r) None (g.names a.upstream)) a.upstream bare_view (phase s))
+        (left_so (Leaves g.P (g.Tied s) g.names g.Owns (λ d. Begins (g.P.Cancels s v.place k (x.ups s)) (Chain g.P s) d × (d.posts ≡ [])) (with_at (g.ticket r) None (g.names a.upstream)) a.upstream bare_view (phase s))
         (λ (b : Server g.U) (w : View). IsDropped g phase s k lower a servers v x (set servers s b) w) (dropped g.below lower a v) ((g.bare s).cancel r a.upstream bare_view) given_up
-        ((g.tie s within).cancels (phase s) a.upstream bare_view (x.ups s) r k (t.tied s a at) fair named)))))
+        ((g.tie s within).cancels (phase s) a.upstream bare_view (x.ups s) r k may_call (t.tied s a at) fair named)))))
       where
         holds : g.P.holds (x.ups s) k ≡ true
         holds = ((g.tie s within).named (phase s) a.upstream (sight v) (x.ups s) (g.ticket r) k (t.tied s a at) named).1
 
-        given_up : (u : g.U) (w : View) → Leaves g.P (g.Tied s) g.names g.Owns (λ d. Begins (g.P.Cancels s v.place k (x.ups s)) (Chain g.P s) d × (d.posts ≡ [])) (with_at (g.ticket r) None (g.names a.upstream)) a.upstream bare_view (phase s) u w
+        given_up : (u : g.U) (w : View) → (g.bare s).cancel r a.upstream bare_view ≡ Some (u, w) → Leaves g.P (g.Tied s) g.names g.Owns (λ d. Begins (g.P.Cancels s v.place k (x.ups s)) (Chain g.P s) d × (d.posts ≡ [])) (with_at (g.ticket r) None (g.names a.upstream)) a.upstream bare_view (phase s) u w
             → IsDropped g phase s k lower a servers v x (set servers s (dropped g.below lower a v (u, w)).0) (dropped g.below lower a v (u, w)).1
-        given_up u w l = record {
+        given_up u w is l = record {
           server = (dropped g.below lower a v (u, w)).0;
           lists = refl;
           waiting = refl;
           posted = nothing;
           board = refl;
+          more = (g.shared s within).keeps_more (phase s) a.upstream bare_view (x.ups s) r u w may_call (t.tied s a at) is;
           call = subst (λ n. AfterCall g phase s a (dropped g.below lower a v (u, w)).0 (with_at n None (g.names a.upstream)) [] servers v x x (onto v.board w)) same
               (subst (λ bs. AfterCall g phase s a (dropped g.below lower a v (u, w)).0 (with_at (g.ticket r) None (g.names a.upstream)) bs servers v x x (onto v.board w)) nothing
               (called phase phase s (λ d. Begins (g.P.Cancels s v.place k (x.ups s)) (Chain g.P s) d × (d.posts ≡ [])) (with_at (g.ticket r) None (g.names a.upstream)) a (dropped g.below lower a v (u, w)).0 servers v x x w (but g s phase servers v x t) at (λ q ne. refl) l
-              (cancel_moves g.st composed g.P s within x k l.made none holds (subst (λ p. Begins (g.P.Cancels s p k (x.ups s)) (Chain g.P s) l.made) (sym t.place) l.may.0))));
+              (cancel_moves g.st composed g.P s within x k l.made none holds begins) (cancel_opens g s x.place k (x.ups s) l.made begins)));
         }
           where
+            begins : Begins (g.P.Cancels s x.place k (x.ups s)) (Chain g.P s) l.made
+            begins = subst (λ p. Begins (g.P.Cancels s p k (x.ups s)) (Chain g.P s) l.made) (sym t.place) l.may.0
+
             nothing : w.board ≡ []
             nothing = l.put ∙ no_posts (with_at (g.ticket r) None (g.names a.upstream)) l.board l.made.posts (g.names u) l.may.1 l.gives
-
-    -- it hears something: `after` has the phases then
-    hears_it : (h : Heard) (after : ℕ → Phase) (May : Act g.P.State → Type 0) (w0 : View) → ((q : ℕ) → (s ≡ q → ⊥) → after q ≡ phase q) → (w0 ≡ onto [] v) → ((made : Act g.P.State) → May made → Reaches g.st composed g.P s x x made)
-        → IfLeft (Leaves g.P (g.Tied s) g.names g.Owns May (g.names a.upstream) a.upstream w0 (after s)) (g.below.step h a.upstream w0)
-        → IfLeft (λ y w. IsHeard g after s a servers v x y w) (hears_at g.below s h servers v)
-    hears_it h after May w0 others is moves l =
-        subst (λ o. IfLeft (IsHeard g after s a servers v x) (hears_found g.below s h servers v o)) (sym at)
-        (subst (λ bs. IfLeft (IsHeard g after s a servers v x) (option_map (λ z. ((z.0.0, set servers s z.0.1), z.1)) (option_map (heard g.below a v) (g.below.step h a.upstream (onto bs v))))) (sym quiet)
-        (subst (λ w0. IfLeft (IsHeard g after s a servers v x) (option_map (λ z. ((z.0.0, set servers s z.0.1), z.1)) (option_map (heard g.below a v) (g.below.step h a.upstream w0)))) is
-        (left_map (λ (y : List Posted × Server g.U) (w : View). IsHeard g after s a servers v x (y.0, set servers s y.1) w) (IsHeard g after s a servers v x) (λ z. ((z.0.0, set servers s z.0.1), z.1)) (option_map (heard g.below a v) (g.below.step h a.upstream w0)) (λ y w d. d)
-        (left_map (Leaves g.P (g.Tied s) g.names g.Owns May (g.names a.upstream) a.upstream w0 (after s))
-        (λ (y : List Posted × Server g.U) (w : View). IsHeard g after s a servers v x (y.0, set servers s y.1) w) (heard g.below a v) (g.below.step h a.upstream w0)
-        (λ u w l. heard_so u w (subst (λ w0. Leaves g.P (g.Tied s) g.names g.Owns May (g.names a.upstream) a.upstream w0 (after s) u w) is l)) l))))
-      where
-        heard_so : (u : g.U) (w : View) → Leaves g.P (g.Tied s) g.names g.Owns May (g.names a.upstream) a.upstream (onto [] v) (after s) u w
-            → IsHeard g after s a servers v x ((heard g.below a v (u, w)).0.0, set servers s (heard g.below a v (u, w)).0.1) (heard g.below a v (u, w)).1
-        heard_so u w l = record {
-          server = (heard g.below a v (u, w)).0.1;
-          lists = refl;
-          waiting = refl;
-          posted = refl;
-          board = refl;
-          call = called phase after s May (g.names a.upstream) a (heard g.below a v (u, w)).0.1 servers v x x w (but g s phase servers v x t) at others l (moves l.made l.may);
-        }
 
     -- a request is started: this is what it got
     replied : (request : Request) (lower ticket k : ℕ) (b : Server g.U) (bs : List Posted) (posts : List Post) (r : g.R) → g.ticket r ≡ lower → g.names a.upstream lower ≡ None → HasOneMore lower [] bs → Gives (with_at lower (Some k) (g.names a.upstream)) bs posts (g.names b.upstream)
@@ -192,9 +175,24 @@ module _ (g : Choosing) where
         )
         single (q ∷ p ∷ ps) gives waiting = absurd gives.2
 
-    module _ (request : Request) (k ticket : ℕ) (ask : Waiting) (numbered : v.request ≡ k) (held : x.held k ≡ Some ask) (asked : ask.request ≡ request) (untried : ask.tried s ≡ false) (octets : IsOfOctets request) (free : g.P.holds (x.ups s) k ≡ false) where
+    module _ (request : Request) (k ticket : ℕ) (ask : Waiting) (may_call : IsOpen (phase s) v.place) (numbered : v.request ≡ k) (held : x.held k ≡ Some ask) (asks_it : ask.request ≡ request) (untried : ask.tried s ≡ false) (octets : IsOfOctets request) (free : g.P.holds (x.ups s) k ≡ false) where
       abbrev MayStart : ℕ → Act g.P.State → Type 0
       MayStart j d = Begins (g.P.Starts s v.place j request (x.ups s)) (Chain g.P s) d
+
+      abbrev asked : View
+      asked = asks (Start v.request s (g.via s)) (onto [] v)
+
+      hands_on : g.below.send request a.upstream (onto [] v) ≡ (g.bare s).send request a.upstream asked
+      hands_on = (g.layer s within).send request a.upstream (onto [] v) (g.placed s (phase s) a.upstream (sight v) (x.ups s) (t.tied s a at))
+
+      fair_asked : IsFair asked
+      fair_asked = record { order = t.fair.order; words = t.fair.words }
+
+      free_so : g.P.holds (x.ups s) v.request ≡ false
+      free_so = subst (λ j. g.P.holds (x.ups s) j ≡ false) (sym numbered) free
+
+      sent_so : (u : g.U) (w : View) → g.below.send request a.upstream (onto [] v) ≡ Some (u, w) → (g.bare s).send request a.upstream asked ≡ Some (u, w)
+      sent_so u w is = sym hands_on ∙ is
 
       new_ticket : g.names a.upstream v.ticket ≡ None
       new_ticket = by (g.names a.upstream v.ticket) refl
@@ -214,23 +212,24 @@ module _ (g : Choosing) where
           let n : Leaves g.P (g.Tied s) g.names g.Owns (MayStart k) (with_at v.ticket (Some k) (g.names a.upstream)) a.upstream (onto [] v) (phase s) u w =
           subst (λ j. Leaves g.P (g.Tied s) g.names g.Owns (MayStart j) (with_at v.ticket (Some j) (g.names a.upstream)) a.upstream (onto [] v) (phase s) u w) numbered l in
           let begins : Begins (g.P.Starts s x.place k ask.request (x.ups s)) (Chain g.P s) n.made =
-          subst₂ (λ p r. Begins (g.P.Starts s p k r (x.ups s)) (Chain g.P s) n.made) (sym t.place) (sym asked) n.may in
+          subst₂ (λ p r. Begins (g.P.Starts s p k r (x.ups s)) (Chain g.P s) n.made) (sym t.place) (sym asks_it) n.may in
           let r = replied request v.ticket ticket k b w.board n.made.posts (g.below.response request a.upstream (onto [] v))
           (ap g.ticket ((g.layer s within).response request a.upstream (onto [] v)) ∙ (g.tie s within).response request a.upstream (onto [] v)) new_ticket
-          ((g.ignores s within).sends (phase s) a.upstream (onto [] v) (x.ups s) request u w (t.tied s a at) is) (subst (λ bs. Gives (with_at v.ticket (Some k) (g.names a.upstream)) bs n.made.posts (g.names u)) (sym n.put) n.gives) refl in
+          ((g.shared s within).alone (phase s) a.upstream asked (x.ups s) request u w may_call (t.tied s a at) fair_asked octets free_so (sent_so u w is)) (subst (λ bs. Gives (with_at v.ticket (Some k) (g.names a.upstream)) bs n.made.posts (g.names u)) (sym n.put) n.gives) refl in
           record {
             server = b;
             lists = refl;
             posted = r.1;
             board = refl;
+            more = (g.shared s within).says_none (phase s) a.upstream asked (x.ups s) request u w may_call (t.tied s a at) fair_asked octets free_so (sent_so u w is);
             given = w.board;
             call = called phase phase s (MayStart k) (with_at v.ticket (Some k) (g.names a.upstream)) a b servers v x (hand k s ask x) w (but g s phase servers v (hand k s ask x) after_hand) at (λ q ne. refl) n
-                (start_moves g.st composed g.P s within x k ask n.made held untried begins);
+                (start_moves g.st composed g.P s within x k ask n.made held untried begins) (start_opens g s x.place k ask.request (x.ups s) n.made begins);
             reply = r.0;
           }
         where
           after_hand : AreTied g phase servers v (hand k s ask x)
-          after_hand = record { count = t.count; tied = t.tied; apart = t.apart; fair = t.fair; place = t.place }
+          after_hand = record { count = t.count; tied = t.tied; apart = t.apart; fair = t.fair; place = t.place; places = t.places }
 
       -- it is started
       pub one_starts : IfLeft (IsStarted g phase s k ticket ask a servers v x) (starts_at g.below s ticket request servers v)
@@ -240,13 +239,13 @@ module _ (g : Choosing) where
           (left_map (λ (y : Reply g.R × Server g.U) (w : View). IsStarted g phase s k ticket ask a servers v x (Some y.0, set servers s y.1) w) (IsStarted g phase s k ticket ask a servers v x) (λ z. ((Some z.0.0, set servers s z.0.1), z.1)) (starts g.below ticket request (record a { posted = [] }) v) (λ y w d. d)
           (left_so (Leaves g.P (g.Tied s) g.names g.Owns (MayStart v.request) (with_at v.ticket (Some v.request) (g.names a.upstream)) a.upstream (onto [] v) (phase s))
           (λ (y : Reply g.R × Server g.U) (w : View). IsStarted g phase s k ticket ask a servers v x (Some y.0, set servers s y.1) w) (started g.below ticket request (record a { posted = [] }) v) (g.below.send request a.upstream (onto [] v)) started_so
-          (subst (λ o. IfLeft (Leaves g.P (g.Tied s) g.names g.Owns (MayStart v.request) (with_at v.ticket (Some v.request) (g.names a.upstream)) a.upstream (onto [] v) (phase s)) o) (sym ((g.layer s within).send request a.upstream (onto [] v) (g.placed s (phase s) a.upstream (sight v) (x.ups s) (t.tied s a at))))
-          (g.sends s within (phase s) a.upstream (onto [] v) (x.ups s) request (t.tied s a at) fair octets (subst (λ j. g.P.holds (x.ups s) j ≡ false) (sym numbered) free))))))
+          (subst (λ o. IfLeft (Leaves g.P (g.Tied s) g.names g.Owns (MayStart v.request) (with_at v.ticket (Some v.request) (g.names a.upstream)) a.upstream (onto [] v) (phase s)) o) (sym hands_on)
+          ((g.tie s within).sends (phase s) a.upstream (onto [] v) (x.ups s) request may_call (t.tied s a at) fair octets free_so)))))
 
     -- It hears what is its own: an event, a frame, a timer.
 
     -- what is left of the frames of a place is said by `more`
-    told_so : (h : Heard) (May : Act g.P.State → Type 0) (MayBe : (place left : ℕ) → Type 0) (w0 : View) → w0 ≡ onto [] v → v.more ≡ false → ((made : Act g.P.State) → May made → Reaches g.st composed g.P s x x made)
+    told_so : (h : Heard) (May : Act g.P.State → Type 0) (MayBe : (place left : ℕ) → Type 0) (w0 : View) → w0 ≡ onto [] v → v.more ≡ false → ((made : Act g.P.State) → May made → Reaches g.st composed g.P s x x made × OpensOn g x.place (x.ups s) made)
         → IfLeft (Tells g.P (g.Tied s) g.names g.Owns May a.upstream w0 MayBe) (g.below.step h a.upstream w0) → IfLeft (IsTold g phase s a servers v x MayBe) (hears_at g.below s h servers v)
     told_so h May MayBe w0 is calm moves l =
         subst (λ o. IfLeft (IsTold g phase s a servers v x MayBe) (hears_found g.below s h servers v o)) (sym at)
@@ -266,51 +265,95 @@ module _ (g : Choosing) where
               at = l.at;
               left = l.left;
               may_be = l.may_be;
-              more = l.more ∙ with_none (nat_lt 0 l.left) v.more calm;
+              more = l.more;
               heard = record {
                 server = (heard g.below a v (u, w)).0.1;
                 lists = refl;
                 waiting = refl;
                 posted = refl;
                 board = refl;
-                call = called phase after s May (g.names a.upstream) a (heard g.below a v (u, w)).0.1 servers v x x w (but g s phase servers v x t) at (λ q ne. up_other s q (Told l.at l.left) phase ne) leaves (moves leaves.made leaves.may);
+                call = called phase after s May (g.names a.upstream) a (heard g.below a v (u, w)).0.1 servers v x x w (but g s phase servers v x t) at (λ q ne. up_other s q (Told l.at l.left) phase ne) leaves (moves leaves.made leaves.may).0 (moves leaves.made leaves.may).1;
               };
             }
-          where
-            with_none : (b m : Bool) → m ≡ false → b ≡ (b || m)
-            with_none true m e = refl
-            with_none false m e = sym e
 
-    chain_so : (made : Act g.P.State) → Chain g.P s v.place (x.ups s) made → Reaches g.st composed g.P s x x made
-    chain_so made chain = chain_moves g.st composed g.P s within v.place (x.ups s) made chain x t.place refl
+    chain_so : (made : Act g.P.State) → Chain g.P s v.place (x.ups s) made → Reaches g.st composed g.P s x x made × OpensOn g x.place (x.ups s) made
+    chain_so made chain = (
+      chain_moves g.st composed g.P s within v.place (x.ups s) made chain x t.place refl,
+      subst (λ p. OpensOn g p (x.ups s) made) (sym t.place) (chain_opens g s v.place (x.ups s) made chain),
+    )
 
     -- it is told what happens
-    pub one_tells : (what : What) → phase s ≡ Untold what → IsEarly v → v.more ≡ false → IfLeft (IsTold g phase s a servers v x (MayLeave what)) (hears_at g.below s (told what) servers v)
+    pub one_tells : (what : What) → phase s ≡ Untold what → NoneDue (g.Owns a.upstream) (sight v) → v.more ≡ false → IfLeft (IsTold g phase s a servers v x (MayLeave what)) (hears_at g.below s (told what) servers v)
     one_tells what untold early calm = told_so (told what) (Chain g.P s v.place (x.ups s)) (MayLeave what) (onto [] v) refl calm chain_so
         (subst (λ o. IfLeft (Tells g.P (g.Tied s) g.names g.Owns (Chain g.P s v.place (x.ups s)) a.upstream (onto [] v) (MayLeave what)) o) (sym ((g.layer s within).step (told what) a.upstream (onto [] v)))
         ((g.tie s within).tells a.upstream (onto [] v) (x.ups s) what (subst (λ p. g.Tied s p a.upstream (sight v) (x.ups s)) untold (t.tied s a at)) fair early calm))
 
     -- a frame is taken
-    pub one_takes : (p n : ℕ) → phase s ≡ Told p (suc n) → IsEarly v → v.more ≡ false → IfLeft (IsTold g phase s a servers v x (λ q left. (q ≡ p) × (left ≤ n))) (hears_at g.below s (more_at p) servers v)
-    one_takes p n is early calm = told_so (more_at p) (Chain g.P s v.place (x.ups s)) (λ q left. (q ≡ p) × (left ≤ n)) (onto [] v) refl calm chain_so
+    pub one_takes : (p n : ℕ) → phase s ≡ Told p (suc n) → v.more ≡ false → IfLeft (IsTold g phase s a servers v x (λ q left. (q ≡ p) × (left ≤ n))) (hears_at g.below s (more_at p) servers v)
+    one_takes p n is calm = told_so (more_at p) (Chain g.P s v.place (x.ups s)) (λ q left. (q ≡ p) × (left ≤ n)) (onto [] v) refl calm chain_so
         (subst (λ o. IfLeft (Tells g.P (g.Tied s) g.names g.Owns (Chain g.P s v.place (x.ups s)) a.upstream (onto [] v) (λ q left. (q ≡ p) × (left ≤ n))) o) (sym ((g.layer s within).step (more_at p) a.upstream (onto [] v)))
-        ((g.tie s within).takes a.upstream (onto [] v) (x.ups s) p n (subst (λ p. g.Tied s p a.upstream (sight v) (x.ups s)) is (t.tied s a at)) fair early calm))
-
-    -- what is not its own is nothing to it
-    pub passes_by : (h : Heard) → g.below.step h a.upstream (onto [] v) ≡ Some (a.upstream, onto [] v) → hears_at g.below s h servers v ≡ Some (([], servers), v)
-    passes_by h is =
-        ap (λ o. hears_found g.below s h servers v o) at
-        ∙ (ap (λ bs. option_map (λ z. ((z.0.0, set servers s z.0.1), z.1)) (option_map (heard g.below a v) (g.below.step h a.upstream (onto bs v)))) quiet
-        ∙ (ap (λ o. option_map (λ z. ((z.0.0, set servers s z.0.1), z.1)) (option_map (heard g.below a v) o)) is
-        ∙ ap (λ xs. Some (([], xs), v)) (as_it_was servers s a at quiet)))
+        ((g.tie s within).takes a.upstream (onto [] v) (x.ups s) p n tied_so fair ((g.tie s within).quiet (Told p (suc n)) a.upstream (sight v) (x.ups s) tt tied_so) calm))
       where
-        as_it_was : (xs : Listed g) (i : ℕ) (a : Server g.U) → slice_get xs i ≡ Some a → a.posted ≡ [] → set xs i (record a { posted = [] }) ≡ xs
-        as_it_was [] i a e q = absurd (cc)
-        as_it_was (b ∷ bs) zero a e q = ap₂ (λ (c : Server g.U) (ps : List Posted). record c { posted = ps } ∷ bs) (sym (both_are (Some b) b a refl e)) (sym (ap (λ (c : Server g.U). c.posted) (both_are (Some b) b a refl e) ∙ q))
-        as_it_was (b ∷ bs) (suc i) a e q = ap (λ cs. b ∷ cs) (as_it_was bs i a e q)
+        tied_so : g.Tied s (Told p (suc n)) a.upstream (sight v) (x.ups s)
+        tied_so = subst (λ p. g.Tied s p a.upstream (sight v) (x.ups s)) is (t.tied s a at)
+
+  -- what is not its own is nothing to a server
+  pub passes_by : (servers : Listed g) (v : View) (s : ℕ) (a : Server g.U) → slice_get servers s ≡ Some a → a.posted ≡ [] → (h : Heard) → g.below.step h a.upstream (onto [] v) ≡ Some (a.upstream, onto [] v)
+      → hears_at g.below s h servers v ≡ Some (([], servers), v)
+  passes_by servers v s a at quiet h is =
+      ap (λ o. hears_found g.below s h servers v o) at
+      ∙ (ap (λ bs. option_map (λ z. ((z.0.0, set servers s z.0.1), z.1)) (option_map (heard g.below a v) (g.below.step h a.upstream (onto bs v)))) quiet
+      ∙ (ap (λ o. option_map (λ z. ((z.0.0, set servers s z.0.1), z.1)) (option_map (heard g.below a v) o)) is
+      ∙ ap (λ xs. Some (([], xs), v)) (as_it_was servers s a at quiet)))
+    where
+      as_it_was : (xs : Listed g) (i : ℕ) (a : Server g.U) → slice_get xs i ≡ Some a → a.posted ≡ [] → set xs i (record a { posted = [] }) ≡ xs
+      as_it_was [] i a e q = absurd (cc)
+      as_it_was (b ∷ bs) zero a e q = ap₂ (λ (c : Server g.U) (ps : List Posted). record c { posted = ps } ∷ bs) (sym (both_are (Some b) b a refl e)) (sym (ap (λ (c : Server g.U). c.posted) (both_are (Some b) b a refl e) ∙ q))
+      as_it_was (b ∷ bs) (suc i) a e q = ap (λ cs. b ∷ cs) (as_it_was bs i a e q)
+
+  -- An event about no place of its own is nothing to it, and passes; nor are the frames that it brings, or a timer that is not its own.
+  module _ (phase : ℕ → Phase) (servers : Listed g) (v : View) (x : State g) (s : ℕ) (a : Server g.U) (t : AreTied g phase servers v x) (at : slice_get servers s ≡ Some a) (quiet : a.posted ≡ []) where
+    inside : s < length (g.c).servers
+    inside = in_conf phase servers v x s a t at
+
+    nothing_to : (u : View) (h : Heard) → (g.bare s).step h a.upstream (onto [] u) ≡ Some (a.upstream, onto [] u) → hears_at g.below s h servers u ≡ Some (([], servers), u)
+    nothing_to u h is = passes_by servers u s a at quiet h ((g.layer s inside).step h a.upstream (onto [] u) ∙ is)
+
+    module _ (what : What) (p : ℕ) (place : place_in what ≡ Some p) where
+      pub event_passes : phase s ≡ Untold what → g.has (x.ups s) p ≡ false → hears_at g.below s (told what) servers v ≡ Some (([], servers), v)
+      event_passes untold none = nothing_to v (told what) ((g.shared s inside).ignores a.upstream (onto [] v) (x.ups s) what p (subst (λ p. g.Tied s p a.upstream (sight v) (x.ups s)) untold (t.tied s a at)) place none)
+
+      pub frame_passes : phase s ≡ Passed what → hears_at g.below s (more_at p) servers v ≡ Some (([], servers), v)
+      frame_passes passed = nothing_to v (more_at p) ((g.shared s inside).frames a.upstream (onto [] v) (x.ups s) what p (subst (λ p. g.Tied s p a.upstream (sight v) (x.ups s)) passed (t.tied s a at)) place)
+
+      -- it is tied behind it
+      pub passed_tied : phase s ≡ Untold what → g.has (x.ups s) p ≡ false → NoneDue (g.Owns a.upstream) (sight v) → AreTied g (with_up s (Passed what) phase) servers v x
+      passed_tied untold none early = record {
+        count = t.count;
+        tied = λ q e is. each_number (λ q. slice_get servers q ≡ Some e → g.Tied q (with_up s (Passed what) phase q) e.upstream (sight v) (x.ups q)) s
+            (λ is. subst₂ (λ p (e : Server g.U). g.Tied s p e.upstream (sight v) (x.ups s)) (sym (up_here s (Passed what) phase)) (both_are (slice_get servers s) a e at is)
+            ((g.shared s inside).passes a.upstream (sight v) (x.ups s) what p (subst (λ p. g.Tied s p a.upstream (sight v) (x.ups s)) untold (t.tied s a at)) place none early))
+            (λ q ne is. subst (λ p. g.Tied q p e.upstream (sight v) (x.ups q)) (sym (up_other s q (Passed what) phase ne)) (t.tied q e is)) q is;
+        apart = t.apart;
+        fair = t.fair;
+        place = t.place;
+        places = t.places;
+      }
+
+    -- a timer that is not its own, which is set or was taken out before
+    module _ (i : ℕ) (none : g.Owns a.upstream i → ⊥) where
+      pub timer_passes : hears_at g.below s (due_timer i) servers v ≡ Some (([], servers), v)
+      timer_passes = nothing_to v (due_timer i) ((g.shared s inside).timers (phase s) a.upstream (onto [] v) (x.ups s) i (t.tied s a at) none)
+
+      pub gone_timer_passes : hears_at g.below s (due_timer i) servers (record v { timers = cancelled i v.timers }) ≡ Some (([], servers), record v { timers = cancelled i v.timers })
+      gone_timer_passes = nothing_to (record v { timers = cancelled i v.timers }) (due_timer i)
+          ((g.shared s inside).timers (phase s) a.upstream (onto [] (record v { timers = cancelled i v.timers })) (x.ups s) i
+          ((g.tie s inside).same (phase s) a.upstream (sight v) (sight (record v { timers = cancelled i v.timers })) (x.ups s) (t.tied s a at) refl
+          (λ j o. dues_without v i j t.fair ∙ with_there i None (λ (j : ℕ). due_of j v.timers.set) j (λ same. none (subst (λ j. g.Owns a.upstream j) (sym same) o)))
+          (le_refl v.timers.next) (le_refl v.ticket) (le_refl v.place)) none)
 
   -- A timer of a server fires: it was taken out before.
-  module _ (phase : ℕ → Phase) (servers : Listed g) (v : View) (x : State g) (s : ℕ) (a : Server g.U) (t : AreTied g phase servers v x) (at : slice_get servers s ≡ Some a) (quiet : a.posted ≡ []) (i due : ℕ) (own : g.Owns a.upstream i) (set_then : due_of i v.timers.set ≡ Some due) (passed : due ≤ v.now) where
+  module _ (phase : ℕ → Phase) (servers : Listed g) (v : View) (x : State g) (s : ℕ) (a : Server g.U) (t : AreTied g phase servers v x) (at : slice_get servers s ≡ Some a) (quiet : a.posted ≡ []) (i due : ℕ) (own : g.Owns a.upstream i) (set_then : due_of i v.timers.set ≡ Some due) (passed : due ≤ v.now) (what : What) (untold : phase s ≡ Untold what) where
     abbrev gone : View
     gone = record v { timers = cancelled i v.timers }
 
@@ -323,6 +366,7 @@ module _ (g : Choosing) where
       apart = t.apart;
       fair = fair_without v i t.fair;
       place = t.place;
+      places = t.places;
     }
 
     fired_so : (u : g.U) (w : View) → Leaves g.P (g.Tied s) g.names g.Owns (Chain g.P s v.place (x.ups s)) (g.names a.upstream) a.upstream (onto [] gone) (phase s) u w
@@ -334,7 +378,8 @@ module _ (g : Choosing) where
       posted = refl;
       board = refl;
       call = called phase phase s (Chain g.P s v.place (x.ups s)) (g.names a.upstream) a (heard g.below a gone (u, w)).0.1 servers gone x x w others_tied at (λ q ne. refl) l
-          (chain_moves g.st composed g.P s (in_conf phase servers v x s a t at) v.place (x.ups s) l.made l.may x t.place refl);
+          (chain_moves g.st composed g.P s (in_conf phase servers v x s a t at) v.place (x.ups s) l.made l.may x t.place refl)
+          (subst (λ p. OpensOn g p (x.ups s) l.made) (sym t.place) (chain_opens g s v.place (x.ups s) l.made l.may));
     }
 
     pub one_fires : IfLeft (IsHeard g phase s a servers gone x) (hears_at g.below s (due_timer i) servers gone)
@@ -345,4 +390,5 @@ module _ (g : Choosing) where
         (left_map (λ (y : List Posted × Server g.U) (w : View). IsHeard g phase s a servers gone x (y.0, set servers s y.1) w) (IsHeard g phase s a servers gone x) (λ z. ((z.0.0, set servers s z.0.1), z.1)) (option_map (heard g.below a gone) ((g.bare s).step (due_timer i) a.upstream (onto [] gone))) (λ y w d. d)
         (left_map (Leaves g.P (g.Tied s) g.names g.Owns (Chain g.P s v.place (x.ups s)) (g.names a.upstream) a.upstream (onto [] gone) (phase s))
         (λ (y : List Posted × Server g.U) (w : View). IsHeard g phase s a servers gone x (y.0, set servers s y.1) w) (heard g.below a gone) ((g.bare s).step (due_timer i) a.upstream (onto [] gone)) fired_so
-        ((g.tie s (in_conf phase servers v x s a t at)).fires (phase s) a.upstream (onto [] v) (x.ups s) i due (t.tied s a at) (record { order = t.fair.order; words = t.fair.words }) set_then passed)))))
+        (subst (λ p. IfLeft (Leaves g.P (g.Tied s) g.names g.Owns (Chain g.P s v.place (x.ups s)) (g.names a.upstream) a.upstream (onto [] gone) p) ((g.bare s).step (due_timer i) a.upstream (onto [] gone))) (sym untold)
+        ((g.tie s (in_conf phase servers v x s a t at)).fires a.upstream (onto [] v) (x.ups s) what i due (subst (λ p. g.Tied s p a.upstream (sight v) (x.ups s)) untold (t.tied s a at)) (record { order = t.fair.order; words = t.fair.words }) set_then passed))))))

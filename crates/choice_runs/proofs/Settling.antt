@@ -30,7 +30,7 @@ use Rattle.choice_runs.proofs.AtServer.{both_are, none_is, set_here, set_there, 
 use Rattle.choice_runs.proofs.Changing.{Changes, changed}
 use Rattle.choice_runs.proofs.Disarming.{again_path, goes_stopped, disarms}
 use Rattle.choice_runs.proofs.Dropping.{owner_there, owner_here, left_on, follows_of}
-use Rattle.choice_runs.proofs.Ending.{HasEnded, ends_with, outs_of, board_of}
+use Rattle.choice_runs.proofs.Ending.{HasEnded, ends_with, outs_of, board_of, more_of}
 use Rattle.choice_runs.proofs.Keepsakes.{some_with}
 use Rattle.choice_runs.proofs.Outcomes.{deferred_alike}
 use Rattle.choice_runs.proofs.PuttingOff.{put_off_is, IsKeptBack, keeps_it_back}
@@ -187,6 +187,7 @@ module _ (g : Choosing) (beside : Beside) (phase : ℕ → Phase) (current : ℕ
         apart = λ q r i f h m n o p. (let w = was q f m in let z = was r h n in st.servers.apart q r i w.0 z.0 w.1 z.1 (subst (λ u. g.Owns u i) w.2 o) (subst (λ u. g.Owns u i) z.2 p));
         fair = st.servers.fair;
         place = st.servers.place;
+        places = st.servers.places;
       };
       quiet = λ q f m. each_number (λ q. slice_get (set c.servers current b) q ≡ Some f → (f.posted ≡ []) × ((hi : ℕ) × Sorted 0 hi f.waiting)) current
           (λ m. subst (λ (f : Server g.U). (f.posted ≡ []) × ((hi : ℕ) × Sorted 0 hi f.waiting)) (both_are (slice_get (set c.servers current b) current) b f (set_here c.servers current a b at) m)
@@ -198,9 +199,11 @@ module _ (g : Choosing) (beside : Beside) (phase : ℕ → Phase) (current : ℕ
       kept = changed g t job job1 0 old new changes st.kept;
       foreign = λ i u q f m n o. (let w = was q f n in st.foreign i u q w.0 m w.1 (subst (λ u. g.Owns u i) w.2 o));
       timers = st.timers;
+      is_open = st.is_open;
+      drawn = st.drawn;
       due = st.due;
       own = st.own;
-      far = λ i m q f n h o. (let w = was q f h in st.far i m q w.0 n w.1 (subst (λ u. g.Owns u i) w.2 o));
+      far = λ i q f are h o. (let w = was q f h in st.far i q w.0 are w.1 (subst (λ u. g.Owns u i) w.2 o));
     }
 
   -- What is left once a result was taken: one of the request of some ticket.
@@ -279,8 +282,8 @@ module _ (g : Choosing) (beside : Beside) (phase : ℕ → Phase) (current : ℕ
       not_to_start : (l : List Entry) → IsToStart current l → AreToStart (length (g.c).servers) (st.kept.kept t job is).ask.tried l → ⊥
       not_to_start l m line = tried_no (length (g.c).servers) l (st.kept.kept t job is).ask.tried m line (subst (λ s. (st.kept.kept t job is).ask.tried s ≡ true) server ((st.kept.kept t job is).tried e mine))
 
-      came_on : (k : ℕ) (d : Choice Request g.U g.R) (w : View) (u : View) → Went g v x u kept.end → u.board ≡ v.board → k ≡ job.number → HasDone g beside phase current t k others kept.end.board names_then u kept.end d w → IsSettled lower rest named c v x d w
-      came_on k d w u went put number h = settled_of d w (done_after g beside phase current t job.number others rest names_then names_then v x u kept.end d w went kept.leaving put (λ i. refl)
+      came_on : (k : ℕ) (d : Choice Request g.U g.R) (w : View) (u : View) → Went g v x u kept.end → u.board ≡ v.board → u.more ≡ v.more → k ≡ job.number → HasDone g beside phase current t k others kept.end.board names_then u kept.end d w → IsSettled lower rest named c v x d w
+      came_on k d w u went put more number h = settled_of d w (done_after g beside phase current t job.number others rest names_then names_then v x u kept.end d w went kept.leaving put more (λ i. refl)
           (subst₂ (λ k ps. HasDone g beside phase current t k others ps names_then u kept.end d w) number kept.board h))
 
       pub goes_off : IfLeft (IsSettled lower rest named c v x) (puts_off g.below g.settings t current job2 without v)
@@ -288,11 +291,11 @@ module _ (g : Choosing) (beside : Beside) (phase : ℕ → Phase) (current : ℕ
         where
           by : (z : Bool) → IfLeft (IsSettled lower rest named c v x) (if z then runs g.below g.settings t job2.left (disarmed job2) (unarmed job2.timer without) (stopped job2.timer v) else rests t job2 without v)
           by false = left_on g (HasDone g beside phase current t job2.number others kept.end.board names_then v kept.end) (IsSettled lower rest named c v x) (rests t job2 without v)
-              (λ d w h. came_on job2.number d w v kept_went refl (ap (λ (j : Work g). j.number) shape) h)
+              (λ d w h. came_on job2.number d w v kept_went refl refl (ap (λ (j : Work g). j.number) shape) h)
               (rests_do g beside phase current t job2 others names_then without v kept.end refl none_there sorted_then kept.stands some_kept.0 some_kept.1
               (none_of g beside phase current t job2 others names_then without v kept.end kept.stands quiet_then pending_then))
           by true = left_on g (HasDone g beside phase current t job2.number others kept.end.board names_then (stopped job2.timer v) kept.end) (IsSettled lower rest named c v x) (runs g.below g.settings t job2.left (disarmed job2) (unarmed job2.timer without) (stopped job2.timer v))
-              (λ d w h. came_on job2.number d w (stopped job2.timer v) (stopped_went job2.timer) (board_of g beside phase current job2.timer v) (ap (λ (j : Work g). j.number) shape) h)
+              (λ d w h. came_on job2.number d w (stopped job2.timer v) (stopped_went job2.timer) (board_of g beside phase current job2.timer v) (more_of g beside phase current job2.timer v) (ap (λ (j : Work g). j.number) shape) h)
               (runs_do g beside phase current job2.left t (disarmed job2) others names_then (unarmed job2.timer without) (stopped job2.timer v) kept.end (record {
                 left = refl;
                 calm = refl;

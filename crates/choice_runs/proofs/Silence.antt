@@ -1,5 +1,5 @@
 -- Silent servers are tied, and leave alone what is not theirs.
-use Rattle.std.proofs.Common.{◌≡◌, ℕ, ◌+◌, ◌≤◌, inl, inr, refl, arith, le_refl, Bool, true, false, [], ◌∷◌, Some, None, Err, sym, ap}
+use Rattle.std.proofs.Common.{◌≡◌, ℕ, ◌+◌, ◌≤◌, inl, inr, refl, arith, le_refl, Bool, true, false, [], ◌∷◌, Some, None, Err, sym, ap, subst}
 use Rattle.std.specs.Prelude.{if◌then◌else◌, option_map, length}
 use Rattle.client_request.specs.Timers.{can_draw}
 use Rattle.client_request.specs.View.{View, answers, asks}
@@ -9,24 +9,27 @@ use Rattle.client_request.specs.declared.event.Via.TheVariants.{Dgram}
 use Rattle.client_request.specs.declared.event.What.{What}
 use Rattle.client_request.specs.declared.event.What.TheVariants.{Ask, Opened, OpenFailed, SendFailed, ShortSend, Datagram, RecvFailed, Wrote, WriteFailed, Bytes, ReadFailed, Ended, Tick}
 use Rattle.headline.specs.Trace.{Conf}
+use Rattle.headline.specs.machine.Part.{Act}
 use Rattle.client_ties.specs.Chains.{Chain, Stays, Begins, Calls}
 use Rattle.client_ties.specs.Sights.{IsFair}
-use Rattle.client_ties.specs.PartTie.{Untold, Told, Leads, Leaves, MayLeave}
+use Rattle.client_ties.specs.PartTie.{Phase, Untold, Told, Leads, Leaves, MayLeave}
+use Rattle.client_ties.specs.Sharing.{OpensNext, IsShared, HasOneMore}
 use Rattle.client_ties.specs.Silent.{silent_part, closed_at_once}
 use Rattle.headline.specs.machine.Streams.{with_at}
 use Rattle.std.proofs.lemmas.Bool.Decides.{nat_tests}
 use Rattle.client_ties.proofs.GoingOn.{nothing_done, goes_without}
-use Rattle.choice_runs.specs.Choosing.{Choosing, Ignores, IsStarting, HasOneMore, SendsInAnyPhase}
+use Rattle.choice_runs.specs.Choosing.{Choosing, IsStarting}
 use Rattle.choice_runs.specs.Silent.{unstarted, numbered, NumbersAreTied, NumbersChoose, SilentChoicesMove, silent_choice}
 use Rattle.choice_runs.specs.Doing.{CallsAreMoves}
 use Rattle.choice_runs.proofs.Runs.{runs_are_moves}
 use Rattle.choice_runs.proofs.Taking.{results_are_moves}
-use Rattle.choice_runs.proofs.Cancelling.{gives_it_up}
-use Rattle.choice_runs.proofs.Coming.{takes_it_on}
+use Rattle.choice_runs.proofs.Cancelling.{cancelling_is_moves}
+use Rattle.choice_runs.proofs.Coming.{taking_on_is_moves}
 use Rattle.choice_runs.proofs.Lining.{each_has}
-use Rattle.choice_runs.proofs.Firing.{fires_it}
-use Rattle.choice_runs.proofs.Hearing.{hears_and_settles}
-use Rattle.choice_runs.proofs.ServerCalls.{one_tells}
+use Rattle.choice_runs.proofs.Firing.{firing_is_moves}
+use Rattle.choice_runs.proofs.Hearing.{telling_is_moves, taking_is_moves, waking_is_moves}
+use Rattle.choice_runs.proofs.Passing.{ignoring_is_nothing}
+use Rattle.choice_runs.proofs.Turning.{turning_away, turning_to}
 
 -- no frame is left
 none_left : (w : What) → (p : ℕ) × MayLeave w p 0
@@ -61,12 +64,12 @@ numbers_are_tied c s = record {
   named = λ phase u x a i k tied e. absurd (cc);
   held = λ phase u x a k tied e. absurd (cc);
   response = λ r u v. refl;
-  begins = λ u x a p e tied. tied;
-  passes = λ u x a w is tied. tied;
-  rests = λ u v a p early tied. tt;
-  fires = λ phase u v a i due tied fair set late. (let g = goes_without v i fair in nothing_done (silent_part c) s (λ phase u x a. u ≡ s) (λ u t. None) (λ u i. ⊥) u _ a phase g.fair tied);
-  sends = λ u v a w r tied fair octets free. send u tied v fair w (can_draw v.ticket);
-  cancels = λ phase u v a r k tied fair e. absurd (cc);
+  quiet = λ phase u x a told tied i due owns. absurd owns;
+  begins = λ phase u x a e end tied. tied;
+  rests = λ phase u v a end early tied. tt;
+  fires = λ u v a w i due tied fair set late. (let g = goes_without v i fair in nothing_done (silent_part c) s (λ phase u x a. u ≡ s) (λ u t. None) (λ u i. ⊥) u _ a (Untold w) g.fair tied);
+  sends = λ phase u v a r may_call tied fair octets free. send u tied v fair phase (can_draw v.ticket);
+  cancels = λ phase u v a r k may_call tied fair e. absurd (cc);
   tells = λ u v a w tied fair early calm. (let l = none_left w in record { at = l.0; left = 0; may_be = l.1; more = calm; leaves = nothing_done (silent_part c) s (λ phase u x a. u ≡ s) (λ u t. None) (λ u i. ⊥) u v a (Told l.0 0) fair tied });
   takes = λ u v a p n tied fair early calm. record { at = p; left = 0; may_be = (refl, few n); more = calm; leaves = nothing_done (silent_part c) s (λ phase u x a. u ≡ s) (λ u t. None) (λ u i. ⊥) u v a (Told p 0) fair tied };
 }
@@ -77,11 +80,11 @@ numbers_are_tied c s = record {
     more : (n : ℕ) → n ≤ n + 1
     more n = omega arith
 
-    send : (u : ℕ) → u ≡ s → (v : View) → IsFair v → (w : What) → (b : Bool)
-        → Leads (Leaves (silent_part c) (λ phase u x a. u ≡ s) (λ u t. None) (λ u i. ⊥) (Begins (λ d. d ≡ closed_at_once s v.place v.request) (Chain (silent_part c) s)) (with_at v.ticket (Some v.request) (λ t. None)) u v (Untold w))
+    send : (u : ℕ) → u ≡ s → (v : View) → IsFair v → (phase : Phase) → (b : Bool)
+        → Leads (Leaves (silent_part c) (λ phase u x a. u ≡ s) (λ u t. None) (λ u i. ⊥) (Begins (λ d. d ≡ closed_at_once s v.place v.request) (Chain (silent_part c) s)) (with_at v.ticket (Some v.request) (λ t. None)) u v phase)
         (option_map (λ w. (u, answers v.ticket (Err ConnectionClosed) w)) (if b then Some (record (asks (Start v.request s Dgram) v) { ticket = v.ticket + 1 }) else None))
-    send u is v fair w false = tt
-    send u is v fair w true = record {
+    send u is v fair phase false = tt
+    send u is v fair phase true = record {
       made = _;
       may = Calls (closed_at_once s v.place v.request) _ refl (Stays v.place tt);
       outs = refl;
@@ -90,7 +93,7 @@ numbers_are_tied c s = record {
       put = refl;
       gives = (here v.ticket v.request, refl, back_again v.ticket v.request);
       tied = is;
-      goes_on = record { fair = record { order = fair.order; words = fair.words }; now = refl; request = refl; timer = le_refl v.timers.next; ticket = more v.ticket; place = le_refl v.place; later = λ i due e. inl e };
+      goes_on = record { fair = record { order = fair.order; words = fair.words }; now = refl; timer = le_refl v.timers.next; ticket = more v.ticket; place = le_refl v.place; later = λ i due e. inl e };
       owned = λ i o. absurd o;
       others = λ i due n e. e;
     }
@@ -103,57 +106,54 @@ starts_with s = record {
   response = λ r u v. refl;
 }
 
-ignores_others : (s : ℕ) → Ignores numbered (λ phase u x (a : Unit {0}). u ≡ s) (λ u i. ⊥) (λ u p. false)
-ignores_others s = record {
+opens_none : (c : Conf) → OpensNext (silent_part c) (λ a p. false)
+opens_none c = record {
+  fresh = λ p. refl;
+  begins = λ e a p. refl;
+  acts = λ s place a d acts. absurd acts;
+  starts = λ s place k r a d is. (subst (λ (d : Act (Unit {0})). place ≤ d.place) (sym is) (le_refl place), λ p e. absurd (cc));
+  cancels = λ s place k a d acts. absurd acts;
+}
+
+shares : (c : Conf) (s : ℕ) → IsShared (silent_part c) (λ a p. false) unstarted (λ phase u x a. u ≡ s) (λ u i. ⊥)
+shares c s = record {
   knows = λ u i. inr (λ o. o);
   timers = λ phase u v a i tied none. refl;
-  frames = λ u v a p q left tied ne. refl;
-  events = λ u v a w tied none. refl;
-  sends = λ phase u v a r w x tied is. by u v w x (can_draw v.ticket) is;
+  ignores = λ u v a w p tied place none. refl;
+  passes = λ u x a w p tied place none early. tied;
+  frames = λ u v a w p tied place. refl;
+  alone = λ phase u v a r w x may_call tied fair octets free is. one u v w x (can_draw v.ticket) is;
+  says_none = λ phase u v a r w x may_call tied fair octets free is. same u v w x (can_draw v.ticket) is;
+  keeps_more = λ phase u v a r w x may_call tied is. ap (λ (y : ℕ × View). (y.1).more) (sym (some_is (u, v) (w, x) is));
 }
   where
-    by : (u : ℕ) (v : View) (w : ℕ) (x : View) (b : Bool) → option_map {U = ℕ × View} (λ (y : View). (u, answers v.ticket (Err ConnectionClosed) y)) (if b then Some (record (asks (Start v.request u Dgram) v) { ticket = v.ticket + 1 }) else None) ≡ Some (w, x) → HasOneMore v.ticket v.board x.board
-    by u v w x false is = absurd (cc)
-    by u v w x true is = inr (Err ConnectionClosed, ap (λ (y : View). y.board) (ap (λ (y : ℕ × View). y.1) (sym (some_is _ (w, x) is))))
-      where
-        some_is : {A : Type 0} → (a b : A) → Some a ≡ Some b → a ≡ b
-        some_is a b e = cc
+    some_is : {A : Type 0} → (a b : A) → Some a ≡ Some b → a ≡ b
+    some_is a b e = cc
 
-sends_anywhere : (c : Conf) (s : ℕ) → SendsInAnyPhase (silent_part c) s Dgram unstarted (λ phase u x a. u ≡ s) (λ u t. None) (λ u i. ⊥)
-sends_anywhere c s phase u v a r tied fair octets free = by (can_draw v.ticket)
-  where
-    more : (n : ℕ) → n ≤ n + 1
-    more n = omega arith
+    one : (u : ℕ) (v : View) (w : ℕ) (x : View) (b : Bool) → option_map {U = ℕ × View} (λ (y : View). (u, answers v.ticket (Err ConnectionClosed) y)) (if b then Some (record v { ticket = v.ticket + 1 }) else None) ≡ Some (w, x) → HasOneMore v.ticket v.board x.board
+    one u v w x false is = absurd (cc)
+    one u v w x true is = inr (Err ConnectionClosed, ap (λ (y : View). y.board) (ap (λ (y : ℕ × View). y.1) (sym (some_is _ (w, x) is))))
 
-    by : (b : Bool) → Leads (Leaves (silent_part c) (λ phase u x a. u ≡ s) (λ u t. None) (λ u i. ⊥) (Begins (λ d. d ≡ closed_at_once s v.place v.request) (Chain (silent_part c) s)) (with_at v.ticket (Some v.request) (λ t. None)) u v phase)
-        (option_map (λ w. (u, answers v.ticket (Err ConnectionClosed) w)) (if b then Some (record (asks (Start v.request s Dgram) v) { ticket = v.ticket + 1 }) else None))
-    by false = tt
-    by true = record {
-      made = _;
-      may = Calls (closed_at_once s v.place v.request) _ refl (Stays v.place tt);
-      outs = refl;
-      place = refl;
-      board = record { ticket = v.ticket; part = Err ConnectionClosed } ∷ [];
-      put = refl;
-      gives = (here v.ticket v.request, refl, back_again v.ticket v.request);
-      tied = tied;
-      goes_on = record { fair = record { order = fair.order; words = fair.words }; now = refl; request = refl; timer = le_refl v.timers.next; ticket = more v.ticket; place = le_refl v.place; later = λ i due e. inl e };
-      owned = λ i o. absurd o;
-      others = λ i due n e. e;
-    }
+    same : (u : ℕ) (v : View) (w : ℕ) (x : View) (b : Bool) → option_map {U = ℕ × View} (λ (y : View). (u, answers v.ticket (Err ConnectionClosed) y)) (if b then Some (record v { ticket = v.ticket + 1 }) else None) ≡ Some (w, x) → x.more ≡ v.more
+    same u v w x false is = absurd (cc)
+    same u v w x true is = ap (λ (y : View). y.more) (ap (λ (y : ℕ × View). y.1) (sym (some_is _ (w, x) is)))
 
 choose_numbers : (c : Conf) → NumbersChoose c
-choose_numbers c = record { tied = numbers_are_tied c; starts = starts_with; sends = sends_anywhere c; ignores = ignores_others }
+choose_numbers c = record { tied = numbers_are_tied c; starts = starts_with; opens = opens_none c; shared = shares c }
 
-calls_are_moves : (g : Choosing) → CallsAreMoves g
+pub calls_are_moves : (g : Choosing) → CallsAreMoves g
 calls_are_moves g = record {
-  telling = λ phase servers v x s a what tied at quiet untold early calm. one_tells g phase servers v x s a tied at quiet what untold early calm;
-  hearing = λ deadlines phase after s named c v x a h st table at quiet l. hears_and_settles g deadlines phase after s named c v x a st table at quiet h l;
+  turning_away = turning_away g;
+  turning_to = turning_to g;
+  telling = telling_is_moves g;
+  taking = taking_is_moves g;
+  waking = waking_is_moves g;
+  ignoring = ignoring_is_nothing g;
   results = results_are_moves g;
   runs = runs_are_moves g;
-  cancelling = λ deadlines phase t job named c v x y st table is left. gives_it_up g deadlines phase t job named c v x y st table is left;
-  firing = λ deadlines phase i t named c v x st table is quiet. fires_it g deadlines phase i t named c v x st table is quiet;
-  taking_on = λ deadlines phase t now request entries named c v x y st table new octets lined taken quiet. takes_it_on g deadlines phase t now request entries named c v x y st table new octets lined taken quiet;
+  cancelling = cancelling_is_moves g;
+  firing = firing_is_moves g;
+  taking_on = taking_on_is_moves g;
   lists = λ servers probed first. each_has servers probed first;
 }
 

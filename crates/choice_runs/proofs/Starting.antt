@@ -18,7 +18,8 @@ use Rattle.client_ties.proofs.Keys.{with_here, with_there, is_or_was}
 use Rattle.client_ties.proofs.Tables.{at_puts, sorted_puts, rises_below}
 use Rattle.choice_runs.specs.Choosing.{Choosing}
 use Rattle.choice_runs.specs.Servers.{State}
-use Rattle.choice_runs.specs.Requests.{Beside, Work, Begun, Desk, IsKept, desk_of, Stands, Follows}
+use Rattle.client_ties.specs.WholeTie.{Follows}
+use Rattle.choice_runs.specs.Requests.{Beside, Work, Begun, Desk, IsKept, desk_of, Stands}
 use Rattle.choice_runs.proofs.AtServer.{both_are, none_is}
 use Rattle.choice_runs.proofs.Changing.{Changes, changed}
 use Rattle.choice_runs.proofs.Disarming.{again_path}
@@ -26,6 +27,12 @@ use Rattle.choice_runs.proofs.ServerCalls.{in_conf}
 
 up_one : (n : ℕ) → n ≤ n + 1
 up_one n = omega arith
+
+one_less : (i n : ℕ) → i < n → i < n + 1
+one_less i n lt = omega arith
+
+not_below : (n : ℕ) → n < n → ⊥
+not_below n lt = omega arith
 
 pub sorted_more : {A : Type 0} (k : ℕ) (v : A) (es : List (ℕ × A)) → (hi : ℕ) × Sorted 0 hi es → (hi : ℕ) × Sorted 0 hi (puts k v es)
 sorted_more k v es s = (s.0 + suc k, sorted_puts k v 0 (s.0 + suc k) es (none_below k) (past s.0 k) (rises_below _ 0 s.0 (s.0 + suc k) es (less s.0 k) s.1))
@@ -49,7 +56,7 @@ module _ (g : Choosing) (beside : Beside) (phase : ℕ → Phase) (current : ℕ
       (subst (λ n. Stands g beside phase current jobs named over dropping c (record w { now = v.now; timers = v.timers; ticket = v.ticket; place = n }) x) (sym place)
       (subst (λ n. Stands g beside phase current jobs named over dropping c (record w { now = v.now; timers = v.timers; ticket = v.ticket; place = v.place; words = n }) x) (sym words)
       (record {
-        servers = record { count = st.servers.count; tied = st.servers.tied; apart = st.servers.apart; fair = record { order = st.servers.fair.order; words = st.servers.fair.words }; place = st.servers.place };
+        servers = record { count = st.servers.count; tied = st.servers.tied; apart = st.servers.apart; fair = record { order = st.servers.fair.order; words = st.servers.fair.words }; place = st.servers.place; places = st.servers.places };
         quiet = st.quiet;
         is_named = st.is_named;
         still = st.still;
@@ -57,6 +64,8 @@ module _ (g : Choosing) (beside : Beside) (phase : ℕ → Phase) (current : ℕ
         kept = st.kept;
         foreign = st.foreign;
         timers = st.timers;
+        is_open = st.is_open;
+        drawn = st.drawn;
         due = st.due;
         own = st.own;
         far = st.far;
@@ -72,9 +81,10 @@ module _ (g : Choosing) (beside : Beside) (phase : ℕ → Phase) (current : ℕ
       pub number : job'.number ≡ job.number
       pub request : job'.request ≡ job.request
       pub stands : Stands g beside phase current (with_at t (Some y.0) tab) named 0 [] (record c { timers = y.1 }) w x
-      pub follows : Follows g v w
+      pub follows : Follows v w
       pub outs : w.outs ≡ v.outs
       pub board : w.board ≡ v.board
+      pub more : w.more ≡ v.more
 
     module _ (t due : ℕ) (job : Work g) (tab : ℕ → Option (Work g)) (c : Choice Request g.U g.R) (v : View) (x : State g) (calm : job.timer ≡ None) (some : job.left ≡ [] → ⊥) (late : v.now ≤ due) (st : Stands g beside phase current (with_at t (Some job) tab) named 0 [] c v x) where
       abbrev armed_job : Work g
@@ -174,6 +184,7 @@ module _ (g : Choosing) (beside : Beside) (phase : ℕ → Phase) (current : ℕ
           apart = st.servers.apart;
           fair = fair_set v due st.servers.fair;
           place = st.servers.place;
+          places = st.servers.places;
         };
         quiet = st.quiet;
         is_named = st.is_named;
@@ -182,12 +193,14 @@ module _ (g : Choosing) (beside : Beside) (phase : ℕ → Phase) (current : ℕ
         kept = changed g t job armed_job 0 before after changes st.kept;
         foreign = λ i u q e is found o. elim (timers_then i u is) [ inl p ↦ not_owned q e found (subst (λ i. g.Owns e.upstream i) (sym p.0) o) | inr p ↦ st.foreign i u q e p.1 found o ];
         timers = sorted_more v.timers.next t c.timers st.timers;
-        due = λ i m is. still i m (st.due i m is);
-        own = λ i m u is there. elim (timers_then i u there) [ inl p ↦ not_next i m (st.due i m is) p.0 | inr p ↦ st.own i m u is p.1 ];
+        is_open = st.is_open;
+        drawn = λ i are. one_less i v.timers.next (st.drawn i are);
+        due = λ i m are is. still i m (st.due i m are is);
+        own = λ i u are there. elim (timers_then i u there) [ inl p ↦ not_below i (subst (λ n. i < n) p.0 (st.drawn i are)) | inr p ↦ st.own i u are p.1 ];
         far = st.far;
       }
 
-      timed_follows : Follows g v timed
+      timed_follows : Follows v timed
       timed_follows = record {
         fair = fair_set v due st.servers.fair;
         now = refl;
@@ -195,7 +208,7 @@ module _ (g : Choosing) (beside : Beside) (phase : ℕ → Phase) (current : ℕ
         ticket = le_refl v.ticket;
         place = le_refl v.place;
         later = λ i m is. elim (is_or_was v.timers.next (Some due) (λ (j : ℕ). due_of j v.timers.set) i m (sym (dues_set v due i st.servers.fair) ∙ is)) [
-          | inl p ↦ inr (subst (λ m. v.now ≤ m) (some_is due m p.1) late)
+          | inl p ↦ inr (subst (λ m. v.now ≤ m) (some_is due m p.1) late, subst (λ n. v.timers.next ≤ n) p.0 (le_refl v.timers.next))
           | inr p ↦ inl p.1
         ];
       }
@@ -217,6 +230,7 @@ module _ (g : Choosing) (beside : Beside) (phase : ℕ → Phase) (current : ℕ
           follows = record { fair = st.servers.fair; now = refl; timer = le_refl v.timers.next; ticket = le_refl v.ticket; place = le_refl v.place; later = λ i due is. inl is };
           outs = refl;
           board = refl;
+          more = refl;
         }
 
         not_empty : (e : Entry) (es : List Entry) → job.left ≡ e ∷ es → job.left ≡ [] → ⊥
@@ -249,4 +263,5 @@ module _ (g : Choosing) (beside : Beside) (phase : ℕ → Phase) (current : ℕ
                   follows = timed_follows t due job tab c v x calm (not_empty e es is) late st;
                   outs = refl;
                   board = refl;
+                  more = refl;
                 }

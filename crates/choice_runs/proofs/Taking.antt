@@ -19,7 +19,8 @@ use Rattle.client_ties.specs.PartTie.{Phase, Leads as IfLeft}
 use Rattle.client_ties.proofs.Keys.{each_number, with_here, with_there, was_there}
 use Rattle.client_ties.proofs.Tables.{at_frees}
 use Rattle.choice_runs.specs.Choosing.{Choosing}
-use Rattle.choice_runs.specs.Doing.{HasCome, WaitsOn, Goes, numbers_of, post_of, AreTaken, ResultsAreMoves}
+use Rattle.client_ties.specs.WholeTie.{post_of}
+use Rattle.choice_runs.specs.Doing.{HasCome, WaitsOn, Goes, HasDone, numbers_of, HasActed, ResultsAreMoves}
 use Rattle.choice_runs.specs.Servers.{State}
 use Rattle.choice_runs.specs.Requests.{Beside, Work, Begun, IsOwed, IsNamed, desk_of, Stands}
 use Rattle.choice_runs.proofs.Dropping.{found_at, left_on, left_then, went_then, went_nowhere}
@@ -52,33 +53,28 @@ gives_then named mid left (x ∷ bs) cs [] qs a b = absurd a
 gives_then named mid left (x ∷ bs) cs (p ∷ ps) qs a b = (a.0, a.1, gives_then (with_at x.ticket None named) mid left bs cs ps qs a.2 b)
 
 module _ (g : Choosing) (beside : Beside) (phase : ℕ → Phase) (current : ℕ) where
-  -- what one result made of the requests that wait
-  record IsAnswered (c : Choice Request g.U g.R) (v : View) (x : State g) (d : Choice Request g.U g.R) (w : View) (y : State g) : Type 0 where
+  -- what was done makes of the requests that wait, where these numbers may be given
+  record IsAnswered (numbers : ℕ → Option ℕ) (v : View) (x : State g) (d : Choice Request g.U g.R) (w : View) (y : State g) : Type 0 where
     pub given : List OnBoard
     pub leaving : List Leaving
     pub put : w.board ≡ v.board ++ given
     pub leaves : y.leaving ≡ x.leaving ++ leaving
-    pub answers : Gives (numbers_of g beside phase current c.jobs) given (map (post_of g beside phase current) leaving) (numbers_of g beside phase current d.jobs)
+    pub answers : Gives numbers given (map post_of leaving) (numbers_of g d.jobs)
 
-  answered : (t : ℕ) (job : Work g) (c : Choice Request g.U g.R) (v : View) (x : State g) (d : Choice Request g.U g.R) (w : View) (y : State g) → (hi : ℕ) × Sorted 0 hi c.jobs → entry_at t c.jobs ≡ Some job
-      → ((j : ℕ) → (t ≡ j → ⊥) → entry_at j d.jobs ≡ entry_at j (frees t c.jobs)) → HasCome g beside phase current t job.number v x d w y → IsAnswered c v x d w y
-  answered t job c v x d w y table was others come = by come
+  abbrev number_in : Option (Work g) → Option ℕ
+  number_in o = option_map (λ job. job.number) o
+
+  answered : (t k : ℕ) (numbers : ℕ → Option ℕ) (v : View) (x : State g) (d : Choice Request g.U g.R) (w : View) (y : State g) → numbers t ≡ Some k
+      → ((j : ℕ) → (t ≡ j → ⊥) → numbers_of g d.jobs j ≡ numbers j) → HasCome g beside phase current t k v x d w y → IsAnswered numbers v x d w y
+  answered t k numbers v x d w y was kept come = by come
     where
-      number : Option (Work g) → Option ℕ
-      number o = option_map (λ job. job.number) o
-
-      kept : (j : ℕ) → (t ≡ j → ⊥) → entry_at j d.jobs ≡ entry_at j c.jobs
-      kept j ne = others j ne ∙ (at_frees t j 0 table.0 c.jobs table.1 ∙ with_there t None (λ j. entry_at j c.jobs) j ne)
-
-      by : HasCome g beside phase current t job.number v x d w y → IsAnswered c v x d w y
+      by : HasCome g beside phase current t k v x d w y → IsAnswered numbers v x d w y
       by (WaitsOn other is same put left) = record {
         given = [];
         leaving = [];
         put = put ∙ sym (append-nil v.board);
         leaves = left ∙ sym (append-nil x.leaving);
-        answers = λ j. each_number (λ j. numbers_of g beside phase current d.jobs j ≡ numbers_of g beside phase current c.jobs j) t
-            (ap (λ (o : Option (Work g)). option_map (λ job. job.number) o) is ∙ (ap (λ n. Some n) same ∙ sym (ap (λ (o : Option (Work g)). option_map (λ job. job.number) o) was)))
-            (λ j ne. ap (λ (o : Option (Work g)). option_map (λ job. job.number) o) (kept j ne)) j;
+        answers = λ j. each_number (λ j. numbers_of g d.jobs j ≡ numbers j) t (ap number_in is ∙ (ap (λ n. Some n) same ∙ sym was)) (λ j ne. kept j ne) j;
       }
       by (Goes z gone left request put) = record {
         given = record { ticket = t; part = part_of z.result } ∷ [];
@@ -86,13 +82,31 @@ module _ (g : Choosing) (beside : Beside) (phase : ℕ → Phase) (current : ℕ
         put = put;
         leaves = left;
         answers = (
-          ap (λ (o : Option (Work g)). option_map (λ job. job.number) o) was ∙ ap (λ n. Some n) (sym request),
+          was ∙ ap (λ n. Some n) (sym request),
           refl,
-          λ j. each_number (λ j. numbers_of g beside phase current d.jobs j ≡ with_at t None (numbers_of g beside phase current c.jobs) j) t
-              (ap (λ (o : Option (Work g)). option_map (λ job. job.number) o) gone ∙ sym (with_here t None (numbers_of g beside phase current c.jobs)))
-              (λ j ne. ap (λ (o : Option (Work g)). option_map (λ job. job.number) o) (kept j ne) ∙ sym (with_there t None (numbers_of g beside phase current c.jobs) j ne)) j,
+          λ j. each_number (λ j. numbers_of g d.jobs j ≡ with_at t None numbers j) t (ap number_in gone ∙ sym (with_here t None numbers)) (λ j ne. kept j ne ∙ sym (with_there t None numbers j ne)) j,
         );
       }
+
+  -- What was done with one request is what a call leaves.
+  pub has_acted : (t k : ℕ) (numbers : ℕ → Option ℕ) (table : ℕ → Option (Work g)) (rest : List Posted) (named : ℕ → ℕ → Option ℕ) (v : View) (x : State g) (d : Choice Request g.U g.R) (w : View) → numbers t ≡ Some k
+      → ((j : ℕ) → (t ≡ j → ⊥) → number_in (table j) ≡ numbers j) → ((i : ℕ) → named current i ≡ beside.left i) → rest ≡ []
+      → HasDone g beside phase current t k table rest named v x d w → HasActed g beside.others phase current numbers beside.left v.more v x d w
+  has_acted t k numbers table rest named v x d w was kept names none h = record {
+    named = h.named';
+    end = h.end;
+    went = h.went;
+    still = record { stands = h.stands; names = λ i. h.same_there i ∙ names i; sorted = h.sorted; board = h.board ∙ none };
+    given = a.given;
+    leaving = a.leaving;
+    put = a.put;
+    leaves = a.leaves;
+    answers = a.answers;
+    says = h.more;
+  }
+    where
+      a : IsAnswered numbers v x d w h.end
+      a = answered t k numbers v x d w h.end was (λ j ne. ap number_in (h.others j ne) ∙ kept j ne) h.come
 
   -- one result is taken
   one_settles : (p : OnBoard) (ps : List OnBoard) (q : Post) (qs : List Post) (named : ℕ → ℕ → Option ℕ) (c : Choice Request g.U g.R) (v : View) (x : State g) (a : Server g.U) → Stands g beside phase current (λ j. entry_at j c.jobs) named 0 [] c v x → (hi : ℕ) × Sorted 0 hi c.jobs
@@ -114,48 +128,49 @@ module _ (g : Choosing) (beside : Beside) (phase : ℕ → Phase) (current : ℕ
           (board ∙ ap (λ k. map (tag current) (record { request = k; result = q.result } ∷ qs)) (sym m.number))
           (λ y i. gives_named current (with_at p.ticket None (named current)) ps qs (g.names a.upstream) y gives.2 i)))))
 
-  pub all_settle : (ps : List OnBoard) (qs : List Post) (named : ℕ → ℕ → Option ℕ) (c : Choice Request g.U g.R) (v : View) (x : State g) → Stands g beside phase current (λ j. entry_at j c.jobs) named 0 [] c v x → (hi : ℕ) × Sorted 0 hi c.jobs → current < length (g.c).servers
-      → Gives (named current) ps qs beside.left → x.board ≡ map (tag current) qs → IfLeft (AreTaken g beside phase current beside.left c v x) (settles_all g.below g.settings current ps c v)
+  -- what is left once each is taken
+  abbrev Taken : Choice Request g.U g.R → View → State g → Choice Request g.U g.R → View → Type 0
+  Taken c v x d w = HasActed g beside.others phase current (numbers_of g c.jobs) beside.left v.more v x d w
+
+  pub all_settle : (ps : List OnBoard) (qs : List Post) (named : ℕ → ℕ → Option ℕ) (c : Choice Request g.U g.R) (v : View) (x : State g) → Stands g beside phase current (λ j. entry_at j c.jobs) named 0 [] c v x → (hi : ℕ) × Sorted 0 hi c.jobs
+      → current < length (g.c).servers → Gives (named current) ps qs beside.left → x.board ≡ map (tag current) qs → IfLeft (HasActed g beside.others phase current (numbers_of g c.jobs) beside.left v.more v x) (settles_all g.below g.settings current ps c v)
   all_settle [] [] named c v x st table within gives board = record {
-    named' = named;
+    named = named;
     end = x;
     went = went_nowhere g v x (record { fair = st.servers.fair; now = refl; timer = le_refl v.timers.next; ticket = le_refl v.ticket; place = le_refl v.place; later = λ i due is. inl is });
-    stands = st;
-    sorted = table;
-    board = board;
-    names = λ i. sym (gives i);
+    still = record { stands = st; names = λ i. sym (gives i); sorted = table; board = board };
     given = [];
     leaving = [];
     put = sym (append-nil v.board);
     leaves = sym (append-nil x.leaving);
     answers = λ i. refl;
+    says = refl;
   }
   all_settle [] (q ∷ qs) named c v x st table within gives board = absurd gives
   all_settle (p ∷ ps) [] named c v x st table within gives board = absurd gives
   all_settle (p ∷ ps) (q ∷ qs) named c v x st table within gives board =
       let found = found_at c.servers current (subst (λ n. current < n) (sym st.servers.count) within) in
-      left_then g (IsSettled g beside phase current p.ticket (map (tag current) qs) named c v x) (AreTaken g beside phase current beside.left c v x) (λ z. settles_all g.below g.settings current ps z.0 z.1) (settles g.below g.settings current p c v)
-      (λ d w s. left_on g (AreTaken g beside phase current beside.left d w s.done.end) (AreTaken g beside phase current beside.left c v x) (settles_all g.below g.settings current ps d w)
-      (λ e u r. after d w s e u r (answered s.ticket s.job c v x d w s.done.end table s.was s.done.others s.done.come))
+      left_then g (IsSettled g beside phase current p.ticket (map (tag current) qs) named c v x) (Taken c v x) (λ z. settles_all g.below g.settings current ps z.0 z.1) (settles g.below g.settings current p c v)
+      (λ d w s. left_on g (Taken d w s.done.end) (Taken c v x) (settles_all g.below g.settings current ps d w)
+      (λ e u r. after d w s e u r (answered s.ticket (s.job).number (numbers_of g c.jobs) v x d w s.done.end (ap number_in s.was)
+      (λ j ne. ap number_in (s.done.others j ne ∙ (at_frees s.ticket j 0 table.0 c.jobs table.1 ∙ with_there s.ticket None (λ j. entry_at j c.jobs) j ne))) s.done.come))
       (all_settle ps qs s.done.named' d w s.done.end s.done.stands s.done.sorted within (subst (λ f. Gives f ps qs beside.left) (fun_ext (λ i. sym (s.here i) ∙ sym (s.done.same_there i))) gives.2) s.done.board))
       (one_settles p ps q qs named c v x found.0 st table found.1 (subst (λ f. Gives (named current) (p ∷ ps) (q ∷ qs) f) (fun_ext (λ i. sym (st.still found.0 found.1 i))) gives) board)
     where
-      after : (d : Choice Request g.U g.R) (w : View) (s : IsSettled g beside phase current p.ticket (map (tag current) qs) named c v x d w) (e : Choice Request g.U g.R) (u : View) (r : AreTaken g beside phase current beside.left d w s.done.end e u) → IsAnswered c v x d w s.done.end → AreTaken g beside phase current beside.left c v x e u
+      after : (d : Choice Request g.U g.R) (w : View) (s : IsSettled g beside phase current p.ticket (map (tag current) qs) named c v x d w) (e : Choice Request g.U g.R) (u : View) (r : Taken d w s.done.end e u) → IsAnswered (numbers_of g c.jobs) v x d w s.done.end → Taken c v x e u
       after d w s e u r a = record {
-        named' = r.named';
+        named = r.named;
         end = r.end;
         went = went_then g v x w s.done.end u r.end s.done.went r.went;
-        stands = r.stands;
-        sorted = r.sorted;
-        board = r.board;
-        names = r.names;
+        still = r.still;
         given = a.given ++ r.given;
         leaving = a.leaving ++ r.leaving;
         put = r.put ∙ (ap (λ (bs : List OnBoard). bs ++ r.given) a.put ∙ append_assoc v.board a.given r.given);
         leaves = r.leaves ∙ (ap (λ (zs : List Leaving). zs ++ r.leaving) a.leaves ∙ append_assoc x.leaving a.leaving r.leaving);
-        answers = subst (λ ps. Gives (numbers_of g beside phase current c.jobs) (a.given ++ r.given) ps (numbers_of g beside phase current e.jobs)) (sym (map-append (post_of g beside phase current) a.leaving r.leaving))
-            (gives_then (numbers_of g beside phase current c.jobs) (numbers_of g beside phase current d.jobs) (numbers_of g beside phase current e.jobs) a.given r.given (map (post_of g beside phase current) a.leaving) (map (post_of g beside phase current) r.leaving) a.answers r.answers);
+        answers = subst (λ ps. Gives (numbers_of g c.jobs) (a.given ++ r.given) ps (numbers_of g e.jobs)) (sym (map-append post_of a.leaving r.leaving))
+            (gives_then (numbers_of g c.jobs) (numbers_of g d.jobs) (numbers_of g e.jobs) a.given r.given (map post_of a.leaving) (map post_of r.leaving) a.answers r.answers);
+        says = r.says ∙ s.done.more;
       }
 
 pub results_are_moves : (g : Choosing) → ResultsAreMoves g
-results_are_moves g beside phase current ps qs named c v x st table within gives board = all_settle g beside phase current ps qs named c v x st table within gives board
+results_are_moves g others phase current left ps qs named c v x st table within gives board = all_settle g (record { others = others; left = left }) phase current ps qs named c v x st table within gives board

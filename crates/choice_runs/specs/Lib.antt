@@ -1,6 +1,6 @@
 pub mod Choosing
 pub mod Doing
-pub mod Leading
 pub mod Requests
 pub mod Servers
 pub mod Silent
+pub mod Awaiting

@@ -1,5 +1,5 @@
 -- The requests of a choice beside those of the machine: who was started, who is still to be, and under which ticket each waits.
-use Rattle.std.specs.Prelude.{◌≡◌, ℕ, ◌<◌, ◌≤◌, ◌⊎◌, ◌||◌, ◌==◌, Bool, true, false, List, [], ◌∷◌, ◌++◌, length, Option, Some, None, option_map, slice_get}
+use Rattle.std.specs.Prelude.{◌≡◌, ℕ, ◌<◌, ◌⊎◌, ◌||◌, ◌==◌, Bool, true, false, List, [], ◌∷◌, ◌++◌, length, Option, Some, None, option_map, slice_get}
 use Rattle.client_request.specs.Carries.{IsOfOctets}
 use Rattle.client_request.specs.Composed.{composed}
 use Rattle.client_request.specs.Numbered.{entry_at}
@@ -13,11 +13,12 @@ use Rattle.client_request.specs.declared.event.Out.{Out}
 use Rattle.headline.specs.Parts.{IsIn}
 use Rattle.headline.specs.machine.Client.{Waiting, best}
 use Rattle.client_ties.specs.Chains.{part_of}
+use Rattle.client_ties.specs.Leading.{Leads}
 use Rattle.client_ties.specs.Lines.{Sorted}
-use Rattle.client_ties.specs.PartTie.{Phase}
-use Rattle.client_ties.specs.Sights.{due_of, IsFair}
+use Rattle.client_ties.specs.PartTie.{Phase, IsOpen}
+use Rattle.client_ties.specs.Sights.{due_of}
+use Rattle.client_ties.specs.WholeTie.{Follows}
 use Rattle.choice_runs.specs.Choosing.{Choosing}
-use Rattle.choice_runs.specs.Leading.{Leads}
 use Rattle.choice_runs.specs.Servers.{State, AreTied}
 
 -- each is a server that was not tried yet, when its turn comes
@@ -34,10 +35,15 @@ abbrev pub AreApart : {P : Type 0} → List (Started P) → Type 0
 AreApart [] = Unit {0}
 AreApart (e ∷ es) = ((f : Started _) → IsIn f es → e.server ≡ f.server → ⊥) × AreApart es
 
--- What stands beside a call: when each timer of others is due; and the number of the request of each ticket whose result is still to come from the server whose results are taken.
+-- Timers of others: which numbers these are, of those that were given, and when each that is set is due.
+pub record Others : Type 0 where
+  pub are : (timer : ℕ) → Bool
+  pub due : (timer : ℕ) → Option ℕ
+
+-- What stands beside a call: the timers of others; and the number of the request of each ticket whose result is still to come from the server whose results are taken.
 pub record Beside : Type 0 where
-  pub deadlines : ℕ → Option ℕ
-  pub left : ℕ → Option ℕ
+  pub others : Others
+  pub left : (ticket : ℕ) → Option ℕ
 
 module _ (g : Choosing) where
   abbrev pub Work : Type 0
@@ -111,7 +117,7 @@ module _ (g : Choosing) where
     dues = λ i. due_of i v.timers.set;
   }
 
-  -- The choice beside the machine, within a call. `jobs` has its requests, with the one in hand; `current` is the server whose results are taken; `beside` says when the timers of others are due, and what is left to come from the current server.
+  -- The choice beside the machine, within a call. `jobs` has its requests, with the one in hand; `current` is the server whose results are taken, and each other may be started at, and told to give up. `beside` has the timers of others, and what is left to come from the current server.
   pub record Stands (beside : Beside) (phase : ℕ → Phase) (current : ℕ) (jobs : ℕ → Option Work) (named : (s lower : ℕ) → Option ℕ) (over : ℕ) (dropping : List Begun) (c : Choice Request g.U g.R) (v : View) (x : State g) : Type 0 where
     pub servers : AreTied g phase c.servers v x
     pub quiet : (s : ℕ) (a : Server g.U) → slice_get c.servers s ≡ Some a → (a.posted ≡ []) × ((hi : ℕ) × Sorted 0 hi a.waiting)
@@ -121,18 +127,11 @@ module _ (g : Choosing) where
     pub kept : AreKept over dropping (desk_of jobs named c v x)
     pub foreign : (i t s : ℕ) (a : Server g.U) → entry_at i c.timers ≡ Some t → slice_get c.servers s ≡ Some a → g.Owns a.upstream i → ⊥
     pub timers : (hi : ℕ) × Sorted 0 hi c.timers
-    pub due : (i moment : ℕ) → beside.deadlines i ≡ Some moment → due_of i v.timers.set ≡ Some moment
-    pub own : (i moment t : ℕ) → beside.deadlines i ≡ Some moment → entry_at i c.timers ≡ Some t → ⊥
-    pub far : (i moment s : ℕ) (a : Server g.U) → beside.deadlines i ≡ Some moment → slice_get c.servers s ≡ Some a → g.Owns a.upstream i → ⊥
-
-  -- The view after calls: it is fair, its moment is the same, numbers go on, and a timer that is set was set before or is not past.
-  pub record Follows (v w : View) : Type 0 where
-    pub fair : IsFair w
-    pub now : w.now ≡ v.now
-    pub timer : v.timers.next ≤ w.timers.next
-    pub ticket : v.ticket ≤ w.ticket
-    pub place : v.place ≤ w.place
-    pub later : (i due : ℕ) → due_of i w.timers.set ≡ Some due → (due_of i v.timers.set ≡ Some due) ⊎ (v.now ≤ due)
+    pub is_open : (s : ℕ) → s < length (g.c).servers → (current ≡ s → ⊥) → IsOpen (phase s) v.place
+    pub drawn : (i : ℕ) → beside.others.are i ≡ true → i < v.timers.next
+    pub due : (i moment : ℕ) → beside.others.are i ≡ true → beside.others.due i ≡ Some moment → due_of i v.timers.set ≡ Some moment
+    pub own : (i t : ℕ) → beside.others.are i ≡ true → entry_at i c.timers ≡ Some t → ⊥
+    pub far : (i s : ℕ) (a : Server g.U) → beside.others.are i ≡ true → slice_get c.servers s ≡ Some a → g.Owns a.upstream i → ⊥
 
   -- what moves left of the machine, while a call left w of the view v
   pub record Went (v : View) (x : State g) (w : View) (y : State g) : Type 0 where

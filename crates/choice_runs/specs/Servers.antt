@@ -1,5 +1,5 @@
 -- The servers of a choice beside the parts of the machine, and what one call of one of them leaves of all.
-use Rattle.std.specs.Prelude.{◌≡◌, ℕ, ◌≤◌, ◌⊎◌, List, [], ◌∷◌, ◌++◌, length, nat_lt, ◌||◌, Option, Some, None, Result, slice_get, set}
+use Rattle.std.specs.Prelude.{◌≡◌, ℕ, ◌<◌, ◌≤◌, ◌⊎◌, true, List, [], ◌∷◌, ◌++◌, length, nat_lt, Option, Some, None, Result, slice_get, set}
 use Rattle.client_request.specs.Composed.{composed}
 use Rattle.client_request.specs.Numbered.{puts, frees}
 use Rattle.client_request.specs.View.{View}
@@ -13,10 +13,10 @@ use Rattle.headline.specs.machine.Part.{Act, Post}
 use Rattle.headline.specs.machine.Client.{Upper, Waiting, hand, with_up}
 use Rattle.headline.specs.machine.Streams.{with_at}
 use Rattle.client_ties.specs.Chains.{Gives, part_of}
+use Rattle.client_ties.specs.Leading.{Leads, IsMoved}
 use Rattle.client_ties.specs.PartTie.{Phase, Told, Leaves, GoesOn}
 use Rattle.client_ties.specs.Sights.{sight, due_of, IsFair}
 use Rattle.choice_runs.specs.Choosing.{Choosing}
-use Rattle.choice_runs.specs.Leading.{Leads, IsMoved}
 
 module _ (g : Choosing) where
   abbrev pub State : Type 0
@@ -25,13 +25,19 @@ module _ (g : Choosing) where
   abbrev pub Listed : Type 0
   Listed = List (Server g.U)
 
-  -- Each server is tied to its part, at its phase, and no two own the same timer.
+  -- No place is open at two servers, and each that is open was given.
+  pub record AreApartAt (ups : ℕ → g.P.State) (next : ℕ) : Type 0 where
+    pub places : (s q p : ℕ) → s < length (g.c).servers → q < length (g.c).servers → g.has (ups s) p ≡ true → g.has (ups q) p ≡ true → s ≡ q
+    pub below : (s p : ℕ) → s < length (g.c).servers → g.has (ups s) p ≡ true → p < next
+
+  -- Each server is tied to its part, at its phase, and no two own the same timer or have the same place.
   pub record AreTied (phase : ℕ → Phase) (servers : Listed) (v : View) (x : State) : Type 0 where
     pub count : length servers ≡ length (g.c).servers
     pub tied : (s : ℕ) (a : Server g.U) → slice_get servers s ≡ Some a → g.Tied s (phase s) a.upstream (sight v) (x.ups s)
     pub apart : (s q i : ℕ) (a b : Server g.U) → slice_get servers s ≡ Some a → slice_get servers q ≡ Some b → g.Owns a.upstream i → g.Owns b.upstream i → s ≡ q
     pub fair : IsFair v
     pub place : x.place ≡ v.place
+    pub places : AreApartAt x.ups x.place
 
   -- so is each but server s, while it is called
   pub record OthersAreTied (s : ℕ) (phase : ℕ → Phase) (servers : Listed) (v : View) (x : State) : Type 0 where
@@ -40,6 +46,12 @@ module _ (g : Choosing) where
     pub apart : (s q i : ℕ) (a b : Server g.U) → slice_get servers s ≡ Some a → slice_get servers q ≡ Some b → g.Owns a.upstream i → g.Owns b.upstream i → s ≡ q
     pub fair : IsFair v
     pub place : x.place ≡ v.place
+    pub places : AreApartAt x.ups x.place
+
+  -- An act opens no place but the next ones.
+  pub record OpensOn (place : ℕ) (u : g.P.State) (made : Act g.P.State) : Type 0 where
+    pub on : place ≤ made.place
+    pub opened : (p : ℕ) → g.has made.state p ≡ true → (g.has u p ≡ true) ⊎ ((place ≤ p) × (p < made.place))
 
   -- two views of one moment, with the same timers and numbers
   pub record SeenAlike (v w : View) : Type 0 where
@@ -57,6 +69,7 @@ module _ (g : Choosing) where
     pub to : SeenAlike after w
     pub leaves : Leaves g.P (g.Tied s) g.names g.Owns May named a.upstream before phase b.upstream after
     pub moved : IsMoved g.st composed g.P s x leaves.made y
+    pub opens : OpensOn x.place (x.ups s) leaves.made
 
   -- What a call of server s, a before and b after, leaves of all servers, of the view and of the machine: it was at x, moves led there from `from`, and `named` has the tickets whose results may be given.
   pub record AfterCall (phase : ℕ → Phase) (s : ℕ) (a b : Server g.U) (named : ℕ → Option ℕ) (board : List Posted) (servers : Listed) (v : View) (from x : State) (w : View) : Type 0 where
@@ -78,6 +91,7 @@ module _ (g : Choosing) where
     pub waiting : server.waiting ≡ frees ticket a.waiting
     pub posted : server.posted ≡ []
     pub board : w.board ≡ v.board
+    pub more : w.more ≡ v.more
     pub call : AfterCall phase s a server (with_at ticket None (g.names a.upstream)) [] servers v x x w
 
   -- What a request got that was started: what stands for its result, which is to come under `ticket`; or the result.
@@ -91,6 +105,7 @@ module _ (g : Choosing) where
     pub lists : y.1 ≡ set servers s server
     pub posted : server.posted ≡ []
     pub board : w.board ≡ v.board
+    pub more : w.more ≡ v.more
     pub given : List Posted
     pub call : AfterCall phase s a server (with_at v.ticket (Some k) (g.names a.upstream)) given servers v x (hand k s ask x) w
     pub reply : HasReply k v.ticket ticket a server call.made.posts y.0
@@ -109,7 +124,7 @@ module _ (g : Choosing) where
     pub at : ℕ
     pub left : ℕ
     pub may_be : MayBe at left
-    pub more : w.more ≡ (nat_lt 0 left || v.more)
+    pub more : w.more ≡ nat_lt 0 left
     pub heard : IsHeard (with_up s (Told at left) phase) s a servers v x y w
 
 -- Whatever server is called, the others stay tied as they were.

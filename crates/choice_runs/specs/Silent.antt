@@ -9,8 +9,9 @@ use Rattle.headline.specs.Trace.{Conf}
 use Rattle.headline.specs.Settings.{Settings}
 use Rattle.client_settings.specs.Settings.{RedundantSettings}
 use Rattle.client_ties.specs.PartTie.{IsTie}
+use Rattle.client_ties.specs.Sharing.{OpensNext, IsShared}
 use Rattle.client_ties.specs.Silent.{silent_part}
-use Rattle.choice_runs.specs.Choosing.{Choosing, SameDeferring, IsStarting, SendsInAnyPhase, Ignores}
+use Rattle.choice_runs.specs.Choosing.{Choosing, SameDeferring, IsStarting}
 use Rattle.choice_runs.specs.Doing.{CallsAreMoves}
 
 -- It knows its number alone. A request has its error as it is handed in.
@@ -30,12 +31,12 @@ numbered = record unstarted { send = λ r s v. unstarted.send r s (asks (Start v
 abbrev pub NumbersAreTied : Type 0
 NumbersAreTied = (c : Conf) (s : ℕ) → IsTie (silent_part c) s Dgram unstarted (λ t. t) s (λ phase u x a. u ≡ s) (λ u t. None) (λ u i. ⊥)
 
--- A server may be started in any phase, says that it starts, and leaves alone what is not its own.
+-- A server is tied, says that it starts, opens no place, and leaves alone what is not its own.
 pub record NumbersChoose (c : Conf) : Type 0 where
   pub tied : (s : ℕ) → IsTie (silent_part c) s Dgram unstarted (λ t. t) s (λ phase u x a. u ≡ s) (λ u t. None) (λ u i. ⊥)
   pub starts : (s : ℕ) → IsStarting s Dgram unstarted numbered (λ u. u ≡ s)
-  pub sends : (s : ℕ) → SendsInAnyPhase (silent_part c) s Dgram unstarted (λ phase u x a. u ≡ s) (λ u t. None) (λ u i. ⊥)
-  pub ignores : (s : ℕ) → Ignores numbered (λ phase u x (a : Unit {0}). u ≡ s) (λ u i. ⊥) (λ u p. false)
+  pub opens : OpensNext (silent_part c) (λ a p. false)
+  pub shared : (s : ℕ) → IsShared (silent_part c) (λ a p. false) unstarted (λ phase u x a. u ≡ s) (λ u i. ⊥)
 
 -- the choice among silent servers, as many as the configuration has
 abbrev pub silent_choice : (c : Conf) (st : Settings) (settings : RedundantSettings) → SameDeferring settings st → NumbersChoose c → Choosing
@@ -55,13 +56,13 @@ silent_choice c st settings same choose = record {
   Tied = λ s phase u x a. u ≡ s;
   names = λ u t. None;
   Owns = λ u i. ⊥;
-  has = λ u p. false;
+  has = λ a p. false;
+  opens = choose.opens;
   IsPlaced = λ s u. u ≡ s;
   placed = λ s phase u x a tied. tied;
   tie = λ s lt. choose.tied s;
   layer = λ s lt. choose.starts s;
-  sends = λ s lt. choose.sends s;
-  ignores = λ s lt. choose.ignores s;
+  shared = λ s lt. choose.shared s;
 }
 
 -- The laws of a choice can be met: among silent servers, what its calls leave is what moves of the machine leave.

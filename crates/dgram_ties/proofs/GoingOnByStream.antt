@@ -302,9 +302,9 @@ module _ (b c : Conf) (s : ℕ) {S : Type 0} (t : Transport Request S stream.Ask
             | inl its ↦ early i due (inr its) old
             | inr le ↦ absurd (let z : None ≡ Some due = sym (none_next v2 i fair2 le) ∙ was in cc)
           ]
-          | inr late ↦ late
+          | inr new ↦ new.0
         ]
-        | inr late ↦ subst (λ n. n < due) h.leaves.after.now late
+        | inr new ↦ subst (λ n. n < due) h.leaves.after.now new.0
       ])
 
       tied : Tied (Told 0 0) n (sight x) (with_dgrams no_datagram after)
