@@ -34,7 +34,7 @@ none_due_now s z d v w made fair l early i due own e = subst (λ n. n < due) (sy
     | inl old ↦ early i due old was
     | inr le ↦ absurd (let n : None ≡ Some due = sym (none_next v i fair le) ∙ was in cc)
   ]
-  | inr late ↦ late
+  | inr new ↦ new.0
 ])
 
 module _ (b c : Conf) (s : ℕ) {S : Type 0} (t : Transport Request S stream.Asked) (first : S) (Tied : Phase → S → Sight → Served → Type 0) (names : S → ℕ → Option ℕ) (Owns : S → (timer : ℕ) → Type 0) (y : AreStreams b s t first Tied names Owns) where
