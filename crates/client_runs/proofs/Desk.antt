@@ -1,5 +1,5 @@
 -- The tables of the client beside those of the machine: who waits under which ticket, and until when.
-use Rattle.std.proofs.Common.{◌≡◌, ℕ, suc, ◌+◌, ◌<◌, ◌⊎◌, inl, inr, Option, Some, None, sym, ap, subst, ◌∙◌, arith}
+use Rattle.std.proofs.Common.{◌≡◌, ℕ, suc, ◌+◌, ◌<◌, ◌⊎◌, inl, inr, Option, Some, None, refl, sym, ap, subst, ◌∙◌, arith}
 use Rattle.client_steps.specs.declared.asked.Waiting.{Waiting}
 use Rattle.headline.specs.machine.Client.{Waiting as Held}
 use Rattle.headline.specs.machine.Streams.{with_at}
@@ -29,6 +29,9 @@ module _ {A : Type 0} where
 -- who is tried was tried before, since the same moment
 abbrev pub WereTried : (before after : ℕ → Option Held) → Type 0
 WereTried before after = (k : ℕ) (b : Held) → after k ≡ Some b → (a : Held) × (before k ≡ Some a) × (b.moment ≡ a.moment)
+
+pub as_before : (f : ℕ → Option Held) → WereTried f f
+as_before f k b e = (b, e, refl)
 
 -- Tables as functions: the requests that wait by ticket, the ticket of each deadline, the number of each ticket's request at the transport, the machine's requests by number, and when each timer is due.
 pub record Desk (P : Type 0) : Type 0 where

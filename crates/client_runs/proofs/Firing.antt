@@ -23,14 +23,16 @@ use Rattle.client_steps.specs.declared.first.Passed.{Passed}
 use Rattle.client_steps.proofs.Tables.{frees_nothing}
 use Rattle.client_steps.proofs.TimerLaws.{due_without}
 use Rattle.client_runs.proofs.Calling.{Called, after_call, PlainClient, layer_of, Comes, comes_of, comes_then}
-use Rattle.client_runs.proofs.Desk.{IsKept, at_other, both_are, none_is, was_there, go_on}
-use Rattle.client_runs.proofs.Holding.{Requests, State, IsFor, Holds, Fits, as_before, holds_without, tied_without, fair_without, desk_of}
+use Rattle.client_runs.proofs.Desk.{IsKept, as_before, at_other, both_are, none_is, was_there, go_on}
+use Rattle.client_runs.proofs.Holding.{Requests, State, IsFor, Holds, Fits, holds_without, tied_without, fair_without, desk_of}
 use Rattle.client_runs.proofs.Leading.{one_move}
 
+-- what holds of all that a call leaves
 pub left_on : {U : Type 0} (A B : U → View → Type 0) (o : Option (U × View)) → ((u : U) (v : View) → A u v → B u v) → IfLeft A o → IfLeft B o
 left_on A B None f l = tt
 left_on A B (Some x) f l = f x.0 x.1 l
 
+-- what is there
 pub there : {A : Type 0} → (o : Option A) → is_some o ≡ true → (a : A) × (o ≡ Some a)
 there None e = absurd (cc)
 there (Some a) e = (a, refl)

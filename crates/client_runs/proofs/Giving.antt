@@ -20,8 +20,8 @@ use Rattle.client_runs.specs.Above.{Tying}
 use Rattle.client_steps.specs.Client.{replies_many, replies_to, result_of, without_request}
 use Rattle.client_steps.specs.declared.asked.Waiting.{Waiting}
 use Rattle.client_steps.specs.declared.first.Passed.{Passed}
-use Rattle.client_runs.proofs.Desk.{IsKept}
-use Rattle.client_runs.proofs.Holding.{Requests, State, IsFor, Fits, as_before, holds_without, tied_without, fair_without, desk_of}
+use Rattle.client_runs.proofs.Desk.{IsKept, as_before}
+use Rattle.client_runs.proofs.Holding.{Requests, State, IsFor, Fits, holds_without, tied_without, fair_without, desk_of}
 use Rattle.client_runs.proofs.Leading.{leads_on, one_move}
 
 -- a result of one message comes off the board as it was put

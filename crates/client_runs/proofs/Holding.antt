@@ -5,7 +5,7 @@ use Rattle.client_request.specs.Numbered.{entry_at}
 use Rattle.client_request.specs.Timers.{TimerList, cancelled, without_timer}
 use Rattle.client_request.specs.View.{View, drops_timer}
 use Rattle.client_request.specs.declared.event.What.{What}
-use Rattle.headline.specs.machine.Client.{Leaving, Upper, Waiting as Held}
+use Rattle.headline.specs.machine.Client.{Leaving, Upper}
 use Rattle.headline.specs.machine.Streams.{with_at}
 use Rattle.client_ties.specs.PartTie.{Phase}
 use Rattle.client_ties.specs.Sights.{sight, due_of, IsFair}
@@ -17,9 +17,6 @@ use Rattle.client_steps.specs.declared.first.Passed.TheVariants.{Below}
 use Rattle.client_steps.proofs.Tables.{Sorted, at_frees, frees_path, sorted_frees}
 use Rattle.client_steps.proofs.TimerLaws.{due_without, order_without}
 use Rattle.client_runs.proofs.Desk.{Desk, AreKept, WereTried, one_goes, go_on, kept_so, was_there, at_other}
-
-pub as_before : (f : ℕ → Option Held) → WereTried f f
-as_before f k b e = (b, e, refl)
 
 module _ (g : Tying) where
   abbrev pub Requests : Type 0

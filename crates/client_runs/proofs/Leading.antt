@@ -9,19 +9,20 @@ use Rattle.headline.specs.Settings.{Settings}
 use Rattle.headline.specs.machine.Part.{ServerPart}
 use Rattle.headline.specs.machine.Client.{Waiting, Upper, Made, Move, Moves, IsDone, Server_moves, Hands_on, Gives_up, Drops, Keeps_back, Delivers, Concludes, Times_out, Replies, Forgets, Derives, Answers, Takes_on}
 use Rattle.client_ties.specs.Leading.{Leads, Arrives, Then}
-use Rattle.client_runs.proofs.Desk.{WereTried, was_there, is_or_was}
+use Rattle.client_runs.proofs.Desk.{WereTried, as_before, was_there, is_or_was}
 
-as_before : (f : ℕ → Option Waiting) → WereTried f f
-as_before f k b e = (b, e, refl)
-
+-- one of them is written otherwise, but for its moment
 changes : (k : ℕ) (a b : Waiting) (f : ℕ → Option Waiting) → f k ≡ Some a → b.moment ≡ a.moment → (g : ℕ → Option Waiting) → ((j : ℕ) (x : Waiting) → g j ≡ Some x → (k ≡ j) × (b ≡ x) ⊎ (k ≡ j → ⊥) × (f j ≡ Some x)) → WereTried f g
 changes k a b f is same g was j x e = elim (was j x e) [
   | inl p ↦ (a, subst (λ j. f j ≡ Some a) p.0 is, sym (ap (λ (w : Waiting). w.moment) p.1) ∙ same)
   | inr p ↦ (x, p.1, refl)
 ]
 
+-- one of them goes
 goes : (k : ℕ) (f : ℕ → Option Waiting) (g : ℕ → Option Waiting) → ((j : ℕ) (x : Waiting) → g j ≡ Some x → (k ≡ j → ⊥) × (f j ≡ Some x)) → WereTried f g
 goes k f g was j x e = (x, (was j x e).1, refl)
+
+-- numbers that rise
 
 never : (n : ℕ) → suc n ≡ n → ⊥
 never n e = omega arith
@@ -70,6 +71,7 @@ module _ {c : Conf} (st : Settings) (compose : Request → Result Octets Error) 
   takes_one : (x y : Upper P.State) → y.now ≡ x.now → y.asked ≡ suc x.asked → IsLater x y
   takes_one x y now asked = record { now = now; asked = subst (λ n. x.asked ≤ n) (sym asked) (one_more x.asked); held = λ e. absurd (never x.asked (sym asked ∙ e)) }
 
+  -- what one move leaves
   move_later : (x : Upper P.State) (d : Made P.State) → Move c st compose P x d → IsLater x d.state
   move_later x _ (Server_moves i d lt acts) = stays_so x _ refl refl (as_before x.held)
   move_later x _ (Hands_on i k a d lt held tried starts) = stays_so x _ refl refl (changes k a _ x.held held refl _ (λ j y e. is_or_was k _ x.held j y e))
@@ -85,6 +87,7 @@ module _ {c : Conf} (st : Settings) (compose : Request → Result Octets Error) 
   move_later x _ (Answers r y pending at_once) = takes_one x _ refl refl
   move_later x _ (Takes_on r o pending composes some) = takes_one x _ refl refl
 
+  -- what many leave
   pub leads_later : (x : Upper P.State) (outs : List Out) (y : Upper P.State) → Leads st compose P x outs y → IsLater x y
   leads_later _ _ _ (Arrives x) = record { now = refl; asked = le_refl x.asked; held = λ e. as_before x.held }
   leads_later _ _ _ (Then x d outs y f l) = and_then x d.state y (move_later x d f) (leads_later d.state outs y l)
