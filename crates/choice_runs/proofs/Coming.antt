@@ -9,7 +9,6 @@ use Rattle.client_choice.specs.declared.job.Entry.{Entry}
 use Rattle.headline.specs.Parts.{IsIn}
 use Rattle.headline.specs.machine.Client.{Waiting, Posted, newcomer}
 use Rattle.headline.specs.machine.Streams.{with_at}
-use Rattle.client_ties.specs.Lines.{Sorted}
 use Rattle.client_ties.specs.PartTie.{Phase, Leads as IfLeft}
 use Rattle.client_ties.specs.Sights.{sight}
 use Rattle.client_ties.proofs.Keys.{with_here, with_there, is_or_was}

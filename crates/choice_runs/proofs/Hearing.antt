@@ -1,7 +1,7 @@
 -- A server hears something, and what it posted is taken before the next one hears.
-use Rattle.std.proofs.Common.{◌≡◌, ℕ, suc, ◌+◌, ◌<◌, ◌≤◌, inl, inr, false, List, [], ◌++◌, length, map, Option, Some, None, slice_get, refl, sym, ap, subst, ◌∙◌}
+use Rattle.std.proofs.Common.{◌≡◌, ℕ, suc, ◌<◌, ◌≤◌, inl, inr, false, List, [], ◌++◌, length, map, Option, Some, None, slice_get, refl, sym, ap, subst, ◌∙◌}
 use mathlib.Core.Path.{fun_ext}
-use Rattle.std.specs.Prelude.{set, nat_lt}
+use Rattle.std.specs.Prelude.{set}
 use Rattle.std.proofs.lemmas.Option.{slice_get_within}
 use Rattle.client_request.specs.Numbered.{entry_at}
 use Rattle.client_request.specs.Request.{Request}
@@ -62,9 +62,6 @@ module _ (g : Choosing) where
   module _ (others : Others) (left : ℕ → Option ℕ) (phase : ℕ → Phase) (s : ℕ) (named : ℕ → ℕ → Option ℕ) (c : Choice Request g.U g.R) (v : View) (x : State g) (a : Server g.U) (is_still : IsStill g others phase s left named c v x) (at : slice_get c.servers s ≡ Some a) where
     abbrev beside : Beside
     beside = record { others = others; left = left }
-
-    abbrev jobs : ℕ → Option _
-    jobs = λ j. entry_at j c.jobs
 
     abbrev st : Stands g (record { others = others; left = left }) phase s (λ j. entry_at j c.jobs) named 0 [] c v x
     st = is_still.stands

@@ -1,5 +1,5 @@
 -- What a server takes no notice of.
-use Rattle.std.proofs.Common.{◌≡◌, ℕ, ◌<◌, [], length, Some, refl, sym, ap, subst, ◌∙◌}
+use Rattle.std.proofs.Common.{◌≡◌, ℕ, ◌<◌, [], length, Some, sym, ap, subst, ◌∙◌}
 use Rattle.std.specs.Prelude.{option_and_then}
 use Rattle.client_request.specs.Request.{Request}
 use Rattle.client_request.specs.View.{View, Heard, told, more_at, due_timer}

@@ -1,7 +1,6 @@
 -- Whose results are taken next, between two calls.
 use Rattle.std.proofs.Common.{◌≡◌, ℕ, ◌<◌, Some, slice_get, refl, sym, subst, ◌∙◌, arith, length}
 use Rattle.std.proofs.lemmas.Option.{slice_get_within}
-use Rattle.client_choice.specs.Servers.{Server}
 use Rattle.client_ties.specs.PartTie.{IsOpen}
 use Rattle.client_ties.proofs.Keys.{each_number}
 use Rattle.choice_runs.specs.Choosing.{Choosing}

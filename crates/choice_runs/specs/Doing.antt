@@ -2,7 +2,7 @@
 use Rattle.std.specs.Prelude.{◌≡◌, ℕ, suc, ◌<◌, ◌≤◌, Bool, false, nat_lt, List, [], ◌∷◌, ◌++◌, length, map, Option, Some, None, option_map, slice_get}
 use Rattle.client_request.specs.Board.{Part}
 use Rattle.client_request.specs.Carries.{IsOfOctets}
-use Rattle.client_request.specs.Numbered.{entry_at, frees}
+use Rattle.client_request.specs.Numbered.{entry_at}
 use Rattle.client_request.specs.Request.{Request}
 use Rattle.client_request.specs.Timers.{cancelled}
 use Rattle.client_request.specs.View.{View, Heard, told, more_at, due_timer}
