@@ -41,7 +41,7 @@ found_at (x ∷ xs) (suc i) lt = found_at xs i (less i (length xs) lt)
 
 module _ (g : Choosing) where
   pub follows_of : (v w : View) → GoesOn v w → Follows v w
-  follows_of v w o = record { fair = o.fair; now = o.now; timer = o.timer; ticket = o.ticket; place = o.place; later = λ i due is. elim (o.later i due is) [ inl p ↦ inl p | inr lt ↦ inr (no_less v.now due lt) ] }
+  follows_of v w o = record { fair = o.fair; now = o.now; timer = o.timer; ticket = o.ticket; place = o.place; later = λ i due is. elim (o.later i due is) [ inl p ↦ inl p | inr new ↦ inr (no_less v.now due new.0, new.1) ] }
     where
       no_less : (a b : ℕ) → a < b → a ≤ b
       no_less a b lt = omega arith
@@ -53,7 +53,7 @@ module _ (g : Choosing) where
     timer = le_trans a.timer b.timer;
     ticket = le_trans a.ticket b.ticket;
     place = le_trans a.place b.place;
-    later = λ i due is. elim (b.later i due is) [ inl p ↦ a.later i due p | inr le ↦ inr (subst (λ n. n ≤ due) a.now le) ];
+    later = λ i due is. elim (b.later i due is) [ inl p ↦ a.later i due p | inr new ↦ inr (subst (λ n. n ≤ due) a.now new.0, le_trans a.timer new.1) ];
   }
 
   pub went_nowhere : (v : View) (x : State g) → Follows v v → Went g v x v x

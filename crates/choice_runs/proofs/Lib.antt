@@ -15,6 +15,10 @@ pub mod PuttingOff
 pub mod Resting
 pub mod Runs
 pub mod Silencing
+pub mod Leaving
+pub mod Owing
+pub mod Awaiting
+pub mod AwaitingCalls
 pub mod Settling
 pub mod Taking
 pub mod Hearing

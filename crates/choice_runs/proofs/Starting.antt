@@ -208,7 +208,7 @@ module _ (g : Choosing) (beside : Beside) (phase : ℕ → Phase) (current : ℕ
         ticket = le_refl v.ticket;
         place = le_refl v.place;
         later = λ i m is. elim (is_or_was v.timers.next (Some due) (λ (j : ℕ). due_of j v.timers.set) i m (sym (dues_set v due i st.servers.fair) ∙ is)) [
-          | inl p ↦ inr (subst (λ m. v.now ≤ m) (some_is due m p.1) late)
+          | inl p ↦ inr (subst (λ m. v.now ≤ m) (some_is due m p.1) late, subst (λ n. v.timers.next ≤ n) p.0 (le_refl v.timers.next))
           | inr p ↦ inl p.1
         ];
       }

@@ -3,3 +3,4 @@ pub mod Doing
 pub mod Requests
 pub mod Servers
 pub mod Silent
+pub mod Awaiting

@@ -21,7 +21,7 @@ goes_then v w x a b = record {
   timer = le_trans a.timer b.timer;
   ticket = le_trans a.ticket b.ticket;
   place = le_trans a.place b.place;
-  later = λ i due e. elim (b.later i due e) [ inl f ↦ a.later i due f | inr f ↦ inr (subst (λ n. n < due) a.now f) ];
+  later = λ i due e. elim (b.later i due e) [ inl f ↦ a.later i due f | inr f ↦ inr (subst (λ n. n < due) a.now f.0, le_trans a.timer f.1) ];
 }
 
 -- a timer that is taken out, and one that is set and not due
@@ -50,7 +50,7 @@ fair_set v due fair = record { order = order_set due 0 v.timers.next v.timers.se
 pub dues_set : (v : View) (due j : ℕ) → IsFair v → due_of j (with_timer due v.timers).set ≡ with_at v.timers.next (Some due) (λ j. due_of j v.timers.set) j
 dues_set v due j fair = due_set due j 0 v.timers.next v.timers.set fair.order
 
-new_or_old : (i j : ℕ) (f : ℕ → Option ℕ) (x due : ℕ) → with_at i (Some x) f j ≡ Some due → (f j ≡ Some due) ⊎ (x ≡ due)
+new_or_old : (i j : ℕ) (f : ℕ → Option ℕ) (x due : ℕ) → with_at i (Some x) f j ≡ Some due → (f j ≡ Some due) ⊎ ((x ≡ due) × (i ≤ j))
 new_or_old i j f x due e = grind (arith, nat_tests)
 
 pub goes_set : (v : View) (due : ℕ) → v.now < due → IsFair v → GoesOn v (record v { timers = with_timer due v.timers })
@@ -60,7 +60,7 @@ goes_set v due lt fair = record {
   timer = more v.timers.next;
   ticket = le_refl v.ticket;
   place = le_refl v.place;
-  later = λ j d e. elim (new_or_old v.timers.next j (λ j. due_of j v.timers.set) due d (sym (dues_set v due j fair) ∙ e)) [ inl f ↦ inl f | inr f ↦ inr (subst (λ d. v.now < d) f lt) ];
+  later = λ j d e. elim (new_or_old v.timers.next j (λ j. due_of j v.timers.set) due d (sym (dues_set v due j fair) ∙ e)) [ inl f ↦ inl f | inr f ↦ inr (subst (λ d. v.now < d) f.0 lt, f.1) ];
 }
   where
     more : (n : ℕ) → n ≤ n + 1

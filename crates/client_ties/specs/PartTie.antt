@@ -71,14 +71,14 @@ abbrev pub Leads : {U : Type 0} → (U → View → Type 0) → Option (U × Vie
 Leads P None = Unit {0}
 Leads P (Some x) = P x.0 x.1
 
--- The view after a call: it is fair as before, its moment is the same, numbers go on, and a timer that is set was set before or is not due.
+-- The view after a call: it is fair as before, its moment is the same, numbers go on, and a timer that is set was set before, or is a new one and not due.
 pub record GoesOn (v w : View) : Type 0 where
   pub fair : IsFair w
   pub now : w.now ≡ v.now
   pub timer : v.timers.next ≤ w.timers.next
   pub ticket : v.ticket ≤ w.ticket
   pub place : v.place ≤ w.place
-  pub later : (i due : ℕ) → due_of i w.timers.set ≡ Some due → (due_of i v.timers.set ≡ Some due) ⊎ (v.now < due)
+  pub later : (i due : ℕ) → due_of i w.timers.set ≡ Some due → (due_of i v.timers.set ≡ Some due) ⊎ ((v.now < due) × (v.timers.next ≤ i))
 
 module _ {c : Conf} (P : ServerPart c) {U : Type 0} (Tied : Phase → U → Sight → P.State → Type 0) (names : U → ℕ → Option ℕ) (Owns : U → ℕ → Type 0) where
   -- What a call leaves of a transport u and its view v is what some act leaves that may be made, and it is tied again. `named` has the tickets whose results may be given.

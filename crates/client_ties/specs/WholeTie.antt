@@ -19,14 +19,14 @@ use Rattle.client_ties.specs.Leading as moves
 use Rattle.client_ties.specs.PartTie.{Phase, Untold, Told, MayEnd, MayLeave, Leads, place_in}
 use Rattle.client_ties.specs.Sights.{Sight, sight, due_of, IsFair, IsEarly}
 
--- The view after calls: it is fair, its moment is the same, numbers go on, and a timer that is set was set before or is not past.
+-- The view after calls: it is fair, its moment is the same, numbers go on, and a timer that is set was set before, or is a new one and not past.
 pub record Follows (v w : View) : Type 0 where
   pub fair : IsFair w
   pub now : w.now ≡ v.now
   pub timer : v.timers.next ≤ w.timers.next
   pub ticket : v.ticket ≤ w.ticket
   pub place : v.place ≤ w.place
-  pub later : (i due : ℕ) → due_of i w.timers.set ≡ Some due → (due_of i v.timers.set ≡ Some due) ⊎ (v.now ≤ due)
+  pub later : (i due : ℕ) → due_of i w.timers.set ≡ Some due → (due_of i v.timers.set ≡ Some due) ⊎ ((v.now ≤ due) × (v.timers.next ≤ i))
 
 -- what is given with a request that leaves
 abbrev pub post_of : Leaving → Post

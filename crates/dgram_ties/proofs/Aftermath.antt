@@ -38,7 +38,7 @@ after_then v w x a b = record {
   timer = le_trans a.timer b.timer;
   ticket = le_trans a.ticket b.ticket;
   place = le_trans a.place b.place;
-  later = λ i due e. elim (b.later i due e) [ inl f ↦ a.later i due f | inr f ↦ inr (subst (λ n. n < due) a.now f) ];
+  later = λ i due e. elim (b.later i due e) [ inl f ↦ a.later i due f | inr f ↦ inr (subst (λ n. n < due) a.now f.0, le_trans a.timer f.1) ];
 }
 
 -- something was put out, something is on the board, and the words went on

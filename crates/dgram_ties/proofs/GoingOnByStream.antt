@@ -297,8 +297,8 @@ module _ (b c : Conf) (s : ℕ) {S : Type 0} (t : Transport Request S stream.Ask
       -- none of the streams' timers is due
       early_now : (i due : ℕ) → Owns n i → due_of i x.timers.set ≡ Some due → x.now < due
       early_now i due own e = subst (λ n. n < due) (sym (l.goes_on.now ∙ h.leaves.after.now)) (elim (l.goes_on.later i due e) [
-        | inl was ↦ elim (h.leaves.after.later i due was) [ inl old ↦ early i due old | inr late ↦ late ]
-        | inr late ↦ subst (λ n. n < due) h.leaves.after.now late
+        | inl was ↦ elim (h.leaves.after.later i due was) [ inl old ↦ early i due old | inr new ↦ new.0 ]
+        | inr new ↦ subst (λ n. n < due) h.leaves.after.now new.0
       ])
 
       tied : Tied (Told 0 0) n (sight x) (with_dgrams no_datagram after)

@@ -80,7 +80,7 @@ module _ (server : ℕ) (s : Tables Request) (d : Dgrams) (v : View) (f : AreSlo
           timer = over r;
           ticket = le_refl v.ticket;
           place = le_refl v.place;
-          later = λ n due g. elim (is_or_was r (Some (v.now + 5000000)) (λ n. due_of n v.timers.set) n due (sym (due_set (v.now + 5000000) n 0 r v.timers.set fair.order) ∙ g)) [ inl x ↦ inr (let z : Some (v.now + 5000000) ≡ Some due = x.1 in let same : v.now + 5000000 ≡ due = cc in subst (λ due. v.now < due) same (later v.now)) | inr x ↦ inl x.1 ];
+          later = λ n due g. elim (is_or_was r (Some (v.now + 5000000)) (λ n. due_of n v.timers.set) n due (sym (due_set (v.now + 5000000) n 0 r v.timers.set fair.order) ∙ g)) [ inl x ↦ inr (let z : Some (v.now + 5000000) ≡ Some due = x.1 in let same : v.now + 5000000 ≡ due = cc in (subst (λ due. v.now < due) same (later v.now), subst (λ n. r ≤ n) x.0 (le_refl r))) | inr x ↦ inl x.1 ];
         };
         apart = record {
           owned = λ n u. elim (is_or_was r (Some t) (λ n. entry_at n s.timers) n u.0 (sym (at_puts r t n s.timers) ∙ u.1)) [ inl x ↦ inr (subst (λ n. r ≤ n) x.0 (le_refl r)) | inr x ↦ inl (u.0, x.1) ];

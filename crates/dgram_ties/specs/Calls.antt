@@ -37,7 +37,7 @@ pub record IsAfter (v w : View) : Type 0 where
   pub timer : v.timers.next ≤ w.timers.next
   pub ticket : v.ticket ≤ w.ticket
   pub place : v.place ≤ w.place
-  pub later : (i due : ℕ) → due_of i w.timers.set ≡ Some due → (due_of i v.timers.set ≡ Some due) ⊎ (v.now < due)
+  pub later : (i due : ℕ) → due_of i w.timers.set ≡ Some due → (due_of i v.timers.set ≡ Some due) ⊎ ((v.now < due) × (v.timers.next ≤ i))
 
 -- a timer that a table has
 abbrev pub Owns : Tables Request → (timer : ℕ) → Type 0

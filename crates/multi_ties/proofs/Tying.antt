@@ -40,7 +40,7 @@ use Rattle.multi_ties.proofs.Serving.{stream_moved, lift, runs_chain, Gone, give
 pub still_early : (d e : Desk) (v w : View) → IsFair v → AreEarly d (sight v) → GoesOn v w → ((i : ℕ) → Owns e i → Owns d i ⊎ (v.timers.next ≤ i)) → AreEarly e (sight w)
 still_early d e v w fair early on owned i due o set = subst (λ n. n < due) (sym on.now) (elim (on.later i due set) [
   | inl was ↦ elim (owned i o) [ inl q ↦ early i due q was | inr le ↦ absurd (let z : None ≡ Some due = sym (none_next v i fair le) ∙ was in cc) ]
-  | inr lt ↦ lt
+  | inr new ↦ new.0
 ])
 
 pub stands_of : (s : ℕ) (u : Streams) (v : View) (a : Served) → IsStream s u (sight v) a → IsFair v → Stands nothing_under_way (desk_of u.tables) u.tables a.server.by_stream (frames_at a.place a.frames) v

@@ -1,0 +1,109 @@
+-- A choice among tied servers as all that a client has below it.
+use Rattle.std.specs.Prelude.{◌≡◌, ℕ, zero, suc, ◌<◌, ◌≤◌, ◌⊎◌, List, [], ◌∷◌, length, Option, Some, slice_get}
+use Rattle.client_request.specs.Numbered.{entry_at}
+use Rattle.client_request.specs.Request.{Request}
+use Rattle.client_request.specs.View.{View}
+use Rattle.client_request.specs.declared.event.What.{What}
+use Rattle.client_choice.specs.Choice.{Choice}
+use Rattle.client_choice.specs.Redundant.{Redundant, started, transport}
+use Rattle.client_choice.specs.Servers.{Server, added}
+use Rattle.client_ties.specs.Lines.{Sorted}
+use Rattle.client_ties.specs.PartTie.{Phase, Untold, Told, Passed, place_in}
+use Rattle.client_ties.specs.Sights.{Sight, due_of}
+use Rattle.client_ties.specs.WholeTie.{IsWholeTie}
+use Rattle.choice_runs.specs.Awaiting.{Awaits}
+use Rattle.choice_runs.specs.Choosing.{Choosing}
+use Rattle.choice_runs.specs.Doing.{CallsAreMoves, IsAside, numbers_of}
+use Rattle.choice_runs.specs.Requests.{Work, AreKept, desk_of}
+use Rattle.choice_runs.specs.Servers.{State, AreTied}
+
+-- A view looks so, as far as it matters: these timers are due then, and numbers are as high at least.
+pub record IsSeen (Own : (timer : ℕ) → Type 0) (v : View) (x : Sight) : Type 0 where
+  pub now : x.now ≡ v.now
+  pub dues : (i : ℕ) → Own i → x.dues i ≡ due_of i v.timers.set
+  pub timer : v.timers.next ≤ x.timer
+  pub ticket : v.ticket ≤ x.ticket
+  pub place : x.place ≡ v.place
+
+module _ (g : Choosing) where
+  abbrev pub Whole : Type 0
+  Whole = Redundant Request g.U g.R
+
+  -- so many servers as they begin, from one on
+  abbrev pub servers_from : (s count : ℕ) → List (Server g.U)
+  servers_from s zero = []
+  servers_from s (suc count) = added (g.first s) ∷ servers_from (suc s) count
+
+  -- the choice as it begins, with each server
+  abbrev pub with_all : Whole
+  with_all = record (started g.settings) { choice = record { servers = servers_from 0 (length (g.c).servers); jobs = []; timers = [] } }
+
+  -- the number of the request of each ticket
+  abbrev pub names : Whole → (ticket : ℕ) → Option ℕ
+  names r t = numbers_of g r.choice.jobs t
+
+  -- A timer is the choice's, or one of its servers'.
+  pub data Owns (r : Whole) (i : ℕ) : Type 0 where
+    IsOwn : (t : ℕ) → entry_at i r.choice.timers ≡ Some t → Owns r i
+    IsServers : (s : ℕ) (a : Server g.U) → slice_get r.choice.servers s ≡ Some a → g.Owns a.upstream i → Owns r i
+
+  -- The choice beside the machine between two calls, whatever the phase of each server is.
+  pub record Agrees (phase : ℕ → Phase) (named : (s lower : ℕ) → Option ℕ) (r : Whole) (v : View) (x : State g) : Type 0 where
+    pub settings : r.settings ≡ g.settings
+    pub servers : AreTied g phase r.choice.servers v x
+    pub quiet : (s : ℕ) (a : Server g.U) → slice_get r.choice.servers s ≡ Some a → (a.posted ≡ []) × ((hi : ℕ) × Sorted 0 hi a.waiting)
+    pub is_named : (s : ℕ) (a : Server g.U) → slice_get r.choice.servers s ≡ Some a → (i : ℕ) → named s i ≡ g.names a.upstream i
+    pub kept : AreKept g 0 [] (desk_of g (λ j. entry_at j r.choice.jobs) named r.choice v x)
+    pub foreign : (i t s : ℕ) (a : Server g.U) → entry_at i r.choice.timers ≡ Some t → slice_get r.choice.servers s ≡ Some a → g.Owns a.upstream i → ⊥
+    pub timers : (hi : ℕ) × Sorted 0 hi r.choice.timers
+    pub sorted : (hi : ℕ) × Sorted 0 hi r.choice.jobs
+    pub drawn : (t : ℕ) (job : Work g) → entry_at t r.choice.jobs ≡ Some job → t < v.ticket
+    pub awaited : Awaits (length (g.c).servers) r.choice
+    pub board : x.board ≡ []
+
+  -- where a timer of the choice is due, its request neither starts at server s, nor waits there
+  abbrev pub AreAside : (s : ℕ) → Choice Request g.U g.R → View → Type 0
+  AreAside s c v = (t : ℕ) (job : Work g) (i due : ℕ) → entry_at t c.jobs ≡ Some job → job.timer ≡ Some i → due_of i v.timers.set ≡ Some due → due ≤ v.now → IsAside g s job
+
+  -- One server took the event, and the others passed it.
+  pub record OneTook (at left : ℕ) (phase : ℕ → Phase) (c : Choice Request g.U g.R) (v : View) : Type 0 where
+    pub server : ℕ
+    pub within : server < length (g.c).servers
+    pub told : phase server ≡ Told at left
+    pub what : What
+    pub passed : (s : ℕ) → s < length (g.c).servers → (server ≡ s → ⊥) → phase s ≡ Passed what
+    pub place : ℕ
+    pub in_place : place_in what ≡ Some place
+    pub below : place < v.place
+    pub aside : AreAside server c v
+
+  -- All servers passed it, and no timer of the choice is due.
+  pub record NoneTook (phase : ℕ → Phase) (c : Choice Request g.U g.R) (v : View) : Type 0 where
+    pub what : What
+    pub passed : (s : ℕ) → s < length (g.c).servers → phase s ≡ Passed what
+    pub early : (i t due : ℕ) → entry_at i c.timers ≡ Some t → due_of i v.timers.set ≡ Some due → v.now < due
+
+  -- Nothing happened yet.
+  pub record IsUnused (phase : ℕ → Phase) (c : Choice Request g.U g.R) : Type 0 where
+    pub begun : (s : ℕ) → s < length (g.c).servers → phase s ≡ Told 0 0
+    pub jobs : c.jobs ≡ []
+    pub timers : c.timers ≡ []
+
+  -- what a phase of the whole says of those of the servers
+  abbrev pub IsAt : Phase → (phase : ℕ → Phase) → Choice Request g.U g.R → View → Type 0
+  IsAt (Untold w) phase c v = (s : ℕ) → s < length (g.c).servers → phase s ≡ Untold w
+  IsAt (Told at left) phase c v = OneTook at left phase c v ⊎ ((left ≡ 0) × (NoneTook phase c v ⊎ IsUnused phase c))
+  IsAt (Passed w) phase c v = ⊥
+
+  -- The tie of the whole: it agrees with the machine at a view that looks so.
+  pub record Tied (phase : Phase) (r : Whole) (x : Sight) (a : State g) : Type 0 where
+    pub view : View
+    pub phases : ℕ → Phase
+    pub named : (s lower : ℕ) → Option ℕ
+    pub seen : IsSeen (Owns r) view x
+    pub agrees : Agrees phases named r view a
+    pub is_at : IsAt phase phases r.choice view
+
+-- Where the calls of a choice among servers, one or more, are moves of the machine, it is tied to the whole of a client.
+abbrev pub ChoicesAreWhole : Type 1
+ChoicesAreWhole = (g : Choosing) → 0 < length (g.c).servers → CallsAreMoves g → IsWholeTie g.st g.P (transport g.below) (λ asked. asked.ticket) (with_all g) (Tied g) (names g) (Owns g)
