@@ -138,3 +138,7 @@ module _ {R U P : Type 0} (count : ℕ) (below : Transport R U P) (settings : Re
       by : (o : Option (Job R P)) → Leads (Kept count) (drops_job below t c v o)
       by None = a
       by (Some job) = gives_up_awaits count below job.started (record c { jobs = frees t c.jobs; timers = unset job.timer c.timers }) (stopped job.timer v) (record { servers = a.servers; jobs = awaited_frees count t c.jobs a.jobs })
+
+-- each request that waits is awaited
+pub is_awaited : {R U P : Type 0} (count t : ℕ) (job : Job R P) (c : Choice R U P) → Awaits count c → entry_at t c.jobs ≡ Some job → IsAwaited count job
+is_awaited count t job c a is = awaited_at count t job c.jobs a.jobs is
