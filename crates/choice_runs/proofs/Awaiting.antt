@@ -1,15 +1,12 @@
 -- Each request in the table of a choice stays awaited, whatever the choice does.
-use Rattle.std.proofs.Common.{◌≡◌, ℕ, zero, suc, ◌+◌, ◌-◌, ◌<◌, inl, inr, Bool, true, false, cond, ◌==◌, ◌&&◌, if◌then◌else◌, List, [], ◌∷◌, ◌++◌, length, Option, Some, None, Ordering, Less, Equal, Greater, nat_cmp, is_eq, slice_get, refl, sym, ap, subst, ◌∙◌, arith}
-use Rattle.std.proofs.lemmas.Bool.Decides.{nat_tests}
+use Rattle.std.proofs.Common.{◌≡◌, ℕ, zero, suc, ◌+◌, ◌-◌, ◌<◌, Bool, true, false, cond, ◌==◌, ◌&&◌, if◌then◌else◌, List, [], ◌∷◌, length, Option, Some, None, Ordering, Less, Equal, Greater, nat_cmp, is_eq, slice_get, refl, sym, ap, subst, ◌∙◌, arith}
 use Rattle.std.specs.Ordering.{match_ordering}
 use Rattle.std.specs.Prelude.{set, option_map}
 use Rattle.client_request.specs.Board.{Part}
 use Rattle.client_request.specs.Numbered.{puts, frees, entry_at}
 use Rattle.client_request.specs.Timers.{can_draw, with_timer}
-use Rattle.client_request.specs.View.{View, Heard, Transport, answers, sets_timer}
-use Rattle.client_request.specs.declared.board.Posted.{Posted}
-use Rattle.client_settings.specs.Settings.{RedundantSettings}
-use Rattle.client_choice.specs.Choice.{Choice, Job, rests, gives, is_over, all_gave, keeps, unarmed, unset, stopped, judged, judges_each, drops_each, drops_response, gives_up, ends, arms, noted, parted, begun, begun_at, begins, put_off, is_better, is_deferred, is_last, disarmed, goes_on, runs, puts_off, gets, settled, settles_job, settles_owner, settles, settles_all, without_owner, fresh_job, fires, fires_at, takes_on, drops, drops_job}
+use Rattle.client_request.specs.View.{View, Transport, answers}
+use Rattle.client_choice.specs.Choice.{Choice, Job, rests, gives, all_gave, keeps, unarmed, stopped, judged, judges_each, drops_each, drops_response, gives_up, ends, noted, parted, begun, begun_at, begins}
 use Rattle.client_choice.specs.Servers as at
 use Rattle.client_choice.specs.Servers.{Server, starts_at, starts_found, drops_at, drops_found, hears_at, hears_found, judges, judges_found, disowned, disowned_at, owner, for_request, onto}
 use Rattle.client_choice.specs.declared.job.Entry.{Entry}
@@ -18,8 +15,8 @@ use Rattle.client_choice.specs.declared.servers.Reply.{Reply}
 use Rattle.client_choice.specs.declared.servers.Reply.TheVariants.{Later, Now}
 use Rattle.client_ties.specs.PartTie.{Leads}
 use Rattle.choice_runs.specs.Awaiting.{Owes, OneOwes, LastOwes, AreWithin, IsAwaited, AreAwaited, Awaits}
-use Rattle.choice_runs.proofs.Leaving.{leads_then, leads_map, leads_on, leads_if}
-use Rattle.choice_runs.proofs.Owing.{one_of_last, last_with, not_all_gave, last_stays}
+use Rattle.choice_runs.proofs.Leaving.{leads_then, leads_map, leads_on}
+use Rattle.choice_runs.proofs.Owing.{one_of_last, last_with, not_all_gave}
 
 pub set_length : {A : Type 0} (xs : List A) (i : ℕ) (b : A) → length (set xs i b) ≡ length xs
 set_length [] i b = refl

@@ -1,12 +1,12 @@
 -- Whatever a choice is called for, each request that waits in its table is awaited afterwards.
-use Rattle.std.proofs.Common.{◌≡◌, ℕ, suc, ◌-◌, ◌<◌, Bool, true, false, if◌then◌else◌, List, [], ◌∷◌, length, Option, Some, None, slice_get, refl, sym, ap, subst, ◌∙◌}
+use Rattle.std.proofs.Common.{◌≡◌, ℕ, zero, suc, ◌+◌, ◌-◌, ◌<◌, Bool, true, false, if◌then◌else◌, List, [], ◌∷◌, length, Option, Some, None, slice_get, refl, sym, ap, subst, ◌∙◌}
 use Rattle.std.specs.Prelude.{set}
 use Rattle.client_request.specs.Board.{Part}
 use Rattle.client_request.specs.Numbered.{frees, entry_at}
 use Rattle.client_request.specs.View.{View, Heard, Transport, answers}
 use Rattle.client_request.specs.declared.board.Posted.{Posted}
 use Rattle.client_settings.specs.Settings.{RedundantSettings}
-use Rattle.client_choice.specs.Choice.{Choice, Job, rests, keeps, unarmed, unset, stopped, ends, put_off, is_better, is_deferred, is_last, is_of, silenced, disarmed, goes_on, begins, runs, puts_off, gets, settled, settles_job, settles_owner, settles, settles_all, without_owner, fresh_job, fires, takes_on, drops, drops_job, hears_one}
+use Rattle.client_choice.specs.Choice.{Choice, Job, rests, keeps, unarmed, unset, stopped, ends, put_off, is_better, is_deferred, is_last, is_of, silenced, disarmed, goes_on, begins, runs, puts_off, gets, settled, settles_job, settles_owner, settles, settles_all, without_owner, fresh_job, fires, takes_on, drops, drops_job, hears_one, hears_some, hears_all}
 use Rattle.client_choice.specs.Servers as at
 use Rattle.client_choice.specs.Servers.{Server, hears_at, hears_found, disowned, owner}
 use Rattle.client_choice.specs.declared.job.Entry.{Entry}
@@ -118,9 +118,16 @@ module _ {R U P : Type 0} (count : ℕ) (below : Transport R U P) (settings : Re
           any (Some z) = tt
 
   -- The calls: a server hears something; a timer has fired; a request is taken on, and given up.
-  pub hears_awaits : (server : ℕ) (h : Heard) (c : Choice R U P) (v : View) → Awaits count c → Leads (Kept count) (hears_one below settings server h c v)
+  hears_awaits : (server : ℕ) (h : Heard) (c : Choice R U P) (v : View) → Awaits count c → Leads (Kept count) (hears_one below settings server h c v)
   hears_awaits server h c v a = leads_then (λ y w. length y.1 ≡ length c.servers) (Kept count) (λ x. settles_all below settings server x.0.0 (record c { servers = x.0.1 }) x.1) (hears_at below server h c.servers v)
       (λ y w l. settles_all_awaits server y.0 (record c { servers = y.1 }) w (with_jobs count c (record c { servers = y.1 }) l refl a)) (hears_length server h c.servers v)
+
+  hears_some_awaits : (n server : ℕ) (h : Heard) (c : Choice R U P) (v : View) → Awaits count c → Leads (Kept count) (hears_some below settings server n h c v)
+  hears_some_awaits zero server h c v a = a
+  hears_some_awaits (suc n) server h c v a = leads_then (Kept count) (Kept count) (λ x. hears_some below settings (server + 1) n h x.0 x.1) (hears_one below settings server h c v) (λ d w b. hears_some_awaits n (server + 1) h d w b) (hears_awaits server h c v a)
+
+  pub hears_all_awaits : (h : Heard) (c : Choice R U P) (v : View) → Awaits count c → Leads (Kept count) (hears_all below settings h c v)
+  hears_all_awaits h c v a = hears_some_awaits (length c.servers) 0 h c v a
 
   pub fires_awaits : (t : ℕ) (c : Choice R U P) (v : View) → Awaits count c → Leads (Kept count) (fires below settings t c v (entry_at t c.jobs))
   fires_awaits t c v a = by (entry_at t c.jobs) refl

@@ -22,12 +22,13 @@ use Rattle.client_ties.proofs.Keys.{each_number, with_here, with_there, is_or_wa
 use Rattle.client_ties.proofs.Tables.{at_puts}
 use Rattle.choice_runs.specs.Choosing.{Choosing}
 use Rattle.choice_runs.specs.Servers.{State, Listed, IsStarted, HasReply, Comes, Came}
-use Rattle.choice_runs.specs.Requests.{Beside, Work, Begun, Desk, Waits, IsKept, IsOwed, AreToStart, desk_of, Stands, Went}
+use Rattle.choice_runs.specs.Requests.{Beside, Work, Begun, Desk, Waits, IsKept, IsOwed, AreToStart, desk_of, Stands, Went, IsToStart, IsAside}
+use Rattle.choice_runs.proofs.Asides.{calm_aside}
 use Rattle.choice_runs.proofs.AtServer.{both_are, set_here}
 use Rattle.choice_runs.proofs.Disarming.{again_path}
 use Rattle.choice_runs.proofs.Dropping.{found_at, without_none, stands_on, dues_on, left_then, owner_there, owner_here, follows_of, follows_then}
 use Rattle.choice_runs.proofs.Leading.{up_here, up_other}
-use Rattle.choice_runs.proofs.Noting.{noting, noted_so}
+use Rattle.choice_runs.proofs.Noting.{noting, noted_so, front_or_end}
 use Rattle.choice_runs.proofs.ServerCalls.{one_starts, in_conf, left_map}
 use Rattle.choice_runs.proofs.Starting.{sorted_more, stands_for, IsArmed, arms_do}
 
@@ -43,7 +44,7 @@ pub data Gave (k s : ℕ) (old new : List Posted) : Option Part → Type 0 where
   AResult : (result : Result Octets Error) → new ≡ old ++ record { server = s; request = k; result = result } ∷ [] → Gave k s old new (Some (part_of result))
 
 module _ (g : Choosing) (beside : Beside) (phase : ℕ → Phase) (current : ℕ) (t : ℕ) (job : Work g) (e : Entry) (es : List Entry) (tab : ℕ → Option (Work g)) (named : ℕ → ℕ → Option ℕ) (c : Choice Request g.U g.R) (v : View) (x : State g)
-    (calm : job.timer ≡ None) (lined : job.left ≡ e ∷ es) (aside : current ≡ e.server → ⊥) (st : Stands g beside phase current (with_at t (Some job) tab) named 0 [] c v x) where
+    (calm : job.timer ≡ None) (lined : job.left ≡ e ∷ es) (aside : current ≡ e.server → ⊥) (is_aside : IsAside g current job) (st : Stands g beside phase current (with_at t (Some job) tab) named 0 [] c v x) where
   abbrev entry : Option (Reply g.R) → Begun g
   entry o = record { server = e.server; since = v.now; lower = v.ticket; response = (parted o).0 }
 
@@ -133,8 +134,8 @@ module _ (g : Choosing) (beside : Beside) (phase : ℕ → Phase) (current : ℕ
         named' = named';
         end = i.call.end;
         went = went_so;
-        stands = stands_on g beside phase phase current (with_at t (Some job) tab) named 0 [] c asked_view x stands_asked e.server a b at (with_at v.ticket (Some job.number) (g.names a.upstream)) i.given x (hand job.number e.server mine.ask x) asked_view w (without_none g (g.Owns a.upstream) asked_view) i.call (λ q ne. refl)
-            (with_at t (Some (noting g job es one)) tab) named' 0 []
+        stands = stands_on g beside phase phase current (with_at t (Some job) tab) named 0 [] c asked_view x stands_asked e.server a b at (with_at v.ticket (Some job.number) (g.names a.upstream)) i.given x (hand job.number e.server mine.ask x) asked_view w (without_none g (g.Owns a.upstream) asked_view) i.call (λ q. refl)
+            (with_at t (Some (noting g job es one)) tab) named' 0 [] (λ are. calm_aside g current t job (noting g job es one) tab w calm are)
             (i.posted, subst (λ (ws : List (ℕ × ℕ)). (hi : ℕ) × Sorted 0 hi ws) (sym waiting) (sorted_more v.ticket t a.waiting (st.quiet e.server a at).1))
             (λ ne j. here j ∙ (with_as j ∙ sym (names j))) aside there
             (noted_so g t job e es one mine.ask before after (record {
@@ -159,6 +160,7 @@ module _ (g : Choosing) (beside : Beside) (phase : ℕ → Phase) (current : ℕ
               ];
               waits = λ q p. subst (λ q. Waits g after t job.number one q) (some_is r q p) (record {
                 within = within;
+                fits = i.fits r eq;
                 ticket = ticket;
                 waiting = owner_here g (set c.servers e.server b) e.server v.ticket b (set_here c.servers e.server a b at)
                     ∙ (ap (λ (ws : List (ℕ × ℕ)). entry_at v.ticket ws) waiting ∙ (at_puts v.ticket t v.ticket a.waiting ∙ with_here v.ticket (Some t) (λ (j : ℕ). entry_at j a.waiting)));
@@ -195,8 +197,8 @@ module _ (g : Choosing) (beside : Beside) (phase : ℕ → Phase) (current : ℕ
         named' = named;
         end = i.call.end;
         went = went_so;
-        stands = stands_on g beside phase phase current (with_at t (Some job) tab) named 0 [] c asked_view x stands_asked e.server a b at (with_at v.ticket (Some job.number) (g.names a.upstream)) i.given x (hand job.number e.server mine.ask x) asked_view w (without_none g (g.Owns a.upstream) asked_view) i.call (λ q ne. refl)
-            (with_at t (Some (noting g job es one)) tab) named 0 []
+        stands = stands_on g beside phase phase current (with_at t (Some job) tab) named 0 [] c asked_view x stands_asked e.server a b at (with_at v.ticket (Some job.number) (g.names a.upstream)) i.given x (hand job.number e.server mine.ask x) asked_view w (without_none g (g.Owns a.upstream) asked_view) i.call (λ q. refl)
+            (with_at t (Some (noting g job es one)) tab) named 0 [] (λ are. calm_aside g current t job (noting g job es one) tab w calm are)
             (i.posted, subst (λ (ws : List (ℕ × ℕ)). (hi : ℕ) × Sorted 0 hi ws) (sym waiting) (st.quiet e.server a at).1)
             (λ ne j. st.is_named e.server a at ne j ∙ sym (names j)) aside (λ q j ne. refl)
             (noted_so g t job e es one mine.ask before after (record {
@@ -248,6 +250,12 @@ module _ (g : Choosing) (beside : Beside) (phase : ℕ → Phase) (current : ℕ
     pub same_there : (i : ℕ) → named' current i ≡ named current i
     pub gave : Gave job.number e.server x.board end.board y.0.0
 
+  noted_aside : (o : Option (Reply g.R)) → IsAside g current (noting g job es (entry o))
+  noted_aside o = record {
+    aside = λ m. is_aside.aside (subst (λ l. IsToStart current l) (sym lined) (inr m));
+    clear = λ f m r p same. elim (front_or_end f (entry o) job.started m) [ inl old ↦ is_aside.clear f old r p same | inr new ↦ aside (same ∙ ap (λ (f : Begun g). f.server) (sym new)) ];
+  }
+
   pub begins_do : IfLeft HasBegun (begins g.below t e (record job { left = es }) c v)
   begins_do = go (found_at c.servers e.server (subst (λ n. e.server < n) (sym st.servers.count) line.0))
     where
@@ -274,7 +282,7 @@ module _ (g : Choosing) (beside : Beside) (phase : ℕ → Phase) (current : ℕ
             same_there = n.same_there;
             gave = n.gave;
           })
-          (arms_do g beside phase current n.named' t (v.now + e.estimate) (noting g job es (entry o)) tab (record c { servers = servers }) w n.end calm (later v.now e.estimate w.now n.went.goes_on.now) n.stands)
+          (arms_do g beside phase current n.named' t (v.now + e.estimate) (noting g job es (entry o)) tab (record c { servers = servers }) w n.end calm (noted_aside o) (later v.now e.estimate w.now n.went.goes_on.now) n.stands)
 
       go : (a : Server g.U) × (slice_get c.servers e.server ≡ Some a) → IfLeft HasBegun (begins g.below t e (record job { left = es }) c v)
       go found = left_then g (IsStarted g phase e.server job.number t mine.ask found.0 c.servers asked_view x) HasBegun (begun g.below t e (record job { left = es }) c v) (starts_at g.below e.server t job.request c.servers asked_view)

@@ -19,6 +19,7 @@ use Rattle.client_ties.specs.WholeTie.{HasLeft}
 use Rattle.choice_runs.specs.Doing.{numbers_of, nobody, IsStill, HasDropped, CancellingIsMoves}
 use Rattle.choice_runs.specs.Servers.{State, Listed, AreApartAt}
 use Rattle.choice_runs.specs.Requests.{Others, Beside, Work, IsKept, desk_of, Stands}
+use Rattle.choice_runs.proofs.Asides.{gone_aside}
 use Rattle.choice_runs.proofs.Changing.{ended}
 use Rattle.choice_runs.proofs.Disarming.{goes_stopped, again_path, disarms}
 use Rattle.choice_runs.proofs.Dropping.{AreOff, all_off, follows_of, follows_then}
@@ -72,6 +73,7 @@ module _ (g : Choosing) (others : Others) (phase : ℕ → Phase) (t : ℕ) (job
         (with_here t (Some (disarmed job)) tab) refl (sym (again_path t None (Some (disarmed job)) tab ∙ fun_ext (λ j. with_same t None tab j new))) refl refl refl has_left.held refl 0 calm.kept;
     foreign = calm.foreign;
     timers = calm.timers;
+    calm = λ at frames told. gone_aside g count t (Some (disarmed job)) tab (stopped job.timer v) new (calm.calm at frames told);
     is_open = calm.is_open;
     drawn = calm.drawn;
     due = calm.due;
@@ -96,7 +98,7 @@ module _ (g : Choosing) (others : Others) (phase : ℕ → Phase) (t : ℕ) (job
   gives_it_up = subst (λ o. IfLeft Dropped (drops_job g.below t c v o)) (sym is)
       (by (drops_each g.below job.started c.servers (stopped job.timer v))
       (all_off g beside phase count tab job.number t new job.started named without (stopped job.timer v) y (ap (λ (h : ℕ → Option Waiting). h job.number) has_left.held ∙ with_here job.number None x.held) owed.apart
-      (λ b i r p. (let w = owed.waits b i r p in (λ same. not_below count (subst (λ n. n < count) (sym same) w.within), record { within = w.within; ticket = w.ticket; waiting = w.waiting; named = w.named }))) over))
+      (λ b i r p. (let w = owed.waits b i r p in (λ same. not_below count (subst (λ n. n < count) (sym same) w.within), record { within = w.within; fits = w.fits; ticket = w.ticket; waiting = w.waiting; named = w.named }))) over))
     where
       not_below : (n : ℕ) → n < n → ⊥
       not_below n lt = omega arith

@@ -94,7 +94,7 @@ module _ (g : Choosing) where
       nothing n s i o = o.is
 
       waits_so : (u n : ℕ) (e : Begun g) (r : g.R) → Waits g d u n e r → Waits g d' u n e r
-      waits_so u n e r w = record { within = w.within; ticket = w.ticket; waiting = subst (λ (h : ℕ → ℕ → Option ℕ). h e.server e.lower ≡ Some u) (sym waiting) w.waiting; named = subst (λ (h : ℕ → ℕ → Option ℕ). h e.server e.lower ≡ Some n) (sym named) w.named }
+      waits_so u n e r w = record { within = w.within; fits = w.fits; ticket = w.ticket; waiting = subst (λ (h : ℕ → ℕ → Option ℕ). h e.server e.lower ≡ Some u) (sym waiting) w.waiting; named = subst (λ (h : ℕ → ℕ → Option ℕ). h e.server e.lower ≡ Some n) (sym named) w.named }
 
       keeps : (u : ℕ) (other : Work g) → (t ≡ u → ⊥) → d.jobs u ≡ Some other → IsKept g d u other → IsKept g d' u other
       keeps u other ne is m = record {

@@ -9,7 +9,6 @@ use Rattle.client_choice.specs.declared.job.Entry.{Entry}
 use Rattle.headline.specs.Parts.{IsIn}
 use Rattle.headline.specs.machine.Client.{Waiting, Posted, newcomer}
 use Rattle.headline.specs.machine.Streams.{with_at}
-use Rattle.client_ties.specs.Lines.{Sorted}
 use Rattle.client_ties.specs.PartTie.{Phase, Leads as IfLeft}
 use Rattle.client_ties.specs.Sights.{sight}
 use Rattle.client_ties.proofs.Keys.{with_here, with_there, is_or_was}
@@ -18,6 +17,7 @@ use Rattle.client_ties.specs.WholeTie.{HasTakenOn}
 use Rattle.choice_runs.specs.Doing.{numbers_of, nobody, IsStill, HasDone, HasActed, IsLinedUp, TakingOnIsMoves}
 use Rattle.choice_runs.specs.Servers.{State, AreApartAt}
 use Rattle.choice_runs.specs.Requests.{Others, Beside, Work, Desk, IsKept, AreKept, desk_of, Stands}
+use Rattle.choice_runs.proofs.Asides.{put_aside}
 use Rattle.choice_runs.proofs.AtServer.{both_are, none_is}
 use Rattle.choice_runs.proofs.Dropping.{left_on}
 use Rattle.choice_runs.proofs.Firing.{none_past}
@@ -85,7 +85,7 @@ module _ (g : Choosing) (others : Others) (phase : ℕ → Phase) (t : ℕ) (req
     left = m.left;
     all = m.all;
     tried = m.tried;
-    waits = λ e i r p. (let w = m.waits e i r p in record { within = w.within; ticket = w.ticket; waiting = w.waiting; named = w.named });
+    waits = λ e i r p. (let w = m.waits e i r p in record { within = w.within; fits = w.fits; ticket = w.ticket; waiting = w.waiting; named = w.named });
     apart = m.apart;
     deferred = m.deferred;
     timer = m.timer;
@@ -143,6 +143,7 @@ module _ (g : Choosing) (others : Others) (phase : ℕ → Phase) (t : ℕ) (req
       kept = kept_then;
       foreign = st.foreign;
       timers = st.timers;
+      calm = λ at frames told. put_aside g count t fresh table table v (λ u other ne m. m) (λ i due timer set late. absurd (cc)) (st.calm at frames told);
       is_open = st.is_open;
       drawn = st.drawn;
       due = st.due;

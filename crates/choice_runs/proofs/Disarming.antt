@@ -18,6 +18,7 @@ use Rattle.client_ties.proofs.Tables.{at_frees, sorted_frees}
 use Rattle.choice_runs.specs.Choosing.{Choosing}
 use Rattle.choice_runs.specs.Servers.{State, Listed, AreTied}
 use Rattle.choice_runs.specs.Requests.{Beside, Work, Begun, Desk, IsKept, AreKept, desk_of, Stands}
+use Rattle.choice_runs.proofs.Asides.{calm_aside}
 use Rattle.choice_runs.proofs.AtServer.{both_are, set_here, set_there, set_length}
 use Rattle.choice_runs.proofs.Changing.{Changes, changed}
 use Rattle.choice_runs.proofs.ServerCalls.{in_conf}
@@ -60,6 +61,8 @@ module _ (g : Choosing) where
           kept = changed g t job (disarmed job) over (desk_of g (with_at t (Some job) tab) named c v x) d' changes st.kept;
           foreign = λ j u s a is at own. st.foreign j u s a (was j u is).1 at own;
           timers = (st.timers.0, sorted_frees i 0 st.timers.0 c.timers st.timers.1);
+          calm = λ at frames told u other j due is timer set late. calm_aside g current t job (disarmed job) tab v refl (st.calm at frames told) u other j due is timer
+              (was_there i (λ (j : ℕ). due_of j v.timers.set) j due (sym (dues_without v i j st.servers.fair) ∙ set)).1 late;
           is_open = st.is_open;
           drawn = st.drawn;
           due = λ j m are is. dues_without v i j st.servers.fair ∙ (with_there i None (λ (j : ℕ). due_of j v.timers.set) j (λ same. st.own j t are (subst (λ j. entry_at j c.timers ≡ Some t) same mine.0)) ∙ st.due j m are is);
@@ -97,7 +100,7 @@ module _ (g : Choosing) where
               left = m.left;
               all = m.all;
               tried = m.tried;
-              waits = λ b p r q. (let w = m.waits b p r q in record { within = w.within; ticket = w.ticket; waiting = w.waiting; named = w.named });
+              waits = λ b p r q. (let w = m.waits b p r q in record { within = w.within; fits = w.fits; ticket = w.ticket; waiting = w.waiting; named = w.named });
               apart = m.apart;
               deferred = m.deferred;
               timer = λ j p. (let q = m.timer j p in (
@@ -120,7 +123,7 @@ module _ (g : Choosing) where
                 left = here.left;
                 all = here.all;
                 tried = here.tried;
-                waits = λ b p r q. (let w = here.waits b p r q in record { within = w.within; ticket = w.ticket; waiting = w.waiting; named = w.named });
+                waits = λ b p r q. (let w = here.waits b p r q in record { within = w.within; fits = w.fits; ticket = w.ticket; waiting = w.waiting; named = w.named });
                 apart = here.apart;
                 deferred = here.deferred;
                 timer = λ j p. absurd (cc);
@@ -159,6 +162,7 @@ module _ (g : Choosing) where
       kept = subst (λ (o : ℕ → ℕ → Option ℕ). AreKept g over dropping (record (desk_of g jobs named c v x) { waiting = o })) (fun_ext (λ q. fun_ext (λ i. same_owner q i))) st.kept;
       foreign = λ i t q e is found o. (let w = was q e found in st.foreign i t q w.0 is w.1 (subst (λ u. g.Owns u i) w.2 o));
       timers = st.timers;
+      calm = st.calm;
       is_open = st.is_open;
       drawn = st.drawn;
       due = st.due;

@@ -24,7 +24,7 @@ use Rattle.choice_runs.specs.Choosing.{Choosing}
 use Rattle.client_ties.specs.Leading.{Arrives}
 use Rattle.choice_runs.specs.Servers.{State, Listed, AfterCall, IsDropped}
 use Rattle.client_ties.specs.WholeTie.{Follows}
-use Rattle.choice_runs.specs.Requests.{Beside, Work, Begun, Desk, Waits, AreKept, AreApart, desk_of, Stands, Went}
+use Rattle.choice_runs.specs.Requests.{Beside, Work, Begun, Desk, Waits, AreKept, AreApart, desk_of, Stands, Went, AreAside}
 use Rattle.choice_runs.proofs.AtServer.{both_are, none_is, set_here, set_there}
 use Rattle.choice_runs.proofs.Keeping.{Differ, one_dropped, none_dropped, waits_on}
 use Rattle.choice_runs.proofs.Leading.{leads_on, up_here, up_other}
@@ -72,12 +72,13 @@ module _ (g : Choosing) where
 
   -- Of v, u has timers less of its own.
   pub record IsWithout (Own : ℕ → Type 0) (v u : View) : Type 0 where
+    pub now : u.now ≡ v.now
     pub next : u.timers.next ≡ v.timers.next
     pub place : u.place ≡ v.place
     pub dues : (i due : ℕ) → (Own i → ⊥) → due_of i v.timers.set ≡ Some due → due_of i u.timers.set ≡ Some due
 
   pub without_none : (Own : ℕ → Type 0) (v : View) → IsWithout Own v v
-  without_none Own v = record { next = refl; place = refl; dues = λ i due none is. is }
+  without_none Own v = record { now = refl; next = refl; place = refl; dues = λ i due none is. is }
 
   -- a server that may be called may be while more places are given
   pub open_on : (phase : Phase) (a b : ℕ) → a ≤ b → IsOpen phase a → IsOpen phase b
@@ -129,10 +130,16 @@ module _ (g : Choosing) where
     pub is_open_on : (q : ℕ) → IsOpen (phase q) v.place → after q ≡ phase q → IsOpen (after q) w.place
     is_open_on q o same = open_on (after q) v.place w.place (subst (λ n. n ≤ w.place) less.place call.goes_on.place) (subst (λ p. IsOpen p v.place) (sym same) o)
 
-    pub stands_on : ((q : ℕ) → (current ≡ q → ⊥) → after q ≡ phase q) → (jobs' : ℕ → Option (Work g)) (named' : ℕ → ℕ → Option ℕ) (over' : ℕ) (dropping' : List (Begun g)) → (b.posted ≡ []) × ((hi : ℕ) × Sorted 0 hi b.waiting)
+    -- requests that are due stay aside
+    pub aside_on : AreAside g current jobs v → AreAside g current jobs w
+    aside_on are t job i due is timer set late =
+        (let k = (st.kept.kept t job is).timer i timer in
+        are t job i due is timer (subst (λ n. due_of i v.timers.set ≡ Some n) (both_are (due_of i w.timers.set) k.1.0 due (dues_on i t k.1.0 k.0 k.1.1) set) k.1.1) (subst (λ n. due ≤ n) (call.goes_on.now ∙ less.now) late))
+
+    pub stands_on : ((q : ℕ) → after q ≡ phase q) → (jobs' : ℕ → Option (Work g)) (named' : ℕ → ℕ → Option ℕ) (over' : ℕ) (dropping' : List (Begun g)) → (AreAside g current jobs w → AreAside g current jobs' w) → (b.posted ≡ []) × ((hi : ℕ) × Sorted 0 hi b.waiting)
         → ((current ≡ s → ⊥) → (i : ℕ) → named' s i ≡ g.names b.upstream i) → (current ≡ s → ⊥) → ((q i : ℕ) → (s ≡ q → ⊥) → named' q i ≡ named q i)
         → AreKept g over' dropping' (desk_of g jobs' named' (record c { servers = set c.servers s b }) w call.end) → Stands g beside after current jobs' named' over' dropping' (record c { servers = set c.servers s b }) w call.end
-    stands_on phases jobs' named' over' dropping' quiet here aside there kept = record {
+    stands_on phases jobs' named' over' dropping' calms quiet here aside there kept = record {
       servers = call.tied;
       quiet = λ q e is. each_number (λ q. slice_get (set c.servers s b) q ≡ Some e → (e.posted ≡ []) × ((hi : ℕ) × Sorted 0 hi e.waiting)) s
           (λ is. subst (λ (e : Server g.U). (e.posted ≡ []) × ((hi : ℕ) × Sorted 0 hi e.waiting)) (both_are (slice_get (set c.servers s b) s) b e (set_here c.servers s a b at) is) quiet)
@@ -145,7 +152,8 @@ module _ (g : Choosing) where
       kept = kept;
       foreign = λ i t q e is found o. foreign_on i t q e is found o;
       timers = st.timers;
-      is_open = λ q lt ne. is_open_on q (st.is_open q lt ne) (phases q ne);
+      calm = λ at frames told. calms (aside_on (st.calm at frames (sym (phases current) ∙ told)));
+      is_open = λ q lt ne. is_open_on q (st.is_open q lt ne) (phases q);
       drawn = drawn_on;
       due = due_on;
       own = st.own;
@@ -188,7 +196,7 @@ module _ (g : Choosing) where
       where
         go : (a : Server g.U) × (slice_get c.servers e.server ≡ Some a) → IfLeft (AreOff es named c v x) (drops_at g.below e.server e.lower r c.servers v)
         go found = on (drops_at g.below e.server e.lower r c.servers v)
-            (one_drops g phase c.servers v x e.server a st.servers found.1 (st.quiet e.server a found.1).0 over e.lower r (st.is_open e.server w.within other) none
+            (one_drops g phase c.servers v x e.server a st.servers found.1 (st.quiet e.server a found.1).0 over e.lower r w.fits (st.is_open e.server w.within other) none
             (sym (st.is_named e.server a found.1 other (g.ticket r)) ∙ subst (λ i. named e.server i ≡ Some over) (sym w.ticket) w.named) w.ticket)
           where
             a : Server g.U
@@ -199,7 +207,7 @@ module _ (g : Choosing) where
               named' = named';
               end = d.call.end;
               went = record { outs = d.call.made.outs; leads = d.call.leads; put = d.call.put; goes_on = follows_of v y d.call.goes_on; now = d.call.moved.now; asked = d.call.moved.asked; pending = d.call.moved.pending };
-              stands = stands_on beside phase phase current jobs named over (e ∷ es) c v x st e.server a d.server found.1 (with_at e.lower None (g.names a.upstream)) [] x x v y (without_none (g.Owns a.upstream) v) d.call (λ q ne. refl) jobs named' over es
+              stands = stands_on beside phase phase current jobs named over (e ∷ es) c v x st e.server a d.server found.1 (with_at e.lower None (g.names a.upstream)) [] x x v y (without_none (g.Owns a.upstream) v) d.call (λ q. refl) jobs named' over es (λ are. are)
                   (d.posted, ((st.quiet e.server a found.1).1.0, subst (λ (ws : List (ℕ × ℕ)). Sorted 0 (st.quiet e.server a found.1).1.0 ws) (sym d.waiting) (sorted_frees e.lower 0 (st.quiet e.server a found.1).1.0 a.waiting (st.quiet e.server a found.1).1.1)))
                   (λ ne i. here i ∙ names_now i) other there kept;
               held = d.call.moved.held;
@@ -298,7 +306,7 @@ module _ (g : Choosing) where
             → ((named : ℕ → ℕ → Option ℕ) (c : Choice Request g.U g.R) (v : View) (x : State g) → x.held over ≡ None → AreApart es → ((b : Begun g) → IsIn b es → (r : g.R) → b.response ≡ Some r → (current ≡ b.server → ⊥) × Waits g (desk_of g jobs named c v x) t0 over b r)
             → Stands g beside phase current jobs named over es c v x → IfLeft (AreOff [] named c v x) (drops_each g.below es c.servers v))
             → IfLeft (AreOff [] named c v x) (option_and_then (λ z. drops_each g.below es z.0 z.1) (drops_response g.below e c.servers v o))
-        by None is ih = ih named c v x none apart.1 (λ b m r p. waits b (inr m) r p) (record { servers = st.servers; quiet = st.quiet; is_named = st.is_named; still = st.still; less = st.less; kept = none_dropped g over e es (desk_of g jobs named c v x) is st.kept; foreign = st.foreign; timers = st.timers; is_open = st.is_open; drawn = st.drawn; due = st.due; own = st.own; far = st.far })
+        by None is ih = ih named c v x none apart.1 (λ b m r p. waits b (inr m) r p) (record { servers = st.servers; quiet = st.quiet; is_named = st.is_named; still = st.still; less = st.less; kept = none_dropped g over e es (desk_of g jobs named c v x) is st.kept; foreign = st.foreign; timers = st.timers; calm = st.calm; is_open = st.is_open; drawn = st.drawn; due = st.due; own = st.own; far = st.far })
         by (Some r) is ih =
             let m = waits e (inl refl) r is in
             left_then (AreOff es named c v x) (AreOff [] named c v x) (λ z. drops_each g.below es z.0 z.1) (drops_at g.below e.server e.lower r c.servers v)

@@ -19,6 +19,7 @@ use Rattle.choice_runs.specs.Choosing.{Choosing}
 use Rattle.client_ties.specs.Leading.{Then}
 use Rattle.choice_runs.specs.Servers.{State, Listed}
 use Rattle.choice_runs.specs.Requests.{Beside, Work, Begun, IsKept, desk_of, Stands, Went}
+use Rattle.choice_runs.proofs.Asides.{gone_aside}
 use Rattle.choice_runs.proofs.Changing.{ended}
 use Rattle.choice_runs.proofs.Disarming.{goes_stopped, again_path, disarms, stands_judged}
 use Rattle.choice_runs.proofs.Dropping.{AreOff, all_off, follows_of, follows_then}
@@ -80,6 +81,7 @@ module _ (g : Choosing) (beside : Beside) (phase : ℕ → Phase) (current : ℕ
           (ap (λ k. with_at k None x.held) numbered) refl 0 calm.kept;
       foreign = calm.foreign;
       timers = calm.timers;
+      calm = λ at frames told. gone_aside g current t (Some (disarmed job)) tab (stopped job.timer v) new (calm.calm at frames told);
       is_open = calm.is_open;
       drawn = calm.drawn;
       due = calm.due;
@@ -100,7 +102,7 @@ module _ (g : Choosing) (beside : Beside) (phase : ℕ → Phase) (current : ℕ
     it_ends = by (drops_each g.below job.started mid.servers told_of)
         (all_off g beside phase current tab job.number t new job.started named mid told_of left
         (ap (λ k. with_at k None x.held job.number) numbered ∙ with_here job.number None x.held) owed.apart
-        (λ b i r p. (others b i r p, (let w = owed_then.waits b i r p in record { within = w.within; ticket = w.ticket; waiting = w.waiting; named = w.named }))) over)
+        (λ b i r p. (others b i r p, (let w = owed_then.waits b i r p in record { within = w.within; fits = w.fits; ticket = w.ticket; waiting = w.waiting; named = w.named }))) over)
       where
         by : (o : Option (Listed g × View)) → IfLeft (AreOff g beside phase current tab job.number t new [] named mid told_of left) o → IfLeft (HasEnded t job.number tab (part_of z.result) rest named c v x) (option_map (λ y. (record mid { servers = y.0 }, y.1)) o)
         by None l = tt

@@ -1,5 +1,5 @@
 -- An estimate has passed: the next server is started.
-use Rattle.std.proofs.Common.{◌≡◌, ℕ, ◌<◌, inl, inr, Bool, ◌||◌, ◌==◌, List, [], ◌∷◌, length, Option, Some, None, refl, sym, ap, subst, ◌∙◌, arith}
+use Rattle.std.proofs.Common.{◌≡◌, ℕ, ◌<◌, inl, inr, Bool, ◌||◌, ◌==◌, List, [], ◌∷◌, Option, Some, None, refl, sym, ap, subst, ◌∙◌, arith}
 use mathlib.Core.Path.{fun_ext}
 use Rattle.std.specs.Prelude.{option_map}
 use Rattle.client_request.specs.Numbered.{entry_at, frees}
@@ -16,9 +16,9 @@ use Rattle.client_ties.specs.PartTie.{Phase, Leads as IfLeft}
 use Rattle.client_ties.proofs.Keys.{with_here, with_there, with_same}
 use Rattle.client_ties.proofs.Tables.{at_frees, sorted_frees, frees_path}
 use Rattle.choice_runs.specs.Choosing.{Choosing}
-use Rattle.choice_runs.specs.Doing.{numbers_of, IsStill, IsAside, HasDone, HasActed, FiringIsMoves}
+use Rattle.choice_runs.specs.Doing.{numbers_of, IsStill, HasDone, HasActed, FiringIsMoves}
 use Rattle.choice_runs.specs.Servers.{State}
-use Rattle.choice_runs.specs.Requests.{Others, Beside, Work, IsKept, IsToStart, AreToStart, desk_of, Stands}
+use Rattle.choice_runs.specs.Requests.{Others, Beside, Work, IsKept, IsToStart, AreToStart, desk_of, Stands, IsAside}
 use Rattle.choice_runs.proofs.AtServer.{none_is}
 use Rattle.choice_runs.proofs.Disarming.{again_path, disarms}
 use Rattle.choice_runs.proofs.Dropping.{left_on}
@@ -78,7 +78,7 @@ module _ (g : Choosing) (others : Others) (phase : ℕ → Phase) (current i t :
       is_table = refl;
       new = at_frees t t 0 table.0 c.jobs table.1 ∙ with_here t None (λ j. entry_at j c.jobs);
       sorted = (table.0, sorted_frees t 0 table.0 c.jobs table.1);
-      stands = record { servers = calm.servers; quiet = calm.quiet; is_named = calm.is_named; still = calm.still; less = calm.less; kept = record { kept = calm.kept.kept; named = calm.kept.named; held = calm.kept.held; timers = calm.kept.timers; apart = calm.kept.apart }; foreign = calm.foreign; timers = calm.timers; is_open = calm.is_open; drawn = calm.drawn; due = calm.due; own = calm.own; far = calm.far };
+      stands = record { servers = calm.servers; quiet = calm.quiet; is_named = calm.is_named; still = calm.still; less = calm.less; kept = record { kept = calm.kept.kept; named = calm.kept.named; held = calm.kept.held; timers = calm.kept.timers; apart = calm.kept.apart }; foreign = calm.foreign; timers = calm.timers; calm = calm.calm; is_open = calm.is_open; drawn = calm.drawn; due = calm.due; own = calm.own; far = calm.far };
     })
       where
         nothing : (y : Posted) (b : List Posted) → b ≡ [] → IsIn y b → ⊥

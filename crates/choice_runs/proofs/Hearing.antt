@@ -1,7 +1,7 @@
 -- A server hears something, and what it posted is taken before the next one hears.
-use Rattle.std.proofs.Common.{◌≡◌, ℕ, suc, ◌+◌, ◌<◌, ◌≤◌, inl, inr, false, List, [], ◌++◌, length, map, Option, Some, None, slice_get, refl, sym, ap, subst, ◌∙◌}
+use Rattle.std.proofs.Common.{◌≡◌, ℕ, suc, ◌<◌, ◌≤◌, inl, inr, false, List, [], ◌++◌, length, map, Option, Some, None, slice_get, refl, sym, ap, subst, ◌∙◌, arith}
 use mathlib.Core.Path.{fun_ext}
-use Rattle.std.specs.Prelude.{set, nat_lt}
+use Rattle.std.specs.Prelude.{set}
 use Rattle.std.proofs.lemmas.Option.{slice_get_within}
 use Rattle.client_request.specs.Numbered.{entry_at}
 use Rattle.client_request.specs.Request.{Request}
@@ -21,13 +21,16 @@ use Rattle.client_ties.proofs.Keys.{each_number, with_there}
 use Rattle.choice_runs.specs.Choosing.{Choosing}
 use Rattle.choice_runs.specs.Doing.{numbers_of, IsStill, HasActed, HasHeard, HasTold, TellingIsMoves, TakingIsMoves, WakingIsMoves}
 use Rattle.choice_runs.specs.Servers.{State, Listed, IsHeard, IsTold}
-use Rattle.choice_runs.specs.Requests.{Others, Beside, Desk, AreKept, desk_of, Stands}
+use Rattle.choice_runs.specs.Requests.{Others, Beside, Desk, AreKept, desk_of, Stands, AreAside}
 use Rattle.choice_runs.proofs.AtServer.{both_are, set_here, set_there}
-use Rattle.choice_runs.proofs.Dropping.{IsWithout, without_none, dues_on, foreign_on, drawn_on, due_on, far_then, is_open_on, left_then, left_on, owner_there, owner_here, follows_of, went_then}
+use Rattle.choice_runs.proofs.Dropping.{IsWithout, without_none, dues_on, foreign_on, drawn_on, due_on, far_then, is_open_on, aside_on, left_then, left_on, owner_there, owner_here, follows_of, went_then}
 use Rattle.choice_runs.proofs.Leading.{up_other}
 use Rattle.choice_runs.proofs.ServerCalls.{one_tells, one_takes, one_fires}
 use Rattle.choice_runs.proofs.Settling.{gives_less}
 use Rattle.choice_runs.proofs.Taking.{all_settle}
+
+not_late : (a b : ℕ) → a < b → b ≤ a → ⊥
+not_late a b lt le = omega arith
 
 module _ (g : Choosing) where
   -- timers of servers go on, and nothing else changes
@@ -47,7 +50,7 @@ module _ (g : Choosing) where
           left = m.left;
           all = m.all;
           tried = m.tried;
-          waits = λ e i r p. (let w = m.waits e i r p in record { within = w.within; ticket = w.ticket; waiting = w.waiting; named = w.named });
+          waits = λ e i r p. (let w = m.waits e i r p in record { within = w.within; fits = w.fits; ticket = w.ticket; waiting = w.waiting; named = w.named });
           apart = m.apart;
           deferred = m.deferred;
           timer = λ i p. (let q = m.timer i p in (q.0, (q.1.0, dues i u q.1.0 q.0 q.1.1)));
@@ -63,9 +66,6 @@ module _ (g : Choosing) where
     abbrev beside : Beside
     beside = record { others = others; left = left }
 
-    abbrev jobs : ℕ → Option _
-    jobs = λ j. entry_at j c.jobs
-
     abbrev st : Stands g (record { others = others; left = left }) phase s (λ j. entry_at j c.jobs) named 0 [] c v x
     st = is_still.stands
 
@@ -76,7 +76,7 @@ module _ (g : Choosing) where
     named_so i = is_still.names i ∙ sym (st.still a at i)
 
     -- It hears something, from a view where timers of its own may have been taken out.
-    module _ (after : ℕ → Phase) (u : View) (phases : (q : ℕ) → (s ≡ q → ⊥) → after q ≡ phase q) (fewer : IsWithout g (g.Owns a.upstream) v u) (ps : List OnBoard) (servers : Listed g) (w : View) (h : IsHeard g after s a c.servers u x (ps, servers) w) where
+    module _ (after : ℕ → Phase) (u : View) (phases : (q : ℕ) → (s ≡ q → ⊥) → after q ≡ phase q) (fewer : IsWithout g (g.Owns a.upstream) v u) (calm : (at frames : ℕ) → after s ≡ Told at frames → AreAside g s (λ j. entry_at j c.jobs) v) (ps : List OnBoard) (servers : Listed g) (w : View) (h : IsHeard g after s a c.servers u x (ps, servers) w) where
       abbrev b : Server g.U
       b = h.server
 
@@ -105,6 +105,7 @@ module _ (g : Choosing) where
             (λ i t due is m. dues_on g beside phase after s (λ j. entry_at j c.jobs) named 0 [] c v x st s a b at (g.names a.upstream) ps x x u w fewer h.call i t due is m) st.kept;
         foreign = λ i t q e is found o. foreign_on g beside phase after s (λ j. entry_at j c.jobs) named 0 [] c v x st s a b at (g.names a.upstream) ps x x u w fewer h.call i t q e is found o;
         timers = st.timers;
+        calm = λ place frames told. aside_on g beside phase after s (λ j. entry_at j c.jobs) named 0 [] c v x st s a b at (g.names a.upstream) ps x x u w fewer h.call (calm place frames told);
         is_open = λ q lt ne. is_open_on g beside phase after s (λ j. entry_at j c.jobs) named 0 [] c v x st s a b at (g.names a.upstream) ps x x u w fewer h.call q (st.is_open q lt ne) (phases q ne);
         drawn = λ i are. drawn_on g beside phase after s (λ j. entry_at j c.jobs) named 0 [] c v x st s a b at (g.names a.upstream) ps x x u w fewer h.call i are;
         due = λ i m are is. due_on g beside phase after s (λ j. entry_at j c.jobs) named 0 [] c v x st s a b at (g.names a.upstream) ps x x u w fewer h.call i m are is;
@@ -138,8 +139,8 @@ module _ (g : Choosing) where
           (h.call.moved.board ∙ ap (λ (b : List Posted). b ++ map (tag s) h.call.made.posts) is_still.board)))
 
     -- it is told something, or takes a frame
-    told_settles : (heard : Heard) (MayBe : (place frames : ℕ) → Type 0) → IfLeft (IsTold g phase s a c.servers v x MayBe) (hears_at g.below s heard c.servers v) → IfLeft (HasTold g others phase s MayBe (numbers_of g c.jobs) v x) (hears_one g.below g.settings s heard c v)
-    told_settles heard MayBe l = left_then g (IsTold g phase s a c.servers v x MayBe) (HasTold g others phase s MayBe (numbers_of g c.jobs) v x) (λ z. settles_all g.below g.settings s z.0.0 (record c { servers = z.0.1 }) z.1) (hears_at g.below s heard c.servers v)
+    told_settles : (heard : Heard) (MayBe : (place frames : ℕ) → Type 0) → AreAside g s (λ j. entry_at j c.jobs) v → IfLeft (IsTold g phase s a c.servers v x MayBe) (hears_at g.below s heard c.servers v) → IfLeft (HasTold g others phase s MayBe (numbers_of g c.jobs) v x) (hears_one g.below g.settings s heard c v)
+    told_settles heard MayBe calm l = left_then g (IsTold g phase s a c.servers v x MayBe) (HasTold g others phase s MayBe (numbers_of g c.jobs) v x) (λ z. settles_all g.below g.settings s z.0.0 (record c { servers = z.0.1 }) z.1) (hears_at g.below s heard c.servers v)
         (λ y w t. left_on g (HasActed g others (with_up s (Told t.at t.left) phase) s (numbers_of g c.jobs) (g.names ((t.heard).server).upstream) w.more v x) (HasTold g others phase s MayBe (numbers_of g c.jobs) v x) (settles_all g.below g.settings s y.0 (record c { servers = y.1 }) w)
         (λ d z r. record {
           at = t.at;
@@ -148,13 +149,13 @@ module _ (g : Choosing) where
           left = g.names ((t.heard).server).upstream;
           acted = subst (λ m. HasActed g others (with_up s (Told t.at t.left) phase) s (numbers_of g c.jobs) (g.names ((t.heard).server).upstream) m v x d z) t.more r;
         })
-        (settles_heard (with_up s (Told t.at t.left) phase) v (λ q ne. up_other s q (Told t.at t.left) phase ne) (without_none g (g.Owns a.upstream) v) y.0 y.1 w t.heard)) l
+        (settles_heard (with_up s (Told t.at t.left) phase) v (λ q ne. up_other s q (Told t.at t.left) phase ne) (without_none g (g.Owns a.upstream) v) (λ at frames told. calm) y.0 y.1 w t.heard)) l
 
-    pub tells_it : (what : What) → phase s ≡ Untold what → NoneDue (g.Owns a.upstream) (sight v) → v.more ≡ false → IfLeft (HasTold g others phase s (MayLeave what) (numbers_of g c.jobs) v x) (hears_one g.below g.settings s (told what) c v)
-    tells_it what untold early calm = told_settles (told what) (MayLeave what) (one_tells g phase c.servers v x s a st.servers at (st.quiet s a at).0 what untold early calm)
+    pub tells_it : (what : What) → phase s ≡ Untold what → NoneDue (g.Owns a.upstream) (sight v) → ((i t due : ℕ) → entry_at i c.timers ≡ Some t → due_of i v.timers.set ≡ Some due → v.now < due) → v.more ≡ false → IfLeft (HasTold g others phase s (MayLeave what) (numbers_of g c.jobs) v x) (hears_one g.below g.settings s (told what) c v)
+    tells_it what untold early none calm = told_settles (told what) (MayLeave what) (λ t job i due is timer set late. absurd (not_late v.now due (none i t due ((st.kept.kept t job is).timer i timer).0 set) late)) (one_tells g phase c.servers v x s a st.servers at (st.quiet s a at).0 what untold early calm)
 
     pub takes_it : (p n : ℕ) → phase s ≡ Told p (suc n) → v.more ≡ false → IfLeft (HasTold g others phase s (λ q frames. (q ≡ p) × (frames ≤ n)) (numbers_of g c.jobs) v x) (hears_one g.below g.settings s (more_at p) c v)
-    takes_it p n is calm = told_settles (more_at p) (λ q frames. (q ≡ p) × (frames ≤ n)) (one_takes g phase c.servers v x s a st.servers at (st.quiet s a at).0 p n is calm)
+    takes_it p n is calm = told_settles (more_at p) (λ q frames. (q ≡ p) × (frames ≤ n)) (st.calm p (suc n) is) (one_takes g phase c.servers v x s a st.servers at (st.quiet s a at).0 p n is calm)
 
     -- a timer of its own fires
     module _ (i due : ℕ) (own : g.Owns a.upstream i) where
@@ -163,6 +164,7 @@ module _ (g : Choosing) where
 
       fewer : IsWithout g (g.Owns a.upstream) v gone
       fewer = record {
+        now = refl;
         next = refl;
         place = refl;
         dues = λ j m none is. dues_without v i j st.servers.fair ∙ (with_there i None (λ (j : ℕ). due_of j v.timers.set) j (λ same. none (subst (λ j. g.Owns a.upstream j) same own)) ∙ is);
@@ -172,11 +174,11 @@ module _ (g : Choosing) where
       wakes_it what untold set passed = left_then g (IsHeard g phase s a c.servers gone x) (HasHeard g others phase s (numbers_of g c.jobs) gone x) (λ z. settles_all g.below g.settings s z.0.0 (record c { servers = z.0.1 }) z.1) (hears_at g.below s (due_timer i) c.servers gone)
           (λ y w h. left_on g (HasActed g others phase s (numbers_of g c.jobs) (g.names (h.server).upstream) w.more gone x) (HasHeard g others phase s (numbers_of g c.jobs) gone x) (settles_all g.below g.settings s y.0 (record c { servers = y.1 }) w)
           (λ d z r. record { left = g.names (h.server).upstream; acted = subst (λ m. HasActed g others phase s (numbers_of g c.jobs) (g.names (h.server).upstream) m gone x d z) (sym r.says) r })
-          (settles_heard phase gone (λ q ne. refl) fewer y.0 y.1 w h))
+          (settles_heard phase gone (λ q ne. refl) fewer st.calm y.0 y.1 w h))
           (one_fires g phase c.servers v x s a st.servers at (st.quiet s a at).0 i due own set passed what untold)
 
 pub telling_is_moves : (g : Choosing) → TellingIsMoves g
-telling_is_moves g others phase s a what left named c v x is_still at untold early calm = tells_it g others left phase s named c v x a is_still at what untold early calm
+telling_is_moves g others phase s a what left named c v x is_still at untold early none calm = tells_it g others left phase s named c v x a is_still at what untold early none calm
 
 pub taking_is_moves : (g : Choosing) → TakingIsMoves g
 taking_is_moves g others phase s a p n left named c v x is_still at is calm = takes_it g others left phase s named c v x a is_still at p n is calm

@@ -13,7 +13,7 @@ module _ (g : Choosing) where
     pub dues : (i t due : ℕ) → d.timers i ≡ Some t → d.dues i ≡ Some due → d'.dues i ≡ Some due
 
   pub waits_on : (s lower : ℕ) (d d' : Desk g) (t k : ℕ) (e : Begun g) (r : g.R) → Differ s lower d d' → (s ≡ e.server → lower ≡ e.lower → ⊥) → Waits g d t k e r → Waits g d' t k e r
-  waits_on s lower d d' t k e r f ne w = record { within = w.within; ticket = w.ticket; waiting = f.waiting e.server e.lower ne ∙ w.waiting; named = f.named e.server e.lower ne ∙ w.named }
+  waits_on s lower d d' t k e r f ne w = record { within = w.within; fits = w.fits; ticket = w.ticket; waiting = f.waiting e.server e.lower ne ∙ w.waiting; named = f.named e.server e.lower ne ∙ w.named }
 
   -- A server gives up a request that is over.
   pub one_dropped : (over : ℕ) (e : Begun g) (es : List (Begun g)) (d : Desk g) (d' : Desk g) (t : ℕ) → d.jobs t ≡ None → d.waiting e.server e.lower ≡ Some t

@@ -1,5 +1,6 @@
 pub mod AtServer
 pub mod Leading
+pub mod Asides
 pub mod Opening
 pub mod ServerCalls
 pub mod Keeping

@@ -85,7 +85,7 @@ module _ (g : Choosing) where
       elsewhere u k e r w p q = none_is (d.named e.server e.lower) k (subst₂ (λ s i. d.named s i ≡ None) p q n.new) w.named
 
       waits_so : (u k : ℕ) (e : Begun g) (r : g.R) → Waits g d u k e r → Waits g d' u k e r
-      waits_so u k e r w = record { within = w.within; ticket = w.ticket; waiting = n.differ.waiting e.server e.lower (elsewhere u k e r w) ∙ w.waiting; named = n.differ.named e.server e.lower (elsewhere u k e r w) ∙ w.named }
+      waits_so u k e r w = record { within = w.within; fits = w.fits; ticket = w.ticket; waiting = n.differ.waiting e.server e.lower (elsewhere u k e r w) ∙ w.waiting; named = n.differ.named e.server e.lower (elsewhere u k e r w) ∙ w.named }
 
       timer_so : (u i : ℕ) → (d.timers i ≡ Some u) × ((due : ℕ) × (d.dues i ≡ Some due)) → (d'.timers i ≡ Some u) × ((due : ℕ) × (d'.dues i ≡ Some due))
       timer_so u i q = (subst (λ (h : ℕ → Option ℕ). h i ≡ Some u) (sym n.timers) q.0, (q.1.0, n.differ.dues i u q.1.0 q.0 q.1.1))

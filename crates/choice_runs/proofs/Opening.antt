@@ -1,5 +1,5 @@
 -- Which places a server opens with its moves: none but the next ones.
-use Rattle.std.proofs.Common.{◌≡◌, ℕ, ◌<◌, ◌≤◌, inl, inr, true, arith, le_refl}
+use Rattle.std.proofs.Common.{ℕ, ◌<◌, ◌≤◌, inl, inr, arith, le_refl}
 use Rattle.client_request.specs.Request.{Request}
 use Rattle.headline.specs.machine.Part.{Act}
 use Rattle.client_ties.specs.Chains.{Chain, Stays, Goes, Begins, Calls, then_act}

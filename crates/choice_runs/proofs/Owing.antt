@@ -1,7 +1,6 @@
 -- Which of the servers that were started owe a request its result, as one gives it, or as one more is started.
-use Rattle.std.proofs.Common.{◌≡◌, ℕ, suc, ◌+◌, ◌-◌, ◌<◌, inl, inr, Bool, true, false, ◌==◌, if◌then◌else◌, ◌&&◌, List, [], ◌∷◌, ◌++◌, length, Option, Some, None, is_none, slice_get, refl, sym, ap, subst, ◌∙◌, arith}
+use Rattle.std.proofs.Common.{◌≡◌, ℕ, suc, ◌-◌, inl, inr, Bool, true, false, ◌==◌, if◌then◌else◌, ◌&&◌, List, [], ◌∷◌, ◌++◌, length, Option, Some, None, is_none, slice_get, refl, sym, ap, subst, ◌∙◌, arith}
 use Rattle.client_choice.specs.Choice.{silenced, all_gave, is_of}
-use Rattle.client_choice.specs.declared.job.Entry.{Entry}
 use Rattle.client_choice.specs.declared.job.Started.{Started}
 use Rattle.choice_runs.specs.Awaiting.{Owes, OneOwes, LastOwes}
 use Rattle.choice_runs.proofs.Silencing.{silenced_cons}

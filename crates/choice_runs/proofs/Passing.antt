@@ -1,12 +1,13 @@
 -- What a server takes no notice of.
-use Rattle.std.proofs.Common.{◌≡◌, ℕ, ◌<◌, [], length, Some, refl, sym, ap, subst, ◌∙◌}
+use Rattle.std.proofs.Common.{◌≡◌, ℕ, ◌<◌, [], length, Some, sym, ap, subst, ◌∙◌}
 use Rattle.std.specs.Prelude.{option_and_then}
 use Rattle.client_request.specs.Request.{Request}
 use Rattle.client_request.specs.View.{View, Heard, told, more_at, due_timer}
 use Rattle.client_choice.specs.Choice.{Choice, settles_all}
 use Rattle.client_choice.specs.Servers.{hears_at}
 use Rattle.headline.specs.machine.Client.{with_up}
-use Rattle.client_ties.specs.PartTie.{Passed, IsOpen}
+use Rattle.client_request.specs.declared.event.What.{What}
+use Rattle.client_ties.specs.PartTie.{Told, Passed, IsOpen}
 use Rattle.client_ties.proofs.Keys.{each_number}
 use Rattle.choice_runs.specs.Choosing.{Choosing}
 use Rattle.choice_runs.specs.Doing.{IsNothing, IgnoringIsNothing}
@@ -15,6 +16,9 @@ use Rattle.choice_runs.proofs.ServerCalls.{event_passes, frame_passes, passed_ti
 
 some_is : (a b : ℕ) → Some a ≡ Some b → a ≡ b
 some_is a b e = cc
+
+not_told : (w : What) (at frames : ℕ) → Passed w ≡ Told at frames → ⊥
+not_told w at frames e = cc
 
 nothing_so : (g : Choosing) (s : ℕ) (h : Heard) (c : Choice Request g.U g.R) (v : View) → hears_at g.below s h c.servers v ≡ Some (([], c.servers), v) → IsNothing g s h c v
 nothing_so g s h c v is = ap (λ o. option_and_then (λ x. settles_all g.below g.settings s x.0.0 (record c { servers = x.0.1 }) x.1) o) is
@@ -40,6 +44,8 @@ ignoring_is_nothing g = record {
       kept = st.kept;
       foreign = st.foreign;
       timers = st.timers;
+      calm = λ at frames told. st.calm at frames (each_number (λ q. with_up s (Passed what) phase q ≡ Told at frames → phase q ≡ Told at frames) s
+          (λ told. absurd (not_told what at frames (sym (up_here s (Passed what) phase) ∙ told))) (λ q other told. sym (up_other s q (Passed what) phase other) ∙ told) current told);
       is_open = λ q lt ne. each_number (λ q. q < length (g.c).servers → (current ≡ q → ⊥) → IsOpen (with_up s (Passed what) phase q) v.place) s
           (λ lt ne. subst (λ f. IsOpen f v.place) (sym (up_here s (Passed what) phase)) (λ r is. subst (λ r. r < v.place) (some_is p r (sym place ∙ is)) below))
           (λ q other lt ne. subst (λ f. IsOpen f v.place) (sym (up_other s q (Passed what) phase other)) (st.is_open q lt ne)) q lt ne;

@@ -15,6 +15,7 @@ use Rattle.choice_runs.specs.Choosing.{Choosing}
 use Rattle.client_ties.specs.Leading.{Leads}
 use Rattle.choice_runs.specs.Servers.{State}
 use Rattle.choice_runs.specs.Requests.{Beside, Work, Desk, IsKept, desk_of, Stands}
+use Rattle.choice_runs.proofs.Asides.{change_aside}
 use Rattle.choice_runs.proofs.AtServer.{both_are}
 use Rattle.choice_runs.proofs.Changing.{Changes, changed}
 use Rattle.choice_runs.proofs.Disarming.{again_path}
@@ -79,7 +80,7 @@ module _ (g : Choosing) (beside : Beside) (phase : ℕ → Phase) (current : ℕ
       left = mine.left;
       all = mine.all;
       tried = mine.tried;
-      waits = λ b p r m. (let w = mine.waits b p r m in record { within = w.within; ticket = w.ticket; waiting = w.waiting; named = w.named });
+      waits = λ b p r m. (let w = mine.waits b p r m in record { within = w.within; fits = w.fits; ticket = w.ticket; waiting = w.waiting; named = w.named });
       apart = mine.apart;
       deferred = best_with mine.ask.kept_back given job.deferred mine.deferred;
       timer = mine.timer;
@@ -93,7 +94,7 @@ module _ (g : Choosing) (beside : Beside) (phase : ℕ → Phase) (current : ℕ
       left = k.left;
       all = k.all;
       tried = k.tried;
-      waits = λ b p r m. (let w = k.waits b p r m in record { within = w.within; ticket = w.ticket; waiting = w.waiting; named = w.named });
+      waits = λ b p r m. (let w = k.waits b p r m in record { within = w.within; fits = w.fits; ticket = w.ticket; waiting = w.waiting; named = w.named });
       apart = k.apart;
       deferred = k.deferred;
       timer = k.timer;
@@ -126,6 +127,8 @@ module _ (g : Choosing) (beside : Beside) (phase : ℕ → Phase) (current : ℕ
       kept = changed g t job better 0 old new changes st.kept;
       foreign = st.foreign;
       timers = st.timers;
+      calm = λ at frames told. change_aside g current t job better tab v
+          (λ i due timer set late. (let m = st.calm at frames told t job i due (with_here t (Some job) tab) timer set late in record { aside = m.aside; clear = m.clear })) (st.calm at frames told);
       is_open = st.is_open;
       drawn = st.drawn;
       due = st.due;

@@ -25,7 +25,8 @@ use Rattle.client_ties.specs.Leading.{Leads}
 use Rattle.choice_runs.specs.Servers.{State}
 use Rattle.choice_runs.specs.Doing.{WaitsOn, Goes, HasDone}
 use Rattle.client_ties.specs.WholeTie.{Follows}
-use Rattle.choice_runs.specs.Requests.{Beside, Work, Begun, Desk, IsKept, IsOwed, IsToStart, AreKept, desk_of, Stands}
+use Rattle.choice_runs.specs.Requests.{Beside, Work, Begun, Desk, IsKept, IsOwed, IsToStart, AreKept, desk_of, Stands, AreAside}
+use Rattle.choice_runs.proofs.Asides.{gone_aside}
 use Rattle.choice_runs.proofs.AtServer.{both_are, none_is}
 use Rattle.choice_runs.proofs.Changing.{ended}
 use Rattle.choice_runs.proofs.Disarming.{again_path}
@@ -71,6 +72,7 @@ module _ (g : Choosing) (beside : Beside) (phase : ℕ → Phase) (current : ℕ
     kept = record { kept = st.kept.kept; named = λ s i k lt is. elim (st.kept.named s i k lt is) [ inl m ↦ inl m | inr o ↦ absurd (nothing k s i o.1) ]; held = st.kept.held; timers = st.kept.timers; apart = st.kept.apart };
     foreign = st.foreign;
     timers = st.timers;
+    calm = st.calm;
     is_open = st.is_open;
     drawn = st.drawn;
     due = st.due;
@@ -84,7 +86,7 @@ module _ (g : Choosing) (beside : Beside) (phase : ℕ → Phase) (current : ℕ
   -- other requests in the table
   pub stands_as : (jobs jobs' : ℕ → Option (Work g)) (named : ℕ → ℕ → Option ℕ) (c : Choice Request g.U g.R) (table : List (ℕ × Work g)) (v : View) (x : State g) → jobs' ≡ jobs → Stands g beside phase current jobs named 0 [] c v x → Stands g beside phase current jobs' named 0 [] (record c { jobs = table }) v x
   stands_as jobs jobs' named c table v x same st = subst (λ f. Stands g beside phase current f named 0 [] (record c { jobs = table }) v x) (sym same)
-      (record { servers = st.servers; quiet = st.quiet; is_named = st.is_named; still = st.still; less = st.less; kept = record { kept = st.kept.kept; named = st.kept.named; held = st.kept.held; timers = st.kept.timers; apart = st.kept.apart }; foreign = st.foreign; timers = st.timers; is_open = st.is_open; drawn = st.drawn; due = st.due; own = st.own; far = st.far })
+      (record { servers = st.servers; quiet = st.quiet; is_named = st.is_named; still = st.still; less = st.less; kept = record { kept = st.kept.kept; named = st.kept.named; held = st.kept.held; timers = st.kept.timers; apart = st.kept.apart }; foreign = st.foreign; timers = st.timers; calm = st.calm; is_open = st.is_open; drawn = st.drawn; due = st.due; own = st.own; far = st.far })
 
   module _ (t : ℕ) (job : Work g) (tab : ℕ → Option (Work g)) (named : ℕ → ℕ → Option ℕ) (c : Choice Request g.U g.R) (v : View) (x : State g) (is_table : tab ≡ (λ j. entry_at j c.jobs)) (new : tab t ≡ None) (sorted : (hi : ℕ) × Sorted 0 hi c.jobs) (st : Stands g beside phase current (with_at t (Some job) tab) named 0 [] c v x) where
     mine : IsKept g (desk_of g (with_at t (Some job) tab) named c v x) t job
@@ -177,6 +179,7 @@ module _ (g : Choosing) (beside : Beside) (phase : ℕ → Phase) (current : ℕ
                       (sym is_table ∙ sym (again_path t None (Some job) tab ∙ fun_ext (λ j. with_same t None tab j new))) refl refl refl (ap (λ k. with_at k None x.held) z.request) refl 0 st.kept);
                   foreign = st.foreign;
                   timers = st.timers;
+                  calm = λ at frames told. subst (λ f. AreAside g current f v) is_table (gone_aside g current t (Some job) tab v new (st.calm at frames told));
                   is_open = st.is_open;
                   drawn = st.drawn;
                   due = st.due;

@@ -18,7 +18,7 @@ use Rattle.client_ties.proofs.Keys.{with_here}
 use Rattle.choice_runs.specs.Choosing.{Choosing}
 use Rattle.choice_runs.specs.Servers.{State}
 use Rattle.choice_runs.specs.Doing.{HasCome, WaitsOn, Goes, HasDone, InHand, RunsAreMoves}
-use Rattle.choice_runs.specs.Requests.{Beside, Work, Begun, IsOwed, Stands, Went}
+use Rattle.choice_runs.specs.Requests.{Beside, Work, Begun, IsOwed, Stands, Went, IsToStart, IsAside}
 use Rattle.choice_runs.proofs.AtServer.{both_are}
 use Rattle.choice_runs.proofs.Beginning.{Gave, Nothing, AResult, HasBegun, begins_do}
 use Rattle.choice_runs.proofs.Disarming.{goes_stopped, disarms}
@@ -86,14 +86,17 @@ module _ (g : Choosing) (beside : Beside) (phase : ℕ → Phase) (current : ℕ
   pub runs_do : (es : List Entry) (t : ℕ) (job : Work g) (tab : ℕ → Option (Work g)) (named : ℕ → ℕ → Option ℕ) (c : Choice Request g.U g.R) (v : View) (x : State g) → InHand g beside phase current t es job tab named c v x → IfLeft (HasDone g beside phase current t job.number tab x.board named v x) (runs g.below g.settings t es job c v)
   runs_do [] t job tab named c v x h = (let p = h.has refl in rests_do g beside phase current t job tab named c v x h.is_table h.new h.sorted h.stands p.0 p.1 (none_of t job tab named c v x h.stands h.clear h.pending))
   runs_do (e ∷ es) t job tab named c v x h =
-      left_then g (HasBegun g beside phase current t job e es tab named c v x h.calm h.left not_cur h.stands) (HasDone g beside phase current t job.number tab x.board named v x)
+      left_then g (HasBegun g beside phase current t job e es tab named c v x h.calm h.left not_cur is_aside h.stands) (HasDone g beside phase current t job.number tab x.board named v x)
       (λ y. goes_on g.below g.settings t e.server (runs g.below g.settings t es) y.0.0.1 y.0.1 y.1 y.0.0.0) (begins g.below t e (record job { left = es }) c v)
-      (λ y w n. by y.0.0 y.0.1 y.1 w n (runs_do es t) n.gave) (begins_do g beside phase current t job e es tab named c v x h.calm h.left not_cur h.stands)
+      (λ y w n. by y.0.0 y.0.1 y.1 w n (runs_do es t) n.gave) (begins_do g beside phase current t job e es tab named c v x h.calm h.left not_cur is_aside h.stands)
     where
+      is_aside : IsAside g current job
+      is_aside = record { aside = λ m. h.aside (subst (λ l. IsToStart current l) h.left m); clear = h.clear }
+
       not_cur : current ≡ e.server → ⊥
       not_cur same = h.aside (inl (sym same))
 
-      by : (o : Option Part) (job' : Work g) (c' : Choice Request g.U g.R) (w : View) (n : HasBegun g beside phase current t job e es tab named c v x h.calm h.left not_cur h.stands ((o, job'), c') w)
+      by : (o : Option Part) (job' : Work g) (c' : Choice Request g.U g.R) (w : View) (n : HasBegun g beside phase current t job e es tab named c v x h.calm h.left not_cur is_aside h.stands ((o, job'), c') w)
           → ((job : Work g) (tab : ℕ → Option (Work g)) (named : ℕ → ℕ → Option ℕ) (c : Choice Request g.U g.R) (v : View) (x : State g) → InHand g beside phase current t es job tab named c v x → IfLeft (HasDone g beside phase current t job.number tab x.board named v x) (runs g.below g.settings t es job c v))
           → Gave job.number e.server x.board n.end.board o → IfLeft (HasDone g beside phase current t job.number tab x.board named v x) (goes_on g.below g.settings t e.server (runs g.below g.settings t es) job' c' w o)
       by o job' c' w n ih gave = on o gave

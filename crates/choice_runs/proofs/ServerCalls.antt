@@ -14,7 +14,7 @@ use Rattle.client_request.specs.declared.event.What.{What}
 use Rattle.client_request.specs.declared.board.Posted.{Posted}
 use Rattle.client_choice.specs.Servers.{Server, onto, drops_at, starts_at, hears_at, drops_found, starts_found, hears_found, starts, dropped, started, heard, reply, waits}
 use Rattle.client_choice.specs.declared.servers.Reply.{Reply}
-use Rattle.client_choice.specs.declared.servers.Reply.TheVariants.{Now}
+use Rattle.client_choice.specs.declared.servers.Reply.TheVariants.{Later, Now}
 use Rattle.headline.specs.machine.Part.{Act, Post}
 use Rattle.headline.specs.machine.Client.{Waiting, hand, with_up}
 use Rattle.headline.specs.machine.Streams.{with_at}
@@ -64,6 +64,11 @@ none_there lower part = by (lower == lower) (it_is lower)
 some_is : (a b : ℕ) → Some a ≡ Some b → a ≡ b
 some_is a b e = cc
 
+-- what stands for a result that is to come
+later_is : {P : Type 0} → (o : Option board.Part) (p q : P) → Some (reply o p) ≡ Some (Later q) → p ≡ q
+later_is None p q e = cc
+later_is (Some part) p q e = absurd (cc)
+
 module _ (g : Choosing) where
   pub in_conf : (phase : ℕ → Phase) (servers : Listed g) (v : View) (x : State g) (s : ℕ) (a : Server g.U) → AreTied g phase servers v x → slice_get servers s ≡ Some a → s < length (g.c).servers
   in_conf phase servers v x s a t at = subst (λ n. s < n) t.count (slice_get_within servers s a at)
@@ -108,11 +113,11 @@ module _ (g : Choosing) where
     fair = record { order = t.fair.order; words = t.fair.words }
 
     -- a request is given up
-    pub one_drops : (k lower : ℕ) (r : g.R) → IsOpen (phase s) v.place → x.held k ≡ None → g.names a.upstream (g.ticket r) ≡ Some k → g.ticket r ≡ lower → IfLeft (IsDropped g phase s k lower a servers v x) (drops_at g.below s lower r servers v)
-    one_drops k lower r may_call none named same =
+    pub one_drops : (k lower : ℕ) (r : g.R) → g.Fits s r → IsOpen (phase s) v.place → x.held k ≡ None → g.names a.upstream (g.ticket r) ≡ Some k → g.ticket r ≡ lower → IfLeft (IsDropped g phase s k lower a servers v x) (drops_at g.below s lower r servers v)
+    one_drops k lower r fits may_call none named same =
         subst (λ o. IfLeft (IsDropped g phase s k lower a servers v x) (drops_found g.below s lower r servers v o)) (sym at)
         (subst (λ bs. IfLeft (IsDropped g phase s k lower a servers v x) (option_map (λ z. (set servers s z.0, z.1)) (option_map (dropped g.below lower a v) (g.below.cancel r a.upstream (onto bs v))))) (sym quiet)
-        (subst (λ o. IfLeft (IsDropped g phase s k lower a servers v x) (option_map (λ z. (set servers s z.0, z.1)) (option_map (dropped g.below lower a v) o))) (sym ((g.layer s within).cancel r a.upstream bare_view))
+        (subst (λ o. IfLeft (IsDropped g phase s k lower a servers v x) (option_map (λ z. (set servers s z.0, z.1)) (option_map (dropped g.below lower a v) o))) (sym ((g.layer s within).cancel r a.upstream bare_view (g.placed s (phase s) a.upstream (sight v) (x.ups s) (t.tied s a at)) fits))
         (left_map (λ (b : Server g.U) (w : View). IsDropped g phase s k lower a servers v x (set servers s b) w) (IsDropped g phase s k lower a servers v x) (λ z. (set servers s z.0, z.1)) (option_map (dropped g.below lower a v) ((g.bare s).cancel r a.upstream bare_view)) (λ b w d. d)
         (left_so (Leaves g.P (g.Tied s) g.names g.Owns (λ d. Begins (g.P.Cancels s v.place k (x.ups s)) (Chain g.P s) d × (d.posts ≡ [])) (with_at (g.ticket r) None (g.names a.upstream)) a.upstream bare_view (phase s))
         (λ (b : Server g.U) (w : View). IsDropped g phase s k lower a servers v x (set servers s b) w) (dropped g.below lower a v) ((g.bare s).cancel r a.upstream bare_view) given_up
@@ -226,6 +231,8 @@ module _ (g : Choosing) where
             call = called phase phase s (MayStart k) (with_at v.ticket (Some k) (g.names a.upstream)) a b servers v x (hand k s ask x) w (but g s phase servers v (hand k s ask x) after_hand) at (λ q ne. refl) n
                 (start_moves g.st composed g.P s within x k ask n.made held untried begins) (start_opens g s x.place k ask.request (x.ups s) n.made begins);
             reply = r.0;
+            fits = λ q e. subst (λ q. g.Fits s q) (later_is (board.part_of v.ticket w.board) (g.below.response request a.upstream (onto [] v)) q e)
+                ((g.layer s within).fits request a.upstream (onto [] v) (g.placed s (phase s) a.upstream (sight v) (x.ups s) (t.tied s a at)));
           }
         where
           after_hand : AreTied g phase servers v (hand k s ask x)

@@ -26,6 +26,7 @@ use Rattle.choice_runs.specs.Choosing.{Choosing}
 use Rattle.choice_runs.specs.Servers.{State}
 use Rattle.choice_runs.specs.Requests.{Beside, Work, Begun, Desk, Waits, IsKept, IsOwed, IsToStart, AreToStart, desk_of, Stands, Went}
 use Rattle.choice_runs.specs.Doing.{HasDone}
+use Rattle.choice_runs.proofs.Asides.{put_aside}
 use Rattle.choice_runs.proofs.AtServer.{both_are, none_is, set_here, set_there, set_length}
 use Rattle.choice_runs.proofs.Changing.{Changes, changed}
 use Rattle.choice_runs.proofs.Disarming.{again_path, goes_stopped, disarms}
@@ -108,7 +109,7 @@ module _ (g : Choosing) (beside : Beside) (phase : ℕ → Phase) (current : ℕ
         (λ q differs ne. owner_there g c.servers current q i b differs) q ne
 
     waits_so : (u k : ℕ) (f : Begun g) (r : g.R) → (current ≡ f.server → lower ≡ f.lower → ⊥) → Waits g old u k f r → Waits g new u k f r
-    waits_so u k f r ne w = record { within = w.within; ticket = w.ticket; waiting = other_waiting f.server f.lower ne ∙ w.waiting; named = other_named f.server f.lower ne ∙ w.named }
+    waits_so u k f r ne w = record { within = w.within; fits = w.fits; ticket = w.ticket; waiting = other_waiting f.server f.lower ne ∙ w.waiting; named = other_named f.server f.lower ne ∙ w.named }
 
     kept_job : IsKept g old t job
     kept_job = st.kept.kept t job is
@@ -139,6 +140,7 @@ module _ (g : Choosing) (beside : Beside) (phase : ℕ → Phase) (current : ℕ
             let y = waits_so t job.number w.before r (λ same low. o.1 (same ∙ sym w.server)) z in
             record {
               within = subst (λ s. s < length (g.c).servers) (sym w.server) y.within;
+              fits = subst (λ s. g.Fits s r) (sym w.server) y.fits;
               ticket = y.ticket ∙ sym w.lower;
               waiting = subst₂ (λ s l. new.waiting s l ≡ Some t) (sym w.server) (sym w.lower) y.waiting;
               named = subst₂ (λ s l. new.named s l ≡ Some job.number) (sym w.server) (sym w.lower) y.named;
@@ -199,6 +201,12 @@ module _ (g : Choosing) (beside : Beside) (phase : ℕ → Phase) (current : ℕ
       kept = changed g t job job1 0 old new changes st.kept;
       foreign = λ i u q f m n o. (let w = was q f n in st.foreign i u q w.0 m w.1 (subst (λ u. g.Owns u i) w.2 o));
       timers = st.timers;
+      calm = λ at frames told. put_aside g current t job1 (λ j. entry_at j c.jobs) (λ j. entry_at j (frees t c.jobs)) v
+          (λ u other ne m. sym (at_frees t u 0 table.0 c.jobs table.1 ∙ with_there t None (λ j. entry_at j c.jobs) u ne) ∙ m)
+          (λ i due timer set late. record {
+            aside = (st.calm at frames told t job i due is timer set late).aside;
+            clear = λ f m r p same. ((there_before current job.started f kept_job.apart m).owes r p).1 same;
+          }) (st.calm at frames told);
       is_open = st.is_open;
       drawn = st.drawn;
       due = st.due;

@@ -98,12 +98,13 @@ numbers_are_tied c s = record {
       others = λ i due n e. e;
     }
 
-starts_with : (s : ℕ) → IsStarting s Dgram unstarted numbered (λ u. u ≡ s)
+starts_with : (s : ℕ) → IsStarting s Dgram unstarted numbered (λ u. u ≡ s) (λ r. Unit {0})
 starts_with s = record {
   send = λ r u v is. ap (λ n. unstarted.send r u (asks (Start v.request n Dgram) v)) is;
   step = λ h u v. refl;
-  cancel = λ r u v. refl;
+  cancel = λ r u v is fits. refl;
   response = λ r u v. refl;
+  fits = λ r u v is. tt;
 }
 
 opens_none : (c : Conf) → OpensNext (silent_part c) (λ a p. false)

@@ -19,7 +19,7 @@ use Rattle.client_ties.proofs.Tables.{at_puts, sorted_puts, rises_below}
 use Rattle.choice_runs.specs.Choosing.{Choosing}
 use Rattle.choice_runs.specs.Servers.{State}
 use Rattle.client_ties.specs.WholeTie.{Follows}
-use Rattle.choice_runs.specs.Requests.{Beside, Work, Begun, Desk, IsKept, desk_of, Stands}
+use Rattle.choice_runs.specs.Requests.{Beside, Work, Begun, Desk, IsKept, desk_of, Stands, IsAside}
 use Rattle.choice_runs.proofs.AtServer.{both_are, none_is}
 use Rattle.choice_runs.proofs.Changing.{Changes, changed}
 use Rattle.choice_runs.proofs.Disarming.{again_path}
@@ -64,6 +64,7 @@ module _ (g : Choosing) (beside : Beside) (phase : ℕ → Phase) (current : ℕ
         kept = st.kept;
         foreign = st.foreign;
         timers = st.timers;
+        calm = st.calm;
         is_open = st.is_open;
         drawn = st.drawn;
         due = st.due;
@@ -86,7 +87,7 @@ module _ (g : Choosing) (beside : Beside) (phase : ℕ → Phase) (current : ℕ
       pub board : w.board ≡ v.board
       pub more : w.more ≡ v.more
 
-    module _ (t due : ℕ) (job : Work g) (tab : ℕ → Option (Work g)) (c : Choice Request g.U g.R) (v : View) (x : State g) (calm : job.timer ≡ None) (some : job.left ≡ [] → ⊥) (late : v.now ≤ due) (st : Stands g beside phase current (with_at t (Some job) tab) named 0 [] c v x) where
+    module _ (t due : ℕ) (job : Work g) (tab : ℕ → Option (Work g)) (c : Choice Request g.U g.R) (v : View) (x : State g) (calm : job.timer ≡ None) (some : job.left ≡ [] → ⊥) (is_aside : IsAside g current job) (late : v.now ≤ due) (st : Stands g beside phase current (with_at t (Some job) tab) named 0 [] c v x) where
       abbrev armed_job : Work g
       armed_job = record job { timer = Some v.timers.next }
 
@@ -145,7 +146,7 @@ module _ (g : Choosing) (beside : Beside) (phase : ℕ → Phase) (current : ℕ
           left = here.left;
           all = here.all;
           tried = here.tried;
-          waits = λ b p r q. (let w = here.waits b p r q in record { within = w.within; ticket = w.ticket; waiting = w.waiting; named = w.named });
+          waits = λ b p r q. (let w = here.waits b p r q in record { within = w.within; fits = w.fits; ticket = w.ticket; waiting = w.waiting; named = w.named });
           apart = here.apart;
           deferred = here.deferred;
           timer = λ i p. (let e = some_is v.timers.next i p in subst (λ i. (entry_at i (puts v.timers.next t c.timers) ≡ Some t) × ((m : ℕ) × (due_of i timed.timers.set ≡ Some m))) e
@@ -160,7 +161,7 @@ module _ (g : Choosing) (beside : Beside) (phase : ℕ → Phase) (current : ℕ
           left = m.left;
           all = m.all;
           tried = m.tried;
-          waits = λ b p r q. (let w = m.waits b p r q in record { within = w.within; ticket = w.ticket; waiting = w.waiting; named = w.named });
+          waits = λ b p r q. (let w = m.waits b p r q in record { within = w.within; fits = w.fits; ticket = w.ticket; waiting = w.waiting; named = w.named });
           apart = m.apart;
           deferred = m.deferred;
           timer = λ i p. (let q = m.timer i p in (timers_on i u q.0, (q.1.0, still i q.1.0 q.1.1)));
@@ -173,6 +174,15 @@ module _ (g : Choosing) (beside : Beside) (phase : ℕ → Phase) (current : ℕ
           | inr p ↦ inl (λ same. (let m = st.kept.timers i u p.1 in none_is job.timer i calm (ap (λ (w : Work g). w.timer) (both_are (with_at t (Some job) tab u) job m.0 (subst (λ u. with_at t (Some job) tab u ≡ Some job) same at_t) m.1) ∙ m.2)), p.1)
         ];
       }
+
+      there : (u : ℕ) (other : Work g) → (t ≡ u → ⊥) → tab u ≡ Some other → with_at t (Some job) tab u ≡ Some other
+      there u other ne is = with_there t (Some job) tab u ne ∙ is
+
+      -- a timer of a request was set before
+      set_before : (u : ℕ) (other : Work g) (i m : ℕ) → with_at t (Some job) tab u ≡ Some other → other.timer ≡ Some i → due_of i timed.timers.set ≡ Some m → due_of i v.timers.set ≡ Some m
+      set_before u other i m is timer set =
+          (let e = ((st.kept.kept u other is).timer i timer).1 in
+          sym (with_there v.timers.next (Some due) (λ (j : ℕ). due_of j v.timers.set) i (not_next i e.0 e.1)) ∙ (sym (dues_set v due i st.servers.fair) ∙ set))
 
       pub armed_stands : Stands g beside phase current (with_at t (Some armed_job) tab) named 0 [] with_one timed x
       armed_stands = record {
@@ -193,6 +203,10 @@ module _ (g : Choosing) (beside : Beside) (phase : ℕ → Phase) (current : ℕ
         kept = changed g t job armed_job 0 before after changes st.kept;
         foreign = λ i u q e is found o. elim (timers_then i u is) [ inl p ↦ not_owned q e found (subst (λ i. g.Owns e.upstream i) (sym p.0) o) | inr p ↦ st.foreign i u q e p.1 found o ];
         timers = sorted_more v.timers.next t c.timers st.timers;
+        calm = λ at frames told u other i m is timer set late. elim (is_or_was t (Some armed_job) tab u other is) [
+          | inl p ↦ subst (λ j. IsAside g current j) (both_are (Some armed_job) armed_job other refl p.1) (record { aside = is_aside.aside; clear = is_aside.clear })
+          | inr p ↦ st.calm at frames told u other i m (there u other p.0 p.1) timer (set_before u other i m (there u other p.0 p.1) timer set) late
+        ];
         is_open = st.is_open;
         drawn = λ i are. one_less i v.timers.next (st.drawn i are);
         due = λ i m are is. still i m (st.due i m are is);
@@ -214,9 +228,9 @@ module _ (g : Choosing) (beside : Beside) (phase : ℕ → Phase) (current : ℕ
       }
 
     -- The timer is set, if a server is left.
-    pub arms_do : (t due : ℕ) (job : Work g) (tab : ℕ → Option (Work g)) (c : Choice Request g.U g.R) (v : View) (x : State g) → job.timer ≡ None → v.now ≤ due → Stands g beside phase current (with_at t (Some job) tab) named 0 [] c v x
+    pub arms_do : (t due : ℕ) (job : Work g) (tab : ℕ → Option (Work g)) (c : Choice Request g.U g.R) (v : View) (x : State g) → job.timer ≡ None → IsAside g current job → v.now ≤ due → Stands g beside phase current (with_at t (Some job) tab) named 0 [] c v x
         → IfLeft (IsArmed t job tab c v x) (arms t due job c.timers v)
-    arms_do t due job tab c v x calm late st = by job.left refl
+    arms_do t due job tab c v x calm is_aside late st = by job.left refl
       where
         as_it_is : IsArmed t job tab c v x (job, c.timers) v
         as_it_is = record {
@@ -259,8 +273,8 @@ module _ (g : Choosing) (beside : Beside) (phase : ℕ → Phase) (current : ℕ
                   started = refl;
                   number = refl;
                   request = refl;
-                  stands = armed_stands t due job tab c v x calm (not_empty e es is) late st;
-                  follows = timed_follows t due job tab c v x calm (not_empty e es is) late st;
+                  stands = armed_stands t due job tab c v x calm (not_empty e es is) is_aside late st;
+                  follows = timed_follows t due job tab c v x calm (not_empty e es is) is_aside late st;
                   outs = refl;
                   board = refl;
                   more = refl;

@@ -1,11 +1,11 @@
 -- Whose results are taken next, between two calls.
 use Rattle.std.proofs.Common.{◌≡◌, ℕ, ◌<◌, Some, slice_get, refl, sym, subst, ◌∙◌, arith, length}
 use Rattle.std.proofs.lemmas.Option.{slice_get_within}
-use Rattle.client_choice.specs.Servers.{Server}
 use Rattle.client_ties.specs.PartTie.{IsOpen}
 use Rattle.client_ties.proofs.Keys.{each_number}
 use Rattle.choice_runs.specs.Choosing.{Choosing}
 use Rattle.choice_runs.specs.Doing.{TurningAway, TurningTo}
+use Rattle.choice_runs.proofs.Firing.{none_past}
 
 not_below : (n : ℕ) → n < n → ⊥
 not_below n lt = omega arith
@@ -24,6 +24,10 @@ turning_away g others phase s left named c v x is_still may_call =
         kept = st.kept;
         foreign = st.foreign;
         timers = st.timers;
+        calm = λ at frames told t job i due is timer set late. (let k = st.kept.kept t job is in record {
+          aside = λ m. none_past (length (g.c).servers) job.left k.ask.tried k.left m;
+          clear = λ b m r p same. not_below (length (g.c).servers) (subst (λ n. n < length (g.c).servers) (sym same) (k.waits b m r p).within);
+        });
         is_open = λ q lt ne. each_number (λ q. q < length (g.c).servers → IsOpen (phase q) v.place) s (λ lt. may_call) (λ q ne lt. st.is_open q lt ne) q lt;
         drawn = st.drawn;
         due = st.due;
@@ -36,7 +40,7 @@ turning_away g others phase s left named c v x is_still may_call =
     }
 
 pub turning_to : (g : Choosing) → TurningTo g
-turning_to g others phase s left named c v x is_still =
+turning_to g others phase s left named c v x lt is_still =
     let st = is_still.stands in
     record {
       stands = record {
@@ -48,6 +52,7 @@ turning_to g others phase s left named c v x is_still =
         kept = st.kept;
         foreign = st.foreign;
         timers = st.timers;
+        calm = λ at frames told. absurd (subst (λ f. IsOpen f v.place) told (st.is_open s lt (elsewhere s lt)));
         is_open = λ q lt ne. st.is_open q lt (elsewhere q lt);
         drawn = st.drawn;
         due = st.due;

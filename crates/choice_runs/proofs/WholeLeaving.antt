@@ -1,5 +1,5 @@
 -- What a call leaves of a choice and its servers is what moves leave of the whole of a client.
-use Rattle.std.proofs.Common.{◌≡◌, ℕ, zero, suc, ◌<◌, ◌≤◌, ◌⊎◌, inl, inr, Bool, true, false, ◌==◌, List, [], ◌∷◌, length, Option, Some, None, option_map, slice_get, refl, sym, ap, subst, ◌∙◌, arith}
+use Rattle.std.proofs.Common.{◌≡◌, ℕ, zero, suc, ◌<◌, ◌≤◌, ◌⊎◌, inl, inr, Bool, true, false, ◌==◌, List, [], ◌∷◌, length, Option, Some, None, option_map, slice_get, refl, sym, ap, subst, ◌∙◌, arith, le_refl, append-nil}
 use Rattle.std.proofs.lemmas.Bool.Decides.{nat_tests}
 use Rattle.client_request.specs.Numbered.{entry_at}
 use Rattle.client_request.specs.Request.{Request}
@@ -11,6 +11,7 @@ use Rattle.client_choice.specs.Servers.{Server}
 use Rattle.headline.specs.machine.Part.{Post}
 use Rattle.headline.specs.machine.Streams.{with_at}
 use Rattle.client_ties.specs.Chains.{Gives}
+use Rattle.client_ties.specs.Leading.{Arrives}
 use Rattle.client_ties.specs.PartTie.{Phase, Told, IsOpen, Leads}
 use Rattle.client_ties.specs.Sights.{sight, due_of, IsFair}
 use Rattle.client_ties.specs.WholeTie as whole
@@ -189,7 +190,7 @@ module _ (g : Choosing) where
   WholeLeaves = whole.Leaves g.st g.P (Tied g) (names g) (Owns g)
 
   -- what a call is to have shown, at which the choice c and the view w are left
-  module _ (to : Phase) (phase : ℕ → Phase) (current : ℕ) (numbers left : ℕ → Option ℕ) (said : Bool) (named0 : ℕ → ℕ → Option ℕ) (before : ℕ → Phase) (r : Whole g) (v : View) (x : State g) (h : Agrees g before named0 r v x)
+  module _ (to : Phase) (phase : ℕ → Phase) (current : ℕ) (numbers left : ℕ → Option ℕ) (said : Bool) (named0 : ℕ → ℕ → Option ℕ) (before : ℕ → Phase) (r : Whole g) (u v : View) (x : State g) (h : Agrees g before named0 r u x) (fair : IsFair v)
       (from : State g) (small : (t k : ℕ) → numbers t ≡ Some k → t < v.ticket) (c : Choice Request g.U g.R) (w : View) where
     abbrev after : Whole g
     after = record r { choice = c }
@@ -214,7 +215,7 @@ module _ (g : Choosing) where
       tied = tied_as g to after w a.end (record { phases = phase; named = a.named; agrees = agrees; at = at });
       goes_on = a.went.goes_on;
       owned = owned;
-      others = λ i due not set. (one_later after w i due (others i due (one_other r v i due h.servers.fair not set))).1;
+      others = λ i due not set. (one_later after w i due (others i due (one_other r v i due fair not set))).1;
     }
       where
         agrees : Agrees g phase a.named after w a.end
@@ -223,10 +224,47 @@ module _ (g : Choosing) where
             awaited
 
         owned : (i : ℕ) → Owns g after i → Owns g r i ⊎ (v.timers.next ≤ i)
-        owned i own = elim (knows before named0 r v x h i) [
+        owned i own = elim (knows before named0 r u x h i) [
           | inl was ↦ inl was
           | inr not ↦ (let d = set_so phase a.named after w a.end agrees i own in elim (a.went.goes_on.later i d.0 d.1) [
-            | inl was ↦ absurd ((one_later after w i d.0 (others i d.0 (one_other r v i d.0 h.servers.fair not was))).0 own)
+            | inl was ↦ absurd ((one_later after w i d.0 (others i d.0 (one_other r v i d.0 fair not was))).0 own)
             | inr new ↦ inr new.1
           ])
         ]
+
+  -- Where nothing happens, nothing is left.
+  pub nothing_so : (phase : Phase) (r : Whole g) (v : View) (x : State g) → TiedAt g phase r v x → WholeLeaves (names g r) x r v phase r v
+  nothing_so phase r v x t = record {
+    outs = [];
+    end = x;
+    leads = Arrives x;
+    put = sym (append-nil v.outs);
+    board = [];
+    posted = sym (append-nil v.board);
+    leaving = [];
+    leaves = sym (append-nil x.leaving);
+    gives = λ t. refl;
+    now = refl;
+    asked = refl;
+    pending = refl;
+    tied = tied_as g phase r v x t;
+    goes_on = record { fair = t.agrees.servers.fair; now = refl; timer = le_refl v.timers.next; ticket = le_refl v.ticket; place = le_refl v.place; later = λ i due is. inl is };
+    owned = λ i own. inl own;
+    others = λ i due not is. is;
+  }
+
+  -- What a call leaves, whatever timers of others are, is what it leaves of the whole.
+  pub closes : (r : Whole g) (v : View) (X : Others → Choice Request g.U g.R → View → Type 0) (C : Whole g → View → Type 0) (o : After Request g.U g.R) → ((others : Others) → AreOthers others r v → Leads (X others) o) → Leads (λ d w. Awaits count d) o
+      → ((others : Others) (d : Choice Request g.U g.R) (w : View) → X others d w → AreOthers others (record r { choice = d }) w)
+      → ((d : Choice Request g.U g.R) (w : View) → X no_timer d w → Awaits count d → ((i due : ℕ) → AreOthers (one_timer i due) r v → AreOthers (one_timer i due) (record r { choice = d }) w) → C (record r { choice = d }) w)
+      → Leads C (with_choice r o)
+  closes r v X C None acts awaits others so = tt
+  closes r v X C (Some z) acts awaits others so = so z.0 z.1 (acts no_timer (no_others r v)) awaits (λ i due a. others (one_timer i due) z.0 z.1 (acts (one_timer i due) a))
+
+  -- tickets are below the next
+  pub small_so : (phase : ℕ → Phase) (named : ℕ → ℕ → Option ℕ) (r : Whole g) (v : View) (x : State g) → Agrees g phase named r v x → (t k : ℕ) → names g r t ≡ Some k → t < v.ticket
+  small_so phase named r v x h t k is = by (entry_at t r.choice.jobs) refl is
+    where
+      by : (o : Option (Work g)) → entry_at t r.choice.jobs ≡ o → option_map (λ (job : Work g). job.number) o ≡ Some k → t < v.ticket
+      by None at is = absurd (cc)
+      by (Some job) at is = h.drawn t job at

@@ -91,6 +91,7 @@ module _ (g : Choosing) where
       passed = o.passed;
       place = o.place;
       in_place = o.in_place;
+      frames = o.frames;
       below = subst (λ n. o.place < n) (sym seen.place) o.below;
       aside = aside_at o.server o.aside;
     })

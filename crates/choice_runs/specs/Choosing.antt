@@ -12,12 +12,13 @@ use Rattle.client_ties.specs.PartTie.{Phase, IsTie}
 use Rattle.client_ties.specs.Sharing.{OpensNext, IsShared}
 use Rattle.client_ties.specs.Sights.{Sight}
 
--- T is the transport t, which puts out `Start` before it hands a request on, as server s.
-pub record IsStarting (s : ℕ) (via : Via) {U R : Type 0} (t T : Transport Request U R) (IsPlaced : U → Type 0) : Type 0 where
+-- T is the transport t, which puts out `Start` before it hands a request on, as server s. It gives up what stands for a result of its own.
+pub record IsStarting (s : ℕ) (via : Via) {U R : Type 0} (t T : Transport Request U R) (IsPlaced : U → Type 0) (Fits : R → Type 0) : Type 0 where
   pub send : (r : Request) (u : U) (v : View) → IsPlaced u → T.send r u v ≡ t.send r u (asks (Start v.request s via) v)
   pub step : (h : Heard) (u : U) (v : View) → T.step h u v ≡ t.step h u v
-  pub cancel : (r : R) (u : U) (v : View) → T.cancel r u v ≡ t.cancel r u v
+  pub cancel : (r : R) (u : U) (v : View) → IsPlaced u → Fits r → T.cancel r u v ≡ t.cancel r u v
   pub response : (r : Request) (u : U) (v : View) → T.response r u v ≡ t.response r u v
+  pub fits : (r : Request) (u : U) (v : View) → IsPlaced u → Fits (T.response r u v)
 
 -- what is put off here is what is deferred there
 pub record SameDeferring (here : RedundantSettings) (there : Settings) : Type 0 where
@@ -45,7 +46,8 @@ pub record Choosing : Type 1 where
   pub has : P.State → (place : ℕ) → Bool
   pub opens : OpensNext P has
   pub IsPlaced : ℕ → U → Type 0
+  pub Fits : ℕ → R → Type 0
   pub placed : (s : ℕ) (phase : Phase) (u : U) (x : Sight) (a : P.State) → Tied s phase u x a → IsPlaced s u
   pub tie : (s : ℕ) → s < length c.servers → IsTie P s (via s) (bare s) ticket (first s) (Tied s) names Owns
-  pub layer : (s : ℕ) → s < length c.servers → IsStarting s (via s) (bare s) below (IsPlaced s)
+  pub layer : (s : ℕ) → s < length c.servers → IsStarting s (via s) (bare s) below (IsPlaced s) (Fits s)
   pub shared : (s : ℕ) → s < length c.servers → IsShared P has (bare s) (Tied s) Owns

@@ -2,7 +2,7 @@
 use Rattle.std.specs.Prelude.{◌≡◌, ℕ, suc, ◌<◌, ◌≤◌, Bool, false, nat_lt, List, [], ◌∷◌, ◌++◌, length, map, Option, Some, None, option_map, slice_get}
 use Rattle.client_request.specs.Board.{Part}
 use Rattle.client_request.specs.Carries.{IsOfOctets}
-use Rattle.client_request.specs.Numbered.{entry_at, frees}
+use Rattle.client_request.specs.Numbered.{entry_at}
 use Rattle.client_request.specs.Request.{Request}
 use Rattle.client_request.specs.Timers.{cancelled}
 use Rattle.client_request.specs.View.{View, Heard, told, more_at, due_timer}
@@ -23,7 +23,7 @@ use Rattle.client_ties.specs.Sights.{sight, due_of, NoneDue}
 use Rattle.client_ties.specs.WholeTie.{HasLeft, HasTakenOn, post_of}
 use Rattle.choice_runs.specs.Choosing.{Choosing}
 use Rattle.choice_runs.specs.Servers.{State, AreTied}
-use Rattle.choice_runs.specs.Requests.{AreToStart, Others, Beside, Work, Begun, IsToStart, Stands, Went}
+use Rattle.choice_runs.specs.Requests.{AreToStart, Others, Beside, Work, Begun, IsToStart, Stands, Went, IsAside}
 
 module _ (g : Choosing) (beside : Beside) (phase : ℕ → Phase) (current : ℕ) where
   -- What becomes of a request that was in hand: it waits in the table, or its result stands on the board and leaves in the machine.
@@ -105,11 +105,6 @@ module _ (g : Choosing) where
     pub left : ℕ → Option ℕ
     pub acted : HasActed others (with_up s (Told at frames) phase) s numbers left (nat_lt 0 frames) v x d w
 
-  -- The request neither starts at a server, nor waits there.
-  pub record IsAside (s : ℕ) (job : Work g) : Type 0 where
-    pub aside : IsToStart s job.left → ⊥
-    pub clear : (b : Begun g) → IsIn b job.started → (r : g.R) → b.response ≡ Some r → s ≡ b.server → ⊥
-
 -- no server's results are being taken
 abbrev pub nobody : Choosing → ℕ
 nobody g = length (g.c).servers
@@ -124,7 +119,7 @@ TurningAway g = (others : Others) (phase : ℕ → Phase) (s : ℕ) (left : ℕ 
 -- And the results of any may be taken next.
 abbrev pub TurningTo : Choosing → Type 0
 TurningTo g = (others : Others) (phase : ℕ → Phase) (s : ℕ) (left : ℕ → Option ℕ) (named : ℕ → ℕ → Option ℕ) (c : Choice Request g.U g.R) (v : View) (x : State g)
-    → IsStill g others phase (nobody g) left named c v x → IsStill g others phase s (named s) named c v x
+    → s < length (g.c).servers → IsStill g others phase (nobody g) left named c v x → IsStill g others phase s (named s) named c v x
 
 -- ---- requests
 
@@ -165,10 +160,11 @@ TakingOnIsMoves g = (others : Others) (phase : ℕ → Phase) (t : ℕ) (request
 
 -- ---- what servers hear
 
--- What a server is told is what moves leave, with what it posted then taken.
+-- What a server is told, where no timer of the choice is due, is what moves leave, with what it posted then taken.
 abbrev pub TellingIsMoves : Choosing → Type 0
 TellingIsMoves g = (others : Others) (phase : ℕ → Phase) (s : ℕ) (a : Server g.U) (what : What) (left : ℕ → Option ℕ) (named : ℕ → ℕ → Option ℕ) (c : Choice Request g.U g.R) (v : View) (x : State g)
-    → IsStill g others phase s left named c v x → slice_get c.servers s ≡ Some a → phase s ≡ Untold what → NoneDue (g.Owns a.upstream) (sight v) → v.more ≡ false
+    → IsStill g others phase s left named c v x → slice_get c.servers s ≡ Some a → phase s ≡ Untold what → NoneDue (g.Owns a.upstream) (sight v)
+    → ((i t due : ℕ) → entry_at i c.timers ≡ Some t → due_of i v.timers.set ≡ Some due → v.now < due) → v.more ≡ false
     → Leads (HasTold g others phase s (MayLeave what) (numbers_of g c.jobs) v x) (hears_one g.below g.settings s (told what) c v)
 
 -- So is what it does with a frame.

@@ -1,5 +1,5 @@
 -- The requests of a choice beside those of the machine: who was started, who is still to be, and under which ticket each waits.
-use Rattle.std.specs.Prelude.{◌≡◌, ℕ, ◌<◌, ◌⊎◌, ◌||◌, ◌==◌, Bool, true, false, List, [], ◌∷◌, ◌++◌, length, Option, Some, None, option_map, slice_get}
+use Rattle.std.specs.Prelude.{◌≡◌, ℕ, ◌<◌, ◌≤◌, ◌⊎◌, ◌||◌, ◌==◌, Bool, true, false, List, [], ◌∷◌, ◌++◌, length, Option, Some, None, option_map, slice_get}
 use Rattle.client_request.specs.Carries.{IsOfOctets}
 use Rattle.client_request.specs.Composed.{composed}
 use Rattle.client_request.specs.Numbered.{entry_at}
@@ -15,7 +15,7 @@ use Rattle.headline.specs.machine.Client.{Waiting, best}
 use Rattle.client_ties.specs.Chains.{part_of}
 use Rattle.client_ties.specs.Leading.{Leads}
 use Rattle.client_ties.specs.Lines.{Sorted}
-use Rattle.client_ties.specs.PartTie.{Phase, IsOpen}
+use Rattle.client_ties.specs.PartTie.{Phase, Told, IsOpen}
 use Rattle.client_ties.specs.Sights.{due_of}
 use Rattle.client_ties.specs.WholeTie.{Follows}
 use Rattle.choice_runs.specs.Choosing.{Choosing}
@@ -52,6 +52,15 @@ module _ (g : Choosing) where
   abbrev pub Begun : Type 0
   Begun = Started g.R
 
+  -- The request neither starts at a server, nor waits there.
+  pub record IsAside (s : ℕ) (job : Work) : Type 0 where
+    pub aside : IsToStart s job.left → ⊥
+    pub clear : (b : Begun) → IsIn b job.started → (r : g.R) → b.response ≡ Some r → s ≡ b.server → ⊥
+
+  -- so is each whose timer is due
+  abbrev pub AreAside : (s : ℕ) → (jobs : ℕ → Option Work) → View → Type 0
+  AreAside s jobs v = (t : ℕ) (job : Work) (i due : ℕ) → jobs t ≡ Some job → job.timer ≡ Some i → due_of i v.timers.set ≡ Some due → due ≤ v.now → IsAside s job
+
   -- The tables as functions: the requests by ticket, the ticket of each timer, at each server the ticket and the number of what waits there, the machine's requests by number, and when each timer is due.
   pub record Desk : Type 0 where
     pub jobs : ℕ → Option Work
@@ -64,6 +73,7 @@ module _ (g : Choosing) where
   -- the result of a server that was started is to come there
   pub record Waits (d : Desk) (t k : ℕ) (e : Begun) (r : g.R) : Type 0 where
     pub within : e.server < length (g.c).servers
+    pub fits : g.Fits e.server r
     pub ticket : g.ticket r ≡ e.lower
     pub waiting : d.waiting e.server e.lower ≡ Some t
     pub named : d.named e.server e.lower ≡ Some k
@@ -127,6 +137,8 @@ module _ (g : Choosing) where
     pub kept : AreKept over dropping (desk_of jobs named c v x)
     pub foreign : (i t s : ℕ) (a : Server g.U) → entry_at i c.timers ≡ Some t → slice_get c.servers s ≡ Some a → g.Owns a.upstream i → ⊥
     pub timers : (hi : ℕ) × Sorted 0 hi c.timers
+    -- where the current server was told an event, requests that are due are aside of it
+    pub calm : (at frames : ℕ) → phase current ≡ Told at frames → AreAside current jobs v
     pub is_open : (s : ℕ) → s < length (g.c).servers → (current ≡ s → ⊥) → IsOpen (phase s) v.place
     pub drawn : (i : ℕ) → beside.others.are i ≡ true → i < v.timers.next
     pub due : (i moment : ℕ) → beside.others.are i ≡ true → beside.others.due i ≡ Some moment → due_of i v.timers.set ≡ Some moment

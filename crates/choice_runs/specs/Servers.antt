@@ -109,6 +109,7 @@ module _ (g : Choosing) where
     pub given : List Posted
     pub call : AfterCall phase s a server (with_at v.ticket (Some k) (g.names a.upstream)) given servers v x (hand k s ask x) w
     pub reply : HasReply k v.ticket ticket a server call.made.posts y.0
+    pub fits : (r : g.R) → y.0 ≡ Some (Later r) → g.Fits s r
 
   -- Server s hears something.
   pub record IsHeard (phase : ℕ → Phase) (s : ℕ) (a : Server g.U) (servers : Listed) (v : View) (x : State) (y : List Posted × Listed) (w : View) : Type 0 where

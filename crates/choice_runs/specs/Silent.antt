@@ -34,7 +34,7 @@ NumbersAreTied = (c : Conf) (s : ℕ) → IsTie (silent_part c) s Dgram unstarte
 -- A server is tied, says that it starts, opens no place, and leaves alone what is not its own.
 pub record NumbersChoose (c : Conf) : Type 0 where
   pub tied : (s : ℕ) → IsTie (silent_part c) s Dgram unstarted (λ t. t) s (λ phase u x a. u ≡ s) (λ u t. None) (λ u i. ⊥)
-  pub starts : (s : ℕ) → IsStarting s Dgram unstarted numbered (λ u. u ≡ s)
+  pub starts : (s : ℕ) → IsStarting s Dgram unstarted numbered (λ u. u ≡ s) (λ r. Unit {0})
   pub opens : OpensNext (silent_part c) (λ a p. false)
   pub shared : (s : ℕ) → IsShared (silent_part c) (λ a p. false) unstarted (λ phase u x a. u ≡ s) (λ u i. ⊥)
 
@@ -59,6 +59,7 @@ silent_choice c st settings same choose = record {
   has = λ a p. false;
   opens = choose.opens;
   IsPlaced = λ s u. u ≡ s;
+  Fits = λ s r. Unit {0};
   placed = λ s phase u x a tied. tied;
   tie = λ s lt. choose.tied s;
   layer = λ s lt. choose.starts s;

@@ -74,6 +74,7 @@ module _ (g : Choosing) where
     pub passed : (s : ℕ) → s < length (g.c).servers → (server ≡ s → ⊥) → phase s ≡ Passed what
     pub place : ℕ
     pub in_place : place_in what ≡ Some place
+    pub frames : (left ≡ 0) ⊎ (at ≡ place)
     pub below : place < v.place
     pub aside : AreAside server c v
 
