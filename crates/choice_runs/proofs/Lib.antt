@@ -38,3 +38,5 @@ pub mod WholeFirst
 pub mod WholeLaws
 pub mod WholeFiring
 pub mod WholeAsking
+pub mod WholeTelling
+pub mod Whole
