@@ -31,3 +31,12 @@ pub mod Dropping
 pub mod Turning
 pub mod Passing
 pub mod Silence
+pub mod WholeViews
+pub mod WholeLeaving
+pub mod WholeHearing
+pub mod WholeFirst
+pub mod WholeLaws
+pub mod WholeFiring
+pub mod WholeAsking
+pub mod WholeTelling
+pub mod Whole

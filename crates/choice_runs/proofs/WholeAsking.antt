@@ -28,7 +28,7 @@ use Rattle.choice_runs.proofs.AwaitingCalls.{takes_on_awaits, drops_awaits}
 use Rattle.choice_runs.proofs.Leaving.{leads_on}
 use Rattle.choice_runs.proofs.WholeFiring.{aside_of_nobody}
 use Rattle.choice_runs.proofs.WholeLaws.{number_of}
-use Rattle.choice_runs.proofs.WholeLeaving.{AreOthers, still_of, others_of, leaves_so, small_so, closes, WholeLeaves, no_timer, one_timer}
+use Rattle.choice_runs.proofs.WholeLeaving.{AreOthers, still_of, others_of, leaves_so, board_so, small_so, closes, WholeLeaves, no_timer, one_timer}
 use Rattle.choice_runs.proofs.WholeViews.{agrees_at, TiedAt, at_view}
 
 up_one : (a b : ℕ) → a < b → a < b + 1
@@ -106,10 +106,12 @@ module _ (g : Choosing) (calls : CallsAreMoves g) where
         (drops_awaits count g.below g.settings ticket c v h.awaited)
         (λ others d w a. others_of g others t.phases (nobody g) (t.named (nobody g)) (a.acted).named (record r { choice = d }) w (a.acted).end (a.acted).still)
         (λ d w a awaits others. record {
-          leaves = leaves_so g (Untold what) t.phases (nobody g) (with_at ticket None (names g r)) (t.named (nobody g)) v.more t.named t.phases r v v x h h.servers.fair y
-              (λ n k is. small_so g t.phases t.named r v x h n k (was_there ticket (names g r) n k is).1) d w a.acted awaits t.at others;
-          nothing = a.nothing;
+          leaves = leaves_so g (Untold what) t.phases (nobody g) (with_at ticket None (names g r)) (t.named (nobody g)) v.more t.named t.phases r v v x h h.servers.fair y smaller d w a.acted awaits t.at others;
+          nothing = board_so g (Untold what) t.phases (nobody g) (with_at ticket None (names g r)) (t.named (nobody g)) v.more t.named t.phases r v v x h h.servers.fair y smaller d w a.acted awaits t.at others ∙ a.nothing;
         })
+      where
+        smaller : (n k : ℕ) → with_at ticket None (names g r) n ≡ Some k → n < v.ticket
+        smaller n k is = small_so g t.phases t.named r v x h n k (was_there ticket (names g r) n k is).1
 
     module _ (some : 0 < count) (request : Request) (octets : IsOfOctets request) (taken : HasTakenOn v.request request x y) (words : ℕ → ℕ) (are : (i : ℕ) → words i < 2 ^ 64) where
       abbrev at_ask : View

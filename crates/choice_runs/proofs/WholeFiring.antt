@@ -17,10 +17,10 @@ use Rattle.client_ties.proofs.GoingOn.{dues_without, fair_without}
 use Rattle.client_ties.proofs.Keys.{each_number, with_here, with_there, was_there}
 use Rattle.choice_runs.specs.Awaiting.{Awaits}
 use Rattle.choice_runs.specs.Choosing.{Choosing}
-use Rattle.choice_runs.specs.Doing.{CallsAreMoves, IsStill, HasActed, HasHeard, IsAside, IsNothing, nobody, numbers_of}
-use Rattle.choice_runs.specs.Requests.{Others, Work, Begun, AreToStart, IsToStart}
+use Rattle.choice_runs.specs.Doing.{CallsAreMoves, IsStill, HasActed, HasHeard, IsNothing, nobody, numbers_of}
+use Rattle.choice_runs.specs.Requests.{Others, Work, Begun, AreToStart, IsToStart, IsAside}
 use Rattle.choice_runs.specs.Servers.{State, AreTied}
-use Rattle.choice_runs.specs.Whole.{IsSeen, Whole, Owns, IsOwn, IsServers, Agrees, AreAside, OneTook, IsAt, Tied, names}
+use Rattle.choice_runs.specs.Whole.{IsSeen, Whole, Owns, IsOwn, IsServers, Agrees, IsCalm, OneTook, IsAt, Tied, names}
 use Rattle.choice_runs.proofs.AwaitingCalls.{hears_all_awaits, fires_awaits}
 use Rattle.choice_runs.proofs.Leaving.{leads_on}
 use Rattle.choice_runs.proofs.WholeHearing.{none_hear, one_hears}
@@ -89,12 +89,12 @@ module _ (g : Choosing) where
       this a b e = cc
 
   -- the same server took it, once results of it were taken
-  pub took_on : (p left : ℕ) (phase : ℕ → Phase) (c d : Choice Request g.U g.R) (v w : View) (o : OneTook g p left phase c v) → v.place ≤ w.place → AreAside g o.server d w → OneTook g p left phase d w
-  took_on p left phase c d v w o le aside = record { server = o.server; within = o.within; told = o.told; what = o.what; passed = o.passed; place = o.place; in_place = o.in_place; frames = o.frames; below = more o.place v.place w.place o.below le; aside = aside }
+  pub took_on : (p left : ℕ) (phase : ℕ → Phase) (c d : Choice Request g.U g.R) (v w : View) (o : OneTook g p left phase c v) → v.place ≤ w.place → IsCalm g o.server d w → OneTook g p left phase d w
+  took_on p left phase c d v w o le calm = record { server = o.server; within = o.within; told = o.told; what = o.what; passed = o.passed; place = o.place; in_place = o.in_place; frames = o.frames; below = more o.place v.place w.place o.below le; calm = calm }
 
   -- what is known of a server that took an event
-  pub calm_of : (others : Others) (phase : ℕ → Phase) (current : ℕ) (left : ℕ → Option ℕ) (named : ℕ → ℕ → Option ℕ) (c : Choice Request g.U g.R) (v : View) (x : State g) (at frames : ℕ) → IsStill g others phase current left named c v x → phase current ≡ Told at frames → AreAside g current c v
-  calm_of others phase current left named c v x at frames s told = ?
+  pub calm_of : (others : Others) (phase : ℕ → Phase) (current : ℕ) (left : ℕ → Option ℕ) (named : ℕ → ℕ → Option ℕ) (c : Choice Request g.U g.R) (v : View) (x : State g) (at frames : ℕ) → IsStill g others phase current left named c v x → phase current ≡ Told at frames → IsCalm g current c v
+  calm_of others phase current left named c v x at frames s told = s.stands.calm at frames told
 
   module _ (calls : CallsAreMoves g) (r : Whole g) (v : View) (x : State g) (i due_at_i : ℕ) (set : due_of i v.timers.set ≡ Some due_at_i) (late : due_at_i ≤ v.now) where
     abbrev c : Choice Request g.U g.R
@@ -118,8 +118,8 @@ module _ (g : Choosing) where
       fair = h.servers.fair
 
       -- a timer of the choice fires, while the results of a server are taken, or of none
-      own_fires : (current ticket : ℕ) → entry_at i c.timers ≡ Some ticket → ((s : ℕ) → s < count → (current ≡ s → ⊥) → IsOpen (t.phases s) v.place) → AreAside g current c v
-          → ((d : Choice Request g.U g.R) (w : View) → v.place ≤ w.place → ((at frames : ℕ) → t.phases current ≡ Told at frames → AreAside g current d w) → IsAt g phase t.phases d w)
+      own_fires : (current ticket : ℕ) → entry_at i c.timers ≡ Some ticket → ((s : ℕ) → s < count → (current ≡ s → ⊥) → IsOpen (t.phases s) v.place) → IsCalm g current c v
+          → ((d : Choice Request g.U g.R) (w : View) → v.place ≤ w.place → ((at frames : ℕ) → t.phases current ≡ Told at frames → IsCalm g current d w) → IsAt g phase t.phases d w)
           → Leads (WholeLeaves g (names g r) x r gone phase) (with_choice r (due g.below g.settings i c gone))
       own_fires current ticket is is_open aside at =
           closes g r gone (λ others. HasActed g others t.phases current (names g r) (t.named current) v.more gone x) (WholeLeaves g (names g r) x r gone phase) (due g.below g.settings i c gone)
@@ -197,7 +197,7 @@ module _ (g : Choosing) where
               own_fires (nobody g) ticket is (λ q lt ne. subst (λ f. IsOpen f v.place) (sym (at q lt)) tt) (λ n job j m entry timer due_j le. aside_of_nobody t.phases t.named r v x h n job entry)
               (λ d w le calm. subst (λ p. IsAt g p t.phases d w) (sym same) at)
           own ticket is (Told p left) same (inl o) =
-              own_fires o.server ticket is (others_open p left t.phases c v o) o.aside
+              own_fires o.server ticket is (others_open p left t.phases c v o) o.calm
               (λ d w le calm. subst (λ p. IsAt g p t.phases d w) (sym same) (inl (took_on p left t.phases c d v w o le (calm p left o.told))))
           own ticket is (Told p left) same (inr (none, inl o)) = absurd (not_late v.now due_at_i (o.early i ticket due_at_i is set) late)
           own ticket is (Told p left) same (inr (none, inr o)) = absurd (let z : None ≡ Some ticket = ap (λ (ts : List (ℕ × ℕ)). entry_at i ts) (sym o.timers) ∙ is in cc)

@@ -19,10 +19,10 @@ use Rattle.client_ties.proofs.GoingOn.{none_next}
 use Rattle.client_ties.proofs.Keys.{each_number, was_there}
 use Rattle.choice_runs.specs.Awaiting.{Awaits}
 use Rattle.choice_runs.specs.Choosing.{Choosing}
-use Rattle.choice_runs.specs.Doing.{IsStill, HasActed, IsAside, nobody, numbers_of}
+use Rattle.choice_runs.specs.Doing.{IsStill, HasActed, nobody, numbers_of}
 use Rattle.choice_runs.specs.Requests.{Others, Work, AreKept}
 use Rattle.choice_runs.specs.Servers.{State}
-use Rattle.choice_runs.specs.Whole.{Whole, Owns, IsOwn, IsServers, Agrees, AreAside, IsAt, Tied, names}
+use Rattle.choice_runs.specs.Whole.{Whole, Owns, IsOwn, IsServers, Agrees, IsCalm, IsAt, Tied, names}
 use Rattle.choice_runs.proofs.WholeViews.{seen_itself, in_conf, TiedAt, tied_as}
 
 is_it : (a b : ℕ) → (a == b) ≡ true → a ≡ b
@@ -139,7 +139,7 @@ module _ (g : Choosing) where
   -- The choice is between two calls, whose results are taken from any server.
   pub still_of : (others : Others) (phase : ℕ → Phase) (current : ℕ) (named : ℕ → ℕ → Option ℕ) (r : Whole g) (v : View) (x : State g) → Agrees g phase named r v x → AreOthers others r v
       → ((s : ℕ) → s < count → (current ≡ s → ⊥) → IsOpen (phase s) v.place)
-      → ((at frames : ℕ) → phase current ≡ Told at frames → AreAside g current r.choice v)
+      → ((at frames : ℕ) → phase current ≡ Told at frames → IsCalm g current r.choice v)
       → IsStill g others phase current (named current) named r.choice v x
   still_of others phase current named r v x h o is_open calm = record {
     stands = record {
@@ -152,6 +152,7 @@ module _ (g : Choosing) where
       foreign = h.foreign;
       timers = h.timers;
       is_open = is_open;
+      calm = calm;
       drawn = o.drawn;
       due = o.due;
       own = λ i t are at. o.apart i are (IsOwn t at);
@@ -231,6 +232,11 @@ module _ (g : Choosing) where
             | inr new ↦ inr new.1
           ])
         ]
+
+    -- what is put on the board is what was given
+    pub board_so : (a : HasActed g no_timer phase current numbers left said v from c w) (awaited : Awaits count c) (at : IsAt g to phase c w) (others : (i due : ℕ) → AreOthers (one_timer i due) r v → AreOthers (one_timer i due) after w) → (leaves_so a awaited at others).board ≡ a.given
+    unfolding leaves_so
+    board_so a awaited at others = refl
 
   -- Where nothing happens, nothing is left.
   pub nothing_so : (phase : Phase) (r : Whole g) (v : View) (x : State g) → TiedAt g phase r v x → WholeLeaves (names g r) x r v phase r v

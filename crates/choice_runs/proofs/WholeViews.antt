@@ -11,7 +11,7 @@ use Rattle.client_ties.specs.Sights.{Sight, sight, due_of, IsFair}
 use Rattle.choice_runs.specs.Choosing.{Choosing}
 use Rattle.choice_runs.specs.Requests.{Desk, AreKept, Work}
 use Rattle.choice_runs.specs.Servers.{State, AreTied}
-use Rattle.choice_runs.specs.Whole.{IsSeen, Whole, Owns, IsOwn, IsServers, Agrees, AreAside, OneTook, NoneTook, IsAt, Tied}
+use Rattle.choice_runs.specs.Whole.{IsSeen, Whole, Owns, IsOwn, IsServers, Agrees, IsCalm, OneTook, NoneTook, IsAt, Tied}
 
 at_most : (a b : ℕ) → b ≡ a → a ≤ b
 at_most a b e = omega arith
@@ -34,7 +34,7 @@ module _ (g : Choosing) where
       left = m.left;
       all = m.all;
       tried = m.tried;
-      waits = λ e i r p. (let w = m.waits e i r p in record { within = w.within; ticket = w.ticket; waiting = w.waiting; named = w.named });
+      waits = λ e i r p. (let w = m.waits e i r p in record { within = w.within; ticket = w.ticket; fits = w.fits; waiting = w.waiting; named = w.named });
       apart = m.apart;
       deferred = m.deferred;
       timer = λ i p. (let q = m.timer i p in (q.0, set i t q.1.0 q.0 q.1.1));
@@ -76,7 +76,7 @@ module _ (g : Choosing) where
       board = h.board;
     }
 
-    aside_at : (s : ℕ) → AreAside g s r.choice v → AreAside g s r.choice w
+    aside_at : (s : ℕ) → IsCalm g s r.choice v → IsCalm g s r.choice w
     aside_at s aside t job i due is timer due_is le =
         let q = (h.kept.kept t job is).timer i timer in
         aside t job i due is timer (sym (seen.dues i (IsOwn t q.0)) ∙ due_is) (subst (λ n. due ≤ n) seen.now le)
@@ -93,7 +93,7 @@ module _ (g : Choosing) where
       in_place = o.in_place;
       frames = o.frames;
       below = subst (λ n. o.place < n) (sym seen.place) o.below;
-      aside = aside_at o.server o.aside;
+      calm = aside_at o.server o.calm;
     })
     is_at (Told at left) (inr (none, inl o)) = inr (none, inl (record {
       what = o.what;

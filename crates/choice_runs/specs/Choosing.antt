@@ -26,7 +26,8 @@ pub record SameDeferring (here : RedundantSettings) (there : Settings) : Type 0 
   pub refused : here.defer_refused ≡ there.defers_refused
   pub servfail : here.defer_servfail ≡ there.defers_servfail
 
--- All of which a choice among tied servers is made: a configuration and settings, a part and the places that it opens, the transport of a server with its tie as each of them, what it leaves alone, and how each begins.
+-- All of which a choice among tied servers is made: a configuration and settings, a part and the places that it opens,
+-- the transport of a server with its tie as each of them, what it leaves alone, and how each begins.
 pub record Choosing : Type 1 where
   pub c : Conf
   pub st : Settings

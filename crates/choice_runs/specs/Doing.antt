@@ -58,7 +58,8 @@ module _ (g : Choosing) (beside : Beside) (phase : ℕ → Phase) (current : ℕ
 
 -- Whichever servers a request is started at: what the choice leaves is what moves of the machine leave.
 abbrev pub RunsAreMoves : Choosing → Type 0
-RunsAreMoves g = (beside : Beside) (phase : ℕ → Phase) (current : ℕ) (es : List Entry) (t : ℕ) (job : Work g) (table : ℕ → Option (Work g)) (named : ℕ → ℕ → Option ℕ) (c : Choice Request g.U g.R) (v : View) (x : State g)
+RunsAreMoves g = (beside : Beside) (phase : ℕ → Phase) (current : ℕ) (es : List Entry) (t : ℕ) (job : Work g) (table : ℕ → Option (Work g))
+    → (named : ℕ → ℕ → Option ℕ) (c : Choice Request g.U g.R) (v : View) (x : State g)
     → InHand g beside phase current t es job table named c v x → Leads (HasDone g beside phase current t job.number table x.board named v x) (runs g.below g.settings t es job c v)
 
 module _ (g : Choosing) where
@@ -74,7 +75,8 @@ module _ (g : Choosing) where
       pub sorted : (hi : ℕ) × Sorted 0 hi c.jobs
       pub board : x.board ≡ []
 
-    -- What a call leaves that began at v and x: it is still again, and what is put on the board has left in the machine. `numbers` has the number of the request of each ticket whose result may be given, and `more` says whether a frame stands at a place.
+    -- What a call leaves that began at v and x: it is still again, and what is put on the board has left in the machine.
+    -- `numbers` has the number of the request of each ticket whose result may be given, and `more` says whether a frame stands at a place.
     pub record HasActed (numbers : ℕ → Option ℕ) (left : ℕ → Option ℕ) (more : Bool) (v : View) (x : State g) (d : Choice Request g.U g.R) (w : View) : Type 0 where
       pub named : ℕ → ℕ → Option ℕ
       pub end : State g
@@ -98,7 +100,8 @@ module _ (g : Choosing) where
       pub nothing : acted.given ≡ []
 
   -- After an event, or after a frame: so many frames are left for server s at a place.
-  pub record HasTold (others : Others) (phase : ℕ → Phase) (s : ℕ) (MayBe : (place frames : ℕ) → Type 0) (numbers : ℕ → Option ℕ) (v : View) (x : State g) (d : Choice Request g.U g.R) (w : View) : Type 0 where
+  pub record HasTold (others : Others) (phase : ℕ → Phase) (s : ℕ) (MayBe : (place frames : ℕ) → Type 0) (numbers : ℕ → Option ℕ)
+      (v : View) (x : State g) (d : Choice Request g.U g.R) (w : View) : Type 0 where
     pub at : ℕ
     pub frames : ℕ
     pub may_be : MayBe at frames
@@ -125,8 +128,10 @@ TurningTo g = (others : Others) (phase : ℕ → Phase) (s : ℕ) (left : ℕ �
 
 -- What a server posted is taken: what the choice leaves is what moves of the machine leave, and each result on the board is that of the request of its ticket.
 abbrev pub ResultsAreMoves : Choosing → Type 0
-ResultsAreMoves g = (others : Others) (phase : ℕ → Phase) (current : ℕ) (left : ℕ → Option ℕ) (ps : List OnBoard) (qs : List Post) (named : ℕ → ℕ → Option ℕ) (c : Choice Request g.U g.R) (v : View) (x : State g)
-    → Stands g (record { others = others; left = left }) phase current (λ j. entry_at j c.jobs) named 0 [] c v x → (hi : ℕ) × Sorted 0 hi c.jobs → current < length (g.c).servers → Gives (named current) ps qs left → x.board ≡ map (tag current) qs
+ResultsAreMoves g = (others : Others) (phase : ℕ → Phase) (current : ℕ) (left : ℕ → Option ℕ) (ps : List OnBoard) (qs : List Post)
+    → (named : ℕ → ℕ → Option ℕ) (c : Choice Request g.U g.R) (v : View) (x : State g)
+    → Stands g (record { others = others; left = left }) phase current (λ j. entry_at j c.jobs) named 0 [] c v x → (hi : ℕ) × Sorted 0 hi c.jobs
+    → current < length (g.c).servers → Gives (named current) ps qs left → x.board ≡ map (tag current) qs
     → Leads (HasActed g others phase current (numbers_of g c.jobs) left v.more v x) (settles_all g.below g.settings current ps c v)
 
 -- A request that has left the machine is given up by moves.
@@ -154,7 +159,8 @@ ListsHaveEach g = (servers : List (Server g.U)) (probed : Option ℕ) (first : E
 
 -- A request that the machine tries is started at servers, in any order that has each: what is left is what moves leave.
 abbrev pub TakingOnIsMoves : Choosing → Type 0
-TakingOnIsMoves g = (others : Others) (phase : ℕ → Phase) (t : ℕ) (request : Request) (entries : List Entry) (left : ℕ → Option ℕ) (named : ℕ → ℕ → Option ℕ) (c : Choice Request g.U g.R) (v : View) (x y : State g)
+TakingOnIsMoves g = (others : Others) (phase : ℕ → Phase) (t : ℕ) (request : Request) (entries : List Entry)
+    → (left : ℕ → Option ℕ) (named : ℕ → ℕ → Option ℕ) (c : Choice Request g.U g.R) (v : View) (x y : State g)
     → IsStill g others phase (nobody g) left named c v x → entry_at t c.jobs ≡ None → IsOfOctets request → IsLinedUp (length (g.c).servers) entries → HasTakenOn v.request request x y
     → Leads (HasActed g others phase (nobody g) (with_at t (Some v.request) (numbers_of g c.jobs)) left v.more v y) (takes_on g.below g.settings t entries request c v)
 
@@ -175,9 +181,11 @@ TakingIsMoves g = (others : Others) (phase : ℕ → Phase) (s : ℕ) (a : Serve
 
 -- And what it does as a timer of its own fires, which was taken out before.
 abbrev pub WakingIsMoves : Choosing → Type 0
-WakingIsMoves g = (others : Others) (phase : ℕ → Phase) (s : ℕ) (a : Server g.U) (what : What) (i due : ℕ) (left : ℕ → Option ℕ) (named : ℕ → ℕ → Option ℕ) (c : Choice Request g.U g.R) (v : View) (x : State g)
+WakingIsMoves g = (others : Others) (phase : ℕ → Phase) (s : ℕ) (a : Server g.U) (what : What) (i due : ℕ)
+    → (left : ℕ → Option ℕ) (named : ℕ → ℕ → Option ℕ) (c : Choice Request g.U g.R) (v : View) (x : State g)
     → IsStill g others phase s left named c v x → slice_get c.servers s ≡ Some a → phase s ≡ Untold what → g.Owns a.upstream i → due_of i v.timers.set ≡ Some due → due ≤ v.now
-    → Leads (HasHeard g others phase s (numbers_of g c.jobs) (record v { timers = cancelled i v.timers }) x) (hears_one g.below g.settings s (due_timer i) c (record v { timers = cancelled i v.timers }))
+    → Leads (HasHeard g others phase s (numbers_of g c.jobs) (record v { timers = cancelled i v.timers }) x)
+    (hears_one g.below g.settings s (due_timer i) c (record v { timers = cancelled i v.timers }))
 
 -- What server s hears leaves all as it is.
 abbrev pub IsNothing : (g : Choosing) (s : ℕ) → Heard → Choice Request g.U g.R → View → Type 0
@@ -190,15 +198,19 @@ pub record PassesBy (g : Choosing) (phase : ℕ → Phase) (s : ℕ) (what : Wha
 
 -- Such is one that has not the event's place. Where that is below the next free place, all stands as before.
 pub record IgnoringIsNothing (g : Choosing) : Type 0 where
-  pub events : (phase : ℕ → Phase) (s : ℕ) (a : Server g.U) (what : What) (p : ℕ) (c : Choice Request g.U g.R) (v : View) (x : State g) → AreTied g phase c.servers v x → slice_get c.servers s ≡ Some a → a.posted ≡ []
+  pub events : (phase : ℕ → Phase) (s : ℕ) (a : Server g.U) (what : What) (p : ℕ) (c : Choice Request g.U g.R) (v : View) (x : State g)
+      → AreTied g phase c.servers v x → slice_get c.servers s ≡ Some a → a.posted ≡ []
       → phase s ≡ Untold what → place_in what ≡ Some p → g.has (x.ups s) p ≡ false → NoneDue (g.Owns a.upstream) (sight v) → PassesBy g phase s what c v x
-  pub frames : (phase : ℕ → Phase) (s : ℕ) (a : Server g.U) (what : What) (p : ℕ) (c : Choice Request g.U g.R) (v : View) (x : State g) → AreTied g phase c.servers v x → slice_get c.servers s ≡ Some a → a.posted ≡ []
+  pub frames : (phase : ℕ → Phase) (s : ℕ) (a : Server g.U) (what : What) (p : ℕ) (c : Choice Request g.U g.R) (v : View) (x : State g)
+      → AreTied g phase c.servers v x → slice_get c.servers s ≡ Some a → a.posted ≡ []
       → phase s ≡ Passed what → place_in what ≡ Some p → IsNothing g s (more_at p) c v
   -- a timer of others, which is set no more, or was taken out before
-  pub timers : (phase : ℕ → Phase) (s : ℕ) (a : Server g.U) (i : ℕ) (c : Choice Request g.U g.R) (v : View) (x : State g) → AreTied g phase c.servers v x → slice_get c.servers s ≡ Some a → a.posted ≡ []
+  pub timers : (phase : ℕ → Phase) (s : ℕ) (a : Server g.U) (i : ℕ) (c : Choice Request g.U g.R) (v : View) (x : State g)
+      → AreTied g phase c.servers v x → slice_get c.servers s ≡ Some a → a.posted ≡ []
       → (g.Owns a.upstream i → ⊥) → IsNothing g s (due_timer i) c v × IsNothing g s (due_timer i) c (record v { timers = cancelled i v.timers })
   pub stands : (others : Others) (phase : ℕ → Phase) (s current p : ℕ) (what : What) (left : ℕ → Option ℕ) (named : ℕ → ℕ → Option ℕ) (c : Choice Request g.U g.R) (v : View) (x : State g)
-      → IsStill g others phase current left named c v x → AreTied g (with_up s (Passed what) phase) c.servers v x → place_in what ≡ Some p → p < v.place → IsStill g others (with_up s (Passed what) phase) current left named c v x
+      → IsStill g others phase current left named c v x → AreTied g (with_up s (Passed what) phase) c.servers v x → place_in what ≡ Some p → p < v.place
+      → IsStill g others (with_up s (Passed what) phase) current left named c v x
 
 -- All of these.
 pub record CallsAreMoves (g : Choosing) : Type 0 where

@@ -4,3 +4,4 @@ pub mod Requests
 pub mod Servers
 pub mod Silent
 pub mod Awaiting
+pub mod Whole

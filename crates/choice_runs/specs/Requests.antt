@@ -127,8 +127,10 @@ module _ (g : Choosing) where
     dues = λ i. due_of i v.timers.set;
   }
 
-  -- The choice beside the machine, within a call. `jobs` has its requests, with the one in hand; `current` is the server whose results are taken, and each other may be started at, and told to give up. `beside` has the timers of others, and what is left to come from the current server.
-  pub record Stands (beside : Beside) (phase : ℕ → Phase) (current : ℕ) (jobs : ℕ → Option Work) (named : (s lower : ℕ) → Option ℕ) (over : ℕ) (dropping : List Begun) (c : Choice Request g.U g.R) (v : View) (x : State g) : Type 0 where
+  -- The choice beside the machine, within a call. `jobs` has its requests, with the one in hand; `current` is the server whose results are taken,
+  -- and each other may be started at, and told to give up. `beside` has the timers of others, and what is left to come from the current server.
+  pub record Stands (beside : Beside) (phase : ℕ → Phase) (current : ℕ) (jobs : ℕ → Option Work) (named : (s lower : ℕ) → Option ℕ)
+      (over : ℕ) (dropping : List Begun) (c : Choice Request g.U g.R) (v : View) (x : State g) : Type 0 where
     pub servers : AreTied g phase c.servers v x
     pub quiet : (s : ℕ) (a : Server g.U) → slice_get c.servers s ≡ Some a → (a.posted ≡ []) × ((hi : ℕ) × Sorted 0 hi a.waiting)
     pub is_named : (s : ℕ) (a : Server g.U) → slice_get c.servers s ≡ Some a → (current ≡ s → ⊥) → (i : ℕ) → named s i ≡ g.names a.upstream i

@@ -96,8 +96,10 @@ module _ (g : Choosing) where
 
   -- What a request got that was started: what stands for its result, which is to come under `ticket`; or the result.
   pub data HasReply (k lower ticket : ℕ) (a b : Server g.U) (posts : List Post) (y : Option (Reply g.R)) : Type 0 where
-    Comes : (r : g.R) → y ≡ Some (Later r) → g.ticket r ≡ lower → posts ≡ [] → b.waiting ≡ puts lower ticket a.waiting → ((i : ℕ) → g.names b.upstream i ≡ with_at lower (Some k) (g.names a.upstream) i) → HasReply k lower ticket a b posts y
-    Came : (result : Result Octets Error) → y ≡ Some (Now (part_of result)) → posts ≡ record { request = k; result = result } ∷ [] → b.waiting ≡ a.waiting → ((i : ℕ) → g.names b.upstream i ≡ g.names a.upstream i) → HasReply k lower ticket a b posts y
+    Comes : (r : g.R) → y ≡ Some (Later r) → g.ticket r ≡ lower → posts ≡ [] → b.waiting ≡ puts lower ticket a.waiting
+        → ((i : ℕ) → g.names b.upstream i ≡ with_at lower (Some k) (g.names a.upstream) i) → HasReply k lower ticket a b posts y
+    Came : (result : Result Octets Error) → y ≡ Some (Now (part_of result)) → posts ≡ record { request = k; result = result } ∷ [] → b.waiting ≡ a.waiting
+        → ((i : ℕ) → g.names b.upstream i ≡ g.names a.upstream i) → HasReply k lower ticket a b posts y
 
   -- Request k, which is tried as `ask` says, is started at server s.
   pub record IsStarted (phase : ℕ → Phase) (s k ticket : ℕ) (ask : Waiting) (a : Server g.U) (servers : Listed) (v : View) (x : State) (y : Option (Reply g.R) × Listed) (w : View) : Type 0 where
@@ -131,4 +133,5 @@ module _ (g : Choosing) where
 -- Whatever server is called, the others stay tied as they were.
 abbrev pub OthersStayTied : Type 1
 OthersStayTied = (g : Choosing) (s : ℕ) (May : Act g.P.State → Type 0) (named : ℕ → Option ℕ) (phase after : ℕ → Phase) (servers : Listed g) (a b : Server g.U) (v w : View) (x y : State g)
-    → OthersAreTied g s phase servers v x → slice_get servers s ≡ Some a → IsCalled g s May named a b v w (after s) x y → ((q : ℕ) → (s ≡ q → ⊥) → after q ≡ phase q) → AreTied g after (set servers s b) w y
+    → OthersAreTied g s phase servers v x → slice_get servers s ≡ Some a → IsCalled g s May named a b v w (after s) x y → ((q : ℕ) → (s ≡ q → ⊥) → after q ≡ phase q)
+    → AreTied g after (set servers s b) w y

@@ -13,8 +13,8 @@ use Rattle.client_ties.specs.Sights.{Sight, due_of}
 use Rattle.client_ties.specs.WholeTie.{IsWholeTie}
 use Rattle.choice_runs.specs.Awaiting.{Awaits}
 use Rattle.choice_runs.specs.Choosing.{Choosing}
-use Rattle.choice_runs.specs.Doing.{CallsAreMoves, IsAside, numbers_of}
-use Rattle.choice_runs.specs.Requests.{Work, AreKept, desk_of}
+use Rattle.choice_runs.specs.Doing.{CallsAreMoves, numbers_of}
+use Rattle.choice_runs.specs.Requests.{Work, AreKept, AreAside, desk_of}
 use Rattle.choice_runs.specs.Servers.{State, AreTied}
 
 -- A view looks so, as far as it matters: these timers are due then, and numbers are as high at least.
@@ -62,8 +62,8 @@ module _ (g : Choosing) where
     pub board : x.board ≡ []
 
   -- where a timer of the choice is due, its request neither starts at server s, nor waits there
-  abbrev pub AreAside : (s : ℕ) → Choice Request g.U g.R → View → Type 0
-  AreAside s c v = (t : ℕ) (job : Work g) (i due : ℕ) → entry_at t c.jobs ≡ Some job → job.timer ≡ Some i → due_of i v.timers.set ≡ Some due → due ≤ v.now → IsAside g s job
+  abbrev pub IsCalm : (s : ℕ) → Choice Request g.U g.R → View → Type 0
+  IsCalm s c v = AreAside g s (λ t. entry_at t c.jobs) v
 
   -- One server took the event, and the others passed it.
   pub record OneTook (at left : ℕ) (phase : ℕ → Phase) (c : Choice Request g.U g.R) (v : View) : Type 0 where
@@ -76,7 +76,7 @@ module _ (g : Choosing) where
     pub in_place : place_in what ≡ Some place
     pub frames : (left ≡ 0) ⊎ (at ≡ place)
     pub below : place < v.place
-    pub aside : AreAside server c v
+    pub calm : IsCalm server c v
 
   -- All servers passed it, and no timer of the choice is due.
   pub record NoneTook (phase : ℕ → Phase) (c : Choice Request g.U g.R) (v : View) : Type 0 where
