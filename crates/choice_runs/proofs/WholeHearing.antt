@@ -112,11 +112,11 @@ module _ (g : Choosing) where
 
   one_acts : (x y : State g) (i : ℕ) (d : Act g.P.State) → Opens g.has x.place (x.ups i) d → y.ups ≡ with_up i d.state x.ups → y.place ≡ d.place → OpensNone x y
   one_acts x y i d o ups place = (
-      subst (λ n. x.place ≤ n) (sym place) o.0,
-      λ q p is. each_number (λ q. g.has (with_up i d.state x.ups q) p ≡ true → (g.has (x.ups q) p ≡ true) ⊎ (x.place ≤ p)) i
-          (λ is. elim (o.1 p (subst (λ u. g.has u p ≡ true) (up_here i d.state x.ups) is)) [ inl had ↦ inl had | inr new ↦ inr new.0 ])
-          (λ q ne is. inl (subst (λ u. g.has u p ≡ true) (up_other i q d.state x.ups ne) is)) q (subst (λ (f : ℕ → g.P.State). g.has (f q) p ≡ true) ups is),
-    )
+    subst (λ n. x.place ≤ n) (sym place) o.0,
+    λ q p is. each_number (λ q. g.has (with_up i d.state x.ups q) p ≡ true → (g.has (x.ups q) p ≡ true) ⊎ (x.place ≤ p)) i
+        (λ is. elim (o.1 p (subst (λ u. g.has u p ≡ true) (up_here i d.state x.ups) is)) [ inl had ↦ inl had | inr new ↦ inr new.0 ])
+        (λ q ne is. inl (subst (λ u. g.has u p ≡ true) (up_other i q d.state x.ups ne) is)) q (subst (λ (f : ℕ → g.P.State). g.has (f q) p ≡ true) ups is),
+  )
 
   move_opens : (x : State g) (d : Made g.P.State) → Move g.c g.st composed g.P x d → OpensNone x d.state
   move_opens x _ (Server_moves i d lt acts) = one_acts x (moved i d x) i d (g.opens.acts i x.place (x.ups i) d acts) refl refl

@@ -148,9 +148,12 @@ module _ (g : Choosing) where
       let m = h.kept.kept f.0 f.1 f.2 in
       let o = owing (f.1).started (is_awaited count f.0 f.1 r.choice h.awaited f.2).one in
       let n = m.waits o.0 o.1 (o.2).0 (o.2).1 in
-      let e = found_at r.choice.servers (o.0).server (subst (λ n. (o.0).server < n) (sym h.servers.count) n.within) in
-      ((o.0).server, n.within, ((g.tie (o.0).server n.within).named (t.phases (o.0).server) (e.0).upstream (sight t.view) (a.ups (o.0).server) (o.0).lower k (h.servers.tied (o.0).server e.0 e.1)
-      (sym (h.is_named (o.0).server e.0 e.1 (o.0).lower) ∙ (n.named ∙ ap (λ n. Some n) f.3))).1)
+      let e = found_at r.choice.servers (o.0).server (subst (λ n. (o.0).server < n) (sym h.servers.count) n.within) in (
+        (o.0).server,
+        n.within,
+        ((g.tie (o.0).server n.within).named (t.phases (o.0).server) (e.0).upstream (sight t.view) (a.ups (o.0).server) (o.0).lower k (h.servers.tied (o.0).server e.0 e.1)
+            (sym (h.is_named (o.0).server e.0 e.1 (o.0).lower) ∙ (n.named ∙ ap (λ n. Some n) f.3))).1,
+      )
 
   -- where the whole may end, so may each server
   may_end : (phase : Phase) (phases : ℕ → Phase) (c : Choice Request g.U g.R) (v : View) (s : ℕ) → MayEnd phase → IsAt g phase phases c v → s < count → MayEnd (phases s)

@@ -95,11 +95,14 @@ module _ (g : Choosing) where
       below = subst (λ n. o.place < n) (sym seen.place) o.below;
       calm = aside_at o.server o.calm;
     })
-    is_at (Told at left) (inr (none, inl o)) = inr (none, inl (record {
-      what = o.what;
-      passed = o.passed;
-      early = λ i t due is due_is. subst (λ n. n < due) (sym seen.now) (o.early i t due is (sym (seen.dues i (IsOwn t is)) ∙ due_is));
-    }))
+    is_at (Told at left) (inr (none, inl o)) = inr (
+      none,
+      inl (record {
+        what = o.what;
+        passed = o.passed;
+        early = λ i t due is due_is. subst (λ n. n < due) (sym seen.now) (o.early i t due is (sym (seen.dues i (IsOwn t is)) ∙ due_is));
+      }),
+    )
     is_at (Told at left) (inr (none, inr o)) = inr (none, inr o)
     is_at (Passed what) a = absurd a
 

@@ -38,10 +38,10 @@ use Rattle.client_runs.proofs.Datagrams.{fallbacks_are_tied, fallbacks_are_share
 use Rattle.client_runs.proofs.Lifting.{IsRaised, raised_is_tied, raised_is_shared}
 
 -- what stands for a result, below
-stream_asked : Handed → stream.Asked
+abbrev stream_asked : Handed → stream.Asked
 stream_asked q = record { ticket = upstream.ticket_of q; given = upstream.has_given q }
 
-both_asked : Handed → fallback.Asked
+abbrev both_asked : Handed → fallback.Asked
 both_asked q = record { ticket = upstream.ticket_of q; given = upstream.has_given q }
 
 knows_at : (c : Conf) (u : Upstream Request) (i : ℕ) → OwnsAt u i ⊎ (OwnsAt u i → ⊥)
@@ -102,7 +102,7 @@ module _ (c : Conf) (s : ℕ) where
     response = answered;
   }
 
-  tied_by : (o : Option Use) → use_at s c.servers ≡ o → (o ≡ None → ⊥) → IsTie (served c) s (via_by o) bare upstream.ticket_of (first_by s o) (TiedBy o s) names_at OwnsAt
+  pub tied_by : (o : Option Use) → use_at s c.servers ≡ o → (o ≡ None → ⊥) → IsTie (served c) s (via_by o) bare upstream.ticket_of (first_by s o) (TiedBy o s) names_at OwnsAt
   tied_by None e some = absurd (some refl)
   tied_by (Some ByStreams) e some =
       raised_is_tied (served c) (by_streams for_one) (λ (r : stream.Asked). r.ticket) (TiedAs s) names_of owns bare upstream.ticket_of (TiedBy (Some ByStreams) s) names_at OwnsAt server.Stream stream_asked streams_raised
@@ -111,14 +111,14 @@ module _ (c : Conf) (s : ℕ) where
       raised_is_tied (served c) (by_both for_one) (λ (r : fallback.Asked). r.ticket) (FallsBack s) (named_by s) (OwnsOne s) bare upstream.ticket_of (TiedBy (Some ByDatagrams) s) names_at OwnsAt server.DgramStream both_asked both_raised
       s via.Dgram (dgram_stream.started s dgram_stream.default_settings) (fallbacks_are_tied c s e)
 
-  shared_by : (o : Option Use) → use_at s c.servers ≡ o → (o ≡ None → ⊥) → IsShared (served c) has_place bare (TiedBy o s) OwnsAt
+  pub shared_by : (o : Option Use) → use_at s c.servers ≡ o → (o ≡ None → ⊥) → IsShared (served c) has_place bare (TiedBy o s) OwnsAt
   shared_by None e some = absurd (some refl)
   shared_by (Some ByStreams) e some =
       raised_is_shared (served c) (by_streams for_one) (λ (r : stream.Asked). r.ticket) (TiedAs s) names_of owns bare upstream.ticket_of (TiedBy (Some ByStreams) s) names_at OwnsAt server.Stream stream_asked streams_raised has_place (streams_are_shared c s)
   shared_by (Some ByDatagrams) e some =
       raised_is_shared (served c) (by_both for_one) (λ (r : fallback.Asked). r.ticket) (FallsBack s) (named_by s) (OwnsOne s) bare upstream.ticket_of (TiedBy (Some ByDatagrams) s) names_at OwnsAt server.DgramStream both_asked both_raised has_place (fallbacks_are_shared c s e)
 
-  placed_by : (o : Option Use) (phase : Phase) (u : Upstream Request) (x : Sight) (a : Served) → TiedBy o s phase u x a → IsPlacedBy s o u
+  pub placed_by : (o : Option Use) (phase : Phase) (u : Upstream Request) (x : Sight) (a : Served) → TiedBy o s phase u x a → IsPlacedBy s o u
   placed_by None phase u x a l = absurd l
   placed_by (Some ByStreams) phase (server.Dgram d) x a l = absurd l
   placed_by (Some ByStreams) phase (server.Stream m) x a l = server_at phase m x a l
@@ -130,7 +130,7 @@ module _ (c : Conf) (s : ℕ) where
   placed_by (Some ByDatagrams) phase (server.Stream m) x a l = absurd l
   placed_by (Some ByDatagrams) phase (server.DgramStream f) x a l = l.server
 
-  starts_by : (o : Option Use) → IsStarting s (via_by o) bare (upstream.transport for_one) (IsPlacedBy s o) (FitsBy o)
+  pub starts_by : (o : Option Use) → IsStarting s (via_by o) bare (upstream.transport for_one) (IsPlacedBy s o) (FitsBy o)
   starts_by o = record { send = send o; step = λ h u v. refl; cancel = cancel o; response = λ r u v. refl; fits = fits o }
     where
       send : (o : Option Use) (r : Request) (u : Upstream Request) (v : View) → IsPlacedBy s o u → (upstream.transport for_one).send r u v ≡ bare.send r u (asks (Start v.request s (via_by o)) v)
@@ -165,7 +165,7 @@ module _ (c : Conf) (s : ℕ) where
       fits (Some ByDatagrams) r (server.DgramStream f) v placed = tt
 
 -- a server that is there is used somehow
-is_used : (s : ℕ) (servers : List Use) → s < length servers → use_at s servers ≡ None → ⊥
+pub is_used : (s : ℕ) (servers : List Use) → s < length servers → use_at s servers ≡ None → ⊥
 is_used s [] lt e = absurd (omega arith)
 is_used zero (u ∷ us) lt e = absurd (let z : Some u ≡ None = e in cc)
 is_used (suc s) (u ∷ us) lt e = is_used s us (omega arith) e

@@ -1,6 +1,8 @@
 -- A transport that is tied stays tied, and leaves alone what is not its own, where it stands as one of several kinds.
 use Rattle.std.proofs.Common.{◌≡◌, ℕ, suc, ◌<◌, ◌≤◌, ◌⊎◌, inl, inr, max, true, false, [], Option, Some, None, refl, sym, ap, subst, ◌∙◌}
 use Rattle.std.specs.Prelude.{option_map}
+use Rattle.std.proofs.lemmas.Option.{same_Some}
+use Rattle.dns_names.proofs.Heads.{none_some}
 use Rattle.client_request.specs.Carries.{IsOfOctets}
 use Rattle.client_request.specs.Request.{Request}
 use Rattle.client_request.specs.Timers.{cancelled}
@@ -25,13 +27,13 @@ lead_up : {U V : Type 0} (up : U → V) (A : U → View → Type 0) (B : V → V
 lead_up up A B None f l = tt
 lead_up up A B (Some x) f l = f x.0 x.1 l
 
+same_second : {V : Type 0} (p q : V × View) → Some p ≡ Some q → p.1 ≡ q.1
+same_second {V} p q e = ap (λ (p : V × View). p.1) (same_Some p q e)
+
 -- what was left above was left below
 was_left : {U V : Type 0} (up : U → V) (o : Option (U × View)) (w : V) (x : View) → raised up o ≡ Some (w, x) → (u : U) × (o ≡ Some (u, x))
-was_left up None w x e = absurd (let z : None ≡ Some (w, x) = e in cc)
-was_left up (Some y) w x e = (y.0, ap (λ (v : View). Some (y.0, v)) (same e))
-  where
-    same : Some (up y.0, y.1) ≡ Some (w, x) → y.1 ≡ x
-    same z = let q : (up y.0, y.1) ≡ (w, x) = cc in ap (λ (p : _ × View). p.1) q
+was_left up None w x e = absurd (none_some e)
+was_left up (Some y) w x e = (y.0, ap (λ (v : View). Some (y.0, v)) (same_second (up y.0, y.1) (w, x) e))
 
 -- T is t in another type: `up` leads there, and `asked` gives what stands for a result below.
 pub record IsRaised {c : Conf} (P : ServerPart c) {U R V Q : Type 0} (t : Transport Request U R) (ticket : R → ℕ) (Tied : Phase → U → Sight → P.State → Type 0) (names : U → ℕ → Option ℕ) (Owns : U → ℕ → Type 0)
@@ -110,24 +112,24 @@ module _ {c : Conf} (P : ServerPart c) {U R V Q : Type 0} (t : Transport Request
 
       sends : (phase : Phase) (v : V) (w : View) (a : P.State) (r : Request) → IsOpen phase w.place → TiedV phase v (sight w) a → IsFair w → IsOfOctets r → P.holds a w.request ≡ false
           → Leads (Leaves P TiedV namesV OwnsV (Begins (P.Starts s w.place w.request r a) (Chain P s)) (with_at w.ticket (Some w.request) (namesV v)) v w phase) (T.send r v (asks (Start w.request s via) w))
-      sends phase v w a r open l fair octets free =
+      sends phase v w a r may l fair octets free =
           let o = is.out phase v (sight w) a l in
           let May = Begins (P.Starts s w.place w.request r a) (Chain P s) in
           let said : View = asks (Start w.request s via) w in
           subst (λ v. Leads (Leaves P TiedV namesV OwnsV May (with_at w.ticket (Some w.request) (namesV v)) v w phase) (T.send r v said)) (sym o.1)
           (subst (λ f. Leads (Leaves P TiedV namesV OwnsV May (with_at w.ticket (Some w.request) f) (up o.0) w phase) (T.send r (up o.0) said)) (sym (is.names_are o.0))
-          (call_up May (with_at w.ticket (Some w.request) (names o.0)) o.0 w phase (t.send r o.0 said) (T.send r (up o.0) said) (is.send r o.0 said) (y.sends phase o.0 w a r open o.2 fair octets free)))
+          (call_up May (with_at w.ticket (Some w.request) (names o.0)) o.0 w phase (t.send r o.0 said) (T.send r (up o.0) said) (is.send r o.0 said) (y.sends phase o.0 w a r may o.2 fair octets free)))
 
       cancels : (phase : Phase) (v : V) (w : View) (a : P.State) (q : Q) (k : ℕ) → IsOpen phase w.place → TiedV phase v (sight w) a → IsFair w → namesV v (number q) ≡ Some k
           → Leads (Leaves P TiedV namesV OwnsV (λ d. Begins (P.Cancels s w.place k a) (Chain P s) d × (d.posts ≡ [])) (with_at (number q) None (namesV v)) v w phase) (T.cancel q v w)
-      cancels phase v w a q k open l fair e =
+      cancels phase v w a q k may l fair e =
           let o = is.out phase v (sight w) a l in
           let May : Act P.State → Type 0 = λ d. Begins (P.Cancels s w.place k a) (Chain P s) d × (d.posts ≡ []) in
           let below : names o.0 (ticket (asked q)) ≡ Some k = ap (names o.0) (is.numbers q) ∙ (ap (λ (f : ℕ → Option ℕ). f (number q)) (sym (is.names_are o.0)) ∙ (ap (λ v. namesV v (number q)) (sym o.1) ∙ e)) in
           subst (λ v. Leads (Leaves P TiedV namesV OwnsV May (with_at (number q) None (namesV v)) v w phase) (T.cancel q v w)) (sym o.1)
           (subst (λ f. Leads (Leaves P TiedV namesV OwnsV May (with_at (number q) None f) (up o.0) w phase) (T.cancel q (up o.0) w)) (sym (is.names_are o.0))
           (subst (λ n. Leads (Leaves P TiedV namesV OwnsV May (with_at n None (names o.0)) (up o.0) w phase) (T.cancel q (up o.0) w)) (is.numbers q)
-          (call_up May (with_at (ticket (asked q)) None (names o.0)) o.0 w phase (t.cancel (asked q) o.0 w) (T.cancel q (up o.0) w) (is.cancel q o.0 w) (y.cancels phase o.0 w a (asked q) k open o.2 fair below))))
+          (call_up May (with_at (ticket (asked q)) None (names o.0)) o.0 w phase (t.cancel (asked q) o.0 w) (T.cancel q (up o.0) w) (is.cancel q o.0 w) (y.cancels phase o.0 w a (asked q) k may o.2 fair below))))
 
       tells : (v : V) (w : View) (a : P.State) (what : What) → TiedV (Untold what) v (sight w) a → IsFair w → NoneDue (OwnsV v) (sight w) → w.more ≡ false
           → Leads (Tells P TiedV namesV OwnsV (Chain P s w.place a) v w (MayLeave what)) (T.step (told what) v w)
@@ -153,9 +155,9 @@ module _ {c : Conf} (P : ServerPart c) {U R V Q : Type 0} (t : Transport Request
     ignores = λ v w a what p l place none. (let o = is.out (Untold what) v (sight w) a l in unchanged v w (told what) o.0 o.1 (y.ignores o.0 w a what p o.2 place none));
     passes = λ v x a what p l place none early. (let o = is.out (Untold what) v x a l in subst (λ v. TiedV (Passed what) v x a) (sym o.1) (is.into (Passed what) o.0 x a (y.passes o.0 x a what p o.2 place none (none_below o.0 x (subst (λ v. NoneDue (OwnsV v) x) o.1 early)))));
     frames = λ v w a what p l place. (let o = is.out (Passed what) v (sight w) a l in unchanged v w (more_at p) o.0 o.1 (y.frames o.0 w a what p o.2 place));
-    alone = λ phase v w a r w' x open l fair octets free e. (let o = is.out phase v (sight w) a l in let b = sent v w r w' x o.0 o.1 e in y.alone phase o.0 w a r b.0 x open o.2 fair octets free b.1);
-    says_none = λ phase v w a r w' x open l fair octets free e. (let o = is.out phase v (sight w) a l in let b = sent v w r w' x o.0 o.1 e in y.says_none phase o.0 w a r b.0 x open o.2 fair octets free b.1);
-    keeps_more = λ phase v w a q w' x open l e. (let o = is.out phase v (sight w) a l in let b = was_left up (t.cancel (asked q) o.0 w) w' x (sym (ap (λ v. T.cancel q v w) o.1 ∙ is.cancel q o.0 w) ∙ e) in y.keeps_more phase o.0 w a (asked q) b.0 x open o.2 b.1);
+    alone = λ phase v w a r w' x may l fair octets free e. (let o = is.out phase v (sight w) a l in let b = sent v w r w' x o.0 o.1 e in y.alone phase o.0 w a r b.0 x may o.2 fair octets free b.1);
+    says_none = λ phase v w a r w' x may l fair octets free e. (let o = is.out phase v (sight w) a l in let b = sent v w r w' x o.0 o.1 e in y.says_none phase o.0 w a r b.0 x may o.2 fair octets free b.1);
+    keeps_more = λ phase v w a q w' x may l e. (let o = is.out phase v (sight w) a l in let b = was_left up (t.cancel (asked q) o.0 w) w' x (sym (ap (λ v. T.cancel q v w) o.1 ∙ is.cancel q o.0 w) ∙ e) in y.keeps_more phase o.0 w a (asked q) b.0 x may o.2 b.1);
   }
     where
       unchanged : (v : V) (w : View) (h : Heard) (u : U) → v ≡ up u → t.step h u w ≡ Some (u, w) → T.step h v w ≡ Some (v, w)

@@ -61,4 +61,7 @@ module _ (options : ResolvOptions) where
     all_begin ss e =
         all_behind 0 ss (started redundant)
         ∙ ap (λ (l : List (Server (Upstream Request))). record (started redundant) { choice = record { servers = l; jobs = []; timers = [] } })
-        (sym (ap (λ us. servers_from (choosing c redundant cache) 0 (length us)) e ∙ same_servers 0 ss (λ i. ap (λ us. use_at i us) e)))
+        (sym (ap (λ us. servers_from (choosing c redundant cache) 0 (length us)) e ∙ same_servers 0 ss (λ i. ap (λ m. use_at m c.servers) (from_nought i) ∙ ap (λ us. use_at i us) e)))
+      where
+        from_nought : (i : ℕ) → 0 + i ≡ i
+        from_nought i = omega arith

@@ -35,7 +35,7 @@ use Rattle.client_runs.proofs.Serverless.{clients_without_servers_run}
 use Rattle.client_runs.proofs.Servers.{all_begin}
 
 -- the client above the choice among the servers of a configuration
-tying : (c : Conf) → 0 < length c.servers → RedundantSettings → CacheSettings → Tying
+abbrev tying : (c : Conf) → 0 < length c.servers → RedundantSettings → CacheSettings → Tying
 tying c some settings cache = record {
   c = c;
   some = some;

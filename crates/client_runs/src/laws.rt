@@ -2,6 +2,7 @@
 
 ghost use Rattle.client_runs.specs.Fallbacks.{FallbacksAreShared, FallbacksAreTied};
 ghost use Rattle.client_runs.specs.Silent.{SilentClientsRun};
+ghost use Rattle.client_runs.specs.Ties.{EveryPlainTraceIsRight, EveryPlainTraceRuns, PlainTracesKeepTheirEvents};
 
 /// The laws of a tie to a whole client can be met: above a transport that gives every request an error at once, the
 /// client makes only runs of the client of small moves.
