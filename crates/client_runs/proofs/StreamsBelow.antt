@@ -1,5 +1,5 @@
 -- Reconnection meets what a fallback asks of its streams.
-use Rattle.std.proofs.Common.{◌≡◌, ℕ, inl, false, true, List, [], Option, Some, None, refl, ap, subst, ◌∙◌}
+use Rattle.std.proofs.Common.{◌≡◌, ℕ, inl, false, true, List, [], Some, None, refl, subst, ◌∙◌}
 use Rattle.client_request.specs.declared.event.What.{What}
 use Rattle.client_multi.specs.MultiStream.{started}
 use Rattle.client_multi.specs.Settings.{default_settings}
@@ -11,7 +11,7 @@ use Rattle.client_ties.specs.PartTie.{Phase, Untold, Told, Passed}
 use Rattle.client_ties.specs.Sights.{Sight, sight, NoneDue}
 use Rattle.dgram_ties.specs.Fallback.{AreStreams, pending_in}
 use Rattle.multi_ties.specs.Servers.{desk_of, nothing_under_way, IsServer}
-use Rattle.multi_ties.specs.Tied.{Streams, by_streams, frames_at, IsUntold, TiedAs, names_of, owns}
+use Rattle.multi_ties.specs.Tied.{Streams, by_streams, frames_at, TiedAs, names_of, owns}
 use Rattle.multi_ties.proofs.Fields.{stream_of}
 use Rattle.multi_ties.proofs.Staying.{passes_by}
 use Rattle.multi_ties.proofs.StreamsShared.{streams_are_shared}
