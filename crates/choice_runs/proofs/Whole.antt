@@ -1,7 +1,5 @@
 -- A choice among tied servers is all that a client has below it.
-use Rattle.std.proofs.Common.{◌≡◌, refl}
-use Rattle.client_ties.specs.WholeTie.{IsWholeTie}
-use Rattle.choice_runs.specs.Choosing.{Choosing}
+use Rattle.std.proofs.Common.{refl}
 use Rattle.choice_runs.specs.Silent.{SilentChoicesAreWhole, silent_choice}
 use Rattle.choice_runs.specs.Whole.{ChoicesAreWhole}
 use Rattle.choice_runs.proofs.Silence.{calls_are_moves, choose_numbers}

@@ -1,20 +1,20 @@
 -- The servers hear a signal one after another, and only one of them takes notice.
-use Rattle.std.proofs.Common.{◌≡◌, ℕ, zero, suc, ◌+◌, ◌<◌, ◌≤◌, ◌⊎◌, inl, inr, max, Bool, true, false, List, [], length, Option, Some, None, slice_get, refl, sym, ap, subst, ◌∙◌, arith, le_refl}
+use Rattle.std.proofs.Common.{◌≡◌, ℕ, zero, suc, ◌+◌, ◌<◌, ◌≤◌, ◌⊎◌, inl, inr, max, Bool, true, false, List, [], length, Some, slice_get, refl, sym, ap, subst, ◌∙◌, arith, le_refl}
 use Rattle.std.specs.Prelude.{option_and_then}
 use Rattle.client_request.specs.Request.{Request}
-use Rattle.client_request.specs.View.{View, Heard, told, more_at, due_timer}
+use Rattle.client_request.specs.View.{View, Heard, told}
 use Rattle.client_request.specs.declared.event.Event.{Event}
 use Rattle.client_request.specs.declared.event.Out.{Out}
 use Rattle.client_request.specs.declared.event.What.{What}
 use Rattle.client_request.specs.Composed.{composed}
-use Rattle.client_choice.specs.Choice.{Choice, hears_some, hears_all, hears_one, settles_all}
-use Rattle.client_choice.specs.Servers.{Server, hears_at, onto}
+use Rattle.client_choice.specs.Choice.{Choice, hears_some, hears_one, settles_all}
+use Rattle.client_choice.specs.Servers.{Server, onto}
 use Rattle.headline.specs.machine.Part.{Act}
-use Rattle.headline.specs.machine.Client.{Upper, Made, Move, Server_moves, Hands_on, Gives_up, Drops, Keeps_back, Delivers, Concludes, Times_out, Replies, Forgets, Derives, Answers, Takes_on, moved, hand, with_up}
+use Rattle.headline.specs.machine.Client.{Made, Move, Server_moves, Hands_on, Gives_up, Drops, Keeps_back, Delivers, Concludes, Times_out, Replies, Forgets, Derives, Answers, Takes_on, moved, hand, with_up}
 use Rattle.client_ties.specs.Leading as moves
 use Rattle.client_ties.specs.PartTie.{Phase, Untold, Passed, Leads, place_in}
 use Rattle.client_ties.specs.Sharing.{Opens}
-use Rattle.client_ties.specs.Sights.{Sight, sight}
+use Rattle.client_ties.specs.Sights.{sight}
 use Rattle.client_ties.proofs.Keys.{each_number}
 use Rattle.choice_runs.specs.Choosing.{Choosing}
 use Rattle.choice_runs.specs.Doing.{IsNothing}
@@ -112,11 +112,11 @@ module _ (g : Choosing) where
 
   one_acts : (x y : State g) (i : ℕ) (d : Act g.P.State) → Opens g.has x.place (x.ups i) d → y.ups ≡ with_up i d.state x.ups → y.place ≡ d.place → OpensNone x y
   one_acts x y i d o ups place = (
-      subst (λ n. x.place ≤ n) (sym place) o.0,
-      λ q p is. each_number (λ q. g.has (with_up i d.state x.ups q) p ≡ true → (g.has (x.ups q) p ≡ true) ⊎ (x.place ≤ p)) i
-          (λ is. elim (o.1 p (subst (λ u. g.has u p ≡ true) (up_here i d.state x.ups) is)) [ inl had ↦ inl had | inr new ↦ inr new.0 ])
-          (λ q ne is. inl (subst (λ u. g.has u p ≡ true) (up_other i q d.state x.ups ne) is)) q (subst (λ (f : ℕ → g.P.State). g.has (f q) p ≡ true) ups is),
-    )
+    subst (λ n. x.place ≤ n) (sym place) o.0,
+    λ q p is. each_number (λ q. g.has (with_up i d.state x.ups q) p ≡ true → (g.has (x.ups q) p ≡ true) ⊎ (x.place ≤ p)) i
+        (λ is. elim (o.1 p (subst (λ u. g.has u p ≡ true) (up_here i d.state x.ups) is)) [ inl had ↦ inl had | inr new ↦ inr new.0 ])
+        (λ q ne is. inl (subst (λ u. g.has u p ≡ true) (up_other i q d.state x.ups ne) is)) q (subst (λ (f : ℕ → g.P.State). g.has (f q) p ≡ true) ups is),
+  )
 
   move_opens : (x : State g) (d : Made g.P.State) → Move g.c g.st composed g.P x d → OpensNone x d.state
   move_opens x _ (Server_moves i d lt acts) = one_acts x (moved i d x) i d (g.opens.acts i x.place (x.ups i) d acts) refl refl

@@ -1,17 +1,14 @@
 -- What agrees of a choice and the machine at one view agrees at each that looks the same.
-use Rattle.std.proofs.Common.{◌≡◌, ℕ, ◌<◌, ◌≤◌, inl, inr, List, [], length, Option, Some, None, slice_get, refl, sym, ap, subst, ◌∙◌, arith, le_refl}
+use Rattle.std.proofs.Common.{◌≡◌, ℕ, ◌<◌, ◌≤◌, inl, inr, List, [], length, Option, Some, slice_get, refl, sym, subst, ◌∙◌, arith, le_refl}
 use Rattle.std.proofs.lemmas.Option.{slice_get_within}
-use Rattle.client_request.specs.Numbered.{entry_at}
-use Rattle.client_request.specs.Request.{Request}
 use Rattle.client_request.specs.View.{View}
-use Rattle.client_choice.specs.Choice.{Choice}
 use Rattle.client_choice.specs.Servers.{Server}
 use Rattle.client_ties.specs.PartTie.{Phase, Untold, Told, Passed}
-use Rattle.client_ties.specs.Sights.{Sight, sight, due_of, IsFair}
+use Rattle.client_ties.specs.Sights.{sight, due_of, IsFair}
 use Rattle.choice_runs.specs.Choosing.{Choosing}
-use Rattle.choice_runs.specs.Requests.{Desk, AreKept, Work}
+use Rattle.choice_runs.specs.Requests.{Desk, AreKept}
 use Rattle.choice_runs.specs.Servers.{State, AreTied}
-use Rattle.choice_runs.specs.Whole.{IsSeen, Whole, Owns, IsOwn, IsServers, Agrees, IsCalm, OneTook, NoneTook, IsAt, Tied}
+use Rattle.choice_runs.specs.Whole.{IsSeen, Whole, Owns, IsOwn, IsServers, Agrees, IsCalm, IsAt, Tied}
 
 at_most : (a b : ℕ) → b ≡ a → a ≤ b
 at_most a b e = omega arith
@@ -95,11 +92,14 @@ module _ (g : Choosing) where
       below = subst (λ n. o.place < n) (sym seen.place) o.below;
       calm = aside_at o.server o.calm;
     })
-    is_at (Told at left) (inr (none, inl o)) = inr (none, inl (record {
-      what = o.what;
-      passed = o.passed;
-      early = λ i t due is due_is. subst (λ n. n < due) (sym seen.now) (o.early i t due is (sym (seen.dues i (IsOwn t is)) ∙ due_is));
-    }))
+    is_at (Told at left) (inr (none, inl o)) = inr (
+      none,
+      inl (record {
+        what = o.what;
+        passed = o.passed;
+        early = λ i t due is due_is. subst (λ n. n < due) (sym seen.now) (o.early i t due is (sym (seen.dues i (IsOwn t is)) ∙ due_is));
+      }),
+    )
     is_at (Told at left) (inr (none, inr o)) = inr (none, inr o)
     is_at (Passed what) a = absurd a
 
