@@ -1,20 +1,20 @@
 -- Whatever a choice is called for, each request that waits in its table is awaited afterwards.
-use Rattle.std.proofs.Common.{◌≡◌, ℕ, zero, suc, ◌+◌, ◌-◌, ◌<◌, Bool, true, false, if◌then◌else◌, List, [], ◌∷◌, length, Option, Some, None, slice_get, refl, sym, ap, subst, ◌∙◌}
+use Rattle.std.proofs.Common.{◌≡◌, ℕ, zero, suc, ◌+◌, ◌-◌, Bool, true, false, if◌then◌else◌, List, [], ◌∷◌, length, Option, Some, None, slice_get, refl, sym, ap, subst, ◌∙◌}
 use Rattle.std.specs.Prelude.{set}
 use Rattle.client_request.specs.Board.{Part}
 use Rattle.client_request.specs.Numbered.{frees, entry_at}
-use Rattle.client_request.specs.View.{View, Heard, Transport, answers}
+use Rattle.client_request.specs.View.{View, Heard, Transport}
 use Rattle.client_request.specs.declared.board.Posted.{Posted}
 use Rattle.client_settings.specs.Settings.{RedundantSettings}
-use Rattle.client_choice.specs.Choice.{Choice, Job, rests, keeps, unarmed, unset, stopped, ends, put_off, is_better, is_deferred, is_last, is_of, silenced, disarmed, goes_on, begins, runs, puts_off, gets, settled, settles_job, settles_owner, settles, settles_all, without_owner, fresh_job, fires, takes_on, drops, drops_job, hears_one, hears_some, hears_all}
+use Rattle.client_choice.specs.Choice.{Choice, Job, rests, unarmed, unset, stopped, ends, put_off, is_better, is_deferred, is_last, is_of, silenced, disarmed, goes_on, begins, runs, puts_off, gets, settled, settles_job, settles_owner, settles, settles_all, without_owner, fresh_job, fires, takes_on, drops, drops_job, hears_one, hears_some, hears_all}
 use Rattle.client_choice.specs.Servers as at
 use Rattle.client_choice.specs.Servers.{Server, hears_at, hears_found, disowned, owner}
 use Rattle.client_choice.specs.declared.job.Entry.{Entry}
 use Rattle.client_choice.specs.declared.job.Started.{Started}
 use Rattle.client_ties.specs.PartTie.{Leads}
-use Rattle.choice_runs.specs.Awaiting.{OneOwes, LastOwes, AreWithin, IsAwaited, AreAwaited, Awaits}
-use Rattle.choice_runs.proofs.Awaiting.{MayRest, of_awaited, with_jobs, awaited_puts, awaited_frees, awaited_at, rests_awaits, HasStarted, begins_awaits, gives_up_awaits, ends_awaits, Kept, set_length, disowned_length}
-use Rattle.choice_runs.proofs.Leaving.{leads_then, leads_map, leads_on, leads_if}
+use Rattle.choice_runs.specs.Awaiting.{LastOwes, AreWithin, IsAwaited, Awaits}
+use Rattle.choice_runs.proofs.Awaiting.{with_jobs, awaited_puts, awaited_frees, awaited_at, rests_awaits, HasStarted, begins_awaits, gives_up_awaits, ends_awaits, Kept, set_length, disowned_length}
+use Rattle.choice_runs.proofs.Leaving.{leads_then, leads_map, leads_if}
 use Rattle.choice_runs.proofs.Owing.{one_of_last, last_stays, still_last}
 
 not_both : (b : Bool) → b ≡ true → b ≡ false → ⊥

@@ -139,7 +139,7 @@ shares c s = record {
     same u v w x false is = absurd (cc)
     same u v w x true is = ap (λ (y : View). y.more) (ap (λ (y : ℕ × View). y.1) (sym (some_is _ (w, x) is)))
 
-choose_numbers : (c : Conf) → NumbersChoose c
+pub choose_numbers : (c : Conf) → NumbersChoose c
 choose_numbers c = record { tied = numbers_are_tied c; starts = starts_with; opens = opens_none c; shared = shares c }
 
 pub calls_are_moves : (g : Choosing) → CallsAreMoves g

@@ -1,8 +1,8 @@
 -- A choice among tied servers is all that a client has below it.
-use Rattle.std.proofs.Common.{◌≡◌, refl}
-use Rattle.client_ties.specs.WholeTie.{IsWholeTie}
-use Rattle.choice_runs.specs.Choosing.{Choosing}
+use Rattle.std.proofs.Common.{refl}
+use Rattle.choice_runs.specs.Silent.{SilentChoicesAreWhole, silent_choice}
 use Rattle.choice_runs.specs.Whole.{ChoicesAreWhole}
+use Rattle.choice_runs.proofs.Silence.{calls_are_moves, choose_numbers}
 use Rattle.choice_runs.proofs.WholeAsking as asking
 use Rattle.choice_runs.proofs.WholeFirst.{tied_fresh}
 use Rattle.choice_runs.proofs.WholeFiring.{fires}
@@ -10,7 +10,7 @@ use Rattle.choice_runs.proofs.WholeLaws as laws
 use Rattle.choice_runs.proofs.WholeTelling as telling
 
 pub choices_are_whole : ChoicesAreWhole
-choices_are_whole g some calls = record {
+choices_are_whole g some = record {
   fresh = tied_fresh g;
   same = laws.same g;
   alike = laws.alike g;
@@ -23,9 +23,12 @@ choices_are_whole g some calls = record {
   waits = laws.waits g;
   begins = laws.begins g;
   rests = laws.rests g;
-  fires = fires g calls;
-  sends = λ r v a b w request some t fair octets taken. asking.sends g calls r v a b w request some t fair octets taken;
-  cancels = λ r v a b w asked k t fair is left. asking.cancels g calls r v a b w asked k t fair is left;
-  tells = telling.tells g calls;
-  takes = telling.takes g calls;
+  fires = fires g (calls_are_moves g);
+  sends = λ r v a b w request some t fair octets taken. asking.sends g (calls_are_moves g) r v a b w request some t fair octets taken;
+  cancels = λ r v a b w asked k t fair is left. asking.cancels g (calls_are_moves g) r v a b w asked k t fair is left;
+  tells = telling.tells g (calls_are_moves g);
+  takes = telling.takes g (calls_are_moves g);
 }
+
+pub silent_choices_are_whole : SilentChoicesAreWhole
+silent_choices_are_whole c some = (choose_numbers c, λ st settings same. choices_are_whole (silent_choice c st settings same (choose_numbers c)) some)

@@ -1,11 +1,11 @@
 -- A request is taken on by a choice, and given up.
-use Rattle.std.proofs.Common.{◌≡◌, ℕ, zero, suc, ◌+◌, ◌<◌, ◌≤◌, ◌⊎◌, ◌^◌, inl, inr, Bool, true, false, nat_lt, if◌then◌else◌, ◌==◌, ◌||◌, List, [], ◌∷◌, length, Option, Some, None, slice_get, refl, sym, ap, subst, ◌∙◌, arith, le_refl}
+use Rattle.std.proofs.Common.{◌≡◌, ℕ, ◌+◌, ◌<◌, ◌≤◌, ◌^◌, inl, inr, Bool, true, false, nat_lt, if◌then◌else◌, ◌==◌, ◌||◌, List, [], ◌∷◌, length, Option, Some, None, refl, sym, subst, ◌∙◌, arith, le_refl}
 use Rattle.std.specs.Prelude.{option_and_then}
 use Rattle.client_request.specs.Carries.{IsOfOctets}
 use Rattle.client_request.specs.Numbered.{entry_at}
 use Rattle.client_request.specs.Request.{Request}
 use Rattle.client_request.specs.Timers.{can_draw}
-use Rattle.client_request.specs.View.{View, word, drawn, draws_ticket}
+use Rattle.client_request.specs.View.{View, word, drawn}
 use Rattle.client_request.specs.Words.{rest_of}
 use Rattle.client_request.specs.declared.event.What.{What}
 use Rattle.client_choice.specs.Choice.{Choice, takes_on, drops}
@@ -13,22 +13,22 @@ use Rattle.client_choice.specs.Redundant.{with_choice, transport, takes, takes_l
 use Rattle.client_choice.specs.Servers.{Server}
 use Rattle.client_choice.specs.declared.job.Entry.{Entry}
 use Rattle.headline.specs.machine.Streams.{with_at}
-use Rattle.client_ties.specs.PartTie.{Phase, Untold, Told, IsOpen, Leads}
-use Rattle.client_ties.specs.Sights.{Sight, sight, due_of, IsFair}
+use Rattle.client_ties.specs.PartTie.{Untold, IsOpen, Leads}
+use Rattle.client_ties.specs.Sights.{sight, IsFair}
 use Rattle.client_ties.specs.WholeTie.{HasTakenOn, HasLeft}
 use Rattle.client_ties.specs.WholeTie as whole
 use Rattle.client_ties.proofs.Keys.{is_or_was, was_there}
-use Rattle.choice_runs.specs.Awaiting.{AreWithin, Awaits}
+use Rattle.choice_runs.specs.Awaiting.{AreWithin}
 use Rattle.choice_runs.specs.Choosing.{Choosing}
-use Rattle.choice_runs.specs.Doing.{CallsAreMoves, IsStill, HasActed, HasDropped, IsLinedUp, nobody, numbers_of}
-use Rattle.choice_runs.specs.Requests.{Others, Work, AreToStart, IsToStart}
+use Rattle.choice_runs.specs.Doing.{CallsAreMoves, HasActed, HasDropped, IsLinedUp, nobody}
+use Rattle.choice_runs.specs.Requests.{Work, AreToStart, IsToStart}
 use Rattle.choice_runs.specs.Servers.{State}
-use Rattle.choice_runs.specs.Whole.{Whole, Owns, Agrees, IsAt, Tied, names}
+use Rattle.choice_runs.specs.Whole.{Whole, Owns, Agrees, Tied, names}
 use Rattle.choice_runs.proofs.AwaitingCalls.{takes_on_awaits, drops_awaits}
 use Rattle.choice_runs.proofs.Leaving.{leads_on}
 use Rattle.choice_runs.proofs.WholeFiring.{aside_of_nobody}
 use Rattle.choice_runs.proofs.WholeLaws.{number_of}
-use Rattle.choice_runs.proofs.WholeLeaving.{AreOthers, still_of, others_of, leaves_so, board_so, small_so, closes, WholeLeaves, no_timer, one_timer}
+use Rattle.choice_runs.proofs.WholeLeaving.{still_of, others_of, leaves_so, board_so, small_so, closes, WholeLeaves}
 use Rattle.choice_runs.proofs.WholeViews.{agrees_at, TiedAt, at_view}
 
 up_one : (a b : ℕ) → a < b → a < b + 1

@@ -5,26 +5,23 @@ use Rattle.client_request.specs.Request.{Request}
 use Rattle.client_request.specs.Timers.{cancelled}
 use Rattle.client_request.specs.View.{View, due_timer}
 use Rattle.client_request.specs.declared.event.What.{What}
-use Rattle.client_settings.specs.Settings.{RedundantSettings}
-use Rattle.client_choice.specs.Choice.{Choice, due, due_at, hears_all, hears_some}
+use Rattle.client_choice.specs.Choice.{Choice, due, due_at, hears_all}
 use Rattle.client_choice.specs.Redundant.{with_choice, transport}
 use Rattle.client_choice.specs.Servers.{Server}
 use Rattle.client_choice.specs.declared.job.Entry.{Entry}
-use Rattle.headline.specs.Parts.{IsIn}
 use Rattle.client_ties.specs.PartTie.{Phase, Untold, Told, Passed, WasTold, IsOpen, Leads}
-use Rattle.client_ties.specs.Sights.{Sight, sight, due_of, IsFair}
+use Rattle.client_ties.specs.Sights.{sight, due_of, IsFair}
 use Rattle.client_ties.proofs.GoingOn.{dues_without, fair_without}
 use Rattle.client_ties.proofs.Keys.{each_number, with_here, with_there, was_there}
 use Rattle.choice_runs.specs.Awaiting.{Awaits}
 use Rattle.choice_runs.specs.Choosing.{Choosing}
-use Rattle.choice_runs.specs.Doing.{CallsAreMoves, IsStill, HasActed, HasHeard, IsNothing, nobody, numbers_of}
-use Rattle.choice_runs.specs.Requests.{Others, Work, Begun, AreToStart, IsToStart, IsAside}
-use Rattle.choice_runs.specs.Servers.{State, AreTied}
+use Rattle.choice_runs.specs.Doing.{CallsAreMoves, IsStill, HasActed, HasHeard, IsNothing, nobody}
+use Rattle.choice_runs.specs.Requests.{Others, Work, AreToStart, IsToStart, IsAside}
+use Rattle.choice_runs.specs.Servers.{State}
 use Rattle.choice_runs.specs.Whole.{IsSeen, Whole, Owns, IsOwn, IsServers, Agrees, IsCalm, OneTook, IsAt, Tied, names}
 use Rattle.choice_runs.proofs.AwaitingCalls.{hears_all_awaits, fires_awaits}
-use Rattle.choice_runs.proofs.Leaving.{leads_on}
 use Rattle.choice_runs.proofs.WholeHearing.{none_hear, one_hears}
-use Rattle.choice_runs.proofs.WholeLeaving.{AreOthers, knows, set_so, set_is_drawn, still_of, others_of, agrees_of, leaves_so, nothing_so, small_so, closes, WholeLeaves, no_timer, one_timer}
+use Rattle.choice_runs.proofs.WholeLeaving.{AreOthers, knows, set_is_drawn, still_of, others_of, leaves_so, nothing_so, small_so, closes, WholeLeaves, no_timer}
 use Rattle.choice_runs.proofs.WholeViews.{in_conf, agrees_at, is_at, TiedAt, at_view}
 
 within_all : (s n : ℕ) → s < n → s < 0 + n

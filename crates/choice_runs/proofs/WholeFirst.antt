@@ -1,17 +1,15 @@
 -- A choice as it begins is tied to the client that has begun.
-use Rattle.std.proofs.Common.{◌≡◌, ℕ, zero, suc, ◌+◌, ◌<◌, ◌≤◌, inl, inr, true, false, List, [], ◌∷◌, length, Option, Some, None, slice_get, refl, sym, ap, subst, ◌∙◌, arith}
+use Rattle.std.proofs.Common.{◌≡◌, ℕ, zero, suc, ◌+◌, ◌<◌, ◌≤◌, inr, true, false, List, [], length, Option, Some, None, slice_get, refl, sym, ap, subst, ◌∙◌, arith}
 use Rattle.std.proofs.lemmas.Option.{slice_get_within}
 use Rattle.client_request.specs.Composed.{composed}
 use Rattle.client_request.specs.View.{View}
 use Rattle.client_choice.specs.Servers.{Server, added}
 use Rattle.headline.specs.machine.Client.{begun}
 use Rattle.client_ties.specs.Lines.{Sorted}
-use Rattle.client_ties.specs.PartTie.{Phase, Told}
+use Rattle.client_ties.specs.PartTie.{Told}
 use Rattle.client_ties.specs.Sights.{Sight, sight, IsFair}
-use Rattle.choice_runs.specs.Awaiting.{Awaits}
 use Rattle.choice_runs.specs.Choosing.{Choosing}
-use Rattle.choice_runs.specs.Servers.{State, AreTied}
-use Rattle.choice_runs.specs.Whole.{Whole, Owns, IsOwn, IsServers, Agrees, Tied, with_all, servers_from}
+use Rattle.choice_runs.specs.Whole.{Owns, IsOwn, IsServers, Agrees, Tied, with_all, servers_from}
 
 -- the view of a client that has begun
 abbrev begins_at : View

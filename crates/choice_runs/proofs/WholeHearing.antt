@@ -1,20 +1,20 @@
 -- The servers hear a signal one after another, and only one of them takes notice.
-use Rattle.std.proofs.Common.{◌≡◌, ℕ, zero, suc, ◌+◌, ◌<◌, ◌≤◌, ◌⊎◌, inl, inr, max, Bool, true, false, List, [], length, Option, Some, None, slice_get, refl, sym, ap, subst, ◌∙◌, arith, le_refl}
+use Rattle.std.proofs.Common.{◌≡◌, ℕ, zero, suc, ◌+◌, ◌<◌, ◌≤◌, ◌⊎◌, inl, inr, max, Bool, true, false, List, [], length, Some, slice_get, refl, sym, ap, subst, ◌∙◌, arith, le_refl}
 use Rattle.std.specs.Prelude.{option_and_then}
 use Rattle.client_request.specs.Request.{Request}
-use Rattle.client_request.specs.View.{View, Heard, told, more_at, due_timer}
+use Rattle.client_request.specs.View.{View, Heard, told}
 use Rattle.client_request.specs.declared.event.Event.{Event}
 use Rattle.client_request.specs.declared.event.Out.{Out}
 use Rattle.client_request.specs.declared.event.What.{What}
 use Rattle.client_request.specs.Composed.{composed}
-use Rattle.client_choice.specs.Choice.{Choice, hears_some, hears_all, hears_one, settles_all}
-use Rattle.client_choice.specs.Servers.{Server, hears_at, onto}
+use Rattle.client_choice.specs.Choice.{Choice, hears_some, hears_one, settles_all}
+use Rattle.client_choice.specs.Servers.{Server, onto}
 use Rattle.headline.specs.machine.Part.{Act}
-use Rattle.headline.specs.machine.Client.{Upper, Made, Move, Server_moves, Hands_on, Gives_up, Drops, Keeps_back, Delivers, Concludes, Times_out, Replies, Forgets, Derives, Answers, Takes_on, moved, hand, with_up}
+use Rattle.headline.specs.machine.Client.{Made, Move, Server_moves, Hands_on, Gives_up, Drops, Keeps_back, Delivers, Concludes, Times_out, Replies, Forgets, Derives, Answers, Takes_on, moved, hand, with_up}
 use Rattle.client_ties.specs.Leading as moves
 use Rattle.client_ties.specs.PartTie.{Phase, Untold, Passed, Leads, place_in}
 use Rattle.client_ties.specs.Sharing.{Opens}
-use Rattle.client_ties.specs.Sights.{Sight, sight}
+use Rattle.client_ties.specs.Sights.{sight}
 use Rattle.client_ties.proofs.Keys.{each_number}
 use Rattle.choice_runs.specs.Choosing.{Choosing}
 use Rattle.choice_runs.specs.Doing.{IsNothing}

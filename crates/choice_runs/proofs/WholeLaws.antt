@@ -1,27 +1,26 @@
 -- What a tie says of a choice between two calls.
-use Rattle.std.proofs.Common.{◌≡◌, ℕ, zero, suc, ◌<◌, ◌≤◌, ◌⊎◌, inl, inr, max, Bool, true, false, is_some, List, [], ◌∷◌, length, Option, Some, None, option_map, slice_get, refl, sym, ap, subst, ◌∙◌, arith}
+use Rattle.std.proofs.Common.{◌≡◌, ℕ, zero, suc, ◌<◌, ◌≤◌, inl, inr, max, true, is_some, List, [], ◌∷◌, length, Option, Some, None, option_map, slice_get, refl, sym, ap, subst, ◌∙◌, arith}
 use Rattle.client_request.specs.Composed.{composed}
 use Rattle.client_request.specs.Numbered.{entry_at}
 use Rattle.client_request.specs.Request.{Request}
 use Rattle.client_request.specs.View.{View}
 use Rattle.client_request.specs.declared.event.Event.{Event}
 use Rattle.client_choice.specs.Choice.{Choice}
-use Rattle.client_choice.specs.Servers.{Server}
 use Rattle.client_choice.specs.declared.job.Started.{Started}
 use Rattle.headline.specs.Parts.{IsIn}
-use Rattle.headline.specs.machine.Client.{Posted, Waiting, row_begins}
-use Rattle.client_ties.specs.PartTie.{Phase, Untold, Told, Passed, MayEnd, IsNobodys}
-use Rattle.client_ties.specs.Sights.{Sight, sight, due_of, IsFair, IsEarly}
+use Rattle.headline.specs.machine.Client.{Waiting, row_begins}
+use Rattle.client_ties.specs.PartTie.{Phase, Untold, Told, Passed, MayEnd}
+use Rattle.client_ties.specs.Sights.{Sight, sight, IsEarly}
 use Rattle.client_ties.proofs.Keys.{each_number}
 use Rattle.choice_runs.specs.Awaiting.{Owes, OneOwes}
 use Rattle.choice_runs.specs.Choosing.{Choosing}
 use Rattle.choice_runs.specs.Doing.{numbers_of}
-use Rattle.choice_runs.specs.Requests.{Desk, Work, AreKept, IsKept}
-use Rattle.choice_runs.specs.Servers.{State, AreTied}
-use Rattle.choice_runs.specs.Whole.{IsSeen, Whole, Owns, IsOwn, IsServers, Agrees, OneTook, NoneTook, IsUnused, IsAt, Tied, names}
+use Rattle.choice_runs.specs.Requests.{Desk, Work, AreKept}
+use Rattle.choice_runs.specs.Servers.{State}
+use Rattle.choice_runs.specs.Whole.{Whole, Owns, IsServers, Agrees, IsAt, Tied, names}
 use Rattle.choice_runs.proofs.AwaitingCalls.{is_awaited}
 use Rattle.choice_runs.proofs.WholeLeaving.{set_so}
-use Rattle.choice_runs.proofs.WholeViews.{in_conf, agrees_at, is_at, TiedAt, at_view}
+use Rattle.choice_runs.proofs.WholeViews.{in_conf}
 
 found_at : {A : Type 0} (xs : List A) (i : ℕ) → i < length xs → (a : A) × (slice_get xs i ≡ Some a)
 found_at [] i lt = absurd (omega arith)

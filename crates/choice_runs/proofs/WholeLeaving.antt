@@ -19,11 +19,11 @@ use Rattle.client_ties.proofs.GoingOn.{none_next}
 use Rattle.client_ties.proofs.Keys.{each_number, was_there}
 use Rattle.choice_runs.specs.Awaiting.{Awaits}
 use Rattle.choice_runs.specs.Choosing.{Choosing}
-use Rattle.choice_runs.specs.Doing.{IsStill, HasActed, nobody, numbers_of}
-use Rattle.choice_runs.specs.Requests.{Others, Work, AreKept}
+use Rattle.choice_runs.specs.Doing.{IsStill, HasActed, numbers_of}
+use Rattle.choice_runs.specs.Requests.{Others, Work}
 use Rattle.choice_runs.specs.Servers.{State}
 use Rattle.choice_runs.specs.Whole.{Whole, Owns, IsOwn, IsServers, Agrees, IsCalm, IsAt, Tied, names}
-use Rattle.choice_runs.proofs.WholeViews.{seen_itself, in_conf, TiedAt, tied_as}
+use Rattle.choice_runs.proofs.WholeViews.{in_conf, TiedAt, tied_as}
 
 is_it : (a b : ℕ) → (a == b) ≡ true → a ≡ b
 is_it a b e = grind (arith, nat_tests)

@@ -1,29 +1,27 @@
 -- An event is told to the servers of a choice, and frames that it brings are taken: by one of them, or by none.
-use Rattle.std.proofs.Common.{◌≡◌, ℕ, zero, suc, ◌+◌, ◌<◌, ◌≤◌, ◌⊎◌, inl, inr, Bool, true, false, nat_lt, List, [], ◌∷◌, length, Option, Some, None, slice_get, refl, sym, ap, subst, ◌∙◌, arith, le_refl}
-use Rattle.client_request.specs.Numbered.{entry_at}
+use Rattle.std.proofs.Common.{◌≡◌, ℕ, zero, suc, ◌+◌, ◌<◌, ◌≤◌, ◌⊎◌, inl, inr, Bool, true, false, nat_lt, List, [], ◌∷◌, length, Option, Some, slice_get, refl, sym, ap, subst, ◌∙◌, arith}
 use Rattle.client_request.specs.Request.{Request}
 use Rattle.client_request.specs.View.{View, Heard, told, more_at}
 use Rattle.client_request.specs.declared.event.What.{What}
 use Rattle.client_request.specs.declared.event.What.TheVariants.{Ask, Opened, OpenFailed, SendFailed, ShortSend, Datagram, RecvFailed, Wrote, WriteFailed, Bytes, ReadFailed, Ended, Tick}
-use Rattle.client_choice.specs.Choice.{Choice, hears, hears_all, hears_one}
+use Rattle.client_choice.specs.Choice.{Choice, hears_all, hears_one}
 use Rattle.client_choice.specs.Redundant.{with_choice, transport}
 use Rattle.client_choice.specs.Servers.{Server}
 use Rattle.headline.specs.machine.Client.{with_up}
 use Rattle.client_ties.specs.PartTie.{Phase, Untold, Told, Passed, IsOpen, MayLeave, Leads, place_in}
-use Rattle.client_ties.specs.Sights.{Sight, sight, due_of, IsFair, IsEarly}
+use Rattle.client_ties.specs.Sights.{sight, IsFair, IsEarly}
 use Rattle.client_ties.specs.WholeTie as whole
 use Rattle.client_ties.proofs.Keys.{each_number}
-use Rattle.choice_runs.specs.Awaiting.{Awaits}
 use Rattle.choice_runs.specs.Choosing.{Choosing}
-use Rattle.choice_runs.specs.Doing.{CallsAreMoves, IsStill, HasActed, HasTold, IsNothing, numbers_of}
-use Rattle.choice_runs.specs.Requests.{Others, Work}
-use Rattle.choice_runs.specs.Servers.{State, AreTied}
-use Rattle.choice_runs.specs.Whole.{Whole, Owns, IsServers, Agrees, IsCalm, OneTook, IsAt, Tied, names}
+use Rattle.choice_runs.specs.Doing.{CallsAreMoves, HasTold, IsNothing}
+use Rattle.choice_runs.specs.Requests.{Others}
+use Rattle.choice_runs.specs.Servers.{State}
+use Rattle.choice_runs.specs.Whole.{Whole, Owns, Agrees, IsCalm, OneTook, IsAt, Tied, names}
 use Rattle.choice_runs.proofs.AwaitingCalls.{hears_all_awaits}
 use Rattle.choice_runs.proofs.Leading.{up_here, up_other}
 use Rattle.choice_runs.proofs.WholeFiring.{others_open}
 use Rattle.choice_runs.proofs.WholeHearing.{none_hear, one_hears, passed_event, still_none}
-use Rattle.choice_runs.proofs.WholeLeaving.{AreOthers, still_of, others_of, leaves_so, nothing_so, small_so, closes, WholeLeaves, no_timer, one_timer}
+use Rattle.choice_runs.proofs.WholeLeaving.{AreOthers, still_of, others_of, leaves_so, nothing_so, small_so, closes}
 use Rattle.choice_runs.proofs.WholeViews.{in_conf, TiedAt, at_view}
 
 within_all : (s n : ℕ) → s < n → s < 0 + n

@@ -1,17 +1,14 @@
 -- What agrees of a choice and the machine at one view agrees at each that looks the same.
-use Rattle.std.proofs.Common.{◌≡◌, ℕ, ◌<◌, ◌≤◌, inl, inr, List, [], length, Option, Some, None, slice_get, refl, sym, ap, subst, ◌∙◌, arith, le_refl}
+use Rattle.std.proofs.Common.{◌≡◌, ℕ, ◌<◌, ◌≤◌, inl, inr, List, [], length, Option, Some, slice_get, refl, sym, subst, ◌∙◌, arith, le_refl}
 use Rattle.std.proofs.lemmas.Option.{slice_get_within}
-use Rattle.client_request.specs.Numbered.{entry_at}
-use Rattle.client_request.specs.Request.{Request}
 use Rattle.client_request.specs.View.{View}
-use Rattle.client_choice.specs.Choice.{Choice}
 use Rattle.client_choice.specs.Servers.{Server}
 use Rattle.client_ties.specs.PartTie.{Phase, Untold, Told, Passed}
-use Rattle.client_ties.specs.Sights.{Sight, sight, due_of, IsFair}
+use Rattle.client_ties.specs.Sights.{sight, due_of, IsFair}
 use Rattle.choice_runs.specs.Choosing.{Choosing}
-use Rattle.choice_runs.specs.Requests.{Desk, AreKept, Work}
+use Rattle.choice_runs.specs.Requests.{Desk, AreKept}
 use Rattle.choice_runs.specs.Servers.{State, AreTied}
-use Rattle.choice_runs.specs.Whole.{IsSeen, Whole, Owns, IsOwn, IsServers, Agrees, IsCalm, OneTook, NoneTook, IsAt, Tied}
+use Rattle.choice_runs.specs.Whole.{IsSeen, Whole, Owns, IsOwn, IsServers, Agrees, IsCalm, IsAt, Tied}
 
 at_most : (a b : ℕ) → b ≡ a → a ≤ b
 at_most a b e = omega arith

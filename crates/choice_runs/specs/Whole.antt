@@ -13,7 +13,7 @@ use Rattle.client_ties.specs.Sights.{Sight, due_of}
 use Rattle.client_ties.specs.WholeTie.{IsWholeTie}
 use Rattle.choice_runs.specs.Awaiting.{Awaits}
 use Rattle.choice_runs.specs.Choosing.{Choosing}
-use Rattle.choice_runs.specs.Doing.{CallsAreMoves, numbers_of}
+use Rattle.choice_runs.specs.Doing.{numbers_of}
 use Rattle.choice_runs.specs.Requests.{Work, AreKept, AreAside, desk_of}
 use Rattle.choice_runs.specs.Servers.{State, AreTied}
 
@@ -105,6 +105,10 @@ module _ (g : Choosing) where
     pub agrees : Agrees phases named r view a
     pub is_at : IsAt phase phases r.choice view
 
--- Where the calls of a choice among servers, one or more, are moves of the machine, it is tied to the whole of a client.
+-- The choice is tied to the whole of a client.
+abbrev pub IsWhole : Choosing → Type 0
+IsWhole g = IsWholeTie g.st g.P (transport g.below) (λ asked. asked.ticket) (with_all g) (Tied g) (names g) (Owns g)
+
+-- Each is, that has a server or more.
 abbrev pub ChoicesAreWhole : Type 1
-ChoicesAreWhole = (g : Choosing) → 0 < length (g.c).servers → CallsAreMoves g → IsWholeTie g.st g.P (transport g.below) (λ asked. asked.ticket) (with_all g) (Tied g) (names g) (Owns g)
+ChoicesAreWhole = (g : Choosing) → 0 < length (g.c).servers → IsWhole g

@@ -1,9 +1,15 @@
 //! What holds of a choice above any servers that are tied to a part of `headline`'s machine.
 
-ghost use Rattle.choice_runs.specs.Silent.{SilentChoicesMove};
+ghost use Rattle.choice_runs.specs.Silent.{SilentChoicesAreWhole, SilentChoicesMove};
 
 /// The laws of a choice among tied servers can be met: among servers that give every request an error at once, as many
 /// as are there, what its calls leave is what moves of the machine leave.
 pub fn silent_choices_move()
     ensures { SilentChoicesMove }
+{}
+
+/// So is the client above them: a choice among such servers, one or more, is tied to the whole of a client of small
+/// moves.
+pub fn silent_choices_are_whole()
+    ensures { SilentChoicesAreWhole }
 {}
