@@ -19,11 +19,11 @@ ghost use Rattle.headline.specs.Timely.{Timely};
 use crate::octets::all_asked_in_octets;
 use crate::servers::{Servers, servers_of};
 use crate::{cache, redundant};
+use client_choice::redundant as choice;
 use client_request::{
     Board, Cx, Error, Event, Moment, Outs, RequestMessage, Row, Rows, Timers, Trace, Words,
 };
 use client_runs::every_plain_trace_is_right;
-use client_choice::redundant as choice;
 use client_steps::{Asked, FirstServer, Passed, take_in};
 use dns_base::Duration;
 use resolv_conf::ResolvConf;

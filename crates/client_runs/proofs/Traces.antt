@@ -18,7 +18,6 @@ use Rattle.choice_runs.specs.Choosing.{Choosing}
 use Rattle.choice_runs.specs.Whole.{with_all}
 use Rattle.choice_runs.specs.Whole as whole
 use Rattle.choice_runs.proofs.Whole.{choices_are_whole}
-use Rattle.choice_runs.proofs.Silence.{calls_are_moves}
 use Rattle.client_runs.specs.Above.{AreWords, Tying, begins_with}
 use Rattle.client_runs.specs.Ties.{EveryPlainTraceRuns, EveryPlainTraceIsRight, PlainTracesKeepTheirEvents}
 use Rattle.client_steps.specs.Client.{plain_rows}
@@ -49,7 +48,7 @@ tying c some settings cache = record {
   Tied = whole.Tied (choosing c settings cache);
   names = whole.names (choosing c settings cache);
   Owns = whole.Owns (choosing c settings cache);
-  tie = choices_are_whole (choosing c settings cache) some (calls_are_moves (choosing c settings cache));
+  tie = choices_are_whole (choosing c settings cache) some;
 }
 
 abbrev conf_at : List ServerConf → ResolvOptions → Conf
