@@ -4,7 +4,7 @@ use Rattle.std.proofs.Math.Seq.{drop-cons}
 use Rattle.std.proofs.lemmas.List.{drop_all}
 use Rattle.client_choice.specs.Redundant.{started}
 use Rattle.client_settings.specs.Settings.{RedundantSettings}
-use Rattle.client_steps.specs.Whole.{Servers, servers_of, with_servers}
+use Rattle.client_steps.specs.Whole.{Servers, and_server, asks_by_streams, servers_of, with_servers}
 use Rattle.resolv_conf.specs.declared.options.ResolvOptions.{ResolvOptions}
 use Rattle.resolv_conf.specs.declared.server.ServerConf.{ServerConf}
 
@@ -12,9 +12,9 @@ next_of : (ss : List ServerConf) (i : ℕ) (s : ServerConf) → i < length ss �
 next_of ss i s h is = let a : i + 1 ≡ suc i = add-one i in let b = drop-cons ss i s h in cc
 
 -- a server of a list is added, and those behind it are left
-pub one_added : (options : ResolvOptions) (ss : List ServerConf) (i : ℕ) (s : ServerConf) (r r' all : Servers) → i < length ss → s ≡ get_or ss i s → with_servers i options (s ∷ []) r ≡ r' → with_servers i options (drop i ss) r ≡ all → with_servers (i + 1) options (drop (i + 1) ss) r' ≡ all
+pub one_added : (options : ResolvOptions) (ss : List ServerConf) (i : ℕ) (s : ServerConf) (r r' all : Servers) → i < length ss → s ≡ get_or ss i s → r' ≡ and_server i (asks_by_streams options s) r → with_servers i options (drop i ss) r ≡ all → with_servers (i + 1) options (drop (i + 1) ss) r' ≡ all
 one_added options ss i s r r' all h is added so_far =
-    ap (λ (x : Servers). with_servers (i + 1) options (drop (i + 1) ss) x) (sym added)
+    ap (λ (x : Servers). with_servers (i + 1) options (drop (i + 1) ss) x) added
     ∙ ap (λ (rest : List ServerConf). with_servers i options rest r) (sym (next_of ss i s h is))
     ∙ so_far
 

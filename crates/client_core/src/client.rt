@@ -1,6 +1,6 @@
 //! The client: one step for each event, and the replay of a list of events.
 
-ghost use Rattle.std.specs.Prelude.{◌≡◌, true, false, Some, None, Ok, Err, OnOk, OnErr, IfOk, IfErr, IsErrOf, IsOkAnd, length, map, option_map};
+ghost use Rattle.std.specs.Prelude.{◌≡◌, if◌then◌else◌, true, false, Some, None, Ok, Err, OnOk, OnErr, IfOk, IfErr, IsErrOf, IsOkAnd, length, map, option_map};
 ghost use Rattle.client_request.specs.Calls.{Steps, NumbersRunOut, AnswersFailed};
 ghost use Rattle.client_request.specs.Cx.{LendsTheSame};
 ghost use Rattle.client_request.specs.Response.{IsRefusal};
@@ -11,13 +11,13 @@ ghost use Rattle.client_steps.specs.First.{holds_failed};
 ghost use Rattle.client_runs.specs.Above.{AreWords};
 ghost use Rattle.client_steps.specs.Headline.{conf_of, settings_of};
 ghost use Rattle.client_steps.specs.Upstream as upstream;
-ghost use Rattle.client_steps.specs.Whole.{machine, started, servers_of, with_servers, asks_by_streams, upstream_at, plain_step, plain_trace, client_with};
+ghost use Rattle.client_steps.specs.Whole.{machine, started, with_one_more, plain_step, plain_trace, client_with};
 ghost use Rattle.client_choice.specs.Redundant as choice;
 ghost use Rattle.headline.specs.Right.{Right};
 ghost use Rattle.headline.specs.Timely.{Timely};
 
 use crate::octets::all_asked_in_octets;
-use crate::servers::{Servers, servers_of};
+use crate::servers::{Servers, add_server, servers_of};
 use crate::{cache, redundant};
 use client_choice::redundant as choice;
 use client_request::{
@@ -26,9 +26,10 @@ use client_request::{
 use client_runs::every_plain_trace_is_right;
 use client_steps::{Asked, FirstServer, Passed, take_in};
 use dns_base::Duration;
-use resolv_conf::ResolvConf;
+use resolv_conf::{ResolvConf, ServerConf};
 use std::alloc::Global;
 use std::marker::Model;
+use std::mem;
 
 /// A client of the servers of a configuration.
 ///
@@ -36,6 +37,9 @@ use std::marker::Model;
 #[derive(Drop)]
 pub struct Client {
     alloc: Global,
+    settings: redundant::Config,
+    use_vc: bool,
+    count: usize,
     layer: FirstServer<Servers>,
     asked: Asked<Passed<choice::Request>>,
     timeout: Duration,
@@ -50,12 +54,16 @@ pub struct Client {
 impl Model for Client {
     ghost use Rattle.std.specs.Prelude.{◌≡◌, true, false};
     ghost use Rattle.client_steps.specs.Whole.{Whole};
+    ghost use Rattle.client_choice.specs.Redundant as choice;
     ghost use Rattle.client_steps.specs.First.{holds_failed};
     ghost use Rattle.client_steps.specs.Upstream as upstream;
 
     ghost Value = { Whole };
 
     ghost view = { λ c. record {
+      settings = c.settings;
+      use_vc = c.use_vc;
+      count = c.count;
       layer = c.layer;
       asked = c.asked;
       timeout = c.timeout;
@@ -107,6 +115,9 @@ impl Client {
         let servers = servers_of(alloc, conf, redundant)?;
         Ok(Client {
             alloc,
+            settings: redundant,
+            use_vc: conf.options.use_vc,
+            count: conf.servers.len(),
             layer: FirstServer::new(servers),
             asked: Asked::new(alloc),
             timeout: conf.options.timeout,
@@ -119,6 +130,35 @@ impl Client {
         })
     }
 
+    /// Adds a server behind the others, whose number is the next one; it is asked from the next request on. It is asked by
+    /// streams alone where it says so, or `use_vc` of the configuration does. All else stays.
+    ///
+    /// `NoMemory`, also where the number would pass 32 bits; after it each further call answers `Failed` and changes
+    /// nothing.
+    pub fn add_server(&mut self, server: &ServerConf) -> Result<(), Error>
+        ensures ok { OnOk result (self.new ≡ with_one_more server.now self.old) }
+        ensures refused { IfErr result (λ e. e ≡ (if self.old.failed then Error.Failed else Error.NoMemory)) }
+        ensures err { OnErr result (self.new.failed ≡ true) }
+        ensures failed { self.old.failed ≡ true → self.new ≡ self.old }
+    {
+        if self.failed {
+            return Err(Error::Failed);
+        }
+        let layer = mem::replace(&mut self.layer, FirstServer::new(None));
+        let mut servers = match layer.into_upstream() {
+            Some(servers) => servers,
+            None => Servers::with_config(self.alloc, self.settings),
+        };
+        let added = add_server(self.alloc, &mut servers, self.count, self.use_vc, server);
+        self.layer = FirstServer::new(Some(servers));
+        if added.is_err() {
+            self.failed = true;
+            return Err(Error::NoMemory);
+        }
+        self.count += 1;
+        Ok(())
+    }
+
     /// Takes an event in: timers that are due fire, then it happens, and timers that are due fire again.
     /// Several messages that a stream brings at once are taken one by one, and timers that are due fire before
     /// each.
@@ -128,6 +168,8 @@ impl Client {
     pub fn step<W: Words>(&mut self, words: &mut W, event: Event) -> Result<Row, Error>
         ensures row { IfOk result (λ row. plain_step (W.stream words.old) event self.old ≡ Some (row, client_with (W.stream words.new) self.new)) }
         ensures timeout { OnOk result (self.new.timeout ≡ self.old.timeout) }
+        ensures settings { OnOk result ((self.new.settings ≡ self.old.settings) × (self.new.use_vc ≡ self.old.use_vc)) }
+        ensures count { OnOk result (self.new.count ≡ self.old.count) }
         ensures lasts { OnOk result (self.new.failed ≡ false) }
         ensures numbers { NumbersRunOut result (plain_step (W.stream words.old) event self.old) }
         ensures refused { IfErr result IsRefusal }

@@ -1,24 +1,24 @@
 //! The servers of a configuration, as the client asks them.
 
-ghost use Rattle.std.specs.Prelude.{◌≡◌, [], ◌∷◌, IfOk, IsOkAnd, OnOk};
-ghost use Rattle.client_steps.specs.Whole.{asks_by_streams, servers_of, upstream_at, with_servers};
+ghost use Rattle.std.specs.Prelude.{◌≡◌, ◌<◌, IfOk, IsOkAnd, OnOk};
+ghost use Rattle.client_steps.specs.Whole.{and_server, by_streams_alone, servers_of, upstream_at};
 
 use client_choice::redundant;
 use client_multi::{dgram_stream, multi_stream};
 use client_request::{Error, RequestMessage};
 use client_steps::Upstream;
 use dns_base::NoMemory;
-use resolv_conf::{ResolvConf, ResolvOptions, ServerConf, Transport};
+use resolv_conf::{ResolvConf, ServerConf, Transport};
 use std::alloc::Global;
 
 /// The choice among the servers of a client.
 pub type Servers = redundant::Connection<RequestMessage, Upstream<RequestMessage>>;
 
 /// Whether a server is asked by streams alone.
-fn asks_by_streams(options: &ResolvOptions, server: &ServerConf) -> bool
-    ensures { result ≡ asks_by_streams options.now server.now }
+fn by_streams_alone(use_vc: bool, server: &ServerConf) -> bool
+    ensures { result ≡ by_streams_alone use_vc server.now }
 {
-    options.use_vc || server.transport == Transport::Tcp
+    use_vc || server.transport == Transport::Tcp
 }
 
 /// A server by its number, with the default settings.
@@ -39,19 +39,20 @@ fn upstream_at(
 }
 
 /// Adds a server of this number. A number past 32 bits counts as want of memory.
-fn add_server(
+pub(crate) fn add_server(
     alloc: Global,
     servers: &mut Servers,
     number: usize,
-    options: &ResolvOptions,
+    use_vc: bool,
     server: &ServerConf,
 ) -> Result<(), NoMemory>
-    ensures { OnOk result (with_servers number options.now (server.now ∷ []) servers.old ≡ servers.new) }
+    ensures added { OnOk result (servers.new ≡ and_server number (by_streams_alone use_vc server.now) servers.old) }
+    ensures small { OnOk result (number < 4294967296) }
 {
     if number > u32::MAX as usize {
         return Err(NoMemory);
     }
-    let upstream = upstream_at(alloc, number as u32, asks_by_streams(options, server))?;
+    let upstream = upstream_at(alloc, number as u32, by_streams_alone(use_vc, server))?;
     match servers.add(upstream) {
         Ok(()) => Ok(()),
         Err(_) => Err(NoMemory),
@@ -73,7 +74,7 @@ pub(crate) fn servers_of(
     let mut servers = Servers::with_config(alloc, settings);
     let mut number: usize = 0;
     for server in listed {
-        add_server(alloc, &mut servers, number, &conf.options, server)?;
+        add_server(alloc, &mut servers, number, conf.options.use_vc, server)?;
         number += 1;
     }
     Ok(Some(servers))

@@ -1,5 +1,5 @@
 -- The whole plain client: a choice among the servers of a configuration, each by datagrams and streams or by streams alone.
-use Rattle.std.specs.Prelude.{ℕ, ◌+◌, Bool, true, false, ◌||◌, if◌then◌else◌, List, [], ◌∷◌, Option, Some, None}
+use Rattle.std.specs.Prelude.{ℕ, ◌+◌, Bool, true, false, ◌||◌, if◌then◌else◌, List, [], ◌∷◌, length, Option, Some, None}
 use Rattle.client_request.specs.Composed.{composed}
 use Rattle.client_request.specs.Request.{Request}
 use Rattle.client_request.specs.Requests.{Requests, for_one}
@@ -50,8 +50,11 @@ choice = redundant.transport (upstream.transport for_one)
 abbrev pub machine : Machine Layer Response
 machine = machine_of (first.transport composed choice) (first.ticket_of (λ r. r.ticket))
 
--- the client between two rows: its timeout is in microseconds
+-- The client between two rows: its timeout is in microseconds. It has `count` servers; those that are added are asked by streams alone where `use_vc` says so.
 pub record Whole : Type 0 where
+  pub settings : RedundantSettings
+  pub use_vc : Bool
+  pub count : ℕ
   pub layer : Layer
   pub asked : Asked Response
   pub timeout : ℕ
@@ -88,18 +91,25 @@ abbrev pub is_tcp : Transport → Bool
 is_tcp UdpTcp = false
 is_tcp Tcp = true
 
+abbrev pub by_streams_alone : (use_vc : Bool) → ServerConf → Bool
+by_streams_alone use_vc server = use_vc || is_tcp server.transport
+
 abbrev pub asks_by_streams : ResolvOptions → ServerConf → Bool
-asks_by_streams options server = options.use_vc || is_tcp server.transport
+asks_by_streams options server = by_streams_alone options.use_vc server
 
 -- a server by its number, with the default settings
 abbrev pub upstream_at : ℕ → (by_streams : Bool) → Upstream Request
 upstream_at number true = Stream (multi_stream.started number stream_settings.default_settings)
 upstream_at number false = DgramStream (dgram_stream.started number dgram_stream.default_settings)
 
+-- with a server of this number
+abbrev pub and_server : (number : ℕ) → (by_streams : Bool) → Servers → Servers
+and_server number by_streams r = record r { choice = with_server (upstream_at number by_streams) r.choice }
+
 -- servers are added to a choice in order, numbered from n on
 abbrev pub with_servers : (n : ℕ) → ResolvOptions → List ServerConf → Servers → Servers
 with_servers n options [] r = r
-with_servers n options (s ∷ ss) r = with_servers (n + 1) options ss (record r { choice = with_server (upstream_at n (asks_by_streams options s)) r.choice })
+with_servers n options (s ∷ ss) r = with_servers (n + 1) options ss (and_server n (asks_by_streams options s) r)
 
 -- a choice among the servers of a configuration, if it has any
 abbrev pub servers_of : RedundantSettings → ResolvOptions → List ServerConf → Option Servers
@@ -108,6 +118,9 @@ servers_of settings options (s ∷ ss) = Some (with_servers 0 options (s ∷ ss)
 
 abbrev pub started : RedundantSettings → ResolvConf → Whole
 started settings conf = record {
+  settings = settings;
+  use_vc = conf.options.use_vc;
+  count = length conf.servers;
   layer = record { upstream = servers_of settings conf.options conf.servers; failed = false };
   asked = nothing_asked;
   timeout = conf.options.timeout;
@@ -118,6 +131,15 @@ started settings conf = record {
   place = 0;
   failed = false;
 }
+
+-- the choice, or one without servers
+abbrev pub or_none_yet : RedundantSettings → Option Servers → Servers
+or_none_yet settings None = redundant.started settings
+or_none_yet settings (Some r) = r
+
+-- a client with one more server, which has the next number
+abbrev pub with_one_more : ServerConf → Whole → Whole
+with_one_more server s = record s { count = s.count + 1; layer = record s.layer { upstream = Some (and_server s.count (by_streams_alone s.use_vc server) (or_none_yet s.settings s.layer.upstream)) } }
 
 -- what one event makes of it: a row, and the client as it begins the next; none where a number would pass 64 bits
 abbrev pub plain_step : (ℕ → ℕ) → Event → Whole → Option (Row × Client)

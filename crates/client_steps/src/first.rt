@@ -1,4 +1,4 @@
-//! What stands in for a choice among servers: the first one is asked.
+//! What stands above a choice among servers: a request that does not compose has its error at once.
 
 ghost use Rattle.std.specs.Prelude.{◌≡◌, true, false, OnOk, IfOk, IfErr, IsErrOf, Some, None, Err, Ok};
 ghost use Rattle.client_request.specs.Calls.{Steps, NumbersRunOut};
@@ -13,7 +13,7 @@ use client_request::{
 use dns_base::Message;
 use std::marker::Model;
 
-/// The first server of a configuration, if it has one.
+/// A transport, if there is one, to which each request goes that composes.
 #[derive(Drop)]
 pub struct FirstServer<U> {
     upstream: Option<U>,
@@ -29,7 +29,7 @@ impl<U> Model for FirstServer<U> {
 }
 
 impl<U> FirstServer<U> {
-    /// The first server, or none: then each request has its error at once.
+    /// Over this transport, or none: then each request has its error at once.
     pub fn new(upstream: Option<U>) -> FirstServer<U>
         ensures { result ≡ record { upstream = upstream; failed = false } }
     {
@@ -37,6 +37,13 @@ impl<U> FirstServer<U> {
             upstream,
             failed: false,
         }
+    }
+
+    /// What requests were handed to, if anything.
+    pub fn into_upstream(self) -> Option<U>
+        ensures { result ≡ self.upstream }
+    {
+        self.upstream
     }
 }
 
