@@ -109,6 +109,6 @@ module _ (g : Choosing) where
 abbrev pub IsWhole : Choosing → Type 0
 IsWhole g = IsWholeTie g.st g.P (transport g.below) (λ asked. asked.ticket) (with_all g) (Tied g) (names g) (Owns g)
 
--- Each is, that has a server or more.
+-- Each is, whatever its servers are.
 abbrev pub ChoicesAreWhole : Type 1
-ChoicesAreWhole = (g : Choosing) → 0 < length (g.c).servers → IsWhole g
+ChoicesAreWhole = (g : Choosing) → IsWhole g
