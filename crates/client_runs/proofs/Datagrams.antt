@@ -1,12 +1,14 @@
--- The transport of a first server by datagrams, which goes on by stream where an answer was cut, is tied to its part.
-use Rattle.std.proofs.Common.{◌≡◌, ℕ, List, [], ◌∷◌, map, Some, None, refl}
+-- The transport of a server by datagrams, which goes on by stream where an answer was cut, is tied to its part, and leaves alone what is none of its own.
+use Rattle.std.proofs.Common.{◌≡◌, ℕ, zero, suc, List, [], ◌∷◌, map, Some, None, refl}
 use Rattle.client_multi.specs.MultiStream.{started}
 use Rattle.client_multi.specs.Settings.{default_settings}
 use Rattle.headline.specs.Orderly.{use_at}
 use Rattle.headline.specs.Trace.{Conf, Use, ByDatagrams, ByStreams}
-use Rattle.dgram_ties.specs.Fallback.{IsFallback, names_in, OwnsEither}
+use Rattle.dgram_ties.specs.Fallback.{AreStreams}
+use Rattle.dgram_ties.proofs.FallbackShared.{fallback_is_shared}
 use Rattle.dgram_ties.proofs.FallbackTied.{fallback_is_tied}
 use Rattle.multi_ties.specs.Tied.{by_streams, TiedAs, names_of, owns}
+use Rattle.client_runs.specs.Fallbacks.{FallsBack, named_by, OwnsOne, FallbacksAreTied, FallbacksAreShared}
 use Rattle.client_runs.specs.Ties.{DatagramsAreTied}
 use Rattle.client_runs.proofs.StreamsBelow.{reconnection_is_streams}
 
@@ -14,15 +16,25 @@ use Rattle.client_runs.proofs.StreamsBelow.{reconnection_is_streams}
 abbrev alone : Conf → Conf
 alone c = record { servers = map (λ (u : Use). ByStreams) c.servers; timeout = c.timeout }
 
-used_alone : (servers : List Use) → use_at 0 servers ≡ Some ByDatagrams → use_at 0 (map (λ (u : Use). ByStreams) servers) ≡ Some ByStreams
-used_alone [] used = absurd (let z : None ≡ Some ByDatagrams = used in cc)
-used_alone (u ∷ us) used = refl
+used_alone : (s : ℕ) (servers : List Use) → use_at s servers ≡ Some ByDatagrams → use_at s (map (λ (u : Use). ByStreams) servers) ≡ Some ByStreams
+used_alone s [] used = absurd (let z : None ≡ Some ByDatagrams = used in cc)
+used_alone zero (u ∷ us) used = refl
+used_alone (suc s) (u ∷ us) used = used_alone s us used
+
+streams_of : (c : Conf) (s : ℕ) → use_at s c.servers ≡ Some ByDatagrams → AreStreams (alone c) s by_streams (started s default_settings) (TiedAs s) names_of owns
+streams_of c s used = reconnection_is_streams (alone c) s (used_alone s c.servers used)
+
+pub fallbacks_are_tied : FallbacksAreTied
+fallbacks_are_tied c s used = fallback_is_tied (alone c) c s used by_streams (started s default_settings) (TiedAs s) names_of owns (streams_of c s used)
+
+pub fallbacks_are_shared : FallbacksAreShared
+fallbacks_are_shared c s used = fallback_is_shared (alone c) c s by_streams (started s default_settings) (TiedAs s) names_of owns (streams_of c s used)
 
 pub datagrams_tied : DatagramsAreTied
 datagrams_tied c used = record {
-  Tied = λ phase f x a. IsFallback (TiedAs 0) names_of owns 0 phase f x a;
-  names = names_in (TiedAs 0) names_of owns 0;
-  Owns = OwnsEither (TiedAs 0) names_of owns 0;
-  tie = fallback_is_tied (alone c) c 0 used by_streams (started 0 default_settings) (TiedAs 0) names_of owns (reconnection_is_streams (alone c) 0 (used_alone c.servers used));
+  Tied = FallsBack 0;
+  names = named_by 0;
+  Owns = OwnsOne 0;
+  tie = fallbacks_are_tied c 0 used;
   placed = λ phase f x a t. t.server;
 }

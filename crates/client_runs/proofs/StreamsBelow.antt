@@ -1,230 +1,25 @@
 -- Reconnection meets what a fallback asks of its streams.
-use Rattle.std.proofs.Common.{◌≡◌, ◌≢◌, ℕ, suc, ◌+◌, ◌<◌, ◌≤◌, ◌⊎◌, inl, inr, Bool, true, false, ◌==◌, List, [], ◌∷◌, length, Option, Some, None, Less, Greater, nat_cmp, is_eq, cond, refl, sym, ap, ap₂, subst, ◌∙◌, arith}
-use Rattle.std.specs.Prelude.{if◌then◌else◌, option_and_then, slice_range}
-use Rattle.std.specs.Ordering.{match_ordering}
-use Rattle.std.proofs.lemmas.Bool.Decides.{nat_tests}
-use Rattle.client_request.specs.Numbered.{puts, frees, entry_at}
-use Rattle.client_request.specs.Request.{Request}
-use Rattle.client_request.specs.Requests.{for_one, for_several}
-use Rattle.client_request.specs.View.{View, Heard, told, more_at, due_timer, drawn}
-use Rattle.client_request.specs.declared.error.Error.TheVariants as errors
+use Rattle.std.proofs.Common.{◌≡◌, ℕ, inl, false, true, List, [], Some, None, refl, subst, ◌∙◌}
 use Rattle.client_request.specs.declared.event.What.{What}
-use Rattle.client_request.specs.declared.event.What.TheVariants.{Ask, Opened, OpenFailed, SendFailed, ShortSend, Datagram, RecvFailed, Wrote, WriteFailed, Bytes, ReadFailed, Ended, Tick}
-use Rattle.client_stream.specs.Frames.{has_frame, body_size}
-use Rattle.client_stream.specs.Plain.{has_ended, ends_with, octets_left, timer_at, says, takes_frame, reads, fires as line_fires}
-use Rattle.client_stream.specs.declared.stage.Stage.{Stage}
-use Rattle.client_stream.specs.declared.stage.Stage.TheVariants as stage
-use Rattle.client_multi.specs.Links.{Link, one_stream}
-use Rattle.client_multi.specs.MultiStream.{After, with_tables, hears_at, calls, returns, taken, with_connection, keeps, lent, watched, unwatched, is_number, each, hands, opened, refused, backs_off, open_fails, is_open as plain_open, due_at, started}
+use Rattle.client_multi.specs.MultiStream.{started}
 use Rattle.client_multi.specs.Settings.{default_settings}
-use Rattle.headline.specs.Frames.{Reading}
 use Rattle.headline.specs.Messages.{Octets}
 use Rattle.headline.specs.Orderly.{use_at}
 use Rattle.headline.specs.Trace.{Conf, ByStreams}
 use Rattle.headline.specs.machine.Served.{Served, has_taken_it}
-use Rattle.headline.specs.machine.Streams.{Conn, Multi, IsForeign}
-use Rattle.client_ties.specs.Connections.{timer_of}
-use Rattle.client_ties.specs.Lines.{Sorted}
-use Rattle.client_ties.specs.Octets.{IsLinkAt}
-use Rattle.client_ties.specs.PartTie.{Untold, Told}
-use Rattle.client_ties.specs.Reading.{Keeps}
-use Rattle.client_ties.specs.Sights.{Sight, sight}
-use Rattle.client_ties.proofs.Calling.{is_open}
-use Rattle.client_ties.proofs.FrameReads.{kept_is_read}
-use Rattle.client_ties.proofs.Tables.{absent_below}
-use Rattle.dgram_ties.specs.Fallback.{AreStreams}
-use Rattle.multi_ties.specs.Servers.{Server, desk_of, names_at, nothing_under_way, LinkFits, IsNone, IsSome, IsServer}
-use Rattle.multi_ties.specs.Tied.{Streams, by_streams, frames_at, IsStream, TiedAs, names_of, owns}
-use Rattle.multi_ties.proofs.Fields.{stream_of, frames_none}
+use Rattle.client_ties.specs.PartTie.{Phase, Untold, Told, Passed}
+use Rattle.client_ties.specs.Sights.{Sight, sight, NoneDue}
+use Rattle.dgram_ties.specs.Fallback.{AreStreams, pending_in}
+use Rattle.multi_ties.specs.Servers.{desk_of, nothing_under_way, IsServer}
+use Rattle.multi_ties.specs.Tied.{Streams, by_streams, frames_at, TiedAs, names_of, owns}
+use Rattle.multi_ties.proofs.Fields.{stream_of}
+use Rattle.multi_ties.proofs.Staying.{passes_by}
+use Rattle.multi_ties.proofs.StreamsShared.{streams_are_shared}
 use Rattle.multi_ties.proofs.StreamsTied.{streams_are_tied}
 use Rattle.multi_ties.proofs.Tying.{draws_one}
 
--- A table in order is the same once an entry is taken out and put back
-module _ {A : Type 0} where
-  first_put : (k : ℕ) (v : A) (hi : ℕ) (es : List (ℕ × A)) → Sorted (suc k) hi es → puts k v es ≡ (k, v) ∷ es
-  first_put k v hi [] r = refl
-  first_put k v hi (e ∷ es) r = ap (λ o. match_ordering o ((k, v) ∷ e ∷ es) ((e.0, v) ∷ es) (e ∷ puts k v es)) (less k e.0 r.0)
-    where
-      less : (k x : ℕ) → suc k ≤ x → nat_cmp k x ≡ Less
-      less k x le = grind (arith, nat_tests)
-
-  put_back : (k : ℕ) (v : A) (lo hi : ℕ) (es : List (ℕ × A)) → Sorted lo hi es → entry_at k es ≡ Some v → puts k v (frees k es) ≡ es
-  put_back k v lo hi [] r at = absurd (let z : None ≡ Some v = at in cc)
-  put_back k v lo hi (e ∷ es) r at = by (is_eq (nat_cmp k e.0)) refl (put_back k v (suc e.0) hi es r.2)
-    where
-      here : (k x : ℕ) → is_eq (nat_cmp k x) ≡ true → k ≡ x
-      here k x h = grind (arith, nat_tests)
-
-      behind : (k x : ℕ) → is_eq (nat_cmp k x) ≡ false → (k < suc x → ⊥) → nat_cmp k x ≡ Greater
-      behind k x h not_below = grind (arith, nat_tests)
-
-      by : (b : Bool) → is_eq (nat_cmp k e.0) ≡ b → (entry_at k es ≡ Some v → puts k v (frees k es) ≡ es) → puts k v (cond b es (e ∷ frees k es)) ≡ e ∷ es
-      by true h ih =
-          let same : k ≡ e.0 = here k e.0 h in
-          let value : e.1 ≡ v = (let z : Some e.1 ≡ Some v = sym (ap (λ b. cond b (Some e.1) (entry_at k es)) h) ∙ at in cc) in
-          first_put k v hi es (subst (λ k. Sorted (suc k) hi es) (sym same) r.2) ∙ ap₂ (λ (k : ℕ) (v : A). (k, v) ∷ es) same (sym value)
-      by false h ih =
-          let there : entry_at k es ≡ Some v = sym (ap (λ b. cond b (Some e.1) (entry_at k es)) h) ∙ at in
-          ap (λ o. match_ordering o ((k, v) ∷ e ∷ frees k es) ((e.0, v) ∷ frees k es) (e ∷ puts k v (frees k es))) (behind k e.0 h (λ lt. absurd (let z : None ≡ Some v = sym (absent_below (suc e.0) hi k es lt r.2) ∙ there in cc)))
-          ∙ ap (λ (xs : List (ℕ × A)). e ∷ xs) (ih there)
-
-itself : (p q : ℕ) → q ≡ p → (q == p) ≡ true
-itself p q e = grind (arith, nat_tests)
-
--- no whole frame stands in octets that keep none
-no_frame : (octets : List ℕ) (got : Reading) → Keeps octets [] got → has_frame octets ≡ false
-no_frame octets got k = by (has_frame octets) refl
-  where
-    by : (b : Bool) → has_frame octets ≡ b → has_frame octets ≡ false
-    by true e = (let s = kept_is_read.some octets (slice_range octets 2 (2 + body_size octets)) [] got k (ap (λ b. if b then Some (slice_range octets 2 (2 + body_size octets)) else None) e) in absurd (let z = s.1 in cc))
-    by false e = e
-
--- What stays as it is
-module _ (s : ℕ) (u : Streams) (x : Sight) (a : Served) (st : IsStream s u x a) where
-  abbrev d : Server
-  d = u.tables
-
-  abbrev m : Multi
-  m = a.server.by_stream
-
-  abbrev frames : ℕ → List Octets
-  frames = frames_at a.place a.frames
-
-  none_there : (p : ℕ) → m.conns p ≡ None → entry_at p d.connections ≡ None
-  none_there p none = by (st.ties.links p)
-    where
-      by : LinkFits (desk_of d) m frames x.dues x.ticket p → entry_at p d.connections ≡ None
-      by (IsNone e f away) = e
-      by (IsSome l c at link) = absurd (let z : None ≡ Some c = sym none ∙ link.line.conn in cc)
-
-  link_of : (p : ℕ) (l : Link Request) → entry_at p d.connections ≡ Some l → (c : Conn) × IsLinkAt p (names_at (desk_of d)) l m c (frames p) x.dues x.ticket
-  link_of p l is = by (st.ties.links p)
-    where
-      by : LinkFits (desk_of d) m frames x.dues x.ticket p → (c : Conn) × IsLinkAt p (names_at (desk_of d)) l m c (frames p) x.dues x.ticket
-      by (IsNone e f away) = absurd (let z : None ≡ Some l = sym e ∙ is in cc)
-      by (IsSome k c at link) = (c, subst (λ k. IsLinkAt p (names_at (desk_of d)) k m c (frames p) x.dues x.ticket) (let z : Some k ≡ Some l = sym at ∙ is in cc) link)
-
-  -- nothing was done
-  unchanged : (v : View) (o : After Request (Link Request)) → o ≡ Some (d, v) → with_tables u o ≡ Some (u, v)
-  unchanged v o e = ap (with_tables u) e
-
-  -- none is told where none stands
-  unheard : (h : Heard) (v : View) (p : ℕ) → m.conns p ≡ None → hears_at (one_stream for_one) h d v (Some p) ≡ Some (d, v)
-  unheard h v p none = ap (calls (one_stream for_one) p ((one_stream for_one).calls.step h) d v) (none_there p none)
-
-  not_opening : (p : ℕ) → m.opening ≢ Some p → is_number p d.opening ≡ false
-  not_opening p ne = by d.opening st.ties.tables.opening
-    where
-      differs : (p q : ℕ) → (q ≡ p → ⊥) → (p == q) ≡ false
-      differs p q ne = grind (arith, nat_tests)
-
-      by : (o : Option ℕ) → o ≡ m.opening → is_number p o ≡ false
-      by None e = refl
-      by (Some q) e = differs p q (λ same. ne (sym e ∙ ap Some same))
-
-  passes_by : (w : What) (v : View) → IsForeign w m → by_streams.step (told w) u v ≡ Some (u, v)
-  passes_by (Ask r) v f = refl
-  passes_by (Opened p) v f = unchanged v (plain_open (one_stream for_one) u.server u.settings.stream p d v) (ap (λ b. if b then each (hands (one_stream for_one) u.server) d.waiting (opened (one_stream for_one) u.server u.settings.stream p d) v else Some (d, v)) (not_opening p f))
-  passes_by (OpenFailed p e) v f = unchanged v (open_fails p d v) (ap (λ b. if b then each backs_off d.waiting (refused d v) (drawn v) else Some (d, v)) (not_opening p f))
-  passes_by (SendFailed p e) v f = refl
-  passes_by (ShortSend p) v f = refl
-  passes_by (Datagram p o) v f = refl
-  passes_by (RecvFailed p e) v f = refl
-  passes_by (Wrote p n) v f = unchanged v (hears_at (one_stream for_one) (told (Wrote p n)) d v (Some p)) (unheard (told (Wrote p n)) v p f)
-  passes_by (WriteFailed p e) v f = unchanged v (hears_at (one_stream for_one) (told (WriteFailed p e)) d v (Some p)) (unheard (told (WriteFailed p e)) v p (f p (itself p p refl)))
-  passes_by (Bytes p o) v f = unchanged v (hears_at (one_stream for_one) (told (Bytes p o)) d v (Some p)) (unheard (told (Bytes p o)) v p f)
-  passes_by (ReadFailed p e) v f = unchanged v (hears_at (one_stream for_one) (told (ReadFailed p e)) d v (Some p)) (unheard (told (ReadFailed p e)) v p (f p (itself p p refl)))
-  passes_by (Ended p) v f = unchanged v (hears_at (one_stream for_one) (told (Ended p)) d v (Some p)) (unheard (told (Ended p)) v p (f p (itself p p refl)))
-  passes_by Tick v f = refl
-
-  -- A connection that does nothing is put back where it was
-  module _ (p : ℕ) (l : Link Request) (is : entry_at p d.connections ≡ Some l) where
-    abbrev link : (c : Conn) × IsLinkAt p (names_at (desk_of d)) l m c (frames p) x.dues x.ticket
-    link = link_of p l is
-
-    live : has_ended l.line.stage ≡ false
-    live = is_open x.dues l.line.idle_time l.line.stage (link.0).mode link.1.line.fits.stage
-
-    same_watches : (o : Option ℕ) → ((i : ℕ) → o ≡ Some i → entry_at i d.watches ≡ Some p) → watched p o (unwatched o d.watches) ≡ d.watches
-    same_watches None w = refl
-    same_watches (Some i) w = put_back i p 0 x.timer d.watches st.order.watches (w i refl)
-
-    timers_agree : (i : ℕ) (at : Stage) → timer_at at ≡ Some i → timer_of at ≡ Some i
-    timers_agree i stage.New e = e
-    timers_agree i (stage.Active t since) e = e
-    timers_agree i (stage.Idle t) e = e
-    timers_agree i stage.Ended e = e
-
-    kept : keeps (one_stream for_one) p l (taken (one_stream for_one) p l d) ≡ d
-    kept = ap₂ (λ (cs : List (ℕ × Link Request)) (ws : List (ℕ × ℕ)). record d { connections = cs; watches = ws })
-        (put_back p l 0 x.place d.connections st.order.connections is)
-        (same_watches (timer_at l.line.stage) (λ i e. (st.ties.watched p l i is (timers_agree i l.line.stage e)).0))
-
-    put : with_connection (one_stream for_one) p l (taken (one_stream for_one) p l d) ≡ d
-    put = ap (λ b. if b then taken (one_stream for_one) p l d else keeps (one_stream for_one) p l (taken (one_stream for_one) p l d)) live ∙ kept
-
-    rests_so : (h : Heard) (v : View) → (one_stream for_one).calls.step h l (lent v) ≡ Some (l, lent v) → hears_at (one_stream for_one) h d v (Some p) ≡ Some (d, v)
-    rests_so h v still =
-        ap (calls (one_stream for_one) p ((one_stream for_one).calls.step h) d v) is
-        ∙ (ap (option_and_then (returns (one_stream for_one) p (taken (one_stream for_one) p l d) v)) still
-        ∙ ap (λ t. Some (t, v)) put)
-
-    -- no timer of its own
-    line_still : (i q : ℕ) (v : View) (at : Stage) → (timer_of at ≡ Some i → ⊥) → line_fires q i l.line v at ≡ Some (l.line, v)
-    line_still i q v stage.New free = refl
-    line_still i q v stage.Ended free = refl
-    line_still i q v (stage.Active own since) free = ap (λ b. if b then Some (ends_with q errors.StreamReadTimeout l.line v) else Some (l.line, v)) (differs i own (λ e. free (ap Some e)))
-      where
-        differs : (i own : ℕ) → (own ≡ i → ⊥) → (i == own) ≡ false
-        differs i own ne = grind (arith, nat_tests)
-    line_still i q v (stage.Idle own) free = ap (λ b. if b then Some (ends_with q errors.StreamReceiveError l.line v) else Some (l.line, v)) (differs i own (λ e. free (ap Some e)))
-      where
-        differs : (i own : ℕ) → (own ≡ i → ⊥) → (i == own) ≡ false
-        differs i own ne = grind (arith, nat_tests)
-
-    ends_no : (v : View) (o : Option (Link Request × View)) → o ≡ Some (l, v) → (if has_ended l.line.stage then Some (l, v) else o) ≡ Some (l, v)
-    ends_no v o e = ap (λ b. if b then Some (l, v) else o) live ∙ e
-
-    not_fired : (i : ℕ) (v : View) → (timer_of l.line.stage ≡ Some i → ⊥) → (one_stream for_one).calls.step (due_timer i) l v ≡ Some (l, v)
-    not_fired i v free = ends_no v (option_and_then (λ y. Some (record l { line = y.0; octets = octets_left y.0.stage l.octets }, y.1)) (line_fires l.place i l.line v l.line.stage))
-        (ap (option_and_then (λ y. Some (record l { line = y.0; octets = octets_left y.0.stage l.octets }, y.1))) (line_still i l.place v l.line.stage free)
-        ∙ ap (λ b. Some (record l { octets = if b then [] else l.octets }, v)) live)
-
-    -- no frame stands
-    not_read : (v : View) → frames p ≡ [] → (one_stream for_one).calls.step (more_at p) l v ≡ Some (l, v)
-    not_read v none =
-        let no = no_frame l.octets (link.0).got (subst (λ fs. Keeps l.octets fs (link.0).got) none link.1.keeps) in
-        ends_no v (if l.place == p then reads for_one for_several l v else Some (l, v))
-        (ap (λ b. if b then reads for_one for_several l v else Some (l, v)) (itself p l.place link.1.place)
-        ∙ (ap (λ o. says (takes_frame for_one for_several l v o)) (ap (λ b. if b then Some (slice_range l.octets 2 (2 + body_size l.octets)) else None) no)
-        ∙ ap (λ b. Some (l, if b then record v { more = true } else v)) no))
-
-  -- a timer of others
-  others_fire : (v : View) (i : ℕ) → (owns u i → ⊥) → by_streams.step (due_timer i) u v ≡ Some (u, v)
-  others_fire v i free = unchanged v (due_at (one_stream for_one) u.server i d v (entry_at i d.timers)) (by (entry_at i d.timers) refl)
-    where
-      at_place : (p : ℕ) (o : Option (Link Request)) → entry_at p d.connections ≡ o → hears_at (one_stream for_one) (due_timer i) d v (Some p) ≡ Some (d, v)
-      at_place p None e = ap (calls (one_stream for_one) p ((one_stream for_one).calls.step (due_timer i)) d v) e
-      at_place p (Some l) e = rests_so p l e (due_timer i) v (not_fired p l e i (lent v) (λ own. free (inr (p, l, e, own))))
-
-      by_watch : (o : Option ℕ) → hears_at (one_stream for_one) (due_timer i) d v o ≡ Some (d, v)
-      by_watch None = refl
-      by_watch (Some p) = at_place p (entry_at p d.connections) refl
-
-      by : (o : Option ℕ) → entry_at i d.timers ≡ o → due_at (one_stream for_one) u.server i d v o ≡ Some (d, v)
-      by None e = by_watch (entry_at i d.watches)
-      by (Some t) e = absurd (free (inl (t, e)))
-
-  -- a place where no frame stands
-  nothing_read : (v : View) (p : ℕ) → frames p ≡ [] → by_streams.step (more_at p) u v ≡ Some (u, v)
-  nothing_read v p none = unchanged v (hears_at (one_stream for_one) (more_at p) d v (Some p)) (by (entry_at p d.connections) refl)
-    where
-      by : (o : Option (Link Request)) → entry_at p d.connections ≡ o → hears_at (one_stream for_one) (more_at p) d v (Some p) ≡ Some (d, v)
-      by None e = ap (calls (one_stream for_one) p ((one_stream for_one).calls.step (more_at p)) d v) e
-      by (Some l) e = rests_so p l e (more_at p) v (not_read p l e (lent v) none)
-
 -- the event was the other half's
-taken_beside : (s : ℕ) (w : What) (u : Streams) (x : Sight) (a : Served) → ((i due : ℕ) → owns u i → x.dues i ≡ Some due → x.now < due) → TiedAs s (Untold w) u x a → TiedAs s (Told 0 0) u x (has_taken_it a.server a)
+taken_beside : (s : ℕ) (w : What) (u : Streams) (x : Sight) (a : Served) → NoneDue (owns u) x → TiedAs s (Untold w) u x a → TiedAs s (Told 0 0) u x (has_taken_it a.server a)
 taken_beside s w u x a early t = record {
   stream = record {
     server = t.stream.server;
@@ -241,36 +36,22 @@ taken_beside s w u x a early t = record {
   told = (early, λ p e. absurd (let z : false ≡ true = e in cc));
 }
 
--- A place reads nothing where all frames are taken, or those that are left stand at another.
-pub nothing_to_take : (s q left : ℕ) (u : Streams) (x : Sight) (v : View) (a : Served) (p : ℕ) → TiedAs s (Told q left) u x a → (p ≢ q) ⊎ (left ≡ 0) → by_streams.step (more_at p) u v ≡ Some (u, v)
-nothing_to_take s q left u x v a p t other = nothing_read s u x a t.stream v p (elim other [ inl ne ↦ elim t.at [ inl none ↦ all_taken none | inr at ↦ elsewhere a.place (λ e. ne (sym e ∙ at)) ] | inr none ↦ all_taken none ])
-  where
-    empty : (fs : List Octets) → length fs ≡ 0 → fs ≡ []
-    empty [] e = refl
-    empty (f ∷ fs) e = absurd (not_zero (length fs) e)
-      where
-        not_zero : (n : ℕ) → suc n ≡ 0 → ⊥
-        not_zero n e = grind arith
-
-    all_taken : left ≡ 0 → frames_at a.place a.frames p ≡ []
-    all_taken none = ap (λ (fs : List Octets). frames_at a.place fs p) (empty a.frames (t.count ∙ none)) ∙ frames_none s a.place p
-
-    elsewhere : (r : ℕ) → (r ≡ p → ⊥) → frames_at r a.frames p ≡ []
-    elsewhere r ne = ap (λ b. if b then a.frames else []) (differs r p ne)
-      where
-        differs : (r p : ℕ) → (r ≡ p → ⊥) → (r == p) ≡ false
-        differs r p ne = grind (arith, nat_tests)
+-- the event that was not taken
+is_pending : (s : ℕ) (phase : Phase) (w : What) (u : Streams) (x : Sight) (a : Served) → pending_in phase ≡ Some w → TiedAs s phase u x a → (a.pending ≡ w) × (a.taken ≡ false) × (a.frames ≡ [])
+is_pending s (Untold v) w u x a is t = (let same : v ≡ w = cc in (t.pending ∙ same, t.taken, t.frames))
+is_pending s (Told p left) w u x a is t = absurd (let z : None ≡ Some w = is in cc)
+is_pending s (Passed v) w u x a is t = (let same : v ≡ w = cc in (t.untold.pending ∙ same, t.untold.taken, t.untold.frames))
 
 pub reconnection_is_streams : (b : Conf) (s : ℕ) → use_at s b.servers ≡ Some ByStreams → AreStreams b s by_streams (started s default_settings) (TiedAs s) names_of owns
 reconnection_is_streams b s used = record {
   used = used;
   tie = streams_are_tied b s used;
+  shared = streams_are_shared b s;
   alone = λ phase u x a t. (stream_of s phase u x a t).dgram;
   clock = λ phase u x a t. (stream_of s phase u x a t).clock;
-  pending = λ w u x a t. (t.pending, t.taken, t.frames);
+  pending = λ phase w u x a is t. is_pending s phase w u x a is t;
   opening = λ phase u x a p t e. (let st = stream_of s phase u x a t in (st.order.opening p (st.ties.tables.opening ∙ e)).0);
   foreign = λ w u v a t f. passes_by s u (sight v) a t.stream w v f;
   taken = λ w u x a early t f. taken_beside s w u x a early t;
-  others = λ phase u x v a i t free. others_fire s u x a (stream_of s phase u x a t) v i free;
   drawn = λ u v a w r t fair octets free. draws_one b s used u v a w r t fair octets free;
 }

@@ -1,3 +1,4 @@
 pub mod Above
 pub mod Silent
 pub mod Ties
+pub mod Fallbacks

@@ -1,5 +1,6 @@
 //! What holds of clients above tied transports.
 
+ghost use Rattle.client_runs.specs.Fallbacks.{FallbacksAreShared, FallbacksAreTied};
 ghost use Rattle.client_runs.specs.Silent.{SilentClientsRun};
 ghost use Rattle.client_runs.specs.Ties.{EveryPlainTraceIsRight, EveryPlainTraceRuns, PlainTracesKeepTheirEvents};
 
@@ -7,6 +8,18 @@ ghost use Rattle.client_runs.specs.Ties.{EveryPlainTraceIsRight, EveryPlainTrace
 /// makes only runs of the client of small moves.
 pub fn silent_clients_run()
     ensures { SilentClientsRun }
+{}
+
+/// The transport of each server that is asked by datagrams, and by stream where an answer was cut, is tied to its part.
+#[tactic(auto, using(crate::proofs::Datagrams::fallbacks_are_tied))]
+pub fn fallbacks_are_tied()
+    ensures { FallbacksAreTied }
+{}
+
+/// So it may be one of several: it leaves alone what is none of its own.
+#[tactic(auto, using(crate::proofs::Datagrams::fallbacks_are_shared))]
+pub fn fallbacks_are_shared()
+    ensures { FallbacksAreShared }
 {}
 
 /// Every plain trace has a row for each event, and is a run of the client of small moves.

@@ -3,4 +3,7 @@
 
 mod laws;
 
-pub use laws::{every_plain_trace_is_right, plain_traces_are_runs, silent_clients_run};
+pub use laws::{
+    every_plain_trace_is_right, fallbacks_are_shared, fallbacks_are_tied, plain_traces_are_runs,
+    silent_clients_run,
+};

@@ -1,10 +1,8 @@
 -- The moves of a server open no place but the next.
-use Rattle.std.proofs.Common.{◌≡◌, ℕ, suc, ◌<◌, ◌≤◌, ◌⊎◌, inl, inr, Bool, true, false, ◌==◌, ◌||◌, is_some, Option, Some, None, Err, refl, sym, ap, subst, ◌∙◌, arith, le_refl, le_trans, lt_of_lt_of_le}
+use Rattle.std.proofs.Common.{◌≡◌, ℕ, suc, ◌<◌, ◌≤◌, ◌⊎◌, inl, inr, Bool, true, false, ◌||◌, is_some, Option, Some, None, Err, refl, sym, subst, arith, le_refl, le_trans, lt_of_lt_of_le}
 use Rattle.std.proofs.lemmas.Bool.Decides.{nat_tests}
 use Rattle.client_request.specs.Request.{Request}
 use Rattle.client_request.specs.declared.error.Error.TheVariants as errors
-use Rattle.client_request.specs.declared.event.Event.{Event}
-use Rattle.client_request.specs.declared.event.Out.{Out}
 use Rattle.client_request.specs.declared.event.What.{What}
 use Rattle.headline.specs.Messages.{Octets}
 use Rattle.headline.specs.Trace.{Conf}
@@ -94,10 +92,13 @@ end_within q m = sets m (with_at q None m.conns) m.opening (λ p h. with_none q 
 moves_open : (s n next : ℕ) (m : Multi) (x : multi.Act) (k : Multi) → Moves s n next m x k → Opened next (place_after x next) (stream_has k) (stream_has m)
 moves_open s n next m _ _ (multi.Joins k a p x at phase conn) = none_opened next (stream_has m) (stream_has m) (same_stream m)
 moves_open s n next m _ _ (multi.Expects k a p at phase opening) = none_opened next (stream_has m) (stream_has m) (same_stream m)
-moves_open s n next m _ _ (multi.Opens k a at phase none full) = (up next, λ p h. elim (either (is_some (m.conns p)) (is_this p (Some next)) h) [
-  | inl c ↦ inl (left_of (is_some (m.conns p)) (is_this p m.opening) c)
-  | inr o ↦ inr (only next p (is_next next p o))
-])
+moves_open s n next m _ _ (multi.Opens k a at phase none full) = (
+  up next,
+  λ p h. elim (either (is_some (m.conns p)) (is_this p (Some next)) h) [
+    | inl c ↦ inl (left_of (is_some (m.conns p)) (is_this p m.opening) c)
+    | inr o ↦ inr (only next p (is_next next p o))
+  ],
+)
 moves_open s n next m _ _ (multi.Meets k a until at phase calm late soon) = none_opened next (stream_has m) (stream_has m) (same_stream m)
 moves_open s n next m _ _ (multi.BacksOff k a until at phase late soon) = none_opened next (stream_has m) (stream_has m) (same_stream m)
 moves_open s n next m _ _ (multi.Writes k a p x id o at phase conn left heard free carries long) = (le_refl next, λ q h. inl (set_within p (multi.written_on id k n o x) x m conn q h))
@@ -110,17 +111,23 @@ moves_open s n next m _ _ (multi.RestsTooLong p x since conn mode late lined) = 
 
 -- an event opens no place
 takes_open : (n next : ℕ) (m : Multi) (w : What) (x : multi.Act) (k : Multi) → Takes n m w x k → Opened next (place_after x next) (stream_has k) (stream_has m)
-takes_open n next m _ _ _ (multi.ItOpens p opening) = (le_refl next, λ q h. inl (elim (either (is_some (with_at p (Some multi.new_conn) m.conns q)) (is_this q None) h) [
-  | inl c ↦ elim (with_next p multi.new_conn m.conns q c) [
-    | inl was ↦ left_of (is_some (m.conns q)) (is_this q m.opening) was
-    | inr e ↦ right_of (is_some (m.conns q)) (is_this q m.opening) (subst (λ q. is_this q m.opening ≡ true) e (subst (λ o. is_this p o ≡ true) (sym opening) (here p)))
-  ]
-  | inr o ↦ absurd (let z : false ≡ true = o in cc)
-]))
-takes_open n next m _ _ _ (multi.ItDoesNotOpen p f calm opening soon) = (le_refl next, λ q h. inl (elim (either (is_some (m.conns q)) (is_this q None) h) [
-  | inl c ↦ left_of (is_some (m.conns q)) (is_this q m.opening) c
-  | inr o ↦ absurd (let z : false ≡ true = o in cc)
-]))
+takes_open n next m _ _ _ (multi.ItOpens p opening) = (
+  le_refl next,
+  λ q h. inl (elim (either (is_some (with_at p (Some multi.new_conn) m.conns q)) (is_this q None) h) [
+    | inl c ↦ elim (with_next p multi.new_conn m.conns q c) [
+      | inl was ↦ left_of (is_some (m.conns q)) (is_this q m.opening) was
+      | inr e ↦ right_of (is_some (m.conns q)) (is_this q m.opening) (subst (λ q. is_this q m.opening ≡ true) e (subst (λ o. is_this p o ≡ true) (sym opening) (here p)))
+    ]
+    | inr o ↦ absurd (let z : false ≡ true = o in cc)
+  ]),
+)
+takes_open n next m _ _ _ (multi.ItDoesNotOpen p f calm opening soon) = (
+  le_refl next,
+  λ q h. inl (elim (either (is_some (m.conns q)) (is_this q None) h) [
+    | inl c ↦ left_of (is_some (m.conns q)) (is_this q m.opening) c
+    | inr o ↦ absurd (let z : false ≡ true = o in cc)
+  ]),
+)
 takes_open n next m w _ _ (multi.ItFails _ p x conn told) = (le_refl next, λ q h. inl (end_within p m q h))
 takes_open n next m _ _ _ (multi.SomeWritten p c x o conn less) = (le_refl next, λ q h. inl (set_within p (multi.wrote_on c x) x m conn q h))
 takes_open n next m _ _ _ (multi.AllWritten p c x conn some all) = (le_refl next, λ q h. inl (set_within p (multi.wrote_on c x) x m conn q h))
@@ -155,16 +162,22 @@ meets_opens n next d _ _ _ (dgrams.IsAnswered k a p id t o at held stage long an
 -- Both
 
 by_dgram : (next after : ℕ) (v : Server) (d : Dgrams) → Opened next after (dgram_has d) (dgram_has v.by_dgram) → Opened next after (λ p. dgram_has d p || stream_has v.by_stream p) (λ p. dgram_has v.by_dgram p || stream_has v.by_stream p)
-by_dgram next after v d o = (o.0, λ p h. elim (either (dgram_has d p) (stream_has v.by_stream p) h) [
-  | inl new ↦ elim (o.1 p new) [ inl was ↦ inl (left_of (dgram_has v.by_dgram p) (stream_has v.by_stream p) was) | inr lt ↦ inr lt ]
-  | inr old ↦ inl (right_of (dgram_has v.by_dgram p) (stream_has v.by_stream p) old)
-])
+by_dgram next after v d o = (
+  o.0,
+  λ p h. elim (either (dgram_has d p) (stream_has v.by_stream p) h) [
+    | inl new ↦ elim (o.1 p new) [ inl was ↦ inl (left_of (dgram_has v.by_dgram p) (stream_has v.by_stream p) was) | inr lt ↦ inr lt ]
+    | inr old ↦ inl (right_of (dgram_has v.by_dgram p) (stream_has v.by_stream p) old)
+  ],
+)
 
 by_stream : (next after : ℕ) (v : Server) (m : Multi) → Opened next after (stream_has m) (stream_has v.by_stream) → Opened next after (λ p. dgram_has v.by_dgram p || stream_has m p) (λ p. dgram_has v.by_dgram p || stream_has v.by_stream p)
-by_stream next after v m o = (o.0, λ p h. elim (either (dgram_has v.by_dgram p) (stream_has m p) h) [
-  | inl old ↦ inl (left_of (dgram_has v.by_dgram p) (stream_has v.by_stream p) old)
-  | inr new ↦ elim (o.1 p new) [ inl was ↦ inl (right_of (dgram_has v.by_dgram p) (stream_has v.by_stream p) was) | inr lt ↦ inr lt ]
-])
+by_stream next after v m o = (
+  o.0,
+  λ p h. elim (either (dgram_has v.by_dgram p) (stream_has m p) h) [
+    | inl old ↦ inl (left_of (dgram_has v.by_dgram p) (stream_has v.by_stream p) old)
+    | inr new ↦ elim (o.1 p new) [ inl was ↦ inl (right_of (dgram_has v.by_dgram p) (stream_has v.by_stream p) was) | inr lt ↦ inr lt ]
+  ],
+)
 
 settled : (s n next : ℕ) (u : Served) (x : multi.Act) (d : Act Served) (old : ℕ → Bool) → Settles s n next u x d → Opened next (place_after x next) (has_place u) old → Opened next d.place (has_place d.state) old
 settled s n next u x _ old (part.AsItIs none) o = o
@@ -207,10 +220,13 @@ servers_open_next c = record {
 -- Moves one after another
 
 pub then_opens : {U : Type 0} (has : U → ℕ → Bool) (place : ℕ) (a : U) (d e : Act U) → Opens has place a d → Opens has d.place d.state e → Opens has place a (then_act d e)
-then_opens has place a d e first more = (le_trans first.0 more.0, λ p h. elim (more.1 p h) [
-  | inl was ↦ elim (first.1 p was) [ inl old ↦ inl old | inr new ↦ inr (new.0, lt_of_lt_of_le new.1 more.0) ]
-  | inr new ↦ inr (le_trans first.0 new.0, new.1)
-])
+then_opens has place a d e first more = (
+  le_trans first.0 more.0,
+  λ p h. elim (more.1 p h) [
+    | inl was ↦ elim (first.1 p was) [ inl old ↦ inl old | inr new ↦ inr (new.0, lt_of_lt_of_le new.1 more.0) ]
+    | inr new ↦ inr (le_trans first.0 new.0, new.1)
+  ],
+)
 
 module _ {c : Conf} (P : ServerPart c) (has : P.State → ℕ → Bool) (o : OpensNext P has) (s : ℕ) where
   pub chain_opens : (place : ℕ) (a : P.State) (d : Act P.State) → Chain P s place a d → Opens has place a d

@@ -1,5 +1,5 @@
 -- The least transport is tied to its part, and leaves alone what is not its own.
-use Rattle.std.proofs.Common.{◌≡◌, ℕ, ◌+◌, ◌≤◌, inl, inr, refl, sym, ap, subst, arith, le_refl, Bool, true, false, List, [], ◌∷◌, ◌++◌, Option, Some, None, Err}
+use Rattle.std.proofs.Common.{◌≡◌, ℕ, ◌+◌, ◌≤◌, inl, inr, refl, sym, ap, subst, arith, le_refl, Bool, true, false, List, [], ◌∷◌, Option, Some, None, Err}
 use Rattle.std.specs.Prelude.{if◌then◌else◌, option_map, length}
 use Rattle.client_request.specs.Timers.{can_draw}
 use Rattle.client_request.specs.View.{View, answers, asks}

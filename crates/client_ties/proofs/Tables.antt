@@ -1,5 +1,5 @@
 -- The laws of a table that is sorted by its keys.
-use Rattle.std.proofs.Common.{◌≡◌, ℕ, suc, ◌<◌, ◌≤◌, Bool, true, false, cond, if◌then◌else◌, ◌==◌, List, [], ◌∷◌, length, Option, Some, None, Ordering, Less, Equal, Greater, nat_cmp, is_eq, ltb, refl, sym, ap, ◌∙◌, arith, le_trans, lt_of_lt_of_le}
+use Rattle.std.proofs.Common.{ap₂, subst, ◌≡◌, ℕ, suc, ◌<◌, ◌≤◌, Bool, true, false, cond, if◌then◌else◌, ◌==◌, List, [], ◌∷◌, length, Option, Some, None, Ordering, Less, Equal, Greater, nat_cmp, is_eq, ltb, refl, sym, ap, ◌∙◌, arith, le_trans, lt_of_lt_of_le}
 use Rattle.std.proofs.lemmas.Bool.Decides.{nat_tests}
 use Rattle.std.specs.Ordering.{match_ordering}
 use mathlib.Core.Path.{fun_ext}
@@ -170,3 +170,31 @@ module _ {A : Type 0} where
           some : Some e.1 ≡ None → ⊥
           some e = cc
       by false h ih = ap (λ (xs : List (ℕ × A)). e ∷ xs) (ih (sym (ap (λ b. cond b (Some e.1) (entry_at k es)) h) ∙ none))
+
+  first_here : (k : ℕ) (v : A) (hi : ℕ) (es : List (ℕ × A)) → Sorted (suc k) hi es → puts k v es ≡ (k, v) ∷ es
+  first_here k v hi [] r = refl
+  first_here k v hi (e ∷ es) r = ap (λ o. match_ordering o ((k, v) ∷ e ∷ es) ((e.0, v) ∷ es) (e ∷ puts k v es)) (less k e.0 r.0)
+    where
+      less : (k x : ℕ) → suc k ≤ x → nat_cmp k x ≡ Less
+      less k x le = grind (arith, nat_tests)
+
+  -- an entry that is taken out and put back
+  pub put_back : (k : ℕ) (v : A) (lo hi : ℕ) (es : List (ℕ × A)) → Sorted lo hi es → entry_at k es ≡ Some v → puts k v (frees k es) ≡ es
+  put_back k v lo hi [] r at = absurd (let z : None ≡ Some v = at in cc)
+  put_back k v lo hi (e ∷ es) r at = by (is_eq (nat_cmp k e.0)) refl (put_back k v (suc e.0) hi es r.2)
+    where
+      here : (k x : ℕ) → is_eq (nat_cmp k x) ≡ true → k ≡ x
+      here k x h = grind (arith, nat_tests)
+
+      behind : (k x : ℕ) → is_eq (nat_cmp k x) ≡ false → (k < suc x → ⊥) → nat_cmp k x ≡ Greater
+      behind k x h not_below = grind (arith, nat_tests)
+
+      by : (b : Bool) → is_eq (nat_cmp k e.0) ≡ b → (entry_at k es ≡ Some v → puts k v (frees k es) ≡ es) → puts k v (cond b es (e ∷ frees k es)) ≡ e ∷ es
+      by true h ih =
+          let same : k ≡ e.0 = here k e.0 h in
+          let value : e.1 ≡ v = (let z : Some e.1 ≡ Some v = sym (ap (λ b. cond b (Some e.1) (entry_at k es)) h) ∙ at in cc) in
+          first_here k v hi es (subst (λ k. Sorted (suc k) hi es) (sym same) r.2) ∙ ap₂ (λ (k : ℕ) (v : A). (k, v) ∷ es) same (sym value)
+      by false h ih =
+          let there : entry_at k es ≡ Some v = sym (ap (λ b. cond b (Some e.1) (entry_at k es)) h) ∙ at in
+          ap (λ o. match_ordering o ((k, v) ∷ e ∷ frees k es) ((e.0, v) ∷ frees k es) (e ∷ puts k v (frees k es))) (behind k e.0 h (λ lt. absurd (let z : None ≡ Some v = sym (absent_below (suc e.0) hi k es lt r.2) ∙ there in cc)))
+          ∙ ap (λ (xs : List (ℕ × A)). e ∷ xs) (ih there)

@@ -12,7 +12,7 @@ use Rattle.client_request.specs.declared.event.What.{What}
 use Rattle.headline.specs.Settings.{Settings}
 use Rattle.headline.specs.Trace.{Conf}
 use Rattle.headline.specs.machine.Part.{Post, ServerPart}
-use Rattle.headline.specs.machine.Client.{Waiting, Leaving, Upper, newcomer, row_begins, begun}
+use Rattle.headline.specs.machine.Client.{Leaving, Upper, newcomer, row_begins, begun}
 use Rattle.headline.specs.machine.Streams.{with_at}
 use Rattle.client_ties.specs.Chains.{Gives}
 use Rattle.client_ties.specs.Leading as moves

@@ -20,7 +20,7 @@ pub fn silence_is_shared()
     ensures shared { SilenceIsShared }
 {}
 
-/// A server opens no place but the next, and is never given a place again that it had.
+/// Each move of a server opens no place but the next.
 #[tactic(auto, using(crate::proofs::Opening::servers_open_next))]
 pub fn servers_open_next()
     ensures { ServersOpenNext }

@@ -13,8 +13,8 @@ use Rattle.headline.specs.machine.Part.{Act}
 use Rattle.headline.specs.machine.Dgrams.{Tryer, Dgrams, no_datagram}
 use Rattle.headline.specs.machine.Served.{Served, served}
 use Rattle.client_ties.specs.Chains.{Gives}
-use Rattle.client_ties.specs.PartTie.{Phase, Leads, Leaves}
-use Rattle.client_ties.specs.Sights.{Sight, sight, due_of, IsFair}
+use Rattle.client_ties.specs.PartTie.{Phase, WasTold, Leads, Leaves}
+use Rattle.client_ties.specs.Sights.{Sight, sight, due_of, IsFair, NoneDue}
 use Rattle.client_ties.proofs.GoingOn.{none_next}
 use Rattle.client_ties.proofs.Tables.{rises_below}
 use Rattle.dgram_ties.specs.AtServer.{with_dgrams}
@@ -26,6 +26,16 @@ use Rattle.dgram_ties.specs.Fallback.{AreStreams, IsOver, IsFallback, Both, name
 use Rattle.dgram_ties.proofs.Admitting.{tables_change}
 use Rattle.dgram_ties.proofs.Known.{slots_are_known}
 use Rattle.dgram_ties.proofs.Settling.{AllWhole, AreSettled, settled_so}
+
+-- none of the datagrams' timers is due after a call, where none was before
+pub none_due_now : (s z : dgram.Tables Request) (d : Dgrams) (v w : View) (made : Act Dgrams) → IsFair v → calls.Leaves s d (onto [] v) made z w → NoneDue (calls.Owns s) (sight v) → NoneDue (calls.Owns z) (sight w)
+none_due_now s z d v w made fair l early i due own e = subst (λ n. n < due) (sym l.after.now) (elim (l.after.later i due e) [
+  | inl was ↦ elim (l.apart.owned i own) [
+    | inl old ↦ early i due old was
+    | inr le ↦ absurd (let n : None ≡ Some due = sym (none_next v i fair le) ∙ was in cc)
+  ]
+  | inr new ↦ new.0
+])
 
 module _ (b c : Conf) (s : ℕ) {S : Type 0} (t : Transport Request S stream.Asked) (first : S) (Tied : Phase → S → Sight → Served → Type 0) (names : S → ℕ → Option ℕ) (Owns : S → (timer : ℕ) → Type 0) (y : AreStreams b s t first Tied names Owns) where
   module _ (f : Both Tied names Owns s) (v : View) (d e : Dgrams) (fair : IsFair v) (server : f.server ≡ s) (dgram_server : f.parts.dgram.server ≡ s) (settings : f.parts.dgram.settings ≡ dgram_settings.default_settings) (made : Act Dgrams) (tables : dgram.Tables Request) (w : View) (l : calls.Leaves f.parts.dgram.tables d (onto [] v) made tables w)
@@ -63,7 +73,7 @@ module _ (b c : Conf) (s : ℕ) {S : Type 0} (t : Transport Request S stream.Ask
     abbrev pub its_dgram : dgram.Dgram Request
     its_dgram = record f.parts.dgram { tables = tables }
 
-    module _ (later : ℕ) (named : ℕ → Option ℕ) (waiting : AreWaiting ticket_at f.parts.tables e named (names f.parts.stream) later) (le : later ≤ w.ticket) (posts : calls.Posts named (onto [] v) made tables w) (whole : AllWhole made.posts) (over : IsOver after (with_dgrams made.state z)) (Done : Act Served → Type 0) (done : Done (record { state = with_dgrams made.state z; place = made.place; outs = made.outs; posts = made.posts })) where
+    module _ (later : ℕ) (named : ℕ → Option ℕ) (waiting : AreWaiting ticket_at f.parts.tables e named (names f.parts.stream) later) (le : later ≤ w.ticket) (posts : calls.Posts named (onto [] v) made tables w) (whole : AllWhole made.posts) (over : IsOver after (with_dgrams made.state z)) (quiet : WasTold after → NoneDue (calls.Owns f.parts.dgram.tables) (sight v)) (Done : Act Served → Type 0) (done : Done (record { state = with_dgrams made.state z; place = made.place; outs = made.outs; posts = made.posts })) where
       abbrev p : Parts Request (dgram.Dgram Request) S dgram.Asked stream.Asked
       p = record f.parts { dgram = its_dgram }
 
@@ -91,6 +101,7 @@ module _ (b c : Conf) (s : ℕ) {S : Type 0} (t : Transport Request S stream.Ask
         places = places_now;
         apart = apart_now;
         over = over;
+        quiet = λ told. none_due_now f.parts.dgram.tables tables d v w made fair l (quiet told);
       }
 
       abbrev pub DgramsLeave : Both Tied names Owns s → View → Type 0

@@ -1,5 +1,5 @@
 -- What a call of the streams leaves is settled, beside datagrams that stay as they are.
-use Rattle.std.proofs.Common.{◌≡◌, ℕ, ◌≤◌, inl, inr, true, is_some, List, [], ◌∷◌, Option, Some, None, sym, subst, ◌∙◌}
+use Rattle.std.proofs.Common.{◌≡◌, ℕ, ◌<◌, ◌≤◌, inl, inr, true, is_some, List, [], ◌∷◌, Option, Some, None, sym, subst, ◌∙◌}
 use Rattle.std.specs.Prelude.{option_and_then}
 use Rattle.client_request.specs.Request.{Request}
 use Rattle.client_request.specs.Requests.{for_one}
@@ -16,8 +16,8 @@ use Rattle.headline.specs.machine.Streams.{with_at}
 use Rattle.headline.specs.machine.Dgrams.{Dgrams, no_datagram}
 use Rattle.headline.specs.machine.Served.{Served, served}
 use Rattle.client_ties.specs.Chains.{Gives}
-use Rattle.client_ties.specs.PartTie.{Phase, Leads, Leaves}
-use Rattle.client_ties.specs.Sights.{Sight, sight, due_of, IsFair}
+use Rattle.client_ties.specs.PartTie.{Phase, WasTold, Leads, Leaves}
+use Rattle.client_ties.specs.Sights.{Sight, sight, due_of, IsFair, NoneDue}
 use Rattle.client_ties.proofs.GoingOn.{none_next}
 use Rattle.client_ties.proofs.Keys.{was_there}
 use Rattle.client_ties.proofs.Tables.{rises_below}
@@ -43,13 +43,16 @@ module _ (b c : Conf) (s : ℕ) {S : Type 0} (t : Transport Request S stream.Ask
     abbrev pub left_of : S → View → Parts Request (dgram.Dgram Request) S dgram.Asked stream.Asked × View
     left_of u w = gives_rest f.server t w.board (record f.parts { stream = u }) (onto v.board w)
 
-    module _ (May : Act Served → Type 0) (before : Phase) (u : S) (w : View) (l : Leaves (served b) Tied names Owns May named f.parts.stream (onto [] v) before u w) (le : later ≤ w.ticket) (after : Phase) (z : Served) (tied : Tied after u (sight w) (with_dgrams no_datagram z)) (new : (p k : ℕ) → d.at p ≡ Some k → z.server.by_stream.opening ≡ Some p → ⊥) (over : IsOver after (with_dgrams d z))
+    module _ (May : Act Served → Type 0) (before : Phase) (u : S) (w : View) (l : Leaves (served b) Tied names Owns May named f.parts.stream (onto [] v) before u w) (le : later ≤ w.ticket) (after : Phase) (z : Served) (tied : Tied after u (sight w) (with_dgrams no_datagram z)) (new : (p k : ℕ) → d.at p ≡ Some k → z.server.by_stream.opening ≡ Some p → ⊥) (over : IsOver after (with_dgrams d z)) (quiet : WasTold after → NoneDue (calls.Owns f.parts.dgram.tables) (sight v))
         (Done : Act Served → Type 0) (done : Done (record l.made { state = with_dgrams d z })) where
       given : AreGiven ticket_at f.parts.tables d (names_of f.parts.dgram.tables) named (names u) later v.board l.made.posts (gives_all w.board f.parts.tables v.board).0 (gives_all w.board f.parts.tables v.board).1
       given = streams_give f.parts.tables d (names_of f.parts.dgram.tables) named (names u) later w.board v.board l.made.posts waiting (subst (λ ps. Gives named ps l.made.posts (names u)) (sym l.put) l.gives)
 
       its_due : (i : ℕ) → calls.Owns f.parts.dgram.tables i → (due : ℕ) × (due_of i v.timers.set ≡ Some due)
       its_due i own = slots_are_known.set f.parts.dgram.tables d (sight v) i slots own
+
+      same_due : (i : ℕ) → calls.Owns f.parts.dgram.tables i → due_of i w.timers.set ≡ due_of i v.timers.set
+      same_due i own = (let q = its_due i own in l.others i q.0 (λ o. timers i own o) q.1 ∙ sym q.1)
 
       apart_now : (k : ℕ) → is_some (d.held k) ≡ true → is_some (z.server.by_stream.asks k) ≡ true → ⊥
       apart_now k e asked = (let n = y.tie.held after u (sight w) (with_dgrams no_datagram z) k tied asked in apart n.0 k e (gives_back named (names u) l.board l.made.posts l.gives n.0 k n.1))
@@ -65,13 +68,14 @@ module _ (b c : Conf) (s : ℕ) {S : Type 0} (t : Transport Request S stream.Ask
         server = server;
         dgram_server = dgram_server;
         settings = settings;
-        slots = slots_are_known.same f.parts.dgram.tables d (sight v) (sight w) slots (λ i own. (let q = its_due i own in l.others i q.0 (λ o. timers i own o) q.1 ∙ sym q.1)) l.goes_on.timer l.goes_on.ticket l.goes_on.place;
+        slots = slots_are_known.same f.parts.dgram.tables d (sight v) (sight w) slots same_due l.goes_on.timer l.goes_on.ticket l.goes_on.place;
         streams = tied;
         waiting = (let g = given.waiting in record { waits = g.waits; below = g.below; tickets = g.tickets; dgrams = g.dgrams; streams = g.streams; jobs_order = rises_below (λ (e : ℕ × Job Request dgram.Asked stream.Asked). e.0) 0 later w.ticket _ le g.jobs_order; tickets_order = rises_below (λ (e : ℕ × ℕ). e.0) 0 later w.ticket _ le g.tickets_order });
         timers = timers_now;
         places = new;
         apart = apart_now;
         over = over;
+        quiet = λ told i due own e. subst (λ n. n < due) (sym l.goes_on.now) (quiet told i due own (sym (same_due i own) ∙ e));
       }
 
       pub streams_leave : Leaves (served c) (IsFallback Tied names Owns s) (names_in Tied names Owns s) (OwnsEither Tied names Owns s) Done (numbers_of f.parts.tables named) f v after (record f { parts = (left_of u w).0 }) (left_of u w).1

@@ -14,12 +14,12 @@ use Rattle.headline.specs.Orderly.{use_at}
 use Rattle.headline.specs.Trace.{Conf, ByDatagrams}
 use Rattle.headline.specs.machine.Served.{Served, served}
 use Rattle.client_ties.specs.PartTie.{Phase, Untold, Leads, IsTie}
-use Rattle.client_ties.specs.Sights.{Sight, sight, IsFair, IsEarly}
+use Rattle.client_ties.specs.Sights.{Sight, sight, IsFair, NoneDue}
 use Rattle.dgram_ties.specs.Calls as calls
 use Rattle.dgram_ties.specs.Calls.{HasTold, Passes, Moves, Cuts}
 use Rattle.dgram_ties.specs.Fallback.{AreStreams, IsFallback, Both, names_in, OwnsEither}
 use Rattle.dgram_ties.proofs.CallsAreMoves.{calls_are_moves}
-use Rattle.dgram_ties.proofs.Falling.{fresh, same, set, named, held, begins, rests}
+use Rattle.dgram_ties.proofs.Falling.{fresh, same, set, named, held, quiet, begins, rests}
 use Rattle.dgram_ties.proofs.GivingUp.{gives_up_one}
 use Rattle.dgram_ties.proofs.GoingOnByStream.{cut_told}
 use Rattle.dgram_ties.proofs.HandingIn.{sends_one}
@@ -28,7 +28,7 @@ use Rattle.dgram_ties.proofs.Timing.{fires_one, leads_hears}
 use Rattle.dgram_ties.proofs.Told.{Tell, dgrams_told}
 
 module _ (b c : Conf) (s : ℕ) (used : use_at s c.servers ≡ Some ByDatagrams) {S : Type 0} (t : Transport Request S stream.Asked) (first : S) (Tied : Phase → S → Sight → Served → Type 0) (names : S → ℕ → Option ℕ) (Owns : S → (timer : ℕ) → Type 0) (y : AreStreams b s t first Tied names Owns) where
-  module _ (f : Both Tied names Owns s) (v : View) (a : Served) (w : What) (g : IsFallback Tied names Owns s (Untold w) f (sight v) a) (fair : IsFair v) (early : IsEarly v) (calm : v.more ≡ false) where
+  module _ (f : Both Tied names Owns s) (v : View) (a : Served) (w : What) (g : IsFallback Tied names Owns s (Untold w) f (sight v) a) (fair : IsFair v) (early : NoneDue (OwnsEither Tied names Owns s f) (sight v)) (calm : v.more ≡ false) where
     abbrev tables : dgram.Tables Request
     tables = f.parts.dgram.tables
 
@@ -57,11 +57,12 @@ module _ (b c : Conf) (s : ℕ) (used : use_at s c.servers ≡ Some ByDatagrams)
     named = λ phase f x a i k g e. named b s t first Tied names Owns y phase f x a g i k e;
     held = λ phase f x a k g e. held b s t first Tied names Owns y phase f x a g k e;
     response = λ r f v. refl;
+    quiet = λ phase f x a told g. quiet b s t first Tied names Owns y phase f x a g told;
     begins = λ phase f x a e may g. begins b s t first Tied names Owns y phase f x a e may g;
     rests = λ phase f v a may early g. rests b s t first Tied names Owns y phase f v a may early g;
     fires = λ f v a w i due g fair set late. fires_one b c s t first Tied names Owns y f v a w i due g fair set late;
-    sends = λ f v a w r g fair octets free. sends_one b c s used t first Tied names Owns y f v a w r g fair octets free;
-    cancels = λ f v a w r k g fair named. gives_up_one b c s t first Tied names Owns y f v a w r.ticket k g fair named;
+    sends = λ phase f v a r may g fair octets free. sends_one b c s used t first Tied names Owns y phase f v a r may g fair octets free;
+    cancels = λ phase f v a r k may g fair named. gives_up_one b c s t first Tied names Owns y phase f v a r.ticket k may g fair named;
     tells = λ f v a w g fair early calm. tells_one f v a w g fair early calm;
     takes = λ f v a p n g fair early calm. takes_one b c s t first Tied names Owns y f v a p n g fair early calm;
   }

@@ -15,8 +15,8 @@ use Rattle.client_multi.specs.declared.dgram_stream.job.Job.{Job}
 use Rattle.headline.specs.Trace.{Conf}
 use Rattle.headline.specs.machine.Dgrams.{Dgrams, no_datagram, IsIgnored}
 use Rattle.headline.specs.machine.Served.{Served, unserved, holds, row_begun, RestsNow}
-use Rattle.client_ties.specs.PartTie.{Phase, Untold, Told, IsNobodys, MayEnd}
-use Rattle.client_ties.specs.Sights.{Sight, sight, IsEarly}
+use Rattle.client_ties.specs.PartTie.{Phase, Untold, Told, Passed, IsNobodys, MayEnd, WasTold}
+use Rattle.client_ties.specs.Sights.{Sight, sight, NoneDue}
 use Rattle.client_ties.proofs.Tables.{rises_below, present_below}
 use Rattle.dgram_ties.specs.AtServer.{with_dgrams, DgramsRest}
 use Rattle.dgram_ties.specs.Slots.{names_of}
@@ -71,6 +71,7 @@ module _ (b : Conf) (s : ℕ) {S : Type 0} (t : Transport Request S stream.Asked
         places = λ p k e. absurd (cc);
         apart = λ k e. absurd (cc);
         over = tt;
+        quiet = λ told i due own e. absurd (let w = own.1 in cc);
       }
 
   module _ (phase : Phase) (f : Both Tied names Owns s) (x : Sight) (a : Served) (g : Falls phase f x a) where
@@ -86,6 +87,7 @@ module _ (b : Conf) (s : ℕ) {S : Type 0} (t : Transport Request S stream.Asked
       places = g.places;
       apart = g.apart;
       over = g.over;
+      quiet = λ told i due own e. subst (λ n. n < due) (sym now) (g.quiet told i due own (sym (dues i (inl own)) ∙ e));
     }
 
     pub set : (i : ℕ) → OwnsEither Tied names Owns s f i → (due : ℕ) × (x.dues i ≡ Some due)
@@ -109,7 +111,12 @@ module _ (b : Conf) (s : ℕ) {S : Type 0} (t : Transport Request S stream.Asked
       | inr at ↦ (let i = y.tie.held phase f.parts.stream x (with_dgrams no_datagram a) k g.streams at in let w = g.waiting.streams i.0 k i.1 in (w.0, ap (λ o. option_and_then (number_in (names f.parts.stream)) o) w.2 ∙ i.1))
     ]
 
-  -- a row begins where the last one may end, and where no timer is due it rests
+    -- once the event was told none of its timers is due
+    pub quiet : WasTold phase → NoneDue (OwnsEither Tied names Owns s f) x
+    quiet told i due (inl own) e = g.quiet told i due own e
+    quiet told i due (inr own) e = y.tie.quiet phase f.parts.stream x (with_dgrams no_datagram a) told g.streams i due own e
+
+  -- a row begins where the last one may end, and where none of its timers is due it rests
   pub begins : (phase : Phase) (f : Both Tied names Owns s) (x : Sight) (a : Served) (e : Event) → MayEnd phase → Falls phase f x a → Falls (Untold e.what) f (record x { now = max e.moment.0 x.now }) (row_begun e a)
   begins phase f x a e may g = record {
     server = g.server;
@@ -122,6 +129,7 @@ module _ (b : Conf) (s : ℕ) {S : Type 0} (t : Transport Request S stream.Asked
     places = g.places;
     apart = g.apart;
     over = tt;
+    quiet = λ told. absurd told;
   }
 
   -- an event of nobody is none of the datagrams'
@@ -131,11 +139,12 @@ module _ (b : Conf) (s : ℕ) {S : Type 0} (t : Transport Request S stream.Asked
   nobodys _ d i = absurd i
 
   is_over : (phase : Phase) (f : Both Tied names Owns s) (x : Sight) (a : Served) → MayEnd phase → Falls phase f x a → IsIgnored a.pending a.server.by_dgram
-  is_over (Untold w) f x a may g = subst (λ w. IsIgnored w a.server.by_dgram) (sym (y.pending w f.parts.stream x (with_dgrams no_datagram a) g.streams).0) (nobodys w a.server.by_dgram may)
+  is_over (Untold w) f x a may g = subst (λ w. IsIgnored w a.server.by_dgram) (sym (y.pending (Untold w) w f.parts.stream x (with_dgrams no_datagram a) refl g.streams).0) (nobodys w a.server.by_dgram may)
   is_over (Told p left) f x a may g = g.over
+  is_over (Passed w) f x a may g = subst (λ w. IsIgnored w a.server.by_dgram) (sym (y.pending (Passed w) w f.parts.stream x (with_dgrams no_datagram a) refl g.streams).0) g.over
 
-  pub rests : (phase : Phase) (f : Both Tied names Owns s) (v : View) (a : Served) → MayEnd phase → IsEarly v → Falls phase f (sight v) a → RestsNow a
+  pub rests : (phase : Phase) (f : Both Tied names Owns s) (v : View) (a : Served) → MayEnd phase → NoneDue (OwnsEither Tied names Owns s f) (sight v) → Falls phase f (sight v) a → RestsNow a
   rests phase f v a may early g =
       let at = y.clock phase f.parts.stream (sight v) (with_dgrams no_datagram a) g.streams in
-      streams_move.rests (with_dgrams no_datagram a) a.server.by_dgram (y.tie.rests phase f.parts.stream v (with_dgrams no_datagram a) may early g.streams)
-      (subst (λ n. DgramsRest n a.server.by_dgram) (sym at) (slots_are_known.rests f.parts.dgram.tables a.server.by_dgram (sight v) g.slots (λ i due own e. early i due e))) (is_over phase f (sight v) a may g)
+      streams_move.rests (with_dgrams no_datagram a) a.server.by_dgram (y.tie.rests phase f.parts.stream v (with_dgrams no_datagram a) may (λ i due own e. early i due (inr own) e) g.streams)
+      (subst (λ n. DgramsRest n a.server.by_dgram) (sym at) (slots_are_known.rests f.parts.dgram.tables a.server.by_dgram (sight v) g.slots (λ i due own e. early i due (inl own) e))) (is_over phase f (sight v) a may g)

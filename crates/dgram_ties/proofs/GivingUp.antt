@@ -20,17 +20,18 @@ use Rattle.headline.specs.machine.Served as machine
 use Rattle.headline.specs.machine.Dgrams.{Tryer, Dgrams, no_datagram}
 use Rattle.headline.specs.machine.Served.{Served, served, Cancels}
 use Rattle.client_ties.specs.Chains.{Chain, Begins, Calls, then_act, Gives}
-use Rattle.client_ties.specs.PartTie.{Phase, Untold, Leads, Leaves}
+use Rattle.client_ties.specs.PartTie.{Phase, IsOpen, Leads, Leaves}
 use Rattle.client_ties.specs.Sights.{Sight, sight, IsFair}
 use Rattle.client_ties.proofs.Keys.{was_there}
 use Rattle.dgram_ties.specs.AtServer.{with_dgrams, at_server}
 use Rattle.dgram_ties.specs.Calls as calls
 use Rattle.dgram_ties.specs.Calls.{HasDropped}
 use Rattle.dgram_ties.specs.Halves.{beside}
+use Rattle.dgram_ties.specs.Placed.{StayAt}
 use Rattle.dgram_ties.specs.Slots.{names_of}
 use Rattle.dgram_ties.specs.Steps.{Steps}
 use Rattle.dgram_ties.specs.Waiting.{WaitsBelow, AtDgrams, AtStreams, AreWaiting, number_in, numbers_of, ticket_at}
-use Rattle.dgram_ties.specs.Fallback.{AreStreams, IsFallback, Both, names_in, OwnsEither}
+use Rattle.dgram_ties.specs.Fallback.{AreStreams, pending_in, IsFallback, Both, names_in, OwnsEither}
 use Rattle.dgram_ties.proofs.Admitting.{tables_change}
 use Rattle.dgram_ties.proofs.AtServer.{servers_move}
 use Rattle.dgram_ties.proofs.BesideDgrams.{dgrams_leave}
@@ -39,6 +40,8 @@ use Rattle.dgram_ties.proofs.CallsAreMoves.{calls_are_moves}
 use Rattle.dgram_ties.proofs.Halves.{streams_move}
 use Rattle.dgram_ties.proofs.Handing.{gives_as, streams_less, numbers_less}
 use Rattle.dgram_ties.proofs.Known.{slots_are_known}
+use Rattle.dgram_ties.proofs.Passing.{still_over, over_beside, event_of}
+use Rattle.dgram_ties.proofs.Placed.{places_stay, stay_then}
 use Rattle.dgram_ties.proofs.Settling.{AllWhole}
 use Rattle.dgram_ties.proofs.Sitting.{sitting_beside}
 use Rattle.dgram_ties.proofs.Staying.{asks_then, openings_are_new, requests_stay}
@@ -89,7 +92,7 @@ module _ (b c : Conf) (s : ℕ) {S : Type 0} (t : Transport Request S stream.Ask
   leads_dgrams f v Q R None q k = tt
   leads_dgrams f v Q R (Some x) q k = k x.0 x.1 q
 
-  module _ (f : Two) (v : View) (a : Served) (w : What) (i k : ℕ) (g : Falls (Untold w) f (sight v) a) (fair : IsFair v) (named : names_in Tied names Owns s f i ≡ Some k) where
+  module _ (phase : Phase) (f : Two) (v : View) (a : Served) (i k : ℕ) (may : IsOpen phase v.place) (g : Falls phase f (sight v) a) (fair : IsFair v) (named : names_in Tied names Owns s f i ≡ Some k) where
     abbrev Done : Act Served → Type 0
     Done e = Begins (Cancels s v.place k a) (Chain (served c) s) e × (e.posts ≡ [])
 
@@ -106,10 +109,14 @@ module _ (b c : Conf) (s : ℕ) {S : Type 0} (t : Transport Request S stream.Ask
     fewer = record f { parts = with_tables (without i f.parts.tables) f.parts }
 
     clock : a.clock ≡ v.now
-    clock = y.clock (Untold w) f.parts.stream (sight v) alone g.streams
+    clock = y.clock phase f.parts.stream (sight v) alone g.streams
 
     abbrev Goal : Option (Two × View) → Type 0
-    Goal = Leads (Left Done (with_at i None (names_in Tied names Owns s f)) f v (Untold w))
+    Goal = Leads (Left Done (with_at i None (names_in Tied names Owns s f)) f v phase)
+
+    -- the event that was not taken
+    abbrev event : (w : What) × (pending_in phase ≡ Some w)
+    event = event_of phase v.place may
 
     -- It waits at the datagrams.
     module _ (lower : ℕ) (r : Request) (z : dgram.Asked) (is : entry_at i f.parts.tables.jobs ≡ Some (Dgram lower k r z)) (at : z.ticket ≡ lower) (below : names_of f.parts.dgram.tables lower ≡ Some k) where
@@ -119,17 +126,20 @@ module _ (b c : Conf) (s : ℕ) {S : Type 0} (t : Transport Request S stream.Ask
       dgram_done : (e m : Act Dgrams) → calls.LetsGo k v.place d e → Steps s v.now e.place e.state m → (then_act e m).posts ≡ [] → Done (record { state = with_dgrams m.state a; place = m.place; outs = (then_act e m).outs; posts = (then_act e m).posts })
       dgram_done e m lets steps none = (Calls (at_server a with_dgrams e) (at_server (with_dgrams e.state a) with_dgrams m) (servers_move.lets_go s v.place k a e lets) (servers_move.steps c s e.place (with_dgrams e.state a) m (subst (λ n. Steps s n e.place e.state m) (sym clock) steps)), none)
 
-      dropped : (z : dgram.Tables Request) (x : View) → HasDropped s lower k f.parts.dgram.tables d (onto [] v) z x → Leads (Left Done (numbers_of (without i f.parts.tables) (names f.parts.stream)) fewer v (Untold w)) (with_parts fewer (fallback.collects fewer.server t x.board [] (record fewer.parts { dgram = record f.parts.dgram { tables = z } }) (onto v.board x)))
+      stay : (e m : Act Dgrams) → calls.LetsGo k v.place d e → Steps s v.now e.place e.state m → StayAt v.place d m.state
+      stay e m lets steps = (let l = places_stay.lets_go v.place k v.place d e lets in stay_then v.place d e.state m.state l.1 (places_stay.steps s v.now v.place e.place e.state m l.0 steps))
+
+      dropped : (z : dgram.Tables Request) (x : View) → HasDropped s lower k f.parts.dgram.tables d (onto [] v) z x → Leads (Left Done (numbers_of (without i f.parts.tables) (names f.parts.stream)) fewer v phase) (with_parts fewer (fallback.collects fewer.server t x.board [] (record fewer.parts { dgram = record f.parts.dgram { tables = z } }) (onto v.board x)))
       dropped z x h = leads_first _ _ _
           (dgrams_leave b c s t first Tied names Owns y fewer v d d fair g.server g.dgram_server g.settings (then_act h.first h.made) z x h.leaves g.timers
-          (asks_then d h.first.state h.made.state (requests_stay.lets_go k v.place d h.first h.lets) (requests_stay.steps s v.now h.first.place h.first.state h.made h.steps)) (Untold w) (Untold w) a g.streams g.places g.apart
+          (asks_then d h.first.state h.made.state (requests_stay.lets_go k v.place d h.first h.lets) (requests_stay.steps s v.now h.first.place h.first.state h.made h.steps)) phase phase a g.streams g.places g.apart
           v.ticket (with_at lower None (names_of f.parts.dgram.tables)) less.0 h.leaves.after.ticket
           (record { board = []; put = h.board; gives = subst (λ xs. Gives (with_at lower None (names_of f.parts.dgram.tables)) [] xs (names_of z)) (sym h.nothing) h.names })
-          (subst AllWhole (sym h.nothing) tt) tt Done (dgram_done h.first h.made h.lets h.steps h.nothing))
+          (subst AllWhole (sym h.nothing) tt) (still_over phase v.place a h.made.state may (stay h.first h.made h.lets h.steps) g.over) (λ told. g.quiet told) Done (dgram_done h.first h.made h.lets h.steps h.nothing))
 
       pub dgram_up : Goal (with_parts f (drops_at f.server (dgram.transport for_one) t fewer.parts v (Some (Dgram lower k r z))))
-      dgram_up = leads_renamed Done (numbers_of (without i f.parts.tables) (names f.parts.stream)) (with_at i None (names_in Tied names Owns s f)) (without i f.parts.tables) f v (Untold w) _ less.1
-          (leads_dgrams fewer v (HasDropped s lower k f.parts.dgram.tables d (onto [] v)) (Left Done (numbers_of (without i f.parts.tables) (names f.parts.stream)) fewer v (Untold w)) (dgram.drops f.parts.dgram.server z.ticket f.parts.dgram.tables (onto [] v))
+      dgram_up = leads_renamed Done (numbers_of (without i f.parts.tables) (names f.parts.stream)) (with_at i None (names_in Tied names Owns s f)) (without i f.parts.tables) f v phase _ less.1
+          (leads_dgrams fewer v (HasDropped s lower k f.parts.dgram.tables d (onto [] v)) (Left Done (numbers_of (without i f.parts.tables) (names f.parts.stream)) fewer v phase) (dgram.drops f.parts.dgram.server z.ticket f.parts.dgram.tables (onto [] v))
           (subst (λ n. calls.Leads (HasDropped s lower k f.parts.dgram.tables d (onto [] v)) (dgram.drops n z.ticket f.parts.dgram.tables (onto [] v))) (sym g.dgram_server)
           (subst (λ n. calls.Leads (HasDropped s lower k f.parts.dgram.tables d (onto [] v)) (dgram.drops s n f.parts.dgram.tables (onto [] v))) (sym at)
           (calls_are_moves.cancels s f.parts.dgram.tables d (onto [] v) lower k g.slots fair_on below))) dropped)
@@ -149,7 +159,7 @@ module _ (b c : Conf) (s : ℕ) {S : Type 0} (t : Transport Request S stream.Ask
       numbers = subst (λ ts. (u : ℕ) → numbers_of ts left u ≡ with_at i None (numbers_of f.parts.tables (names f.parts.stream)) u) (sym it_is) (numbers_less ticket_at f.parts.tables d (names_of f.parts.dgram.tables) (names f.parts.stream) v.ticket g.waiting i lower k z is below)
 
       asked : (j n : ℕ) → names f.parts.stream j ≡ Some n → is_some (a.server.by_stream.asks n) ≡ true
-      asked j n e = (y.tie.named (Untold w) f.parts.stream (sight v) alone j n g.streams e).1
+      asked j n e = (y.tie.named phase f.parts.stream (sight v) alone j n g.streams e).1
 
       free : d.held k ≡ None
       free = by (d.held k) refl
@@ -170,7 +180,7 @@ module _ (b c : Conf) (s : ℕ) {S : Type 0} (t : Transport Request S stream.Ask
       stream_done _ (Calls e m call chain) untaken =
           let o = streams_move.cancels s v.place k alone d e refl free call in
           let st = stays s v.place k alone e call in
-          let more = sitting_beside c b s d e.place e.state m o.0 (st.frames ∙ (y.pending w f.parts.stream (sight v) alone g.streams).2) chain untaken in
+          let more = sitting_beside c b s d e.place e.state m o.0 (st.frames ∙ (y.pending phase event.0 f.parts.stream (sight v) alone event.1 g.streams).2) chain untaken in
           record {
             begun = Calls (beside d e) (beside d m) o.1 more;
             new = λ p n at op. elim ((openings_are_new c s e.place (with_dgrams d e.state) (beside d m) more).1 p op) [
@@ -186,16 +196,16 @@ module _ (b c : Conf) (s : ℕ) {S : Type 0} (t : Transport Request S stream.Ask
       apart j n held e = g.apart n held (asked j n (was_there lower (names f.parts.stream) j n e).1)
 
       pub stream_up : Goal (with_parts f (drops_at f.server (dgram.transport for_one) t fewer.parts v (Some (Stream lower z))))
-      stream_up = leads_renamed Done (numbers_of (without i f.parts.tables) left) (with_at i None (names_in Tied names Owns s f)) (without i f.parts.tables) f v (Untold w) _ numbers
-          (leads_both b c s t first Tied names Owns y fewer v d fair g.server g.dgram_server g.settings g.slots left v.ticket waits g.timers apart (Leaves (served b) Tied names Owns May left f.parts.stream (onto [] v) (Untold w)) (Left Done (numbers_of (without i f.parts.tables) left) fewer v (Untold w)) (t.cancel z f.parts.stream (onto [] v))
-          (subst (λ n. Leads (Leaves (served b) Tied names Owns May (with_at n None (names f.parts.stream)) f.parts.stream (onto [] v) (Untold w)) (t.cancel z f.parts.stream (onto [] v))) at
-          (y.tie.cancels f.parts.stream (onto [] v) alone w z k g.streams fair_on (subst (λ n. names f.parts.stream n ≡ Some k) (sym at) below)))
+      stream_up = leads_renamed Done (numbers_of (without i f.parts.tables) left) (with_at i None (names_in Tied names Owns s f)) (without i f.parts.tables) f v phase _ numbers
+          (leads_both b c s t first Tied names Owns y fewer v d fair g.server g.dgram_server g.settings g.slots left v.ticket waits g.timers apart (Leaves (served b) Tied names Owns May left f.parts.stream (onto [] v) phase) (Left Done (numbers_of (without i f.parts.tables) left) fewer v phase) (t.cancel z f.parts.stream (onto [] v))
+          (subst (λ n. Leads (Leaves (served b) Tied names Owns May (with_at n None (names f.parts.stream)) f.parts.stream (onto [] v) phase) (t.cancel z f.parts.stream (onto [] v))) at
+          (y.tie.cancels phase f.parts.stream (onto [] v) alone z k may g.streams fair_on (subst (λ n. names f.parts.stream n ≡ Some k) (sym at) below)))
           (λ u x l.
-          let untaken = (y.pending w u (sight x) l.made.state l.tied).1 in
-          let none = y.alone (Untold w) u (sight x) l.made.state l.tied in
+          let untaken = (y.pending phase event.0 u (sight x) l.made.state event.1 l.tied).1 in
+          let none = y.alone phase u (sight x) l.made.state l.tied in
           let did = stream_done l.made l.may.0 untaken in
-          streams_leave b c s t first Tied names Owns y fewer v d fair g.server g.dgram_server g.settings g.slots left v.ticket waits g.timers apart May (Untold w) u x l l.goes_on.ticket (Untold w) l.made.state
-          (subst (Tied (Untold w) u (sight x)) (ap (λ (e : Dgrams). with_dgrams e l.made.state) none) l.tied) did.new tt Done (did.begun, l.may.1)))
+          streams_leave b c s t first Tied names Owns y fewer v d fair g.server g.dgram_server g.settings g.slots left v.ticket waits g.timers apart May phase u x l l.goes_on.ticket phase l.made.state
+          (subst (Tied phase u (sight x)) (ap (λ (e : Dgrams). with_dgrams e l.made.state) none) l.tied) did.new (over_beside phase v.place a l.made.state may g.over) (λ told. g.quiet told) Done (did.begun, l.may.1)))
 
     pub gives_up_one : Goal (with_parts f (fallback.drops f.server (dgram.transport for_one) t i f.parts v))
     gives_up_one = go (entry_at i f.parts.tables.jobs) refl named

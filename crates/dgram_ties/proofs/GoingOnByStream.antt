@@ -28,7 +28,7 @@ use Rattle.headline.specs.machine.Served as machine
 use Rattle.headline.specs.machine.Served.{Served, served, holds, has_taken_it, Starts}
 use Rattle.client_ties.specs.Chains.{Chain, Goes, Begins, Calls, then_act, Gives}
 use Rattle.client_ties.specs.PartTie.{Phase, Untold, Told, Leads, GoesOn, Leaves}
-use Rattle.client_ties.specs.Sights.{Sight, sight, due_of, IsFair, IsEarly}
+use Rattle.client_ties.specs.Sights.{Sight, sight, due_of, IsFair, NoneDue}
 use Rattle.client_ties.proofs.GoingOn.{goes_then, none_next}
 use Rattle.client_ties.proofs.Keys.{with_here, was_there, is_or_was, with_again, with_same}
 use Rattle.client_ties.proofs.Tables.{at_frees, absent_above, present_below}
@@ -43,7 +43,7 @@ use Rattle.dgram_ties.specs.Waiting.{WaitsBelow, AtDgrams, AtStreams, AreWaiting
 use Rattle.dgram_ties.specs.Fallback.{AreStreams, IsFallback, Both, names_in, OwnsEither}
 use Rattle.dgram_ties.proofs.Admitting.{tables_change, less_waiting, less_numbers}
 use Rattle.dgram_ties.proofs.AtServer.{chain_then}
-use Rattle.dgram_ties.proofs.BesideDgrams.{timers_now, tied_now, places_now}
+use Rattle.dgram_ties.proofs.BesideDgrams.{none_due_now, timers_now, tied_now, places_now}
 use Rattle.dgram_ties.proofs.BesideStreams.{streams_leave}
 use Rattle.dgram_ties.proofs.Halves.{streams_move}
 use Rattle.dgram_ties.proofs.Handing.{gives_as}
@@ -69,7 +69,7 @@ module _ (b c : Conf) (s : ℕ) {S : Type 0} (t : Transport Request S stream.Ask
   abbrev Two : Type 0
   Two = Both Tied names Owns s
 
-  module _ (f : Two) (v : View) (a : Served) (w : What) (g : IsFallback Tied names Owns s (Untold w) f (sight v) a) (fair : IsFair v) (early : IsEarly v) (calm : v.more ≡ false) (z : dgram.Tables Request) (q : View) (h : HasCut s w f.parts.dgram.tables a.server.by_dgram (onto [] v) z q) where
+  module _ (f : Two) (v : View) (a : Served) (w : What) (g : IsFallback Tied names Owns s (Untold w) f (sight v) a) (fair : IsFair v) (early : NoneDue (OwnsEither Tied names Owns s f) (sight v)) (calm : v.more ≡ false) (z : dgram.Tables Request) (q : View) (h : HasCut s w f.parts.dgram.tables a.server.by_dgram (onto [] v) z q) where
     abbrev d : Dgrams
     d = a.server.by_dgram
 
@@ -247,7 +247,7 @@ module _ (b c : Conf) (s : ℕ) {S : Type 0} (t : Transport Request S stream.Ask
         let x = handed b s q.place k r alone e call in
         let first : Act Served = record e { state = record alone { server = e.state.server; pending = Tick; taken = true; frames = [] } } in
         let o = streams_move.falls b s q.place k r (record alone { pending = Tick; taken = true; frames = [] }) made.state (staged h.tryer Cut) first y.used refl h.is_cut refl asked_for x.starts in
-        let l = sitting c b s taken d2 e.place e.state m o.0 (ap (λ (z : Served). z.frames) x.same ∙ (y.pending w f.parts.stream (sight v) alone g.streams).2) (sym (ap (λ (z : Served). z.clock) x.same)) rest untaken in
+        let l = sitting c b s taken d2 e.place e.state m o.0 (ap (λ (z : Served). z.frames) x.same ∙ (y.pending (Untold w) w f.parts.stream (sight v) alone refl g.streams).2) (sym (ap (λ (z : Served). z.clock) x.same)) rest untaken in
         record {
           same = l.same ∙ ap (λ (z : Served). record z { server = m.state.server }) x.same;
           chain = Goes q.place mid (beside d2 first) (record m { state = sits taken d2 m.state.server.by_stream }) o.1 l.chain;
@@ -271,7 +271,7 @@ module _ (b c : Conf) (s : ℕ) {S : Type 0} (t : Transport Request S stream.Ask
       m = l.made.state
 
       did : Went l.made
-      did = went l.made l.may (y.pending w n (sight x) m l.tied).1
+      did = went l.made l.may (y.pending (Untold w) w n (sight x) m refl l.tied).1
 
       abbrev after : Served
       after = sits taken d2 m.server.by_stream
@@ -297,7 +297,13 @@ module _ (b c : Conf) (s : ℕ) {S : Type 0} (t : Transport Request S stream.Ask
       -- none of the streams' timers is due
       early_now : (i due : ℕ) → Owns n i → due_of i x.timers.set ≡ Some due → x.now < due
       early_now i due own e = subst (λ n. n < due) (sym (l.goes_on.now ∙ h.leaves.after.now)) (elim (l.goes_on.later i due e) [
-        | inl was ↦ elim (h.leaves.after.later i due was) [ inl old ↦ early i due old | inr new ↦ new.0 ]
+        | inl was ↦ elim (h.leaves.after.later i due was) [
+          | inl old ↦ elim (l.owned i own) [
+            | inl its ↦ early i due (inr its) old
+            | inr le ↦ absurd (let z : None ≡ Some due = sym (none_next v2 i fair2 le) ∙ was in cc)
+          ]
+          | inr new ↦ new.0
+        ]
         | inr new ↦ subst (λ n. n < due) h.leaves.after.now new.0
       ])
 
@@ -316,7 +322,7 @@ module _ (b c : Conf) (s : ℕ) {S : Type 0} (t : Transport Request S stream.Ask
       end_v = (gives_rest f.server t x.board (record f2.parts { stream = n }) (onto v.board x)).1
 
       rest : Leaves (served c) (IsFallback Tied names Owns s) (names_in Tied names Owns s) (OwnsEither Tied names Owns s) Done (numbers_of (admits u job fewer) named) f2 v2 (Told 0 0) end end_v
-      rest = streams_leave b c s t first Tied names Owns y f2 v2 d2 fair2 g.server g.dgram_server g.settings h.leaves.slots named n2 more.0 timers_q apart2 May (Untold w) n x l (reached q.ticket x.ticket drawn) (Told 0 0) after tied new tt Done chain
+      rest = streams_leave b c s t first Tied names Owns y f2 v2 d2 fair2 g.server g.dgram_server g.settings h.leaves.slots named n2 more.0 timers_q apart2 May (Untold w) n x l (reached q.ticket x.ticket drawn) (Told 0 0) after tied new tt (λ told. none_due_now tables z d v q (then_act (made_by v.place (multi.Puts (Close h.at)) d) (record made { state = d2 })) fair h.leaves (λ i due own e. early i due (inl own) e)) Done chain
 
       was_owned : (i : ℕ) → OwnsEither Tied names Owns s f2 i → OwnsEither Tied names Owns s f i ⊎ (v.timers.next ≤ i)
       was_owned i o = elim o [ inl own ↦ elim (h.leaves.apart.owned i own) [ inl was ↦ inl (inl was) | inr le ↦ inr le ] | inr own ↦ inl (inr own) ]
@@ -375,7 +381,7 @@ module _ (b c : Conf) (s : ℕ) {S : Type 0} (t : Transport Request S stream.Ask
     settled = subst (λ o. Goal (with_parts f (option_map (λ x. gives_rest f.server t x.0.1 x.0.0 x.1) o)))
         (sym (ap (λ ps. settles_all f.server t ps parts [] (onto v.board q)) h.put ∙ ap (option_and_then (λ x. settles_all f.server t [] x.0.0 x.0.1 x.1)) follows_so))
         (by_streams (t.send r f.parts.stream starting)
-        (subst (λ n. Leads Streams_leave (t.send r f.parts.stream (asks (Start k n via.Stream) (onto [] v2)))) (sym g.server) (y.tie.sends f.parts.stream (onto [] v2) alone w r tied_q (record { order = fair2.order; words = fair2.words }) octets free))
+        (subst (λ n. Leads Streams_leave (t.send r f.parts.stream (asks (Start k n via.Stream) (onto [] v2)))) (sym g.server) (y.tie.sends (Untold w) f.parts.stream (onto [] v2) alone r tt tied_q (record { order = fair2.order; words = fair2.words }) octets free))
         (subst (λ n. Leads (λ m x. (q.ticket < x.ticket) × (x.more ≡ q.more)) (t.send r f.parts.stream (asks (Start k n via.Stream) (onto [] v2)))) (sym g.server) (y.drawn f.parts.stream (onto [] v2) alone w r tied_q (record { order = fair2.order; words = fair2.words }) octets free)))
 
     pub cut_told : Goal (with_parts f (hears_stream f.server (dgram.transport for_one) t (told w) f.parts v (record f.parts.dgram { tables = z }, q)))

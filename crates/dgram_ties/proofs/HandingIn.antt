@@ -8,7 +8,6 @@ use Rattle.client_request.specs.Timers.{can_draw}
 use Rattle.client_request.specs.View.{View, Transport, asks}
 use Rattle.client_request.specs.declared.event.Out.TheVariants.{Start}
 use Rattle.client_request.specs.declared.event.Via.TheVariants as via
-use Rattle.client_request.specs.declared.event.What.{What}
 use Rattle.client_dgram.specs.Plain as dgram
 use Rattle.client_stream.specs.Plain as stream
 use Rattle.client_multi.specs.Fallback as fallback
@@ -22,7 +21,7 @@ use Rattle.headline.specs.machine.Streams.{with_at}
 use Rattle.headline.specs.machine.Dgrams.{Queued, Ending, Tryer, Dgrams, no_datagram}
 use Rattle.headline.specs.machine.Served.{Served, served, holds, Starts}
 use Rattle.client_ties.specs.Chains.{Chain, Begins, Calls}
-use Rattle.client_ties.specs.PartTie.{Phase, Untold, Leads, Leaves}
+use Rattle.client_ties.specs.PartTie.{Phase, IsOpen, Leads, Leaves}
 use Rattle.client_ties.specs.Sights.{Sight, sight, IsFair}
 use Rattle.client_ties.proofs.Keys.{with_here, with_there, is_or_was}
 use Rattle.client_ties.proofs.Tables.{absent_above}
@@ -32,7 +31,7 @@ use Rattle.dgram_ties.specs.Calls.{HasTaken, with_request}
 use Rattle.dgram_ties.specs.Slots.{AreSlots, slots_of, names_of}
 use Rattle.dgram_ties.specs.Steps.{Steps}
 use Rattle.dgram_ties.specs.Waiting.{WaitsBelow, AtDgrams, AtStreams, AreWaiting, numbers_of, ticket_at}
-use Rattle.dgram_ties.specs.Fallback.{AreStreams, IsFallback, Both, names_in, OwnsEither}
+use Rattle.dgram_ties.specs.Fallback.{AreStreams, IsOver, IsFallback, Both, names_in, OwnsEither}
 use Rattle.dgram_ties.proofs.Admitting.{tables_change}
 use Rattle.dgram_ties.proofs.AtServer.{servers_move}
 use Rattle.dgram_ties.proofs.BesideDgrams.{dgrams_leave}
@@ -41,15 +40,17 @@ use Rattle.dgram_ties.proofs.Changing.{settled}
 use Rattle.dgram_ties.proofs.GivingUp.{leads_dgrams, leads_first}
 use Rattle.dgram_ties.proofs.Handing.{gives_as}
 use Rattle.dgram_ties.proofs.Known.{slots_are_known}
+use Rattle.dgram_ties.proofs.Passing.{still_over}
+use Rattle.dgram_ties.proofs.Placed.{places_stay, stay_then}
 use Rattle.dgram_ties.proofs.Staying.{requests_stay}
 use Rattle.dgram_ties.proofs.Wholes.{IsWhole, changed, steps_whole, whole_at_first}
 
 -- nobody has the request, neither at the datagrams nor at the streams
-neither : (a b : Bool) → (a || b) ≡ false → (a ≡ false) × (b ≡ false)
+pub neither : (a b : Bool) → (a || b) ≡ false → (a ≡ false) × (b ≡ false)
 neither true b e = absurd (let z : true ≡ false = e in cc)
 neither false b e = (refl, e)
 
-none_of : {A : Type 0} (o : Option A) → is_some o ≡ false → o ≡ None
+pub none_of : {A : Type 0} (o : Option A) → is_some o ≡ false → o ≡ None
 none_of None e = refl
 none_of (Some a) e = absurd (let z : true ≡ false = e in cc)
 
@@ -66,12 +67,12 @@ module _ (b c : Conf) (s : ℕ) (used : use_at s c.servers ≡ Some ByDatagrams)
   abbrev Two : Type 0
   Two = Both Tied names Owns s
 
-  module _ (f : Two) (v : View) (a : Served) (w : What) (r : Request) (g : IsFallback Tied names Owns s (Untold w) f (sight v) a) (fair : IsFair v) (octets : IsOfOctets r) (free : holds a v.request ≡ false) where
+  module _ (phase : Phase) (f : Two) (v : View) (a : Served) (r : Request) (may : IsOpen phase v.place) (g : IsFallback Tied names Owns s phase f (sight v) a) (fair : IsFair v) (octets : IsOfOctets r) (free : holds a v.request ≡ false) where
     abbrev Done : Act Served → Type 0
     Done = Begins (Starts c s v.place v.request r a) (Chain (served c) s)
 
     abbrev Goal : Two → View → Type 0
-    Goal = Leaves (served c) (IsFallback Tied names Owns s) (names_in Tied names Owns s) (OwnsEither Tied names Owns s) Done (with_at v.ticket (Some v.request) (names_in Tied names Owns s f)) f v (Untold w)
+    Goal = Leaves (served c) (IsFallback Tied names Owns s) (names_in Tied names Owns s) (OwnsEither Tied names Owns s) Done (with_at v.ticket (Some v.request) (names_in Tied names Owns s f)) f v phase
 
     abbrev d : Dgrams
     d = a.server.by_dgram
@@ -134,7 +135,7 @@ module _ (b c : Conf) (s : ℕ) (used : use_at s c.servers ≡ Some ByDatagrams)
       where
         by : (o : Option ℕ) → names f.parts.stream lower ≡ o → names f.parts.stream lower ≡ None
         by None e = e
-        by (Some l) e = absurd (above v.ticket lower (y.tie.named (Untold w) f.parts.stream (sight v) (with_dgrams no_datagram a) lower l g.streams e).0 refl)
+        by (Some l) e = absurd (above v.ticket lower (y.tie.named phase f.parts.stream (sight v) (with_dgrams no_datagram a) lower l g.streams e).0 refl)
 
     abbrev more : AreWaiting ticket_at (admits v.ticket job f.parts.tables) (with_request k r d) (with_at lower (Some k) (names_of f.parts.dgram.tables)) (names f.parts.stream) (v.ticket + 2) × ((u : ℕ) → numbers_of (admits v.ticket job f.parts.tables) (names f.parts.stream) u ≡ with_at v.ticket (Some k) (numbers_of f.parts.tables (names f.parts.stream)) u)
     more = tables_change.by_dgram f.parts.tables (with_request k r d) (names_of f.parts.dgram.tables) (names f.parts.stream) v.ticket (v.ticket + 2) v.ticket lower k r asked queued
@@ -148,11 +149,11 @@ module _ (b c : Conf) (s : ℕ) (used : use_at s c.servers ≡ Some ByDatagrams)
     slots1 : AreSlots 0 f.parts.dgram.tables d (sight v1)
     slots1 = slots_are_known.same f.parts.dgram.tables d (sight v) (sight v1) g.slots (λ i own. refl) (le_refl v.timers.next) (up v.ticket) (le_refl v.place)
 
-    streams1 : Tied (Untold w) f.parts.stream (sight v1) (with_dgrams no_datagram a)
-    streams1 = y.tie.same (Untold w) f.parts.stream (sight v) (sight v1) (with_dgrams no_datagram a) g.streams refl (λ i own. refl) (le_refl v.timers.next) (up v.ticket) (le_refl v.place)
+    streams1 : Tied phase f.parts.stream (sight v1) (with_dgrams no_datagram a)
+    streams1 = y.tie.same phase f.parts.stream (sight v) (sight v1) (with_dgrams no_datagram a) g.streams refl (λ i own. refl) (le_refl v.timers.next) (up v.ticket) (le_refl v.place)
 
     clock : a.clock ≡ v.now
-    clock = y.clock (Untold w) f.parts.stream (sight v) (with_dgrams no_datagram a) g.streams
+    clock = y.clock phase f.parts.stream (sight v) (with_dgrams no_datagram a) g.streams
 
     whole : IsWhole (with_request k r d)
     whole = changed d k queued (λ z e. absurd (let n : Queued ≡ Ending z = e in cc)) (whole_at_first d (settled 0 (slots_of f.parts.dgram.tables) d _ g.slots.alike))
@@ -175,17 +176,21 @@ module _ (b c : Conf) (s : ℕ) (used : use_at s c.servers ≡ Some ByDatagrams)
     taken z x h = again (with_parts f1 (fallback.collects f1.server t x.board [] (record f1.parts { dgram = record f.parts.dgram { tables = z } }) (onto v1.board x)))
         (leads_first _ _ _
         (dgrams_leave b c s t first Tied names Owns y f1 v1 d (with_request k r d) fair1 g.server g.dgram_server g.settings h.made z x h.leaves g.timers
-        (requests_stay.steps s v.now v.place (with_request k r d) h.made h.steps) (Untold w) (Untold w) a streams1 g.places apart
-        (v.ticket + 2) (with_at lower (Some k) (names_of f.parts.dgram.tables)) more.0 (reached v.ticket x.ticket h.drawn) h.posts (steps_whole s v.now v.place (with_request k r d) h.made whole h.steps) tt Start_done done))
+        (requests_stay.steps s v.now v.place (with_request k r d) h.made h.steps) phase phase a streams1 g.places apart
+        (v.ticket + 2) (with_at lower (Some k) (names_of f.parts.dgram.tables)) more.0 (reached v.ticket x.ticket h.drawn) h.posts (steps_whole s v.now v.place (with_request k r d) h.made whole h.steps) over (λ told. g.quiet told) Start_done done))
       where
         begun : Served
         begun = with_dgrams (with_request k r d) a
+
+        over : IsOver phase (with_dgrams h.made.state a)
+        over = still_over phase v.place a h.made.state may
+            (stay_then v.place d (with_request k r d) h.made.state (places_stay.takes v.place k r d) (places_stay.steps s v.now v.place v.place (with_request k r d) h.made (le_refl v.place) h.steps)) g.over
 
         done : Start_done (record { state = with_dgrams h.made.state a; place = h.made.place; outs = h.made.outs; posts = h.made.posts })
         done = Calls (record { state = with_dgrams (with_request k r d) a; place = v.place; outs = Start k s via.Dgram ∷ []; posts = [] }) (at_server (with_dgrams (with_request k r d) a) with_dgrams h.made) (servers_move.starts c s v.place k r a used not_held)
             (servers_move.steps c s v.place (with_dgrams (with_request k r d) a) h.made (subst (λ n. Steps s n v.place (with_request k r d) h.made) (sym clock) h.steps))
 
-        again : (o : Option (Two × View)) → Leads (Leaves (served c) (IsFallback Tied names Owns s) (names_in Tied names Owns s) (OwnsEither Tied names Owns s) Start_done (numbers_of (admits v.ticket job f.parts.tables) (names f.parts.stream)) f1 v1 (Untold w)) o → Leads Goal o
+        again : (o : Option (Two × View)) → Leads (Leaves (served c) (IsFallback Tied names Owns s) (names_in Tied names Owns s) (OwnsEither Tied names Owns s) Start_done (numbers_of (admits v.ticket job f.parts.tables) (names f.parts.stream)) f1 v1 phase) o → Leads Goal o
         again None q = tt
         again (Some o) l = record {
           made = record l.made { outs = Start k s via.Dgram ∷ l.made.outs };

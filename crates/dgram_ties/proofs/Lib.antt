@@ -20,10 +20,12 @@ pub mod Known
 pub mod Halves
 pub mod Handing
 pub mod Staying
+pub mod Placed
 pub mod Admitting
 pub mod Falling
 pub mod Sitting
 pub mod Settling
+pub mod Passing
 pub mod Wholes
 pub mod BesideStreams
 pub mod BesideDgrams
@@ -34,3 +36,5 @@ pub mod Timing
 pub mod Told
 pub mod GoingOnByStream
 pub mod FallbackTied
+pub mod LeavingAlone
+pub mod FallbackShared

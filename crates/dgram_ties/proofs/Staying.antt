@@ -68,7 +68,7 @@ requests_stay = record { steps = steps; meets = meets; at_once = at_once; lets_g
 one_more : (n : ℕ) → n ≤ suc n
 one_more n = omega arith
 
-grows : (x : multi.Act) (n : ℕ) → n ≤ place_after x n
+pub grows : (x : multi.Act) (n : ℕ) → n ≤ place_after x n
 grows (multi.Puts (OpenDgram p s)) n = one_more n
 grows (multi.Puts (OpenStream p s)) n = one_more n
 grows (multi.Puts (Start k s v)) n = le_refl n

@@ -14,7 +14,7 @@ use Rattle.headline.specs.machine.Dgrams.{Dgrams, no_datagram, IsIgnored}
 use Rattle.headline.specs.machine.Served.{Served, served}
 use Rattle.client_ties.specs.Chains.{Chain}
 use Rattle.client_ties.specs.PartTie.{Phase, Untold, Told, Leads, Tells, MayLeave}
-use Rattle.client_ties.specs.Sights.{Sight, sight, IsFair, IsEarly}
+use Rattle.client_ties.specs.Sights.{Sight, sight, IsFair, NoneDue}
 use Rattle.dgram_ties.specs.AtServer.{with_dgrams}
 use Rattle.dgram_ties.specs.Halves.{beside, AreInTime}
 use Rattle.dgram_ties.specs.Fallback.{AreStreams, IsFallback, Both, names_in, OwnsEither}
@@ -30,7 +30,7 @@ module _ (b c : Conf) (s : ℕ) {S : Type 0} (t : Transport Request S stream.Ask
   abbrev Falls : Phase → Two → Sight → Served → Type 0
   Falls phase f x a = IsFallback Tied names Owns s phase f x a
 
-  module _ (f : Two) (v : View) (a : Served) (before : Phase) (g : Falls before f (sight v) a) (fair : IsFair v) (early : IsEarly v) (ignored : IsIgnored a.pending a.server.by_dgram) (MayBe : (place left : ℕ) → Type 0) where
+  module _ (f : Two) (v : View) (a : Served) (before : Phase) (g : Falls before f (sight v) a) (fair : IsFair v) (early : NoneDue (OwnsEither Tied names Owns s f) (sight v)) (ignored : IsIgnored a.pending a.server.by_dgram) (MayBe : (place left : ℕ) → Type 0) where
     abbrev d : Dgrams
     d = a.server.by_dgram
 
@@ -41,7 +41,7 @@ module _ (b c : Conf) (s : ℕ) {S : Type 0} (t : Transport Request S stream.Ask
     below_all p n lt le = omega arith
 
     in_time : AreInTime a.clock d
-    in_time = subst (λ n. AreInTime n d) (sym (y.clock before f.parts.stream (sight v) alone g.streams)) (slots_are_known.rests f.parts.dgram.tables d (sight v) g.slots (λ i due own e. early i due e)).reading
+    in_time = subst (λ n. AreInTime n d) (sym (y.clock before f.parts.stream (sight v) alone g.streams)) (slots_are_known.rests f.parts.dgram.tables d (sight v) g.slots (λ i due own e. early i due (inl own) e)).reading
 
     apart : (j n : ℕ) → is_some (d.held n) ≡ true → names f.parts.stream j ≡ Some n → ⊥
     apart j n held e = g.apart n held (y.tie.named before f.parts.stream (sight v) alone j n g.streams e).1
@@ -66,7 +66,7 @@ module _ (b c : Conf) (s : ℕ) {S : Type 0} (t : Transport Request S stream.Ask
           leaves = streams_leave b c s t first Tied names Owns y f v d fair g.server g.dgram_server g.settings g.slots (names f.parts.stream) v.ticket g.waiting g.timers apart (Chain (served b) s v.place alone) after u x l l.goes_on.ticket after z
               (subst (Tied after u (sight x)) (ap (λ (e : Dgrams). with_dgrams e z) o.0) l.tied)
               (λ p n at op. elim ((openings_are_new c s v.place a (beside d l.made) o.1).1 p op) [ inl was ↦ g.places p n at was | inr le ↦ below_all p v.place (slots_are_known.placed f.parts.dgram.tables d (sight v) p n g.slots at) le ])
-              (still_ignored b s d v.place alone l.made refl ignored in_time l.may) (Chain (served c) s v.place a) o.1;
+              (still_ignored b s d v.place alone l.made refl ignored in_time l.may) (λ told i due own e. early i due (inl own) e) (Chain (served c) s v.place a) o.1;
         }
 
     -- what the streams do is what the fallback does
@@ -76,13 +76,13 @@ module _ (b c : Conf) (s : ℕ) {S : Type 0} (t : Transport Request S stream.Ask
   fair_on : (v : View) → IsFair v → IsFair (onto [] v)
   fair_on v fair = record { order = fair.order; words = fair.words }
 
-  pub takes_one : (f : Two) (v : View) (a : Served) (p n : ℕ) → Falls (Told p (suc n)) f (sight v) a → IsFair v → IsEarly v → v.more ≡ false
+  pub takes_one : (f : Two) (v : View) (a : Served) (p n : ℕ) → Falls (Told p (suc n)) f (sight v) a → IsFair v → NoneDue (OwnsEither Tied names Owns s f) (sight v) → v.more ≡ false
       → Leads (Tells (served c) (IsFallback Tied names Owns s) (names_in Tied names Owns s) (OwnsEither Tied names Owns s) (Chain (served c) s v.place a) f v (λ q left. (q ≡ p) × (left ≤ n))) ((fallback.transport (dgram.transport for_one) t).step (more_at p) f v)
   takes_one f v a p n g fair early calm = they_tell f v a (Told p (suc n)) g fair early g.over (λ q left. (q ≡ p) × (left ≤ n)) (t.step (more_at p) f.parts.stream (onto [] v))
-      (y.tie.takes f.parts.stream (onto [] v) (with_dgrams no_datagram a) p n g.streams (fair_on v fair) early calm)
+      (y.tie.takes f.parts.stream (onto [] v) (with_dgrams no_datagram a) p n g.streams (fair_on v fair) (λ i due own e. early i due (inr own) e) calm)
 
   -- an event that is none of the datagrams'
-  pub streams_told : (f : Two) (v : View) (a : Served) (w : What) → Falls (Untold w) f (sight v) a → IsFair v → IsEarly v → v.more ≡ false → IsIgnored w a.server.by_dgram
+  pub streams_told : (f : Two) (v : View) (a : Served) (w : What) → Falls (Untold w) f (sight v) a → IsFair v → NoneDue (OwnsEither Tied names Owns s f) (sight v) → v.more ≡ false → IsIgnored w a.server.by_dgram
       → Leads (Tells (served c) (IsFallback Tied names Owns s) (names_in Tied names Owns s) (OwnsEither Tied names Owns s) (Chain (served c) s v.place a) f v (MayLeave w)) (with_parts f (option_and_then (settles_stream f.server (dgram.transport for_one) t [] f.parts v) (t.step (told w) f.parts.stream (onto [] v))))
-  streams_told f v a w g fair early calm ignored = they_tell f v a (Untold w) g fair early (subst (λ w. IsIgnored w a.server.by_dgram) (sym (y.pending w f.parts.stream (sight v) (with_dgrams no_datagram a) g.streams).0) ignored) (MayLeave w) (t.step (told w) f.parts.stream (onto [] v))
-      (y.tie.tells f.parts.stream (onto [] v) (with_dgrams no_datagram a) w g.streams (fair_on v fair) early calm)
+  streams_told f v a w g fair early calm ignored = they_tell f v a (Untold w) g fair early (subst (λ w. IsIgnored w a.server.by_dgram) (sym (y.pending (Untold w) w f.parts.stream (sight v) (with_dgrams no_datagram a) refl g.streams).0) ignored) (MayLeave w) (t.step (told w) f.parts.stream (onto [] v))
+      (y.tie.tells f.parts.stream (onto [] v) (with_dgrams no_datagram a) w g.streams (fair_on v fair) (λ i due own e. early i due (inr own) e) calm)

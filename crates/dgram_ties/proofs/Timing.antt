@@ -28,7 +28,7 @@ use Rattle.dgram_ties.specs.Slots.{AreSlots, slots_of, names_of}
 use Rattle.dgram_ties.specs.Steps.{Steps}
 use Rattle.dgram_ties.specs.Fallback.{AreStreams, IsFallback, Both, names_in, OwnsEither}
 use Rattle.dgram_ties.proofs.AtServer.{servers_move}
-use Rattle.dgram_ties.proofs.BesideDgrams.{dgrams_leave}
+use Rattle.dgram_ties.proofs.BesideDgrams.{dgrams_leave, tied_now}
 use Rattle.dgram_ties.proofs.BesideStreams.{leads_both, streams_leave}
 use Rattle.dgram_ties.proofs.CallsAreMoves.{calls_are_moves}
 use Rattle.dgram_ties.proofs.Changing.{settled}
@@ -39,7 +39,7 @@ use Rattle.dgram_ties.proofs.Staying.{openings_are_new, requests_stay}
 use Rattle.dgram_ties.proofs.Wholes.{steps_whole, whole_at_first}
 
 -- a timer that the datagrams don't have is none of theirs
-late_passes : (server i : ℕ) (s : dgram.Tables Request) (v : View) → entry_at i s.timers ≡ None → dgram.late server i s v ≡ Some (s, v)
+pub late_passes : (server i : ℕ) (s : dgram.Tables Request) (v : View) → entry_at i s.timers ≡ None → dgram.late server i s v ≡ Some (s, v)
 late_passes server i s v none =
     ap (λ o. dgram.at_ticket (λ ticket job s v. dgram.late_stage server ticket job s v job.stage) (record s { timers = frees i s.timers }) v o) none
     ∙ ap (λ ts. Some (record s { timers = ts }, v)) (frees_nothing i s.timers none)
@@ -100,13 +100,16 @@ module _ (b c : Conf) (s : ℕ) {S : Type 0} (t : Transport Request S stream.Ask
           (dgrams_leave b c s t first Tied names Owns y f vc d d fair_c g.server g.dgram_server g.settings h.made z x h.leaves g.timers
           (requests_stay.steps s v.now v.place d h.made h.steps) (Untold w) (Untold w) a streams_c g.places g.apart
           v.ticket (names_of tables) g.waiting h.leaves.after.ticket h.posts
-          (steps_whole s v.now v.place d h.made (whole_at_first d (settled 0 (slots_of tables) d _ g.slots.alike)) h.steps) tt (Chain (served c) s v.place a)
+          (steps_whole s v.now v.place d h.made (whole_at_first d (settled 0 (slots_of tables) d _ g.slots.alike)) h.steps) tt (λ told. absurd told) (Chain (served c) s v.place a)
           (servers_move.steps c s v.place a h.made (subst (λ n. Steps s n v.place d h.made) (sym clock) h.steps)))
+
+      tied_fired : (z : dgram.Tables Request) (x : View) → HasFired s tables d (onto [] vc) z x → Tied (Untold w) f.parts.stream (sight x) alone
+      tied_fired z x h = tied_now b c s t first Tied names Owns y f vc d d fair_c g.server g.dgram_server g.settings h.made z x h.leaves g.timers (requests_stay.steps s v.now v.place d h.made h.steps) (Untold w) (Untold w) a streams_c g.places g.apart
 
       dgrams_fire : Leads Goal ((fallback.transport (dgram.transport for_one) t).step (due_timer i) f vc)
       dgrams_fire = leads_hears f vc (due_timer i) (HasFired s tables d (onto [] vc)) Goal (dgram.late f.parts.dgram.server i tables (onto [] vc))
           (subst (λ n. calls.Leads (HasFired s tables d (onto [] vc)) (dgram.late n i tables (onto [] vc))) (sym g.dgram_server) (calls_are_moves.fires s tables d (onto [] v) i due g.slots fair_on set late))
-          (λ z x h. streams_pass f vc (due_timer i) Goal z x (y.others (Untold w) f.parts.stream (sight v) (onto [] x) alone i g.streams (λ o. g.timers i (k, own) o)) (fired z x h))
+          (λ z x h. streams_pass f vc (due_timer i) Goal z x (y.shared.timers (Untold w) f.parts.stream (onto [] x) alone i (tied_fired z x h) (λ o. g.timers i (k, own) o)) (fired z x h))
 
     -- It is none of theirs.
     module _ (none : entry_at i tables.timers ≡ None) where
@@ -125,12 +128,12 @@ module _ (b c : Conf) (s : ℕ) {S : Type 0} (t : Transport Request S stream.Ask
       left : (u : S) (x : View) → Streams_leave u x → Goal (record f { parts = (fallback.gives_rest f.server t x.board (record f.parts { stream = u }) (onto v.board x)).0 }) (fallback.gives_rest f.server t x.board (record f.parts { stream = u }) (onto v.board x)).1
       left u x l =
           let z = l.made.state in
-          let untaken = (y.pending w u (sight x) z l.tied).1 in
-          let chain = sitting_beside c b s d v.place alone l.made refl (y.pending w f.parts.stream (sight v) alone g.streams).2 l.may untaken in
+          let untaken = (y.pending (Untold w) w u (sight x) z refl l.tied).1 in
+          let chain = sitting_beside c b s d v.place alone l.made refl (y.pending (Untold w) w f.parts.stream (sight v) alone refl g.streams).2 l.may untaken in
           streams_leave b c s t first Tied names Owns y f vc d fair_c g.server g.dgram_server g.settings slots_c (names f.parts.stream) v.ticket g.waiting g.timers apart (Chain (served b) s v.place alone) (Untold w) u x l l.goes_on.ticket (Untold w) z
           (subst (Tied (Untold w) u (sight x)) (ap (λ (e : Dgrams). with_dgrams e z) (y.alone (Untold w) u (sight x) z l.tied)) l.tied)
           (λ p n at op. elim ((openings_are_new c s v.place a (beside d l.made) chain).1 p op) [ inl was ↦ g.places p n at was | inr le ↦ below_all p v.place (slots_are_known.placed tables d (sight v) p n g.slots at) le ])
-          tt (Chain (served c) s v.place a) chain
+          tt (λ told. absurd told) (Chain (served c) s v.place a) chain
 
       streams_fire : Leads Goal ((fallback.transport (dgram.transport for_one) t).step (due_timer i) f vc)
       streams_fire = subst (λ o. Leads Goal (with_parts f (option_and_then (hears_stream f.server (dgram.transport for_one) t (due_timer i) f.parts vc) (dgram.with_tables f.parts.dgram o)))) (sym (late_passes f.parts.dgram.server i tables (onto [] vc) none))

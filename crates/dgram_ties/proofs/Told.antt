@@ -1,5 +1,5 @@
 -- An event is told to a fallback: the datagrams take it, or what was cut goes on by the streams, or the streams hear it.
-use Rattle.std.proofs.Common.{◌≡◌, ℕ, true, false, [], Option, Some, None, refl, sym, subst, ◌∙◌, arith}
+use Rattle.std.proofs.Common.{◌≡◌, ℕ, inl, inr, true, false, [], Option, Some, None, refl, sym, subst, ◌∙◌, arith}
 use Rattle.std.specs.Prelude.{nat_lt}
 use Rattle.std.proofs.lemmas.Bool.Decides.{nat_tests}
 use Rattle.client_request.specs.Request.{Request}
@@ -18,7 +18,7 @@ use Rattle.headline.specs.machine.Dgrams.{Dgrams, no_datagram, Meets}
 use Rattle.headline.specs.machine.Served.{Served, served, has_taken_it, IsInTime, RestsNow}
 use Rattle.client_ties.specs.Chains.{Chain, Goes, then_act}
 use Rattle.client_ties.specs.PartTie.{Phase, Untold, Told, Leads, Leaves, Tells, MayLeave}
-use Rattle.client_ties.specs.Sights.{Sight, sight, IsFair, IsEarly}
+use Rattle.client_ties.specs.Sights.{Sight, sight, IsFair, NoneDue}
 use Rattle.dgram_ties.specs.AtServer.{with_dgrams, taken_by, at_server}
 use Rattle.dgram_ties.specs.Calls as calls
 use Rattle.dgram_ties.specs.Calls.{HasTold, Passes, Moves, Cuts}
@@ -56,7 +56,7 @@ module _ (b c : Conf) (s : ℕ) {S : Type 0} (t : Transport Request S stream.Ask
   abbrev Two : Type 0
   Two = Both Tied names Owns s
 
-  module _ (f : Two) (v : View) (a : Served) (w : What) (g : IsFallback Tied names Owns s (Untold w) f (sight v) a) (fair : IsFair v) (early : IsEarly v) (calm : v.more ≡ false) where
+  module _ (f : Two) (v : View) (a : Served) (w : What) (g : IsFallback Tied names Owns s (Untold w) f (sight v) a) (fair : IsFair v) (early : NoneDue (OwnsEither Tied names Owns s f) (sight v)) (calm : v.more ≡ false) where
     abbrev d : Dgrams
     d = a.server.by_dgram
 
@@ -76,18 +76,21 @@ module _ (b c : Conf) (s : ℕ) {S : Type 0} (t : Transport Request S stream.Ask
     clock = y.clock (Untold w) f.parts.stream (sight v) alone g.streams
 
     reading : AreInTime a.clock d
-    reading = subst (λ n. AreInTime n d) (sym clock) (slots_are_known.rests tables d (sight v) g.slots (λ i due own e. early i due e)).reading
+    reading = subst (λ n. AreInTime n d) (sym clock) (slots_are_known.rests tables d (sight v) g.slots (λ i due own e. early i due (inl own) e)).reading
+
+    streams_early : NoneDue (Owns f.parts.stream) (sight v)
+    streams_early i due own e = early i due (inr own) e
 
     -- no request is at a timeout
     pub in_time : IsForeign w a.server.by_stream → IsInTime a.clock a.server
-    in_time foreign = (let r : RestsNow (has_taken_it alone.server alone) = y.tie.rests (Told 0 0) f.parts.stream v (has_taken_it alone.server alone) refl early (y.taken w f.parts.stream (sight v) alone (λ i due own e. early i due e) g.streams foreign) in record { sent = reading; asked = r.rests.silent })
+    in_time foreign = (let r : RestsNow (has_taken_it alone.server alone) = y.tie.rests (Told 0 0) f.parts.stream v (has_taken_it alone.server alone) refl streams_early (y.taken w f.parts.stream (sight v) alone streams_early g.streams foreign) in record { sent = reading; asked = r.rests.silent })
 
     -- the datagrams take the event
     pub takes_it : (x : multi.Act) (e : Dgrams) (one : Act Dgrams) → Meets v.now d w x e → IsForeign w a.server.by_stream → AtOnce v.place x e one → (more : Act Dgrams) → Steps s v.now one.place one.state more → Chain (served c) s v.place a (then_act (at_server a taken_by one) (at_server (taken_by one.state a) with_dgrams more))
     takes_it x e one meets foreign at more steps =
-        let same = (y.pending w f.parts.stream (sight v) alone g.streams).0 in
+        let same = (y.pending (Untold w) w f.parts.stream (sight v) alone refl g.streams).0 in
         Goes v.place a (at_server a taken_by one) (at_server (taken_by one.state a) with_dgrams more)
-        (servers_move.told s v.place a x e one (y.pending w f.parts.stream (sight v) alone g.streams).1 (in_time foreign) (subst (λ w. IsForeign w a.server.by_stream) (sym same) foreign)
+        (servers_move.told s v.place a x e one (y.pending (Untold w) w f.parts.stream (sight v) alone refl g.streams).1 (in_time foreign) (subst (λ w. IsForeign w a.server.by_stream) (sym same) foreign)
         (subst (λ w. Meets a.clock d w x e) (sym same) (subst (λ n. Meets n d w x e) (sym clock) meets)) at)
         (servers_move.steps c s one.place (taken_by one.state a) more (subst (λ n. Steps s n one.place one.state more) (sym clock) steps))
 
@@ -114,5 +117,5 @@ module _ (b c : Conf) (s : ℕ) {S : Type 0} (t : Transport Request S stream.Ask
           let w2 = at_once_whole v.place x e one w1.0 w1.1 at in
           passed_by z q (then_act one more) l asks it_is.foreign Tell
           (leads_told _ (settled_alone b c s t first Tied names Owns y f v z q) (λ u x k. k)
-          (dgrams_leave b c s t first Tied names Owns y f v d d fair g.server g.dgram_server g.settings (then_act one more) z q l g.timers asks (Untold w) (Told 0 0) taken (y.taken w f.parts.stream (sight v) alone (λ i due own e. early i due e) g.streams it_is.foreign) g.places g.apart
-          v.ticket (names_of tables) g.waiting l.after.ticket posts (all_then one.posts more.posts w2.1 (steps_whole s v.now one.place one.state more w2.0 steps)) tt (Chain (served c) s v.place a) (takes_it x e one meets it_is.foreign at more steps)))
+          (dgrams_leave b c s t first Tied names Owns y f v d d fair g.server g.dgram_server g.settings (then_act one more) z q l g.timers asks (Untold w) (Told 0 0) taken (y.taken w f.parts.stream (sight v) alone streams_early g.streams it_is.foreign) g.places g.apart
+          v.ticket (names_of tables) g.waiting l.after.ticket posts (all_then one.posts more.posts w2.1 (steps_whole s v.now one.place one.state more w2.0 steps)) tt (λ told i due own e. early i due (inl own) e) (Chain (served c) s v.place a) (takes_it x e one meets it_is.foreign at more steps)))

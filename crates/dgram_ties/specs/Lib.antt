@@ -5,4 +5,5 @@ pub mod AtServer
 pub mod Halves
 pub mod Waiting
 pub mod Staying
+pub mod Placed
 pub mod Fallback

@@ -3,6 +3,7 @@
 ghost use Rattle.dgram_ties.specs.AtServer.{ServersMove, SlotsAreKnown};
 ghost use Rattle.dgram_ties.specs.Calls.{CallsAreMoves};
 ghost use Rattle.dgram_ties.specs.Halves.{StreamsMove};
+ghost use Rattle.dgram_ties.specs.Placed.{PlacesStay};
 ghost use Rattle.dgram_ties.specs.Slots.{FreshIsAlike};
 ghost use Rattle.dgram_ties.specs.Staying.{OpeningsAreNew, RequestsStay};
 ghost use Rattle.dgram_ties.specs.Waiting.{StreamsGive, TablesChange};
@@ -49,15 +50,22 @@ pub fn requests_stay()
     ensures { RequestsStay }
 {}
 
+/// Who is at a place stays there while requests are taken on and given up, so an event that is nothing to the datagrams stays
+/// so.
+#[tactic(auto, using(crate::proofs::Placed::places_stay))]
+pub fn places_stay()
+    ensures { PlacesStay }
+{}
+
 /// A stream place that opens opened before, or is new.
 #[tactic(auto, using(crate::proofs::Staying::openings_are_new))]
 pub fn openings_are_new()
     ensures { OpeningsAreNew }
 {}
 
-/// How the tables of a fallback change with those who wait below. The tie of a fallback is proved over any streams that are
-/// tied, so no contract can state it: its proof is named here.
-#[tactic(auto, using(crate::proofs::Admitting::tables_change, crate::proofs::FallbackTied::fallback_is_tied))]
+/// How the tables of a fallback change with those who wait below. That a fallback is tied, and that it leaves alone what is
+/// none of its own, is proved over any streams of which the same holds, so no contract can state it: the proofs are named here.
+#[tactic(auto, using(crate::proofs::Admitting::tables_change, crate::proofs::FallbackTied::fallback_is_tied, crate::proofs::FallbackShared::fallback_is_shared))]
 pub fn tables_change()
     ensures { TablesChange }
 {}

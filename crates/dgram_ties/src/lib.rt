@@ -4,6 +4,6 @@
 mod laws;
 
 pub use laws::{
-    calls_are_moves, fresh_is_alike, openings_are_new, requests_stay, servers_move,
+    calls_are_moves, fresh_is_alike, openings_are_new, places_stay, requests_stay, servers_move,
     slots_are_known, streams_give, streams_move, tables_change,
 };

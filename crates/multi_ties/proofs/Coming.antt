@@ -21,7 +21,7 @@ use Rattle.client_ties.specs.Octets.{IsLinkAt, HasRead, ReadsNone}
 use Rattle.client_ties.specs.PartTie.{IsNobodys, Leads, Tells, MayLeave}
 use Rattle.client_ties.specs.Reading.{Keeps}
 use Rattle.client_ties.specs.Runs.{Rests}
-use Rattle.client_ties.specs.Sights.{sight, IsFair, IsEarly}
+use Rattle.client_ties.specs.Sights.{sight, IsFair}
 use Rattle.client_ties.proofs.FrameReads.{kept_is_read}
 use Rattle.client_ties.proofs.GoingOn.{goes_nowhere}
 use Rattle.client_ties.proofs.Keys.{with_here, with_there}
@@ -40,7 +40,7 @@ use Rattle.multi_ties.proofs.Tying.{stands_of, still_early}
 module _ (c : Conf) (s : ℕ) where
   -- Octets come at p
 
-  module _ (u : Streams) (v : View) (a : Served) (p : ℕ) (o : Octets) (t : IsUntold s (Bytes p o) u (sight v) a) (fair : IsFair v) (early : IsEarly v) (calm : v.more ≡ false) where
+  module _ (u : Streams) (v : View) (a : Served) (p : ℕ) (o : Octets) (t : IsUntold s (Bytes p o) u (sight v) a) (fair : IsFair v) (early : AreEarly (desk_of u.tables) (sight v)) (calm : v.more ≡ false) where
     abbrev d : Desk
     d = desk_of u.tables
 
@@ -55,9 +55,6 @@ module _ (c : Conf) (s : ℕ) where
 
     stands : Stands nothing_under_way d u.tables m (frames_at a.place []) v
     stands = stands0 c s u v a (Bytes p o) t fair early calm
-
-    early_here : AreEarly d (sight v)
-    early_here i due own set = early i due set
 
     no_conn : entry_at p u.tables.connections ≡ None → LinkFits d m (frames_at a.place []) (dues v) v.ticket p → m.conns p ≡ None
     no_conn none (IsNone x y away) = y
@@ -141,7 +138,7 @@ module _ (c : Conf) (s : ℕ) where
                 count = ap length none;
                 at = inl refl;
                 row = inl refl;
-                told = (still_early d (desk_of r) v z fair early_here g.on g.owned, nobodys_foreign s Tick g.made.state tt);
+                told = (still_early d (desk_of r) v z fair early g.on g.owned, nobodys_foreign s Tick g.made.state tt);
               };
               goes_on = g.on;
               owned = g.owned;
@@ -156,7 +153,7 @@ module _ (c : Conf) (s : ℕ) where
       some_read : (f : Octets) (gs : List Octets) → fs ≡ f ∷ gs → (k : Link Request) (y : View) → HasRead p (names_at d) m1 x1 l1 (lent v) (f ∷ gs) k y → Leads Of (returns (one_stream for_one) p (taken (one_stream for_one) p l u.tables) v (k, y))
       some_read f gs some k y read =
           leads_as (FromFrames c s p (length gs) u v b) Of (returns (one_stream for_one) p (taken (one_stream for_one) p l u.tables) v (k, y))
-          (reads_so c s p u v fair early_here calm t.stream.server t.stream.settings t.stream.takes b t.stream.clock t.stream.dgram refl tt l x1 (frames_at p fs) work1 f gs some l1 refl link.place link.timeout
+          (reads_so c s p u v fair early calm t.stream.server t.stream.settings t.stream.takes b t.stream.clock t.stream.dgram refl tt l x1 (frames_at p fs) work1 f gs some l1 refl link.place link.timeout
           (λ q ne. frames_there p q gs ne ∙ sym (frames_there p q fs ne)) k y read)
           (λ r z g. record {
             at = p;
@@ -198,7 +195,7 @@ module _ (c : Conf) (s : ℕ) where
 
   -- One more frame is taken at p
 
-  module _ (u : Streams) (v : View) (a : Served) (p n : ℕ) (t : IsTold s p (suc n) u (sight v) a) (fair : IsFair v) (early : IsEarly v) (calm : v.more ≡ false) where
+  module _ (u : Streams) (v : View) (a : Served) (p n : ℕ) (t : IsTold s p (suc n) u (sight v) a) (fair : IsFair v) (early : AreEarly (desk_of u.tables) (sight v)) (calm : v.more ≡ false) where
     abbrev fd : Desk
     fd = desk_of u.tables
 
@@ -223,9 +220,6 @@ module _ (c : Conf) (s : ℕ) where
     stands1 : Stands nothing_under_way fd u.tables fm (frames_at a.place a.frames) v
     stands1 = stands_of s u v a t.stream fair
 
-    early_there : AreEarly fd (sight v)
-    early_there i due own set = early i due set
-
     here : frames_at a.place a.frames p ≡ a.frames
     here = ap (λ q. frames_at q a.frames p) at_p ∙ frames_here p a.frames
 
@@ -249,7 +243,7 @@ module _ (c : Conf) (s : ℕ) where
       more = calm ∙ sym none_more;
       leaves = record {
         made = still v.place (frames_left [] fm a);
-        may = drops_all c s v.place a.frames a refl (ap fm.conns at_p ∙ none) (is_in_time c s a fd v t.stream.clock t.stream.dgram stands1.server.tables early_there);
+        may = drops_all c s v.place a.frames a refl (ap fm.conns at_p ∙ none) (is_in_time c s a fd v t.stream.clock t.stream.dgram stands1.server.tables early);
         outs = sym (append-nil v.outs);
         place = refl;
         board = [];
@@ -260,7 +254,7 @@ module _ (c : Conf) (s : ℕ) where
           count = refl;
           at = inl refl;
           row = inl refl;
-          told = (early_there, nobodys_foreign s a.pending fm idle);
+          told = (early, nobodys_foreign s a.pending fm idle);
         };
         goes_on = goes_nowhere v fair;
         owned = λ i own. inl own;
@@ -285,7 +279,7 @@ module _ (c : Conf) (s : ℕ) where
       read_there [] e k y read = absurd (not_none (sym t.count ∙ ap length e))
       read_there (f ∷ gs) e k y read =
           leads_as (FromFrames c s p (length gs) u v a) Nexts (returns (one_stream for_one) p (taken (one_stream for_one) p l u.tables) v (k, y))
-          (reads_so c s p u v fair early_there calm t.stream.server t.stream.settings t.stream.takes a t.stream.clock t.stream.dgram at_p idle l y0 (frames_at a.place a.frames) work f gs e l refl link_there.place link_there.timeout
+          (reads_so c s p u v fair early calm t.stream.server t.stream.settings t.stream.takes a t.stream.clock t.stream.dgram at_p idle l y0 (frames_at a.place a.frames) work f gs e l refl link_there.place link_there.timeout
           (λ q ne. frames_there p q gs ne ∙ sym (there q ne)) k y read)
           (λ r z g. record {
             at = p;

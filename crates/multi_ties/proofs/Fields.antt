@@ -1,6 +1,7 @@
 -- What holds of a tie but for its calls: how it begins, what it looks at, and when it rests.
 use Rattle.std.proofs.Common.{◌≡◌, ◌≢◌, ℕ, suc, ◌+◌, ◌<◌, ◌≤◌, inl, inr, max, Bool, true, false, ◌==◌, ◌||◌, is_some, List, [], ◌∷◌, length, Option, Some, None, refl, sym, ap, ap₂, subst, ◌∙◌, arith, le_refl}
 use Rattle.std.specs.Prelude.{if◌then◌else◌, option_map}
+use Rattle.std.proofs.lemmas.Bool.Decides.{nat_tests}
 use mathlib.Core.Path.{fun_ext}
 use Rattle.client_request.specs.Numbered.{entry_at}
 use Rattle.client_request.specs.Request.{Request}
@@ -20,14 +21,15 @@ use Rattle.headline.specs.machine.Dgrams.{Dgrams, Tryer, IsIgnored, no_datagram}
 use Rattle.headline.specs.machine.Served.{Served, RestsNow, unserved, row_begun, holds}
 use Rattle.headline.specs.machine.Server.{Rests}
 use Rattle.headline.specs.machine.Streams.{Phase as Where, Free, Broken, BackingOff, Active, Idle, Asker, Conn, Multi, IsForeign, begin_row, unheard}
-use Rattle.client_ties.specs.Connections.{dues}
+use Rattle.client_ties.specs.Connections.{dues, timer_of}
 use Rattle.client_ties.specs.Lines.{StageFits as LineStageFits, IsNew, IsActive, IsIdle, WritingFits, IsFree, IsWriting}
 use Rattle.client_ties.specs.Octets.{IsLinkAt}
-use Rattle.client_ties.specs.PartTie.{Phase, Untold, Told, IsNobodys, MayEnd}
-use Rattle.client_ties.specs.Sights.{Sight, sight, IsEarly}
+use Rattle.client_ties.specs.PartTie.{Phase, Untold, Told, Passed, WasTold, place_in, IsNobodys, MayEnd}
+use Rattle.client_ties.specs.Places.{is_this, has_place}
+use Rattle.client_ties.specs.Sights.{Sight, sight}
 use Rattle.client_ties.proofs.Tables.{present_below}
 use Rattle.multi_ties.specs.Servers.{Desk, desk_of, names_at, nothing_under_way, IsThere, StageFits, AtWaiting, AtResting, AtHeld, HasFailed, IsToHand, JobFits, LinkFits, IsNone, IsSome, IsServer}
-use Rattle.multi_ties.specs.Tied.{Streams, IsStream, TiedAs, frames_at, names_of, owns}
+use Rattle.multi_ties.specs.Tied.{Streams, IsStream, IsUntold, AreEarly, TiedAs, frames_at, names_of, owns}
 use Rattle.multi_ties.proofs.Calling.{owned_set}
 use Rattle.multi_ties.proofs.Desks.{away_none, number_of}
 use Rattle.multi_ties.proofs.Retimed.{server_retimed, order_up}
@@ -76,19 +78,33 @@ module _ (s : ℕ) where
     order = order_up u.tables x y i.order timer ticket place;
   }
 
+  early_same : (u : Streams) (x y : Sight) → AreEarly (desk_of u.tables) x → y.now ≡ x.now → ((i : ℕ) → owns u i → y.dues i ≡ x.dues i) → AreEarly (desk_of u.tables) y
+  early_same u x y early now due i d o set = subst (λ n. n < d) (sym now) (early i d o (sym (due i o) ∙ set))
+
+  untold_same : (w : What) (u : Streams) (x y : Sight) (a : Served) → IsUntold s w u x a → y.now ≡ x.now → ((i : ℕ) → owns u i → y.dues i ≡ x.dues i) → x.timer ≤ y.timer → x.ticket ≤ y.ticket → x.place ≤ y.place → IsUntold s w u y a
+  untold_same w u x y a t now due timer ticket place = record { stream = stream_same u x y a t.stream now due timer ticket place; pending = t.pending; taken = t.taken; frames = t.frames; quiet = t.quiet }
+
   pub stays_same : (phase : Phase) (u : Streams) (x y : Sight) (a : Served) → TiedAs s phase u x a → y.now ≡ x.now → ((i : ℕ) → owns u i → y.dues i ≡ x.dues i) → x.timer ≤ y.timer → x.ticket ≤ y.ticket → x.place ≤ y.place → TiedAs s phase u y a
-  stays_same (Untold w) u x y a t now due timer ticket place = record { stream = stream_same u x y a t.stream now due timer ticket place; pending = t.pending; taken = t.taken; frames = t.frames; quiet = t.quiet }
+  stays_same (Untold w) u x y a t now due timer ticket place = untold_same w u x y a t now due timer ticket place
+  stays_same (Passed w) u x y a t now due timer ticket place = record { untold = untold_same w u x y a t.untold now due timer ticket place; early = early_same u x y t.early now due; apart = t.apart }
   stays_same (Told p n) u x y a t now due timer ticket place = record {
     stream = stream_same u x y a t.stream now due timer ticket place;
     count = t.count;
     at = t.at;
     row = t.row;
-    told = ((λ i d o set. subst (λ n. n < d) (sym now) (t.told.0 i d o (sym (due i o) ∙ set))), t.told.1);
+    told = (early_same u x y t.told.0 now due, t.told.1);
   }
 
   pub stream_of : (phase : Phase) (u : Streams) (x : Sight) (a : Served) → TiedAs s phase u x a → IsStream s u x a
   stream_of (Untold w) u x a t = t.stream
   stream_of (Told p n) u x a t = t.stream
+  stream_of (Passed w) u x a t = t.untold.stream
+
+  -- none of its timers is due once the event was told
+  pub none_due : (phase : Phase) (u : Streams) (x : Sight) (a : Served) → WasTold phase → TiedAs s phase u x a → AreEarly (desk_of u.tables) x
+  none_due (Untold w) u x a was t = absurd was
+  none_due (Told p n) u x a was t = t.told.0
+  none_due (Passed w) u x a was t = t.early
 
   pub has_set : (phase : Phase) (u : Streams) (x : Sight) (a : Served) (i : ℕ) → TiedAs s phase u x a → owns u i → (due : ℕ) × (x.dues i ≡ Some due)
   has_set phase u x a i t o = owned_set nothing_under_way (desk_of u.tables) a.server.by_stream (frames_at a.place a.frames) x.dues x.ticket (stream_of phase u x a t).ties i o
@@ -165,6 +181,7 @@ module _ (s : ℕ) where
   none_left : (phase : Phase) (u : Streams) (x : Sight) (a : Served) → MayEnd phase → TiedAs s phase u x a → a.frames ≡ []
   none_left (Untold w) u x a end t = t.frames
   none_left (Told p n) u x a end t = none_of a.frames (t.count ∙ end)
+  none_left (Passed w) u x a end t = t.untold.frames
 
   pub row_begins : (phase : Phase) (u : Streams) (x : Sight) (a : Served) (e : Event) → MayEnd phase → TiedAs s phase u x a → TiedAs s (Untold e.what) u (record x { now = max e.moment.0 x.now }) (row_begun e a)
   row_begins phase u x a e end t = record {
@@ -223,7 +240,46 @@ module _ (s : ℕ) where
   nobodys_foreign (Ended p) m n = absurd n
   nobodys_foreign Tick m n = λ q e. absurd (let z : false ≡ true = e in cc)
 
-  module _ (u : Streams) (v : View) (a : Served) (i : IsStream s u (sight v) a) (early : IsEarly v) where
+  -- An event of no place here is foreign.
+
+  no_conn : (a : Served) (p : ℕ) → has_place a p ≡ false → a.server.by_stream.conns p ≡ None
+  no_conn a p none = by (is_some (a.server.by_dgram.at p)) (a.server.by_stream.conns p) (is_this p a.server.by_stream.opening) none
+    where
+      by : (d : Bool) (o : Option Conn) (i : Bool) → (d || (is_some o || i)) ≡ false → o ≡ None
+      by d None i e = refl
+      by true (Some x) i e = absurd (let z : true ≡ false = e in cc)
+      by false (Some x) i e = absurd (let z : true ≡ false = e in cc)
+
+  not_opening : (a : Served) (p : ℕ) → has_place a p ≡ false → a.server.by_stream.opening ≢ Some p
+  not_opening a p none opens = by (is_some (a.server.by_dgram.at p)) (is_some (a.server.by_stream.conns p)) (is_this p a.server.by_stream.opening) (ap (is_this p) opens ∙ itself p) none
+    where
+      itself : (p : ℕ) → (p == p) ≡ true
+      itself p = grind (arith, nat_tests)
+
+      by : (d b i : Bool) → i ≡ true → (d || (b || i)) ≡ false → ⊥
+      by true b i is e = cc
+      by false true i is e = cc
+      by false false i is e = let z : true ≡ false = sym is ∙ e in cc
+
+  same_place : (p q : ℕ) → (p == q) ≡ true → p ≡ q
+  same_place p q e = grind (arith, nat_tests)
+
+  pub apart_foreign : (w : What) (a : Served) → ((p : ℕ) → place_in w ≡ Some p → has_place a p ≡ false) → IsForeign w a.server.by_stream
+  apart_foreign (Ask r) a apart = λ q e. absurd (let z : false ≡ true = e in cc)
+  apart_foreign (Opened p) a apart = not_opening a p (apart p refl)
+  apart_foreign (OpenFailed p f) a apart = not_opening a p (apart p refl)
+  apart_foreign (SendFailed p f) a apart = tt
+  apart_foreign (ShortSend p) a apart = tt
+  apart_foreign (Datagram p o) a apart = λ q e. absurd (let z : false ≡ true = e in cc)
+  apart_foreign (RecvFailed p f) a apart = tt
+  apart_foreign (Wrote p k) a apart = no_conn a p (apart p refl)
+  apart_foreign (WriteFailed p f) a apart = λ q e. subst (λ p. a.server.by_stream.conns p ≡ None) (same_place p q e) (no_conn a p (apart p refl))
+  apart_foreign (Bytes p o) a apart = no_conn a p (apart p refl)
+  apart_foreign (ReadFailed p f) a apart = λ q e. subst (λ p. a.server.by_stream.conns p ≡ None) (same_place p q e) (no_conn a p (apart p refl))
+  apart_foreign (Ended p) a apart = λ q e. subst (λ p. a.server.by_stream.conns p ≡ None) (same_place p q e) (no_conn a p (apart p refl))
+  apart_foreign Tick a apart = λ q e. absurd (let z : false ≡ true = e in cc)
+
+  module _ (u : Streams) (v : View) (a : Served) (i : IsStream s u (sight v) a) (early : AreEarly (desk_of u.tables) (sight v)) where
     abbrev m : Multi
     m = a.server.by_stream
 
@@ -249,18 +305,18 @@ module _ (s : ℕ) where
 
     rests_until : (t until : ℕ) (stage : Stage) (phase : Where) → StageFits nothing_under_way d (dues v) t stage phase → phase ≡ BackingOff until → v.now < until
     rests_until t until stage phase (AtWaiting x b l) e = absurd (let z = sym b ∙ e in cc)
-    rests_until t until stage phase (AtResting j at x b o h) e = early j until (h ∙ ap Some (let z : BackingOff at ≡ BackingOff until = sym b ∙ e in cc))
+    rests_until t until stage phase (AtResting j at x b o h) e = early j until (inl (t, o)) (h ∙ ap Some (let z : BackingOff at ≡ BackingOff until = sym b ∙ e in cc))
     rests_until t until stage phase (AtHeld p j x b o) e = absurd (subst (IsThere p) e b)
     rests_until t until stage phase (HasFailed p j x b o h) e = absurd h
     rests_until t until stage phase (IsToHand l w h) e = absurd l
 
     -- the connection that the machine has at a place
-    link_of : (p : ℕ) (x : Conn) → m.conns p ≡ Some x → LinkFits d m (frames_at a.place a.frames) (dues v) v.ticket p → (l : Link Request) × IsLinkAt p (names_at d) l m x (frames_at a.place a.frames p) (dues v) v.ticket
+    link_of : (p : ℕ) (x : Conn) → m.conns p ≡ Some x → LinkFits d m (frames_at a.place a.frames) (dues v) v.ticket p → (l : Link Request) × IsLinkAt p (names_at d) l m x (frames_at a.place a.frames p) (dues v) v.ticket × (d.links p ≡ Some l)
     link_of p x at (IsNone b c away) = absurd (let z : None ≡ Some x = sym c ∙ at in cc)
-    link_of p x at (IsSome l y b link) = (l, subst (λ x. IsLinkAt p (names_at d) l m x (frames_at a.place a.frames p) (dues v) v.ticket) (let z : Some y ≡ Some x = sym link.line.conn ∙ at in cc) link)
+    link_of p x at (IsSome l y b link) = (l, subst (λ x. IsLinkAt p (names_at d) l m x (frames_at a.place a.frames p) (dues v) v.ticket) (let z : Some y ≡ Some x = sym link.line.conn ∙ at in cc) link, b)
 
     pub in_time : (k : ℕ) (e : Asker) → m.asks k ≡ Some e → v.now < e.since + stream_timeout
-    in_time k e at = let j = job_of k e at in subst (λ (e : Asker). v.now < e.since + stream_timeout) j.3 (early (j.1).end ((j.2).ask.since + stream_timeout) (j.2).over)
+    in_time k e at = let j = job_of k e at in subst (λ (e : Asker). v.now < e.since + stream_timeout) j.3 (early (j.1).end ((j.2).ask.since + stream_timeout) (inl (j.0, (j.2).end)) (j.2).over)
 
     rests_now : Rests v.now a.server
     rests_now = record {
@@ -273,8 +329,8 @@ module _ (s : ℕ) where
       lined = λ k e p x at ph conn. (let o = link_of p x conn (i.ties.links p) in let l = o.1.line.seated.lined k e at ph in unwritten o.0 x o.1.line.fits.writing (λ w. (let none = o.1.settled w in let z : None ≡ Some l.1 = sym (ap (λ (es : List (ℕ × Queued Request Request)). entry_at l.0 es) none) ∙ l.3 in cc)));
       backing = λ k e until at ph. (let j = job_of k e at in rests_until j.0 until (j.1).stage (j.2).ask.phase (j.2).stage (ap (λ (e : Asker). e.phase) j.3 ∙ ph));
       silent = in_time;
-      quiet = λ p x since conn md. (let o = link_of p x conn (i.ties.links p) in active o.0 x since md o.1.line.fits.stage);
-      idle = λ p x since conn md. (let o = link_of p x conn (i.ties.links p) in idles o.0 x since md o.1.line.fits.idle o.1.line.fits.stage);
+      quiet = λ p x since conn md. (let o = link_of p x conn (i.ties.links p) in active p o.0 o.2 x since md o.1.line.fits.stage);
+      idle = λ p x since conn md. (let o = link_of p x conn (i.ties.links p) in idles p o.0 o.2 x since md o.1.line.fits.idle o.1.line.fits.stage);
     }
       where
         no_try : (k : ℕ) (t : Tryer) → a.server.by_dgram.held k ≡ Some t → ⊥
@@ -287,22 +343,23 @@ module _ (s : ℕ) where
         below_one : (n b : ℕ) → n < b + 1 → n ≤ b
         below_one n b lt = omega arith
 
-        active : (l : Link Request) (x : Conn) (since : ℕ) → x.mode ≡ Active since → LineStageFits (dues v) l.line.idle_time l.line.stage x.mode → v.now ≤ since + response_timeout
-        active l x since md (IsNew f g) = absurd (let z = sym g ∙ md in cc)
-        active l x since md (IsActive t at f g h) = below_one v.now (since + response_timeout) (early t (since + response_timeout + 1) (h ∙ ap (λ n. Some (n + response_timeout + 1)) (let z : Active at ≡ Active since = sym g ∙ md in cc)))
-        active l x since md (IsIdle t at f g h) = absurd (let z = sym g ∙ md in cc)
+        active : (p : ℕ) (l : Link Request) → d.links p ≡ Some l → (x : Conn) (since : ℕ) → x.mode ≡ Active since → LineStageFits (dues v) l.line.idle_time l.line.stage x.mode → v.now ≤ since + response_timeout
+        active p l is x since md (IsNew f g) = absurd (let z = sym g ∙ md in cc)
+        active p l is x since md (IsActive t at f g h) = below_one v.now (since + response_timeout) (early t (since + response_timeout + 1) (inr (p, l, is, ap timer_of f)) (h ∙ ap (λ n. Some (n + response_timeout + 1)) (let z : Active at ≡ Active since = sym g ∙ md in cc)))
+        active p l is x since md (IsIdle t at f g h) = absurd (let z = sym g ∙ md in cc)
 
-        idles : (l : Link Request) (x : Conn) (since : ℕ) → x.mode ≡ Idle since → l.line.idle_time ≡ x.idle → LineStageFits (dues v) l.line.idle_time l.line.stage x.mode → v.now < since + x.idle
-        idles l x since md idle (IsNew f g) = absurd (let z = sym g ∙ md in cc)
-        idles l x since md idle (IsActive t at f g h) = absurd (let z = sym g ∙ md in cc)
-        idles l x since md idle (IsIdle t at f g h) = early t (since + x.idle) (h ∙ ap₂ (λ n k. Some (n + k)) (let z : Idle at ≡ Idle since = sym g ∙ md in let q : at ≡ since = cc in q) idle)
+        idles : (p : ℕ) (l : Link Request) → d.links p ≡ Some l → (x : Conn) (since : ℕ) → x.mode ≡ Idle since → l.line.idle_time ≡ x.idle → LineStageFits (dues v) l.line.idle_time l.line.stage x.mode → v.now < since + x.idle
+        idles p l is x since md idle (IsNew f g) = absurd (let z = sym g ∙ md in cc)
+        idles p l is x since md idle (IsActive t at f g h) = absurd (let z = sym g ∙ md in cc)
+        idles p l is x since md idle (IsIdle t at f g h) = early t (since + x.idle) (inr (p, l, is, ap timer_of f)) (h ∙ ap₂ (λ n k. Some (n + k)) (let z : Idle at ≡ Idle since = sym g ∙ md in let q : at ≡ since = cc in q) idle)
 
   -- the event concerns no connection that is there
   nothing_pending : (phase : Phase) (u : Streams) (x : Sight) (a : Served) → MayEnd phase → TiedAs s phase u x a → IsForeign a.pending a.server.by_stream
   nothing_pending (Untold w) u x a end t = nobodys_foreign a.pending a.server.by_stream (subst IsNobodys (sym t.pending) end)
   nothing_pending (Told p n) u x a end t = t.told.1
+  nothing_pending (Passed w) u x a end t = subst (λ w. IsForeign w a.server.by_stream) (sym t.untold.pending) (apart_foreign w a t.apart)
 
-  pub it_rests : (phase : Phase) (u : Streams) (v : View) (a : Served) → MayEnd phase → IsEarly v → TiedAs s phase u (sight v) a → RestsNow a
+  pub it_rests : (phase : Phase) (u : Streams) (v : View) (a : Served) → MayEnd phase → AreEarly (desk_of u.tables) (sight v) → TiedAs s phase u (sight v) a → RestsNow a
   it_rests phase u v a end early t = (let i = stream_of phase u (sight v) a t in record {
     rests = subst (λ n. Rests n a.server) (sym i.clock) (rests_now u v a i early);
     frames = none_left phase u (sight v) a end t;

@@ -27,7 +27,7 @@ use Rattle.client_ties.specs.Connections.{dues, HasHeard}
 use Rattle.client_ties.specs.Octets.{IsLinkAt, HasRead, ReadsOne, says}
 use Rattle.client_ties.specs.PartTie.{Told, IsNobodys, Leads, Tells, MayLeave, GoesOn}
 use Rattle.client_ties.specs.Reading.{Keeps}
-use Rattle.client_ties.specs.Sights.{sight, IsFair, IsEarly}
+use Rattle.client_ties.specs.Sights.{sight, IsFair}
 use Rattle.client_ties.proofs.GoingOn.{nothing_done}
 use Rattle.multi_ties.specs.Servers.{Desk, Server, desk_of, numbers, names_at, nothing_under_way, LinkFits, IsNone, IsSome, AreTables, IsServer, Owns, Stands}
 use Rattle.multi_ties.specs.Tied.{Streams, by_streams, IsStream, IsUntold, AreEarly, TiedAs, frames_at, names_of, owns}
@@ -230,7 +230,7 @@ module _ (c : Conf) (s : ℕ) where
 
   -- An event is told
 
-  module _ (u : Streams) (v : View) (a : Served) (w : What) (t : IsUntold s w u (sight v) a) (fair : IsFair v) (early : IsEarly v) (calm : v.more ≡ false) where
+  module _ (u : Streams) (v : View) (a : Served) (w : What) (t : IsUntold s w u (sight v) a) (fair : IsFair v) (early : AreEarly (desk_of u.tables) (sight v)) (calm : v.more ≡ false) where
     abbrev ud : Desk
     ud = desk_of u.tables
 
@@ -246,9 +246,6 @@ module _ (c : Conf) (s : ℕ) where
     pub stands0 : Stands nothing_under_way ud u.tables um no_frames v
     stands0 = subst (λ fs. Stands nothing_under_way ud u.tables um (frames_at a.place fs) v) t.frames (stands_of s u v a t.stream fair)
 
-    pub early_d : AreEarly ud (sight v)
-    early_d i due o set = early i due set
-
     -- it is of nothing here
     pub passes_so : (p : ℕ) → MayLeave w p 0 → IsForeign w um → Goal u v
     passes_so p may foreign = record {
@@ -256,7 +253,7 @@ module _ (c : Conf) (s : ℕ) where
       left = 0;
       may_be = may;
       more = calm ∙ sym none_more;
-      leaves = nothing_done (served c) s (TiedAs s) names_of owns u v a (Told p 0) fair (record { stream = t.stream; count = ap length t.frames; at = inl refl; row = inl refl; told = (early_d, subst (λ w. IsForeign w um) (sym t.pending) foreign) });
+      leaves = nothing_done (served c) s (TiedAs s) names_of owns u v a (Told p 0) fair (record { stream = t.stream; count = ap length t.frames; at = inl refl; row = inl refl; told = (early, subst (λ w. IsForeign w um) (sym t.pending) foreign) });
     }
 
     module _ (other : (p : ℕ) (o : Octets) → w ≢ Bytes p o) where
@@ -282,7 +279,7 @@ module _ (c : Conf) (s : ℕ) where
             count = refl;
             at = inl refl;
             row = inl refl;
-            told = (still_early ud (desk_of r) v y fair early_d on g.owned, nobodys_foreign s Tick g.made.state tt);
+            told = (still_early ud (desk_of r) v y fair early on g.owned, nobodys_foreign s Tick g.made.state tt);
           };
           goes_on = on;
           owned = g.owned;

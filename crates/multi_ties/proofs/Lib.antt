@@ -24,6 +24,9 @@ pub mod Sending
 pub mod Framing
 pub mod Fields
 pub mod Tying
+pub mod Passing
 pub mod Hearing
 pub mod Coming
 pub mod StreamsTied
+pub mod Staying
+pub mod StreamsShared

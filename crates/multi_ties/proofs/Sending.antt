@@ -1,14 +1,12 @@
 -- A request is taken on, and handed on.
-use Rattle.std.proofs.Common.{◌≡◌, ℕ, ◌+◌, ◌<◌, ◌≤◌, ◌⊎◌, inl, inr, Bool, true, false, List, [], ◌∷◌, ◌++◌, Some, None, refl, sym, ap, subst, ◌∙◌, arith, le_refl, le_trans, append_assoc}
+use Rattle.std.proofs.Common.{◌≡◌, ℕ, ◌+◌, ◌<◌, ◌≤◌, ◌⊎◌, inl, inr, Bool, true, false, List, [], ◌∷◌, ◌++◌, Some, None, refl, sym, ap, subst, ◌∙◌, arith, le_refl, le_trans}
 use Rattle.std.specs.Prelude.{if◌then◌else◌, option_and_then, option_map}
 use Rattle.client_request.specs.Carries.{IsOfOctets}
 use Rattle.client_request.specs.Numbered.{puts, entry_at}
 use Rattle.client_request.specs.Request.{Request}
 use Rattle.client_request.specs.Requests.{for_one}
 use Rattle.client_request.specs.Timers.{with_timer, can_draw}
-use Rattle.client_request.specs.View.{View, asks}
-use Rattle.client_request.specs.declared.event.Out.TheVariants.{Start}
-use Rattle.client_request.specs.declared.event.Via.TheVariants.{Stream}
+use Rattle.client_request.specs.View.{View}
 use Rattle.client_multi.specs.Links.{Link, one_stream}
 use Rattle.client_multi.specs.MultiStream.{takes, hands}
 use Rattle.client_multi.specs.Settings.{default_settings}
@@ -44,7 +42,7 @@ pub record Sent (server : ℕ) (frames : ℕ → List Octets) (r : Request) (d :
   pub made : Act Multi
   pub runs : Runs server v.now v.place (taken_in v.request v.now r m) made
   pub posts : made.posts ≡ []
-  pub outs : w.outs ≡ v.outs ++ (Start v.request server Stream ∷ made.outs)
+  pub outs : w.outs ≡ v.outs ++ made.outs
   pub place : w.place ≡ made.place
   pub board : w.board ≡ v.board
   pub stands : Stands nothing_under_way (desk_of t) t made.state frames w
@@ -88,7 +86,7 @@ module _ (server : ℕ) (frames : ℕ → List Octets) (s : Server) (m : Multi) 
   n = taken_in k v.now r m
 
   abbrev w1 : View
-  w1 = record (asks (Start k server Stream) v) { ticket = t0 + 1; timers = with_timer due v.timers }
+  w1 = record v { ticket = t0 + 1; timers = with_timer due v.timers }
 
   abbrev z : UnderWay
   z = record { todo = (t0, Free) ∷ []; failed = [] }
@@ -204,7 +202,7 @@ module _ (server : ℕ) (frames : ℕ → List Octets) (s : Server) (m : Multi) 
     made = b.made;
     runs = b.runs;
     posts = b.posts;
-    outs = b.outs ∙ append_assoc v.outs (Start k server Stream ∷ []) b.made.outs;
+    outs = b.outs;
     place = b.place;
     board = b.board;
     stands = b.stands;
@@ -235,13 +233,13 @@ module _ (server : ℕ) (frames : ℕ → List Octets) (s : Server) (m : Multi) 
           (ap (option_map (λ (j : Job Request). j.number)) here ∙ sym (with_here t0 (Some k) (numbers d)))
           (λ u ne. ap (option_map (λ (j : Job Request). j.number)) (beside u ne) ∙ sym (with_there t0 (Some k) (numbers d) u ne)) u
 
-  pub sends_so : Leads (Sent server frames r d m v) (takes (one_stream for_one) server default_settings false r s (asks (Start k server Stream) v))
+  pub sends_so : Leads (Sent server frames r d m v) (takes (one_stream for_one) server default_settings false r s v)
   sends_so = by_ticket (can_draw v.ticket)
     where
       by_timer : (b : Bool) → Leads (Sent server frames r d m v) (option_and_then (λ w. hands (one_stream for_one) server t0 job s1 w) (if b then Some w1 else None))
       by_timer false = tt
       by_timer true = leads_as (Went server frames nothing_under_way e n w1) (Sent server frames r d m v) (hands (one_stream for_one) server t0 job s1 w1) handed sent
 
-      by_ticket : (b : Bool) → Leads (Sent server frames r d m v) (option_and_then (λ w. option_and_then (λ u. hands (one_stream for_one) server t0 (record { number = w.request; request = r; back_offs = 0; end = w.timers.next; stage = Waiting }) (record s { timers = puts w.timers.next t0 s.timers }) u) (if can_draw w.timers.next then Some (record w { timers = with_timer (w.now + 30000000) w.timers }) else None)) (if b then Some (record (asks (Start k server Stream) v) { ticket = t0 + 1 }) else None))
+      by_ticket : (b : Bool) → Leads (Sent server frames r d m v) (option_and_then (λ w. option_and_then (λ u. hands (one_stream for_one) server t0 (record { number = w.request; request = r; back_offs = 0; end = w.timers.next; stage = Waiting }) (record s { timers = puts w.timers.next t0 s.timers }) u) (if can_draw w.timers.next then Some (record w { timers = with_timer (w.now + 30000000) w.timers }) else None)) (if b then Some (record v { ticket = t0 + 1 }) else None))
       by_ticket false = tt
       by_ticket true = by_timer (can_draw v.timers.next)

@@ -7,14 +7,16 @@ use Rattle.headline.specs.Trace.{Conf}
 use Rattle.headline.specs.machine.Served.{Served, served}
 use Rattle.client_ties.specs.Chains.{Chain}
 use Rattle.client_ties.specs.PartTie.{Leads, Tells, MayLeave}
-use Rattle.client_ties.specs.Sights.{sight, IsFair, IsEarly}
-use Rattle.multi_ties.specs.Tied.{Streams, by_streams, IsUntold, TiedAs, names_of, owns, StreamsAreTiedAs}
+use Rattle.client_ties.specs.Sights.{sight, IsFair}
+use Rattle.multi_ties.specs.Servers.{desk_of}
+use Rattle.multi_ties.specs.Tied.{Streams, by_streams, IsUntold, AreEarly, TiedAs, names_of, owns, StreamsAreTiedAs}
 use Rattle.multi_ties.proofs.Coming.{octets_come, frame_taken}
-use Rattle.multi_ties.proofs.Fields.{begins_fresh, stays_same, has_set, is_named, is_held, row_begins, it_rests}
+use Rattle.multi_ties.proofs.Fields.{begins_fresh, stays_same, has_set, is_named, is_held, none_due, row_begins, it_rests}
 use Rattle.multi_ties.proofs.Hearing.{tells_one}
-use Rattle.multi_ties.proofs.Tying.{timer_fires, gives_up_one, takes_on_one}
+use Rattle.multi_ties.proofs.Passing.{takes_on, gives_up}
+use Rattle.multi_ties.proofs.Tying.{timer_fires}
 
-told_of : (c : Conf) (s : ℕ) (u : Streams) (v : View) (a : Served) (w : What) → IsUntold s w u (sight v) a → IsFair v → IsEarly v → v.more ≡ false → Leads (Tells (served c) (TiedAs s) names_of owns (Chain (served c) s v.place a) u v (MayLeave w)) (by_streams.step (told w) u v)
+told_of : (c : Conf) (s : ℕ) (u : Streams) (v : View) (a : Served) (w : What) → IsUntold s w u (sight v) a → IsFair v → AreEarly (desk_of u.tables) (sight v) → v.more ≡ false → Leads (Tells (served c) (TiedAs s) names_of owns (Chain (served c) s v.place a) u v (MayLeave w)) (by_streams.step (told w) u v)
 told_of c s u v a (Ask r) t fair early calm = tells_one c s u v a (Ask r) t fair early calm (λ p o e. cc)
 told_of c s u v a (Opened p) t fair early calm = tells_one c s u v a (Opened p) t fair early calm (λ q o e. cc)
 told_of c s u v a (OpenFailed p f) t fair early calm = tells_one c s u v a (OpenFailed p f) t fair early calm (λ q o e. cc)
@@ -37,11 +39,12 @@ streams_are_tied c s used = record {
   named = λ phase u x a i k t e. is_named s phase u x a i k t e;
   held = λ phase u x a k t e. is_held s phase u x a k t e;
   response = λ r u v. refl;
+  quiet = λ phase u x a was t. none_due s phase u x a was t;
   begins = λ phase u x a e end t. row_begins s phase u x a e end t;
   rests = λ phase u v a end early t. it_rests s phase u v a end early t;
   fires = λ u v a w i due t fair set late. timer_fires c s u v a w i due t fair set late;
-  sends = λ u v a w r t fair octets free. takes_on_one c s used u v a w r t fair octets free;
-  cancels = λ u v a w r k t fair named. gives_up_one c s u v a w r k t fair named;
+  sends = λ phase u v a r calm t fair octets free. takes_on c s used phase u v a r calm t fair octets free;
+  cancels = λ phase u v a r k calm t fair named. gives_up c s phase u v a r k calm t fair named;
   tells = λ u v a w t fair early calm. told_of c s u v a w t fair early calm;
   takes = λ u v a p n t fair early calm. frame_taken c s u v a p n t fair early calm;
 }

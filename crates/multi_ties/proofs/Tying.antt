@@ -1,5 +1,5 @@
 -- The calls of reconnection beside moves of the part: a timer fires, a request is given up or taken on.
-use Rattle.std.proofs.Common.{◌≡◌, ℕ, ◌<◌, ◌≤◌, ◌⊎◌, inl, inr, true, false, ◌||◌, is_some, [], Option, Some, None, refl, sym, ap₂, subst, ◌∙◌, append-nil}
+use Rattle.std.proofs.Common.{◌≡◌, ℕ, ◌<◌, ◌≤◌, ◌⊎◌, inl, inr, true, false, ◌||◌, is_some, [], ◌∷◌, Option, Some, None, refl, sym, ap₂, subst, ◌∙◌, append-nil, append_assoc}
 use Rattle.client_request.specs.Carries.{IsOfOctets}
 use Rattle.client_request.specs.Numbered.{entry_at}
 use Rattle.client_request.specs.Request.{Request}
@@ -117,57 +117,72 @@ module _ (c : Conf) (s : ℕ) where
 
   -- A request is taken on
 
-  module _ (used : use_at s c.servers ≡ Some ByStreams) (u : Streams) (v : View) (a : Served) (w : What) (r : Request) (t : IsUntold s w u (sight v) a) (fair : IsFair v) (octets : IsOfOctets r) (free : holds a v.request ≡ false) where
+  -- whatever was put out before
+  module _ (u : Streams) (v : View) (a : Served) (w : What) (r : Request) (t : IsUntold s w u (sight v) a) (fair : IsFair v) (octets : IsOfOctets r) (free : holds a v.request ≡ false) where
     abbrev sd : Desk
     sd = desk_of u.tables
 
     abbrev sm : Multi
     sm = a.server.by_stream
 
-    no_ask : sm.asks v.request ≡ None
+    pub no_ask : sm.asks v.request ≡ None
     no_ask = by (sm.asks v.request) refl
       where
         by : (o : Option Asker) → sm.asks v.request ≡ o → sm.asks v.request ≡ None
         by None e = e
         by (Some b) e = absurd (let z : true ≡ false = sym (ap₂ (λ (b : Option Tryer) (c : Option Asker). is_some b || is_some c) (no_tryer s a.server.by_dgram v.request t.stream.dgram) e) ∙ free in cc)
 
+    -- what follows of it
+    sent_so : (Q : Streams → View → Type 0) → ((x : Server) (y : View) → Sent s (frames_at a.place a.frames) r sd sm v x y → Q (record u { tables = x }) y) → Leads Q (by_streams.send r u v)
+    sent_so Q f = leads_whole (Sent s (frames_at a.place a.frames) r sd sm v) Q u (takes (one_stream for_one) u.server u.settings u.shut r u.tables v)
+        (subst (λ n. Leads (Sent s (frames_at a.place a.frames) r sd sm v) (takes (one_stream for_one) n u.settings u.shut r u.tables v)) (sym t.stream.server)
+        (subst (λ (set : Settings). Leads (Sent s (frames_at a.place a.frames) r sd sm v) (takes (one_stream for_one) s set u.shut r u.tables v)) (sym t.stream.settings)
+        (subst (λ b. Leads (Sent s (frames_at a.place a.frames) r sd sm v) (takes (one_stream for_one) s default_settings b r u.tables v)) (sym t.stream.takes)
+        (sends_so s (frames_at a.place a.frames) u.tables sm v (stands_of s u v a t.stream fair) t.quiet r octets no_ask))))
+        f
+
+    -- nothing is posted, and no frame is told of
+    pub posts_none : Leads (λ x y. (y.board ≡ v.board) × (y.more ≡ v.more)) (by_streams.send r u v)
+    posts_none = sent_so (λ x y. (y.board ≡ v.board) × (y.more ≡ v.more)) (λ x y g. (g.board, g.more))
+
+  module _ (used : use_at s c.servers ≡ Some ByStreams) (u : Streams) (v : View) (a : Served) (w : What) (r : Request) (t : IsUntold s w u (sight v) a) (fair : IsFair v) (octets : IsOfOctets r) (free : holds a v.request ≡ false) where
+    abbrev tm : Multi
+    tm = a.server.by_stream
+
+    abbrev started : View
+    started = asks (Start v.request s Stream) v
+
     abbrev L : Streams → View → Type 0
     L x y = Leaves (served c) (TiedAs s) names_of owns (Begins (Starts c s v.place v.request r a) (Chain (served c) s)) (with_at v.ticket (Some v.request) (names_of u)) u v (Untold w) x y
 
     abbrev given : Served
-    given = stream_moved (taken_in v.request v.now r sm) a
+    given = stream_moved (taken_in v.request v.now r tm) a
+
+    fair_too : IsFair started
+    fair_too = record { order = fair.order; words = fair.words }
 
     starts : Starts c s v.place v.request r a (does given v.place (Puts (Start v.request s Stream)))
-    starts = subst (λ n. Starts c s v.place v.request r a (does (stream_moved (taken_in v.request n r sm) a) v.place (Puts (Start v.request s Stream)))) t.stream.clock
-        (IsHanded ByStreams (Puts (Start v.request s Stream)) (record a.server { by_stream = taken_in v.request a.clock r sm }) used (server.ToStreams refl no_ask))
+    starts = subst (λ n. Starts c s v.place v.request r a (does (stream_moved (taken_in v.request n r tm) a) v.place (Puts (Start v.request s Stream)))) t.stream.clock
+        (IsHanded ByStreams (Puts (Start v.request s Stream)) (record a.server { by_stream = taken_in v.request a.clock r tm }) used (server.ToStreams refl (no_ask u v a w r t fair octets free)))
 
-    sent_leaves : (x : Server) (y : View) → Sent s (frames_at a.place a.frames) r sd sm v x y → L (record u { tables = x }) y
+    sent_leaves : (x : Server) (y : View) → Sent s (frames_at a.place a.frames) r (desk_of u.tables) tm started x y → L (record u { tables = x }) y
     sent_leaves x y g = record {
       made = then_act (does given v.place (Puts (Start v.request s Stream))) (lift given g.made);
-      may = Calls (does given v.place (Puts (Start v.request s Stream))) (lift given g.made) starts (runs_chain c s v.now v.place (taken_in v.request v.now r sm) g.made g.runs given t.stream.clock refl);
-      outs = g.outs;
+      may = Calls (does given v.place (Puts (Start v.request s Stream))) (lift given g.made) starts (runs_chain c s v.now v.place (taken_in v.request v.now r tm) g.made g.runs given t.stream.clock refl);
+      outs = g.outs ∙ append_assoc v.outs (Start v.request s Stream ∷ []) g.made.outs;
       place = g.place;
       board = [];
       put = g.board ∙ sym (append-nil v.board);
       gives = gives_none (with_at v.ticket (Some v.request) (names_of u)) (numbers (desk_of x)) g.made.posts g.posts g.named;
       tied = record { stream = stream_still s u (sight v) a x g.made.state y t.stream g.on.now g.stands; pending = t.pending; taken = t.taken; frames = t.frames; quiet = g.quiet t.quiet };
-      goes_on = g.on;
+      goes_on = record { fair = g.on.fair; now = g.on.now; timer = g.on.timer; ticket = g.on.ticket; place = g.on.place; later = g.on.later };
       owned = g.owned;
       others = g.others;
     }
 
-    -- what follows of a request that was taken on
-    sent_so : (Q : Streams → View → Type 0) → ((x : Server) (y : View) → Sent s (frames_at a.place a.frames) r sd sm v x y → Q (record u { tables = x }) y) → Leads Q (by_streams.send r u (asks (Start v.request s Stream) v))
-    sent_so Q f = leads_whole (Sent s (frames_at a.place a.frames) r sd sm v) Q u (takes (one_stream for_one) u.server u.settings u.shut r u.tables (asks (Start v.request s Stream) v))
-        (subst (λ n. Leads (Sent s (frames_at a.place a.frames) r sd sm v) (takes (one_stream for_one) n u.settings u.shut r u.tables (asks (Start v.request s Stream) v))) (sym t.stream.server)
-        (subst (λ (set : Settings). Leads (Sent s (frames_at a.place a.frames) r sd sm v) (takes (one_stream for_one) s set u.shut r u.tables (asks (Start v.request s Stream) v))) (sym t.stream.settings)
-        (subst (λ b. Leads (Sent s (frames_at a.place a.frames) r sd sm v) (takes (one_stream for_one) s default_settings b r u.tables (asks (Start v.request s Stream) v))) (sym t.stream.takes)
-        (sends_so s (frames_at a.place a.frames) u.tables sm v (stands_of s u v a t.stream fair) t.quiet r octets no_ask))))
-        f
-
-    pub takes_on_one : Leads L (by_streams.send r u (asks (Start v.request s Stream) v))
-    takes_on_one = sent_so L sent_leaves
+    pub takes_on_one : Leads L (by_streams.send r u started)
+    takes_on_one = sent_so u started a w r t fair_too octets free L sent_leaves
 
     -- a ticket was drawn, and no frame is told of
-    pub draws_one : Leads (λ x y. (v.ticket < y.ticket) × (y.more ≡ v.more)) (by_streams.send r u (asks (Start v.request s Stream) v))
-    draws_one = sent_so (λ x y. (v.ticket < y.ticket) × (y.more ≡ v.more)) (λ x y g. (g.drawn, g.more))
+    pub draws_one : Leads (λ x y. (v.ticket < y.ticket) × (y.more ≡ v.more)) (by_streams.send r u started)
+    draws_one = sent_so u started a w r t fair_too octets free (λ x y. (v.ticket < y.ticket) × (y.more ≡ v.more)) (λ x y g. (g.drawn, g.more))

@@ -1,5 +1,5 @@
--- A server by streams alone, as a part of a client: its tables beside the part of the machine.
-use Rattle.std.specs.Prelude.{◌≡◌, ℕ, ◌<◌, ◌⊎◌, ◌==◌, false, if◌then◌else◌, List, [], length, Option, Some}
+-- A server by streams alone, as a part of a client: its tables beside the part of the machine, and what it leaves alone.
+use Rattle.std.specs.Prelude.{◌≡◌, ℕ, ◌⊎◌, ◌==◌, false, if◌then◌else◌, List, [], length, Option, Some}
 use Rattle.client_request.specs.Request.{Request}
 use Rattle.client_request.specs.Requests.{for_one}
 use Rattle.client_request.specs.View.{Transport}
@@ -15,8 +15,10 @@ use Rattle.headline.specs.Trace.{Conf, ByStreams}
 use Rattle.headline.specs.machine.Dgrams.{no_datagram}
 use Rattle.headline.specs.machine.Served.{Served, served}
 use Rattle.headline.specs.machine.Streams.{IsForeign}
-use Rattle.client_ties.specs.PartTie.{Phase, Untold, Told, IsNobodys, IsTie}
-use Rattle.client_ties.specs.Sights.{Sight}
+use Rattle.client_ties.specs.PartTie.{Phase, Untold, Told, Passed, place_in, IsNobodys, IsTie}
+use Rattle.client_ties.specs.Places.{has_place}
+use Rattle.client_ties.specs.Sharing.{IsShared}
+use Rattle.client_ties.specs.Sights.{Sight, NoneDue}
 use Rattle.multi_ties.specs.Servers.{Desk, desk_of, numbers, nothing_under_way, IsServer, AreOrderly, NoneHeard, Owns}
 
 -- the whole of reconnection, over connections for requests that one message answers
@@ -42,7 +44,7 @@ pub record IsStream (s : ℕ) (u : Streams) (x : Sight) (a : Served) : Type 0 wh
 
 -- none of its timers is due
 abbrev pub AreEarly : Desk → Sight → Type 0
-AreEarly d x = (i due : ℕ) → Owns d i → x.dues i ≡ Some due → x.now < due
+AreEarly d x = NoneDue (Owns d) x
 
 -- before the event of the row is told
 pub record IsUntold (s : ℕ) (w : What) (u : Streams) (x : Sight) (a : Served) : Type 0 where
@@ -60,9 +62,17 @@ pub record IsTold (s p left : ℕ) (u : Streams) (x : Sight) (a : Served) : Type
   pub row : (left ≡ 0) ⊎ IsNobodys a.pending
   pub told : AreEarly (desk_of u.tables) x × IsForeign a.pending a.server.by_stream
 
+-- Once an event was told that is of no place here: all is as before, and none of its timers is due.
+pub record IsPassed (s : ℕ) (w : What) (u : Streams) (x : Sight) (a : Served) : Type 0 where
+  pub untold : IsUntold s w u x a
+  pub early : AreEarly (desk_of u.tables) x
+  pub apart : (p : ℕ) → place_in w ≡ Some p → has_place a p ≡ false
+
+-- server s, by where a row is
 abbrev pub TiedAs : (s : ℕ) → Phase → Streams → Sight → Served → Type 0
 TiedAs s (Untold w) u x a = IsUntold s w u x a
 TiedAs s (Told p left) u x a = IsTold s p left u x a
+TiedAs s (Passed w) u x a = IsPassed s w u x a
 
 abbrev pub names_of : Streams → ℕ → Option ℕ
 names_of u = numbers (desk_of u.tables)
@@ -73,3 +83,7 @@ owns u i = Owns (desk_of u.tables) i
 -- Reconnection is tied to the part of each server that is used by streams alone.
 abbrev pub StreamsAreTiedAs : Type 0
 StreamsAreTiedAs = (c : Conf) (s : ℕ) → use_at s c.servers ≡ Some ByStreams → IsTie (served c) s Stream by_streams (λ (r : Asked). r.ticket) (started s default_settings) (TiedAs s) names_of owns
+
+-- Where servers share timers, places and the board, it leaves alone what is not its own.
+abbrev pub StreamsAreShared : Type 0
+StreamsAreShared = (c : Conf) (s : ℕ) → IsShared (served c) has_place by_streams (TiedAs s) owns

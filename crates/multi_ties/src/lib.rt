@@ -3,4 +3,4 @@
 
 mod laws;
 
-pub use laws::streams_are_tied;
+pub use laws::{streams_are_shared, streams_are_tied};
