@@ -69,7 +69,8 @@ silent_choice c st settings same choose = record {
 
 -- The laws of a choice can be met: among silent servers, what its calls leave is what moves of the machine leave.
 abbrev pub SilentChoicesMove : Type 0
-SilentChoicesMove = (c : Conf) → (choose : NumbersChoose c) × ((st : Settings) (settings : RedundantSettings) (same : SameDeferring settings st) → CallsAreMoves (silent_choice c st settings same choose))
+SilentChoicesMove = (c : Conf) → (choose : NumbersChoose c) ×
+    ((st : Settings) (settings : RedundantSettings) (same : SameDeferring settings st) → CallsAreMoves (silent_choice c st settings same choose))
 
 -- And the choice is tied to the whole of a client.
 abbrev pub SilentChoicesAreWhole : Type 0
