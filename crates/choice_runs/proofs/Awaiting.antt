@@ -1,5 +1,5 @@
 -- Each request in the table of a choice stays awaited, whatever the choice does.
-use Rattle.std.proofs.Common.{◌≡◌, ℕ, zero, suc, ◌+◌, ◌-◌, ◌<◌, Bool, true, false, cond, ◌==◌, ◌&&◌, if◌then◌else◌, List, [], ◌∷◌, length, Option, Some, None, Ordering, Less, Equal, Greater, nat_cmp, is_eq, slice_get, refl, sym, ap, subst, ◌∙◌, arith}
+use Rattle.std.proofs.Common.{◌≡◌, ℕ, zero, suc, ◌+◌, ◌-◌, ◌<◌, Bool, true, false, cond, ◌==◌, ◌&&◌, if◌then◌else◌, List, [], ◌∷◌, length, Option, Some, None, Ordering, Less, Equal, Greater, nat_cmp, is_eq, slice_get, refl, sym, subst, ◌∙◌, arith}
 use Rattle.std.specs.Ordering.{match_ordering}
 use Rattle.std.specs.Prelude.{set, option_map}
 use Rattle.client_request.specs.Board.{Part}
@@ -15,13 +15,9 @@ use Rattle.client_choice.specs.declared.servers.Reply.{Reply}
 use Rattle.client_choice.specs.declared.servers.Reply.TheVariants.{Later, Now}
 use Rattle.client_ties.specs.PartTie.{Leads}
 use Rattle.choice_runs.specs.Awaiting.{Owes, OneOwes, LastOwes, AreWithin, IsAwaited, AreAwaited, Awaits}
+use Rattle.choice_runs.proofs.AtServer.{set_length}
 use Rattle.choice_runs.proofs.Leaving.{leads_then, leads_map, leads_on}
 use Rattle.choice_runs.proofs.Owing.{one_of_last, last_with, not_all_gave}
-
-pub set_length : {A : Type 0} (xs : List A) (i : ℕ) (b : A) → length (set xs i b) ≡ length xs
-set_length [] i b = refl
-set_length (x ∷ xs) zero b = refl
-set_length (x ∷ xs) (suc i) b = ap suc (set_length xs i b)
 
 not_none : {A : Type 0} (xs : List A) (i : ℕ) → i < length xs → slice_get xs i ≡ None → ⊥
 not_none [] i lt e = absurd (omega arith)

@@ -13,7 +13,8 @@ use Rattle.client_choice.specs.declared.job.Entry.{Entry}
 use Rattle.client_choice.specs.declared.job.Started.{Started}
 use Rattle.client_ties.specs.PartTie.{Leads}
 use Rattle.choice_runs.specs.Awaiting.{LastOwes, AreWithin, IsAwaited, Awaits}
-use Rattle.choice_runs.proofs.Awaiting.{with_jobs, awaited_puts, awaited_frees, awaited_at, rests_awaits, HasStarted, begins_awaits, gives_up_awaits, ends_awaits, Kept, set_length, disowned_length}
+use Rattle.choice_runs.proofs.AtServer.{set_length}
+use Rattle.choice_runs.proofs.Awaiting.{with_jobs, awaited_puts, awaited_frees, awaited_at, rests_awaits, HasStarted, begins_awaits, gives_up_awaits, ends_awaits, Kept, disowned_length}
 use Rattle.choice_runs.proofs.Leaving.{leads_then, leads_map, leads_if}
 use Rattle.choice_runs.proofs.Owing.{one_of_last, last_stays, still_last}
 

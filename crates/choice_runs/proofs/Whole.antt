@@ -10,7 +10,7 @@ use Rattle.choice_runs.proofs.WholeLaws as laws
 use Rattle.choice_runs.proofs.WholeTelling as telling
 
 pub choices_are_whole : ChoicesAreWhole
-choices_are_whole g some = record {
+choices_are_whole g = record {
   fresh = tied_fresh g;
   same = laws.same g;
   alike = laws.alike g;
@@ -31,4 +31,4 @@ choices_are_whole g some = record {
 }
 
 pub silent_choices_are_whole : SilentChoicesAreWhole
-silent_choices_are_whole c some = (choose_numbers c, λ st settings same. choices_are_whole (silent_choice c st settings same (choose_numbers c)) some)
+silent_choices_are_whole c = (choose_numbers c, λ st settings same. choices_are_whole (silent_choice c st settings same (choose_numbers c)))

@@ -1,5 +1,6 @@
 -- A timer that fires: the choice's, one of a server's, or one of others.
-use Rattle.std.proofs.Common.{◌≡◌, ℕ, zero, suc, ◌+◌, ◌<◌, ◌≤◌, inl, inr, Bool, ◌==◌, ◌||◌, List, [], ◌∷◌, length, Option, Some, None, slice_get, refl, sym, ap, subst, ◌∙◌, arith, le_refl}
+use Rattle.std.proofs.Common.{◌≡◌, ℕ, ◌<◌, ◌≤◌, inl, inr, List, length, Option, Some, None, slice_get, refl, sym, ap, subst, ◌∙◌, arith, le_refl}
+use Rattle.std.proofs.lemmas.Option.{slice_get_within}
 use Rattle.client_request.specs.Numbered.{entry_at, frees}
 use Rattle.client_request.specs.Request.{Request}
 use Rattle.client_request.specs.Timers.{cancelled}
@@ -8,7 +9,6 @@ use Rattle.client_request.specs.declared.event.What.{What}
 use Rattle.client_choice.specs.Choice.{Choice, due, due_at, hears_all}
 use Rattle.client_choice.specs.Redundant.{with_choice, transport}
 use Rattle.client_choice.specs.Servers.{Server}
-use Rattle.client_choice.specs.declared.job.Entry.{Entry}
 use Rattle.client_ties.specs.PartTie.{Phase, Untold, Told, Passed, WasTold, IsOpen, Leads}
 use Rattle.client_ties.specs.Sights.{sight, due_of, IsFair}
 use Rattle.client_ties.proofs.GoingOn.{dues_without, fair_without}
@@ -16,36 +16,22 @@ use Rattle.client_ties.proofs.Keys.{each_number, with_here, with_there, was_ther
 use Rattle.choice_runs.specs.Awaiting.{Awaits}
 use Rattle.choice_runs.specs.Choosing.{Choosing}
 use Rattle.choice_runs.specs.Doing.{CallsAreMoves, IsStill, HasActed, HasHeard, IsNothing, nobody}
-use Rattle.choice_runs.specs.Requests.{Others, Work, AreToStart, IsToStart, IsAside}
+use Rattle.choice_runs.specs.Requests.{Others, Work, IsAside}
 use Rattle.choice_runs.specs.Servers.{State}
 use Rattle.choice_runs.specs.Whole.{IsSeen, Whole, Owns, IsOwn, IsServers, Agrees, IsCalm, OneTook, IsAt, Tied, names}
+use Rattle.choice_runs.proofs.AtServer.{both_are}
 use Rattle.choice_runs.proofs.AwaitingCalls.{hears_all_awaits, fires_awaits}
-use Rattle.choice_runs.proofs.WholeHearing.{none_hear, one_hears}
+use Rattle.choice_runs.proofs.Dropping.{found_at}
+use Rattle.choice_runs.proofs.Firing.{none_past}
+use Rattle.choice_runs.proofs.WholeHearing.{all_pass, one_of_all}
 use Rattle.choice_runs.proofs.WholeLeaving.{AreOthers, knows, set_is_drawn, still_of, others_of, leaves_so, nothing_so, small_so, closes, WholeLeaves, no_timer}
 use Rattle.choice_runs.proofs.WholeViews.{in_conf, agrees_at, is_at, TiedAt, at_view}
 
-within_all : (s n : ℕ) → s < n → s < 0 + n
-within_all s n lt = omega arith
-
-at_least : (n : ℕ) → 0 ≤ n
-at_least n = omega arith
-
-more_than : (a b c : ℕ) → a < b → b < 0 + c → a < 0 + c
-more_than a b c p q = omega arith
-
-found_at : {A : Type 0} (xs : List A) (i : ℕ) → i < 0 + length xs → (a : A) × (slice_get xs i ≡ Some a)
-found_at [] i lt = absurd (omega arith)
-found_at (x ∷ xs) zero lt = (x, refl)
-found_at (x ∷ xs) (suc i) lt = found_at xs i (less i (length xs) lt)
-  where
-    less : (a b : ℕ) → suc a < 0 + suc b → a < 0 + b
-    less a b lt = omega arith
+not_late : (a b : ℕ) → a < b → b ≤ a → ⊥
+not_late a b p q = omega arith
 
 not_below : (n : ℕ) → n < n → ⊥
 not_below n lt = omega arith
-
-not_late : (a b : ℕ) → a < b → b ≤ a → ⊥
-not_late a b p q = omega arith
 
 more : (a b c : ℕ) → a < b → b ≤ c → a < c
 more a b c p q = omega arith
@@ -55,16 +41,11 @@ module _ (g : Choosing) where
   count = length (g.c).servers
 
   -- nobody is started, or waited for, beyond the servers
-  none_beyond : (n : ℕ) (tried : ℕ → Bool) (es : List Entry) → AreToStart n tried es → IsToStart n es → ⊥
-  none_beyond n tried [] line m = m
-  none_beyond n tried (e ∷ es) line (inl same) = not_below n (subst (λ s. s < n) same line.0)
-  none_beyond n tried (e ∷ es) line (inr m) = none_beyond n (λ t. (e.server == t) || tried t) es line.2 m
-
   pub aside_of_nobody : (phase : ℕ → Phase) (named : ℕ → ℕ → Option ℕ) (r : Whole g) (v : View) (x : State g) → Agrees g phase named r v x → (t : ℕ) (job : Work g) → entry_at t r.choice.jobs ≡ Some job → IsAside g (nobody g) job
   aside_of_nobody phase named r v x h t job is =
       let m = h.kept.kept t job is in
       record {
-        aside = λ to. none_beyond count m.ask.tried job.left m.left to;
+        aside = λ to. none_past count job.left m.ask.tried m.left to;
         clear = λ b in_it a p same. not_below count (subst (λ n. n < count) (sym same) (m.waits b in_it a p).within);
       }
 
@@ -127,15 +108,12 @@ module _ (g : Choosing) where
           (λ others d w a. others_of g others t.phases current (t.named current) a.named (record r { choice = d }) w a.end a.still)
           (λ d w a awaits others. leaves_so g phase t.phases current (names g r) (t.named current) v.more t.named t.phases r v gone x h (fair_without v i fair) x (small_so g t.phases t.named r v x h) d w a awaits
           (at d w a.went.goes_on.place (λ p left told. calm_of no_timer t.phases current (t.named current) a.named d w a.end p left a.still told)) others)
-        where
-          both_are : {A : Type 0} (o : Option A) (a b : A) → o ≡ Some a → o ≡ Some b → a ≡ b
-          both_are o a b p q = cc
 
       -- one of others fires: it is nothing to anybody
       nobodys_fires : entry_at i c.timers ≡ None → (Owns g r i → ⊥) → Leads (WholeLeaves g (names g r) x r gone phase) (with_choice r (due g.below g.settings i c gone))
       nobodys_fires none not =
           subst (λ o. Leads (WholeLeaves g (names g r) x r gone phase) (with_choice r (due_at g.below g.settings i c gone o))) (sym none)
-          (subst (λ o. Leads (WholeLeaves g (names g r) x r gone phase) (with_choice r o)) (sym (none_hear g (length c.servers) 0 (due_timer i) c gone (λ s le lt. passes s lt)))
+          (subst (λ o. Leads (WholeLeaves g (names g r) x r gone phase) (with_choice r o)) (sym (all_pass g (due_timer i) c gone passes))
           (nothing_so g phase r gone x (record {
             phases = t.phases;
             named = t.named;
@@ -143,7 +121,7 @@ module _ (g : Choosing) where
             at = is_at g t.phases t.named r v gone x h seen phase t.at;
           })))
         where
-          passes : (s : ℕ) → s < 0 + length c.servers → IsNothing g s (due_timer i) c gone
+          passes : (s : ℕ) → s < length c.servers → IsNothing g s (due_timer i) c gone
           passes s lt = (let f = found_at c.servers s lt in (calls.ignoring.timers t.phases s f.0 i c v x h.servers f.1 (h.quiet s f.0 f.1).0 (λ own. not (IsServers s f.0 f.1 own))).1)
 
           seen : IsSeen (Owns g r) v (sight gone)
@@ -155,10 +133,10 @@ module _ (g : Choosing) where
       servers_fires what s a is untold none at own =
           subst (λ o. Leads (WholeLeaves g (names g r) x r gone phase) (with_choice r (due_at g.below g.settings i c gone o))) (sym none)
           (closes g r gone (λ others. HasHeard g others t.phases s (names g r) gone x) (WholeLeaves g (names g r) x r gone phase) (hears_all g.below g.settings (due_timer i) c gone)
-          (λ others o. one_hears g (HasHeard g others t.phases s (names g r) gone x) (due_timer i) c gone s (length c.servers) 0 (at_least s) in_list (λ q le less. passes q (λ same. not_below s (subst (λ n. n < s) (sym same) less)) (more_than q s (length c.servers) less in_list))
+          (λ others o. one_of_all g (HasHeard g others t.phases s (names g r) gone x) (due_timer i) c gone s (slice_get_within c.servers s a at) passes
           (calls.waking others t.phases s a what i due_at_i (t.named s) t.named c v x (still_of g others t.phases s t.named r v x h (before others fair o) (λ q lt ne. subst (λ f. IsOpen f v.place) (sym (untold q lt)) tt)
           (λ p left told. absurd (let z : Untold what ≡ Told p left = sym (untold s inside) ∙ told in cc))) at (untold s inside) own set late)
-          (λ d w heard q behind lt. after others d w heard q (λ same. not_below s (subst (λ n. s < n) (sym same) behind)) lt))
+          (λ d w heard. after others d w heard))
           (hears_all_awaits count g.below g.settings (due_timer i) c gone (record { servers = h.awaited.servers; jobs = h.awaited.jobs }))
           (λ others d w a. others_of g others t.phases s a.left (a.acted).named (record r { choice = d }) w (a.acted).end (a.acted).still)
           (λ d w a awaits others. leaves_so g phase t.phases s (names g r) a.left w.more t.named t.phases r v gone x h (fair_without v i fair) x (small_so g t.phases t.named r v x h) d w a.acted awaits
@@ -167,16 +145,13 @@ module _ (g : Choosing) where
           inside : s < count
           inside = in_conf g t.phases c.servers v x s a h.servers at
 
-          in_list : s < 0 + length c.servers
-          in_list = within_all s (length c.servers) (subst (λ n. s < n) (sym h.servers.count) inside)
+          passes : (q : ℕ) → q < length c.servers → (s ≡ q → ⊥) → IsNothing g q (due_timer i) c gone
+          passes q lt ne = (let f = found_at c.servers q lt in (calls.ignoring.timers t.phases q f.0 i c v x h.servers f.1 (h.quiet q f.0 f.1).0 (λ it. ne (h.servers.apart s q i a f.0 at f.1 own it))).1)
 
-          passes : (q : ℕ) → (s ≡ q → ⊥) → q < 0 + length c.servers → IsNothing g q (due_timer i) c gone
-          passes q ne lt = (let f = found_at c.servers q lt in (calls.ignoring.timers t.phases q f.0 i c v x h.servers f.1 (h.quiet q f.0 f.1).0 (λ it. ne (h.servers.apart s q i a f.0 at f.1 own it))).1)
-
-          after : (others : Others) (d : Choice Request g.U g.R) (w : View) → HasHeard g others t.phases s (names g r) gone x d w → (q : ℕ) → (s ≡ q → ⊥) → q < 0 + length c.servers → IsNothing g q (due_timer i) d w
-          after others d w heard q ne lt =
+          after : (others : Others) (d : Choice Request g.U g.R) (w : View) → HasHeard g others t.phases s (names g r) gone x d w → (q : ℕ) → q < length c.servers → (s ≡ q → ⊥) → IsNothing g q (due_timer i) d w
+          after others d w heard q lt ne =
               let st = (heard.acted).still.stands in
-              let f = found_at d.servers q (subst (λ n. q < 0 + n) (h.servers.count ∙ sym st.servers.count) lt) in
+              let f = found_at d.servers q (subst (λ n. q < n) (h.servers.count ∙ sym st.servers.count) lt) in
               (calls.ignoring.timers t.phases q f.0 i d w (heard.acted).end st.servers f.1 (st.quiet q f.0 f.1).0 (λ it. not_set (heard.acted) ((g.tie q (in_conf g t.phases d.servers w (heard.acted).end q f.0 st.servers f.1)).set (t.phases q) (f.0).upstream (sight w) ((heard.acted).end.ups q) i (st.servers.tied q f.0 f.1) it))).0
             where
               not_set : HasActed g others t.phases s (names g r) heard.left w.more gone x d w → (late : ℕ) × (due_of i w.timers.set ≡ Some late) → ⊥

@@ -7,7 +7,7 @@ use Rattle.client_request.specs.declared.event.Event.{Event}
 use Rattle.client_request.specs.declared.event.Out.{Out}
 use Rattle.client_request.specs.declared.event.What.{What}
 use Rattle.client_request.specs.Composed.{composed}
-use Rattle.client_choice.specs.Choice.{Choice, hears_some, hears_one, settles_all}
+use Rattle.client_choice.specs.Choice.{Choice, hears_some, hears_one, settles_all, hears_all}
 use Rattle.client_choice.specs.Servers.{Server, onto}
 use Rattle.headline.specs.machine.Part.{Act}
 use Rattle.headline.specs.machine.Client.{Made, Move, Server_moves, Hands_on, Gives_up, Drops, Keeps_back, Delivers, Concludes, Times_out, Replies, Forgets, Derives, Answers, Takes_on, moved, hand, with_up}
@@ -37,16 +37,7 @@ none_at_all : (s o : ℕ) → s ≤ o → o < s + 0 → ⊥
 none_at_all s o le lt = omega arith
 
 here_or_on : (s o : ℕ) → s ≤ o → (s ≡ o) ⊎ (s + 1 ≤ o)
-here_or_on zero zero le = inl (omega arith)
-here_or_on zero (suc o) le = inr (omega arith)
-here_or_on (suc s) zero le = absurd (omega arith)
-here_or_on (suc s) (suc o) le = elim (here_or_on s o (less s o le)) [ inl same ↦ inl (ap suc same) | inr on ↦ inr (up s o on) ]
-  where
-    less : (s o : ℕ) → suc s ≤ suc o → s ≤ o
-    less s o le = omega arith
-
-    up : (s o : ℕ) → s + 1 ≤ o → suc s + 1 ≤ suc o
-    up s o on = omega arith
+here_or_on s o le = grind arith
 
 less_of : (s o : ℕ) → s + 1 ≤ o → s < o
 less_of s o le = omega arith
@@ -59,14 +50,14 @@ behind s o q same le = omega arith
 
 module _ (g : Choosing) where
   -- to none of these servers it is anything
-  pub none_hear : (n s : ℕ) (h : Heard) (c : Choice Request g.U g.R) (v : View) → ((q : ℕ) → s ≤ q → q < s + n → IsNothing g q h c v) → hears_some g.below g.settings s n h c v ≡ Some (c, v)
+  none_hear : (n s : ℕ) (h : Heard) (c : Choice Request g.U g.R) (v : View) → ((q : ℕ) → s ≤ q → q < s + n → IsNothing g q h c v) → hears_some g.below g.settings s n h c v ≡ Some (c, v)
   none_hear zero s h c v nothing = refl
   none_hear (suc n) s h c v nothing =
       ap (λ o. option_and_then (λ x. hears_some g.below g.settings (s + 1) n h x.0 x.1) o) (nothing s (le_refl s) (at_first s n))
       ∙ none_hear n (s + 1) h c v (λ q le lt. nothing q (one_on s q n le) (one_less s q n lt))
 
   -- One of them hears it: before it nothing happens, and after it nothing more.
-  pub one_hears : (A : Choice Request g.U g.R → View → Type 0) (h : Heard) (c : Choice Request g.U g.R) (v : View) (o n s : ℕ) → s ≤ o → o < s + n → ((q : ℕ) → s ≤ q → q < o → IsNothing g q h c v) → Leads A (hears_one g.below g.settings o h c v)
+  one_hears : (A : Choice Request g.U g.R → View → Type 0) (h : Heard) (c : Choice Request g.U g.R) (v : View) (o n s : ℕ) → s ≤ o → o < s + n → ((q : ℕ) → s ≤ q → q < o → IsNothing g q h c v) → Leads A (hears_one g.below g.settings o h c v)
       → ((d : Choice Request g.U g.R) (w : View) → A d w → (q : ℕ) → o < q → q < s + n → IsNothing g q h d w) → Leads A (hears_some g.below g.settings s n h c v)
   one_hears A h c v o zero s le lt before here after = absurd (none_at_all s o le lt)
   one_hears A h c v o (suc n) s le lt before here after = elim (here_or_on s o le) [
@@ -76,6 +67,34 @@ module _ (g : Choosing) where
     | inr on ↦ subst (λ z. Leads A (option_and_then (λ x. hears_some g.below g.settings (s + 1) n h x.0 x.1) z)) (sym (before s (le_refl s) (less_of s o on)))
         (one_hears A h c v o n (s + 1) on (within_more s o n lt) (λ q le less. before q (one_on s q n le) less) here (λ d w a q more lt. after d w a q more (one_less s q n lt)))
   ]
+
+  pub all_pass : (h : Heard) (c : Choice Request g.U g.R) (v : View) → ((q : ℕ) → q < length c.servers → IsNothing g q h c v) → hears_all g.below g.settings h c v ≡ Some (c, v)
+  all_pass h c v nothing = none_hear (length c.servers) 0 h c v (λ q le lt. nothing q (in_list q (length c.servers) lt))
+    where
+      in_list : (q n : ℕ) → q < 0 + n → q < n
+      in_list q n lt = omega arith
+
+  pub one_of_all : (A : Choice Request g.U g.R → View → Type 0) (h : Heard) (c : Choice Request g.U g.R) (v : View) (o : ℕ) → o < length c.servers
+      → ((q : ℕ) → q < length c.servers → (o ≡ q → ⊥) → IsNothing g q h c v) → Leads A (hears_one g.below g.settings o h c v)
+      → ((d : Choice Request g.U g.R) (w : View) → A d w → (q : ℕ) → q < length c.servers → (o ≡ q → ⊥) → IsNothing g q h d w) → Leads A (hears_all g.below g.settings h c v)
+  one_of_all A h c v o inside before here after =
+      one_hears A h c v o (length c.servers) 0 (at_least o) (up o (length c.servers) inside) (λ q le less. before q (through q o (length c.servers) less inside) (λ same. not_below o (subst (λ n. n < o) (sym same) less))) here
+      (λ d w a q behind lt. after d w a q (in_list q (length c.servers) lt) (λ same. not_below o (subst (λ n. o < n) (sym same) behind)))
+    where
+      at_least : (n : ℕ) → 0 ≤ n
+      at_least n = omega arith
+
+      up : (q n : ℕ) → q < n → q < 0 + n
+      up q n lt = omega arith
+
+      in_list : (q n : ℕ) → q < 0 + n → q < n
+      in_list q n lt = omega arith
+
+      through : (a b c : ℕ) → a < b → b < c → a < c
+      through a b c p q = omega arith
+
+      not_below : (n : ℕ) → n < n → ⊥
+      not_below n lt = omega arith
 
   -- An event that passed a server is nothing to it still, where its place is none of the server's.
   pub passed_event : (phase : ℕ → Phase) (s : ℕ) (a : Server g.U) (what : What) (p : ℕ) (c : Choice Request g.U g.R) (v : View) (x : State g) → AreTied g phase c.servers v x → slice_get c.servers s ≡ Some a → a.posted ≡ []

@@ -1,5 +1,5 @@
 -- What a tie says of a choice between two calls.
-use Rattle.std.proofs.Common.{◌≡◌, ℕ, zero, suc, ◌<◌, ◌≤◌, inl, inr, max, true, is_some, List, [], ◌∷◌, length, Option, Some, None, option_map, slice_get, refl, sym, ap, subst, ◌∙◌, arith}
+use Rattle.std.proofs.Common.{◌≡◌, ℕ, ◌<◌, ◌≤◌, inl, inr, max, true, is_some, List, [], ◌∷◌, length, Option, Some, None, option_map, refl, sym, ap, subst, ◌∙◌, arith}
 use Rattle.client_request.specs.Composed.{composed}
 use Rattle.client_request.specs.Numbered.{entry_at}
 use Rattle.client_request.specs.Request.{Request}
@@ -15,20 +15,13 @@ use Rattle.client_ties.proofs.Keys.{each_number}
 use Rattle.choice_runs.specs.Awaiting.{Owes, OneOwes}
 use Rattle.choice_runs.specs.Choosing.{Choosing}
 use Rattle.choice_runs.specs.Doing.{numbers_of}
-use Rattle.choice_runs.specs.Requests.{Desk, Work, AreKept}
+use Rattle.choice_runs.specs.Requests.{Begun, Desk, Work, AreKept}
 use Rattle.choice_runs.specs.Servers.{State}
 use Rattle.choice_runs.specs.Whole.{Whole, Owns, IsServers, Agrees, IsAt, Tied, names}
 use Rattle.choice_runs.proofs.AwaitingCalls.{is_awaited}
+use Rattle.choice_runs.proofs.Dropping.{found_at}
 use Rattle.choice_runs.proofs.WholeLeaving.{set_so}
 use Rattle.choice_runs.proofs.WholeViews.{in_conf}
-
-found_at : {A : Type 0} (xs : List A) (i : ℕ) → i < length xs → (a : A) × (slice_get xs i ≡ Some a)
-found_at [] i lt = absurd (omega arith)
-found_at (x ∷ xs) zero lt = (x, refl)
-found_at (x ∷ xs) (suc i) lt = found_at xs i (less i (length xs) lt)
-  where
-    less : (a b : ℕ) → suc a < suc b → a < b
-    less a b lt = omega arith
 
 some_of : {A : Type 0} (o : Option A) → is_some o ≡ true → (a : A) × (o ≡ Some a)
 some_of None e = absurd (cc)
@@ -139,20 +132,22 @@ module _ (g : Choosing) where
         | inr o ↦ absurd (o.1).is
       ]
 
+  -- a server that owes a request its result holds it
+  owed_is_held : (phase : ℕ → Phase) (named : ℕ → ℕ → Option ℕ) (r : Whole g) (v : View) (a : State g) (h : Agrees g phase named r v a) (t : ℕ) (job : Work g) → entry_at t r.choice.jobs ≡ Some job → (e : Begun g) → IsIn e job.started → Owes e
+      → (e.server < count) × (g.P.holds (a.ups e.server) job.number ≡ true)
+  owed_is_held phase named r v a h t job is e in_it owes =
+      let w = (h.kept.kept t job is).waits e in_it owes.0 owes.1 in
+      let s = found_at r.choice.servers e.server (subst (λ n. e.server < n) (sym h.servers.count) w.within) in
+      let there : g.names (s.0).upstream e.lower ≡ Some job.number = sym (h.is_named e.server s.0 s.1 e.lower) ∙ w.named in
+      (w.within, ((g.tie e.server w.within).named (phase e.server) (s.0).upstream (sight v) (a.ups e.server) e.lower job.number (h.servers.tied e.server s.0 s.1) there).1)
+
   pub waits : (phase : Phase) (r : Whole g) (x : Sight) (a : State g) (k : ℕ) → Tied g phase r x a → is_some (a.held k) ≡ true → (s : ℕ) × (s < count) × (g.P.holds (a.ups s) k ≡ true)
   waits phase r x a k t is =
-      let h = t.agrees in
       let w = some_of (a.held k) is in
-      let f = h.kept.held k w.0 w.1 in
-      let m = h.kept.kept f.0 f.1 f.2 in
-      let o = owing (f.1).started (is_awaited count f.0 f.1 r.choice h.awaited f.2).one in
-      let n = m.waits o.0 o.1 (o.2).0 (o.2).1 in
-      let e = found_at r.choice.servers (o.0).server (subst (λ n. (o.0).server < n) (sym h.servers.count) n.within) in (
-        (o.0).server,
-        n.within,
-        ((g.tie (o.0).server n.within).named (t.phases (o.0).server) (e.0).upstream (sight t.view) (a.ups (o.0).server) (o.0).lower k (h.servers.tied (o.0).server e.0 e.1)
-            (sym (h.is_named (o.0).server e.0 e.1 (o.0).lower) ∙ (n.named ∙ ap (λ n. Some n) f.3))).1,
-      )
+      let f = t.agrees.kept.held k w.0 w.1 in
+      let o = owing (f.1).started (is_awaited count f.0 f.1 r.choice t.agrees.awaited f.2).one in
+      let held = owed_is_held t.phases t.named r t.view a t.agrees f.0 f.1 f.2 o.0 o.1 o.2 in
+      ((o.0).server, held.0, subst (λ n. g.P.holds (a.ups (o.0).server) n ≡ true) f.3 held.1)
 
   -- where the whole may end, so may each server
   may_end : (phase : Phase) (phases : ℕ → Phase) (c : Choice Request g.U g.R) (v : View) (s : ℕ) → MayEnd phase → IsAt g phase phases c v → s < count → MayEnd (phases s)

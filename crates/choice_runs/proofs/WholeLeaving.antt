@@ -1,67 +1,40 @@
 -- What a call leaves of a choice and its servers is what moves leave of the whole of a client.
-use Rattle.std.proofs.Common.{◌≡◌, ℕ, zero, suc, ◌<◌, ◌≤◌, ◌⊎◌, inl, inr, Bool, true, false, ◌==◌, List, [], ◌∷◌, length, Option, Some, None, option_map, slice_get, refl, sym, ap, subst, ◌∙◌, arith, le_refl, append-nil}
+use Rattle.std.proofs.Common.{◌≡◌, ℕ, zero, suc, ◌<◌, ◌≤◌, ◌⊎◌, inl, inr, Bool, true, false, ◌==◌, [], length, Option, Some, None, option_map, slice_get, refl, sym, ap, subst, ◌∙◌, arith, le_refl, append-nil}
 use Rattle.std.proofs.lemmas.Bool.Decides.{nat_tests}
 use Rattle.client_request.specs.Numbered.{entry_at}
 use Rattle.client_request.specs.Request.{Request}
 use Rattle.client_request.specs.View.{View}
-use Rattle.client_request.specs.declared.board.Posted.{Posted as OnBoard}
 use Rattle.client_choice.specs.Choice.{Choice, After}
 use Rattle.client_choice.specs.Redundant.{with_choice}
 use Rattle.client_choice.specs.Servers.{Server}
-use Rattle.headline.specs.machine.Part.{Post}
-use Rattle.headline.specs.machine.Streams.{with_at}
-use Rattle.client_ties.specs.Chains.{Gives}
 use Rattle.client_ties.specs.Leading.{Arrives}
 use Rattle.client_ties.specs.PartTie.{Phase, Told, IsOpen, Leads}
 use Rattle.client_ties.specs.Sights.{sight, due_of, IsFair}
 use Rattle.client_ties.specs.WholeTie as whole
 use Rattle.client_ties.proofs.GoingOn.{none_next}
-use Rattle.client_ties.proofs.Keys.{each_number, was_there}
+use Rattle.client_ties.proofs.Keys.{each_number}
 use Rattle.choice_runs.specs.Awaiting.{Awaits}
 use Rattle.choice_runs.specs.Choosing.{Choosing}
 use Rattle.choice_runs.specs.Doing.{IsStill, HasActed, numbers_of}
 use Rattle.choice_runs.specs.Requests.{Others, Work}
 use Rattle.choice_runs.specs.Servers.{State}
 use Rattle.choice_runs.specs.Whole.{Whole, Owns, IsOwn, IsServers, Agrees, IsCalm, IsAt, Tied, names}
+use Rattle.choice_runs.proofs.AtServer.{both_are}
+use Rattle.choice_runs.proofs.Settling.{gives_less}
 use Rattle.choice_runs.proofs.WholeViews.{in_conf, TiedAt, tied_as}
 
 is_it : (a b : ℕ) → (a == b) ≡ true → a ≡ b
 is_it a b e = grind (arith, nat_tests)
 
-some_is : {A : Type 0} (a b : A) → Some a ≡ Some b → a ≡ b
-some_is a b e = cc
-
-both_are : {A : Type 0} (o : Option A) (a b : A) → o ≡ Some a → o ≡ Some b → a ≡ b
-both_are o a b p q = cc
-
 less_or_not : (a b : ℕ) → (a < b) ⊎ (b ≤ a)
-less_or_not zero zero = inr (omega arith)
-less_or_not zero (suc b) = inl (omega arith)
-less_or_not (suc a) zero = inr (omega arith)
-less_or_not (suc a) (suc b) = elim (less_or_not a b) [ inl lt ↦ inl (up a b lt) | inr le ↦ inr (up_to b a le) ]
-  where
-    up : (a b : ℕ) → a < b → suc a < suc b
-    up a b lt = omega arith
+less_or_not a b = grind arith
 
-    up_to : (a b : ℕ) → a ≤ b → suc a ≤ suc b
-    up_to a b le = omega arith
-
-up_to_here : (n m : ℕ) → m < suc n → (n ≡ m) ⊎ (m < n)
-up_to_here n m lt = elim (less_or_not m n) [ inl l ↦ inr l | inr le ↦ inl (between n m lt le) ]
-  where
-    between : (n m : ℕ) → m < suc n → n ≤ m → n ≡ m
-    between n m lt le = omega arith
+pub up_to_here : (n m : ℕ) → m < suc n → (n ≡ m) ⊎ (m < n)
+up_to_here n m lt = grind arith
 
 -- a timer that is set has its number
 pub set_is_drawn : (v : View) (i due : ℕ) → IsFair v → due_of i v.timers.set ≡ Some due → i < v.timers.next
 set_is_drawn v i due fair set = elim (less_or_not i v.timers.next) [ inl lt ↦ lt | inr le ↦ absurd (let z : None ≡ Some due = sym (none_next v i fair le) ∙ set in cc) ]
-
--- what is given was named
-given_was : (named : ℕ → Option ℕ) (bs : List OnBoard) (posts : List Post) (left : ℕ → Option ℕ) (i k : ℕ) → Gives named bs posts left → left i ≡ Some k → named i ≡ Some k
-given_was named [] [] left i k gives is = sym (gives i) ∙ is
-given_was named [] (q ∷ qs) left i k gives is = absurd gives
-given_was named (p ∷ ps) [] left i k gives is = absurd gives
-given_was named (p ∷ ps) (q ∷ qs) left i k gives is = (was_there p.ticket named i k (given_was (with_at p.ticket None named) ps qs left i k gives.2 is)).1
 
 -- one timer, of others
 pub one_timer : (i due : ℕ) → Others
@@ -221,7 +194,7 @@ module _ (g : Choosing) where
       where
         agrees : Agrees g phase a.named after w a.end
         agrees = agrees_of no_timer phase current left a.named after w a.end a.still h.settings
-            (λ t job is. more t v.ticket w.ticket (small t job.number (given_was numbers a.given _ (numbers_of g c.jobs) t job.number a.answers (ap (λ (o : Option (Work g)). option_map (λ (job : Work g). job.number) o) is))) a.went.goes_on.ticket)
+            (λ t job is. more t v.ticket w.ticket (small t job.number (gives_less numbers a.given _ (numbers_of g c.jobs) t job.number a.answers (ap (λ (o : Option (Work g)). option_map (λ (job : Work g). job.number) o) is))) a.went.goes_on.ticket)
             awaited
 
         owned : (i : ℕ) → Owns g after i → Owns g r i ⊎ (v.timers.next ≤ i)

@@ -1,5 +1,5 @@
 -- An event is told to the servers of a choice, and frames that it brings are taken: by one of them, or by none.
-use Rattle.std.proofs.Common.{◌≡◌, ℕ, zero, suc, ◌+◌, ◌<◌, ◌≤◌, ◌⊎◌, inl, inr, Bool, true, false, nat_lt, List, [], ◌∷◌, length, Option, Some, slice_get, refl, sym, ap, subst, ◌∙◌, arith}
+use Rattle.std.proofs.Common.{◌≡◌, ℕ, zero, suc, ◌<◌, ◌≤◌, ◌⊎◌, inl, inr, Bool, true, false, nat_lt, length, Option, Some, slice_get, refl, sym, ap, subst, ◌∙◌, arith}
 use Rattle.client_request.specs.Request.{Request}
 use Rattle.client_request.specs.View.{View, Heard, told, more_at}
 use Rattle.client_request.specs.declared.event.What.{What}
@@ -18,46 +18,21 @@ use Rattle.choice_runs.specs.Requests.{Others}
 use Rattle.choice_runs.specs.Servers.{State}
 use Rattle.choice_runs.specs.Whole.{Whole, Owns, Agrees, IsCalm, OneTook, IsAt, Tied, names}
 use Rattle.choice_runs.proofs.AwaitingCalls.{hears_all_awaits}
+use Rattle.choice_runs.proofs.Dropping.{found_at}
 use Rattle.choice_runs.proofs.Leading.{up_here, up_other}
 use Rattle.choice_runs.proofs.WholeFiring.{others_open}
-use Rattle.choice_runs.proofs.WholeHearing.{none_hear, one_hears, passed_event, still_none}
-use Rattle.choice_runs.proofs.WholeLeaving.{AreOthers, still_of, others_of, leaves_so, nothing_so, small_so, closes}
+use Rattle.choice_runs.proofs.WholeHearing.{all_pass, one_of_all, passed_event, still_none}
+use Rattle.choice_runs.proofs.WholeLeaving.{AreOthers, still_of, others_of, leaves_so, nothing_so, small_so, closes, up_to_here}
 use Rattle.choice_runs.proofs.WholeViews.{in_conf, TiedAt, at_view}
-
-within_all : (s n : ℕ) → s < n → s < 0 + n
-within_all s n lt = omega arith
 
 at_least : (n : ℕ) → 0 ≤ n
 at_least n = omega arith
-
-more_than : (a b c : ℕ) → a < b → b < 0 + c → a < 0 + c
-more_than a b c p q = omega arith
 
 not_below : (n : ℕ) → n < n → ⊥
 not_below n lt = omega arith
 
 more : (a b c : ℕ) → a < b → b ≤ c → a < c
 more a b c p q = omega arith
-
-up_to_here : (n m : ℕ) → m < suc n → (n ≡ m) ⊎ (m < n)
-up_to_here zero zero lt = inl refl
-up_to_here zero (suc m) lt = absurd (omega arith)
-up_to_here (suc n) zero lt = inr (omega arith)
-up_to_here (suc n) (suc m) lt = elim (up_to_here n m (less n m lt)) [ inl same ↦ inl (ap suc same) | inr l ↦ inr (up n m l) ]
-  where
-    less : (n m : ℕ) → suc m < suc (suc n) → m < suc n
-    less n m lt = omega arith
-
-    up : (n m : ℕ) → m < n → suc m < suc n
-    up n m lt = omega arith
-
-found_at : {A : Type 0} (xs : List A) (i : ℕ) → i < 0 + length xs → (a : A) × (slice_get xs i ≡ Some a)
-found_at [] i lt = absurd (omega arith)
-found_at (x ∷ xs) zero lt = (x, refl)
-found_at (x ∷ xs) (suc i) lt = found_at xs i (less i (length xs) lt)
-  where
-    less : (a b : ℕ) → suc a < 0 + suc b → a < 0 + b
-    less a b lt = omega arith
 
 some_is : {A : Type 0} (a b : A) → Some a ≡ Some b → a ≡ b
 some_is a b e = cc
@@ -151,8 +126,8 @@ module _ (g : Choosing) where
   not_this : (s : ℕ) → s < count → count ≡ s → ⊥
   not_this s lt same = not_below s (subst (λ n. s < n) same lt)
 
-  in_list : (r : Whole g) (s : ℕ) → length r.choice.servers ≡ count → s < count → s < 0 + length r.choice.servers
-  in_list r s same lt = within_all s (length r.choice.servers) (subst (λ n. s < n) (sym same) lt)
+  in_list : (r : Whole g) (s : ℕ) → length r.choice.servers ≡ count → s < count → s < length r.choice.servers
+  in_list r s same lt = subst (λ n. s < n) (sym same) lt
 
   -- One server hears of the event, which the others passed.
   module _ (r : Whole g) (v : View) (x : State g) (phases : ℕ → Phase) (named : ℕ → ℕ → Option ℕ) (a : Agrees g phases named r v x) (s : ℕ) (inside : s < count) (what : What) (passed : (q : ℕ) → q < count → (s ≡ q → ⊥) → phases q ≡ Passed what)
@@ -176,9 +151,8 @@ module _ (g : Choosing) where
         → Leads (whole.Tells g.st g.P (Tied g) (names g) (Owns g) x r v MayBe) (with_choice r (hears_all g.below g.settings heard r.choice v))
     one_told moves before after there =
         closes g r v Told_it (whole.Tells g.st g.P (Tied g) (names g) (Owns g) x r v MayBe) (hears_all g.below g.settings heard r.choice v)
-        (λ others o. one_hears g (Told_it others) heard r.choice v s (length r.choice.servers) 0 (at_least s) (in_list r s a.servers.count inside)
-        (λ q le less. before q (below_count q (more_than q s (length r.choice.servers) less (in_list r s a.servers.count inside))) (λ same. not_below s (subst (λ n. n < s) (sym same) less)))
-        (moves others o) (λ d w t q behind lt. after others d w t q (below_count q lt) (λ same. not_below s (subst (λ n. s < n) (sym same) behind))))
+        (λ others o. one_of_all g (Told_it others) heard r.choice v s (in_list r s a.servers.count inside) (λ q lt ne. before q (subst (λ n. q < n) a.servers.count lt) ne) (moves others o)
+        (λ d w t q lt ne. after others d w t q (subst (λ n. q < n) a.servers.count lt) ne))
         (hears_all_awaits count g.below g.settings heard r.choice v a.awaited)
         (λ others d w t. others_of g others (phases_at t.at t.frames) s t.left (t.acted).named (record r { choice = d }) w (t.acted).end (t.acted).still)
         (λ d w t awaits others. record {
@@ -199,18 +173,12 @@ module _ (g : Choosing) where
             calm = (t.acted).still.stands.calm t.at t.frames (up_here s (Told t.at t.frames) phases);
           })) others;
         })
-      where
-        below_count : (q : ℕ) → q < 0 + length r.choice.servers → q < count
-        below_count q lt = subst (λ n. q < n) a.servers.count (out q (length r.choice.servers) lt)
-          where
-            out : (q n : ℕ) → q < 0 + n → q < n
-            out q n lt = omega arith
 
   module _ (calls : CallsAreMoves g) (r : Whole g) (v : View) (x : State g) (what : What) (p : ℕ) (place : place_in what ≡ Some p) (t : TiedAt g (Untold what) r v x) (early : IsEarly v) (calm : v.more ≡ false) where
     -- it is the event of nobody here
     nobody_told : ((s : ℕ) → s < count → g.has (x.ups s) p ≡ false) → Leads (whole.Tells g.st g.P (Tied g) (names g) (Owns g) x r v (MayLeave what)) (with_choice r (hears_all g.below g.settings (told what) r.choice v))
     nobody_told none =
-        subst (λ o. Leads (whole.Tells g.st g.P (Tied g) (names g) (Owns g) x r v (MayLeave what)) (with_choice r o)) (sym (none_hear g (length r.choice.servers) 0 (told what) r.choice v (λ q le lt. passes q lt)))
+        subst (λ o. Leads (whole.Tells g.st g.P (Tied g) (names g) (Owns g) x r v (MayLeave what)) (with_choice r o)) (sym (all_pass g (told what) r.choice v passes))
         (record {
           at = p;
           left = 0;
@@ -233,7 +201,7 @@ module _ (g : Choosing) where
         a : Agrees g phases t.named r v x
         a = passed_but r v x what p place t early count (λ q lt ne. none q lt)
 
-        passes : (q : ℕ) → q < 0 + length r.choice.servers → IsNothing g q (told what) r.choice v
+        passes : (q : ℕ) → q < length r.choice.servers → IsNothing g q (told what) r.choice v
         passes q lt =
             let f = found_at r.choice.servers q lt in
             let in_conf_q = in_conf g phases r.choice.servers v x q f.0 a.servers f.1 in
@@ -289,7 +257,7 @@ module _ (g : Choosing) where
         after : (others : Others) (d : Choice Request g.U g.R) (w : View) → HasTold g others phases s (MayLeave what) (names g r) v x d w → (q : ℕ) → q < count → (s ≡ q → ⊥) → IsNothing g q (told what) d w
         after others d w to q less ne =
             let st = (to.acted).still.stands in
-            let e = found_at d.servers q (within_all q (length d.servers) (subst (λ n. q < n) (sym st.servers.count) less)) in
+            let e = found_at d.servers q (subst (λ n. q < n) (sym st.servers.count) less) in
             passed_event g (with_up s (Told to.at to.frames) phases) q e.0 what p d w (to.acted).end st.servers e.1 (st.quiet q e.0 e.1).0 (up_other s q (Told to.at to.frames) phases ne ∙ is_passed q less ne) place
             (still_none g x (to.acted).went.outs (to.acted).end q p (to.acted).went.leads below_x (none q less ne))
 
@@ -330,7 +298,7 @@ module _ (g : Choosing) where
       after : (others : Others) (d : Choice Request g.U g.R) (w : View) → HasTold g others t.phases o.server (λ q left. (q ≡ p) × (left ≤ n)) (names g r) v x d w → (q : ℕ) → q < count → (o.server ≡ q → ⊥) → IsNothing g q (more_at p) d w
       after others d w to q less ne =
           let st = (to.acted).still.stands in
-          let e = found_at d.servers q (within_all q (length d.servers) (subst (λ n. q < n) (sym st.servers.count) less)) in
+          let e = found_at d.servers q (subst (λ n. q < n) (sym st.servers.count) less) in
           calls.ignoring.frames (with_up o.server (Told to.at to.frames) t.phases) q e.0 o.what p d w (to.acted).end st.servers e.1 (st.quiet q e.0 e.1).0 (up_other o.server q (Told to.at to.frames) t.phases ne ∙ o.passed q less ne) there
 
   pub takes : CallsAreMoves g → (r : Whole g) (v : View) (x : State g) (p n : ℕ) → Tied g (Told p (suc n)) r (sight v) x → IsFair v → v.more ≡ false

@@ -1,5 +1,5 @@
 -- The choice among servers that give every request an error at once.
-use Rattle.std.specs.Prelude.{◌≡◌, ℕ, ◌<◌, false, length, Some, None, option_map, Err}
+use Rattle.std.specs.Prelude.{◌≡◌, ℕ, false, Some, None, option_map, Err}
 use Rattle.client_request.specs.Request.{Request}
 use Rattle.client_request.specs.View.{Transport, answers, asks, draws_ticket}
 use Rattle.client_request.specs.declared.error.Error.TheVariants.{ConnectionClosed}
@@ -69,8 +69,10 @@ silent_choice c st settings same choose = record {
 
 -- The laws of a choice can be met: among silent servers, what its calls leave is what moves of the machine leave.
 abbrev pub SilentChoicesMove : Type 0
-SilentChoicesMove = (c : Conf) → (choose : NumbersChoose c) × ((st : Settings) (settings : RedundantSettings) (same : SameDeferring settings st) → CallsAreMoves (silent_choice c st settings same choose))
+SilentChoicesMove = (c : Conf) → (choose : NumbersChoose c) ×
+    ((st : Settings) (settings : RedundantSettings) (same : SameDeferring settings st) → CallsAreMoves (silent_choice c st settings same choose))
 
--- Such a choice, among one or more, is tied to the whole of a client.
+-- And the choice is tied to the whole of a client.
 abbrev pub SilentChoicesAreWhole : Type 0
-SilentChoicesAreWhole = (c : Conf) → 0 < length c.servers → (choose : NumbersChoose c) × ((st : Settings) (settings : RedundantSettings) (same : SameDeferring settings st) → IsWhole (silent_choice c st settings same choose))
+SilentChoicesAreWhole = (c : Conf) → (choose : NumbersChoose c) ×
+    ((st : Settings) (settings : RedundantSettings) (same : SameDeferring settings st) → IsWhole (silent_choice c st settings same choose))

@@ -47,7 +47,7 @@ module _ (g : Choosing) where
     IsOwn : (t : ℕ) → entry_at i r.choice.timers ≡ Some t → Owns r i
     IsServers : (s : ℕ) (a : Server g.U) → slice_get r.choice.servers s ≡ Some a → g.Owns a.upstream i → Owns r i
 
-  -- The choice beside the machine between two calls, whatever the phase of each server is.
+  -- The choice beside the machine between two calls, whatever the phase of each server is: they agree as within a call, tickets are below the next, and each request that waits is awaited.
   pub record Agrees (phase : ℕ → Phase) (named : (s lower : ℕ) → Option ℕ) (r : Whole) (v : View) (x : State g) : Type 0 where
     pub settings : r.settings ≡ g.settings
     pub servers : AreTied g phase r.choice.servers v x
@@ -65,7 +65,7 @@ module _ (g : Choosing) where
   abbrev pub IsCalm : (s : ℕ) → Choice Request g.U g.R → View → Type 0
   IsCalm s c v = AreAside g s (λ t. entry_at t c.jobs) v
 
-  -- One server took the event, and the others passed it.
+  -- One server took the event, whose place is below the next, and the others passed it. Frames that are left are at that place.
   pub record OneTook (at left : ℕ) (phase : ℕ → Phase) (c : Choice Request g.U g.R) (v : View) : Type 0 where
     pub server : ℕ
     pub within : server < length (g.c).servers
@@ -109,6 +109,6 @@ module _ (g : Choosing) where
 abbrev pub IsWhole : Choosing → Type 0
 IsWhole g = IsWholeTie g.st g.P (transport g.below) (λ asked. asked.ticket) (with_all g) (Tied g) (names g) (Owns g)
 
--- Each is, that has a server or more.
+-- Each is, whatever its servers are.
 abbrev pub ChoicesAreWhole : Type 1
-ChoicesAreWhole = (g : Choosing) → 0 < length (g.c).servers → IsWhole g
+ChoicesAreWhole = (g : Choosing) → IsWhole g

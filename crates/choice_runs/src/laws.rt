@@ -8,8 +8,8 @@ pub fn silent_choices_move()
     ensures { SilentChoicesMove }
 {}
 
-/// So is the client above them: a choice among such servers, one or more, is tied to the whole of a client of small
-/// moves.
+/// And the choice is tied to the whole of a client: whatever a call leaves of it, with its servers and the view, is what
+/// moves of the client leave.
 pub fn silent_choices_are_whole()
     ensures { SilentChoicesAreWhole }
 {}

@@ -48,7 +48,7 @@ tying c some settings cache = record {
   Tied = whole.Tied (choosing c settings cache);
   names = whole.names (choosing c settings cache);
   Owns = whole.Owns (choosing c settings cache);
-  tie = choices_are_whole (choosing c settings cache) some;
+  tie = choices_are_whole (choosing c settings cache);
 }
 
 abbrev conf_at : List ServerConf → ResolvOptions → Conf
