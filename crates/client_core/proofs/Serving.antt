@@ -1,10 +1,17 @@
 -- Servers that are added one by one.
-use Rattle.std.proofs.Common.{◌≡◌, ℕ, suc, ◌+◌, ◌<◌, ◌≤◌, List, [], ◌∷◌, length, drop, get_or, Some, None, refl, ap, sym, ◌∙◌, add-one, arith}
+use Rattle.std.proofs.Common.{◌≡◌, ℕ, suc, ◌+◌, ◌<◌, ◌≤◌, Bool, true, false, ◌||◌, List, [], ◌∷◌, ◌++◌, length, drop, get_or, Some, None, refl, ap, sym, ◌∙◌, add-one, arith}
 use Rattle.std.proofs.Math.Seq.{drop-cons}
 use Rattle.std.proofs.lemmas.List.{drop_all}
+use Rattle.std.specs.List.{list_any}
+use Rattle.client_choice.specs.Redundant as redundant
 use Rattle.client_choice.specs.Redundant.{started}
+use Rattle.client_choice.specs.Servers.{Server, added, flags}
+use Rattle.client_request.specs.Request.{Request}
 use Rattle.client_settings.specs.Settings.{RedundantSettings}
-use Rattle.client_steps.specs.Whole.{Servers, and_server, asks_by_streams, servers_of, with_servers}
+use Rattle.client_steps.specs.First.{below_failed}
+use Rattle.client_steps.specs.Upstream as upstream
+use Rattle.client_steps.specs.Whole.{Servers, and_server, asks_by_streams, servers_of, upstream_at, with_servers}
+use Rattle.client_steps.specs.declared.upstream.Upstream.{Upstream}
 use Rattle.resolv_conf.specs.declared.options.ResolvOptions.{ResolvOptions}
 use Rattle.resolv_conf.specs.declared.server.ServerConf.{ServerConf}
 
@@ -29,3 +36,42 @@ some_servers settings options (s ∷ ss) some = refl
 pub no_servers : (settings : RedundantSettings) (options : ResolvOptions) (ss : List ServerConf) → length ss ≡ 0 → servers_of settings options ss ≡ None
 no_servers settings options [] none = refl
 no_servers settings options (s ∷ ss) none = absurd (omega arith)
+
+-- no transport has given up
+
+abbrev failing : Servers → Bool
+failing r = redundant.holds_failed upstream.holds_failed r
+
+any_behind : (bs : List Bool) (b : Bool) → list_any (λ b. b) bs ≡ false → b ≡ false → list_any (λ b. b) (bs ++ b ∷ []) ≡ false
+any_behind [] b none last = ap (λ b. b || false) last
+any_behind (true ∷ bs) b none last = absurd (let z : true ≡ false = none in cc)
+any_behind (false ∷ bs) b none last = any_behind bs b none last
+
+flags_behind : (ss : List (Server (Upstream Request))) (s : Server (Upstream Request)) → flags upstream.holds_failed (ss ++ s ∷ []) ≡ flags upstream.holds_failed ss ++ upstream.holds_failed s.upstream ∷ []
+flags_behind [] s = refl
+flags_behind (x ∷ ss) s = ap (λ bs. upstream.holds_failed x.upstream ∷ bs) (flags_behind ss s)
+
+fresh : (n : ℕ) (b : Bool) → upstream.holds_failed (upstream_at n b) ≡ false
+fresh n true = refl
+fresh n false = refl
+
+one_works : (n : ℕ) (b : Bool) (r : Servers) → failing r ≡ false → failing (and_server n b r) ≡ false
+one_works n b r works = by r.failed refl
+  where
+    both : (x y : Bool) → (x || y) ≡ false → (x ≡ false) × (y ≡ false)
+    both true y e = absurd (let z : true ≡ false = e in cc)
+    both false y e = (refl, e)
+
+    last : list_any (λ b. b) (flags upstream.holds_failed (r.choice.servers ++ added (upstream_at n b) ∷ [])) ≡ false
+    last = ap (list_any (λ b. b)) (flags_behind r.choice.servers (added (upstream_at n b))) ∙ any_behind (flags upstream.holds_failed r.choice.servers) (upstream.holds_failed (upstream_at n b)) (both r.failed (list_any (λ b. b) (flags upstream.holds_failed r.choice.servers)) works).1 (fresh n b)
+
+    by : (x : Bool) → r.failed ≡ x → (r.failed || list_any (λ b. b) (flags upstream.holds_failed (r.choice.servers ++ added (upstream_at n b) ∷ []))) ≡ false
+    by x e = ap (λ y. y || list_any (λ b. b) (flags upstream.holds_failed (r.choice.servers ++ added (upstream_at n b) ∷ []))) (both r.failed (list_any (λ b. b) (flags upstream.holds_failed r.choice.servers)) works).0 ∙ last
+
+all_work : (n : ℕ) (options : ResolvOptions) (ss : List ServerConf) (r : Servers) → failing r ≡ false → failing (with_servers n options ss r) ≡ false
+all_work n options [] r works = works
+all_work n options (s ∷ ss) r works = all_work (n + 1) options ss (and_server n (asks_by_streams options s) r) (one_works n (asks_by_streams options s) r works)
+
+pub none_failed : (settings : RedundantSettings) (options : ResolvOptions) (ss : List ServerConf) → below_failed (redundant.holds_failed upstream.holds_failed) (servers_of settings options ss) ≡ false
+none_failed settings options [] = refl
+none_failed settings options (s ∷ ss) = all_work 0 options (s ∷ ss) (started settings) refl

@@ -103,6 +103,7 @@ impl Client {
     /// where an answer is truncated. `redundant` says which results are put off. `cache` has no effect yet.
     ///
     /// More than 2^32 servers count as want of memory: their numbers have 32 bits.
+    #[tactic(auto, using(crate::proofs::Serving::none_failed))]
     pub fn new(
         alloc: Global,
         conf: &ResolvConf,
