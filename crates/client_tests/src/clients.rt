@@ -1,4 +1,4 @@
-//! A client of one server by streams, stepped by hand.
+//! A client of one server by streams, or of none at first, stepped by hand.
 
 use crate::lent::{request, words};
 use client_core::{Client, Row, cache, redundant};
@@ -8,14 +8,19 @@ use resolv_conf::{ResolvConf, ServerConf, Transport};
 use std::alloc::Global;
 use std::test::Fail;
 
-/// A configuration of one server that is asked by streams alone.
-fn conf(alloc: Global) -> Result<ResolvConf, Error> {
+/// A server that is asked by streams alone.
+fn server() -> ServerConf {
     let addr = SocketAddr {
         ip: IpAddr::V4([192, 0, 2, 53]),
         port: 53,
     };
+    ServerConf::new(addr, Transport::Tcp)
+}
+
+/// A configuration of that server.
+fn conf(alloc: Global) -> Result<ResolvConf, Error> {
     let mut conf = ResolvConf::new(alloc);
-    conf.servers.push(ServerConf::new(addr, Transport::Tcp))?;
+    conf.servers.push(server())?;
     Ok(conf)
 }
 
@@ -35,12 +40,11 @@ fn asked(alloc: Global, client: &mut Client, words: &mut ListWords) -> Result<Ro
 }
 
 /// Whether a request goes to the server by a stream, which is to be opened.
-fn opens_a_stream(outs: &[Out]) -> bool {
-    matches!(
-        outs,
+fn opens_a_stream(number: u64, outs: &[Out]) -> bool {
+    match outs {
         [
             Out::Start {
-                request: 0,
+                request,
                 server: 0,
                 via: Via::Stream,
             },
@@ -48,15 +52,45 @@ fn opens_a_stream(outs: &[Out]) -> bool {
                 place: 0,
                 server: 0,
             },
-        ]
-    )
+        ] => *request == number,
+        _ => false,
+    }
 }
 
 #[test]
 fn a_client_asks_and_waits_for_five_seconds(rt: HostRuntime) -> Result<(), Fail> {
     let mut client = client(rt.alloc())?;
     let row = asked(rt.alloc(), &mut client, &mut words(rt.alloc())?)?;
-    assert!(rt; opens_a_stream(row.outs.as_slice()));
+    assert!(rt; opens_a_stream(0, row.outs.as_slice()));
     assert_eq!(rt; client.next_due(), Some(5_000_007));
+    Ok(())
+}
+
+/// Whether request 0 is told that there is no server.
+fn has_no_server(outs: &[Out]) -> bool {
+    matches!(
+        outs,
+        [Out::Reply {
+            request: 0,
+            result: Err(Error::NoTransportAvailable),
+        }]
+    )
+}
+
+#[test]
+fn a_server_that_is_added_is_asked(rt: HostRuntime) -> Result<(), Fail> {
+    let conf = ResolvConf::new(rt.alloc());
+    let mut client = Client::new(
+        rt.alloc(),
+        &conf,
+        redundant::Config::new(),
+        cache::Config::new(),
+    )?;
+    let mut words = words(rt.alloc())?;
+    let row = asked(rt.alloc(), &mut client, &mut words)?;
+    assert!(rt; has_no_server(row.outs.as_slice()));
+    client.add_server(&server())?;
+    let row = asked(rt.alloc(), &mut client, &mut words)?;
+    assert!(rt; opens_a_stream(1, row.outs.as_slice()));
     Ok(())
 }
