@@ -8,8 +8,9 @@ said. Each script is made by the reference's own generator from its number as th
 
 Profiles: `dgram1`, `dgram2`, `dgram3` and `dgram` have one server by datagrams, `stream1` one with streams too, `servers`
 several, and `all` everything. The stage, how much of the client is built, counts for the generator and for the judge; it
-is the profile's own where none is given. Judges: `check_trace` compares with the reference client step by step, and
-`check_right` says whether a trace is right by the reference's reading of the definitions.
+is the profile's own where none is given. Judges: `check_trace` compares with the reference client step by step,
+`check_right` says whether a trace is right by the reference's reading of the definitions, and `definitions` whether it is by
+those of this folder (`judge_by_definitions.py`).
 """
 
 import argparse
@@ -17,6 +18,8 @@ import os
 import subprocess
 import sys
 import tempfile
+
+from judge_by_definitions import faults_in, told as lines_of
 
 STAGES = {"dgram1": 1, "dgram2": 2, "dgram3": 3, "dgram": 3, "stream1": 6, "servers": 7, "all": 17}
 
@@ -34,10 +37,15 @@ def compare(folder, program, seed, options, room):
         it.write(made)
     with open(trace, "wb") as it:
         it.write(ran.stdout)
-    told = reference(folder, "plain." + options.judge, "--stage", str(options.stage), script, trace)
-    good = ran.returncode == 0 and told.returncode == 0
+    if options.judge == "definitions":
+        faults = faults_in(script, trace, options.stage)
+        status, told = len(faults), "\n".join(lines_of(faults))
+    else:
+        judged = reference(folder, "plain." + options.judge, "--stage", str(options.stage), script, trace)
+        status, told = judged.returncode, (judged.stdout + judged.stderr).decode()[:600]
+    good = ran.returncode == 0 and status == 0
     if not good:
-        print(f"seed {seed}: status {ran.returncode}, judged:", (told.stdout + told.stderr).decode()[:600])
+        print(f"seed {seed}: status {ran.returncode}, judged:", told)
     return good
 
 
@@ -50,7 +58,7 @@ def main():
     parser.add_argument("--scripts", type=int, default=200)
     parser.add_argument("--events", type=int, default=200)
     parser.add_argument("--first", type=int, default=1)
-    parser.add_argument("--judge", default="check_trace", choices=("check_trace", "check_right"))
+    parser.add_argument("--judge", default="check_trace", choices=("check_trace", "check_right", "definitions"))
     options = parser.parse_args()
     if options.stage is None:
         options.stage = STAGES[options.profile]

@@ -39,9 +39,13 @@ def told(faults):
     return lines
 
 
-def judge_files(script, trace, stage):
+def faults_in(script, trace, stage):
     with open(script, "rb") as a, open(trace, "rb") as b:
-        faults = judge(texts.read_script(a.read()), texts.read_trace(b.read()), stage >= FIRST_WITH_CACHE).faults
+        return judge(texts.read_script(a.read()), texts.read_trace(b.read()), stage >= FIRST_WITH_CACHE).faults
+
+
+def judge_files(script, trace, stage):
+    faults = faults_in(script, trace, stage)
     print("\n".join(told(faults)))
     return 1 if faults else 0
 
