@@ -6,7 +6,8 @@ PROGRAM is the built dnsq. Up to 100 short questions are asked at a time, and ea
 connection by stream with 100 in flight all the time, which are answered in any order. The replay of 100,000 events and of
 200,000 is timed, and the ratio of the two told. With a folder that holds the package `plain`, the reference client replays
 the 100,000 events too, and that ratio is told. All run in turn, five times; the least time of each counts. Before that the
-replies are counted, so that nothing else is timed.
+replies are counted, so that nothing else is timed. Then the same is done with one server and with ten among which each
+request chooses; more than twice the time of one server is too long, and ends with status 1.
 
 Then 1,000, 10,000 and 100,000 requests wait at once, in three scripts: all are asked and one tick comes past their
 deadline; all are asked and each is answered; all are asked and as many ticks come. How many times as long ten times
@@ -24,6 +25,8 @@ RUNS = 5
 QUESTION = "0000010001"
 WAITING = (1_000, 10_000, 100_000)
 MOST = 14
+SERVERS = 10
+MOST_FOR_SERVERS = 2
 PAST_THE_DEADLINE = 100_000_000
 
 
@@ -39,8 +42,9 @@ def answer(moment, place):
     return "at %d datagram %d 000081800001000000000000%s" % (moment, place, QUESTION)
 
 
-def text_of(lines, conf=()):
-    return "\n".join(["conf nameserver 192.0.2.53", *conf] + lines) + "\n"
+def text_of(lines, conf=(), servers=1):
+    named = ["conf nameserver 192.0.2.%d" % (53 + server) for server in range(servers)]
+    return "\n".join([*named, *conf] + lines) + "\n"
 
 
 def by_datagrams(events):
@@ -56,6 +60,22 @@ def by_datagrams(events):
         moment += 20
         first += AT_A_TIME
     return text_of(lines[:events])
+
+
+def among_servers(events, servers):
+    """No words are drawn from, so each request probes. As many as are asked one after another are answered at one moment,
+    the last one first: the estimates end above the time that any of them took, so no second server is asked."""
+    lines = []
+    first = 0
+    moment = 0
+    while len(lines) < events:
+        places = range(first, first + AT_A_TIME)
+        lines += [ask(moment + asked) for asked in range(AT_A_TIME)]
+        moment += AT_A_TIME
+        lines += [opened(moment, place) for place in places]
+        lines += [answer(moment, place) for place in reversed(places)]
+        first += AT_A_TIME
+    return text_of(lines[:events], servers=servers)
 
 
 class Ids:
@@ -161,6 +181,14 @@ def time_events(program, room, name, script):
     print("twice as many events take %.2f times as long" % (least[200_000] / least[100_000]))
     if "reference" in least:
         print("the reference client: %.2f s, %.1f times as long" % (least["reference"], least["reference"] / least[100_000]))
+    return least[100_000]
+
+
+def time_servers(program, room):
+    one, many = (time_events(program, room, "servers: %d" % servers, lambda events: among_servers(events, servers))
+                 for servers in (1, SERVERS))
+    print("%d servers take %.2f times as long as one" % (SERVERS, many / one))
+    return many / one
 
 
 def time_waiting(program, room):
@@ -185,6 +213,8 @@ def main():
     with tempfile.TemporaryDirectory() as room:
         time_events(program, room, "by datagrams", by_datagrams)
         time_events(program, room, "by stream", by_stream)
+        if time_servers(program, room) > MOST_FOR_SERVERS:
+            sys.exit("%d servers take more than %d times as long as one" % (SERVERS, MOST_FOR_SERVERS))
         if time_waiting(program, room) > MOST:
             sys.exit("ten times as many requests take more than %d times as long" % MOST)
 

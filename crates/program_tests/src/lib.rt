@@ -8,6 +8,8 @@ mod replays;
 #[cfg(test)]
 mod runs;
 #[cfg(test)]
+mod servers;
+#[cfg(test)]
 mod sinks;
 #[cfg(test)]
 mod statuses;

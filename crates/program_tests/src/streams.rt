@@ -1,6 +1,6 @@
 //! Scripts of a server that is asked by streams, replayed, with the traces that are due.
 
-use crate::runs::{run, sink, source, words};
+use crate::runs::is_replayed;
 use std::alloc::{AllocError, Global};
 use std::test::Fail;
 
@@ -34,31 +34,9 @@ const REPLY: &str =
 const REPLY_MORE: &str =
     "> reply 1 ok 000181800001000000000000076578616d706c6503636f6d00001c0001\n";
 
-const USE_VC: &str = "conf options use-vc\n";
+const USE_VC: &str = "conf nameserver 192.0.2.53\nconf options use-vc\n";
 
-/// The octets of a script that says how a server is asked, and of the rows of its trace without what is put out.
-fn script(alloc: Global, head: &str, rows: &str) -> Result<String, AllocError> {
-    let mut script = String::new(alloc);
-    script.push_str("conf nameserver 192.0.2.53\n")?;
-    script.push_str(head)?;
-    for line in rows.lines() {
-        if !line.starts_with('>') {
-            script.push_str(line)?;
-            script.push_str("\n")?;
-        }
-    }
-    Ok(script)
-}
-
-/// Whether a script is replayed with these rows.
-fn is_replayed(alloc: Global, head: &str, rows: &str) -> Result<bool, Fail> {
-    let script = script(alloc, head, rows)?;
-    let trace = format!(in alloc; "trace 1\n{rows}end\n")?;
-    let mut source = source(alloc, script.as_str(), 9)?;
-    let mut sink = sink(alloc, 9)?;
-    let words = words(alloc, "replay")?;
-    Ok(run(alloc, &words, &mut source, &mut sink) == 0 && sink.as_slice() == trace.as_bytes())
-}
+const ONE_WORD: &str = "conf nameserver 192.0.2.53\nwords 4660\n";
 
 fn text_of(alloc: Global, parts: &[&str]) -> Result<String, AllocError> {
     let mut text = String::new(alloc);
@@ -90,7 +68,7 @@ const TRUNCATED: [&str; 14] = [
 #[test]
 fn a_truncated_datagram_goes_on_by_a_stream(rt: HostRuntime) -> Result<(), Fail> {
     let rows = text_of(rt.alloc(), &TRUNCATED)?;
-    assert!(rt; is_replayed(rt.alloc(), "words 4660\n", rows.as_str())?);
+    assert!(rt; is_replayed(rt.alloc(), ONE_WORD, rows.as_str())?);
     Ok(())
 }
 
