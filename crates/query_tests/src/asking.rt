@@ -44,6 +44,7 @@ pub fn is_answered(rt: HostRuntime, conf: &str, port: u16) -> Result<bool, Fail>
 }
 
 /// What a run came to.
+#[derive(Drop)]
 pub struct Ended {
     /// The exit status.
     pub status: u8,
