@@ -21,7 +21,7 @@ use Rattle.client_views.specs.Validity.{with_cache, cached_by, or_unread}
 use Rattle.client_views.specs.Viewing.{header_between, view_octets, IsViewable}
 use Rattle.client_views.proofs.Headers.{header_long}
 use Rattle.client_views.proofs.Saying.{view_made}
-use Rattle.client_views.proofs.ViewLaws.{view_laws}
+use Rattle.client_views.proofs.KeptLaws.{view_laws}
 use Rattle.client_cache.specs.Keeping.{Stored, Entry, Asked, Outcome, same_class, reflagged, derived, derived_outcome, derived_message, rewritten, revalued, rd_cleared, without_rd}
 use Rattle.cache_runs.specs.Standing.{Anew, KeepsMessage, KeepsResult, Message, Fault, Stands, IsStoredMessage, Derived, Nothing, More}
 use Rattle.cache_runs.specs.Laws.{DerivingIsMoving}

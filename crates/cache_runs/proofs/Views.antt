@@ -20,7 +20,7 @@ use Rattle.client_views.specs.Viewing.{header_between, under_header}
 use Rattle.client_views.proofs.Headers.{header_long}
 use Rattle.client_views.proofs.Saying.{what_is_known}
 use Rattle.client_views.proofs.WhatIsMet.{header_is}
-use Rattle.client_views.proofs.ViewLaws.{view_laws}
+use Rattle.client_views.proofs.KeptLaws.{view_laws}
 use Rattle.client_cache.specs.Keeping.{Stored}
 use Rattle.cache_runs.specs.Standing.{IsKept, Whole, Anew, KeepsMessage}
 
