@@ -10,7 +10,6 @@ use client_views::AdDo::{Ad, Do, None as Plain};
 use client_views::{AdDo, Kept, derived_header, view, view_under};
 use dns_base::{Duration, Message, Name};
 use std::alloc::Global;
-use std::test::Fail;
 
 /// The flags of the first request and of the second, whether RD is cleared, and how many seconds went by.
 type Between = (AdDo, AdDo, bool, u32);
@@ -181,39 +180,83 @@ fn data_that_is_not_read_is_not_given(rt: HostRuntime) {
     );
 }
 
-#[test]
-fn a_kept_header_stands_over_the_entries(rt: HostRuntime) -> Result<(), Fail> {
-    let kept = message_of(rt.alloc(), &RECORDS[3].1)?;
-    let derived = derived_header(kept.header(), Ad, Plain, true);
-    assert_eq!(rt; derived.to_octets(), [0, 7, 0x80, 0x80]);
-    let name = Name::from_text(rt.alloc(), "example.com")?;
-    let given = view_under(rt.alloc(), derived, &kept, Plain, Plain, &name, 0)?;
-    let wanted = message_of(
-        rt.alloc(),
-        &(
-            [0, 7, 0x80, 0x80, 0, 1, 0, 1, 0, 0, 0, 0],
-            &[Question, Address(300)],
-        ),
-    )?;
-    assert!(rt; given.as_slice() == wanted.as_slice());
-    Ok(())
+/// A message, and what is given of it under a header that was derived of its own.
+const UNDER: (Written, Written) = (
+    (
+        [0, 7, 0x81, 0xa0, 0, 1, 0, 1, 0, 0, 0, 0],
+        &[Question, SpelledAddress(300)],
+    ),
+    (
+        [0, 7, 0x80, 0x80, 0, 1, 0, 1, 0, 0, 0, 0],
+        &[LoudQuestion, Address(300)],
+    ),
+);
+
+fn loud_name(alloc: Global) -> Result<Name, Error> {
+    Name::from_text(alloc, "EXAMPLE.com").map_err(|_| Error::FormError)
+}
+
+fn is_message(alloc: Global, given: &Message, wanted: &Written) -> bool {
+    message_of(alloc, wanted).is_ok_and(|wanted| given.as_slice() == wanted.as_slice())
+}
+
+fn given_under(alloc: Global, message: &Message) -> Result<Message, Error> {
+    let derived = derived_header(message.header(), Ad, Plain, true);
+    view_under(alloc, derived, message, Plain, Plain, &loud_name(alloc)?, 0)
+}
+
+fn is_given_under(alloc: Global) -> Result<bool, Error> {
+    let given = given_under(alloc, &message_of(alloc, &UNDER.0)?)?;
+    Ok(is_message(alloc, &given, &UNDER.1))
 }
 
 #[test]
-fn what_is_kept_is_given_to_others(rt: HostRuntime) -> Result<(), Fail> {
-    let name = Name::from_text(rt.alloc(), "EXAMPLE.com")?;
-    let config = Config::new();
-    let kept = Kept::first(message_of(rt.alloc(), &FLAGS[2].1)?);
-    assert_eq!(rt; kept.validity(&config), Ok(Duration::from_secs(50)));
-    let for_ad = kept.derive(rt.alloc(), Do, Ad, false, &name)?;
-    assert_eq!(rt; for_ad.header().to_octets(), [0, 7, 0x81, 0xb0]);
-    assert_eq!(rt; for_ad.validity(&config), Ok(Duration::from_secs(300)));
-    let for_plain = for_ad
-        .derive(rt.alloc(), Ad, Plain, true, &name)?
-        .try_clone()?;
-    assert!(rt; for_plain.message().as_slice() == for_ad.message().as_slice());
-    let given = for_plain.give(rt.alloc(), Plain, &name, 0)?;
-    let wanted = message_of(rt.alloc(), &FLAGS[2].2)?;
-    assert!(rt; given.as_slice() == wanted.as_slice());
-    Ok(())
+fn a_kept_header_stands_over_the_entries(rt: HostRuntime) {
+    assert_eq!(rt; is_given_under(rt.alloc()), Ok(true));
+}
+
+/// A DO answer as it came, kept for AD, and of that for no flag and without recursion.
+fn first_kept(alloc: Global) -> Result<Kept, Error> {
+    Ok(Kept::first(message_of(alloc, &FLAGS[2].1)?))
+}
+
+fn kept_for_ad(alloc: Global) -> Result<Kept, Error> {
+    first_kept(alloc)?.derive(alloc, Do, Ad, false, &loud_name(alloc)?)
+}
+
+fn kept_for_plain(alloc: Global) -> Result<Kept, Error> {
+    kept_for_ad(alloc)?.derive(alloc, Ad, Plain, true, &loud_name(alloc)?)
+}
+
+/// For how many seconds an entry may be kept, and the octets of its header.
+fn told(kept: Result<Kept, Error>) -> Result<(Duration, [u8; 4]), Error> {
+    let kept = kept?;
+    Ok((kept.validity(&Config::new())?, kept.header().to_octets()))
+}
+
+fn given_of(alloc: Global, kept: &Kept) -> Result<Message, Error> {
+    kept.try_clone()?.give(alloc, Plain, &loud_name(alloc)?, 0)
+}
+
+fn is_given_to_others(alloc: Global) -> Result<bool, Error> {
+    let given = given_of(alloc, &kept_for_plain(alloc)?)?;
+    Ok(is_message(alloc, &given, &FLAGS[2].2))
+}
+
+#[test]
+fn what_is_kept_tells_its_time_and_header(rt: HostRuntime) {
+    let first = told(first_kept(rt.alloc()));
+    assert_eq!(rt; first, Ok((Duration::from_secs(50), [0, 7, 0x81, 0xb0])));
+    let for_ad = told(kept_for_ad(rt.alloc()));
+    assert_eq!(rt; for_ad, Ok((Duration::from_secs(300), [0, 7, 0x81, 0xb0])));
+    let for_plain = told(kept_for_plain(rt.alloc()));
+    assert_eq!(rt;
+        for_plain,
+        Ok((Duration::from_secs(300), [0, 7, 0x80, 0x90]))
+    );
+}
+
+#[test]
+fn what_is_kept_is_given_to_others(rt: HostRuntime) {
+    assert_eq!(rt; is_given_to_others(rt.alloc()), Ok(true));
 }
