@@ -1,0 +1,179 @@
+//! A cache over a transport.
+//!
+//! ```text
+//! send_request ──► what is kept serves it ──► result
+//!                      │
+//!                      └──nothing does──► the transport below ──its result──► kept ──► result
+//! ```
+
+ghost use Rattle.std.specs.Prelude.{◌≡◌, IfOk};
+ghost use Rattle.std.specs.Borrow.{Lends, sem};
+ghost use Rattle.client_settings.specs.Settings.{default_cache};
+ghost use Rattle.client_cache.specs.Plain as plain;
+
+use crate::settling::Kept;
+use crate::steps::{give_up, hear, take_on};
+use client_request::{
+    Board, ComposeRequest, Cx, Error, GetResponse, Poll, SendRequest, Signal, Words, take_response,
+};
+use client_settings::cache::Config;
+use dns_base::{Message, NoMemory};
+use std::alloc::Global;
+use std::fmt;
+use std::marker::{Model, PhantomData};
+
+/// A transport whose results are kept.
+#[derive(Drop)]
+pub struct Connection<CR, U: SendRequest<CR>> {
+    upstream: U,
+    kept: Kept,
+    failed: bool,
+    requests: PhantomData<CR>,
+}
+
+impl<CR, U: SendRequest<CR>> Model for Connection<CR, U> {
+    ghost use Rattle.client_cache.specs.Plain.{Cached};
+
+    ghost Value = { Cached U };
+
+    ghost view = { λ c. record { upstream = c.upstream; kept = c.kept; failed = c.failed } };
+}
+
+impl<CR, U: SendRequest<CR> + Drop> Connection<CR, U> {
+    /// A cache over a transport, with the default settings. It takes memory as it fills.
+    pub fn new(alloc: Global, upstream: U) -> Result<Connection<CR, U>, NoMemory>
+        ensures { IfOk result (λ c. c ≡ plain.started default_cache upstream) }
+    {
+        Connection::with_config(alloc, upstream, Config::new())
+    }
+
+    /// The same with settings of one's own.
+    pub fn with_config(
+        alloc: Global,
+        upstream: U,
+        config: Config,
+    ) -> Result<Connection<CR, U>, NoMemory>
+        ensures { IfOk result (λ c. c ≡ plain.started config upstream) }
+    {
+        Connection::with_seed(alloc, upstream, config, 0)
+    }
+
+    /// The same, whose table is hashed from a seed: who doesn't know it can't pick names that slow it down.
+    pub fn with_seed(
+        alloc: Global,
+        upstream: U,
+        config: Config,
+        seed: u64,
+    ) -> Result<Connection<CR, U>, NoMemory>
+        ensures { IfOk result (λ c. c ≡ plain.started config upstream) }
+    {
+        let kept = Kept::new(alloc, config, seed)?;
+        Ok(Connection {
+            upstream,
+            kept,
+            failed: false,
+            requests: PhantomData,
+        })
+    }
+}
+
+impl<CR, U: SendRequest<CR>> Connection<CR, U> {
+    ghost use Rattle.client_cache.specs.contracts.connection.Connection.{the_row};
+
+    /// The transport below, which can so be called past the cache: what it posts later for a ticket of its own is handed
+    /// on as it is.
+    pub fn upstream_mut(&mut self) -> &mut U
+        ensures* writes_back { sem 𝓛 (Lends (the_row CR.row U.row U.Response.row U.SendRequest U.Response.GetResponse) U.row self.entry result (plain.with_upstream self.old)) }
+        ensures value { result.now ≡ self.old.upstream }
+    {
+        &mut self.upstream
+    }
+}
+
+/// What stands for the result of a request: it is given at once, or waits for what comes from below.
+#[derive(Drop)]
+pub struct Request<P> {
+    pub(crate) ticket: u64,
+    pub(crate) given: bool,
+    /// What stands for its result below, where it was handed on.
+    pub(crate) below: Option<P>,
+}
+
+impl<P> Model for Request<P> {
+    ghost use Rattle.client_cache.specs.Plain.{Response};
+
+    ghost Value = { Response P };
+
+    ghost view = { λ r. record { ticket = r.ticket; given = r.given; below = r.below } };
+}
+
+impl<P> fmt::Debug for Request<P> {
+    fn fmt<W: fmt::Write>(&self, f: &mut fmt::Formatter<W>) -> fmt::Result {
+        f.write_str("Request { fut: _ }")
+    }
+}
+
+impl<P: Drop> GetResponse for Request<P> {
+    ghost ticket_of = { λ r. r.ticket };
+
+    ghost has_given = { λ r. r.given };
+
+    fn get_response(&mut self, board: &mut Board) -> Poll<Result<Message, Error>> {
+        take_response(board, self.ticket, &mut self.given)
+    }
+
+    fn ticket(&self) -> u64 {
+        self.ticket
+    }
+}
+
+impl<CR: ComposeRequest, U: SendRequest<CR>> SendRequest<CR> for Connection<CR, U> {
+    type Response = Request<U::Response>;
+
+    ghost has_failed = { λ c. c.failed };
+
+    ghost holds_failed = { plain.holds_failed U.holds_failed };
+
+    ghost transport = { plain.transport (plain.read CR.requests CR.header_of CR.is_dnssec_ok) U.Response.ticket_of U.transport };
+
+    fn send_request<W: Words>(
+        &mut self,
+        cx: &mut Cx<'_, W>,
+        request: CR,
+    ) -> Result<Request<U::Response>, Error> {
+        if self.failed {
+            return Err(Error::Failed);
+        }
+        let result = take_on(&mut self.upstream, &mut self.kept, cx, request);
+        if result.is_err() {
+            self.failed = true;
+        }
+        result
+    }
+
+    fn step<W: Words>(&mut self, cx: &mut Cx<'_, W>, signal: Signal<'_>) -> Result<(), Error> {
+        if self.failed {
+            return Err(Error::Failed);
+        }
+        let result = hear(&mut self.upstream, &mut self.kept, cx, signal);
+        if result.is_err() {
+            self.failed = true;
+        }
+        result
+    }
+
+    fn cancel<W: Words>(
+        &mut self,
+        cx: &mut Cx<'_, W>,
+        response: Request<U::Response>,
+    ) -> Result<(), Error> {
+        if self.failed {
+            return Err(Error::Failed);
+        }
+        let result = give_up(&mut self.upstream, &mut self.kept, cx, response.below);
+        if result.is_err() {
+            self.failed = true;
+        }
+        result
+    }
+}

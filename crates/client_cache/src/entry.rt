@@ -1,0 +1,330 @@
+//! What is kept of a result, and what a request is given of it.
+
+ghost use Rattle.std.specs.Prelude.{◌≡◌, IfOk, Ok};
+ghost use Rattle.headline.specs.Keys as keys;
+ghost use Rattle.client_views.specs.Key.{flag_class};
+ghost use Rattle.client_cache.specs.Keeping as plain;
+
+use client_request::Error;
+use client_settings::cache::Config;
+use client_views::{AdDo, Key, derived_header, validity, view_under};
+use dns_base::{Duration, Header, Message, Name, NoMemory};
+use std::alloc::Global;
+use std::marker::Model;
+
+/// Microseconds in a second.
+const SECOND: u64 = 1_000_000;
+
+/// What serves a request, if anything does: a message, or an error.
+pub(crate) type Answer = Option<Result<Message, Error>>;
+
+/// What a request asks: its key, and the name of its question as it is spelled.
+#[derive(Drop)]
+pub struct Asked {
+    pub(crate) key: Key,
+    pub(crate) name: Name,
+}
+
+impl Model for Asked {
+    ghost use Rattle.client_cache.specs.Keeping.{Asked};
+
+    ghost Value = { Asked };
+
+    ghost view = { λ a. record { key = a.key; name = a.name } };
+}
+
+/// A message that is kept, and the header under which it is given: without AA, and without what later requests did not
+/// ask for. Names may be read out of the message's own header, so that one stays as it came.
+#[derive(Drop)]
+pub struct Stored {
+    header: Header,
+    message: Message,
+}
+
+impl Model for Stored {
+    ghost use Rattle.client_cache.specs.Keeping.{Stored};
+
+    ghost Value = { Stored };
+
+    ghost view = { λ s. record { header = s.header; message = s.message } };
+}
+
+/// What is kept of a result.
+#[derive(Drop)]
+pub struct Entry {
+    /// When the result came, in microseconds.
+    pub(crate) moment: u64,
+    /// For how long it may be given.
+    pub(crate) validity: Duration,
+    pub(crate) outcome: Result<Stored, Error>,
+}
+
+impl Model for Entry {
+    ghost use Rattle.client_cache.specs.Keeping.{Entry};
+
+    ghost Value = { Entry };
+
+    ghost view = { λ e. record { moment = e.moment; validity = e.validity; outcome = e.outcome } };
+}
+
+impl Stored {
+    /// The same message.
+    fn copy(&self) -> Result<Stored, NoMemory>
+        ensures { IfOk result (λ s. s ≡ self.now) }
+    {
+        let message = self.message.try_clone()?;
+        Ok(Stored {
+            header: self.header,
+            message,
+        })
+    }
+
+    /// The same message under the header that it has for a request of the second class, where it was asked for with the
+    /// first; without RD, or as it is.
+    fn reflag(&self, from: AdDo, to: AdDo, clear_rd: bool) -> Result<Stored, NoMemory>
+        ensures { IfOk result (λ s. s ≡ plain.reflagged (flag_class from) (flag_class to) clear_rd self.now) }
+    {
+        let message = self.message.try_clone()?;
+        Ok(Stored {
+            header: derived_header(self.header, from, to, clear_rd),
+            message,
+        })
+    }
+
+    /// What a request of the second class is given of it so many seconds later, where it was asked for with the first.
+    fn view(
+        &self,
+        alloc: Global,
+        from: AdDo,
+        to: AdDo,
+        name: &Name,
+        seconds: u32,
+    ) -> Result<Result<Message, Error>, NoMemory>
+        ensures { IfOk result (λ m. m ≡ plain.viewed (flag_class from) (flag_class to) name.now seconds self.now) }
+    {
+        match view_under(alloc, self.header, &self.message, from, to, name, seconds) {
+            Ok(message) => Ok(Ok(message)),
+            Err(Error::NoMemory) => Err(NoMemory),
+            Err(error) => Ok(Err(error)),
+        }
+    }
+}
+
+/// The same message, or the same error.
+fn copy_of(outcome: &Result<Stored, Error>) -> Result<Result<Stored, Error>, NoMemory>
+    ensures { IfOk result (λ copy. copy ≡ outcome.now) }
+{
+    match outcome {
+        Err(error) => Ok(Err(*error)),
+        Ok(stored) => {
+            let copy = stored.copy()?;
+            Ok(Ok(copy))
+        }
+    }
+}
+
+/// A message under a header, or the same error.
+fn under(header: Header, outcome: Result<Message, Error>) -> Result<Stored, Error>
+    ensures { result ≡ plain.under header outcome }
+{
+    match outcome {
+        Ok(message) => Ok(Stored { header, message }),
+        Err(error) => Err(error),
+    }
+}
+
+/// What is kept of a result: its message under a header without AA, or its error.
+pub(crate) fn kept_of(outcome: &Result<Message, Error>) -> Result<Result<Stored, Error>, NoMemory>
+    ensures { IfOk result (λ kept. kept ≡ plain.kept_of outcome.now) }
+{
+    match outcome {
+        Err(error) => Ok(Err(*error)),
+        Ok(message) => {
+            let mut header = message.header();
+            header.set_aa(false);
+            let message = message.try_clone()?;
+            Ok(Ok(Stored { header, message }))
+        }
+    }
+}
+
+/// The same message without RD, or the same error, for a request of this class.
+fn without_rd(
+    class: AdDo,
+    outcome: &Result<Stored, Error>,
+) -> Result<Result<Stored, Error>, NoMemory>
+    ensures { IfOk result (λ kept. kept ≡ plain.without_rd (flag_class class) outcome.now) }
+{
+    match outcome {
+        Err(error) => Ok(Err(*error)),
+        Ok(stored) => {
+            let cleared = stored.reflag(class, class, true)?;
+            Ok(Ok(cleared))
+        }
+    }
+}
+
+/// An age in whole seconds, as far as a TTL goes.
+fn seconds_of(age: u64) -> u32
+    ensures { result ≡ plain.seconds_of age }
+{
+    let seconds = age / SECOND;
+    if seconds < u64::from(u32::MAX) {
+        seconds as u32
+    } else {
+        u32::MAX
+    }
+}
+
+/// What is kept, as it is at an age in microseconds.
+fn show(
+    alloc: Global,
+    asked: &Asked,
+    age: u64,
+    outcome: &Result<Stored, Error>,
+) -> Result<Result<Message, Error>, NoMemory>
+    ensures { IfOk result (λ shown. shown ≡ plain.shown asked.now age outcome.now) }
+{
+    let class = asked.key.addo();
+    match outcome {
+        Err(error) => Ok(Err(*error)),
+        Ok(stored) => stored.view(alloc, class, class, &asked.name, seconds_of(age)),
+    }
+}
+
+/// Whether a class is that of DO.
+fn is_do(class: AdDo) -> bool
+    ensures { result ≡ keys.is_do (flag_class class) }
+{
+    matches!(class, AdDo::Do)
+}
+
+/// Whether the first class is the second.
+pub(crate) fn is_same_class(first: AdDo, second: AdDo) -> bool
+    ensures { result ≡ plain.same_class (flag_class first) (flag_class second) }
+{
+    match first {
+        AdDo::Do => matches!(second, AdDo::Do),
+        AdDo::Ad => matches!(second, AdDo::Ad),
+        AdDo::None => matches!(second, AdDo::None),
+    }
+}
+
+impl Entry {
+    /// What it gives at a moment, unless its validity has passed.
+    pub(crate) fn serve(&self, alloc: Global, asked: &Asked, now: u64) -> Result<Answer, NoMemory>
+        ensures { IfOk result (λ answer. answer ≡ plain.serves asked.now now self.now) }
+    {
+        let age = now.saturating_sub(self.moment);
+        if u128::from(age) <= self.validity.as_micros() {
+            let shown = show(alloc, asked, age, &self.outcome)?;
+            Ok(Some(shown))
+        } else {
+            Ok(None)
+        }
+    }
+
+    /// The same entry.
+    pub(crate) fn copy(&self) -> Result<Entry, NoMemory>
+        ensures { IfOk result (λ e. e ≡ self.now) }
+    {
+        let outcome = copy_of(&self.outcome)?;
+        Ok(Entry {
+            moment: self.moment,
+            validity: self.validity,
+            outcome,
+        })
+    }
+
+    /// The entry for a request of its class with RD clear.
+    pub(crate) fn clear_rd(&self, class: AdDo) -> Result<Entry, NoMemory>
+        ensures { IfOk result (λ e. e ≡ plain.rd_cleared (flag_class class) self.now) }
+    {
+        let outcome = without_rd(class, &self.outcome)?;
+        Ok(Entry {
+            moment: self.moment,
+            validity: self.validity,
+            outcome,
+        })
+    }
+
+    /// The entry with a message in place of its own, and the validity that this one has. It takes no memory.
+    fn revalue(&self, config: &Config, header: Header, message: Message) -> Result<Entry, Error>
+        ensures { result ≡ plain.rewritten config.now self.now header (Ok message) }
+    {
+        let outcome = Ok(message);
+        match validity(&outcome, config) {
+            Err(error) => Err(error),
+            Ok(validity) => Ok(Entry {
+                moment: self.moment,
+                validity,
+                outcome: under(header, outcome),
+            }),
+        }
+    }
+
+    /// The entry with its message written anew for a request of another class.
+    fn rewrite(
+        &self,
+        alloc: Global,
+        config: &Config,
+        from: AdDo,
+        asked: &Asked,
+        stored: &Stored,
+    ) -> Result<Result<Entry, Error>, NoMemory>
+        ensures { IfOk result (λ e. e ≡ plain.rewritten config.now self.now stored.now.header (plain.viewed (flag_class from) asked.now.key.flags asked.now.name 0 stored.now)) }
+    {
+        match stored.view(alloc, from, asked.key.addo(), &asked.name, 0)? {
+            Ok(message) => Ok(self.revalue(config, stored.header, message)),
+            Err(error) => Ok(Err(error)),
+        }
+    }
+
+    /// What is derived for a request of another class from its message under the header for that class.
+    fn derive_message(
+        &self,
+        alloc: Global,
+        config: &Config,
+        from: AdDo,
+        asked: &Asked,
+        stored: Stored,
+    ) -> Result<Result<Entry, Error>, NoMemory>
+        ensures { IfOk result (λ e. e ≡ plain.derived_message config.now (flag_class from) asked.now self.now stored) }
+    {
+        if is_do(from) {
+            return self.rewrite(alloc, config, from, asked, &stored);
+        }
+        Ok(Ok(Entry {
+            moment: self.moment,
+            validity: self.validity,
+            outcome: Ok(stored),
+        }))
+    }
+
+    /// What is derived from an entry of a class for a request. `MessageParseError` where its data would have to be
+    /// read and can't be.
+    pub(crate) fn derive(
+        &self,
+        alloc: Global,
+        config: &Config,
+        from: AdDo,
+        asked: &Asked,
+    ) -> Result<Result<Entry, Error>, NoMemory>
+        ensures { IfOk result (λ e. e ≡ plain.derived config.now (flag_class from) asked.now self.now) }
+    {
+        if is_same_class(from, asked.key.addo()) {
+            let entry = self.copy()?;
+            return Ok(Ok(entry));
+        }
+        match &self.outcome {
+            Err(_) => {
+                let entry = self.copy()?;
+                Ok(Ok(entry))
+            }
+            Ok(stored) => {
+                let stored = stored.reflag(from, asked.key.addo(), false)?;
+                self.derive_message(alloc, config, from, asked, stored)
+            }
+        }
+    }
+}

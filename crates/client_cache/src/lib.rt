@@ -1,0 +1,19 @@
+//! A cache of results: a request that asks what was asked before is given what came then, as long as that may be
+//! kept.
+//!
+//! It is a transport over any other one, of which it knows nothing but that.
+#![tactic(auto)]
+
+mod connection;
+mod entry;
+mod finding;
+mod keeping;
+mod laws;
+mod settling;
+mod steps;
+mod table;
+
+pub use client_settings::cache::Config;
+pub use client_views::{AdDo, Key, validity, view};
+pub use connection::{Connection, Request};
+pub use laws::look_ups_are_askings;

@@ -1,0 +1,139 @@
+//! What is kept beside the transport below, and how its results are given.
+
+ghost use Rattle.std.specs.Prelude.{◌≡◌, IfOk, OnOk, IfErr, Ok, Err};
+ghost use Rattle.client_request.specs.Cx.{view_of, LendsTheSame};
+ghost use Rattle.client_cache.specs.Plain as plain;
+
+use crate::keeping::keep;
+use crate::table::{Table, new_table};
+use client_request::{Board, Cx, Error, Posted, Words};
+use client_settings::cache::Config;
+use client_views::Key;
+use dns_base::{Message, NoMemory};
+use std::alloc::Global;
+use std::collections::BTreeMap;
+use std::marker::Model;
+
+/// A request that was handed on.
+#[derive(Drop)]
+pub struct Job {
+    /// Its ticket here.
+    pub(crate) ticket: u64,
+    /// The key under which its result is kept, if it is.
+    pub(crate) key: Option<Key>,
+}
+
+impl Model for Job {
+    ghost use Rattle.client_cache.specs.Plain.{Job};
+
+    ghost Value = { Job };
+
+    ghost view = { λ j. record { ticket = j.ticket; key = j.key } };
+}
+
+/// The settings, the table, and what was handed on, by the ticket there.
+#[derive(Drop)]
+pub struct Kept {
+    pub(crate) alloc: Global,
+    pub(crate) config: Config,
+    pub(crate) table: Table,
+    pub(crate) waiting: BTreeMap<u64, Job>,
+}
+
+impl Model for Kept {
+    ghost use Rattle.client_cache.specs.Plain.{Kept};
+
+    ghost Value = { Kept };
+
+    ghost view = { λ k. record { settings = k.config; table = k.table; waiting = k.waiting.entries } };
+}
+
+impl Kept {
+    /// Nothing is kept.
+    pub(crate) fn new(alloc: Global, config: Config, seed: u64) -> Result<Kept, NoMemory>
+        ensures { IfOk result (λ k. k ≡ plain.empty config) }
+    {
+        let table = new_table(alloc, &config, seed)?;
+        Ok(Kept {
+            alloc,
+            config,
+            table,
+            waiting: BTreeMap::new(alloc),
+        })
+    }
+}
+
+/// A message or an error, as a result on a board.
+pub(crate) fn part_of(outcome: Result<Message, Error>) -> Result<Option<Message>, Error>
+    ensures { result ≡ plain.part_of outcome }
+{
+    match outcome {
+        Ok(message) => Ok(Some(message)),
+        Err(error) => Err(error),
+    }
+}
+
+/// Gives a request what came for it, which is kept first.
+fn give_kept<W: Words>(
+    kept: &mut Kept,
+    cx: &mut Cx<'_, W>,
+    ticket: u64,
+    key: Key,
+    outcome: Result<Message, Error>,
+) -> Result<(), NoMemory>
+    ensures lends { LendsTheSame cx.old cx.new }
+    ensures ok { OnOk result ((kept.new, view_of W.stream cx.new) ≡ plain.gives_outcome ticket key kept.old (view_of W.stream cx.old) outcome) }
+{
+    let given = keep(&mut kept.table, &kept.config, key, cx.now.0, outcome)?;
+    cx.board.put(ticket, part_of(given))
+}
+
+/// Gives a request its result; first it is kept, where it is to be.
+fn give<W: Words>(
+    kept: &mut Kept,
+    cx: &mut Cx<'_, W>,
+    job: Job,
+    part: Result<Option<Message>, Error>,
+) -> Result<(), NoMemory>
+    ensures lends { LendsTheSame cx.old cx.new }
+    ensures ok { OnOk result ((kept.new, view_of W.stream cx.new) ≡ plain.gives job.ticket job.key kept.old (view_of W.stream cx.old) part) }
+{
+    let Job { ticket, key } = job;
+    let Some(key) = key else {
+        return cx.board.put(ticket, part);
+    };
+    match part {
+        Ok(None) => cx.board.put(ticket, Ok(None)),
+        Ok(Some(message)) => give_kept(kept, cx, ticket, key, Ok(message)),
+        Err(error) => give_kept(kept, cx, ticket, key, Err(error)),
+    }
+}
+
+/// What the transport below posted is the result of the request that was handed on under that ticket; else it is
+/// handed on as it is.
+fn settle<W: Words>(kept: &mut Kept, cx: &mut Cx<'_, W>, posted: Posted) -> Result<(), NoMemory>
+    ensures lends { LendsTheSame cx.old cx.new }
+    ensures ok { OnOk result ((kept.new, view_of W.stream cx.new) ≡ plain.settles posted kept.old (view_of W.stream cx.old)) }
+{
+    let Posted { ticket, part } = posted;
+    match kept.waiting.remove(&ticket) {
+        None => cx.board.put(ticket, part),
+        Some(job) => give(kept, cx, job, part),
+    }
+}
+
+/// Gives the results that the transport below posted, in order.
+pub(crate) fn settle_all<W: Words>(
+    kept: &mut Kept,
+    cx: &mut Cx<'_, W>,
+    board: Board,
+) -> Result<(), NoMemory>
+    ensures lends { LendsTheSame cx.old cx.new }
+    ensures ok { OnOk result ((kept.new, view_of W.stream cx.new) ≡ plain.settles_all board kept.old (view_of W.stream cx.old)) }
+{
+    let mut board = board;
+    while let Some(posted) = board.take_first() {
+        settle(kept, cx, posted)?;
+    }
+    Ok(())
+}

@@ -1,0 +1,247 @@
+//! What each call of a cache does.
+
+ghost use Rattle.std.specs.Prelude.{◌≡◌, true, OnOk, IfOk, IfErr, IsErrOf, [], Some, Ok, Err};
+ghost use Rattle.client_request.specs.Calls.{Steps, NumbersRunOut};
+ghost use Rattle.client_request.specs.Cx.{view_of, heard, LendsTheSame};
+ghost use Rattle.client_request.specs.Response.{IsRefusal};
+ghost use Rattle.client_cache.specs.Keeping as keeping;
+ghost use Rattle.client_cache.specs.Plain as plain;
+
+use crate::connection::Request;
+use crate::entry::Asked;
+use crate::finding::look_up;
+use crate::settling::{Job, Kept, part_of, settle_all};
+use crate::table::Table;
+use client_request::{
+    Board, ComposeRequest, Cx, Error, GetResponse, SendRequest, Signal, Words, cancel_below,
+    send_below, step_below,
+};
+use client_settings::cache::Config;
+use client_views::Key;
+use dns_base::{Header, Message, Name, NoMemory, ToName};
+use std::alloc::Global;
+
+/// How a request goes on.
+#[derive(Drop)]
+pub enum Way {
+    /// It has its result.
+    Given(Result<Message, Error>),
+    /// It is handed on; its result is kept under the key, if there is one.
+    Asks(Option<Key>),
+}
+
+/// What a request asks of which a message was composed, unless its results are not kept.
+fn asked_in(
+    alloc: Global,
+    header: Header,
+    dnssec_ok: bool,
+    message: &Message,
+) -> Result<Option<Asked>, NoMemory>
+    ensures { IfOk result (λ asked. asked ≡ keeping.asked_in header dnssec_ok message.now) }
+{
+    let Some(key) = Key::of(alloc, message, header, dnssec_ok)? else {
+        return Ok(None);
+    };
+    let name = match message.sole_question() {
+        Ok(question) => question.qname().to_name(alloc)?,
+        Err(_) => Name::root(alloc),
+    };
+    Ok(Some(Asked { key, name }))
+}
+
+/// How a request goes on of which a message was composed.
+fn way_asked(
+    table: &mut Table,
+    alloc: Global,
+    config: &Config,
+    now: u64,
+    asked: Option<Asked>,
+) -> Result<Way, NoMemory>
+    ensures way { IfOk result (λ way. way ≡ (plain.way_asked config.now now table.old asked).0) }
+    ensures table { OnOk result (table.new ≡ (plain.way_asked config.now now table.old asked).1) }
+{
+    let Some(mut asked) = asked else {
+        return Ok(Way::Asks(None));
+    };
+    match look_up(table, alloc, config, &mut asked, now)? {
+        Some(outcome) => Ok(Way::Given(outcome)),
+        None => Ok(Way::Asks(Some(asked.key))),
+    }
+}
+
+/// How a request goes on.
+fn way_of<CR: ComposeRequest>(
+    table: &mut Table,
+    alloc: Global,
+    config: &Config,
+    now: u64,
+    request: &CR,
+) -> Result<Way, NoMemory>
+    ensures way { IfOk result (λ way. way ≡ (plain.way_of config.now (CR.header_of request.now) (CR.is_dnssec_ok request.now) now table.old (CR.requests.composed request.now)).0) }
+    ensures table { OnOk result (table.new ≡ (plain.way_of config.now (CR.header_of request.now) (CR.is_dnssec_ok request.now) now table.old (CR.requests.composed request.now)).1) }
+{
+    match request.to_message() {
+        Ok(message) => {
+            let asked = asked_in(alloc, *request.header(), request.dnssec_ok(), &message)?;
+            way_asked(table, alloc, config, now, asked)
+        }
+        Err(Error::NoMemory) => Err(NoMemory),
+        Err(error) => Ok(Way::Given(Err(error))),
+    }
+}
+
+/// Hands a request on, whose result is kept under the key, if there is one.
+fn hand_on<CR: ComposeRequest, U: SendRequest<CR>, W: Words>(
+    below: &mut U,
+    kept: &mut Kept,
+    cx: &mut Cx<'_, W>,
+    ticket: u64,
+    key: Option<Key>,
+    request: CR,
+) -> Result<U::Response, Error>
+    ensures lends { LendsTheSame cx.old cx.new }
+    ensures ok { Steps result (plain.hands_on U.transport ticket key request below.old kept.old (view_of W.stream cx.old)) ((below.new, kept.new), view_of W.stream cx.new) }
+    ensures response { IfOk result (λ r. r ≡ U.transport.response request below.old (plain.onto [] (view_of W.stream cx.old))) }
+    ensures numbers { NumbersRunOut result (plain.hands_on U.transport ticket key request below.old kept.old (view_of W.stream cx.old)) }
+    ensures keeps { OnOk result (U.holds_failed below.new ≡ U.holds_failed below.old) }
+    ensures refused { IfErr result IsRefusal }
+    ensures failed_only { IsErrOf result Error.Failed → U.holds_failed below.old ≡ true }
+{
+    let mut board = Board::new(kept.alloc);
+    let response = send_below(below, &mut board, cx, request)?;
+    let job = Job { ticket, key };
+    if kept.waiting.insert(response.ticket(), job).is_err() {
+        return Err(Error::NoMemory);
+    }
+    settle_all(kept, cx, board)?;
+    Ok(response)
+}
+
+/// A request has its result, or is handed on: then this is what stands for its result there.
+fn go_on<CR: ComposeRequest, U: SendRequest<CR>, W: Words>(
+    below: &mut U,
+    kept: &mut Kept,
+    cx: &mut Cx<'_, W>,
+    ticket: u64,
+    way: Way,
+    request: CR,
+) -> Result<Option<U::Response>, Error>
+    ensures lends { LendsTheSame cx.old cx.new }
+    ensures ok { Steps result (plain.goes U.transport ticket request below.old kept.old (view_of W.stream cx.old) way) ((below.new, kept.new), view_of W.stream cx.new) }
+    ensures response { IfOk result (λ r. r ≡ plain.response_below U.transport request below.old (view_of W.stream cx.old) way) }
+    ensures numbers { NumbersRunOut result (plain.goes U.transport ticket request below.old kept.old (view_of W.stream cx.old) way) }
+    ensures keeps { OnOk result (U.holds_failed below.new ≡ U.holds_failed below.old) }
+    ensures refused { IfErr result IsRefusal }
+    ensures failed_only { IsErrOf result Error.Failed → U.holds_failed below.old ≡ true }
+{
+    match way {
+        Way::Given(outcome) => {
+            cx.board.put(ticket, part_of(outcome))?;
+            Ok(None)
+        }
+        Way::Asks(key) => {
+            let response = hand_on(below, kept, cx, ticket, key, request)?;
+            Ok(Some(response))
+        }
+    }
+}
+
+/// A request under a ticket has its result, or is handed on: then this is what stands for its result there.
+fn send<CR: ComposeRequest, U: SendRequest<CR>, W: Words>(
+    below: &mut U,
+    kept: &mut Kept,
+    cx: &mut Cx<'_, W>,
+    ticket: u64,
+    request: CR,
+) -> Result<Option<U::Response>, Error>
+    ensures lends { LendsTheSame cx.old cx.new }
+    ensures ok { Steps result (plain.send (plain.read CR.requests CR.header_of CR.is_dnssec_ok) U.transport ticket request below.old kept.old (view_of W.stream cx.old)) ((below.new, kept.new), view_of W.stream cx.new) }
+    ensures response { IfOk result (λ r. r ≡ plain.response_to (plain.read CR.requests CR.header_of CR.is_dnssec_ok) U.transport request below.old kept.old (view_of W.stream cx.old)) }
+    ensures numbers { NumbersRunOut result (plain.send (plain.read CR.requests CR.header_of CR.is_dnssec_ok) U.transport ticket request below.old kept.old (view_of W.stream cx.old)) }
+    ensures keeps { OnOk result (U.holds_failed below.new ≡ U.holds_failed below.old) }
+    ensures refused { IfErr result IsRefusal }
+    ensures failed_only { IsErrOf result Error.Failed → U.holds_failed below.old ≡ true }
+{
+    let way = way_of(
+        &mut kept.table,
+        kept.alloc,
+        &kept.config,
+        cx.now.0,
+        &request,
+    )?;
+    go_on(below, kept, cx, ticket, way, request)
+}
+
+/// Takes a request on.
+pub(crate) fn take_on<CR: ComposeRequest, U: SendRequest<CR>, W: Words>(
+    below: &mut U,
+    kept: &mut Kept,
+    cx: &mut Cx<'_, W>,
+    request: CR,
+) -> Result<Request<U::Response>, Error>
+    ensures lends { LendsTheSame cx.old cx.new }
+    ensures ok { Steps result (plain.takes (plain.read CR.requests CR.header_of CR.is_dnssec_ok) U.transport request below.old kept.old (view_of W.stream cx.old)) ((below.new, kept.new), view_of W.stream cx.new) }
+    ensures response { IfOk result (λ r. r ≡ plain.response_of (plain.read CR.requests CR.header_of CR.is_dnssec_ok) U.transport request below.old kept.old (view_of W.stream cx.old)) }
+    ensures numbers { NumbersRunOut result (plain.takes (plain.read CR.requests CR.header_of CR.is_dnssec_ok) U.transport request below.old kept.old (view_of W.stream cx.old)) }
+    ensures keeps { OnOk result (U.holds_failed below.new ≡ U.holds_failed below.old) }
+    ensures refused { IfErr result IsRefusal }
+    ensures failed_only { IsErrOf result Error.Failed → U.holds_failed below.old ≡ true }
+{
+    let ticket = cx.ticket;
+    let Some(next) = ticket.checked_add(1) else {
+        return Err(Error::NumbersUsed);
+    };
+    cx.ticket = next;
+    let response = send(below, kept, cx, ticket, request)?;
+    Ok(Request {
+        ticket,
+        given: false,
+        below: response,
+    })
+}
+
+/// The transport below hears what happened.
+pub(crate) fn hear<CR: ComposeRequest, U: SendRequest<CR>, W: Words>(
+    below: &mut U,
+    kept: &mut Kept,
+    cx: &mut Cx<'_, W>,
+    signal: Signal<'_>,
+) -> Result<(), Error>
+    ensures lends { LendsTheSame cx.old cx.new }
+    ensures ok { Steps result (plain.hears U.transport (heard signal.entry) below.old kept.old (view_of W.stream cx.old)) ((below.new, kept.new), view_of W.stream cx.new) }
+    ensures numbers { NumbersRunOut result (plain.hears U.transport (heard signal.entry) below.old kept.old (view_of W.stream cx.old)) }
+    ensures keeps { OnOk result (U.holds_failed below.new ≡ U.holds_failed below.old) }
+    ensures refused { IfErr result IsRefusal }
+    ensures failed_only { IsErrOf result Error.Failed → U.holds_failed below.old ≡ true }
+{
+    let mut board = Board::new(kept.alloc);
+    step_below(below, &mut board, cx, signal)?;
+    settle_all(kept, cx, board)?;
+    Ok(())
+}
+
+/// Gives a request up below, where it still waits.
+pub(crate) fn give_up<CR: ComposeRequest, U: SendRequest<CR>, W: Words>(
+    below: &mut U,
+    kept: &mut Kept,
+    cx: &mut Cx<'_, W>,
+    response: Option<U::Response>,
+) -> Result<(), Error>
+    ensures lends { LendsTheSame cx.old cx.new }
+    ensures ok { Steps result (plain.drops_below U.transport U.Response.ticket_of below.old kept.old (view_of W.stream cx.old) response) ((below.new, kept.new), view_of W.stream cx.new) }
+    ensures numbers { NumbersRunOut result (plain.drops_below U.transport U.Response.ticket_of below.old kept.old (view_of W.stream cx.old) response) }
+    ensures keeps { OnOk result (U.holds_failed below.new ≡ U.holds_failed below.old) }
+    ensures refused { IfErr result IsRefusal }
+    ensures failed_only { IsErrOf result Error.Failed → U.holds_failed below.old ≡ true }
+{
+    let Some(response) = response else {
+        return Ok(());
+    };
+    let Some(_job) = kept.waiting.remove(&response.ticket()) else {
+        return Ok(());
+    };
+    let mut board = Board::new(kept.alloc);
+    cancel_below(below, &mut board, cx, response)?;
+    settle_all(kept, cx, board)?;
+    Ok(())
+}

@@ -1,0 +1,92 @@
+//! The table of what is kept.
+
+ghost use Rattle.std.specs.Prelude.{◌≡◌, [], IfOk, OnOk, fold};
+ghost use Rattle.std.specs.Hash as fed;
+ghost use Rattle.std.specs.Hash.DefaultHasher as sip;
+ghost use Rattle.std.specs.NonZero.{non_zero_usize_get};
+ghost use Rattle.lru.specs.LruCache.{lru_cache};
+ghost use Rattle.client_views.specs.Key.{flag_class};
+ghost use Rattle.client_cache.specs.Keeping as plain;
+ghost use Rattle.client_cache.specs.Plain as machine;
+
+use crate::entry::Entry;
+use client_settings::cache::Config;
+use client_views::{AdDo, Key};
+use dns_base::NoMemory;
+use lru::LruCache;
+use std::alloc::Global;
+use std::hash::{BuildHasher, DefaultHasher, Hasher};
+use std::num::NonZeroUsize;
+
+/// Makes hashers that begin with a seed, so that who doesn't know it can't pick names of equal hash.
+#[derive(Clone, Copy)]
+pub struct Seeded {
+    seed: u64,
+}
+
+impl BuildHasher for Seeded {
+    type Hasher = DefaultHasher;
+
+    ghost build_hasher = { λ s. fold sip.write sip.initial (fed.u64 s.seed) };
+
+    fn build_hasher(&self) -> DefaultHasher {
+        let mut hasher = DefaultHasher::new();
+        hasher.write_u64(self.seed);
+        hasher
+    }
+}
+
+/// The entries, the most recently used first.
+pub(crate) type Table = LruCache<Key, Entry, Seeded>;
+
+/// How many entries there may be.
+fn room_of(config: &Config) -> NonZeroUsize
+    ensures { non_zero_usize_get result ≡ machine.room_of config.now }
+{
+    match NonZeroUsize::new(config.max_cache_entries() as usize) {
+        Some(room) => room,
+        None => NonZeroUsize::MIN,
+    }
+}
+
+/// A table without entries, which takes memory as it fills.
+pub(crate) fn new_table(alloc: Global, config: &Config, seed: u64) -> Result<Table, NoMemory>
+    ensures { IfOk result (λ t. t ≡ lru_cache [] (machine.room_of config.now)) }
+{
+    let mut table = LruCache::unbounded_with_hasher(alloc, Seeded { seed })?;
+    table.resize(room_of(config));
+    Ok(table)
+}
+
+/// Stores an entry; what was there under the key is no more.
+pub(crate) fn store(table: &mut Table, key: Key, entry: Entry) -> Result<(), NoMemory>
+    ensures { OnOk result (table.new ≡ plain.stores key entry table.old) }
+{
+    match table.put(key, entry) {
+        Ok(_) => Ok(()),
+        Err(_) => Err(NoMemory),
+    }
+}
+
+/// What a request asks of DNSSEC, and whether it has RD set.
+#[derive(Clone, Copy)]
+pub(crate) struct Flags {
+    pub(crate) class: AdDo,
+    pub(crate) rd: bool,
+}
+
+impl Flags {
+    pub(crate) fn new(class: AdDo, rd: bool) -> Flags
+        ensures { result ≡ plain.flags class rd }
+    {
+        Flags { class, rd }
+    }
+}
+
+/// Sets the flags of a key.
+pub(crate) fn set_flags(key: &mut Key, flags: Flags)
+    ensures { key.new ≡ plain.with_flags flags key.old }
+{
+    key.set_addo(flags.class);
+    key.set_rd(flags.rd);
+}

@@ -1,0 +1,5 @@
+pub mod Key
+pub mod Validity
+pub mod Viewing
+pub mod Kept
+pub mod Laws

@@ -1,0 +1,7 @@
+pub mod Again
+pub mod Counting
+pub mod Drawing
+pub mod Listing
+pub mod Naming
+pub mod OrderLaws
+pub mod Searching

@@ -1,0 +1,42 @@
+-- The questions that a resolver was asked, and the count of its faults.
+use Rattle.std.specs.Prelude.{◌≡◌, ◌≢◌, ◌⊎◌, ℕ, List, [], ◌∷◌, ◌++◌, Option, Result, Ok, Err, option_map}
+use Rattle.dns_names.specs.Name.{Labels}
+use Rattle.dns_values.specs.Source.{Rose}
+use Rattle.client_request.specs.declared.error.Error.TheVariants as errors
+use Rattle.resolv_lookup.specs.declared.fault.QueryFault.{QueryFault}
+use Rattle.resolv_lookup.specs.declared.fault.QueryFault.TheVariants.{Client}
+use Rattle.resolv_lookup.specs.declared.resolver.Asking.{Asking}
+
+-- what a question got: the octets of a message, or a fault
+abbrev pub Got : Type 0
+Got = Result (List ℕ) QueryFault
+
+-- a question that was asked for a type's records of a name, and what it got
+abbrev pub asking : Labels → ℕ → Got → Asking
+asking name rtype got = record { name = name; rtype = record { 0 = rtype }; got = got }
+
+-- the octets of an answer, if there is one
+abbrev pub octets_in : {A : Type 0} → (A → List ℕ) → Result A QueryFault → Got
+octets_in octets_of (Ok answer) = Ok (octets_of answer)
+octets_in octets_of (Err fault) = Err fault
+
+-- memory ran out before an answer came
+abbrev pub out_of_memory : QueryFault
+out_of_memory = Client errors.NoMemory
+
+-- the list that is told, with one question more at its end
+abbrev pub told_on : Asking → Option (List Asking) → Option (List Asking)
+told_on one told = option_map (λ before. before ++ one ∷ []) told
+
+-- The question is told behind those before; one that found no memory may be left out.
+abbrev pub IsTold : Asking → Option (List Asking) → Option (List Asking) → Type 0
+IsTold one old new = (new ≡ told_on one old) ⊎ ((one.got ≡ Err out_of_memory) × (new ≡ old))
+
+-- These questions are told, one after another, and no other.
+abbrev pub AreTold : List Asking → Option (List Asking) → Option (List Asking) → Type 0
+AreTold [] old new = new ≡ old
+AreTold (one ∷ others) old new = (between : Option (List Asking)) × IsTold one old between × AreTold others between new
+
+-- The count rose with the fault; of want of memory it need not.
+abbrev pub IsCounted : ℕ → ℕ → QueryFault → Type 0
+IsCounted old new fault = fault ≢ out_of_memory → Rose old new

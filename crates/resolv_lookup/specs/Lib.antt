@@ -1,0 +1,14 @@
+pub mod Addresses
+pub mod Answer
+pub mod Asked
+pub mod Faults
+pub mod Hosts
+pub mod Items
+pub mod ListAnswers
+pub mod Names
+pub mod Order
+pub mod OrderLaws
+pub mod Owned
+pub mod Resolving
+pub mod Search
+pub mod Services
