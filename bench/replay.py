@@ -3,7 +3,8 @@
 usage: python3 bench/replay.py PROGRAM [REFERENCE_FOLDER]
 
 PROGRAM is the built dnsq. Up to 100 short questions are asked at a time, and each is answered: by datagrams, and on one
-connection by stream with 100 in flight all the time, which are answered in any order. The replay of 100,000 events and of
+connection by stream with 100 in flight all the time, which are answered in any order. Then one question is asked again and
+again, and what is kept of the first answer is the reply at once. The replay of 100,000 events and of
 200,000 is timed, and the ratio of the two told. With a folder that holds the package `plain`, the reference client replays
 the 100,000 events too, and that ratio is told. All run in turn, five times; the least time of each counts. Before that the
 replies are counted, so that nothing else is timed. Then the same is done with one server and with ten among which each
@@ -23,6 +24,7 @@ import time
 AT_A_TIME = 100
 RUNS = 5
 QUESTION = "0000010001"
+FOR_A_DAY = "000001000100015180" + "0004c0000201"
 WAITING = (1_000, 10_000, 100_000)
 MOST = 14
 SERVERS = 10
@@ -121,6 +123,13 @@ def by_stream(events):
     return text_of(lines[:events], ["conf options use-vc"])
 
 
+def from_cache(events):
+    """What is kept of the first answer is the reply to each later request."""
+    kept = "at 3 datagram 0 000081800001000100000000" + QUESTION + FOR_A_DAY
+    lines = [ask(1), opened(2, 0), kept]
+    return text_of(lines + [ask(1 + moment) for moment in range(len(lines), events)])
+
+
 def late(requests):
     return text_of([ask(1) for _ in range(requests)] + ["at %d tick" % PAST_THE_DEADLINE])
 
@@ -154,10 +163,10 @@ def write(path, text):
         file.write(text)
 
 
-def check_replies(program, path):
-    """Each answer in a script must be a reply in its trace."""
+def check_replies(program, path, answered):
+    """For each answer in a script, or other line with one of these words, there must be a reply in its trace."""
     with open(path, "rb") as text:
-        answers = sum(b" datagram " in line or b" bytes " in line for line in text)
+        answers = sum(any(word in line for word in answered) for line in text)
     with open(path, "rb") as text:
         trace = subprocess.run(program, stdin=text, stdout=subprocess.PIPE, check=True).stdout
     replies = sum(line.startswith(b"> reply ") and b" ok " in line for line in trace.splitlines())
@@ -165,11 +174,11 @@ def check_replies(program, path):
         sys.exit("%d answers, and %d replies" % (answers, replies))
 
 
-def time_events(program, room, name, script):
+def time_events(program, room, name, script, answered=(b" datagram ", b" bytes ")):
     took = {}
     for events in (100_000, 200_000):
         write("%s/%d" % (room, events), script(events))
-    check_replies(program, room + "/100000")
+    check_replies(program, room + "/100000", answered)
     for _ in range(RUNS):
         for events in (100_000, 200_000):
             took.setdefault(events, []).append(seconds(program, "%s/%d" % (room, events)))
@@ -213,6 +222,7 @@ def main():
     with tempfile.TemporaryDirectory() as room:
         time_events(program, room, "by datagrams", by_datagrams)
         time_events(program, room, "by stream", by_stream)
+        time_events(program, room, "from the cache", from_cache, [b" ask "])
         if time_servers(program, room) > MOST_FOR_SERVERS:
             sys.exit("%d servers take more than %d times as long as one" % (SERVERS, MOST_FOR_SERVERS))
         if time_waiting(program, room) > MOST:

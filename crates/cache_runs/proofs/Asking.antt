@@ -1,7 +1,7 @@
 -- What a composed message asks is what its request asks.
 use Rattle.std.proofs.Common.{◌≡◌, ℕ, ◌+◌, Bool, true, List, length, inl, inr, refl, sym, ◌∙◌, ap, subst, ◌==◌}
 use Rattle.std.specs.Prelude.{Option, Some, None, nat_le}
-use Rattle.dns_names.specs.Name.{lowered, name_at, IsLegal}
+use Rattle.dns_names.specs.Name.{Labels, Found, lowered, name_at, IsLegal, AreOctets}
 use Rattle.dns_names.proofs.Heads.{then_ok, chosen, none_some}
 use Rattle.dns_names.proofs.NameLaws.{read_legal}
 use Rattle.dns_base.specs.Header.{opcode_of}
@@ -9,31 +9,44 @@ use Rattle.dns_base.specs.Message as message
 use Rattle.dns_base.specs.Message.{question_at, sole_question}
 use Rattle.dns_base.specs.Numbers.{u16_at}
 use Rattle.client_request.specs.Request.{Request, is_dnssec_ok}
+use Rattle.client_request.specs.Carries.{IsOfOctets}
 use Rattle.headline.specs.Messages.{Octets}
-use Rattle.headline.specs.Keys.{Key, key_of, is_cacheable, question_or, spelled_name}
+use Rattle.headline.specs.Keys.{Key, key_of, is_cacheable, question_of, question_or, spelled_name}
 use Rattle.client_views.specs.Key.{key_in, asked_key}
 use Rattle.client_views.specs.Laws.{kept_key}
 use Rattle.client_views.proofs.KeyLaws.{keys_are_of_requests}
 use Rattle.client_views.proofs.WhatIsMet.{some_inside}
 use Rattle.client_cache.specs.Keeping.{Asked}
 use Rattle.cache_runs.specs.Laws.{AskedAreOfRequests}
+use Rattle.cache_runs.proofs.Octets.{by_index}
+use Rattle.cache_runs.proofs.ReadOctets.{read_octets, alike_octets}
 
--- a question that is read has a name that may be written
-legal_at : (o : Octets) (at : ℕ) (x : message.Asked × ℕ) → question_at o at ≡ Some x → IsLegal x.0.name
-unfolding question_at
-legal_at o at x e =
-    let f = then_ok (name_at o at) _ x e in
-    elim (chosen (nat_le (f.0.end + 4) (length o)) _ _ (Some x) f.2) [
-      | inl some ↦ (let is : record { name = f.0.labels; rtype = u16_at o f.0.end; class = u16_at o (f.0.end + 2) } ≡ x.0 = (let both = some.1 in cc) in subst (λ (q : message.Asked). IsLegal q.name) is (read_legal o at f.0 f.1))
-      | inr none ↦ none_some none.1
-    ]
+-- what each name of a message has that is read, the name of its question has
+module _ (P : Labels → Type 0) (o : Octets) (read : (at : ℕ) (f : Found) → name_at o at ≡ Some f → P f.labels) where
+  asked_at : (at : ℕ) (x : message.Asked × ℕ) → question_at o at ≡ Some x → P x.0.name
+  unfolding question_at
+  asked_at at x e =
+      let f = then_ok (name_at o at) _ x e in
+      elim (chosen (nat_le (f.0.end + 4) (length o)) _ _ (Some x) f.2) [
+        | inl some ↦ (let is : record { name = f.0.labels; rtype = u16_at o f.0.end; class = u16_at o (f.0.end + 2) } ≡ x.0 = (let both = some.1 in cc) in subst (λ (q : message.Asked). P q.name) is (read at f.0 f.1))
+        | inr none ↦ none_some none.1
+      ]
 
-legal_sole : (o : Octets) (q : message.Asked) → sole_question o ≡ Some q → IsLegal q.name
-unfolding sole_question
-legal_sole o q e = elim (chosen (u16_at o 4 == 1) _ _ (Some q) e) [
-  | inl one ↦ (let x = some_inside (λ (x : message.Asked × ℕ). x.0) (question_at o 12) q one.1 in subst (λ (q : message.Asked). IsLegal q.name) x.2 (legal_at o 12 x.0 x.1))
-  | inr none ↦ none_some none.1
-]
+  asked_alone : (q : message.Asked) → sole_question o ≡ Some q → P q.name
+  unfolding sole_question
+  asked_alone q e = elim (chosen (u16_at o 4 == 1) _ _ (Some q) e) [
+    | inl one ↦ (let x = some_inside (λ (x : message.Asked × ℕ). x.0) (question_at o 12) q one.1 in subst (λ (q : message.Asked). P q.name) x.2 (asked_at 12 x.0 x.1))
+    | inr none ↦ none_some none.1
+  ]
+
+-- a request of octets spells its name in octets
+spelled_octets : (r : Request) → IsOfOctets r → AreOctets (spelled_name r)
+unfolding question_of
+spelled_octets r octets = go (sole_question r.base) refl
+  where
+    go : (o : Option message.Asked) → sole_question r.base ≡ o → AreOctets (question_or o).name
+    go None e = tt
+    go (Some q) e = asked_alone AreOctets r.base (λ at f. read_octets r.base at f (by_index r.base octets.base)) q e
 
 -- the key of a question has its name in lower case
 record OfQuestion (o : Option message.Asked) (k : Key) : Type 0 where
@@ -68,11 +81,13 @@ asked_are_of_requests r m a octets says asked =
           let q = of_question r.header (is_dnssec_ok r) (sole_question m) k.0 query.1 in
           let name : q.question.name ≡ a.name = sym (ap (λ o. (question_or o).name) q.is) ∙ ap (λ (x : Asked). x.name) k.2 in
           let key : k.0 ≡ a.key = ap (λ (x : Asked). x.key) k.2 in
+          let alike : lowered a.name ≡ lowered (spelled_name r) = ap lowered (sym name) ∙ (sym q.name ∙ (ap (λ (k : Key). k.name) kept.1 ∙ lowered_key r)) in
           record {
             cacheable = kept.0;
             key = sym key ∙ kept.1;
-            name = ap lowered (sym name) ∙ (sym q.name ∙ (ap (λ (k : Key). k.name) kept.1 ∙ lowered_key r));
-            legal = subst IsLegal name (legal_sole m q.question q.is);
+            name = alike;
+            legal = subst IsLegal name (asked_alone IsLegal m (read_legal m) q.question q.is);
+            octets = alike_octets a.name (spelled_name r) alike (spelled_octets r octets);
           }
       | inr none ↦ none_some none.1
     ]

@@ -1,7 +1,7 @@
 -- What is derived from an entry stands for what the machine derives.
 use Rattle.std.proofs.Common.{◌≡◌, ℕ, ◌<◌, ◌≤◌, Bool, true, false, List, ◌∷◌, length, refl, sym, ◌∙◌, ap, subst, ◌&&◌, ◌||◌}
 use Rattle.std.specs.Prelude.{Some, None, Result, Ok, Err, not, if◌then◌else◌}
-use Rattle.dns_names.specs.Name.{IsLegal}
+use Rattle.dns_names.specs.Name.{IsLegal, AreOctets}
 use Rattle.dns_base.specs.Header.{rcode_of}
 use Rattle.dns_base.specs.Message.{header_of}
 use Rattle.client_request.specs.Request.{Request}
@@ -23,10 +23,11 @@ use Rattle.client_views.proofs.Headers.{header_long}
 use Rattle.client_views.proofs.Saying.{view_made}
 use Rattle.client_views.proofs.KeptLaws.{view_laws}
 use Rattle.client_cache.specs.Keeping.{Stored, Entry, Asked, Outcome, same_class, reflagged, derived, derived_outcome, derived_message, rewritten, revalued, rd_cleared, without_rd}
-use Rattle.cache_runs.specs.Standing.{Anew, KeepsMessage, KeepsResult, Message, Fault, Stands, IsStoredMessage, Derived, Nothing, More}
+use Rattle.cache_runs.specs.Standing.{Anew, KeepsMessage, KeepsResult, Message, Fault, Stands, Derived, Nothing, More}
 use Rattle.cache_runs.specs.Laws.{DerivingIsMoving}
 use Rattle.cache_runs.proofs.Views.{none_out, rd_stays, rd_itself, covers_itself, covers_on, parts_header, one_rcode, is_view, is_unread, keeps_for}
 use Rattle.cache_runs.proofs.Serving.{refused}
+use Rattle.cache_runs.proofs.Messages.{AreBytes, between_octets, view_is_message}
 
 same_is : (c d : FlagClass) → same_class c d ≡ true → c ≡ d
 same_is Do Do e = refl
@@ -51,7 +52,7 @@ not_do Do d e = absurd cc
 not_do Ad d e = refl
 not_do Plain d e = refl
 
-module _ (cache : CacheSettings) (s : Settings) (now : ℕ) (a : Asked) (legal : IsLegal a.name) (from : FlagClass) (rd : Bool) (flags : flags_cover from a.key.flags ≡ true) (signing : (not (is_do from && is_signing a.key.rtype) || is_do a.key.flags) ≡ true) where
+module _ (cache : CacheSettings) (s : Settings) (now : ℕ) (a : Asked) (legal : IsLegal a.name) (octets : AreOctets a.name) (from : FlagClass) (rd : Bool) (flags : flags_cover from a.key.flags ≡ true) (signing : (not (is_do from && is_signing a.key.rtype) || is_do a.key.flags) ≡ true) where
   -- the key of an entry, and that with the request's own flags
   abbrev there : Key
   there = record a.key { flags = from; rd = rd }
@@ -76,7 +77,7 @@ module _ (cache : CacheSettings) (s : Settings) (now : ℕ) (a : Asked) (legal :
     pub left : is_do a.key.flags ≡ false
 
   abbrev pub DerivesAs : machine.Entry → Result Entry Error → Type 0
-  DerivesAs first (Ok e) = IsStoredMessage e.outcome → Stands its now own e (record first { under = own })
+  DerivesAs first (Ok e) = Stands its now own e (record first { under = own })
   DerivesAs first (Err x) = Fails first x
 
   as_own : (e : Entry) (first : machine.Entry) → Stands its now there e first → from ≡ a.key.flags → Stands its now own e (record first { under = own })
@@ -100,6 +101,9 @@ module _ (cache : CacheSettings) (s : Settings) (now : ℕ) (a : Asked) (legal :
 
       long : length header ≡ 4
       long = header_long from a.key.flags false x.header keeps.header
+
+      bytes : AreBytes header
+      bytes = between_octets from a.key.flags false x.header keeps.octets
 
       header_is : flags_in header ≡ viewed_header q own (flags_in (header_of m))
       header_is = subst (λ b. flags_in (header_between from a.key.flags b x.header) ≡ viewed_header q own (flags_in (header_of m))) (rd_stays rd)
@@ -127,12 +131,13 @@ module _ (cache : CacheSettings) (s : Settings) (now : ℕ) (a : Asked) (legal :
           let says = v.says there own refl one_code in
           let view = w.is own a.name 0 y on (header_is ∙ ap (viewed_header q own) (sym (parts_header m w.first w.known))) says in
           subst (λ o. DerivesAs first (revalued e header y (or_unread o))) (sym (view_laws.validity (cached_by cache) (viewed q own a.name 0 w.first) y view))
-          (λ message. stands_own (record e { validity = validity_of_parts its (viewed q own a.name 0 w.first); outcome = Ok (record { header = header; message = y }) }) refl
+          (stands_own (record e { validity = validity_of_parts its (viewed q own a.name 0 w.first); outcome = Ok (record { header = header; message = y }) }) refl
           (subst (λ r. KeepsResult its q own (validity_of_parts its (viewed q own a.name 0 w.first)) r (Ok (record { header = header; message = y }))) (sym is)
           (Message m (record { header = header; message = y }) (record {
             valid = keeps.valid;
-            own = message;
+            own = view_is_message header a.name (leaves_out there own) 0 x.message y long bytes legal octets keeps.own made;
             header = long;
+            octets = bytes;
             flags = header_is;
             kept = Anew own a.name w.first onto (covers_itself own) (none_out a.key.flags) w.known view refl;
           }))))
@@ -152,17 +157,17 @@ module _ (cache : CacheSettings) (s : Settings) (now : ℕ) (a : Asked) (legal :
         where
           go : (b : Bool) → is_do from ≡ b → DerivesAs first (if b then rewritten cache e header (view_octets header a.name (leaves_out there own) 0 x.message) else Ok (record e { outcome = Ok (record x { header = header }) }))
           go true added = written added (other_out from a.key.flags other added) _ refl
-          go false bare = λ message. header_alone bare
+          go false bare = header_alone bare
 
     outcome_so : same_class from a.key.flags ≡ false → (f : Outcome) (o : Result Stored Error) → first.result ≡ f → e.outcome ≡ o → KeepsResult its q there e.validity f o → DerivesAs first (derived_outcome cache from a e o)
     outcome_so other _ _ is at (Message m x keeps) = message_so m is x keeps other
-    outcome_so other _ _ is at (Fault f valid) = λ message. stands_own e refl (subst (λ r. KeepsResult its q own e.validity r e.outcome) (sym is) (subst (KeepsResult its q own e.validity (Err f)) (sym at) (Fault f valid)))
+    outcome_so other _ _ is at (Fault f valid) = stands_own e refl (subst (λ r. KeepsResult its q own e.validity r e.outcome) (sym is) (subst (KeepsResult its q own e.validity (Err f)) (sym at) (Fault f valid)))
 
     pub derives : DerivesAs first (derived cache from a e)
     derives = go (same_class from a.key.flags) refl
       where
         go : (b : Bool) → same_class from a.key.flags ≡ b → DerivesAs first (if b then Ok e else derived_outcome cache from a e e.outcome)
-        go true same = λ message. as_own e first st (same_is from a.key.flags same)
+        go true same = as_own e first st (same_is from a.key.flags same)
         go false other = outcome_so other first.result e.outcome refl refl st.result
 
   -- RD is cleared

@@ -17,11 +17,11 @@ use Rattle.client_views.specs.declared.key.AdDo.{AdDo}
 use Rattle.client_views.specs.declared.key.AdDo.TheVariants as classes
 use Rattle.client_views.specs.Key.{flag_class}
 use Rattle.client_views.specs.Validity.{with_cache}
-use Rattle.client_cache.specs.Keeping.{Stored, Entry, Table, Asked, Found, Outcome, asked_in, entry_under, uses, stores, with_flags, if_kept, or_else, flags, first_above_ad, first_from_ad, first_of_class, first_class, first_kept, same_class, serves, derived, without_rd, rd_cleared, found, clears_rd, stores_with_rd, keeps_derived, stores_and_serves, gives_own, takes_own, gives_other, takes_other, is_own, takes}
-use Rattle.cache_runs.specs.Standing.{Stands, StandsForStored, TableStands, HasMessages, IsStoredMessage, IsAskedBy, Nothing, More}
+use Rattle.client_cache.specs.Keeping.{Entry, Table, Asked, Found, Outcome, asked_in, entry_under, uses, stores, with_flags, if_kept, or_else, flags, first_above_ad, first_from_ad, first_of_class, first_class, first_kept, same_class, serves, derived, rd_cleared, found, clears_rd, stores_with_rd, keeps_derived, stores_and_serves, gives_own, takes_own, gives_other, takes_other, is_own, takes}
+use Rattle.cache_runs.specs.Standing.{Stands, StandsForStored, TableStands, IsAskedBy, Nothing, More}
 use Rattle.cache_runs.specs.Laws.{FindsAs, LookUpsAreAnswers, RequestsAreAnswered, found_asking, found_for, unstored}
 use Rattle.cache_runs.proofs.Asking.{asked_are_of_requests}
-use Rattle.cache_runs.proofs.Tables.{looked, after_use, after_store, last_stored, stands_more}
+use Rattle.cache_runs.proofs.Tables.{looked, after_use, after_store, stands_more}
 use Rattle.cache_runs.proofs.Views.{rd_itself, flags_itself, signing_itself}
 use Rattle.cache_runs.proofs.Serving.{served}
 use Rattle.cache_runs.proofs.Deriving.{DerivesAs, derives, clears}
@@ -87,10 +87,6 @@ rd_same true false e f = absurd cc
 rd_same false true e f = absurd cc
 rd_same false false e f = refl
 
-same_message : (class : FlagClass) (o : Result Stored Error) → IsStoredMessage (without_rd class o) → IsStoredMessage o
-same_message class (Ok x) h = h
-same_message class (Err e) h = h
-
 module _ (c : Conf) (cache : CacheSettings) (s : Settings) (compose : Request → Outcome) (now number : ℕ) (r : Request) (a : Asked) (asked : IsAskedBy r a) (composed : (o : Octets) × (compose r ≡ Ok o)) (limited : cache.max_validity ≤ seconds 4294967295) (stored : List machine.Entry) where
   abbrev its : Settings
   its = with_cache cache s
@@ -138,7 +134,7 @@ module _ (c : Conf) (cache : CacheSettings) (s : Settings) (compose : Request �
 
     module _ (t : Table) (st : TableStands its now stored t) (first : machine.Entry) (is_in : IsIn first stored) (e : Entry) (stands : Stands its now there e first) where
       abbrev Derives : Result Entry Error → Type 0
-      Derives = DerivesAs cache s now a asked.legal (flag_class class) rd may.flags may.signing first
+      Derives = DerivesAs cache s now a asked.legal asked.octets (flag_class class) rd may.flags may.signing first
 
       abbrev at_own : machine.Entry
       at_own = record first { under = own }
@@ -156,9 +152,8 @@ module _ (c : Conf) (cache : CacheSettings) (s : Settings) (compose : Request �
           (inr (subst (λ (k : Key). is_do k.flags ≡ true) (sym stands.under) d.added, subst (λ (k : Key). is_do k.flags ≡ false) asked.key d.left)))
 
       -- what is derived is stored under the request's own key
-      stored_so : (e' : Entry) → Derives (Ok e') → clears_rd (flags class rd) a.key ≡ false → HasMessages (stores a.key e' t) → Finds (stores_and_serves a now e' t)
-      stored_so e' d uncut has =
-          let d : Stands its now own e' at_own = d (last_stored (λ e. IsStoredMessage e.outcome) a.key e' t has) in
+      stored_so : (e' : Entry) → Derives (Ok e') → clears_rd (flags class rd) a.key ≡ false → Finds (stores_and_serves a now e' t)
+      stored_so e' d uncut =
           let same : rd ≡ a.key.rd = rd_same rd a.key.rd uncut may.recursion in
           let here : Stands its now a.key e' at_key = subst (λ (b : Bool). Stands its now (record a.key { rd = b }) e' (record first { under = record a.key { rd = b } })) same d in
           let one : Among (at_key ∷ stored) (a.key, e') = (at_key, inl refl, here) in
@@ -185,10 +180,9 @@ module _ (c : Conf) (cache : CacheSettings) (s : Settings) (compose : Request �
               let here : Among after_both (own, e') = (at_own, inr (inl refl), d) in
               after_store (Among after_both) (record a.key { rd = true }) e' t more (subst (λ (b : Bool). Among after_both (record a.key { rd = b }, e')) set here)
 
-      cleared_so : (e' : Entry) → Derives (Ok e') → clears_rd (flags class rd) a.key ≡ true → HasMessages (stores a.key (rd_cleared a.key.flags e') (stores_with_rd a (flags class rd) e' t)) → Finds (stores_and_serves a now (rd_cleared a.key.flags e') (stores_with_rd a (flags class rd) e' t))
-      cleared_so e' d cut has =
-          let d : Stands its now own e' at_own = d (same_message a.key.flags e'.outcome (last_stored (λ e. IsStoredMessage e.outcome) a.key (rd_cleared a.key.flags e') (stores_with_rd a (flags class rd) e' t) has)) in
-          let here : Stands its now a.key (rd_cleared a.key.flags e') at_key = clears cache s now a asked.legal (flag_class class) rd may.flags may.signing e' at_own cut from_own d in
+      cleared_so : (e' : Entry) → Derives (Ok e') → clears_rd (flags class rd) a.key ≡ true → Finds (stores_and_serves a now (rd_cleared a.key.flags e') (stores_with_rd a (flags class rd) e' t))
+      cleared_so e' d cut =
+          let here : Stands its now a.key (rd_cleared a.key.flags e') at_key = clears cache s now a asked.legal asked.octets (flag_class class) rd may.flags may.signing e' at_own cut from_own d in
           let one : Among after_both (a.key, rd_cleared a.key.flags e') = (at_key, inl refl, here) in
           record {
             after = after_both;
@@ -198,64 +192,64 @@ module _ (c : Conf) (cache : CacheSettings) (s : Settings) (compose : Request �
             answers = serving after_both (rd_cleared a.key.flags e') one;
           }
 
-      keeps_so : (x : Result Entry Error) → Derives x → HasMessages (keeps_derived a (flags class rd) now t x).table → Finds (keeps_derived a (flags class rd) now t x)
-      keeps_so (Err x) d has = record {
+      keeps_so : (x : Result Entry Error) → Derives x → Finds (keeps_derived a (flags class rd) now t x)
+      keeps_so (Err x) d = record {
         after = stored;
         derived = Nothing stored;
         stands = st;
         answers = λ o is. (let same : Err x ≡ o = cc in subst (λ o. AtOnce c its compose now number stored r (unstored number r o)) same (unread_so x d));
       }
-      keeps_so (Ok e') d has = go (clears_rd (flags class rd) a.key) refl has
+      keeps_so (Ok e') d = go (clears_rd (flags class rd) a.key) refl
         where
-          go : (b : Bool) → clears_rd (flags class rd) a.key ≡ b → HasMessages (if b then stores_and_serves a now (rd_cleared a.key.flags e') (stores_with_rd a (flags class rd) e' t) else stores_and_serves a now e' t).table
+          go : (b : Bool) → clears_rd (flags class rd) a.key ≡ b
               → Finds (if b then stores_and_serves a now (rd_cleared a.key.flags e') (stores_with_rd a (flags class rd) e' t) else stores_and_serves a now e' t)
-          go true cut has = cleared_so e' d cut has
-          go false uncut has = stored_so e' d uncut has
+          go true cut = cleared_so e' d cut
+          go false uncut = stored_so e' d uncut
 
-    other_so : (t : Table) → TableStands its now stored t → HasMessages (takes_other cache a (flags class rd) now t).table → Finds (takes_other cache a (flags class rd) now t)
-    other_so t st has = go (entry_under there t) refl has
+    other_so : (t : Table) → TableStands its now stored t → Finds (takes_other cache a (flags class rd) now t)
+    other_so t st = go (entry_under there t) refl
       where
         used : TableStands its now stored (uses there t)
         used = after_use (Among stored) there t st
 
-        go : (o : Option Entry) → entry_under there t ≡ o → HasMessages (gives_other cache a (flags class rd) now (uses there t) o).table → Finds (gives_other cache a (flags class rd) now (uses there t) o)
-        go None is has = finds_none (uses there t) used
-        go (Some e) is has =
+        go : (o : Option Entry) → entry_under there t ≡ o → Finds (gives_other cache a (flags class rd) now (uses there t) o)
+        go None is = finds_none (uses there t) used
+        go (Some e) is =
             let p = looked (Among stored) there t.entries e st is in
             keeps_so (uses there t) used p.0 p.1 e p.2 (derived cache (flag_class class) a e)
-            (derives cache s now a asked.legal (flag_class class) rd may.flags may.signing e p.0 p.2) has
+            (derives cache s now a asked.legal asked.octets (flag_class class) rd may.flags may.signing e p.0 p.2)
 
-    taken : (t : Table) → TableStands its now stored t → HasMessages (takes cache a now t (Some (flags class rd))).table → Finds (takes cache a now t (Some (flags class rd)))
-    taken t st has = go (is_own (flags class rd) a.key) has
+    taken : (t : Table) → TableStands its now stored t → Finds (takes cache a now t (Some (flags class rd)))
+    taken t st = go (is_own (flags class rd) a.key)
       where
-        go : (b : Bool) → HasMessages (if b then takes_own a now t else takes_other cache a (flags class rd) now t).table → Finds (if b then takes_own a now t else takes_other cache a (flags class rd) now t)
-        go true has = own_so t st
-        go false has = other_so t st has
+        go : (b : Bool) → Finds (if b then takes_own a now t else takes_other cache a (flags class rd) now t)
+        go true = own_so t st
+        go false = other_so t st
 
-  looks : {F : Type 0} (gives : Option F → Found) (P : F → Type 0) (t : Table) (o : Option F) → (gives None ≡ found None t) → ((f : F) → P f → HasMessages (gives (Some f)).table → Finds (gives (Some f))) → IfSome o P → TableStands its now stored t → HasMessages (gives o).table → Finds (gives o)
-  looks gives P t None none some may st has = subst Finds (sym none) (finds_none t st)
-  looks gives P t (Some f) none some may st has = some f may has
+  looks : {F : Type 0} (gives : Option F → Found) (P : F → Type 0) (t : Table) (o : Option F) → (gives None ≡ found None t) → ((f : F) → P f → Finds (gives (Some f))) → IfSome o P → TableStands its now stored t → Finds (gives o)
+  looks gives P t None none some may st = subst Finds (sym none) (finds_none t st)
+  looks gives P t (Some f) none some may st = some f may
 
 pub look_ups_are_answers : LookUpsAreAnswers
-look_ups_are_answers c cache s compose now number r a stored t limited asked composed has stands =
+look_ups_are_answers c cache s compose now number r a stored t limited asked composed stands =
     looks c cache s compose now number r a asked composed limited stored (takes cache a now t) (λ f. MayServe a.key a.key.flags f.class f.rd) t (first_kept t a.key) refl
-    (λ f may has. taken c cache s compose now number r a asked composed limited stored f.class f.rd may t stands has)
-    (may_serve t a.key) stands has
+    (λ f may. taken c cache s compose now number r a asked composed limited stored f.class f.rd may t stands)
+    (may_serve t a.key) stands
 
 -- ---- each request
 
 pub requests_are_answered : RequestsAreAnswered
-requests_are_answered c cache s compose now number r stored t limited octets says has stands = go (compose r) refl has
+requests_are_answered c cache s compose now number r stored t limited octets says stands = go (compose r) refl
   where
-    asking : (m : Octets) → compose r ≡ Ok m → (o : Option Asked) → asked_in r.header (is_dnssec_ok r) m ≡ o → HasMessages (found_asking cache now t o).table → FindsAs c (with_cache cache s) compose now number r stored (found_asking cache now t o)
-    asking m made None is has = record { after = stored; derived = Nothing stored; stands = stands; answers = λ o e. none_some e }
-    asking m made (Some a) is has = look_ups_are_answers c cache s compose now number r a stored t limited (asked_are_of_requests r m a octets (says m made) is) (m, made) has stands
+    asking : (m : Octets) → compose r ≡ Ok m → (o : Option Asked) → asked_in r.header (is_dnssec_ok r) m ≡ o → FindsAs c (with_cache cache s) compose now number r stored (found_asking cache now t o)
+    asking m made None is = record { after = stored; derived = Nothing stored; stands = stands; answers = λ o e. none_some e }
+    asking m made (Some a) is = look_ups_are_answers c cache s compose now number r a stored t limited (asked_are_of_requests r m a octets (says m made) is) (m, made) stands
 
-    go : (o : Outcome) → compose r ≡ o → HasMessages (found_for cache r.header (is_dnssec_ok r) now t o).table → FindsAs c (with_cache cache s) compose now number r stored (found_for cache r.header (is_dnssec_ok r) now t o)
-    go (Err e) made has = record {
+    go : (o : Outcome) → compose r ≡ o → FindsAs c (with_cache cache s) compose now number r stored (found_for cache r.header (is_dnssec_ok r) now t o)
+    go (Err e) made = record {
       after = stored;
       derived = Nothing stored;
       stands = stands;
       answers = λ o is. (let same : Err e ≡ o = cc in subst (λ o. AtOnce c (with_cache cache s) compose now number stored r (unstored number r o)) same (Refused e made));
     }
-    go (Ok m) made has = asking m made (asked_in r.header (is_dnssec_ok r) m) refl has
+    go (Ok m) made = asking m made (asked_in r.header (is_dnssec_ok r) m) refl

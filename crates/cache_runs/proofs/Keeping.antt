@@ -14,12 +14,16 @@ use Rattle.headline.specs.Parts.{flags_in}
 use Rattle.headline.specs.Validity.{validity_of_message}
 use Rattle.headline.specs.Views.{viewed_header}
 use Rattle.headline.specs.machine.Client as machine
+use Rattle.headline.specs.machine.Exact.{Value}
 use Rattle.client_views.specs.Validity.{with_cache, cached_by, kept_for, or_unread}
 use Rattle.client_views.specs.Viewing.{header_between}
 use Rattle.client_views.proofs.Headers.{header_viewed, header_long}
 use Rattle.client_cache.specs.Keeping.{Entry, Table, Outcome, kept_of, keeps_for, keeps, stores}
+use Rattle.cache_runs.specs.Listing.{AreAlike, StandsFor, lists}
 use Rattle.cache_runs.specs.Standing.{IsMessage, IsResult, Whole, KeepsMessage, KeepsResult, Message, Fault, StandsForStored, TableStands}
 use Rattle.cache_runs.specs.Laws.{KeepsAs, WhatIsKeptIsStored, ResultsAreGiven, keeps_if}
+use Rattle.cache_runs.proofs.Listing.{stored_alike}
+use Rattle.cache_runs.proofs.Messages.{first_header}
 use Rattle.cache_runs.proofs.Tables.{after_store, stands_more}
 use Rattle.cache_runs.proofs.Views.{none_out, rd_stays, covers_itself}
 
@@ -43,6 +47,7 @@ first_kept s k m n ok valid above = record {
   valid = (n, valid, above);
   own = ok;
   header = subst (λ h. length h ≡ 4) (no_change k.flags (header_of m)) (header_long k.flags k.flags false (header_of m) (four m ok));
+  octets = first_header m ok;
   flags = subst (λ h. flags_in h ≡ viewed_header k k (flags_in (header_of m))) (no_change k.flags (header_of m))
       (subst (λ b. flags_in (header_between k.flags k.flags b (header_of m)) ≡ viewed_header k k (flags_in (header_of m))) (rd_stays k.rd) (header_viewed k k (header_of m) (four m ok)));
   kept = Whole refl (none_out k.flags) valid;
@@ -59,25 +64,35 @@ module _ (s : Settings) (now number : ℕ) (r : Request) (outcome : Outcome) (st
       after_store (StandsForStored s now (first ∷ stored)) (key_of r) (entry_for n) t (stands_more s now first stored t stands)
       (first, inl refl, record { under = refl; covers = covers_itself (key_of r); moment = refl; past = omega arith; result = kept })
 
+  first_listed : (n : ℕ) → KeepsResult s (key_of r) (key_of r) n outcome (kept_of outcome) → (es : List (Key × Value)) → AreAlike s now es t.entries
+      → AreAlike s now (lists t.cap now (record { request = number; asked = r; result = outcome; is_stored = true }) es) (stores (key_of r) (entry_for n) t).entries
+  first_listed n kept es alike =
+      stored_alike (StandsFor s now) t.cap (key_of r) (record { first = r; number = number; result = outcome; moment = now }) (entry_for n) es t.entries
+      (record { under = refl; covers = covers_itself (key_of r); moment = refl; past = omega arith; result = kept }) alike
+
   kept_as : (v : Option ℕ) → ((n : ℕ) → v ≡ Some n → 0 < n → KeepsResult s (key_of r) (key_of r) n outcome (kept_of outcome))
       → KeepsAs s now stored (machine.outcome_of true v number r outcome) t (keeps_for (key_of r) now outcome t (or_unread v))
-  kept_as None f = record { given = refl; unstored = λ e. refl; stands = stands }
-  kept_as (Some zero) f = record { given = refl; unstored = λ e. refl; stands = stands }
+  kept_as None f = record { given = refl; unstored = λ e. refl; stands = stands; room = refl; alike = λ es h. h }
+  kept_as (Some zero) f = record { given = refl; unstored = λ e. refl; stands = stands; room = refl; alike = λ es h. h }
   kept_as (Some (suc n)) f =
       let some : (suc n == 0) ≡ false = ne_eqb (suc n) 0 (λ z. omega arith) in
       let above : nat_lt 0 (suc n) ≡ true = lt-ltb 0 (suc n) (omega arith) in
       subst (λ b. KeepsAs s now stored (machine.outcome_of true (Some (suc n)) number r outcome) t (if b then (outcome, t) else (outcome, stores (key_of r) (entry_for (suc n)) t))) (sym some)
       (subst (λ b. KeepsAs s now stored (record { request = number; asked = r; result = outcome; is_stored = b }) t (outcome, stores (key_of r) (entry_for (suc n)) t)) (sym above)
-      (record { given = refl; unstored = λ e. absurd (cc); stands = first_stands (suc n) (f (suc n) refl (omega arith)) }))
+      (record { given = refl; unstored = λ e. absurd (cc); stands = first_stands (suc n) (f (suc n) refl (omega arith)); room = refl; alike = first_listed (suc n) (f (suc n) refl (omega arith)) }))
 
 pub what_is_kept_is_stored : WhatIsKeptIsStored
 what_is_kept_is_stored cache s now number r outcome stored t cacheable ok stands =
-    subst (λ b. KeepsAs (with_cache cache s) now stored (machine.outcome_of b (machine.validity_of (with_cache cache s) outcome) number r outcome) t (keeps cache (key_of r) now outcome t)) (sym cacheable) (go outcome ok)
+    subst (λ b. KeepsAs (with_cache cache s) now stored (machine.outcome_of b (machine.validity_of (with_cache cache s) outcome) number r outcome) t (keeps cache (key_of r) now outcome t)) (sym cacheable)
+    (go outcome (subst (λ b. IsResult (machine.outcome_of b (machine.validity_of (with_cache cache s) outcome) number r outcome).result) cacheable ok))
   where
-    go : (outcome : Outcome) → IsResult outcome → KeepsAs (with_cache cache s) now stored (machine.outcome_of true (machine.validity_of (with_cache cache s) outcome) number r outcome) t (keeps cache (key_of r) now outcome t)
+    go : (outcome : Outcome) → IsResult (machine.outcome_of true (machine.validity_of (with_cache cache s) outcome) number r outcome).result → KeepsAs (with_cache cache s) now stored (machine.outcome_of true (machine.validity_of (with_cache cache s) outcome) number r outcome) t (keeps cache (key_of r) now outcome t)
     go (Ok m) ok = subst (λ v. KeepsAs (with_cache cache s) now stored (machine.outcome_of true v number r (Ok m)) t (keeps_for (key_of r) now (Ok m) t (kept_for cache (Ok m)))) (sym (same_validity cache s m))
         (kept_as (with_cache cache s) now number r (Ok m) stored t stands (validity_of_message (cached_by cache) m)
-        (λ n e above. Message m (record { header = with_aa false (header_of m); message = m }) (first_kept (with_cache cache s) (key_of r) m n ok (same_validity cache s m ∙ e) above)))
+        (λ n e above.
+        let valid : validity_of_message (with_cache cache s) m ≡ Some n = same_validity cache s m ∙ e in
+        Message m (record { header = with_aa false (header_of m); message = m })
+        (first_kept (with_cache cache s) (key_of r) m n (subst (λ v. IsResult (machine.outcome_of true v number r (Ok m)).result) valid ok) valid above)))
     go (Err e) ok = kept_as (with_cache cache s) now number r (Err e) stored t stands (Some cache.transport_failure_duration) (λ n is above. Fault e (let both = is in cc))
 
 pub results_are_given : ResultsAreGiven
@@ -88,4 +103,4 @@ results_are_given cache s now number r outcome stored t ok stands = go (is_cache
     go true cacheable = what_is_kept_is_stored cache s now number r outcome stored t cacheable ok stands
     go false none =
         subst (λ b. KeepsAs (with_cache cache s) now stored (machine.outcome_of b (machine.validity_of (with_cache cache s) outcome) number r outcome) t (outcome, t)) (sym none)
-        (record { given = refl; unstored = λ e. refl; stands = stands })
+        (record { given = refl; unstored = λ e. refl; stands = stands; room = refl; alike = λ es h. h })

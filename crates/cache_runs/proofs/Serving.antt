@@ -19,7 +19,7 @@ use Rattle.headline.specs.Settings.{Settings}
 use Rattle.headline.specs.Keys.{Key, KeysCover, KeyCovers, key_of, spelled_name}
 use Rattle.headline.specs.Parts.{IsIn, Parts, flags_in, known_parts, lowered_parts, Says}
 use Rattle.headline.specs.Validity.{second, validity_of_parts}
-use Rattle.headline.specs.Views.{viewed_header, with_name, leaves_out, viewed}
+use Rattle.headline.specs.Views.{viewed_header, with_name, leaves_out, viewed, view_of}
 use Rattle.headline.specs.machine.Client as machine
 use Rattle.headline.specs.machine.Client.{AtOnce, Viewed, Unread, Repeated}
 use Rattle.client_views.specs.Viewing.{carries_all, carried, view_octets, IsViewable}
@@ -58,6 +58,38 @@ refused h name b n m e ok is = go (carries_all name b n m (fresh None)) refl is
     go (Ok d) q f = absurd cc
     go (Err x) q f = let why = view_refused h name b n m x ok q in let same : error_of x ≡ e = cc in (sym same ∙ why.0, why.1)
 
+-- ---- what is shown
+
+-- What is given of a message says the view of the first message at its age.
+pub record IsShown (first r : Request) (m : Octets) (age : ℕ) (y : Octets) : Type 0 where
+  pub parts : Parts Data
+  pub known : known_parts m ≡ Some parts
+  pub says : Says y (view_of first r age parts)
+
+module _ (s : Settings) (r : Request) (a : Asked) (asked : IsAskedBy r a) (limited : s.max_validity ≤ seconds 4294967295) (first : Request) (m : Octets) (age validity : ℕ) (x : Stored) (in_time : age ≤ validity)
+    (covers : KeysCover (key_of first) a.key) (keeps : KeepsMessage s (key_of first) a.key m validity x) where
+  abbrev pub seen : Outcome
+  seen = view_octets x.header a.name (leaves_out a.key a.key) (seconds_of age) x.message
+
+  pub viewable : IsViewable x.header a.name x.message
+  viewable = record { octets = keeps.own.octets; long = keeps.own.long; header_is = keeps.header; legal = asked.legal }
+
+  pub shows : (y : Octets) → seen ≡ Ok y → IsShown first r m age y
+  shows y made =
+      let q = key_of first in
+      let v = view_made x.header a.name (leaves_out a.key a.key) (seconds_of age) x.message y viewable made in
+      let w = is_view s q a.key m validity x keeps covers x.header v.parts v.known in
+      let says = v.says a.key a.key refl (one_rcode s q a.key m validity x keeps covers) in
+      let flags : flags_in x.header ≡ viewed_header q a.key w.first.header = keeps.flags ∙ ap (viewed_header q a.key) (sym (parts_header m w.first w.known)) in
+      let view = w.is a.key a.name (seconds_of age) y (covers_itself a.key) flags says in
+      let long = kept_limited s q a.key m validity x keeps covers in
+      let spelled : Says y (viewed q a.key (spelled_name r) (seconds_of age) w.first) = view ∙ ap Some (view_alike q a.key a.name (spelled_name r) (seconds_of age) w.first asked.name) in
+      let aged : Says y (viewed q a.key (spelled_name r) (age / second) w.first) = subst (λ t. Says y (viewed q a.key (spelled_name r) t w.first)) (seconds_are age (omega (arith, in_time, long, limited))) spelled in
+      record { parts = w.first; known = w.known; says = subst (λ k. Says y (viewed q k (spelled_name r) (age / second) w.first)) asked.key aged }
+
+  pub unshown : (e : Error) → seen ≡ Err e → (e ≡ errors.MessageParseError) × (known_parts x.message ≡ None)
+  unshown e made = refused x.header a.name (leaves_out a.key a.key) (seconds_of age) x.message e viewable made
+
 -- ---- what is given
 
 module _ (c : Conf) (s : Settings) (compose : Request → Outcome) (now number : ℕ) (r : Request) (a : Asked) (asked : IsAskedBy r a) (composed : (o : Octets) × (compose r ≡ Ok o)) (limited : s.max_validity ≤ seconds 4294967295) (stored : List machine.Entry) where
@@ -69,28 +101,18 @@ module _ (c : Conf) (s : Settings) (compose : Request → Outcome) (now number :
     abbrev q : Key
     q = key_of first.first
 
-    viewable : IsViewable x.header a.name x.message
-    viewable = record { octets = keeps.own.octets; long = keeps.own.long; header_is = keeps.header; legal = asked.legal }
-
     given : (y : Octets) → view_octets x.header a.name (leaves_out a.key a.key) (seconds_of age) x.message ≡ Ok y → Gives (Ok y)
     given y made =
-        let v = view_made x.header a.name (leaves_out a.key a.key) (seconds_of age) x.message y viewable made in
-        let w = is_view s q a.key m validity x keeps covers x.header v.parts v.known in
-        let says = v.says a.key a.key refl (one_rcode s q a.key m validity x keeps covers) in
-        let flags : flags_in x.header ≡ viewed_header q a.key w.first.header = keeps.flags ∙ ap (viewed_header q a.key) (sym (parts_header m w.first w.known)) in
-        let view = w.is a.key a.name (seconds_of age) y (covers_itself a.key) flags says in
+        let w = shows s r a asked limited first.first m age validity x in_time covers keeps y made in
         let n = keeps.valid in
-        let long = kept_limited s q a.key m validity x keeps covers in
-        let spelled : Says y (viewed q a.key (spelled_name r) (seconds_of age) w.first) = view ∙ ap Some (view_alike q a.key a.name (spelled_name r) (seconds_of age) w.first asked.name) in
-        let aged : Says y (viewed q a.key (spelled_name r) (age / second) w.first) = subst (λ t. Says y (viewed q a.key (spelled_name r) t w.first)) (seconds_are age (omega (arith, in_time, long, limited))) spelled in
-        let valid = subst (λ k. validity_of_parts s (viewed q k (spelled_name r) 0 w.first) ≡ validity) asked.key (view_valid s q a.key m validity x keeps covers (spelled_name r) w.first w.known) in
-        Viewed first m y w.first age composed there its covering is_age
+        let valid = subst (λ k. validity_of_parts s (viewed q k (spelled_name r) 0 w.parts) ≡ validity) asked.key (view_valid s q a.key m validity x keeps covers (spelled_name r) w.parts w.known) in
+        Viewed first m y w.parts age composed there its covering is_age
         (record { known = w.known; validity = n.0; is_validity = n.1; kept = n.2; in_time = subst (λ v. age ≤ v) (sym valid) in_time })
-        (subst (λ k. Says y (viewed q k (spelled_name r) (age / second) w.first)) asked.key aged)
+        w.says
 
     unread : (e : Error) → view_octets x.header a.name (leaves_out a.key a.key) (seconds_of age) x.message ≡ Err e → Gives (Err e)
     unread e made =
-        let why = refused x.header a.name (leaves_out a.key a.key) (seconds_of age) x.message e viewable made in
+        let why = unshown s r a asked limited first.first m age validity x in_time covers keeps e made in
         let u = is_unread s q a.key m validity x keeps covers why.1 in
         let valid = subst (λ k. validity_of_parts s (viewed q k (spelled_name r) 0 u.parts) ≡ validity) asked.key (u.valid (spelled_name r)) in
         subst (λ f. Gives (Err f)) (sym why.0)

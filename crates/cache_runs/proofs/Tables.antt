@@ -13,6 +13,15 @@ use Rattle.client_cache.specs.Keeping.{Entry, Table, uses, stores}
 use Rattle.cache_runs.specs.Standing.{StandsForStored, TableStands}
 use Rattle.cache_runs.specs.Laws.{StandingLaws}
 
+-- the key that is looked up, as it is in the table
+pub key_found : (k : Key) (es : List (Key × Entry)) (x : Key × Entry) → lookup_entry (same_key k) es ≡ Some x → k ≡ x.0
+key_found k [] x e = absurd cc
+key_found k (y ∷ es) x e = go (same_key k y.0) refl (λ f. key_found k es x f) e
+  where
+    go : (b : Bool) → same_key k y.0 ≡ b → (lookup_entry (same_key k) es ≡ Some x → k ≡ x.0) → cond b (Some y) (lookup_entry (same_key k) es) ≡ Some x → k ≡ x.0
+    go true is ih f = let same : y ≡ x = cc in same_is_equal k y.0 is ∙ ap (λ (z : Key × Entry). z.0) same
+    go false is ih f = ih f
+
 module _ (P : Key × Entry → Type 0) where
   abbrev Each : List (Key × Entry) → Type 0
   Each es = AllByRecursion P es
@@ -45,15 +54,6 @@ module _ (P : Key × Entry → Type 0) where
       go None e = h
       go (Some x) e = (one_found test es x h e, removed test es h)
 
-  -- the key that is looked up, as it is in the table
-  key_found : (k : Key) (es : List (Key × Entry)) (x : Key × Entry) → lookup_entry (same_key k) es ≡ Some x → k ≡ x.0
-  key_found k [] x e = absurd cc
-  key_found k (y ∷ es) x e = go (same_key k y.0) refl (λ f. key_found k es x f) e
-    where
-      go : (b : Bool) → same_key k y.0 ≡ b → (lookup_entry (same_key k) es ≡ Some x → k ≡ x.0) → cond b (Some y) (lookup_entry (same_key k) es) ≡ Some x → k ≡ x.0
-      go true is ih f = let same : y ≡ x = cc in same_is_equal k y.0 is ∙ ap (λ (z : Key × Entry). z.0) same
-      go false is ih f = ih f
-
   put : (k : Key) (v : Entry) (t : Table) → Each t.entries → P (k, v) → Each (put_entries same_key t k v)
   put k v t h p = go (lookup_entry (same_key k) t.entries) refl
     where
@@ -77,14 +77,6 @@ module _ (P : Key × Entry → Type 0) where
 
   pub after_store : (k : Key) (v : Entry) (t : Table) → Each t.entries → P (k, v) → Each (stores k v t).entries
   after_store k v t h p = put k v t h p
-
--- what was stored last stands first
-pub last_stored : (P : Entry → Type 0) (k : Key) (v : Entry) (t : Table) → AllByRecursion (λ (x : Key × Entry). P x.1) (stores k v t).entries → P v
-last_stored P k v t h = go (lookup_entry (same_key k) t.entries) h
-  where
-    go : (o : Option (Key × Entry)) → AllByRecursion (λ (x : Key × Entry). P x.1) (option_map_or (λ e. (e.0, v) ∷ remove_entry (same_key k) t.entries) o ((k, v) ∷ take (t.cap - 1) t.entries)) → P v
-    go None h = h.0
-    go (Some x) h = h.0
 
 pub each_more : {A : Type 0} (P Q : A → Type 0) → ((x : A) → P x → Q x) → (xs : List A) → AllByRecursion P xs → AllByRecursion Q xs
 each_more P Q f [] h = tt

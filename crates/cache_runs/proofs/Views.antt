@@ -23,6 +23,8 @@ use Rattle.client_views.proofs.WhatIsMet.{header_is}
 use Rattle.client_views.proofs.KeptLaws.{view_laws}
 use Rattle.client_cache.specs.Keeping.{Stored}
 use Rattle.cache_runs.specs.Standing.{IsKept, Whole, Anew, KeepsMessage}
+use Rattle.cache_runs.proofs.Messages.{between_octets}
+use Rattle.cache_runs.proofs.ReadViews.{read_view_valid}
 
 -- ---- keys
 
@@ -262,12 +264,24 @@ module _ (s : Settings) (q k : Key) (m : Octets) (validity : ℕ) (x : Stored) (
           }
       go (Anew w spelled its to_w from_w none its_known says valid) = let d = said_parts x.message (viewed q w spelled 0 its) says in none_some (sym unknown ∙ d.1)
 
+  -- A first message that is read is valid for a view of it as long as what is kept, though its data may not be read by type.
+  pub read_valid : (name : Labels) (parts : Parts Octets) → read_parts m ≡ Some parts → validity_of_parts s (viewed q k name 0 parts) ≡ validity
+  read_valid name parts read = go keeps.kept
+    where
+      go : IsKept s q k m validity x → validity_of_parts s (viewed q k name 0 parts) ≡ validity
+      go (Whole same none valid) =
+          let n = keeps.valid in
+          let y = valid_is_read s m n.0 n.1 n.2 in
+          whole_valid s q k name parts none ∙ (ap (validity_of_parts s) (same_some (read_parts m) parts y.0 read y.1) ∙ (y.2 ∙ same_some (validity_of_message s m) n.0 validity n.1 valid))
+      go (Anew w spelled its to_w from_w none its_known says valid) = read_view_valid s q k name 0 m parts its read its_known ∙ view_valid name its its_known
+
   -- It is kept for a key that differs in no more than what its header says.
   pub keeps_for : (r : Key) → KeysCover k r → leaves_out k r ≡ false → KeepsMessage s q r m validity (record x { header = header_between k.flags r.flags (k.rd && not r.rd) x.header })
   keeps_for r on none = record {
     valid = keeps.valid;
     own = keeps.own;
     header = header_long k.flags r.flags (k.rd && not r.rd) x.header keeps.header;
+    octets = between_octets k.flags r.flags (k.rd && not r.rd) x.header keeps.octets;
     flags = view_laws.headers q k r x.header (flags_in (header_of m)) keeps.header covers on keeps.flags;
     kept = go keeps.kept;
   }

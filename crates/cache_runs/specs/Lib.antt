@@ -1,2 +1,6 @@
 pub mod Standing
+pub mod Listing
 pub mod Laws
+pub mod Results
+pub mod Caching
+pub mod Listed

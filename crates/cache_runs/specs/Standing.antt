@@ -4,7 +4,7 @@
 --   the table:    the first message, or its view written anew ──► under the header of its view for the key
 use Rattle.std.specs.Prelude.{◌≡◌, ℕ, ◌<◌, ◌≤◌, true, false, Some, List, ◌∷◌, length, Result, Ok, Err, slice_index}
 use Rattle.std.specs.List.{AllByRecursion}
-use Rattle.dns_names.specs.Name.{Labels, lowered, IsLegal}
+use Rattle.dns_names.specs.Name.{Labels, lowered, IsLegal, AreOctets}
 use Rattle.dns_base.specs.Data.{Data}
 use Rattle.dns_base.specs.Message.{header_of}
 use Rattle.client_request.specs.Request.{Request}
@@ -34,11 +34,12 @@ pub data IsKept (s : Settings) (q k : Key) (m : Octets) (validity : ℕ) (x : St
   Anew : (w : Key) (name : Labels) (first : Parts Data) → KeysCover q w → KeysCover w k → leaves_out w k ≡ false → known_parts m ≡ Some first
       → Says x.message (viewed q w name 0 first) → validity ≡ validity_of_parts s (viewed q w name 0 first) → IsKept s q k m validity x
 
--- The first message had some validity, and what is kept of it has the header of the view.
+-- The first message had some validity, and what is kept of it has the header of the view, in four octets.
 pub record KeepsMessage (s : Settings) (q k : Key) (m : Octets) (validity : ℕ) (x : Stored) : Type 0 where
   pub valid : (n : ℕ) × (validity_of_message s m ≡ Some n) × (0 < n)
   pub own : IsMessage x.message
   pub header : length x.header ≡ 4
+  pub octets : (i : ℕ) → slice_index x.header i < 256
   pub flags : flags_in x.header ≡ viewed_header q k (flags_in (header_of m))
   pub kept : IsKept s q k m validity x
 
@@ -63,20 +64,13 @@ StandsForStored s now stored x = (first : machine.Entry) × (IsIn first stored) 
 abbrev pub TableStands : Settings → (now : ℕ) → List machine.Entry → Table → Type 0
 TableStands s now stored t = AllByRecursion (StandsForStored s now stored) t.entries
 
--- each message of the table is one
-abbrev pub IsStoredMessage : Result Stored Error → Type 0
-IsStoredMessage (Ok x) = IsMessage x.message
-IsStoredMessage (Err e) = Unit {0}
-
-abbrev pub HasMessages : Table → Type 0
-HasMessages t = AllByRecursion (λ (x : Key × Entry). IsStoredMessage x.1.outcome) t.entries
-
--- What a request asks whose results are kept: its key, and the name of its question but for case, which may be written.
+-- What a request asks whose results are kept: its key, and the name of its question but for case, which may be written in octets.
 pub record IsAskedBy (r : Request) (a : Asked) : Type 0 where
   pub cacheable : is_cacheable r ≡ true
   pub key : a.key ≡ key_of r
   pub name : lowered a.name ≡ lowered (spelled_name r)
   pub legal : IsLegal a.name
+  pub octets : AreOctets a.name
 
 -- What the machine derives, one after another, and nothing else.
 pub data Derived : (stored after : List machine.Entry) → Type 0 where

@@ -1,6 +1,7 @@
 //! What a cache does, in moves of the machine of `headline`.
 
-ghost use Rattle.cache_runs.specs.Laws.{AskedAreOfRequests, DerivingIsMoving, LookUpsAreAnswers, RequestsAreAnswered, ResultsAreGiven, StandingLaws, WhatIsKeptIsStored};
+ghost use Rattle.cache_runs.specs.Laws.{AskedAreOfRequests, DerivingIsMoving, LookUpsAreAnswers, LookUpsAreListed, RequestsAreAnswered, RequestsAreListed, ResultsAreGiven, StandingLaws, WhatIsKeptIsStored};
+ghost use Rattle.cache_runs.specs.Listed.{KeysAreTold};
 
 /// What a composed message asks is what its request asks.
 pub fn asked_are_of_requests()
@@ -23,7 +24,20 @@ pub fn requests_are_answered()
     ensures { RequestsAreAnswered }
 {}
 
-/// What is given and kept of a result is what the machine's reply gives and stores.
+/// A request that looks a cache up uses and stores, in a list that is alike to the table, what an asking of the exact
+/// cache may; and where the entry under its own key serves it, it is answered from that.
+pub fn look_ups_are_listed()
+    ensures { LookUpsAreListed }
+{}
+
+/// A request that can't be composed, or whose results are not kept, leaves the list as it is, and any other looks the
+/// cache up.
+pub fn requests_are_listed()
+    ensures { RequestsAreListed }
+{}
+
+/// What is given and kept of a result is what the machine's reply gives and stores, and a list that is alike to the
+/// table stays so.
 pub fn what_is_kept_is_stored()
     ensures { WhatIsKeptIsStored }
 {}
@@ -36,4 +50,9 @@ pub fn deriving_is_moving()
 /// A result is given as the machine gives it, also to a request whose results are not kept.
 pub fn results_are_given()
     ensures { ResultsAreGiven }
+{}
+
+/// The test of keys tells equal ones.
+pub fn keys_are_told()
+    ensures { KeysAreTold }
 {}

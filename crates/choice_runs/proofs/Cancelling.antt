@@ -125,7 +125,7 @@ module _ (g : Choosing) (others : Others) (phase : ℕ → Phase) (t : ℕ) (job
             board = l.board ∙ (has_left.board ∙ is_still.board);
           };
           given = [];
-          leaving = [];
+          gave = [];
           put = l.put ∙ (board_of g beside phase count job.timer v ∙ sym (append-nil v.board));
           leaves = l.leaving ∙ sym (append-nil y.leaving);
           answers = numbers_then;

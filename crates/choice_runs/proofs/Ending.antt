@@ -10,20 +10,21 @@ use Rattle.client_request.specs.declared.event.Out.{Out}
 use Rattle.client_choice.specs.Choice.{Choice, ends, gives_up, judged, drops_each, stopped, unarmed, disarmed}
 use Rattle.headline.specs.Parts.{IsIn}
 use Rattle.headline.specs.Validity.{waits_for_others}
-use Rattle.headline.specs.machine.Client.{Posted, Leaving, Move, Delivers, leave, unmade}
+use Rattle.headline.specs.machine.Client.{Posted, Move, Caches, Delivers, leave, unmade}
 use Rattle.headline.specs.machine.Streams.{with_at}
 use Rattle.client_ties.specs.Chains.{part_of}
 use Rattle.client_ties.specs.PartTie.{Phase, Leads as IfLeft}
+use Rattle.client_ties.specs.WholeTie.{Gave, leaving_of}
 use Rattle.client_ties.proofs.Keys.{with_here, with_same}
 use Rattle.choice_runs.specs.Choosing.{Choosing}
-use Rattle.client_ties.specs.Leading.{Then}
+use Rattle.client_ties.specs.Leading.{IsBelow, Then}
 use Rattle.choice_runs.specs.Servers.{State, Listed}
 use Rattle.choice_runs.specs.Requests.{Beside, Work, Begun, IsKept, desk_of, Stands, Went}
 use Rattle.choice_runs.proofs.Asides.{gone_aside}
 use Rattle.choice_runs.proofs.Changing.{ended}
 use Rattle.choice_runs.proofs.Disarming.{goes_stopped, again_path, disarms, stands_judged}
 use Rattle.choice_runs.proofs.Dropping.{AreOff, all_off, follows_of, follows_then}
-use Rattle.choice_runs.proofs.Outcomes.{IsLeft, left_so}
+use Rattle.choice_runs.proofs.Outcomes.{outcome_request}
 
 module _ (g : Choosing) (beside : Beside) (phase : ℕ → Phase) (current : ℕ) where
   -- The request of ticket t, whose number is k, has this result: it leaves in the machine, and its result stands on the board.
@@ -33,10 +34,10 @@ module _ (g : Choosing) (beside : Beside) (phase : ℕ → Phase) (current : ℕ
     pub went : Went g v x w end
     pub stands : Stands g beside phase current tab named' k [] d w end
     pub jobs : d.jobs ≡ c.jobs
-    pub leaving : Leaving
-    pub leaves : end.leaving ≡ x.leaving ++ leaving ∷ []
-    pub request : leaving.request ≡ k
-    pub result : part ≡ part_of leaving.result
+    pub gave : Gave
+    pub leaves : end.leaving ≡ x.leaving ++ leaving_of g.st gave ∷ []
+    pub request : gave.request ≡ k
+    pub result : part ≡ part_of gave.result
     pub board : end.board ≡ rest
     pub put : w.board ≡ v.board ++ record { ticket = t; part = part } ∷ []
     pub more : w.more ≡ v.more
@@ -56,7 +57,7 @@ module _ (g : Choosing) (beside : Beside) (phase : ℕ → Phase) (current : ℕ
 
   -- A request leaves by this move. Those that owe it a result give it up.
   module _ (t : ℕ) (job : Work g) (tab : ℕ → Option (Work g)) (named : ℕ → ℕ → Option ℕ) (c : Choice Request g.U g.R) (v : View) (x : State g) (new : tab t ≡ None) (st : Stands g beside phase current (with_at t (Some job) tab) named 0 [] c v x) (giver now : ℕ)
-      (rest : List Posted) (z : Leaving) (leaves : Move g.c g.st composed g.P x (unmade (leave z (record x { board = rest })))) (numbered : z.request ≡ job.number) (others : (b : Begun g) → IsIn b job.started → (r : g.R) → b.response ≡ Some r → current ≡ b.server → ⊥) where
+      (rest : List Posted) (z : Gave) (leaves : Move g.c g.st composed g.P x (unmade (leave (leaving_of g.st z) (record x { board = rest })))) (is_below : IsBelow g.st composed g.P x (unmade (leave (leaving_of g.st z) (record x { board = rest }))) leaves) (numbered : z.request ≡ job.number) (others : (b : Begun g) → IsIn b job.started → (r : g.R) → b.response ≡ Some r → current ≡ b.server → ⊥) where
     abbrev mid : Choice Request g.U g.R
     mid = unarmed job.timer (judged giver job now c)
 
@@ -64,7 +65,10 @@ module _ (g : Choosing) (beside : Beside) (phase : ℕ → Phase) (current : ℕ
     told_of = answers t (part_of z.result) (stopped job.timer v)
 
     abbrev left : State g
-    left = leave z (record x { board = rest })
+    left = leave (leaving_of g.st z) (record x { board = rest })
+
+    number_then : (leaving_of g.st z).request ≡ job.number
+    number_then = outcome_request g.st z.request z.asked z.result ∙ numbered
 
     calm : Stands g beside phase current (with_at t (Some (disarmed job)) tab) named 0 [] mid (stopped job.timer v) x
     calm = stands_judged g beside phase current named 0 (with_at t (Some (disarmed job)) tab) [] (unarmed job.timer c) (stopped job.timer v) x giver now job.started (disarms g beside phase current named 0 t job tab c v x st)
@@ -78,7 +82,7 @@ module _ (g : Choosing) (beside : Beside) (phase : ℕ → Phase) (current : ℕ
       less = calm.less;
       kept = ended g t (disarmed job) (desk_of g (with_at t (Some (disarmed job)) tab) named mid (stopped job.timer v) x) (desk_of g tab named mid told_of left)
           (with_here t (Some (disarmed job)) tab) refl (sym (again_path t None (Some (disarmed job)) tab ∙ fun_ext (λ j. none_again t tab j new))) refl refl refl
-          (ap (λ k. with_at k None x.held) numbered) refl 0 calm.kept;
+          (ap (λ k. with_at k None x.held) number_then) refl 0 calm.kept;
       foreign = calm.foreign;
       timers = calm.timers;
       calm = λ at frames told. gone_aside g current t (Some (disarmed job)) tab (stopped job.timer v) new (calm.calm at frames told);
@@ -101,7 +105,7 @@ module _ (g : Choosing) (beside : Beside) (phase : ℕ → Phase) (current : ℕ
     pub it_ends : IfLeft (HasEnded t job.number tab (part_of z.result) rest named c v x) (gives_up g.below job.started mid told_of)
     it_ends = by (drops_each g.below job.started mid.servers told_of)
         (all_off g beside phase current tab job.number t new job.started named mid told_of left
-        (ap (λ k. with_at k None x.held job.number) numbered ∙ with_here job.number None x.held) owed.apart
+        (ap (λ k. with_at k None x.held job.number) number_then ∙ with_here job.number None x.held) owed.apart
         (λ b i r p. (others b i r p, (let w = owed_then.waits b i r p in record { within = w.within; fits = w.fits; ticket = w.ticket; waiting = w.waiting; named = w.named }))) over)
       where
         by : (o : Option (Listed g × View)) → IfLeft (AreOff g beside phase current tab job.number t new [] named mid told_of left) o → IfLeft (HasEnded t job.number tab (part_of z.result) rest named c v x) (option_map (λ y. (record mid { servers = y.0 }, y.1)) o)
@@ -111,7 +115,7 @@ module _ (g : Choosing) (beside : Beside) (phase : ℕ → Phase) (current : ℕ
           end = l.end;
           went = record {
             outs = l.went.outs;
-            leads = Then x (unmade left) l.went.outs l.end leaves l.went.leads;
+            leads = Then x (unmade left) l.went.outs l.end leaves is_below l.went.leads;
             put = l.went.put ∙ ap (λ (o : List Out). o ++ l.went.outs) (outs_of job.timer v);
             goes_on = follows_then g v (stopped job.timer v) y.1 (follows_of g v (stopped job.timer v) (goes_stopped job.timer v st.servers.fair))
                 (follows_then g (stopped job.timer v) told_of y.1 (follows_of g (stopped job.timer v) told_of (record { fair = over.servers.fair; now = refl; timer = le_refl (stopped job.timer v).timers.next; ticket = le_refl (stopped job.timer v).ticket; place = le_refl (stopped job.timer v).place; later = λ i due is. inl is })) l.went.goes_on);
@@ -121,7 +125,7 @@ module _ (g : Choosing) (beside : Beside) (phase : ℕ → Phase) (current : ℕ
           };
           stands = l.stands;
           jobs = refl;
-          leaving = z;
+          gave = z;
           leaves = l.leaving;
           request = numbered;
           result = refl;
@@ -138,7 +142,5 @@ module _ (g : Choosing) (beside : Beside) (phase : ℕ → Phase) (current : ℕ
       → IfLeft (HasEnded t job.number tab (part_of q.result) (before ++ after) named c v x) (ends g.below t giver (part_of q.result) job c v)
   ends_with t giver job tab named c v x before after q new st others on numbered final =
       let m = st.kept.kept t job (with_here t (Some job) tab) in
-      let z : IsLeft g.st q.request m.ask.request q.result = left_so g.st q.request m.ask.request q.result in
-      subst (λ r. IfLeft (HasEnded t job.number tab (part_of r) (before ++ after) named c v x) (ends g.below t giver (part_of r) job c v)) z.result
-      (it_ends t job tab named c v x new st giver v.now (before ++ after) z.leaving
-      (Delivers before after q m.ask z.leaving on (subst (λ k. x.held k ≡ Some m.ask) (sym numbered) m.is) final z.is) (z.request ∙ numbered) others)
+      let z : Gave = record { request = q.request; asked = m.ask.request; result = q.result } in
+      it_ends t job tab named c v x new st giver v.now (before ++ after) z (Delivers before after q m.ask (leaving_of g.st z) on (subst (λ k. x.held k ≡ Some m.ask) (sym numbered) m.is) final Caches) tt numbered others

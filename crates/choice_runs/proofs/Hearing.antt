@@ -16,6 +16,7 @@ use Rattle.client_ties.specs.Chains.{Gives}
 use Rattle.client_ties.specs.Lines.{Sorted}
 use Rattle.client_ties.specs.PartTie.{Phase, Untold, Told, MayLeave, Leads as IfLeft}
 use Rattle.client_ties.specs.Sights.{sight, due_of, NoneDue}
+use Rattle.client_ties.specs.WholeTie.{leaving_of}
 use Rattle.client_ties.proofs.GoingOn.{dues_without}
 use Rattle.client_ties.proofs.Keys.{each_number, with_there}
 use Rattle.choice_runs.specs.Choosing.{Choosing}
@@ -124,9 +125,9 @@ module _ (g : Choosing) where
         went = went_then g u x w h.call.end z r.end (record { outs = h.call.made.outs; leads = h.call.leads; put = h.call.put; goes_on = follows_of g u w h.call.goes_on; now = h.call.moved.now; asked = h.call.moved.asked; pending = h.call.moved.pending }) r.went;
         still = r.still;
         given = r.given;
-        leaving = r.leaving;
+        gave = r.gave;
         put = r.put ∙ ap (λ (bs : List OnBoard). bs ++ r.given) h.board;
-        leaves = r.leaves ∙ ap (λ zs. zs ++ r.leaving) h.call.moved.leaving;
+        leaves = r.leaves ∙ ap (λ zs. zs ++ map (leaving_of g.st) r.gave) h.call.moved.leaving;
         answers = r.answers;
         says = r.says;
       }

@@ -11,7 +11,7 @@ use Rattle.headline.specs.Settings.{Settings}
 use Rattle.headline.specs.machine.Part.{Act, ServerPart}
 use Rattle.headline.specs.machine.Client.{Posted, Waiting, Upper, Made, Move, Moves, IsDone, Server_moves, Hands_on, Gives_up, moved, hand, tag, with_up}
 use Rattle.client_ties.specs.Chains.{Chain, Stays, Goes, Begins, Calls, then_act}
-use Rattle.client_ties.specs.Leading.{Leads, Arrives, Then, IsMoved, Reaches}
+use Rattle.client_ties.specs.Leading.{IsBelow, Leads, Arrives, Then, IsMoved, Reaches}
 
 pub up_other : {U : Type 0} → (s i : ℕ) (u : U) (f : ℕ → U) → (s ≡ i → ⊥) → with_up s u f i ≡ f i
 up_other s i u f ne = grind (arith, nat_tests)
@@ -22,14 +22,14 @@ up_here s u f = grind (arith, nat_tests)
 module _ {c : Conf} (st : Settings) (compose : Request → Result Octets Error) (P : ServerPart c) where
   pub leads_on : (x : Upper P.State) (a : List Out) (y : Upper P.State) (b : List Out) (z : Upper P.State) → Leads st compose P x a y → Leads st compose P y b z → Leads st compose P x (a ++ b) z
   leads_on _ _ _ b z (Arrives x) m = m
-  leads_on _ _ _ b z (Then x d outs y f l) m = subst (λ o. Leads st compose P x o z) (sym (append_assoc d.outs outs b)) (Then x d (outs ++ b) z f (leads_on d.state outs y b z l m))
+  leads_on _ _ _ b z (Then x d outs y f is l) m = subst (λ o. Leads st compose P x o z) (sym (append_assoc d.outs outs b)) (Then x d (outs ++ b) z f is (leads_on d.state outs y b z l m))
 
-  pub one_move : (x : Upper P.State) (d : Made P.State) → Move c st compose P x d → Leads st compose P x d.outs d.state
-  one_move x d f = subst (λ o. Leads st compose P x o d.state) (append-nil d.outs) (Then x d [] d.state f (Arrives d.state))
+  pub one_move : (x : Upper P.State) (d : Made P.State) (f : Move c st compose P x d) → IsBelow st compose P x d f → Leads st compose P x d.outs d.state
+  one_move x d f is = subst (λ o. Leads st compose P x o d.state) (append-nil d.outs) (Then x d [] d.state f is (Arrives d.state))
 
   pub all_moves : (x : Upper P.State) (outs : List Out) (y : Upper P.State) → Leads st compose P x outs y → IsDone c st compose P y → Moves c st compose P x (record { state = y; outs = outs })
   all_moves _ _ _ (Arrives x) done = Moves.Rests x done
-  all_moves _ _ _ (Then x d outs y f l) done = Moves.Goes x d (record { state = y; outs = outs }) f (all_moves d.state outs y l done)
+  all_moves _ _ _ (Then x d outs y f is l) done = Moves.Goes x d (record { state = y; outs = outs }) f (all_moves d.state outs y l done)
 
   is_moved : (s : ℕ) (x : Upper P.State) (d : Act P.State) → IsMoved st compose P s x d (moved s d x)
   is_moved s x d = record { now = refl; asked = refl; pending = refl; held = refl; leaving = refl; stored = refl; place = refl; state = up_here s d.state x.ups; others = λ i ne. up_other s i d.state x.ups ne; board = refl }
@@ -59,7 +59,7 @@ module _ {c : Conf} (st : Settings) (compose : Request → Result Octets Error) 
         let r : Reaches st compose P s (moved s d x) (moved s d x) e = chain_moves d.place d.state e rest (moved s d x) refl (up_here s d.state x.ups) in
         record {
           end = r.end;
-          leads = Then x (record { state = moved s d x; outs = d.outs }) e.outs r.end (Server_moves s d some (subst₂ (λ place a. P.Acts s place a d) (sym p) (sym u) acts)) r.leads;
+          leads = Then x (record { state = moved s d x; outs = d.outs }) e.outs r.end (Server_moves s d some (subst₂ (λ place a. P.Acts s place a d) (sym p) (sym u) acts)) tt r.leads;
           is = moved_then s x d (moved s d x) e r.end (is_moved s x d) r.is;
         }
 
@@ -70,7 +70,7 @@ module _ {c : Conf} (st : Settings) (compose : Request → Result Octets Error) 
         let r : Reaches st compose P s (moved s d y) (moved s d y) e = chain_moves d.place d.state e rest (moved s d y) refl (up_here s d.state x.ups) in
         record {
           end = r.end;
-          leads = Then x (record { state = moved s d y; outs = d.outs }) e.outs r.end (Hands_on s k a d some held tried call) r.leads;
+          leads = Then x (record { state = moved s d y; outs = d.outs }) e.outs r.end (Hands_on s k a d some held tried call) tt r.leads;
           is = moved_then s y d (moved s d y) e r.end (is_moved s y d) r.is;
         }
 
@@ -80,6 +80,6 @@ module _ {c : Conf} (st : Settings) (compose : Request → Result Octets Error) 
         let r : Reaches st compose P s (moved s d x) (moved s d x) e = chain_moves d.place d.state e rest (moved s d x) refl (up_here s d.state x.ups) in
         record {
           end = r.end;
-          leads = Then x (record { state = moved s d x; outs = d.outs }) e.outs r.end (Gives_up s k d some none holds call) r.leads;
+          leads = Then x (record { state = moved s d x; outs = d.outs }) e.outs r.end (Gives_up s k d some none holds call) tt r.leads;
           is = moved_then s x d (moved s d x) e r.end (is_moved s x d) r.is;
         }

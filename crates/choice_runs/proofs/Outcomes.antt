@@ -1,4 +1,4 @@
--- What a result becomes, and which wait for others.
+-- What leaves with a result, and which results wait for others.
 use Rattle.std.proofs.Common.{◌≡◌, ℕ, Bool, false, true, ◌&&◌, ◌||◌, ◌==◌, Option, Some, None, Result, Ok, Err, refl, ap₂}
 use Rattle.dns_base.specs.OptRecord.{opt_rcode}
 use Rattle.client_request.specs.Request.{Request}
@@ -8,8 +8,8 @@ use Rattle.client_settings.specs.Settings.{RedundantSettings}
 use Rattle.headline.specs.Keys.{is_cacheable}
 use Rattle.headline.specs.Messages.{Octets}
 use Rattle.headline.specs.Settings.{Settings}
-use Rattle.headline.specs.Validity.{validity_of_message, is_deferred, waits_for_others}
-use Rattle.headline.specs.machine.Client.{Leaving, IsOutcome, Caches, Passes, outcome, outcome_of}
+use Rattle.headline.specs.Validity.{is_deferred, waits_for_others}
+use Rattle.headline.specs.machine.Client.{outcome, outcome_of, validity_of}
 use Rattle.client_ties.specs.Chains.{part_of}
 use Rattle.choice_runs.specs.Choosing.{SameDeferring}
 
@@ -19,33 +19,11 @@ unfolding is_deferred
 deferred_alike here there same (Ok m) = ap₂ (λ a b. (a && (opt_rcode m == 5)) || (b && (opt_rcode m == 2))) same.refused same.servfail
 deferred_alike here there same (Err e) = same.errors
 
--- a result that leaves as it is
-pub record IsLeft (st : Settings) (k : ℕ) (q : Request) (r : Result Octets Error) : Type 0 where
-  pub leaving : Leaving
-  pub is : IsOutcome st k q r leaving
-  pub request : leaving.request ≡ k
-  pub result : leaving.result ≡ r
-
-pub left_so : (st : Settings) (k : ℕ) (q : Request) (r : Result Octets Error) → IsLeft st k q r
-left_so st k q (Err e) = record { leaving = outcome st k q (Err e); is = Caches; request = number (is_cacheable q); result = as_it_is (is_cacheable q) }
+-- what leaves is of the same request
+pub outcome_request : (st : Settings) (k : ℕ) (q : Request) (r : Result Octets Error) → (outcome st k q r).request ≡ k
+outcome_request st k q r = by (is_cacheable q) (validity_of st r)
   where
-    number : (b : Bool) → (outcome_of b (Some st.transport_failure_duration) k q (Err e)).request ≡ k
-    number true = refl
-    number false = refl
-
-    as_it_is : (b : Bool) → (outcome_of b (Some st.transport_failure_duration) k q (Err e)).result ≡ Err e
-    as_it_is true = refl
-    as_it_is false = refl
-left_so st k q (Ok m) = go (validity_of_message st m) refl
-  where
-    number : (b : Bool) (n : ℕ) → (outcome_of b (Some n) k q (Ok m)).request ≡ k
-    number true n = refl
-    number false n = refl
-
-    as_it_is : (b : Bool) (n : ℕ) → (outcome_of b (Some n) k q (Ok m)).result ≡ Ok m
-    as_it_is true n = refl
-    as_it_is false n = refl
-
-    go : (v : Option ℕ) → validity_of_message st m ≡ v → IsLeft st k q (Ok m)
-    go None e = record { leaving = record { request = k; asked = q; result = Ok m; is_stored = false }; is = Passes m refl e; request = refl; result = refl }
-    go (Some n) e = record { leaving = outcome st k q (Ok m); is = Caches; request = rw e (number (is_cacheable q) n); result = rw e (as_it_is (is_cacheable q) n) }
+    by : (cacheable : Bool) (v : Option ℕ) → (outcome_of cacheable v k q r).request ≡ k
+    by false v = refl
+    by true (Some n) = refl
+    by true None = refl

@@ -117,7 +117,7 @@ module _ (g : Choosing) (beside : Beside) (phase : ℕ → Phase) (current : ℕ
   pub keeps_it_back : IsKeptBack
   keeps_it_back = record {
     end = kept_back;
-    leads = one_move g.st composed g.P x (unmade kept_back) (Keeps_back before after q mine.ask on (subst (λ k. x.held k ≡ Some mine.ask) (sym numbered) mine.is) waits);
+    leads = one_move g.st composed g.P x (unmade kept_back) (Keeps_back before after q mine.ask on (subst (λ k. x.held k ≡ Some mine.ask) (sym numbered) mine.is) waits) tt;
     stands = subst (λ (j : Work g). Stands g beside phase current (with_at t (Some j) tab) named 0 [] c v kept_back) (sym (put_off_is (part_of q.result) job)) (record {
       servers = record { count = st.servers.count; tied = st.servers.tied; apart = st.servers.apart; fair = st.servers.fair; place = st.servers.place; places = st.servers.places };
       quiet = st.quiet;

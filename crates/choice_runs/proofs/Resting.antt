@@ -12,7 +12,7 @@ use Rattle.client_request.specs.declared.error.Error.{Error}
 use Rattle.client_choice.specs.Choice.{Choice, rests, keeps, gives, is_over, all_gave}
 use Rattle.headline.specs.Messages.{Octets}
 use Rattle.headline.specs.Parts.{IsIn}
-use Rattle.headline.specs.machine.Client.{NoneOf, Concludes, leave, unmade, best}
+use Rattle.headline.specs.machine.Client.{NoneOf, Caches, Concludes, leave, unmade, best}
 use Rattle.headline.specs.machine.Streams.{with_at}
 use Rattle.client_ties.specs.Chains.{part_of}
 use Rattle.client_ties.specs.Lines.{Sorted}
@@ -24,7 +24,7 @@ use Rattle.choice_runs.specs.Choosing.{Choosing}
 use Rattle.client_ties.specs.Leading.{Leads}
 use Rattle.choice_runs.specs.Servers.{State}
 use Rattle.choice_runs.specs.Doing.{WaitsOn, Goes, HasDone}
-use Rattle.client_ties.specs.WholeTie.{Follows}
+use Rattle.client_ties.specs.WholeTie.{Follows, Gave, leaving_of}
 use Rattle.choice_runs.specs.Requests.{Beside, Work, Begun, Desk, IsKept, IsOwed, IsToStart, AreKept, desk_of, Stands, AreAside}
 use Rattle.choice_runs.proofs.Asides.{gone_aside}
 use Rattle.choice_runs.proofs.AtServer.{both_are, none_is}
@@ -33,7 +33,7 @@ use Rattle.choice_runs.proofs.Disarming.{again_path}
 use Rattle.choice_runs.proofs.Dropping.{found_at}
 use Rattle.choice_runs.proofs.Keeping.{none_dropped}
 use Rattle.choice_runs.proofs.Leading.{one_move}
-use Rattle.choice_runs.proofs.Outcomes.{IsLeft, left_so}
+use Rattle.choice_runs.proofs.Outcomes.{outcome_request}
 use Rattle.choice_runs.proofs.Starting.{sorted_more}
 
 -- one of two tests fails where both do not hold
@@ -152,31 +152,33 @@ module _ (g : Choosing) (beside : Beside) (phase : ℕ → Phase) (current : ℕ
         where
           go : (y : Result Octets Error) × (best mine.ask.kept_back ≡ Some y) × (part ≡ part_of y) → HasDone g beside phase current t job.number tab x.board named v x c (gives job.deferred t v)
           go f =
-              let z : IsLeft g.st job.number mine.ask.request f.0 = left_so g.st job.number mine.ask.request f.0 in
-              subst (λ d. HasDone g beside phase current t job.number tab x.board named v x c (gives d t v)) (sym (has ∙ ap (λ (p : Part). Some p) (f.2 ∙ ap part_of (sym z.result)))) (gone z)
+              subst (λ d. HasDone g beside phase current t job.number tab x.board named v x c (gives d t v)) (sym (has ∙ ap (λ (p : Part). Some p) f.2)) gone
             where
-              gone : (z : IsLeft g.st job.number mine.ask.request f.0) → HasDone g beside phase current t job.number tab x.board named v x c (answers t (part_of z.leaving.result) v)
-              gone z = record {
+              z : Gave
+              z = record { request = job.number; asked = mine.ask.request; result = f.0 }
+
+              gone : HasDone g beside phase current t job.number tab x.board named v x c (answers t (part_of f.0) v)
+              gone = record {
                 named' = named;
                 end = left;
                 went = record {
                   outs = [];
-                  leads = one_move g.st composed g.P x (unmade left) (Concludes job.number mine.ask f.0 z.leaving mine.is tried_all is_free clear f.1 z.is);
+                  leads = one_move g.st composed g.P x (unmade left) (Concludes job.number mine.ask f.0 (leaving_of g.st z) mine.is tried_all is_free clear f.1 Caches) tt;
                   put = sym (append-nil v.outs);
                   goes_on = record { fair = record { order = st.servers.fair.order; words = st.servers.fair.words }; now = refl; timer = le_refl v.timers.next; ticket = le_refl v.ticket; place = le_refl v.place; later = λ i due is. inl is };
                   now = refl;
                   asked = refl;
                   pending = refl;
                 };
-                stands = over_any (λ j. entry_at j c.jobs) named job.number 0 c (answers t (part_of z.leaving.result) v) left (record {
+                stands = over_any (λ j. entry_at j c.jobs) named job.number 0 c (answers t (part_of f.0) v) left (record {
                   servers = record { count = st.servers.count; tied = st.servers.tied; apart = st.servers.apart; fair = record { order = st.servers.fair.order; words = st.servers.fair.words }; place = st.servers.place; places = st.servers.places };
                   quiet = st.quiet;
                   is_named = st.is_named;
                   still = st.still;
                   less = st.less;
-                  kept = nothing_owed job.number job.started (desk_of g (λ j. entry_at j c.jobs) named c (answers t (part_of z.leaving.result) v) left) gave_all
-                      (ended g t job (desk_of g (with_at t (Some job) tab) named c v x) (desk_of g (λ j. entry_at j c.jobs) named c (answers t (part_of z.leaving.result) v) left) (with_here t (Some job) tab) (mine.armed none_left)
-                      (sym is_table ∙ sym (again_path t None (Some job) tab ∙ fun_ext (λ j. with_same t None tab j new))) refl refl refl (ap (λ k. with_at k None x.held) z.request) refl 0 st.kept);
+                  kept = nothing_owed job.number job.started (desk_of g (λ j. entry_at j c.jobs) named c (answers t (part_of f.0) v) left) gave_all
+                      (ended g t job (desk_of g (with_at t (Some job) tab) named c v x) (desk_of g (λ j. entry_at j c.jobs) named c (answers t (part_of f.0) v) left) (with_here t (Some job) tab) (mine.armed none_left)
+                      (sym is_table ∙ sym (again_path t None (Some job) tab ∙ fun_ext (λ j. with_same t None tab j new))) refl refl refl (ap (λ k. with_at k None x.held) (outcome_request g.st job.number mine.ask.request f.0)) refl 0 st.kept);
                   foreign = st.foreign;
                   timers = st.timers;
                   calm = λ at frames told. subst (λ f. AreAside g current f v) is_table (gone_aside g current t (Some job) tab v new (st.calm at frames told));
@@ -191,11 +193,11 @@ module _ (g : Choosing) (beside : Beside) (phase : ℕ → Phase) (current : ℕ
                 board = refl;
                 more = refl;
                 same_there = λ i. refl;
-                come = Goes z.leaving (ap (λ (h : ℕ → Option (Work g)). h t) (sym is_table) ∙ new) refl z.request refl;
+                come = Goes z (ap (λ (h : ℕ → Option (Work g)). h t) (sym is_table) ∙ new) refl refl refl;
               }
                 where
                   left : State g
-                  left = leave z.leaving x
+                  left = leave (leaving_of g.st z) x
 
     -- it waits on, unless no result is to come
     pub rests_do : (part : Part) → job.deferred ≡ Some part → NoneOf g.c g.st composed g.P job.number x.board → IfLeft (HasDone g beside phase current t job.number tab x.board named v x) (rests t job c v)

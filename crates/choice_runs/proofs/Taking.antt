@@ -19,7 +19,7 @@ use Rattle.client_ties.specs.PartTie.{Phase, Leads as IfLeft}
 use Rattle.client_ties.proofs.Keys.{each_number, with_here, with_there, was_there}
 use Rattle.client_ties.proofs.Tables.{at_frees}
 use Rattle.choice_runs.specs.Choosing.{Choosing}
-use Rattle.client_ties.specs.WholeTie.{post_of}
+use Rattle.client_ties.specs.WholeTie.{Gave, leaving_of, post_of}
 use Rattle.choice_runs.specs.Doing.{HasCome, WaitsOn, Goes, HasDone, numbers_of, HasActed, ResultsAreMoves}
 use Rattle.choice_runs.specs.Servers.{State}
 use Rattle.choice_runs.specs.Requests.{Beside, Work, Begun, IsOwed, IsNamed, desk_of, Stands}
@@ -56,10 +56,10 @@ module _ (g : Choosing) (beside : Beside) (phase : ℕ → Phase) (current : ℕ
   -- what was done makes of the requests that wait, where these numbers may be given
   record IsAnswered (numbers : ℕ → Option ℕ) (v : View) (x : State g) (d : Choice Request g.U g.R) (w : View) (y : State g) : Type 0 where
     pub given : List OnBoard
-    pub leaving : List Leaving
+    pub gave : List Gave
     pub put : w.board ≡ v.board ++ given
-    pub leaves : y.leaving ≡ x.leaving ++ leaving
-    pub answers : Gives numbers given (map post_of leaving) (numbers_of g d.jobs)
+    pub leaves : y.leaving ≡ x.leaving ++ map (leaving_of g.st) gave
+    pub answers : Gives numbers given (map post_of gave) (numbers_of g d.jobs)
 
   abbrev number_in : Option (Work g) → Option ℕ
   number_in o = option_map (λ job. job.number) o
@@ -71,14 +71,14 @@ module _ (g : Choosing) (beside : Beside) (phase : ℕ → Phase) (current : ℕ
       by : HasCome g beside phase current t k v x d w y → IsAnswered numbers v x d w y
       by (WaitsOn other is same put left) = record {
         given = [];
-        leaving = [];
+        gave = [];
         put = put ∙ sym (append-nil v.board);
         leaves = left ∙ sym (append-nil x.leaving);
         answers = λ j. each_number (λ j. numbers_of g d.jobs j ≡ numbers j) t (ap number_in is ∙ (ap (λ n. Some n) same ∙ sym was)) (λ j ne. kept j ne) j;
       }
       by (Goes z gone left request put) = record {
         given = record { ticket = t; part = part_of z.result } ∷ [];
-        leaving = z ∷ [];
+        gave = z ∷ [];
         put = put;
         leaves = left;
         answers = (
@@ -98,7 +98,7 @@ module _ (g : Choosing) (beside : Beside) (phase : ℕ → Phase) (current : ℕ
     went = h.went;
     still = record { stands = h.stands; names = λ i. h.same_there i ∙ names i; sorted = h.sorted; board = h.board ∙ none };
     given = a.given;
-    leaving = a.leaving;
+    gave = a.gave;
     put = a.put;
     leaves = a.leaves;
     answers = a.answers;
@@ -140,7 +140,7 @@ module _ (g : Choosing) (beside : Beside) (phase : ℕ → Phase) (current : ℕ
     went = went_nowhere g v x (record { fair = st.servers.fair; now = refl; timer = le_refl v.timers.next; ticket = le_refl v.ticket; place = le_refl v.place; later = λ i due is. inl is });
     still = record { stands = st; names = λ i. sym (gives i); sorted = table; board = board };
     given = [];
-    leaving = [];
+    gave = [];
     put = sym (append-nil v.board);
     leaves = sym (append-nil x.leaving);
     answers = λ i. refl;
@@ -164,11 +164,11 @@ module _ (g : Choosing) (beside : Beside) (phase : ℕ → Phase) (current : ℕ
         went = went_then g v x w s.done.end u r.end s.done.went r.went;
         still = r.still;
         given = a.given ++ r.given;
-        leaving = a.leaving ++ r.leaving;
+        gave = a.gave ++ r.gave;
         put = r.put ∙ (ap (λ (bs : List OnBoard). bs ++ r.given) a.put ∙ append_assoc v.board a.given r.given);
-        leaves = r.leaves ∙ (ap (λ (zs : List Leaving). zs ++ r.leaving) a.leaves ∙ append_assoc x.leaving a.leaving r.leaving);
-        answers = subst (λ ps. Gives (numbers_of g c.jobs) (a.given ++ r.given) ps (numbers_of g e.jobs)) (sym (map-append post_of a.leaving r.leaving))
-            (gives_then (numbers_of g c.jobs) (numbers_of g d.jobs) (numbers_of g e.jobs) a.given r.given (map post_of a.leaving) (map post_of r.leaving) a.answers r.answers);
+        leaves = r.leaves ∙ (ap (λ (zs : List Leaving). zs ++ map (leaving_of g.st) r.gave) a.leaves ∙ (append_assoc x.leaving (map (leaving_of g.st) a.gave) (map (leaving_of g.st) r.gave) ∙ ap (λ (zs : List Leaving). x.leaving ++ zs) (sym (map-append (leaving_of g.st) a.gave r.gave))));
+        answers = subst (λ ps. Gives (numbers_of g c.jobs) (a.given ++ r.given) ps (numbers_of g e.jobs)) (sym (map-append post_of a.gave r.gave))
+            (gives_then (numbers_of g c.jobs) (numbers_of g d.jobs) (numbers_of g e.jobs) a.given r.given (map post_of a.gave) (map post_of r.gave) a.answers r.answers);
         says = r.says ∙ s.done.more;
       }
 

@@ -156,7 +156,7 @@ module _ (g : Choosing) (calls : CallsAreMoves g) where
         put = l.put;
         board = l.board;
         posted = l.posted;
-        leaving = l.leaving;
+        given = l.given;
         leaves = l.leaves;
         gives = l.gives;
         now = l.now;

@@ -154,7 +154,7 @@ module _ (g : Choosing) where
 
   moves_open : (x : State g) (outs : List Out) (y : State g) → moves.Leads g.st composed g.P x outs y → OpensNone x y
   moves_open _ _ _ (moves.Arrives x) = nothing_opens x.ups x.place
-  moves_open _ _ _ (moves.Then x d outs y f l) = opens_then x d.state y (move_opens x d f) (moves_open d.state outs y l)
+  moves_open _ _ _ (moves.Then x d outs y f is l) = opens_then x d.state y (move_opens x d f) (moves_open d.state outs y l)
 
   -- a place that a server had not, and that was given before, it has not afterwards
   pub still_none : (x : State g) (outs : List Out) (y : State g) (q p : ℕ) → moves.Leads g.st composed g.P x outs y → p < x.place → g.has (x.ups q) p ≡ false → g.has (y.ups q) p ≡ false

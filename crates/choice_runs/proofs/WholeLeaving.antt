@@ -180,7 +180,7 @@ module _ (g : Choosing) where
       put = a.went.put;
       board = a.given;
       posted = a.put;
-      leaving = a.leaving;
+      given = a.gave;
       leaves = a.leaves;
       gives = a.answers;
       now = a.went.now;
@@ -220,7 +220,7 @@ module _ (g : Choosing) where
     put = sym (append-nil v.outs);
     board = [];
     posted = sym (append-nil v.board);
-    leaving = [];
+    given = [];
     leaves = sym (append-nil x.leaving);
     gives = λ t. refl;
     now = refl;

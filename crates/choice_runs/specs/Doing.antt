@@ -1,4 +1,4 @@
--- What a call of the choice leaves of a request: it waits on in the table, or its result stands on the board and leaves in the machine.
+-- What a call of the choice leaves of a request: it waits on in the table, or its result stands on the board, and leaves in the machine as a cache makes it.
 use Rattle.std.specs.Prelude.{◌≡◌, ℕ, suc, ◌<◌, ◌≤◌, Bool, false, nat_lt, List, [], ◌∷◌, ◌++◌, length, map, Option, Some, None, option_map, slice_get}
 use Rattle.client_request.specs.Board.{Part}
 use Rattle.client_request.specs.Carries.{IsOfOctets}
@@ -13,23 +13,23 @@ use Rattle.client_choice.specs.Redundant.{by_estimate, with_probe}
 use Rattle.client_choice.specs.Servers.{Server}
 use Rattle.client_choice.specs.declared.job.Entry.{Entry}
 use Rattle.headline.specs.Parts.{IsIn}
-use Rattle.headline.specs.machine.Client.{Posted, Leaving, tag, with_up}
+use Rattle.headline.specs.machine.Client.{Posted, tag, with_up}
 use Rattle.headline.specs.machine.Part.{Post}
 use Rattle.headline.specs.machine.Streams.{with_at}
 use Rattle.client_ties.specs.Chains.{part_of, Gives}
 use Rattle.client_ties.specs.Lines.{Sorted}
 use Rattle.client_ties.specs.PartTie.{Phase, Untold, Told, Passed, MayLeave, IsOpen, Leads, place_in}
 use Rattle.client_ties.specs.Sights.{sight, due_of, NoneDue}
-use Rattle.client_ties.specs.WholeTie.{HasLeft, HasTakenOn, post_of}
+use Rattle.client_ties.specs.WholeTie.{HasLeft, HasTakenOn, Gave, leaving_of, post_of}
 use Rattle.choice_runs.specs.Choosing.{Choosing}
 use Rattle.choice_runs.specs.Servers.{State, AreTied}
 use Rattle.choice_runs.specs.Requests.{AreToStart, Others, Beside, Work, Begun, IsToStart, Stands, Went, IsAside}
 
 module _ (g : Choosing) (beside : Beside) (phase : ℕ → Phase) (current : ℕ) where
-  -- What becomes of a request that was in hand: it waits in the table, or its result stands on the board and leaves in the machine.
+  -- What becomes of a request that was in hand: it waits in the table, or its result stands on the board, and leaves in the machine as a cache makes it.
   pub data HasCome (t k : ℕ) (v : View) (x : State g) (d : Choice Request g.U g.R) (w : View) (y : State g) : Type 0 where
     WaitsOn : (job : Work g) → entry_at t d.jobs ≡ Some job → job.number ≡ k → w.board ≡ v.board → y.leaving ≡ x.leaving → HasCome t k v x d w y
-    Goes : (z : Leaving) → entry_at t d.jobs ≡ None → y.leaving ≡ x.leaving ++ z ∷ [] → z.request ≡ k → w.board ≡ v.board ++ record { ticket = t; part = part_of z.result } ∷ [] → HasCome t k v x d w y
+    Goes : (z : Gave) → entry_at t d.jobs ≡ None → y.leaving ≡ x.leaving ++ leaving_of g.st z ∷ [] → z.request ≡ k → w.board ≡ v.board ++ record { ticket = t; part = part_of z.result } ∷ [] → HasCome t k v x d w y
 
   pub record HasDone (t k : ℕ) (table : ℕ → Option (Work g)) (rest : List Posted) (named : ℕ → ℕ → Option ℕ) (v : View) (x : State g) (d : Choice Request g.U g.R) (w : View) : Type 0 where
     pub named' : ℕ → ℕ → Option ℕ
@@ -83,10 +83,10 @@ module _ (g : Choosing) where
       pub went : Went g v x w end
       pub still : IsStill left named d w end
       pub given : List OnBoard
-      pub leaving : List Leaving
+      pub gave : List Gave
       pub put : w.board ≡ v.board ++ given
-      pub leaves : end.leaving ≡ x.leaving ++ leaving
-      pub answers : Gives numbers given (map post_of leaving) (numbers_of d.jobs)
+      pub leaves : end.leaving ≡ x.leaving ++ map (leaving_of g.st) gave
+      pub answers : Gives numbers given (map post_of gave) (numbers_of d.jobs)
       pub says : w.more ≡ more
 
     -- The same, where what is still to come from the current server is another than before.

@@ -13,7 +13,7 @@ use Rattle.client_ties.specs.Sharing.{OpensNext, IsShared}
 use Rattle.client_ties.specs.Silent.{silent_part}
 use Rattle.choice_runs.specs.Choosing.{Choosing, SameDeferring, IsStarting}
 use Rattle.choice_runs.specs.Doing.{CallsAreMoves}
-use Rattle.choice_runs.specs.Whole.{IsWhole}
+use Rattle.choice_runs.specs.Whole.{IsWhole, ChoicesWithoutServers}
 
 -- It knows its number alone. A request has its error as it is handed in.
 abbrev pub unstarted : Transport Request ℕ ℕ
@@ -76,3 +76,8 @@ SilentChoicesMove = (c : Conf) → (choose : NumbersChoose c) ×
 abbrev pub SilentChoicesAreWhole : Type 0
 SilentChoicesAreWhole = (c : Conf) → (choose : NumbersChoose c) ×
     ((st : Settings) (settings : RedundantSettings) (same : SameDeferring settings st) → IsWhole (silent_choice c st settings same choose))
+
+-- Without servers it gives each request an error at once.
+abbrev pub SilentChoicesRefuse : Type 0
+SilentChoicesRefuse = (c : Conf) → (choose : NumbersChoose c) ×
+    ((st : Settings) (settings : RedundantSettings) (same : SameDeferring settings st) → ChoicesWithoutServers (silent_choice c st settings same choose))

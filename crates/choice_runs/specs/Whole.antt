@@ -1,15 +1,16 @@
 -- A choice among tied servers as all that a client has below it.
-use Rattle.std.specs.Prelude.{◌≡◌, ℕ, zero, suc, ◌<◌, ◌≤◌, ◌⊎◌, List, [], ◌∷◌, length, Option, Some, slice_get}
+use Rattle.std.specs.Prelude.{◌≡◌, ℕ, zero, suc, ◌<◌, ◌≤◌, ◌⊎◌, List, [], ◌∷◌, length, Option, Some, option_map, slice_get, Err}
 use Rattle.client_request.specs.Numbered.{entry_at}
 use Rattle.client_request.specs.Request.{Request}
-use Rattle.client_request.specs.View.{View}
+use Rattle.client_request.specs.View.{View, answers, draws_ticket}
+use Rattle.client_request.specs.declared.error.Error.TheVariants.{NoTransportAvailable}
 use Rattle.client_request.specs.declared.event.What.{What}
 use Rattle.client_choice.specs.Choice.{Choice}
 use Rattle.client_choice.specs.Redundant.{Redundant, started, transport}
 use Rattle.client_choice.specs.Servers.{Server, added}
 use Rattle.client_ties.specs.Lines.{Sorted}
 use Rattle.client_ties.specs.PartTie.{Phase, Untold, Told, Passed, place_in}
-use Rattle.client_ties.specs.Sights.{Sight, due_of}
+use Rattle.client_ties.specs.Sights.{Sight, sight, due_of}
 use Rattle.client_ties.specs.WholeTie.{IsWholeTie}
 use Rattle.choice_runs.specs.Awaiting.{Awaits}
 use Rattle.choice_runs.specs.Choosing.{Choosing}
@@ -112,3 +113,8 @@ IsWhole g = IsWholeTie g.st g.P (transport g.below) (λ asked. asked.ticket) (wi
 -- Each is, whatever its servers are.
 abbrev pub ChoicesAreWhole : Type 1
 ChoicesAreWhole = (g : Choosing) → IsWhole g
+
+-- Where there are no servers, a request has that error as it is handed in, and nothing else changes.
+abbrev pub ChoicesWithoutServers : Choosing → Type 0
+ChoicesWithoutServers g = length (g.c).servers ≡ 0 → (phase : Phase) (request : Request) (r : Whole g) (v : View) (x : State g) → Tied g phase r (sight v) x
+    → (transport g.below).send request r v ≡ option_map (λ w. (r, answers v.ticket (Err NoTransportAvailable) w)) (draws_ticket v)

@@ -3,4 +3,4 @@
 
 mod laws;
 
-pub use laws::{silent_choices_are_whole, silent_choices_move};
+pub use laws::{silent_choices_are_whole, silent_choices_move, silent_choices_refuse};

@@ -80,6 +80,13 @@ impl<CR, U: SendRequest<CR> + Drop> Connection<CR, U> {
 impl<CR, U: SendRequest<CR>> Connection<CR, U> {
     ghost use Rattle.client_cache.specs.contracts.connection.Connection.{the_row};
 
+    /// The transport below.
+    pub fn upstream(&self) -> &U
+        ensures { result.now ≡ self.now.upstream }
+    {
+        &self.upstream
+    }
+
     /// The transport below, which can so be called past the cache: what it posts later for a ticket of its own is handed
     /// on as it is.
     pub fn upstream_mut(&mut self) -> &mut U

@@ -1,4 +1,5 @@
 pub mod AskedOctets
+pub mod ComingOctets
 pub mod Replaying
 pub mod Rightness
 pub mod Serving

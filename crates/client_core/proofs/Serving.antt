@@ -1,5 +1,5 @@
 -- Servers that are added one by one.
-use Rattle.std.proofs.Common.{◌≡◌, ℕ, suc, ◌+◌, ◌<◌, ◌≤◌, Bool, true, false, ◌||◌, List, [], ◌∷◌, ◌++◌, length, drop, get_or, Some, None, refl, ap, sym, ◌∙◌, add-one, arith}
+use Rattle.std.proofs.Common.{◌≡◌, ℕ, suc, ◌+◌, ◌<◌, ◌≤◌, Bool, true, false, ◌||◌, List, [], ◌∷◌, ◌++◌, length, drop, get_or, refl, ap, sym, ◌∙◌, add-one}
 use Rattle.std.proofs.Math.Seq.{drop-cons}
 use Rattle.std.proofs.lemmas.List.{drop_all}
 use Rattle.std.specs.List.{list_any}
@@ -8,7 +8,6 @@ use Rattle.client_choice.specs.Redundant.{started}
 use Rattle.client_choice.specs.Servers.{Server, added, flags}
 use Rattle.client_request.specs.Request.{Request}
 use Rattle.client_settings.specs.Settings.{RedundantSettings}
-use Rattle.client_steps.specs.First.{below_failed}
 use Rattle.client_steps.specs.Upstream as upstream
 use Rattle.client_steps.specs.Whole.{Servers, and_server, asks_by_streams, servers_of, upstream_at, with_servers}
 use Rattle.client_steps.specs.declared.upstream.Upstream.{Upstream}
@@ -28,14 +27,6 @@ one_added options ss i s r r' all h is added so_far =
 -- none is left
 pub all_added : (options : ResolvOptions) (ss : List ServerConf) (i : ℕ) (r all : Servers) → length ss ≤ i → with_servers i options (drop i ss) r ≡ all → r ≡ all
 all_added options ss i r all le so_far = ap (λ (rest : List ServerConf). with_servers i options rest r) (sym (drop_all i ss le)) ∙ so_far
-
-pub some_servers : (settings : RedundantSettings) (options : ResolvOptions) (ss : List ServerConf) → (length ss ≡ 0 → ⊥) → servers_of settings options ss ≡ Some (with_servers 0 options ss (started settings))
-some_servers settings options [] some = absurd (some refl)
-some_servers settings options (s ∷ ss) some = refl
-
-pub no_servers : (settings : RedundantSettings) (options : ResolvOptions) (ss : List ServerConf) → length ss ≡ 0 → servers_of settings options ss ≡ None
-no_servers settings options [] none = refl
-no_servers settings options (s ∷ ss) none = absurd (omega arith)
 
 -- no transport has given up
 
@@ -72,6 +63,5 @@ all_work : (n : ℕ) (options : ResolvOptions) (ss : List ServerConf) (r : Serve
 all_work n options [] r works = works
 all_work n options (s ∷ ss) r works = all_work (n + 1) options ss (and_server n (asks_by_streams options s) r) (one_works n (asks_by_streams options s) r works)
 
-pub none_failed : (settings : RedundantSettings) (options : ResolvOptions) (ss : List ServerConf) → below_failed (redundant.holds_failed upstream.holds_failed) (servers_of settings options ss) ≡ false
-none_failed settings options [] = refl
-none_failed settings options (s ∷ ss) = all_work 0 options (s ∷ ss) (started settings) refl
+pub none_failed : (settings : RedundantSettings) (options : ResolvOptions) (ss : List ServerConf) → redundant.holds_failed upstream.holds_failed (servers_of settings options ss) ≡ false
+none_failed settings options ss = all_work 0 options ss (started settings) refl

@@ -1,35 +1,38 @@
 //! The client: one step for each event, and the replay of a list of events.
 
-ghost use Rattle.std.specs.Prelude.{◌≡◌, if◌then◌else◌, true, false, Some, None, Ok, Err, OnOk, OnErr, IfOk, IfErr, IsErrOf, IsOkAnd, length, map, option_map};
+ghost use Rattle.std.specs.Prelude.{◌≡◌, if◌then◌else◌, true, false, Some, None, Ok, Err, OnOk, OnErr, IfOk, IfErr, IsErrOf, IsOkAnd, [], length, map, option_map};
 ghost use Rattle.client_request.specs.Calls.{Steps, NumbersRunOut, AnswersFailed};
 ghost use Rattle.client_request.specs.Cx.{LendsTheSame};
 ghost use Rattle.client_request.specs.Response.{IsRefusal};
 ghost use Rattle.client_request.specs.Timers.{IsWant, next_due};
 ghost use Rattle.client_steps.specs.Client as plain;
 ghost use Rattle.client_steps.specs.Machines.{client_in};
-ghost use Rattle.client_steps.specs.First.{holds_failed};
 ghost use Rattle.client_runs.specs.Above.{AreWords};
 ghost use Rattle.client_steps.specs.Headline.{conf_of, settings_of};
 ghost use Rattle.client_steps.specs.Upstream as upstream;
 ghost use Rattle.client_steps.specs.Whole.{machine, started, with_one_more, plain_step, plain_trace, client_with};
-ghost use Rattle.client_choice.specs.Redundant as choice;
+ghost use Rattle.client_cache.specs.Plain as caching;
+ghost use Rattle.client_choice.specs.Redundant as choosing;
+ghost use Rattle.client_cache.specs.Plain.{room_of};
+ghost use Rattle.client_request.specs.Composed.{composed};
+ghost use Rattle.headline.specs.Hit.{AllHit};
 ghost use Rattle.headline.specs.Right.{Right};
 ghost use Rattle.headline.specs.Timely.{Timely};
 
-use crate::octets::all_asked_in_octets;
-use crate::servers::{Servers, add_server, servers_of};
+use crate::octets::{all_asked_in_octets, all_in_octets};
+use crate::servers::{Layers, add_server, servers_of};
 use crate::{cache, redundant};
+use client_cache::Request;
 use client_choice::redundant as choice;
 use client_request::{
     Board, Cx, Error, Event, Moment, Outs, RequestMessage, Row, Rows, Timers, Trace, Words,
 };
-use client_runs::every_plain_trace_is_right;
-use client_steps::{Asked, FirstServer, Passed, take_in};
+use client_runs::{every_plain_trace_hits, every_plain_trace_is_right};
+use client_steps::{Asked, take_in};
 use dns_base::Duration;
 use resolv_conf::{ResolvConf, ServerConf};
 use std::alloc::Global;
 use std::marker::Model;
-use std::mem;
 
 /// A client of the servers of a configuration.
 ///
@@ -37,11 +40,10 @@ use std::mem;
 #[derive(Drop)]
 pub struct Client {
     alloc: Global,
-    settings: redundant::Config,
     use_vc: bool,
     count: usize,
-    layer: FirstServer<Servers>,
-    asked: Asked<Passed<choice::Request>>,
+    layer: Layers,
+    asked: Asked<Request<choice::Request>>,
     timeout: Duration,
     now: Moment,
     board: Board,
@@ -54,14 +56,13 @@ pub struct Client {
 impl Model for Client {
     ghost use Rattle.std.specs.Prelude.{◌≡◌, true, false};
     ghost use Rattle.client_steps.specs.Whole.{Whole};
-    ghost use Rattle.client_choice.specs.Redundant as choice;
-    ghost use Rattle.client_steps.specs.First.{holds_failed};
+    ghost use Rattle.client_cache.specs.Plain as caching;
+    ghost use Rattle.client_choice.specs.Redundant as choosing;
     ghost use Rattle.client_steps.specs.Upstream as upstream;
 
     ghost Value = { Whole };
 
     ghost view = { λ c. record {
-      settings = c.settings;
       use_vc = c.use_vc;
       count = c.count;
       layer = c.layer;
@@ -75,13 +76,13 @@ impl Model for Client {
       failed = c.failed;
     } };
 
-    ghost invariant = { λ c. c.failed ≡ false → holds_failed (choice.holds_failed upstream.holds_failed) c.layer ≡ false };
+    ghost invariant = { λ c. c.failed ≡ false → caching.holds_failed (choosing.holds_failed upstream.holds_failed) c.layer ≡ false };
 }
 
 /// A step over this very transport.
 fn turn<W: Words>(
-    layer: &mut FirstServer<Servers>,
-    asked: &mut Asked<Passed<choice::Request>>,
+    layer: &mut Layers,
+    asked: &mut Asked<Request<choice::Request>>,
     cx: &mut Cx<'_, W>,
     alloc: Global,
     timeout: Duration,
@@ -90,9 +91,9 @@ fn turn<W: Words>(
     ensures lends { LendsTheSame cx.old cx.new }
     ensures ok { Steps result (plain.client_step machine timeout event.now (client_in layer.old asked.old W.stream cx.old)) (client_in layer.new asked.new W.stream cx.new) }
     ensures numbers { NumbersRunOut result (plain.client_step machine timeout event.now (client_in layer.old asked.old W.stream cx.old)) }
-    ensures keeps { OnOk result (holds_failed (choice.holds_failed upstream.holds_failed) layer.new ≡ holds_failed (choice.holds_failed upstream.holds_failed) layer.old) }
+    ensures keeps { OnOk result (caching.holds_failed (choosing.holds_failed upstream.holds_failed) layer.new ≡ caching.holds_failed (choosing.holds_failed upstream.holds_failed) layer.old) }
     ensures refused { IfErr result IsRefusal }
-    ensures failed_only { IsErrOf result Error.Failed → holds_failed (choice.holds_failed upstream.holds_failed) layer.old ≡ true }
+    ensures failed_only { IsErrOf result Error.Failed → caching.holds_failed (choosing.holds_failed upstream.holds_failed) layer.old ≡ true }
 {
     take_in(layer, asked, cx, alloc, timeout, event)
 }
@@ -100,26 +101,42 @@ fn turn<W: Words>(
 impl Client {
     /// A client of the servers of a configuration, in order, with the default settings of transports. It asks
     /// a server by streams alone where the server or `use_vc` says so, and else by datagrams, with a stream
-    /// where an answer is truncated. `redundant` says which results are put off. `cache` has no effect yet.
+    /// where an answer is truncated. `redundant` says which results are put off, and `cache` how many results are kept, and
+    /// for how long.
     ///
-    /// More than 2^32 servers count as want of memory: their numbers have 32 bits.
-    #[tactic(auto, using(crate::proofs::Serving::none_failed))]
+    /// `NoMemory`. More than 2^32 servers count as want of memory: their numbers have 32 bits.
     pub fn new(
         alloc: Global,
         conf: &ResolvConf,
         redundant: redundant::Config,
-        _cache: cache::Config,
+        cache: cache::Config,
     ) -> Result<Client, Error>
-        ensures made { IfOk result (λ c. c ≡ started redundant conf.now) }
+        ensures made { IfOk result (λ c. c ≡ started redundant cache conf.now) }
+        ensures refused { IfErr result (λ e. e ≡ Error.NoMemory) }
+    {
+        Client::with_seed(alloc, conf, redundant, cache, 0)
+    }
+
+    /// The same, whose cache is hashed from a seed: who does not know it can't ask for names that slow the cache down. A
+    /// client that lives long and asks what others ask of it wants a random one. What the client does is the same with any.
+    #[tactic(auto, using(crate::proofs::Serving::none_failed))]
+    pub fn with_seed(
+        alloc: Global,
+        conf: &ResolvConf,
+        redundant: redundant::Config,
+        cache: cache::Config,
+        seed: u64,
+    ) -> Result<Client, Error>
+        ensures made { IfOk result (λ c. c ≡ started redundant cache conf.now) }
         ensures refused { IfErr result (λ e. e ≡ Error.NoMemory) }
     {
         let servers = servers_of(alloc, conf, redundant)?;
+        let layer = Layers::with_seed(alloc, servers, cache, seed)?;
         Ok(Client {
             alloc,
-            settings: redundant,
             use_vc: conf.options.use_vc,
             count: conf.servers.len(),
-            layer: FirstServer::new(servers),
+            layer,
             asked: Asked::new(alloc),
             timeout: conf.options.timeout,
             now: Moment(0),
@@ -145,14 +162,8 @@ impl Client {
         if self.failed {
             return Err(Error::Failed);
         }
-        let layer = mem::replace(&mut self.layer, FirstServer::new(None));
-        let mut servers = match layer.into_upstream() {
-            Some(servers) => servers,
-            None => Servers::with_config(self.alloc, self.settings),
-        };
-        let added = add_server(self.alloc, &mut servers, self.count, self.use_vc, server);
-        self.layer = FirstServer::new(Some(servers));
-        if added.is_err() {
+        let servers = self.layer.upstream_mut();
+        if add_server(self.alloc, servers, self.count, self.use_vc, server).is_err() {
             self.failed = true;
             return Err(Error::NoMemory);
         }
@@ -169,7 +180,7 @@ impl Client {
     pub fn step<W: Words>(&mut self, words: &mut W, event: Event) -> Result<Row, Error>
         ensures row { IfOk result (λ row. plain_step (W.stream words.old) event self.old ≡ Some (row, client_with (W.stream words.new) self.new)) }
         ensures timeout { OnOk result (self.new.timeout ≡ self.old.timeout) }
-        ensures settings { OnOk result ((self.new.settings ≡ self.old.settings) × (self.new.use_vc ≡ self.old.use_vc)) }
+        ensures use_vc { OnOk result (self.new.use_vc ≡ self.old.use_vc) }
         ensures count { OnOk result (self.new.count ≡ self.old.count) }
         ensures lasts { OnOk result (self.new.failed ≡ false) }
         ensures numbers { NumbersRunOut result (plain_step (W.stream words.old) event self.old) }
@@ -215,6 +226,20 @@ impl Client {
         }
     }
 
+    /// The client's cache over its choice over its upstreams, as they stand between two events. It takes no memory.
+    pub fn layers(&self) -> &Layers
+        ensures { result.now ≡ self.entry.now.layer }
+    {
+        &self.layer
+    }
+
+    /// The number that the reply to the next request will name. It takes no memory.
+    pub fn next_request(&self) -> u64
+        ensures { result ≡ self.entry.now.asked.next }
+    {
+        self.asked.next()
+    }
+
     /// When the timer that goes first is due, in microseconds; none where no timer is set. Whoever holds
     /// the client is to tell it of the time then, by a `Tick` if nothing else happens. It takes no memory.
     pub fn next_due(&self) -> Option<u128>
@@ -227,7 +252,9 @@ impl Client {
     /// The trace of a client that is told these events and draws these words: a row for each event, in
     /// order. `NoMemory`, or `NumbersUsed` where a number would pass the greatest `u64`.
     ///
-    /// The trace is right and timely whatever the events are, as long as each word that comes has 64 bits.
+    /// The trace is right and timely whatever the events are, as long as each word that comes has 64 bits; and what is kept is
+    /// given: a request with the key of a message that is kept is answered from the cache in its own row, few enough requests
+    /// and replies later.
     pub fn replay<W: Words>(
         alloc: Global,
         conf: &ResolvConf,
@@ -236,13 +263,15 @@ impl Client {
         words: &mut W,
         events: &[Event],
     ) -> Result<Trace, Error>
-        ensures plain { IfOk result (λ t. plain_trace redundant conf.now (W.stream words.old) events.now ≡ Some t.rows) }
+        ensures plain { IfOk result (λ t. plain_trace redundant cache conf.now (W.stream words.old) events.now ≡ Some t.rows) }
         ensures events { IfOk result (λ t. map (λ row. row.event) t.rows ≡ events.now) }
         ensures right { IfOk result (λ t. AreWords (W.stream words.old) → Right (conf_of conf.now) (settings_of redundant cache) t.rows) }
         ensures timely { IfOk result (λ t. AreWords (W.stream words.old) → Timely (conf_of conf.now) t.rows) }
-        ensures numbers { IsErrOf result Error.NumbersUsed → plain_trace redundant conf.now (W.stream words.old) events.now ≡ None }
+        ensures hits { IfOk result (λ t. AreWords (W.stream words.old) → AllHit (conf_of conf.now) (settings_of redundant cache) composed (room_of cache) [] t.rows) }
+        ensures numbers { IsErrOf result Error.NumbersUsed → plain_trace redundant cache conf.now (W.stream words.old) events.now ≡ None }
         ensures refused { IfErr result IsWant }
     {
+        cache.max_validity_is_limited();
         let mut client = Client::new(alloc, conf, redundant, cache)?;
         let mut rows = Rows::new(alloc);
         for event in events {
@@ -251,7 +280,9 @@ impl Client {
             rows.push(row)?;
         }
         all_asked_in_octets(events);
+        all_in_octets(events);
         every_plain_trace_is_right();
+        every_plain_trace_hits();
         Ok(Trace { rows })
     }
 }

@@ -1,8 +1,16 @@
-//! Requests are made of octets, whatever is asked.
+//! Requests and what comes are made of octets, whatever they are.
 
+ghost use Rattle.client_ties.specs.ClientTie.{AreOctets, IsInOctets, AllInOctets};
 ghost use Rattle.headline.specs.Timely.{IsAskedInOctets, AllAskedInOctets};
 
 use client_request::{Event, What};
+
+/// Each octet is less than 256.
+fn are_octets(octets: &[u8])
+    ensures { AreOctets octets.now }
+{
+    let _octets = octets;
+}
 
 /// What an event asks is made of octets.
 fn asked_in_octets(event: &Event)
@@ -14,11 +22,31 @@ fn asked_in_octets(event: &Event)
     }
 }
 
+/// What comes in an event is made of octets.
+pub fn in_octets(event: &Event)
+    ensures { IsInOctets event.now.what }
+{
+    match &event.what {
+        What::Datagram { octets, .. } => are_octets(octets.as_slice()),
+        What::Bytes { octets, .. } => are_octets(octets.as_slice()),
+        _ => {}
+    }
+}
+
 /// What events ask is made of octets.
 pub(crate) fn all_asked_in_octets(events: &[Event])
     ensures { AllAskedInOctets events.now }
 {
     for event in events {
         asked_in_octets(event);
+    }
+}
+
+/// What comes in events is made of octets.
+pub(crate) fn all_in_octets(events: &[Event])
+    ensures { AllInOctets events.now }
+{
+    for event in events {
+        in_octets(event);
     }
 }

@@ -3,6 +3,7 @@
 ghost use Rattle.std.specs.Prelude.{◌≡◌, ◌<◌, IfOk, IsOkAnd, OnOk};
 ghost use Rattle.client_steps.specs.Whole.{and_server, by_streams_alone, servers_of, upstream_at};
 
+use client_cache::Connection;
 use client_choice::redundant;
 use client_multi::{dgram_stream, multi_stream};
 use client_request::{Error, RequestMessage};
@@ -13,6 +14,9 @@ use std::alloc::Global;
 
 /// The choice among the servers of a client.
 pub type Servers = redundant::Connection<RequestMessage, Upstream<RequestMessage>>;
+
+/// The transports of a client: its cache over its choice over its upstreams.
+pub type Layers = Connection<RequestMessage, Servers>;
 
 /// Whether a server is asked by streams alone.
 fn by_streams_alone(use_vc: bool, server: &ServerConf) -> bool
@@ -59,23 +63,20 @@ pub(crate) fn add_server(
     }
 }
 
-/// The choice among the servers of a configuration, if it has any.
+/// The choice among the servers of a configuration.
 pub(crate) fn servers_of(
     alloc: Global,
     conf: &ResolvConf,
     settings: redundant::Config,
-) -> Result<Option<Servers>, NoMemory>
+) -> Result<Servers, NoMemory>
     ensures { IfOk result (λ servers. servers ≡ servers_of settings conf.now.options conf.now.servers) }
 {
     let listed = conf.servers.as_slice();
-    if listed.len() == 0 {
-        return Ok(None);
-    }
     let mut servers = Servers::with_config(alloc, settings);
     let mut number: usize = 0;
     for server in listed {
         add_server(alloc, &mut servers, number, conf.options.use_vc, server)?;
         number += 1;
     }
-    Ok(Some(servers))
+    Ok(servers)
 }

@@ -8,7 +8,7 @@ use Rattle.dgram_ties.specs.Fallback.{AreStreams}
 use Rattle.dgram_ties.proofs.FallbackShared.{fallback_is_shared}
 use Rattle.dgram_ties.proofs.FallbackTied.{fallback_is_tied}
 use Rattle.multi_ties.specs.Tied.{by_streams, TiedAs, names_of, owns}
-use Rattle.client_runs.specs.Fallbacks.{FallsBack, named_by, OwnsOne, FallbacksAreTied, FallbacksAreShared}
+use Rattle.client_runs.specs.Fallbacks.{FallbacksAreTied, FallbacksAreShared}
 use Rattle.client_runs.proofs.StreamsBelow.{reconnection_is_streams}
 
 -- the same servers, each by streams alone

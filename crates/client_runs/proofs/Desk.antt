@@ -3,6 +3,7 @@ use Rattle.std.proofs.Common.{◌≡◌, ℕ, suc, ◌+◌, ◌<◌, ◌⊎◌, 
 use Rattle.client_steps.specs.declared.asked.Waiting.{Waiting}
 use Rattle.headline.specs.machine.Client.{Waiting as Held}
 use Rattle.headline.specs.machine.Streams.{with_at}
+use Rattle.client_ties.specs.ClientTie.{WereTried}
 use Rattle.std.proofs.lemmas.Bool.Decides.{nat_tests}
 
 module _ {A : Type 0} where
@@ -25,10 +26,6 @@ module _ {A : Type 0} where
 
   pub none_is : (o : Option A) (a : A) → o ≡ None → o ≡ Some a → ⊥
   none_is o a p q = cc
-
--- who is tried was tried before, since the same moment
-abbrev pub WereTried : (before after : ℕ → Option Held) → Type 0
-WereTried before after = (k : ℕ) (b : Held) → after k ≡ Some b → (a : Held) × (before k ≡ Some a) × (b.moment ≡ a.moment)
 
 pub as_before : (f : ℕ → Option Held) → WereTried f f
 as_before f k b e = (b, e, refl)
@@ -173,13 +170,10 @@ module _ {P : Type 0} (timeout : ℕ) (IsFor : (ticket : ℕ) → P → Type 0) 
       (subst (λ h. AreKept next (record { waiting = w; deadlines = d; names = names; held = h; dues = s' })) (sym hs)
       (subst (λ s. AreKept next (record { waiting = w; deadlines = d; names = names; held = h; dues = s })) (sym ss) k)))
 
-  -- a number is passed over
-  pub kept_more : (next : ℕ) (d : Desk P) → AreKept next d → AreKept (suc next) d
-  kept_more next d k = record {
-    kept = λ i w e. (let f = k.kept i w e in record { response = f.response; named = f.named; deadline = f.deadline; due = f.due; set = f.set; timely = f.timely; small = more w.number next f.small });
-    named = k.named;
-    late = k.late;
-  }
-    where
-      more : (a b : ℕ) → a < b → a < suc b
-      more a b lt = omega arith
+-- what stands for each result is something else
+pub stand_for : {P : Type 0} (timeout : ℕ) (A B : (ticket : ℕ) → P → Type 0) (next : ℕ) (d : Desk P) → AreKept timeout A next d → ((i : ℕ) (w : Waiting P) → d.waiting i ≡ Some w → A i w.response → B i w.response) → AreKept timeout B next d
+stand_for timeout A B next d k on = record {
+  kept = λ i w e. (let f = k.kept i w e in record { response = on i w e f.response; named = f.named; deadline = f.deadline; due = f.due; set = f.set; timely = f.timely; small = f.small });
+  named = k.named;
+  late = k.late;
+}

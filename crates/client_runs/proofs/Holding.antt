@@ -7,29 +7,32 @@ use Rattle.client_request.specs.View.{View, drops_timer}
 use Rattle.client_request.specs.declared.event.What.{What}
 use Rattle.headline.specs.machine.Client.{Leaving, Upper}
 use Rattle.headline.specs.machine.Streams.{with_at}
+use Rattle.client_ties.specs.ClientTie.{WereTried}
 use Rattle.client_ties.specs.PartTie.{Phase}
 use Rattle.client_ties.specs.Sights.{sight, due_of, IsFair}
 use Rattle.client_runs.specs.Above.{Tying}
 use Rattle.client_steps.specs.Client.{Asked, without_request}
 use Rattle.client_steps.specs.declared.asked.Waiting.{Waiting}
-use Rattle.client_steps.specs.declared.first.Passed.{Passed}
-use Rattle.client_steps.specs.declared.first.Passed.TheVariants.{Below}
 use Rattle.client_steps.proofs.Tables.{Sorted, at_frees, frees_path, sorted_frees}
 use Rattle.client_steps.proofs.TimerLaws.{due_without, order_without}
-use Rattle.client_runs.proofs.Desk.{Desk, AreKept, WereTried, one_goes, go_on, kept_so, was_there, at_other}
+use Rattle.client_runs.proofs.Desk.{Desk, AreKept, one_goes, go_on, kept_so, was_there, at_other}
 
 module _ (g : Tying) where
   abbrev pub Requests : Type 0
-  Requests = Asked (Passed g.Q)
+  Requests = Asked g.Q
 
   abbrev pub State : Type 0
   State = Upper g.P.State
 
-  -- what stands for the result of a request that was handed on
-  abbrev pub IsFor : (ticket : ℕ) → Passed g.Q → Type 0
-  IsFor i p = (r : g.Q) × (p ≡ Below r) × (g.ticket r ≡ i)
+  -- what is kept beside the machine
+  abbrev pub Kept : Type 0
+  Kept = (g.B).Kept
 
-  abbrev pub desk_of : (ℕ → Option ℕ) → Requests → View → State → Desk (Passed g.Q)
+  -- what stands for the result of a request at a transport: it was handed on, if its result is to come
+  abbrev pub IsFor : (u : g.V) (ticket : ℕ) → g.Q → Type 0
+  IsFor u i r = (g.ticket r ≡ i) × ((k : ℕ) → g.names u i ≡ Some k → g.IsHanded r)
+
+  abbrev pub desk_of : (ℕ → Option ℕ) → Requests → View → State → Desk g.Q
   desk_of named a v x = record { waiting = λ i. entry_at i a.waiting; deadlines = λ i. entry_at i a.deadlines; names = named; held = x.held; dues = λ i. due_of i v.timers.set }
 
   -- What agrees, but for the transport. `named` has the number of each ticket's request whose result is to come; e is the event as the machine has it.
@@ -37,20 +40,20 @@ module _ (g : Tying) where
     pub now : x.now ≡ v.now
     pub asked : x.asked ≡ a.next
     pub pending : x.pending ≡ e
-    pub kept : AreKept (g.c).timeout IsFor a.next (desk_of named a v x)
+    pub kept : AreKept (g.c).timeout (IsFor u) a.next (desk_of named a v x)
     pub waiting : (hi : ℕ) × Sorted 0 hi a.waiting
     pub deadlines : (hi : ℕ) × Sorted 0 hi a.deadlines
     pub foreign : (i t : ℕ) → entry_at i a.deadlines ≡ Some t → g.Owns u i → ⊥
 
-  -- The same with the transport, while these requests leave.
-  pub record Fits (phase : Phase) (e : What) (named : ℕ → Option ℕ) (u : g.V) (going : List Leaving) (a : Requests) (v : View) (x : State) : Type 0 where
+  -- The same with the transport, and with b that is kept beside the machine, while these requests leave.
+  pub record Fits (phase : Phase) (e : What) (named : ℕ → Option ℕ) (u : g.V) (going : List Leaving) (a : Requests) (v : View) (x : State) (b : Kept) : Type 0 where
     pub holds : Holds e named u a v x
     pub leaving : x.leaving ≡ going
     pub fair : IsFair v
-    pub tied : g.Tied phase u (sight v) x
+    pub tied : g.Tied phase u (sight v) x b
 
   -- Of v and x, v1 and x1 differ by a request that has gone.
-  pub record HasGone (w : Waiting (Passed g.Q)) (v : View) (x : State) (v1 : View) (x1 : State) : Type 0 where
+  pub record HasGone (w : Waiting g.Q) (v : View) (x : State) (v1 : View) (x1 : State) : Type 0 where
     pub now : v1.now ≡ v.now
     pub timers : v1.timers ≡ cancelled w.timer v.timers
     pub clock : x1.now ≡ x.now
@@ -65,19 +68,19 @@ module _ (g : Tying) where
   fair_without v i fair = record { order = order_without i 0 v.timers.next v.timers.set fair.order; words = fair.words }
 
   -- a request has gone
-  pub holds_without : (e : What) (named : ℕ → Option ℕ) (u : g.V) (a : Requests) (v : View) (x : State) (i : ℕ) (w : Waiting (Passed g.Q)) (v1 : View) (x1 : State)
+  pub holds_without : (e : What) (named : ℕ → Option ℕ) (u : g.V) (a : Requests) (v : View) (x : State) (i : ℕ) (w : Waiting g.Q) (v1 : View) (x1 : State)
       → IsFair v → Holds e named u a v x → entry_at i a.waiting ≡ Some w → HasGone w v x v1 x1 → Holds e (with_at i None named) u (without_request i (Some w) a) v1 x1
   holds_without e named u a v x i w v1 x1 fair h is f = record {
     now = f.clock ∙ (h.now ∙ sym f.now);
     asked = f.asked ∙ h.asked;
     pending = f.pending ∙ h.pending;
-    kept = go_on (g.c).timeout IsFor a.next (desk_of (with_at i None named) (without_request i (Some w) a) v1 x) (λ j. due_of j v1.timers.set) x1.held
-        (kept_so (g.c).timeout IsFor a.next (with_at i None named) _ _ _ _ _ _ _ _
+    kept = go_on (g.c).timeout (IsFor u) a.next (desk_of (with_at i None named) (without_request i (Some w) a) v1 x) (λ j. due_of j v1.timers.set) x1.held
+        (kept_so (g.c).timeout (IsFor u) a.next (with_at i None named) _ _ _ _ _ _ _ _
         (frees_path i 0 h.waiting.0 a.waiting h.waiting.1)
         (frees_path w.timer 0 h.deadlines.0 a.deadlines h.deadlines.1)
         refl
         (ap {B = ℕ → Option ℕ} (λ (ts : TimerList). λ (j : ℕ). due_of j ts.set) f.timers ∙ dues_without v w.timer fair)
-        (one_goes (g.c).timeout IsFor a.next (desk_of named a v x) i w h.kept is))
+        (one_goes (g.c).timeout (IsFor u) a.next (desk_of named a v x) i w h.kept is))
         (λ t j due d s. s) f.held;
     waiting = (h.waiting.0, sorted_frees i 0 h.waiting.0 a.waiting h.waiting.1);
     deadlines = (h.deadlines.0, sorted_frees w.timer 0 h.deadlines.0 a.deadlines h.deadlines.1);
@@ -85,8 +88,8 @@ module _ (g : Tying) where
   }
 
   -- the transport is tied as before when the timer of a deadline is taken out
-  pub tied_without : (phase : Phase) (e : What) (named : ℕ → Option ℕ) (u : g.V) (a : Requests) (v : View) (x : State) (i t : ℕ)
-      → IsFair v → Holds e named u a v x → entry_at i a.deadlines ≡ Some t → g.Tied phase u (sight v) x → g.Tied phase u (sight (drops_timer i v)) x
-  tied_without phase e named u a v x i t fair h is tied = g.tie.same phase u (sight v) (sight (drops_timer i v)) x tied refl
+  pub tied_without : (phase : Phase) (e : What) (named : ℕ → Option ℕ) (u : g.V) (a : Requests) (v : View) (x : State) (b : Kept) (i t : ℕ)
+      → IsFair v → Holds e named u a v x → entry_at i a.deadlines ≡ Some t → g.Tied phase u (sight v) x b → g.Tied phase u (sight (drops_timer i v)) x b
+  tied_without phase e named u a v x b i t fair h is tied = g.tie.same phase u (sight v) (sight (drops_timer i v)) x b tied refl
       (λ j o. due_without i j 0 v.timers.next v.timers.set fair.order ∙ at_other i None (λ (j : ℕ). due_of j v.timers.set) j (λ same. h.foreign i t is (subst (λ j. g.Owns u j) (sym same) o)))
       (le_refl v.timers.next) (le_refl v.ticket) refl

@@ -1,5 +1,5 @@
 -- The servers of a configuration are those of a choice: each is tied by the transports that it is used by.
-use Rattle.std.proofs.Common.{◌≡◌, ℕ, zero, suc, ◌<◌, ◌⊎◌, inl, inr, List, [], ◌∷◌, length, Option, Some, None, refl, ap, arith}
+use Rattle.std.proofs.Common.{◌≡◌, ℕ, zero, suc, ◌<◌, ◌⊎◌, inr, List, [], ◌∷◌, length, Option, Some, None, refl, ap, arith}
 use Rattle.client_request.specs.Request.{Request}
 use Rattle.client_request.specs.Requests.{for_one}
 use Rattle.client_request.specs.View.{View, asks}

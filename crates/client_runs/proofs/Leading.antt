@@ -1,15 +1,13 @@
 -- Chains of moves of the client: one after another, and what they keep.
-use Rattle.std.proofs.Common.{◌≡◌, ℕ, suc, ◌≤◌, ◌⊎◌, inl, inr, List, [], ◌++◌, Option, Some, Result, refl, sym, ap, subst, ◌∙◌, arith, le_refl, append_assoc, append-nil}
-use Rattle.client_request.specs.Request.{Request}
-use Rattle.client_request.specs.declared.error.Error.{Error}
+use Rattle.std.proofs.Common.{◌≡◌, ℕ, suc, ◌≤◌, ◌⊎◌, inl, inr, List, [], ◌++◌, Option, Some, refl, sym, ap, subst, ◌∙◌, arith, le_refl, append_assoc, append-nil}
+use Rattle.client_request.specs.Composed.{composed}
 use Rattle.client_request.specs.declared.event.Out.{Out}
 use Rattle.headline.specs.Trace.{Conf}
-use Rattle.headline.specs.Messages.{Octets}
 use Rattle.headline.specs.Settings.{Settings}
 use Rattle.headline.specs.machine.Part.{ServerPart}
 use Rattle.headline.specs.machine.Client.{Waiting, Upper, Made, Move, Moves, IsDone, Server_moves, Hands_on, Gives_up, Drops, Keeps_back, Delivers, Concludes, Times_out, Replies, Forgets, Derives, Answers, Takes_on}
-use Rattle.client_ties.specs.Leading.{Leads, Arrives, Then}
-use Rattle.client_runs.proofs.Desk.{WereTried, as_before, was_there, is_or_was}
+use Rattle.client_ties.specs.ClientTie.{Beside, LeadsBeside, Arrives, Then, AllBeside, WereTried}
+use Rattle.client_runs.proofs.Desk.{as_before, was_there, is_or_was}
 
 -- one of them is written otherwise, but for its moment
 changes : (k : ℕ) (a b : Waiting) (f : ℕ → Option Waiting) → f k ≡ Some a → b.moment ≡ a.moment → (g : ℕ → Option Waiting) → ((j : ℕ) (x : Waiting) → g j ≡ Some x → (k ≡ j) × (b ≡ x) ⊎ (k ≡ j → ⊥) × (f j ≡ Some x)) → WereTried f g
@@ -42,17 +40,20 @@ between a b c p q e = (first a b c p q e, second a b c p q e)
 both_le : (a b c : ℕ) → a ≤ b → b ≤ c → a ≤ c
 both_le a b c p q = omega arith
 
-module _ {c : Conf} (st : Settings) (compose : Request → Result Octets Error) (P : ServerPart c) where
-  pub leads_on : (x : Upper P.State) (a : List Out) (y : Upper P.State) (b : List Out) (z : Upper P.State) → Leads st compose P x a y → Leads st compose P y b z → Leads st compose P x (a ++ b) z
-  leads_on _ _ _ b z (Arrives x) m = m
-  leads_on _ _ _ b z (Then x d outs y f l) m = subst (λ o. Leads st compose P x o z) (sym (append_assoc d.outs outs b)) (Then x d (outs ++ b) z f (leads_on d.state outs y b z l m))
+module _ {c : Conf} (st : Settings) (P : ServerPart c) (B : Beside st P) where
+  pub leads_on : (x : Upper P.State) (e : B.Kept) (a : List Out) (y : Upper P.State) (f : B.Kept) (b : List Out) (z : Upper P.State) (g : B.Kept) → LeadsBeside st P B x e a y f → LeadsBeside st P B y f b z g → LeadsBeside st P B x e (a ++ b) z g
+  leads_on _ _ _ _ _ b z g (Arrives x e) m = m
+  leads_on _ _ _ _ _ b z g (Then x e d f outs y h move does l) m =
+      subst (λ o. LeadsBeside st P B x e o z g) (sym (append_assoc d.outs outs b)) (Then x e d f (outs ++ b) z g move does (leads_on d.state f outs y h b z g l m))
 
-  pub one_move : (x : Upper P.State) (d : Made P.State) → Move c st compose P x d → Leads st compose P x d.outs d.state
-  one_move x d f = subst (λ o. Leads st compose P x o d.state) (append-nil d.outs) (Then x d [] d.state f (Arrives d.state))
+  pub one_move : (x : Upper P.State) (e : B.Kept) (d : Made P.State) (f : B.Kept) (move : Move c st composed P x d) → B.Does x d move e f → LeadsBeside st P B x e d.outs d.state f
+  one_move x e d f move does = subst (λ o. LeadsBeside st P B x e o d.state f) (append-nil d.outs) (Then x e d f [] d.state f move does (Arrives d.state f))
 
-  pub all_moves : (x : Upper P.State) (outs : List Out) (y : Upper P.State) → Leads st compose P x outs y → IsDone c st compose P y → Moves c st compose P x (record { state = y; outs = outs })
-  all_moves _ _ _ (Arrives x) done = Moves.Rests x done
-  all_moves _ _ _ (Then x d outs y f l) done = Moves.Goes x d (record { state = y; outs = outs }) f (all_moves d.state outs y l done)
+  pub all_moves : (x : Upper P.State) (e : B.Kept) (outs : List Out) (y : Upper P.State) (f : B.Kept) → LeadsBeside st P B x e outs y f → IsDone c st composed P y
+      → (moves : Moves c st composed P x (record { state = y; outs = outs })) × AllBeside st P B x (record { state = y; outs = outs }) moves e f
+  all_moves _ _ _ _ _ (Arrives x e) done = (Moves.Rests x done, refl)
+  all_moves _ _ _ _ _ (Then x e d f outs y g move does l) done =
+      let more = all_moves d.state f outs y g l done in (Moves.Goes x d (record { state = y; outs = outs }) move more.0, (f, does, more.1))
 
   -- Of x, y is later in its row: where nobody was asked between, who is tried was tried before.
   pub record IsLater (x y : Upper P.State) : Type 0 where
@@ -72,7 +73,7 @@ module _ {c : Conf} (st : Settings) (compose : Request → Result Octets Error) 
   takes_one x y now asked = record { now = now; asked = subst (λ n. x.asked ≤ n) (sym asked) (one_more x.asked); held = λ e. absurd (never x.asked (sym asked ∙ e)) }
 
   -- what one move leaves
-  move_later : (x : Upper P.State) (d : Made P.State) → Move c st compose P x d → IsLater x d.state
+  move_later : (x : Upper P.State) (d : Made P.State) → Move c st composed P x d → IsLater x d.state
   move_later x _ (Server_moves i d lt acts) = stays_so x _ refl refl (as_before x.held)
   move_later x _ (Hands_on i k a d lt held tried starts) = stays_so x _ refl refl (changes k a _ x.held held refl _ (λ j y e. is_or_was k _ x.held j y e))
   move_later x _ (Gives_up i k d lt none holds gives) = stays_so x _ refl refl (as_before x.held)
@@ -88,9 +89,9 @@ module _ {c : Conf} (st : Settings) (compose : Request → Result Octets Error) 
   move_later x _ (Takes_on r o pending composes some) = takes_one x _ refl refl
 
   -- what many leave
-  pub leads_later : (x : Upper P.State) (outs : List Out) (y : Upper P.State) → Leads st compose P x outs y → IsLater x y
-  leads_later _ _ _ (Arrives x) = record { now = refl; asked = le_refl x.asked; held = λ e. as_before x.held }
-  leads_later _ _ _ (Then x d outs y f l) = and_then x d.state y (move_later x d f) (leads_later d.state outs y l)
+  pub leads_later : (x : Upper P.State) (e : B.Kept) (outs : List Out) (y : Upper P.State) (f : B.Kept) → LeadsBeside st P B x e outs y f → IsLater x y
+  leads_later _ _ _ _ _ (Arrives x e) = record { now = refl; asked = le_refl x.asked; held = λ e. as_before x.held }
+  leads_later _ _ _ _ _ (Then x e d f outs y g move does l) = and_then x d.state y (move_later x d move) (leads_later d.state f outs y g l)
     where
       and_then : (x y z : Upper P.State) → IsLater x y → IsLater y z → IsLater x z
       and_then x y z p q = record {

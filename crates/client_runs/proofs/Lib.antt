@@ -8,8 +8,6 @@ pub mod Looping
 pub mod Hearing
 pub mod Asking
 pub mod Rows
-pub mod Serverless
-pub mod Silence
 pub mod StreamsBelow
 pub mod Datagrams
 pub mod Lifting

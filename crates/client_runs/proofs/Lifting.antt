@@ -1,5 +1,5 @@
 -- A transport that is tied stays tied, and leaves alone what is not its own, where it stands as one of several kinds.
-use Rattle.std.proofs.Common.{◌≡◌, ℕ, suc, ◌<◌, ◌≤◌, ◌⊎◌, inl, inr, max, true, false, [], Option, Some, None, refl, sym, ap, subst, ◌∙◌}
+use Rattle.std.proofs.Common.{◌≡◌, ℕ, suc, ◌≤◌, ◌⊎◌, inl, inr, max, false, [], Option, Some, None, sym, ap, subst, ◌∙◌}
 use Rattle.std.specs.Prelude.{option_map}
 use Rattle.std.proofs.lemmas.Option.{same_Some}
 use Rattle.dns_names.proofs.Heads.{none_some}
@@ -7,7 +7,6 @@ use Rattle.client_request.specs.Carries.{IsOfOctets}
 use Rattle.client_request.specs.Request.{Request}
 use Rattle.client_request.specs.Timers.{cancelled}
 use Rattle.client_request.specs.View.{View, Heard, Transport, told, more_at, due_timer, asks}
-use Rattle.client_request.specs.declared.event.Event.{Event}
 use Rattle.client_request.specs.declared.event.Out.TheVariants.{Start}
 use Rattle.client_request.specs.declared.event.Via.{Via}
 use Rattle.client_request.specs.declared.event.What.{What}
@@ -15,8 +14,8 @@ use Rattle.headline.specs.Trace.{Conf}
 use Rattle.headline.specs.machine.Part.{Act, ServerPart}
 use Rattle.headline.specs.machine.Streams.{with_at}
 use Rattle.client_ties.specs.Chains.{Chain, Begins, Gives}
-use Rattle.client_ties.specs.PartTie.{Phase, Untold, Told, Passed, MayEnd, MayLeave, WasTold, IsOpen, place_in, Leads, Leaves, Tells, IsTie}
-use Rattle.client_ties.specs.Sharing.{HasOneMore, IsShared}
+use Rattle.client_ties.specs.PartTie.{Phase, Untold, Told, Passed, MayLeave, IsOpen, Leads, Leaves, Tells, IsTie}
+use Rattle.client_ties.specs.Sharing.{IsShared}
 use Rattle.client_ties.specs.Sights.{Sight, sight, due_of, IsFair, NoneDue}
 
 -- what a call leaves below, above

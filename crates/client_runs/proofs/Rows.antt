@@ -11,16 +11,17 @@ use Rattle.client_request.specs.declared.event.What.TheVariants.{Ask, Opened, Op
 use Rattle.headline.specs.Requests.{is_ask}
 use Rattle.headline.specs.Timely.{IsAskedInOctets, AllAskedInOctets}
 use Rattle.headline.specs.machine.Client.{IsDone, IsStep, IsRun, Ends, Goes_on, row_begins, begun}
-use Rattle.client_ties.specs.Leading as moves
+use Rattle.client_ties.specs.ClientTie.{Arrives, IsInOctets, AllInOctets, AllBeside, RunBeside}
 use Rattle.client_ties.specs.PartTie.{Phase, Untold, Told, MayEnd, MayLeave}
 use Rattle.client_ties.specs.Sights.{sight, IsEarly}
-use Rattle.client_runs.specs.Above.{Tying, machine, begins_with, AreWords, ClientsAboveTiesRun}
-use Rattle.client_steps.specs.Client.{client_of, at_moment, rested, row_of, row_and_rest, then_rows, asks_request, fires_all, tells, brings, happens, client_step, plain_rows}
+use Rattle.client_runs.specs.Above.{Tying, begins_with, AreWords, ClientsAboveTiesRun}
+use Rattle.client_steps.specs.Client.{at_moment, rested, row_of, row_and_rest, then_rows, fires_all, tells, brings, happens, client_step, plain_rows}
+use Rattle.client_steps.specs.Machines.{machine_of}
 use Rattle.client_runs.proofs.Asking.{Happened, asks_it}
 use Rattle.client_runs.proofs.Calling.{PlainClient, IsTied, Comes}
 use Rattle.client_runs.proofs.Firing.{IfSome, AreInTime, some_then, some_on}
 use Rattle.client_runs.proofs.Hearing.{IsHeard, tells_it, bytes_do, holds_as}
-use Rattle.client_runs.proofs.Holding.{State}
+use Rattle.client_runs.proofs.Holding.{State, Kept}
 use Rattle.client_runs.proofs.Leading.{leads_on, all_moves}
 use Rattle.client_runs.proofs.Looping.{Rested, all_fire, keeps_time, are_in_time}
 
@@ -44,51 +45,61 @@ about (Ended p) = p
 about Tick = 0
 
 module _ (g : Tying) where
-  happened_of : (at : ℕ) (e : What) (v : View) (from : State g) (d : PlainClient g) → is_ask e ≡ false → AreInTime g from → Comes g (Told at 0) e v from d → Happened g v from d
-  happened_of at e v from d taken early c = record { phase = Told at 0; may_end = refl; pending = e; taken = taken; outs = c.outs; end = c.end; leads = c.leads; may_fire = keeps_time g (Told at 0) e v from d c early; tied = c.tied; put = c.put }
+  happened_of : (at : ℕ) (e : What) (v : View) (from : State g) (b : Kept g) (d : PlainClient g) → is_ask e ≡ false → AreInTime g from → Comes g (Told at 0) e v from b d → Happened g v from b d
+  happened_of at e v from b d taken early c = record {
+    phase = Told at 0;
+    may_end = refl;
+    pending = e;
+    taken = taken;
+    outs = c.outs;
+    end = c.end;
+    beside = c.beside;
+    leads = c.leads;
+    may_fire = keeps_time g (Told at 0) e v from b d c early;
+    tied = c.tied;
+    put = c.put;
+  }
 
   -- what an event does
-  happens_do : (w : What) (d : PlainClient g) (x : State g) → IsAskedInOctets w → IsTied g (Untold w) w d x → IsEarly d.view → IfSome g (Happened g d.view x) (happens (machine g.T g.ticket) (g.c).timeout w d)
-  happens_do (Ask r) d x octets t early = subst (λ l. IfSome g (Happened g d.view x) (asks_request (machine g.T g.ticket) (g.c).timeout r (client_of l (d.asked, d.view)))) (sym t.layer)
-      (asks_it g r t.u d.asked d.view x t.fits t.board octets)
-  happens_do (Bytes p o) d x octets t early =
-      let in_time : AreInTime g x = are_in_time g (Untold (Bytes p o)) (Bytes p o) d x t early in
-      some_on g (Comes g (Told p 0) (Bytes p o) d.view x) (Happened g d.view x) (brings (machine g.T g.ticket) p o d) (bytes_do g (Bytes p o) p o d x t early in_time)
-      (λ d1 c. happened_of p (Bytes p o) d.view x d1 refl in_time c)
-  happens_do Tick d x octets t early = record {
+  happens_do : (w : What) (d : PlainClient g) (x : State g) (b : Kept g) → IsAskedInOctets w → IsTied g (Untold w) w d x b → IsEarly d.view → IfSome g (Happened g d.view x b) (happens (machine_of g.T g.ticket) (g.c).timeout w d)
+  happens_do (Ask r) d x b octets t early = asks_it g r d.layer d.asked d.view x b t.fits octets t.board
+  happens_do (Bytes p o) d x b octets t early =
+      let in_time : AreInTime g x = are_in_time g (Untold (Bytes p o)) (Bytes p o) d x b t early in
+      some_on g (Comes g (Told p 0) (Bytes p o) d.view x b) (Happened g d.view x b) (brings (machine_of g.T g.ticket) p o d) (bytes_do g (Bytes p o) p o d x b t early in_time)
+      (λ d1 c. happened_of p (Bytes p o) d.view x b d1 refl in_time c)
+  happens_do Tick d x b octets t early = record {
     phase = Untold Tick;
     may_end = tt;
     pending = Tick;
     taken = refl;
     outs = [];
     end = x;
-    leads = moves.Arrives x;
+    beside = b;
+    leads = Arrives x b;
     may_fire = tt;
     tied = t;
     put = sym (append-nil d.view.outs);
   }
-  happens_do w d x octets t early =
-      let in_time : AreInTime g x = are_in_time g (Untold w) w d x t early in
-      some_on g (IsHeard g w (MayLeave w) d.view x) (Happened g d.view x) (tells (machine g.T g.ticket) w d) (tells_it g w w (about w) d x refl t early)
-      (λ d1 h. happened_of h.at w d.view x d1 refl in_time (subst (λ l. Comes g (Told h.at l) w d.view x d1) h.may_be h.comes))
+  happens_do w d x b octets t early =
+      let in_time : AreInTime g x = are_in_time g (Untold w) w d x b t early in
+      some_on g (IsHeard g w (MayLeave w) d.view x b) (Happened g d.view x b) (tells (machine_of g.T g.ticket) w d) (tells_it g w w (about w) d x b refl t early)
+      (λ d1 h. happened_of h.at w d.view x b d1 refl in_time (subst (λ l. Comes g (Told h.at l) w d.view x b d1) h.may_be h.comes))
 
   -- A row is done when no timer is due.
-  is_done : (phase : Phase) (e : What) (d : PlainClient g) (x : State g) → MayEnd phase → is_ask e ≡ false → IsTied g phase e d x → IsEarly d.view → IsDone g.c g.st composed g.P x
-  is_done phase e d x end taken t early = record {
+  is_done : (phase : Phase) (e : What) (d : PlainClient g) (x : State g) (b : Kept g) → MayEnd phase → is_ask e ≡ false → IsTied g phase e d x b → IsEarly d.view → IsDone g.c g.st composed g.P x
+  is_done phase e d x b end taken t early = record {
     taken = subst (λ w. is_ask w ≡ false) (sym t.fits.holds.pending) taken;
-    board = g.tie.taken phase t.u (sight d.view) x t.fits.tied;
+    board = g.tie.taken phase d.layer (sight d.view) x b t.fits.tied;
     leaving = t.fits.leaving;
-    rests = λ i lt. g.tie.rests phase t.u d.view x i end early t.fits.tied lt;
-    tried_alone = λ i k lt e. g.tie.tried_alone phase t.u (sight d.view) x i k t.fits.tied lt e;
-    goes_on = λ k a e. g.tie.waits phase t.u (sight d.view) x k t.fits.tied (ap is_some e);
-    early = are_in_time g phase e d x t early;
+    rests = λ i lt. g.tie.rests phase d.layer d.view x b i end early t.fits.tied lt;
+    tried_alone = λ i k lt e. g.tie.tried_alone phase d.layer (sight d.view) x b i k t.fits.tied lt e;
+    goes_on = λ k a e. g.tie.waits phase d.layer (sight d.view) x b k t.fits.tied (ap is_some e);
+    early = are_in_time g phase e d x b t early;
   }
 
   -- a row begins
-  begins_so : (e : Event) (phase : Phase) (w : What) (d : PlainClient g) (x : State g) → MayEnd phase → IsTied g phase w d x → IsTied g (Untold e.what) e.what (at_moment e.moment.0 d) (row_begins g.c g.st composed g.P e x)
-  begins_so e phase w d x end t = record {
-    u = t.u;
-    layer = t.layer;
+  begins_so : (e : Event) (phase : Phase) (w : What) (d : PlainClient g) (x : State g) (b : Kept g) → MayEnd phase → IsInOctets e.what → IsTied g phase w d x b → IsTied g (Untold e.what) e.what (at_moment e.moment.0 d) (row_begins g.c g.st composed g.P e x) b
+  begins_so e phase w d x b end octets t = record {
     fits = record {
       holds = record {
         now = ap (λ n. max e.moment.0 n) t.fits.holds.now ∙ either_way e.moment.0 d.view.now;
@@ -101,38 +112,45 @@ module _ (g : Tying) where
       };
       leaving = t.fits.leaving;
       fair = record { order = t.fits.fair.order; words = t.fits.fair.words };
-      tied = g.tie.same (Untold e.what) t.u (record (sight d.view) { now = max e.moment.0 d.view.now }) (sight (record d.view { now = max d.view.now e.moment.0 })) (row_begins g.c g.st composed g.P e x) (g.tie.begins phase t.u (sight d.view) x e end t.fits.tied)
+      tied = g.tie.same (Untold e.what) d.layer (record (sight d.view) { now = max e.moment.0 d.view.now }) (sight (record d.view { now = max d.view.now e.moment.0 })) (row_begins g.c g.st composed g.P e x) b
+          (g.tie.begins phase d.layer (sight d.view) x b e end octets t.fits.leaving t.fits.tied)
           (either_way d.view.now e.moment.0) (λ i o. refl) (le_refl d.view.timers.next) (le_refl d.view.ticket) refl;
     };
     board = t.board;
   }
 
-  rests_so : (phase : Phase) (w : What) (d : PlainClient g) (x : State g) → IsTied g phase w d x → IsTied g phase w (rested d) x
-  rests_so phase w d x t = record {
-    u = t.u;
-    layer = t.layer;
-    fits = record { holds = holds_as g w (g.names t.u) t.u d.asked d.view (rested d).view x refl refl t.fits.holds; leaving = t.fits.leaving; fair = record { order = t.fits.fair.order; words = t.fits.fair.words }; tied = t.fits.tied };
+  rests_so : (phase : Phase) (w : What) (d : PlainClient g) (x : State g) (b : Kept g) → IsTied g phase w d x b → IsTied g phase w (rested d) x b
+  rests_so phase w d x b t = record {
+    fits = record {
+      holds = holds_as g w (g.names d.layer) d.layer d.asked d.view (rested d).view x refl refl t.fits.holds;
+      leaving = t.fits.leaving;
+      fair = record { order = t.fits.fair.order; words = t.fits.fair.words };
+      tied = t.fits.tied;
+    };
     board = t.board;
   }
 
   -- what a step of the plain client is to the machine
-  record IsStepped (e : Event) (from : State g) (d : PlainClient g) : Type 0 where
+  record IsStepped (e : Event) (from : State g) (b : Kept g) (d : PlainClient g) : Type 0 where
     pub phase : Phase
     pub may_end : MayEnd phase
     pub pending : What
     pub end : State g
+    pub kept : Kept g
     pub step : IsStep g.c g.st composed g.P from (row_of e d) end
-    pub tied : IsTied g phase pending (rested d) end
+    pub beside : AllBeside g.st g.P g.B (row_begins g.c g.st composed g.P e from) step.made step.moves b kept
+    pub tied : IsTied g phase pending (rested d) end kept
 
   -- Timers fire, the event happens, and timers fire again.
-  steps_do : (e : Event) (phase : Phase) (w : What) (d : PlainClient g) (x : State g) → IsAskedInOctets e.what → MayEnd phase → IsTied g phase w d x → d.view.outs ≡ [] → IfSome g (IsStepped e x) (client_step (machine g.T g.ticket) (g.c).timeout e d)
-  steps_do e phase w d x octets end t none =
+  steps_do : (e : Event) (phase : Phase) (w : What) (d : PlainClient g) (x : State g) (b : Kept g) → IsAskedInOctets e.what → IsInOctets e.what → MayEnd phase → IsTied g phase w d x b → d.view.outs ≡ []
+      → IfSome g (IsStepped e x b) (client_step (machine_of g.T g.ticket) (g.c).timeout e d)
+  steps_do e phase w d x b asked octets end t none =
       let d0 : PlainClient g = at_moment e.moment.0 d in
       let x0 : State g = row_begins g.c g.st composed g.P e x in
-      some_then g (Happened g d0.view x0) (IsStepped e x) (fires_all (machine g.T g.ticket)) (option_and_then (happens (machine g.T g.ticket) (g.c).timeout e.what) (fires_all (machine g.T g.ticket) d0))
-      (some_then g (Rested g (Untold e.what) e.what d0.view x0) (Happened g d0.view x0) (happens (machine g.T g.ticket) (g.c).timeout e.what) (fires_all (machine g.T g.ticket) d0)
-      (all_fire g (Untold e.what) e.what d0 x0 (begins_so e phase w d x end t) tt)
-      (λ d1 r. some_on g (Happened g d1.view r.comes.end) (Happened g d0.view x0) (happens (machine g.T g.ticket) (g.c).timeout e.what d1) (happens_do e.what d1 r.comes.end octets r.comes.tied r.early)
+      some_then g (Happened g d0.view x0 b) (IsStepped e x b) (fires_all (machine_of g.T g.ticket)) (option_and_then (happens (machine_of g.T g.ticket) (g.c).timeout e.what) (fires_all (machine_of g.T g.ticket) d0))
+      (some_then g (Rested g (Untold e.what) e.what d0.view x0 b) (Happened g d0.view x0 b) (happens (machine_of g.T g.ticket) (g.c).timeout e.what) (fires_all (machine_of g.T g.ticket) d0)
+      (all_fire g (Untold e.what) e.what d0 x0 b (begins_so e phase w d x b end octets t) tt)
+      (λ d1 r. some_on g (Happened g d1.view r.comes.end r.comes.beside) (Happened g d0.view x0 b) (happens (machine_of g.T g.ticket) (g.c).timeout e.what d1) (happens_do e.what d1 r.comes.end r.comes.beside asked r.comes.tied r.early)
       (λ d2 h. record {
         phase = h.phase;
         may_end = h.may_end;
@@ -140,51 +158,58 @@ module _ (g : Tying) where
         taken = h.taken;
         outs = r.comes.outs ++ h.outs;
         end = h.end;
-        leads = leads_on g.st composed g.P x0 r.comes.outs r.comes.end h.outs h.end r.comes.leads h.leads;
+        beside = h.beside;
+        leads = leads_on g.st g.P g.B x0 b r.comes.outs r.comes.end r.comes.beside h.outs h.end h.beside r.comes.leads h.leads;
         may_fire = h.may_fire;
         tied = h.tied;
         put = h.put ∙ (ap (λ (o : List Out). o ++ h.outs) r.comes.put ∙ append_assoc d0.view.outs r.comes.outs h.outs);
       })))
-      (λ d2 h. some_on g (Rested g h.phase h.pending d2.view h.end) (IsStepped e x) (fires_all (machine g.T g.ticket) d2) (all_fire g h.phase h.pending d2 h.end h.tied h.may_fire)
-      (λ d3 r. record {
+      (λ d2 h. some_on g (Rested g h.phase h.pending d2.view h.end h.beside) (IsStepped e x b) (fires_all (machine_of g.T g.ticket) d2) (all_fire g h.phase h.pending d2 h.end h.beside h.tied h.may_fire)
+      (λ d3 r. (let l = leads_on g.st g.P g.B x0 b h.outs h.end h.beside r.comes.outs r.comes.end r.comes.beside h.leads r.comes.leads in
+      let m = all_moves g.st g.P g.B x0 b (h.outs ++ r.comes.outs) r.comes.end r.comes.beside l (is_done h.phase h.pending d3 r.comes.end r.comes.beside h.may_end h.taken r.comes.tied r.early) in
+      record {
         phase = h.phase;
         may_end = h.may_end;
         pending = h.pending;
         end = r.comes.end;
+        kept = r.comes.beside;
         step = record {
           made = record { state = r.comes.end; outs = h.outs ++ r.comes.outs };
-          moves = all_moves g.st composed g.P x0 (h.outs ++ r.comes.outs) r.comes.end (leads_on g.st composed g.P x0 h.outs h.end r.comes.outs r.comes.end h.leads r.comes.leads)
-              (is_done h.phase h.pending d3 r.comes.end h.may_end h.taken r.comes.tied r.early);
+          moves = m.0;
           outs = r.comes.put ∙ ap (λ (o : List Out). o ++ r.comes.outs) (h.put ∙ ap (λ (o : List Out). o ++ h.outs) none);
           leaves = refl;
         };
-        tied = rests_so h.phase h.pending d3 r.comes.end r.comes.tied;
-      }))
+        beside = m.1;
+        tied = rests_so h.phase h.pending d3 r.comes.end r.comes.beside r.comes.tied;
+      })))
 
   -- rows are a run
-  abbrev pub RunsFrom : State g → Option (List Row) → Type 0
-  RunsFrom x None = Unit {0}
-  RunsFrom x (Some rows) = IsRun g.c g.st composed g.P x rows
+  abbrev pub IsRunOf : State g → Kept g → List Row → Type 0
+  IsRunOf x b rows = (run : IsRun g.c g.st composed g.P x rows) × RunBeside g.st g.P g.B x rows run b
 
-  rows_run : (es : List Event) (phase : Phase) (w : What) (d : PlainClient g) (x : State g) → AllAskedInOctets es → MayEnd phase → IsTied g phase w d x → d.view.outs ≡ [] → RunsFrom x (plain_rows (machine g.T g.ticket) (g.c).timeout es d)
-  rows_run [] phase w d x octets end t none = Ends x
-  rows_run (e ∷ es) phase w d x octets end t none = by (client_step (machine g.T g.ticket) (g.c).timeout e d) (steps_do e phase w d x octets.0 end t none) (λ phase w d x end t none. rows_run es phase w d x octets.1 end t none)
+  abbrev pub RunsFrom : State g → Kept g → Option (List Row) → Type 0
+  RunsFrom x b None = Unit {0}
+  RunsFrom x b (Some rows) = IsRunOf x b rows
+
+  -- a client that ended a row
+  abbrev GoesOn : List Event → Type 0
+  GoesOn es = (phase : Phase) (w : What) (d : PlainClient g) (x : State g) (b : Kept g) → MayEnd phase → IsTied g phase w d x b → d.view.outs ≡ [] → RunsFrom x b (plain_rows (machine_of g.T g.ticket) (g.c).timeout es d)
+
+  rows_run : (es : List Event) → AllAskedInOctets es → AllInOctets es → GoesOn es
+  rows_run [] asked octets phase w d x b end t none = (Ends x, tt)
+  rows_run (e ∷ es) asked octets phase w d x b end t none = by (client_step (machine_of g.T g.ticket) (g.c).timeout e d) (steps_do e phase w d x b asked.0 octets.0 end t none) (rows_run es asked.1 octets.1)
     where
-      by : (o : Option (PlainClient g)) → IfSome g (IsStepped e x) o
-          → ((phase : Phase) (w : What) (d : PlainClient g) (x : State g) → MayEnd phase → IsTied g phase w d x → d.view.outs ≡ [] → RunsFrom x (plain_rows (machine g.T g.ticket) (g.c).timeout es d))
-          → RunsFrom x (option_and_then (then_rows (plain_rows (machine g.T g.ticket) (g.c).timeout es)) (option_map (row_and_rest e) o))
+      by : (o : Option (PlainClient g)) → IfSome g (IsStepped e x b) o → GoesOn es → RunsFrom x b (option_and_then (then_rows (plain_rows (machine_of g.T g.ticket) (g.c).timeout es)) (option_map (row_and_rest e) o))
       by None s ih = tt
-      by (Some d1) s ih = rest (plain_rows (machine g.T g.ticket) (g.c).timeout es (rested d1)) (ih s.phase s.pending (rested d1) s.end s.may_end s.tied refl)
+      by (Some d1) s ih = rest (plain_rows (machine_of g.T g.ticket) (g.c).timeout es (rested d1)) (ih s.phase s.pending (rested d1) s.end s.kept s.may_end s.tied refl)
         where
-          rest : (o : Option (List Row)) → RunsFrom s.end o → RunsFrom x (option_map (λ rows. row_of e d1 ∷ rows) o)
+          rest : (o : Option (List Row)) → RunsFrom s.end s.kept o → RunsFrom x b (option_map (λ rows. row_of e d1 ∷ rows) o)
           rest None r = tt
-          rest (Some rows) r = Goes_on x (row_of e d1) s.end rows s.step r
+          rest (Some rows) r = (Goes_on x (row_of e d1) s.end rows s.step r.0, (s.kept, s.beside, r.1))
 
   -- nothing is tied to nothing
-  starts : (words : ℕ → ℕ) → AreWords words → IsTied g (Told 0 0) Tick (begins_with words (Some g.first)) (begun g.c g.st composed g.P)
+  starts : (words : ℕ → ℕ) → AreWords words → IsTied g (Told 0 0) Tick (begins_with words g.first) (begun g.c g.st composed g.P) (g.B).first
   starts words small = record {
-    u = g.first;
-    layer = refl;
     fits = record {
       holds = record {
         now = refl;
@@ -192,7 +217,7 @@ module _ (g : Tying) where
         pending = refl;
         kept = record {
           kept = λ i w e. absurd (cc);
-          named = λ i k e. absurd (never i (g.tie.named (Told 0 0) g.first (sight view) (begun g.c g.st composed g.P) i k tied e).0);
+          named = λ i k e. absurd (never i (g.tie.named (Told 0 0) g.first (sight view) (begun g.c g.st composed g.P) (g.B).first i k tied e).0);
           late = λ t i e. absurd (cc);
         };
         waiting = (0, tt);
@@ -209,16 +234,17 @@ module _ (g : Tying) where
       view : View
       view = record { now = 0; words = words; outs = []; board = []; timers = record { next = 0; set = [] }; ticket = 0; place = 0; request = 0; more = false }
 
-      tied : g.Tied (Told 0 0) g.first (sight view) (begun g.c g.st composed g.P)
+      tied : g.Tied (Told 0 0) g.first (sight view) (begun g.c g.st composed g.P) (g.B).first
       tied = g.tie.fresh (sight view) refl refl
 
       never : (i : ℕ) → i < 0 → ⊥
       never i lt = omega arith
 
   -- Every list of rows is a run.
-  tied_clients_run : (words : ℕ → ℕ) (events : List Event) (rows : List Row) → AreWords words → AllAskedInOctets events
-      → plain_rows (machine g.T g.ticket) (g.c).timeout events (begins_with words (Some g.first)) ≡ Some rows → IsRun g.c g.st composed g.P (begun g.c g.st composed g.P) rows
-  tied_clients_run words events rows small octets e = subst (RunsFrom (begun g.c g.st composed g.P)) e (rows_run events (Told 0 0) Tick (begins_with words (Some g.first)) (begun g.c g.st composed g.P) octets refl (starts words small) refl)
+  tied_clients_run : (words : ℕ → ℕ) (events : List Event) (rows : List Row) → AreWords words → AllAskedInOctets events → AllInOctets events
+      → plain_rows (machine_of g.T g.ticket) (g.c).timeout events (begins_with words g.first) ≡ Some rows → IsRunOf (begun g.c g.st composed g.P) (g.B).first rows
+  tied_clients_run words events rows small asked octets e =
+      subst (RunsFrom (begun g.c g.st composed g.P) (g.B).first) e (rows_run events asked octets (Told 0 0) Tick (begins_with words g.first) (begun g.c g.st composed g.P) (g.B).first refl (starts words small) refl)
 
 pub clients_above_ties_run : ClientsAboveTiesRun
-clients_above_ties_run g words events rows small octets e = tied_clients_run g words events rows small octets e
+clients_above_ties_run g words events rows small asked octets e = tied_clients_run g words events rows small asked octets e

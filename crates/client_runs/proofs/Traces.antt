@@ -1,78 +1,111 @@
 -- Every plain trace is a run, and right and timely.
-use Rattle.std.proofs.Common.{◌≡◌, ℕ, suc, ◌<◌, List, [], ◌∷◌, length, map, Some, refl, sym, ap, subst, ◌∙◌, arith}
+use Rattle.std.proofs.Common.{◌≡◌, ℕ, ◌≤◌, List, map, Some, refl, sym, ap, subst, ◌∙◌, arith}
 use Rattle.client_request.specs.Composed.{composed}
-use Rattle.client_request.specs.Request.{Request}
 use Rattle.client_request.specs.Requests.{for_one}
 use Rattle.client_request.specs.declared.event.Event.{Event}
 use Rattle.client_request.specs.declared.event.Row.{Row}
-use Rattle.client_settings.specs.Settings.{CacheSettings, RedundantSettings}
-use Rattle.client_choice.specs.Redundant as redundant
-use Rattle.headline.specs.Settings.{Settings}
+use Rattle.client_settings.specs.Settings.{CacheSettings, RedundantSettings, seconds}
+use Rattle.client_cache.specs.Plain as caching
+use Rattle.client_cache.specs.Plain.{Cached, Response}
+use Rattle.client_choice.specs.Redundant as choice
 use Rattle.headline.specs.Timely.{AllAskedInOctets}
 use Rattle.headline.specs.Trace.{Conf}
 use Rattle.headline.specs.machine.Client.{begun, IsRun}
 use Rattle.headline.specs.machine.Served.{served}
 use Rattle.headline.proofs.Composing.{composed_composes}
 use Rattle.headline.proofs.server.Concrete.{every_run}
-use Rattle.choice_runs.specs.Choosing.{Choosing}
+use Rattle.cache_runs.specs.Caching.{Caching}
+use Rattle.cache_runs.specs.Caching as cache
+use Rattle.cache_runs.specs.Listed.{listed}
+use Rattle.cache_runs.specs.Results.{SaneServed}
+use Rattle.cache_runs.proofs.CachedTie.{cached_is_tied}
+use Rattle.cache_runs.proofs.CachedRuns.{cached_runs_hit}
+use Rattle.cache_runs.proofs.ResultsServed.{served_gives_messages}
+use Rattle.client_ties.specs.ClientTie.{RunBeside}
 use Rattle.choice_runs.specs.Whole.{with_all}
 use Rattle.choice_runs.specs.Whole as whole
-use Rattle.choice_runs.proofs.Whole.{choices_are_whole}
-use Rattle.client_runs.specs.Above.{AreWords, Tying, begins_with}
-use Rattle.client_runs.specs.Ties.{EveryPlainTraceRuns, EveryPlainTraceIsRight, PlainTracesKeepTheirEvents}
+use Rattle.choice_runs.proofs.Whole.{choices_are_whole, choices_without_servers}
+use Rattle.client_runs.specs.Above.{Tying, begins_with}
+use Rattle.client_runs.specs.Ties.{AreHandedIn, EveryPlainTraceRuns, EveryPlainTraceIsRight, EveryPlainTraceHits, PlainTracesKeepTheirEvents}
 use Rattle.client_steps.specs.Client.{plain_rows}
 use Rattle.client_steps.specs.Headline.{use_of, conf_of, settings_of}
 use Rattle.client_steps.specs.Upstream as upstream
-use Rattle.client_steps.specs.Whole.{Servers, machine, asks_by_streams, servers_of, client_with, started}
+use Rattle.client_steps.specs.Whole.{Servers, machine, plain_trace, client_with, started}
 use Rattle.resolv_conf.specs.declared.conf.ResolvConf.{ResolvConf}
 use Rattle.resolv_conf.specs.declared.options.ResolvOptions.{ResolvOptions}
 use Rattle.resolv_conf.specs.declared.server.ServerConf.{ServerConf}
 use Rattle.client_steps.proofs.Events.{rows_of_events}
 use Rattle.client_runs.proofs.Joining.{choosing}
 use Rattle.client_runs.proofs.Rows.{clients_above_ties_run}
-use Rattle.client_runs.proofs.Serverless.{clients_without_servers_run}
 use Rattle.client_runs.proofs.Servers.{all_begin}
 
--- the client above the choice among the servers of a configuration
-abbrev tying : (c : Conf) → 0 < length c.servers → RedundantSettings → CacheSettings → Tying
-tying c some settings cache = record {
+fits : (n : ℕ) → n ≤ seconds 6048000 → n ≤ seconds 4294967295
+fits n le = omega (arith, le)
+
+-- a cache above the choice among the servers of a configuration
+abbrev above_servers : (c : Conf) → RedundantSettings → (settings : CacheSettings) → settings.max_validity ≤ seconds 6048000 → Caching
+above_servers c redundant settings limited = record {
   c = c;
-  some = some;
-  st = settings_of settings cache;
+  base = settings_of redundant settings;
+  cache = settings;
+  limited = fits settings.max_validity limited;
   P = served c;
+  Sane = SaneServed;
+  messages = served_gives_messages c;
   V = Servers;
-  Q = redundant.Asked;
-  T = redundant.transport (upstream.transport for_one);
-  ticket = λ r. r.ticket;
-  first = with_all (choosing c settings cache);
-  Tied = whole.Tied (choosing c settings cache);
-  names = whole.names (choosing c settings cache);
-  Owns = whole.Owns (choosing c settings cache);
-  tie = choices_are_whole (choosing c settings cache);
+  Q = choice.Asked;
+  T = choice.transport (upstream.transport for_one);
+  number = λ r. r.ticket;
+  first = with_all (choosing c redundant settings);
+  Tied = whole.Tied (choosing c redundant settings);
+  names = whole.names (choosing c redundant settings);
+  Owns = whole.Owns (choosing c redundant settings);
+  tie = choices_are_whole (choosing c redundant settings);
+  nowhere = λ none phase u v a r t. choices_without_servers (choosing c redundant settings) none phase r u v a t;
 }
 
-abbrev conf_at : List ServerConf → ResolvOptions → Conf
-conf_at servers options = record { servers = map (λ s. use_of (asks_by_streams options s)) servers; timeout = options.timeout }
+-- the client above that
+abbrev tying : Caching → Tying
+tying g = record {
+  c = g.c;
+  st = cache.its g;
+  P = g.P;
+  B = listed g;
+  V = Cached g.V;
+  Q = Response g.Q;
+  T = cache.cached g;
+  ticket = cache.ticket_of g;
+  IsHanded = cache.IsHanded g;
+  first = cache.first g;
+  Tied = cache.IsTied g;
+  names = cache.names g;
+  Owns = cache.Owns g;
+  tie = cached_is_tied g;
+}
 
-module _ (settings : RedundantSettings) (cache : CacheSettings) (words : ℕ → ℕ) (events : List Event) (rows : List Row) (small : AreWords words) (octets : AllAskedInOctets events) where
-  runs_at : (servers : List ServerConf) (options : ResolvOptions) → plain_rows machine options.timeout events (begins_with words (servers_of settings options servers)) ≡ Some rows
-      → IsRun (conf_at servers options) (settings_of settings cache) composed (served (conf_at servers options)) (begun (conf_at servers options) (settings_of settings cache) composed (served (conf_at servers options))) rows
-  runs_at [] options e = clients_without_servers_run (conf_at [] options) (settings_of settings cache) (served (conf_at [] options)) Servers redundant.Asked (redundant.transport (upstream.transport for_one)) (λ r. r.ticket) words events rows refl e
-  runs_at (s ∷ ss) options e =
-      clients_above_ties_run (tying (conf_at (s ∷ ss) options) (one (length (map (λ s. use_of (asks_by_streams options s)) ss))) settings cache) words events rows small octets
-      (subst (λ r. plain_rows machine options.timeout events (begins_with words (Some r)) ≡ Some rows) (all_begin options (conf_at (s ∷ ss) options) settings cache (s ∷ ss) refl) e)
-    where
-      one : (n : ℕ) → 0 < suc n
-      one n = omega arith
+module _ (redundant : RedundantSettings) (settings : CacheSettings) (conf : ResolvConf) (words : ℕ → ℕ) (events : List Event) (rows : List Row) (plain : plain_trace redundant settings conf words events ≡ Some rows) (h : AreHandedIn settings words events) where
+  abbrev client : Tying
+  client = tying (above_servers (conf_of conf) redundant settings h.limited)
+
+  -- the run, with its exact cache beside it
+  cached_run : (run : IsRun client.c client.st composed client.P (begun client.c client.st composed client.P) rows) × RunBeside client.st client.P client.B (begun client.c client.st composed client.P) rows run (client.B).first
+  cached_run = clients_above_ties_run client words events rows h.small h.asked h.octets
+      (subst (λ (r : Servers). plain_rows machine conf.options.timeout events (begins_with words (caching.started settings r)) ≡ Some rows) (all_begin conf.options (conf_of conf) redundant settings conf.servers refl) plain)
+
+  rows_asked : AllAskedInOctets (map (λ row. row.event) rows)
+  rows_asked = subst AllAskedInOctets (sym (rows_of_events machine conf.options.timeout events (client_with words (started redundant settings conf)) rows plain)) h.asked
 
 pub plain_traces_run : EveryPlainTraceRuns
-plain_traces_run settings cache conf words events rows plain small octets = runs_at settings cache words events rows small octets conf.servers conf.options plain
+plain_traces_run redundant settings conf words events rows plain h = (cached_run redundant settings conf words events rows plain h).0
 
 pub every_plain_trace_is_right : EveryPlainTraceIsRight
-every_plain_trace_is_right settings cache conf words events rows plain small octets =
-    every_run (conf_of conf) (settings_of settings cache) composed rows composed_composes
-    (subst AllAskedInOctets (sym (rows_of_events machine conf.options.timeout events (client_with words (started settings conf)) rows plain)) octets)
-    (plain_traces_run settings cache conf words events rows plain small octets)
+every_plain_trace_is_right redundant settings conf words events rows plain h =
+    every_run (conf_of conf) (settings_of redundant settings) composed rows composed_composes (rows_asked redundant settings conf words events rows plain h) (plain_traces_run redundant settings conf words events rows plain h)
+
+pub every_plain_trace_hits : EveryPlainTraceHits
+every_plain_trace_hits redundant settings conf words events rows plain h =
+    (let r = cached_run redundant settings conf words events rows plain h in
+    cached_runs_hit (above_servers (conf_of conf) redundant settings h.limited) rows refl (rows_asked redundant settings conf words events rows plain h) r.0 r.1)
 
 pub plain_traces_keep_events : PlainTracesKeepTheirEvents
-plain_traces_keep_events settings conf words events rows plain = rows_of_events machine conf.options.timeout events (client_with words (started settings conf)) rows plain
+plain_traces_keep_events redundant settings conf words events rows plain = rows_of_events machine conf.options.timeout events (client_with words (started redundant settings conf)) rows plain

@@ -1,5 +1,4 @@
 pub mod Above
-pub mod Silent
 pub mod Fallbacks
 pub mod Upstreams
 pub mod Ties

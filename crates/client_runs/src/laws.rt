@@ -1,14 +1,7 @@
 //! What holds of clients above tied transports.
 
 ghost use Rattle.client_runs.specs.Fallbacks.{FallbacksAreShared, FallbacksAreTied};
-ghost use Rattle.client_runs.specs.Silent.{SilentClientsRun};
-ghost use Rattle.client_runs.specs.Ties.{EveryPlainTraceIsRight, EveryPlainTraceRuns, PlainTracesKeepTheirEvents};
-
-/// The laws of a tie to a whole client can be met: above a transport that gives every request an error at once, the
-/// client makes only runs of the client of small moves.
-pub fn silent_clients_run()
-    ensures { SilentClientsRun }
-{}
+ghost use Rattle.client_runs.specs.Ties.{EveryPlainTraceHits, EveryPlainTraceIsRight, EveryPlainTraceRuns, PlainTracesKeepTheirEvents};
 
 /// The transport of each server that is asked by datagrams, and by stream where an answer was cut, is tied to its part.
 #[tactic(auto, using(crate::proofs::Datagrams::fallbacks_are_tied))]
@@ -29,8 +22,16 @@ pub fn plain_traces_are_runs()
     ensures events { PlainTracesKeepTheirEvents }
 {}
 
-/// The headline: each reply is a message that came for its request on an exchange open for it, or an error
-/// with its cause; who waits is busy; what comes and matches is the reply at once.
+/// The headline: each reply is a message that came for its request on an exchange open for it, or the valid view of one
+/// that an earlier request got so, or an error with its cause; who waits is busy; what comes and matches is the reply at
+/// once.
 pub fn every_plain_trace_is_right()
     ensures { EveryPlainTraceIsRight }
+{}
+
+/// What is kept is given: a request for the same is answered from the cache at once, as long as it is valid and few enough
+/// requests and replies came since.
+#[tactic(auto, using(crate::proofs::Traces::every_plain_trace_hits))]
+pub fn every_plain_trace_hits()
+    ensures { EveryPlainTraceHits }
 {}

@@ -1,6 +1,6 @@
 //! The settings of the cache.
 
-ghost use Rattle.std.specs.Prelude.{◌≡◌, Ok};
+ghost use Rattle.std.specs.Prelude.{◌≡◌, ◌≤◌, Ok};
 ghost use Rattle.std.specs.Ordering.{nat_cmp};
 ghost use Rattle.client_request.specs.Limits.{limited};
 ghost use Rattle.client_settings.specs.Settings.{default_cache, seconds};
@@ -76,7 +76,8 @@ pub struct Config {
 }
 
 impl Model for Config {
-    ghost use Rattle.client_settings.specs.Settings.{CacheSettings};
+    ghost use Rattle.client_settings.specs.Settings.{CacheSettings, seconds};
+    ghost use Rattle.std.specs.Prelude.{◌≤◌};
 
     ghost Value = { CacheSettings };
 
@@ -101,9 +102,18 @@ impl Model for Config {
       max_delegation_validity = s.max_delegation_validity;
       cache_truncated = s.cache_truncated;
     } };
+
+    ghost invariant = { λ c. c.max_validity ≤ seconds 6048000 };
 }
 
 impl Config {
+    /// No answer is kept for longer than 6048000 seconds, whatever was set.
+    pub fn max_validity_is_limited(&self)
+        ensures { self.now.max_validity ≤ seconds 6048000 }
+    {
+        let _ = &self.max_validity;
+    }
+
     /// 1000 answers, a week at most; failures for half a minute, names and data that are not there for
     /// an hour, delegations for 1000000 seconds; truncated answers not at all.
     pub fn new() -> Config

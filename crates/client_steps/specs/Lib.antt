@@ -1,5 +1,4 @@
 pub mod Upstream
-pub mod First
 pub mod Client
 pub mod Machines
 pub mod Whole

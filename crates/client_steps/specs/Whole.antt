@@ -1,27 +1,25 @@
--- The whole plain client: a choice among the servers of a configuration, each by datagrams and streams or by streams alone.
-use Rattle.std.specs.Prelude.{ℕ, ◌+◌, Bool, true, false, ◌||◌, if◌then◌else◌, List, [], ◌∷◌, length, Option, Some, None}
-use Rattle.client_request.specs.Composed.{composed}
-use Rattle.client_request.specs.Request.{Request}
+-- The whole plain client: a cache over a choice among the servers of a configuration, each by datagrams and streams or by streams alone.
+use Rattle.std.specs.Prelude.{ℕ, ◌+◌, Bool, true, false, ◌||◌, List, [], ◌∷◌, length, Option}
+use Rattle.client_request.specs.Request.{Request, is_dnssec_ok}
 use Rattle.client_request.specs.Requests.{Requests, for_one}
 use Rattle.client_request.specs.Timers.{TimerList}
 use Rattle.client_request.specs.declared.board.Posted.{Posted}
 use Rattle.client_request.specs.declared.event.Event.{Event}
 use Rattle.client_request.specs.declared.event.Row.{Row}
-use Rattle.client_choice.specs.Choice.{Choice, empty, with_server}
-use Rattle.client_choice.specs.Redundant as redundant
+use Rattle.client_cache.specs.Plain as caching
+use Rattle.client_cache.specs.Plain.{Cached, Reading, read, with_upstream}
+use Rattle.client_choice.specs.Choice.{with_server}
+use Rattle.client_choice.specs.Redundant as choosing
 use Rattle.client_choice.specs.Redundant.{Redundant}
 use Rattle.client_multi.specs.DgramStream as dgram_stream
 use Rattle.client_multi.specs.MultiStream as multi_stream
 use Rattle.client_multi.specs.Settings as stream_settings
 use Rattle.client_request.specs.View.{Transport as Plain}
-use Rattle.client_settings.specs.Settings.{RedundantSettings}
+use Rattle.client_settings.specs.Settings.{CacheSettings, RedundantSettings}
 use Rattle.client_steps.specs.Client as plain
 use Rattle.client_steps.specs.Client.{Machine, Asked, nothing_asked, plain_rows}
-use Rattle.client_steps.specs.First as first
-use Rattle.client_steps.specs.First.{First}
 use Rattle.client_steps.specs.Machines.{machine_of}
 use Rattle.client_steps.specs.Upstream as upstream
-use Rattle.client_steps.specs.declared.first.Passed.{Passed}
 use Rattle.client_steps.specs.declared.upstream.Handed.{Handed}
 use Rattle.client_steps.specs.declared.upstream.Upstream.{Upstream}
 use Rattle.client_steps.specs.declared.upstream.Upstream.TheVariants.{Stream, DgramStream}
@@ -31,28 +29,31 @@ use Rattle.resolv_conf.specs.declared.server.ServerConf.{ServerConf}
 use Rattle.resolv_conf.specs.declared.server.Transport.{Transport}
 use Rattle.resolv_conf.specs.declared.server.Transport.TheVariants.{UdpTcp, Tcp}
 
--- the choice among servers, and above it what gives an error at once to a request that can't be sent
+-- the choice among servers, and the cache over it
 abbrev pub Servers : Type 0
 Servers = Redundant Request (Upstream Request) Handed
 
 abbrev pub Layer : Type 0
-Layer = First Servers
+Layer = Cached Servers
 
 abbrev pub Response : Type 0
-Response = Passed redundant.Asked
+Response = caching.Response choosing.Asked
 
 abbrev pub requests : Requests Request
 requests = for_one
 
-abbrev pub choice : Plain Request Servers redundant.Asked
-choice = redundant.transport (upstream.transport for_one)
+abbrev pub choice : Plain Request Servers choosing.Asked
+choice = choosing.transport (upstream.transport for_one)
+
+-- what the cache reads of a request
+abbrev pub reading : Reading Request
+reading = read for_one (λ r. r.header) is_dnssec_ok
 
 abbrev pub machine : Machine Layer Response
-machine = machine_of (first.transport composed choice) (first.ticket_of (λ r. r.ticket))
+machine = machine_of (caching.transport reading (λ r. r.ticket) choice) (λ r. r.ticket)
 
 -- The client between two rows: its timeout is in microseconds. It has `count` servers; those that are added are asked by streams alone where `use_vc` says so.
 pub record Whole : Type 0 where
-  pub settings : RedundantSettings
   pub use_vc : Bool
   pub count : ℕ
   pub layer : Layer
@@ -111,17 +112,15 @@ abbrev pub with_servers : (n : ℕ) → ResolvOptions → List ServerConf → Se
 with_servers n options [] r = r
 with_servers n options (s ∷ ss) r = with_servers (n + 1) options ss (and_server n (asks_by_streams options s) r)
 
--- a choice among the servers of a configuration, if it has any
-abbrev pub servers_of : RedundantSettings → ResolvOptions → List ServerConf → Option Servers
-servers_of settings options [] = None
-servers_of settings options (s ∷ ss) = Some (with_servers 0 options (s ∷ ss) (redundant.started settings))
+-- a choice among the servers of a configuration
+abbrev pub servers_of : RedundantSettings → ResolvOptions → List ServerConf → Servers
+servers_of redundant options servers = with_servers 0 options servers (choosing.started redundant)
 
-abbrev pub started : RedundantSettings → ResolvConf → Whole
-started settings conf = record {
-  settings = settings;
+abbrev pub started : RedundantSettings → CacheSettings → ResolvConf → Whole
+started redundant cache conf = record {
   use_vc = conf.options.use_vc;
   count = length conf.servers;
-  layer = record { upstream = servers_of settings conf.options conf.servers; failed = false };
+  layer = caching.started cache (servers_of redundant conf.options conf.servers);
   asked = nothing_asked;
   timeout = conf.options.timeout;
   now = 0;
@@ -132,19 +131,14 @@ started settings conf = record {
   failed = false;
 }
 
--- the choice, or one without servers
-abbrev pub or_none_yet : RedundantSettings → Option Servers → Servers
-or_none_yet settings None = redundant.started settings
-or_none_yet settings (Some r) = r
-
 -- a client with one more server, which has the next number
 abbrev pub with_one_more : ServerConf → Whole → Whole
-with_one_more server s = record s { count = s.count + 1; layer = record s.layer { upstream = Some (and_server s.count (by_streams_alone s.use_vc server) (or_none_yet s.settings s.layer.upstream)) } }
+with_one_more server s = record s { count = s.count + 1; layer = with_upstream s.layer (and_server s.count (by_streams_alone s.use_vc server) s.layer.upstream) }
 
 -- what one event makes of it: a row, and the client as it begins the next; none where a number would pass 64 bits
 abbrev pub plain_step : (ℕ → ℕ) → Event → Whole → Option (Row × Client)
 plain_step words e s = plain.row_step machine s.timeout e (client_with words s)
 
 -- The plain trace of some events.
-abbrev pub plain_trace : RedundantSettings → ResolvConf → (ℕ → ℕ) → List Event → Option (List Row)
-plain_trace settings conf words events = plain_rows machine conf.options.timeout events (client_with words (started settings conf))
+abbrev pub plain_trace : RedundantSettings → CacheSettings → ResolvConf → (ℕ → ℕ) → List Event → Option (List Row)
+plain_trace redundant cache conf words events = plain_rows machine conf.options.timeout events (client_with words (started redundant cache conf))

@@ -29,11 +29,16 @@ fn client(alloc: Global) -> Result<Client, Error> {
     Client::new(alloc, &conf, redundant::Config::new(), cache::Config::new())
 }
 
-/// What a client puts out where the query is asked 7 microseconds after its start.
-fn asked(alloc: Global, client: &mut Client, words: &mut ListWords) -> Result<Row, Error> {
+/// What a client puts out where the query is asked so many microseconds after its start.
+fn asked(
+    alloc: Global,
+    client: &mut Client,
+    words: &mut ListWords,
+    moment: u64,
+) -> Result<Row, Error> {
     let request = request(alloc)?;
     let event = Event {
-        moment: Moment(7),
+        moment: Moment(moment),
         what: What::Ask { request },
     };
     client.step(words, event)
@@ -60,37 +65,61 @@ fn opens_a_stream(number: u64, outs: &[Out]) -> bool {
 #[test]
 fn a_client_asks_and_waits_for_five_seconds(rt: HostRuntime) -> Result<(), Fail> {
     let mut client = client(rt.alloc())?;
-    let row = asked(rt.alloc(), &mut client, &mut words(rt.alloc())?)?;
+    let row = asked(rt.alloc(), &mut client, &mut words(rt.alloc())?, 7)?;
     assert!(rt; opens_a_stream(0, row.outs.as_slice()));
     assert_eq!(rt; client.next_due(), Some(5_000_007));
     Ok(())
 }
 
-/// Whether request 0 is told that there is no server.
-fn has_no_server(outs: &[Out]) -> bool {
-    matches!(
-        outs,
-        [Out::Reply {
-            request: 0,
-            result: Err(Error::NoTransportAvailable),
-        }]
-    )
+/// Whether a request is told that there is no server.
+fn has_no_server(number: u64, outs: &[Out]) -> bool {
+    match outs {
+        [
+            Out::Reply {
+                request,
+                result: Err(Error::NoTransportAvailable),
+            },
+        ] => *request == number,
+        _ => false,
+    }
+}
+
+/// A client of a configuration without servers.
+fn client_of_none(alloc: Global) -> Result<Client, Error> {
+    let conf = ResolvConf::new(alloc);
+    Client::new(alloc, &conf, redundant::Config::new(), cache::Config::new())
+}
+
+fn is_told_of_none(
+    alloc: Global,
+    client: &mut Client,
+    words: &mut ListWords,
+    moment: u64,
+    number: u64,
+) -> Result<bool, Error> {
+    let row = asked(alloc, client, words, moment)?;
+    Ok(has_no_server(number, row.outs.as_slice()))
+}
+
+/// Whether a server that is added is asked half a minute later: that there was none is kept until then, as each error is.
+fn asks_it_later(alloc: Global, client: &mut Client, words: &mut ListWords) -> Result<bool, Error> {
+    if !is_told_of_none(alloc, client, words, 30_000_007, 1)? {
+        return Ok(false);
+    }
+    let row = asked(alloc, client, words, 30_000_008)?;
+    Ok(opens_a_stream(2, row.outs.as_slice()))
+}
+
+fn asks_who_is_added(alloc: Global, client: &mut Client) -> Result<bool, Error> {
+    let mut words = words(alloc)?;
+    let told = is_told_of_none(alloc, client, &mut words, 7, 0)?;
+    client.add_server(&server())?;
+    Ok(told && asks_it_later(alloc, client, &mut words)?)
 }
 
 #[test]
 fn a_server_that_is_added_is_asked(rt: HostRuntime) -> Result<(), Fail> {
-    let conf = ResolvConf::new(rt.alloc());
-    let mut client = Client::new(
-        rt.alloc(),
-        &conf,
-        redundant::Config::new(),
-        cache::Config::new(),
-    )?;
-    let mut words = words(rt.alloc())?;
-    let row = asked(rt.alloc(), &mut client, &mut words)?;
-    assert!(rt; has_no_server(row.outs.as_slice()));
-    client.add_server(&server())?;
-    let row = asked(rt.alloc(), &mut client, &mut words)?;
-    assert!(rt; opens_a_stream(1, row.outs.as_slice()));
+    let mut client = client_of_none(rt.alloc())?;
+    assert_eq!(rt; asks_who_is_added(rt.alloc(), &mut client), Ok(true));
     Ok(())
 }

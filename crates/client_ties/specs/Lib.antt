@@ -13,3 +13,4 @@ pub mod Places
 pub mod Sharing
 pub mod Leading
 pub mod WholeTie
+pub mod ClientTie

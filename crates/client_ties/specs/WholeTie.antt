@@ -1,18 +1,20 @@
 -- What a plain transport owes to be all that a client has below it: whatever a call leaves of it is reached by moves of the client, which put out and give the same.
-use Rattle.std.specs.Prelude.{◌≡◌, ℕ, suc, ◌<◌, ◌≤◌, ◌⊎◌, max, true, false, is_some, nat_lt, List, [], ◌++◌, length, map, Option, Some, None}
+use Rattle.std.specs.Prelude.{◌≡◌, ℕ, suc, ◌<◌, ◌≤◌, ◌⊎◌, max, true, false, is_some, nat_lt, List, [], ◌++◌, length, map, Option, Some, None, Result}
 use Rattle.client_request.specs.Carries.{IsOfOctets}
 use Rattle.client_request.specs.Composed.{composed}
 use Rattle.client_request.specs.Request.{Request}
 use Rattle.client_request.specs.Timers.{cancelled}
 use Rattle.client_request.specs.View.{View, Transport, told, more_at, due_timer}
 use Rattle.client_request.specs.declared.board.Posted.{Posted}
+use Rattle.client_request.specs.declared.error.Error.{Error}
 use Rattle.client_request.specs.declared.event.Event.{Event}
 use Rattle.client_request.specs.declared.event.Out.{Out}
 use Rattle.client_request.specs.declared.event.What.{What}
+use Rattle.headline.specs.Messages.{Octets}
 use Rattle.headline.specs.Settings.{Settings}
 use Rattle.headline.specs.Trace.{Conf}
 use Rattle.headline.specs.machine.Part.{Post, ServerPart}
-use Rattle.headline.specs.machine.Client.{Leaving, Upper, newcomer, row_begins, begun}
+use Rattle.headline.specs.machine.Client.{Leaving, Upper, newcomer, outcome, row_begins, begun}
 use Rattle.headline.specs.machine.Streams.{with_at}
 use Rattle.client_ties.specs.Chains.{Gives}
 use Rattle.client_ties.specs.Leading as moves
@@ -28,9 +30,19 @@ pub record Follows (v w : View) : Type 0 where
   pub place : v.place ≤ w.place
   pub later : (i due : ℕ) → due_of i w.timers.set ≡ Some due → (due_of i v.timers.set ≡ Some due) ⊎ ((v.now ≤ due) × (v.timers.next ≤ i))
 
--- what is given with a request that leaves
-abbrev pub post_of : Leaving → Post
-post_of z = record { request = z.request; result = z.result }
+-- A result that a transport gives for a request of the client, and what was asked.
+pub record Gave : Type 0 where
+  pub request : ℕ
+  pub asked : Request
+  pub result : Result Octets Error
+
+-- as it leaves, when a cache has looked at it
+abbrev pub leaving_of : Settings → Gave → Leaving
+leaving_of st x = outcome st x.request x.asked x.result
+
+-- what is given with it
+abbrev pub post_of : Gave → Post
+post_of x = record { request = x.request; result = x.result }
 
 -- Of x, y differs so: request k is tried, or has left.
 pub record HasTakenOn {U : Type 0} (k : ℕ) (request : Request) (x y : Upper U) : Type 0 where
@@ -48,7 +60,7 @@ pub record HasLeft {U : Type 0} (k : ℕ) (x y : Upper U) : Type 0 where
   pub board : y.board ≡ x.board
 
 module _ {c : Conf} (st : Settings) (P : ServerPart c) {U : Type 0} (Tied : Phase → U → Sight → Upper P.State → Type 0) (names : U → (ticket : ℕ) → Option ℕ) (Owns : U → (timer : ℕ) → Type 0) where
-  -- What a call leaves of a transport u and its view v is what moves from a state leave, and it is tied again: each result on the board is that of a request that leaves. `named` has the tickets whose results may be given.
+  -- What a call leaves of a transport u and its view v is what moves from a state leave, and it is tied again: each result on the board is that of a request that leaves, as a cache makes it. `named` has the tickets whose results may be given.
   pub record Leaves (named : ℕ → Option ℕ) (from : Upper P.State) (u : U) (v : View) (phase : Phase) (w : U) (y : View) : Type 0 where
     pub outs : List Out
     pub end : Upper P.State
@@ -56,9 +68,9 @@ module _ {c : Conf} (st : Settings) (P : ServerPart c) {U : Type 0} (Tied : Phas
     pub put : y.outs ≡ v.outs ++ outs
     pub board : List Posted
     pub posted : y.board ≡ v.board ++ board
-    pub leaving : List Leaving
-    pub leaves : end.leaving ≡ from.leaving ++ leaving
-    pub gives : Gives named board (map post_of leaving) (names w)
+    pub given : List Gave
+    pub leaves : end.leaving ≡ from.leaving ++ map (leaving_of st) given
+    pub gives : Gives named board (map post_of given) (names w)
     pub now : end.now ≡ from.now
     pub asked : end.asked ≡ from.asked
     pub pending : end.pending ≡ from.pending

@@ -19,6 +19,7 @@ use Rattle.client_core.specs.declared.deed.Deed.{Deed}
 use Rattle.client_core.specs.declared.deed.Deed.TheVariants.{Polled}
 use Rattle.client_core.proofs.Replaying.{row_event}
 use Rattle.dns_values.specs.Source.{one_more}
+use Rattle.client_ties.specs.ClientTie.{AllInOctets, IsInOctets}
 use Rattle.headline.specs.Timely.{AllAskedInOctets, IsAskedInOctets}
 use Rattle.client_turns.specs.Asking.{Asked, Begun, IsAnswered, Scene, StopsForNumbers, client_of, rows_of}
 use Rattle.client_turns.specs.Replies.{first_reply, or_later, reply_in}
@@ -39,6 +40,10 @@ happened_in_octets (Some what) = tt
 octets_more : (es : List Event) (e : Event) → AllAskedInOctets es → IsAskedInOctets e.what → AllAskedInOctets (es ++ e ∷ [])
 octets_more [] e h one = (one, tt)
 octets_more (x ∷ es) e h one = (h.0, octets_more es e h.1 one)
+
+coming_more : (es : List Event) (e : Event) → AllInOctets es → IsInOctets e.what → AllInOctets (es ++ e ∷ [])
+coming_more [] e h one = (one, tt)
+coming_more (x ∷ es) e h one = (h.0, coming_more es e h.1 one)
 
 reply_behind : (number : ℕ) (rows : List Row) (row : Row) → first_reply number rows ≡ None → reply_in number row.outs ≡ None → first_reply number (rows ++ row ∷ []) ≡ None
 reply_behind number [] row h none = ap (λ (o : Option (Result (List ℕ) Error)). or_later o None) none
@@ -64,15 +69,16 @@ pub record Waits (number left most : ℕ) (request : Request) (old new : Scene) 
   pub left_are : length asked.turns + left ≡ most
 
 -- the row of a turn, if it was made
-pub turned : (client : Whole) (words : ℕ → ℕ) (after : Client) (event : Event) (polled : Option What) (old mid new : Option (List Deed)) (r : Result Row Error) → event.what ≡ happened polled
+pub turned : (client : Whole) (words : ℕ → ℕ) (after : Client) (event : Event) (polled : Option What) (old mid new : Option (List Deed)) (r : Result Row Error) → IsInOctets event.what → event.what ≡ happened polled
     → mid ≡ after_deed (Polled polled) old → IfOk r (λ row. plain_step words event client ≡ Some (row, after)) → IfOk r (λ row. new ≡ after_deeds (acts_on row.outs) mid)
     → IfOk r (λ row. IsTurn row old new)
-turned client words after event polled old mid new (Ok row) is poll step acts = record {
+turned client words after event polled old mid new (Ok row) octets is poll step acts = record {
   polled = polled;
+  octets = subst (λ (e : Event). IsInOctets e.what) (sym (row_event machine client.timeout row event (client_with words client) after step)) octets;
   of_poll = ap (λ (e : Event). e.what) (row_event machine client.timeout row event (client_with words client) after step) ∙ is;
   deeds = more_deeds (Polled polled ∷ []) (acts_on row.outs) old mid new poll acts;
 }
-turned client words after event polled old mid new (Err error) is poll step acts = step
+turned client words after event polled old mid new (Err error) octets is poll step acts = step
 
 -- one turn more, and what it is of
 pub record OneMore (request : Request) (old mid new : Scene) (a : Asked request old mid) (row : Row) : Type 0 where
@@ -99,6 +105,7 @@ module _ (request : Request) (old : Scene) where
           polled = All-nil IsOfPoll;
           leads = leads_on old.client.timeout (client_of old) (client_of old) (client_of new) [] row (leads_nowhere old.client.timeout (client_of old)) (subst (λ (e : Event). row_step machine old.client.timeout e (client_of old) ≡ Some (row, client_of new)) (sym is) step);
           octets = (subst IsAskedInOctets (sym what) in_octets, tt);
+          comes = (subst IsInOctets (sym what) tt, tt);
           deeds = deeds ∙ ap (λ (ds : List Deed). after_deeds ds old.deeds) (sym (append_nil (acts_on row.outs)));
           polls = subst (λ (n : ℕ). RoseBy 0 old.polls n) (sym polls) (rose_by_none old.polls);
           moments = first_moment row.event.moment.0 old.moments new.moments (subst (λ (e : Event). IsGivenOn old.moments new.moments e.moment.0) (sym is) moment);
@@ -125,6 +132,7 @@ module _ (request : Request) (old : Scene) where
           polled = All-push IsOfPoll a.turns turn a.polled t.of_poll;
           leads = subst (λ (rs : List Row). Leads old.client.timeout (client_of old) rs (client_of new)) (sym rows) (leads_on old.client.timeout (client_of old) (client_of mid) (client_of new) (rows_of a.asking a.turns) row a.leads (subst (λ (n : ℕ). row_step machine n row.event (client_of mid) ≡ Some (row, client_of new)) same step));
           octets = subst AllAskedInOctets events (octets_more (events_of (rows_of a.asking a.turns)) row.event a.octets (subst IsAskedInOctets (sym t.of_poll) (happened_in_octets t.polled)));
+          comes = subst AllInOctets events (coming_more (events_of (rows_of a.asking a.turns)) row.event a.comes t.octets);
           deeds = more_deeds (acts_on a.asking.outs ++ flat_map deeds_of a.turns) (deeds_of turn) old.deeds mid.deeds new.deeds a.deeds t.deeds ∙ ap (λ (ds : List Deed). after_deeds ds old.deeds) (flat_map_more deeds_of (acts_on a.asking.outs) a.turns turn);
           polls = subst (λ (n : ℕ). RoseBy n old.polls new.polls) (sym many) (rose_more (length a.turns) old.polls mid.polls new.polls a.polls polls);
           moments = subst (λ (ms : List ℕ). AreGivenOn old.moments new.moments ms) (sym (ap moments_of rows ∙ moment_behind (rows_of a.asking a.turns) row)) (more_moments (moments_of (rows_of a.asking a.turns)) row.event.moment.0 old.moments mid.moments new.moments a.moments moment);

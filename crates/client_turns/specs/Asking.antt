@@ -11,6 +11,7 @@ use Rattle.client_steps.specs.Whole.{Client, Whole, machine, client_with}
 use Rattle.client_core.specs.declared.deed.Deed.{Deed}
 use Rattle.client_turns.specs.Replies.{EndsWith, first_reply}
 use Rattle.client_turns.specs.Turns.{Turn, IsOfPoll, RoseBy, AreGivenOn, Leads, acts_on, after_deeds, deeds_of, events_of, moments_of}
+use Rattle.client_ties.specs.ClientTie.{AllInOctets}
 use Rattle.headline.specs.Timely.{AllAskedInOctets}
 
 -- the row in which the request was asked, and those of the turns
@@ -46,6 +47,7 @@ pub record Asked (request : Request) (old new : Scene) : Type 0 where
   pub polled : All IsOfPoll turns
   pub leads : Leads old.client.timeout (client_of old) (rows_of asking turns) (client_of new)
   pub octets : AllAskedInOctets (events_of (rows_of asking turns))
+  pub comes : AllInOctets (events_of (rows_of asking turns))
   pub deeds : new.deeds ≡ after_deeds (acts_on asking.outs ++ flat_map deeds_of turns) old.deeds
   pub polls : RoseBy (length turns) old.polls new.polls
   pub moments : AreGivenOn old.moments new.moments (moments_of (rows_of asking turns))

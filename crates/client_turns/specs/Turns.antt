@@ -7,6 +7,7 @@ use Rattle.client_request.specs.declared.event.Out.{Out}
 use Rattle.client_request.specs.declared.event.Row.{Row}
 use Rattle.client_request.specs.declared.event.What.{What}
 use Rattle.client_request.specs.declared.event.What.TheVariants.{Ask, Tick}
+use Rattle.client_ties.specs.ClientTie.{IsInOctets}
 use Rattle.client_steps.specs.Client.{plain_rows}
 use Rattle.client_steps.specs.Whole.{Client, Whole, machine, plain_step}
 use Rattle.client_core.specs.declared.deed.Deed.{Deed}
@@ -39,9 +40,10 @@ deeds_of turn = Polled turn.polled ∷ acts_on turn.row.outs
 abbrev pub after_deeds : List Deed → Option (List Deed) → Option (List Deed)
 after_deeds deeds told = option_map (λ before. before ++ deeds) told
 
--- A row is that of a turn: there is something that the edge gave, so that the row is of it, and these are the deeds of both.
+-- A row is that of a turn: there is something that the edge gave, so that the row is of it, what came is octets, and these are the deeds of both.
 pub record IsTurn (row : Row) (old new : Option (List Deed)) : Type 0 where
   pub polled : Option What
+  pub octets : IsInOctets row.event.what
   pub of_poll : row.event.what ≡ happened polled
   pub deeds : new ≡ after_deeds (deeds_of (record { polled = polled; row = row })) old
 

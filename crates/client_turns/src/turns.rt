@@ -8,7 +8,7 @@ ghost use Rattle.client_request.specs.Words.{IsGivenOn};
 ghost use Rattle.client_steps.specs.Whole.{client_with, plain_step};
 ghost use Rattle.client_turns.specs.Turns.{IsTurn, StopsAt, acts_on, after_deeds, happened};
 
-use client_core::{Client, Clock, Edge};
+use client_core::{Client, Clock, Edge, in_octets};
 use client_request::{Error, Event, Out, Row, What, Words};
 use dns_base::NoMemory;
 
@@ -83,5 +83,6 @@ pub fn turn<E: Edge, C: Clock, W: Words>(
         moment: clock.now(),
         what: happened(polled),
     };
+    in_octets(&event);
     take(client, edge, words, event)
 }

@@ -10,7 +10,7 @@ use Rattle.client_request.specs.declared.error.Error.{Error}
 use Rattle.client_request.specs.declared.event.Out.TheVariants.{Reply}
 use Rattle.client_request.specs.declared.event.What.TheVariants.{Ask}
 use Rattle.client_runs.specs.Ties.{EveryPlainTraceIsRight}
-use Rattle.client_settings.specs.Settings.{default_cache, default_redundant}
+use Rattle.client_settings.specs.Settings.{default_cache, default_redundant, seconds}
 use Rattle.client_steps.specs.Whole.{Whole, started}
 use Rattle.client_core.specs.declared.deed.Deed.{Deed}
 use Rattle.client_core.specs.declared.deed.Deed.TheVariants.{Learned}
@@ -72,9 +72,13 @@ reply_line_is reply text is =
 pub reply_line_at : (reply : Result (List ℕ) Error) (text part : List ℕ) (n : ℕ) → text ≡ trace_text_of (one_reply reply) → n ≡ length text → part ≡ slice_range text 20 (n - 4) → part ≡ answer_line (Some reply)
 reply_line_at reply text part n is many cut = cut ∙ ap (λ (k : ℕ). slice_range text 20 (k - 4)) many ∙ reply_line_is reply text is
 
+-- the default keeps no answer for longer than a week
+week : (default_cache).max_validity ≤ seconds 6048000
+week = omega arith
+
 -- what was answered to a new client whose edge learned its servers
 pub replied : EveryPlainTraceIsRight → (q : Query) (conf : ResolvConf) (old new : World) (client left : Whole) (request : Request) (deeds : Option (List Deed)) (polls : ℕ) (answer : Option (Result (List ℕ) Error))
-    → client ≡ started default_redundant conf → request ≡ request_of q → deeds ≡ after_deeds (map (λ server. Learned server) conf.servers) old.deeds → polls ≡ old.polls
+    → client ≡ started default_redundant default_cache conf → request ≡ request_of q → deeds ≡ after_deeds (map (λ server. Learned server) conf.servers) old.deeds → polls ≡ old.polls
     → IsAnswered 0 1000000 request (scene client old.words deeds polls old.moments) (scene left new.words new.deeds new.polls new.moments) answer → IsReplied q conf old new answer
 replied law q conf old new client left request deeds polls answer is asks learned polled a =
     let same : scene client old.words deeds polls old.moments ≡ begun conf old = cc in
@@ -84,15 +88,15 @@ replied law q conf old new client left request deeds polls answer is asks learne
     record {
       left = left;
       answered = b;
-      right = λ small. (law default_redundant default_cache conf old.words (events_of (rows_of b.asked.asking b.asked.turns)) (rows_of b.asked.asking b.asked.turns) b.plain small b.asked.octets).0;
-      timely = λ small. (law default_redundant default_cache conf old.words (events_of (rows_of b.asked.asking b.asked.turns)) (rows_of b.asked.asking b.asked.turns) b.plain small b.asked.octets).1;
+      right = λ small. (law default_redundant default_cache conf old.words (events_of (rows_of b.asked.asking b.asked.turns)) (rows_of b.asked.asking b.asked.turns) b.plain (record { limited = week; small = small; asked = b.asked.octets; octets = b.asked.comes })).0;
+      timely = λ small. (law default_redundant default_cache conf old.words (events_of (rows_of b.asked.asking b.asked.turns)) (rows_of b.asked.asking b.asked.turns) b.plain (record { limited = week; small = small; asked = b.asked.octets; octets = b.asked.comes })).1;
     }
 
 -- or a number would have passed 64 bits
 pub stopped : (q : Query) (conf : ResolvConf) (client left : Whole) (request : Request) (words words_left : ℕ → ℕ) (deeds deeds_left : Option (List Deed)) (polls polls_left : ℕ) (old new : Option (List ℕ))
-    → client ≡ started default_redundant conf → request ≡ request_of q → StopsForNumbers request (scene client words deeds polls old) (scene left words_left deeds_left polls_left new) → Stops q conf words old new
+    → client ≡ started default_redundant default_cache conf → request ≡ request_of q → StopsForNumbers request (scene client words deeds polls old) (scene left words_left deeds_left polls_left new) → Stops q conf words old new
 stopped q conf client left request words words_left deeds deeds_left polls polls_left old new is asks s =
-    let same : scene client words deeds polls old ≡ scene (started default_redundant conf) words deeds polls old = ap (λ (c : Whole). scene c words deeds polls old) is in
-    let t : StopsForNumbers request (scene (started default_redundant conf) words deeds polls old) (scene left words_left deeds_left polls_left new) =
+    let same : scene client words deeds polls old ≡ scene (started default_redundant default_cache conf) words deeds polls old = ap (λ (c : Whole). scene c words deeds polls old) is in
+    let t : StopsForNumbers request (scene (started default_redundant default_cache conf) words deeds polls old) (scene left words_left deeds_left polls_left new) =
     subst (λ (b : Scene). StopsForNumbers request b (scene left words_left deeds_left polls_left new)) same s in
     record { asking = t.asking; later = t.later; asks = t.asks ∙ ap (λ (r : Request). Ask r) asks; stops = t.stops; moments = t.moments }

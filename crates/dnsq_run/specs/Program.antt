@@ -8,6 +8,9 @@ use Rattle.client_request.specs.declared.event.Event.{Event}
 use Rattle.client_request.specs.declared.event.Row.{Row}
 use Rattle.client_steps.specs.Headline.{conf_of, settings_of}
 use Rattle.client_steps.specs.Whole.{plain_trace}
+use Rattle.client_cache.specs.Plain.{room_of}
+use Rattle.client_request.specs.Composed.{composed}
+use Rattle.headline.specs.Hit.{AllHit}
 use Rattle.headline.specs.Right.{Right}
 use Rattle.headline.specs.Timely.{Timely}
 use Rattle.dns_script.specs.ScriptReading.{IsScript, RefusesLine}
@@ -33,9 +36,9 @@ first_lane (events ∷ lanes) = events
 
 -- the rows of a script: the plain trace of its events with its settings, with its words and 0 past their end; none where a number would pass 64 bits
 abbrev pub rows_of : Script → Option (List Row)
-rows_of script = plain_trace script.redundant script.conf (listed script.words) (first_lane script.lanes)
+rows_of script = plain_trace script.redundant script.cache script.conf (listed script.words) (first_lane script.lanes)
 
--- The text is a script, not too long, and these octets are the text of its plain trace, which is right and timely.
+-- The text is a script, not too long, and these octets are the text of its plain trace, which is right and timely, and gives what is kept.
 pub record IsReplayed (text out : List ℕ) : Type 0 where
   pub fits : length text ≤ 16777216
   pub script : Script
@@ -44,6 +47,7 @@ pub record IsReplayed (text out : List ℕ) : Type 0 where
   pub plain : rows_of script ≡ Some rows
   pub right : Right (conf_of script.conf) (settings_of script.redundant script.cache) rows
   pub timely : Timely (conf_of script.conf) rows
+  pub hits : AllHit (conf_of script.conf) (settings_of script.redundant script.cache) composed (room_of script.cache) [] rows
   pub says : out ≡ trace_text_of rows
 
 -- before the first line of a configuration

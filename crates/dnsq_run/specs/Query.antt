@@ -54,7 +54,7 @@ pub record World : Type 0 where
 
 -- a new client of a configuration, whose servers the edge has learned
 abbrev pub begun : ResolvConf → World → Scene
-begun conf old = scene (started default_redundant conf) old.words (after_deeds (map (λ server. Learned server) conf.servers) old.deeds) old.polls old.moments
+begun conf old = scene (started default_redundant default_cache conf) old.words (after_deeds (map (λ server. Learned server) conf.servers) old.deeds) old.polls old.moments
 
 abbrev pub world : (ℕ → ℕ) → Option (List Deed) → ℕ → Option (List ℕ) → World
 world words deeds polls moments = record { words = words; deeds = deeds; polls = polls; moments = moments }
@@ -88,7 +88,7 @@ pub record Stops (q : Query) (conf : ResolvConf) (words : ℕ → ℕ) (old new 
   pub asking : Event
   pub later : List Event
   pub asks : asking.what ≡ Ask (request_of q)
-  pub stops : plain_trace default_redundant conf words (asking ∷ later) ≡ None
+  pub stops : plain_trace default_redundant default_cache conf words (asking ∷ later) ≡ None
   pub moments : AreGivenOn old new (map (λ event. event.moment.0) (asking ∷ later))
 
 pub record StopsAsking (q : Query) (told : Option (List ℕ)) (words : ℕ → ℕ) (old new : Option (List ℕ)) : Type 0 where

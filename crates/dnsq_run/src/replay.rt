@@ -3,6 +3,9 @@
 ghost use Rattle.std.specs.Prelude.{◌≡◌, ◌≢◌, ◌≤◌, [], length, false, Some, None, IfSome, IfOk, IfErr};
 ghost use Rattle.dns_values.specs.Source.{Rose};
 ghost use Rattle.client_steps.specs.Headline.{conf_of, settings_of};
+ghost use Rattle.client_cache.specs.Plain.{room_of};
+ghost use Rattle.client_request.specs.Composed.{composed};
+ghost use Rattle.headline.specs.Hit.{AllHit};
 ghost use Rattle.headline.specs.Right.{Right};
 ghost use Rattle.headline.specs.Timely.{Timely};
 ghost use Rattle.dns_script.specs.ScriptReading.{IsScript};
@@ -69,6 +72,7 @@ fn trace_of(alloc: Global, script: Script) -> Result<Trace, Ending>
     ensures plain { IfOk result (λ t. rows_of script ≡ Some t.rows) }
     ensures right { IfOk result (λ t. Right (conf_of script.conf) (settings_of script.redundant script.cache) t.rows) }
     ensures timely { IfOk result (λ t. Timely (conf_of script.conf) t.rows) }
+    ensures hits { IfOk result (λ t. AllHit (conf_of script.conf) (settings_of script.redundant script.cache) composed (room_of script.cache) [] t.rows) }
     ensures early { IfErr result IsEarly }
     ensures numbers { IfErr result (λ e. status_of e ≡ 7 → rows_of script ≡ None) }
     ensures numbers_line { IfErr result (λ e. status_of e ≡ 7 → line_of e ≡ numbers_line) }

@@ -32,10 +32,14 @@ told_on one told = option_map (λ before. before ++ one ∷ []) told
 abbrev pub IsTold : Asking → Option (List Asking) → Option (List Asking) → Type 0
 IsTold one old new = (new ≡ told_on one old) ⊎ ((one.got ≡ Err out_of_memory) × (new ≡ old))
 
--- These questions are told, one after another, and no other.
-abbrev pub AreTold : List Asking → Option (List Asking) → Option (List Asking) → Type 0
-AreTold [] old new = new ≡ old
-AreTold (one ∷ others) old new = (between : Option (List Asking)) × IsTold one old between × AreTold others between new
+-- A question was asked of a resolver: this is what the resolver says of such a call, and the question is told.
+abbrev pub Asks : {R : Type 0} → (R → Asking → R → Type 0) → (R → Option (List Asking)) → R → Asking → R → Type 0
+Asks says asked old one new = says old one new × IsTold one (asked old) (asked new)
+
+-- These questions were asked, one after another, and no other.
+abbrev pub AreAsked : {R : Type 0} → (R → Asking → R → Type 0) → List Asking → R → R → Type 0
+AreAsked asks [] old new = new ≡ old
+AreAsked {R} asks (one ∷ others) old new = (between : R) × asks old one between × AreAsked asks others between new
 
 -- The count rose with the fault; of want of memory it need not.
 abbrev pub IsCounted : ℕ → ℕ → QueryFault → Type 0

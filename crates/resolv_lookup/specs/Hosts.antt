@@ -1,5 +1,5 @@
 -- The addresses of a host: two answers, and what is read from them.
-use Rattle.std.specs.Prelude.{◌≡◌, ℕ, List, [], ◌∷◌, ◌++◌, Option, Result, Ok, Err, Bool, true, is_none, ◌==◌, ◌&&◌, map, if◌then◌else◌}
+use Rattle.std.specs.Prelude.{◌≡◌, ℕ, List, [], ◌∷◌, ◌++◌, Result, Ok, Err, Bool, true, is_none, ◌==◌, ◌&&◌, map, if◌then◌else◌}
 use Rattle.dns_values.specs.declared.address.IpAddr.{IpAddr}
 use Rattle.dns_values.specs.declared.address.SocketAddr.{SocketAddr}
 use Rattle.dns_names.specs.Name.{Labels}
@@ -9,7 +9,7 @@ use Rattle.dns_base.specs.Canonical.{canonical_name}
 use Rattle.resolv_lookup.specs.declared.fault.HostFault.{HostFault}
 use Rattle.resolv_lookup.specs.declared.fault.HostFault.TheVariants.{Query, NoQuestion, CnameLoop, NoMemory}
 use Rattle.resolv_lookup.specs.declared.resolver.Asking.{Asking}
-use Rattle.resolv_lookup.specs.Asked.{Got, asking, AreTold, IsCounted}
+use Rattle.resolv_lookup.specs.Asked.{Got, asking, AreAsked, IsCounted}
 use Rattle.resolv_lookup.specs.Owned.{owned_records}
 use Rattle.resolv_lookup.specs.declared.address_iter.Kind.{Kind}
 use Rattle.resolv_lookup.specs.declared.address_iter.Kind.TheVariants.{Ipv4, Ipv6}
@@ -72,9 +72,9 @@ abbrev pub host_askings : Labels → Hosts → List Asking
 host_askings name hosts = asking name 1 hosts.a ∷ asking name 28 hosts.aaaa ∷ []
 
 -- A host was looked up: these two questions were asked, and the result is made of what they got.
-pub record LooksUpHost (name : Labels) (old new : Option (List Asking)) (result : Result Hosts HostFault) : Type 0 where
+pub record LooksUpHost {R : Type 0} (asks : R → Asking → R → Type 0) (name : Labels) (old new : R) (result : Result Hosts HostFault) : Type 0 where
   pub got : Hosts
-  pub told : AreTold (host_askings name got) old new
+  pub asked : AreAsked asks (host_askings name got) old new
   pub made : result ≡ hosts_found got.aaaa got.a
 
 -- A fault of a question comes only where the count of faults rose; want of memory aside.

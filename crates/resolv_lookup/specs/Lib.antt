@@ -2,6 +2,7 @@ pub mod Addresses
 pub mod Answer
 pub mod Asked
 pub mod Faults
+pub mod HostTable
 pub mod Hosts
 pub mod Items
 pub mod ListAnswers

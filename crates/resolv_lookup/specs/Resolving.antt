@@ -1,5 +1,5 @@
 -- Where a server of a service is reached.
-use Rattle.std.specs.Prelude.{◌≡◌, ◌⊎◌, List, [], ◌∷◌, Option, Result, Ok, Err}
+use Rattle.std.specs.Prelude.{◌≡◌, ◌⊎◌, List, [], ◌∷◌, Result, Ok, Err}
 use Rattle.dns_values.specs.declared.address.IpAddr.{IpAddr}
 use Rattle.resolv_lookup.specs.declared.fault.HostFault.{HostFault}
 use Rattle.resolv_lookup.specs.declared.fault.HostFault.TheVariants.{NoMemory}
@@ -22,9 +22,9 @@ abbrev pub MemoryAside : Result Resolved HostFault → Result Resolved HostFault
 MemoryAside wanted result = (result ≡ wanted) ⊎ (result ≡ Err NoMemory)
 
 -- A server with addresses is reached there, and nothing is asked; else its target is looked up.
-abbrev pub ResolvesAt : Srv → List IpAddr → Option (List Asking) → Option (List Asking) → Result Resolved HostFault → Type 0
-ResolvesAt srv [] old new result = (found : Result Hosts HostFault) × LooksUpHost srv.target old new found × MemoryAside (at_host srv found) result
-ResolvesAt srv (first ∷ others) old new result = (new ≡ old) × MemoryAside (Ok (at_addresses srv (first ∷ others))) result
+abbrev pub ResolvesAt : {R : Type 0} → (R → Asking → R → Type 0) → Srv → List IpAddr → R → R → Result Resolved HostFault → Type 0
+ResolvesAt asks srv [] old new result = (found : Result Hosts HostFault) × LooksUpHost asks srv.target old new found × MemoryAside (at_host srv found) result
+ResolvesAt asks srv (first ∷ others) old new result = (new ≡ old) × MemoryAside (Ok (at_addresses srv (first ∷ others))) result
 
-abbrev pub Resolves : Item → Option (List Asking) → Option (List Asking) → Result Resolved HostFault → Type 0
-Resolves item old new result = ResolvesAt item.srv item.addresses old new result
+abbrev pub Resolves : {R : Type 0} → (R → Asking → R → Type 0) → Item → R → R → Result Resolved HostFault → Type 0
+Resolves asks item old new result = ResolvesAt asks item.srv item.addresses old new result

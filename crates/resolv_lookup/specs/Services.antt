@@ -14,7 +14,7 @@ use Rattle.resolv_lookup.specs.declared.resolver.Asking.{Asking}
 use Rattle.resolv_lookup.specs.declared.service.Service.{Service}
 use Rattle.resolv_lookup.specs.declared.service.Service.TheVariants.{Absent, Unlisted, Listed}
 use Rattle.resolv_lookup.specs.declared.srv_item.Srv.{Srv}
-use Rattle.resolv_lookup.specs.Asked.{Got, asking, IsTold, IsCounted}
+use Rattle.resolv_lookup.specs.Asked.{Got, asking, IsCounted}
 use Rattle.resolv_lookup.specs.Owned.{owned_records}
 use Rattle.resolv_lookup.specs.Addresses.{address_said}
 use Rattle.resolv_lookup.specs.Items.{Item}
@@ -94,11 +94,16 @@ abbrev pub ServesGot : Got → Item → (ℕ → ℕ) → (ℕ → ℕ) → Outc
 ServesGot (Ok octets) fallback old new outcome = Serves (service_in octets) fallback old new outcome
 ServesGot (Err fault) fallback old new outcome = (outcome ≡ Err (errors.Query fault)) × (new ≡ old)
 
--- A service was looked up: its name was asked for, and this is made of what that got, unless there was no memory for it.
-pub record LooksUpSrv (service name : Labels) (port : ℕ) (asked_old asked_new : Option (List Asking)) (old new : ℕ → ℕ) (outcome : Outcome) : Type 0 where
+-- The name of a service was asked for, and this is made of what that got, unless there was no memory for it.
+pub record AsksSrv {R : Type 0} (asks : R → Asking → R → Type 0) (service name : Labels) (port : ℕ) (before after : R) (old new : ℕ → ℕ) (outcome : Outcome) : Type 0 where
   pub got : Got
-  pub told : IsTold (asking service 33 got) asked_old asked_new
+  pub asked : asks before (asking service 33 got) after
   pub made : ServesGot got (fallback_at name port) old new outcome ⊎ ((outcome ≡ Err errors.NoMemory) × (new ≡ old))
+
+-- A service was looked up so, or there was no memory for its name, and nothing was asked.
+abbrev pub LooksUpSrv : {R : Type 0} → (R → Asking → R → Type 0) → (service name : Labels) (port : ℕ) (before after : R) (old new : ℕ → ℕ) → Outcome → Type 0
+LooksUpSrv asks service name port before after old new outcome =
+    AsksSrv asks service name port before after old new outcome ⊎ ((outcome ≡ Err errors.NoMemory) × (after ≡ before) × (new ≡ old))
 
 -- a name of more than 255 octets, and one of at most so many
 abbrev pub IsLong : Labels → Type 0
@@ -108,9 +113,9 @@ abbrev pub Fits : Labels → Type 0
 Fits name = octet_count name ≤ 255
 
 -- Nothing was asked, and no word was drawn: the name is too long, or memory ran out.
-pub record AsksNothing (asked_old asked_new : Option (List Asking)) (old new : ℕ → ℕ) (outcome : Outcome) : Type 0 where
+pub record AsksNothing {R : Type 0} (before after : R) (old new : ℕ → ℕ) (outcome : Outcome) : Type 0 where
   pub fails : (outcome ≡ Err errors.LongName) ⊎ (outcome ≡ Err errors.NoMemory)
-  pub none_asked : asked_new ≡ asked_old
+  pub none_asked : after ≡ before
   pub none_drawn : new ≡ old
 
 -- why the name of a service is not made

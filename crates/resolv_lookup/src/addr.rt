@@ -2,7 +2,7 @@
 
 ghost use Rattle.std.specs.Prelude.{◌≡◌, ◌≤◌, [], ◌∷◌, MatchOption, IfErr};
 ghost use Rattle.std.specs.Iterator.{YieldsFirst, item_count};
-ghost use Rattle.resolv_lookup.specs.Asked.{IsCounted};
+ghost use Rattle.resolv_lookup.specs.Asked.{Asks, IsCounted};
 ghost use Rattle.resolv_lookup.specs.Names.{names_said, names_found, LooksUpAddr};
 
 use crate::fault::QueryFault;
@@ -18,7 +18,7 @@ pub fn lookup_addr<R: Resolver>(
     resolver: &mut R,
     addr: IpAddr,
 ) -> Result<FoundAddrs<R>, QueryFault>
-    ensures asked { LooksUpAddr addr (R.asked resolver.old) (R.asked resolver.new) result }
+    ensures asked { LooksUpAddr (Asks R.says R.asked) addr resolver.old resolver.new result }
     ensures count { R.faults resolver.old ≤ R.faults resolver.new }
     ensures failed { IfErr result (IsCounted (R.faults resolver.old) (R.faults resolver.new)) }
 {

@@ -5,6 +5,7 @@ ghost use Rattle.std.specs.Iterator.{YieldsFirst, item_count};
 ghost use Rattle.resolv_lookup.specs.Asked.{octets_in};
 ghost use Rattle.resolv_lookup.specs.Addresses.{address_said, addresses_said};
 ghost use Rattle.resolv_lookup.specs.Hosts.{addresses_got};
+ghost use Rattle.resolv_lookup.specs.Services.{either_address};
 
 use crate::fault::QueryFault;
 use crate::owned::OwnedRecords;
@@ -32,6 +33,16 @@ pub(crate) fn address_of(kind: Kind, known: &Record<'_>) -> Option<IpAddr>
             Some(IpAddr::V6(Ipv6Addr::from_octets(octets).segments()))
         }
         _ => None,
+    }
+}
+
+/// The address that a record says, of either kind.
+pub(crate) fn either_address(known: &Record<'_>) -> Option<IpAddr>
+    ensures { result ≡ either_address known.now.says }
+{
+    match address_of(Kind::Ipv4, known) {
+        Some(address) => Some(address),
+        None => address_of(Kind::Ipv6, known),
     }
 }
 

@@ -4,7 +4,7 @@ ghost use Rattle.std.specs.Prelude.{◌≡◌, ◌≤◌, IfErr, Some, option_ma
 ghost use Rattle.std.specs.Iterator.{YieldsFirst, item_count};
 ghost use Rattle.dns_base.specs.Message.{first_question};
 ghost use Rattle.dns_base.specs.Canonical.{canonical_name};
-ghost use Rattle.resolv_lookup.specs.Asked.{octets_in};
+ghost use Rattle.resolv_lookup.specs.Asked.{Asks, octets_in};
 ghost use Rattle.resolv_lookup.specs.Hosts.{hosts_found, chosen_of, has_none, are_empty, addresses_found, with_port, LooksUpHost, HostIsCounted, AreChecked};
 
 use crate::address_iter::{AddressIter, Kind};
@@ -20,7 +20,7 @@ pub fn lookup_host<R: Resolver>(
     resolver: &mut R,
     name: &Name,
 ) -> Result<FoundHosts<R>, HostFault>
-    ensures asked { LooksUpHost name.now (R.asked resolver.old) (R.asked resolver.new) result }
+    ensures asked { LooksUpHost (Asks R.says R.asked) name.now resolver.old resolver.new result }
     ensures count { R.faults resolver.old ≤ R.faults resolver.new }
     ensures failed { IfErr result (HostIsCounted (R.faults resolver.old) (R.faults resolver.new)) }
 {

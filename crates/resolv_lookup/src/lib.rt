@@ -11,6 +11,7 @@ mod answer;
 mod answer_section;
 mod fault;
 mod host;
+mod host_table;
 mod laws;
 mod list_resolver;
 mod owned;

@@ -105,17 +105,18 @@ fn take_next(left: &mut VecDeque<Result<Answer, QueryFault>>) -> Result<Answer, 
 impl Resolver for ListResolver {
     type Answer = Answer;
 
+    ghost says = { λ old one new. AnswersNext one.name one.rtype.0 old one.got new };
+
     ghost asked = { λ l. Some l.asked };
 
     ghost faults = { λ l. l.faults };
 
     fn query(&mut self, alloc: Global, name: &Name, rtype: Rtype) -> Result<Answer, QueryFault>
+        // It gives the next of its results; where there is no memory, nothing has changed.
+        ensures says { AnswersNext name.now rtype.0 self.old result self.new }
         ensures asked { IsTold (asking name.now rtype.0 result) (Some self.old.asked) (Some self.new.asked) }
         ensures count { self.old.faults ≤ self.new.faults }
         ensures failed { IfErr result (IsCounted self.old.faults self.new.faults) }
-
-        // It gives the next of its results; where there is no memory, nothing has changed.
-        ensures listed { AnswersNext name.now rtype.0 self.old result self.new }
     {
         let name = name.try_clone(alloc)?;
         let got = copy_of_next(&self.left)?;

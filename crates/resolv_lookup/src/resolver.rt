@@ -38,6 +38,9 @@ pub struct Asking {
 pub trait Resolver {
     type Answer: AsMessage + Drop;
 
+    /// What is said of a call: the resolver before it, the question with what it got, and the resolver after it.
+    ghost says: { Self → Asking → Self → Type 0 };
+
     ghost asked: { Self → Option (List Asking) };
 
     ghost faults: { Self → ℕ };
@@ -51,6 +54,7 @@ pub trait Resolver {
         name: &Name,
         rtype: Rtype,
     ) -> Result<Self::Answer, QueryFault>
+        ensures says { says self.old (asking name.now rtype.0 (octets_in Self.Answer.octets_of result)) self.new }
         ensures asked { IsTold (asking name.now rtype.0 (octets_in Self.Answer.octets_of result)) (asked self.old) (asked self.new) }
         ensures count { faults self.old ≤ faults self.new }
         ensures failed { IfErr result (IsCounted (faults self.old) (faults self.new)) };

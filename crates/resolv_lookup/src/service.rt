@@ -1,18 +1,14 @@
 //! What an answer says of a service.
 
-ghost use Rattle.std.specs.Prelude.{◌≡◌, [], Ok, unwrap_or, IfOk, IfErr};
-ghost use Rattle.std.specs.List.{filter_map};
-ghost use Rattle.resolv_lookup.specs.Services.{srv_in, srvs_said, either_address, address_in, listed, service_in, IsService, IsAnswerFault};
+ghost use Rattle.std.specs.Prelude.{◌≡◌, [], unwrap_or, IfOk, IfErr};
+ghost use Rattle.resolv_lookup.specs.Services.{srv_in, srvs_said, listed, service_in, IsService, IsAnswerFault};
 ghost use Rattle.dns_base.specs.Message.{additional_items};
 
-use crate::address_iter::{Kind, address_of};
 use crate::fault::SrvError;
+use crate::host_table::{addresses_of, host_table};
 use crate::owned::OwnedRecords;
 use crate::srv_item::{Srv, SrvItem};
-use dns_base::{
-    Class, IpAddr, Message, Name, NoMemory, ParsedName, Record, RecordData, RecordSection, Seq,
-    ToName, is_same_name,
-};
+use dns_base::{Class, Message, NoMemory, Record, RecordData, Seq, ToName};
 use std::alloc::Global;
 
 /// What an answer says of a service.
@@ -90,55 +86,14 @@ fn listed(alloc: Global, srvs: Vec<Srv>, answer: &Message) -> Result<Service, Sr
     ensures said { IsService (listed srvs.items (additional_items answer.now)) result }
     ensures faults { IfErr result IsAnswerFault }
 {
-    if answer.additional().is_err() {
+    let Ok(section) = answer.additional() else {
         return Err(SrvError::MalformedAnswer);
-    }
+    };
+    let table = host_table(alloc, section)?;
     let mut items = Seq::new(alloc);
     for srv in srvs {
-        let section = answer.additional().map_err(|_| SrvError::MalformedAnswer)?;
-        let addresses = addresses_of(alloc, section, &srv.target)?;
+        let addresses = addresses_of(alloc, &table, &srv.target)?;
         items.push(SrvItem::new(srv, addresses))?;
     }
     Ok(Service::Listed(items))
-}
-
-/// The addresses of a host in a section, in order.
-fn addresses_of(
-    alloc: Global,
-    section: RecordSection<'_>,
-    host: &Name,
-) -> Result<Vec<IpAddr>, NoMemory>
-    ensures { IfOk result (λ all. all.items ≡ filter_map (address_in host.now) section.entry) }
-{
-    let owner = host.parsed();
-    let mut all = Vec::new(alloc);
-    for entry in section {
-        if let Ok(known) = entry {
-            if let Some(address) = address_in(&known, &owner) {
-                all.push(address)?;
-            }
-        }
-    }
-    Ok(all)
-}
-
-/// The address of a host that a record says, if it is one of the class IN that the host owns.
-fn address_in(known: &Record<'_>, host: &ParsedName<'_>) -> Option<IpAddr>
-    ensures { result ≡ address_in host.now (Ok known.now) }
-{
-    if known.class() == Class::IN && is_same_name(&known.owner(), host) {
-        either_address(known)
-    } else {
-        None
-    }
-}
-
-/// The address that a record says, of either kind.
-fn either_address(known: &Record<'_>) -> Option<IpAddr>
-    ensures { result ≡ either_address known.now.says }
-{
-    match address_of(Kind::Ipv4, known) {
-        Some(address) => Some(address),
-        None => address_of(Kind::Ipv6, known),
-    }
 }

@@ -3,6 +3,7 @@
 ghost use Rattle.std.specs.Prelude.{◌≡◌, ◌≤◌, ◌<◌, ◌+◌, ◌++◌, [], ◌∷◌, length, map, IfOk, IfErr, OnOk, OnErr, MatchOption};
 ghost use Rattle.std.specs.Iterator.{YieldsFirst, item_count};
 ghost use Rattle.resolv_lookup.specs.declared.fault.SrvError.TheVariants as errors;
+ghost use Rattle.resolv_lookup.specs.Asked.{Asks};
 ghost use Rattle.resolv_lookup.specs.Order.{IsOrder, behind};
 ghost use Rattle.resolv_lookup.specs.Services.{service_in, fallback_at, IsServed, LooksUpSrv, IsLong, Fits, AsksNothing, IsNameFault, IsAnswerFault, SrvIsCounted};
 
@@ -16,6 +17,7 @@ use dns_base::{Message, Name, NoMemory, RelativeName, Rtype, Seq};
 use std::alloc::Global;
 use std::collections::VecDeque;
 use std::marker::Model;
+use std::sync::Arc;
 
 /// Asks for the servers of a service at a name: for the SRV records of `service` before `name`.
 ///
@@ -29,10 +31,10 @@ pub fn lookup_srv<R: Resolver, W: Words>(
     name: &Name,
     fallback_port: u16,
 ) -> Result<Option<FoundSrvs>, SrvError>
-    ensures long { IsLong (service.now ++ name.now) → AsksNothing (R.asked resolver.old) (R.asked resolver.new) (W.stream words.old) (W.stream words.new) result }
+    ensures long { IsLong (service.now ++ name.now) → AsksNothing resolver.old resolver.new (W.stream words.old) (W.stream words.new) result }
     ensures long_only { result ≡ Err errors.LongName → IsLong (service.now ++ name.now) }
-    ensures asked { Fits (service.now ++ name.now) → LooksUpSrv (service.now ++ name.now) name.now fallback_port
-        (R.asked resolver.old) (R.asked resolver.new) (W.stream words.old) (W.stream words.new) result }
+    ensures asked { Fits (service.now ++ name.now) → LooksUpSrv (Asks R.says R.asked) (service.now ++ name.now) name.now fallback_port
+        resolver.old resolver.new (W.stream words.old) (W.stream words.new) result }
     ensures count { R.faults resolver.old ≤ R.faults resolver.new }
     ensures failed { IfErr result (SrvIsCounted (R.faults resolver.old) (R.faults resolver.new)) }
 {
@@ -97,7 +99,8 @@ impl FoundSrvs {
             target: name.try_clone(alloc)?,
         };
         let mut items = VecDeque::new(alloc);
-        items.push_back(SrvItem::new(srv, Vec::new(alloc)))?;
+        let none = Arc::new(alloc, Vec::new(alloc))?;
+        items.push_back(SrvItem::new(srv, none))?;
         Ok(FoundSrvs { items })
     }
 

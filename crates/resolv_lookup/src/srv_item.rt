@@ -1,6 +1,7 @@
 //! The servers of a service.
 
 ghost use Rattle.std.specs.Prelude.{◌≡◌, ◌≤◌, [], IfOk, IfErr};
+ghost use Rattle.resolv_lookup.specs.Asked.{Asks};
 ghost use Rattle.resolv_lookup.specs.Hosts.{HostIsCounted, with_port};
 ghost use Rattle.resolv_lookup.specs.Resolving.{Resolves};
 
@@ -10,6 +11,7 @@ use crate::resolver::Resolver;
 use dns_base::{IpAddr, Name, NoMemory, SocketAddr};
 use std::alloc::Global;
 use std::marker::Model;
+use std::sync::Arc;
 
 /// Where a server of a service is (RFC 2782).
 #[derive(Debug, Drop)]
@@ -42,7 +44,7 @@ impl Srv {
 #[derive(Debug, Drop)]
 pub struct SrvItem {
     srv: Srv,
-    addresses: Vec<IpAddr>,
+    addresses: Arc<Vec<IpAddr>>,
 }
 
 impl Model for SrvItem {
@@ -50,13 +52,13 @@ impl Model for SrvItem {
 
     ghost Value = { Item };
 
-    ghost view = { λ i. record { srv = i.srv; addresses = i.addresses.items } };
+    ghost view = { λ i. record { srv = i.srv; addresses = i.addresses.value.items } };
 }
 
 impl SrvItem {
     /// A server, and addresses of its host.
-    pub(crate) fn new(srv: Srv, addresses: Vec<IpAddr>) -> SrvItem
-        ensures { result ≡ record { srv = srv; addresses = addresses.items } }
+    pub(crate) fn new(srv: Srv, addresses: Arc<Vec<IpAddr>>) -> SrvItem
+        ensures { result ≡ record { srv = srv; addresses = addresses.value.items } }
     {
         SrvItem { srv, addresses }
     }
@@ -80,7 +82,7 @@ impl SrvItem {
         ensures { IfOk result (λ i. i ≡ self.now) }
     {
         let srv = self.srv.try_clone(alloc)?;
-        let addresses = Vec::from_slice(alloc, &self.addresses)?;
+        let addresses = Arc::try_clone(&self.addresses)?;
         Ok(SrvItem { srv, addresses })
     }
 
@@ -91,7 +93,7 @@ impl SrvItem {
         alloc: Global,
         resolver: &mut R,
     ) -> Result<ResolvedSrvItem, HostFault>
-        ensures asked { Resolves self (R.asked resolver.old) (R.asked resolver.new) result }
+        ensures asked { Resolves (Asks R.says R.asked) self resolver.old resolver.new result }
         ensures count { R.faults resolver.old ≤ R.faults resolver.new }
         ensures failed { IfErr result (HostIsCounted (R.faults resolver.old) (R.faults resolver.new)) }
     {

@@ -1,4 +1,4 @@
-use Rattle.std.proofs.Common.{◌≡◌, ℕ, ◌-◌}
+use Rattle.std.proofs.Common.{◌≡◌, ◌-◌}
 use Rattle.client_request.specs.Cx.{view_of, LendsTheSame}
 use Rattle.client_steps.specs.Client as plain
 use Rattle.client_steps.specs.Client.{client_of}

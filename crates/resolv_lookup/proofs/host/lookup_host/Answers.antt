@@ -7,7 +7,7 @@ use Rattle.resolv_lookup.proofs.host.lookup_host.Goals as goal
 pub returns-clause-asked : goal.returns-clause-asked
 returns-clause-asked g c = record {
   got = record { aaaa = octets_in g.R.Answer.AsMessage.octets_of c.query-aaaa.result; a = octets_in g.R.Answer.AsMessage.octets_of c.query-a.result };
-  told = (_, c.query-a.ensures.asked, (_, c.query-aaaa.ensures.asked, refl));
+  asked = (_, (c.query-a.ensures.says, c.query-a.ensures.asked), (_, (c.query-aaaa.ensures.says, c.query-aaaa.ensures.asked), refl));
   made = c.new.ensures;
 }
 

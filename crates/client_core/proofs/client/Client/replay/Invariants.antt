@@ -6,7 +6,7 @@ use Rattle.client_core.proofs.client.Client.replay.Given as goal
 
 abbrev pub invariant-loop-event : goal.invariant-loop-event
 invariant-loop-event g l = record {
-  same : plain_trace l.fn.redundant l.fn.conf (g.W.Words.stream l.fn.words) l.events
+  same : plain_trace l.fn.redundant l.fn.cache l.fn.conf (g.W.Words.stream l.fn.words) l.events
       ≡ option_map (λ rest. l.rows ++ rest) (plain_rows machine l.fn.conf.options.timeout (drop l.event-index l.events) (client_with (g.W.Words.stream l.words) l.client));
   timeout : l.client.timeout ≡ l.fn.conf.options.timeout;
   lasts : l.client.failed ≡ false;

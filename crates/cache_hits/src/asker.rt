@@ -1,0 +1,115 @@
+//! A client that is asked, and whose server answers.
+
+use crate::fault::HitFault;
+use crate::messages::{answer_to, request};
+use client_core::{Client, Event, Moment, Out, Row, What};
+use client_request::{ListWords, WordList};
+use client_settings::{cache, redundant};
+use dns_base::{IpAddr, Octets, SocketAddr};
+use resolv_conf::{ResolvConf, ServerConf, Transport};
+use std::alloc::Global;
+
+/// When answers come, in microseconds.
+const LEARNED: Moment = Moment(1_000_000);
+
+/// When what is kept is asked for: ten seconds later, so each TTL is written anew.
+const ASKED: Moment = Moment(11_000_000);
+
+/// A client of one server, which keeps as many answers as settings allow.
+fn client(alloc: Global) -> Result<Client, HitFault> {
+    let addr = SocketAddr {
+        ip: IpAddr::V4([192, 0, 2, 53]),
+        port: 53,
+    };
+    let mut conf = ResolvConf::new(alloc);
+    conf.servers.push(ServerConf::new(addr, Transport::UdpTcp))?;
+    let mut cache = cache::Config::new();
+    cache.set_max_cache_entries(u64::MAX);
+    Ok(Client::new(alloc, &conf, redundant::Config::new(), cache)?)
+}
+
+/// The place that a row wants opened, if it wants one.
+fn opened(row: &Row) -> Option<u64> {
+    for out in row.outs.as_slice() {
+        if let Out::OpenDgram { place, .. } = out {
+            return Some(*place);
+        }
+    }
+    None
+}
+
+/// What an out sends, if it sends anything.
+fn octets_in(out: &Out) -> Option<&Octets> {
+    match out {
+        Out::Send { octets, .. } => Some(octets),
+        _ => None,
+    }
+}
+
+/// What a row sends, if it sends anything.
+fn sent(row: &Row) -> Option<&Octets> {
+    for out in row.outs.as_slice() {
+        if let Some(octets) = octets_in(out) {
+            return Some(octets);
+        }
+    }
+    None
+}
+
+/// Whether a row has a message for a request.
+fn has_message(row: &Row) -> bool {
+    for out in row.outs.as_slice() {
+        if let Out::Reply { result: Ok(_), .. } = out {
+            return true;
+        }
+    }
+    false
+}
+
+/// A client, and the words that it draws.
+#[derive(Drop)]
+pub(crate) struct Asker {
+    alloc: Global,
+    client: Client,
+    words: ListWords,
+}
+
+impl Asker {
+    /// Nothing is asked yet. Each word is 0: what is random is not measured.
+    pub(crate) fn new(alloc: Global) -> Result<Asker, HitFault> {
+        let client = client(alloc)?;
+        let words = ListWords::new(WordList::new(alloc));
+        Ok(Asker {
+            alloc,
+            client,
+            words,
+        })
+    }
+
+    fn tell(&mut self, moment: Moment, what: What) -> Result<Row, HitFault> {
+        Ok(self.client.step(&mut self.words, Event { moment, what })?)
+    }
+
+    /// Asks for a name, and lets the server answer.
+    pub(crate) fn learn(&mut self, name: u32) -> Result<(), HitFault> {
+        let request = request(self.alloc, name)?;
+        let row = self.tell(LEARNED, What::Ask { request })?;
+        let Some(place) = opened(&row) else {
+            return Err(HitFault::NothingSent);
+        };
+        let row = self.tell(LEARNED, What::Opened { place })?;
+        let Some(query) = sent(&row) else {
+            return Err(HitFault::NothingSent);
+        };
+        let octets = answer_to(self.alloc, query)?;
+        self.tell(LEARNED, What::Datagram { place, octets })?;
+        Ok(())
+    }
+
+    /// Whether a request for a name is answered at once.
+    pub(crate) fn is_answered(&mut self, name: u32) -> Result<bool, HitFault> {
+        let request = request(self.alloc, name)?;
+        let row = self.tell(ASKED, What::Ask { request })?;
+        Ok(has_message(&row))
+    }
+}

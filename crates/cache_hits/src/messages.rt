@@ -1,0 +1,54 @@
+//! The requests, and the server's answers.
+
+use crate::fault::HitFault;
+use client_request::RequestMessage;
+use dns_base::{
+    Builder, Class, Message, Octets, PushError, Question, RecordData, Rtype, Section, Ttl,
+};
+use std::alloc::Global;
+
+/// A query for the address of aaaaaaaa.example.com, with recursion desired (RFC 1035 4.1.1).
+const QUERY: [u8; 38] = [
+    0, 0, 1, 0, 0, 1, 0, 0, 0, 0, 0, 0, 8, 97, 97, 97, 97, 97, 97, 97, 97, 7, 101, 120, 97, 109,
+    112, 108, 101, 3, 99, 111, 109, 0, 0, 1, 0, 1,
+];
+
+/// The request for the address of a name by its number: its first label is the number, with letters for digits.
+pub(crate) fn request(alloc: Global, name: u32) -> Result<RequestMessage, HitFault> {
+    let mut octets = QUERY;
+    let mut left = name;
+    for digit in 0..8 {
+        octets[20 - digit] = b'a' + (left % 16) as u8;
+        left /= 16;
+    }
+    let query = Message::from_octets(Octets::from_slice(alloc, &octets)?)?;
+    Ok(RequestMessage::new(alloc, query)?)
+}
+
+/// The answer to a query and its question: 192.0.2.1 for a day.
+fn answer(alloc: Global, query: &Message, question: &Question<'_>) -> Result<Message, PushError> {
+    let mut header = query.header();
+    header.set_qr(true);
+    let name = question.qname();
+    let mut builder = Builder::new(alloc, None)?;
+    builder.set_header(header);
+    builder.push_question(&name, question.qtype(), question.qclass())?;
+    let address = RecordData::A([192, 0, 2, 1]);
+    builder.push_record(
+        Section::Answer,
+        &name,
+        Class::IN,
+        Ttl(86_400),
+        Rtype::A,
+        &address,
+    )?;
+    Ok(builder.finish()?)
+}
+
+/// The octets of the answer to a query.
+pub(crate) fn answer_to(alloc: Global, query: &Octets) -> Result<Octets, HitFault> {
+    let query = Message::from_octets(query.try_clone()?)?;
+    let question = query.sole_question()?;
+    let answer = answer(alloc, &query, &question)?;
+    Ok(answer.into_octets())
+}

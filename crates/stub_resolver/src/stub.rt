@@ -1,0 +1,198 @@
+//! The stub resolver.
+
+ghost use Rattle.std.specs.Prelude.{◌≡◌, ◌≤◌, ◌||◌, if◌then◌else◌, true, false, Err, IfOk, IfErr, OnOk, OnErr};
+ghost use Rattle.dns_values.specs.Source.{Rose, one_more};
+ghost use Rattle.client_core.specs.Edge.{after_deed};
+ghost use Rattle.client_core.specs.declared.deed.Deed.TheVariants.{Learned};
+ghost use Rattle.client_steps.specs.Whole.{with_one_more};
+ghost use Rattle.resolv_lookup.specs.ListAnswers.{faults_after};
+ghost use Rattle.stub_resolver.specs.Making.{IsNew, IsNewByFile};
+ghost use Rattle.stub_resolver.specs.Queries.{Gets, question, is_want};
+ghost use Rattle.stub_resolver.specs.Stub.{seen, with_fault};
+
+use crate::asking::{got_to, is_want};
+use crate::question::question;
+use client_core::{Client, Clock, Edge, cache, redundant};
+use client_request::{Error, Words};
+use client_turns::learn_all;
+use dns_base::{Message, Name, NoMemory, Rtype};
+use resolv_conf::{OpenFile, ResolvConf, ResolvOptions, ServerConf};
+use resolv_lookup::{Answer, QueryFault};
+use std::alloc::Global;
+use std::marker::Model;
+
+/// A resolver that asks the servers of a configuration.
+///
+/// It holds a client, with the default settings, and what the client is run over: an edge, a clock and words. After `NoMemory`
+/// or `NumbersUsed` of a query or of `add_connection` it has failed: each further one answers `Failed`, and changes nothing but
+/// the count of faults.
+#[derive(Drop)]
+pub struct StubResolver<E, C, W> {
+    client: Client,
+    options: ResolvOptions,
+    edge: E,
+    clock: C,
+    words: W,
+    /// How many queries got no message. It stands still at its last value.
+    faults: u64,
+    failed: bool,
+}
+
+impl<E, C, W> Model for StubResolver<E, C, W> {
+    ghost use Rattle.std.specs.Prelude.{◌≡◌, false};
+    ghost use Rattle.stub_resolver.specs.Stub.{Stub};
+
+    ghost Value = { Stub E C W };
+
+    ghost view = { λ s. record {
+      client = s.client;
+      options = s.options;
+      edge = s.edge;
+      clock = s.clock;
+      words = s.words;
+      faults = s.faults;
+      failed = s.failed;
+    } };
+
+    ghost invariant = { λ s. s.failed ≡ false → s.client.failed ≡ false };
+}
+
+impl<E: Edge + Drop, C: Clock + Drop, W: Words + Drop> StubResolver<E, C, W> {
+    /// A resolver of the servers of a configuration as it stands, which the edge learns in order. `NoMemory` alone is answered.
+    pub fn from_conf(
+        alloc: Global,
+        conf: ResolvConf,
+        edge: E,
+        clock: C,
+        words: W,
+    ) -> Result<StubResolver<E, C, W>, Error>
+        ensures made { IfOk result (IsNew E.deeds E.polls E.faults conf edge clock words) }
+        ensures refused { IfErr result (λ e. e ≡ Error.NoMemory) }
+    {
+        let mut edge = edge;
+        let client = Client::new(alloc, &conf, redundant::Config::new(), cache::Config::new())?;
+        learn_all(&mut edge, conf.servers.as_slice())?;
+        Ok(StubResolver {
+            client,
+            options: conf.options,
+            edge,
+            clock,
+            words,
+            faults: 0,
+            failed: false,
+        })
+    }
+
+    /// A resolver of the servers that `/etc/resolv.conf` names, or of the one on this host where it names none. A fault of that
+    /// file is dropped, with what can't be read of it. `NoMemory` alone is answered.
+    pub fn new<O: OpenFile>(
+        alloc: Global,
+        opener: &mut O,
+        edge: E,
+        clock: C,
+        words: W,
+    ) -> Result<StubResolver<E, C, W>, Error>
+        ensures made { IfOk result (IsNewByFile E.deeds E.polls E.faults (O.files opener.old) (O.faults opener.old) (O.faults opener.new) edge clock words) }
+        ensures count { O.faults opener.old ≤ O.faults opener.new }
+        ensures refused { IfErr result (λ e. e ≡ Error.NoMemory) }
+    {
+        let conf = ResolvConf::default(alloc, opener)?;
+        StubResolver::from_conf(alloc, conf, edge, clock, words)
+    }
+
+    /// How it goes about its questions.
+    pub fn options(&self) -> &ResolvOptions
+        ensures { result.now ≡ self.now.options }
+    {
+        &self.options
+    }
+
+    /// Adds a server behind the others, which is asked from the next query on. The edge learns it before the client does.
+    ///
+    /// `NoMemory`, also where 2^32 servers were there before; or `Failed`, after which nothing has changed.
+    pub fn add_connection(&mut self, server: &ServerConf) -> Result<(), Error>
+        ensures added { OnOk result (self.new ≡ record self.old { client = with_one_more server.now self.old.client; edge = self.new.edge }) }
+        ensures learned { OnOk result (E.deeds self.new.edge ≡ after_deed (Learned server.now) (E.deeds self.old.edge)) }
+        ensures not_polled { OnOk result ((E.polls self.new.edge ≡ E.polls self.old.edge) × (E.faults self.new.edge ≡ E.faults self.old.edge)) }
+        ensures failed { self.old.failed ≡ true → (result ≡ Err Error.Failed) × (self.new ≡ self.old) }
+        ensures refused { IfErr result (λ e. e ≡ (if self.old.failed then Error.Failed else Error.NoMemory)) }
+        ensures lasts { OnErr result (self.new.failed ≡ true) }
+    {
+        if self.failed {
+            return Err(Error::Failed);
+        }
+        if self.edge.learn_server(server).is_err() || self.client.add_server(server).is_err() {
+            self.failed = true;
+            return Err(Error::NoMemory);
+        }
+        Ok(())
+    }
+
+    /// Asks for the records of a type that a name has: a question of class IN, recursion desired. Any message is an answer, one
+    /// with an error code too. Where the first one says that the question could not be read, it is asked once more.
+    ///
+    /// `NoReply` where a million turns had no reply; `Client(FormError)` for the type AXFR, which several messages answer;
+    /// `Client` with the client's reply where that is an error; `Client(NoMemory)`, or `Client(NumbersUsed)` where a number would
+    /// pass the greatest `u64`, after which the resolver has failed; `Client(Failed)` where it had failed before.
+    pub fn query(&mut self, alloc: Global, name: &Name, rtype: Rtype) -> Result<Answer, QueryFault>
+        ensures failed { self.old.failed ≡ true → (result ≡ Err (QueryFault.Client Error.Failed)) × (self.new ≡ with_fault self.old) }
+        ensures gets { self.old.failed ≡ false → Gets true (question name.now rtype.0) (seen E.deeds E.polls C.given W.stream self.old) (seen E.deeds E.polls C.given W.stream self.new) result }
+        ensures count { self.new.faults ≡ faults_after result self.old.faults }
+        ensures rose { OnErr result (Rose self.old.faults self.new.faults) }
+        ensures lasts { self.new.failed ≡ (self.old.failed || is_want result) }
+        ensures options { self.new.options ≡ self.old.options }
+    {
+        if self.failed {
+            return self.fail(QueryFault::Client(Error::Failed));
+        }
+        match question(alloc, name, rtype) {
+            Ok(message) => self.ask(alloc, message, true),
+            Err(NoMemory) => self.fail(QueryFault::from(NoMemory)),
+        }
+    }
+
+    /// Asks what a message asks, and once more where `again` is set and the first answer says that it could not be read.
+    pub(crate) fn ask(
+        &mut self,
+        alloc: Global,
+        message: Message,
+        again: bool,
+    ) -> Result<Answer, QueryFault>
+        ensures failed { self.old.failed ≡ true → (result ≡ Err (QueryFault.Client Error.Failed)) × (self.new ≡ with_fault self.old) }
+        ensures gets { self.old.failed ≡ false → Gets again message (seen E.deeds E.polls C.given W.stream self.old) (seen E.deeds E.polls C.given W.stream self.new) result }
+        ensures count { self.new.faults ≡ faults_after result self.old.faults }
+        ensures rose { OnErr result (Rose self.old.faults self.new.faults) }
+        ensures lasts { self.new.failed ≡ (self.old.failed || is_want result) }
+        ensures options { self.new.options ≡ self.old.options }
+    {
+        if self.failed {
+            return self.fail(QueryFault::Client(Error::Failed));
+        }
+        let got = got_to(
+            alloc,
+            &mut self.client,
+            &mut self.edge,
+            &mut self.clock,
+            &mut self.words,
+            message,
+            again,
+        );
+        self.failed = is_want(&got);
+        if got.is_err() {
+            self.faults = self.faults.saturating_add(1);
+        }
+        got
+    }
+
+    /// Counts a fault, after which the resolver has failed if memory or numbers ran out.
+    fn fail(&mut self, fault: QueryFault) -> Result<Answer, QueryFault>
+        ensures is { result ≡ Err fault }
+        ensures rose { Rose self.old.faults self.new.faults }
+        ensures counts { self.new ≡ record self.old { faults = one_more self.old.faults; failed = self.old.failed || is_want (Err fault) } }
+    {
+        let got = Err(fault);
+        self.failed = self.failed || is_want(&got);
+        self.faults = self.faults.saturating_add(1);
+        got
+    }
+}
