@@ -1,6 +1,7 @@
 pub mod Addresses
 pub mod Answer
 pub mod Asked
+pub mod FaultText
 pub mod Faults
 pub mod HostTable
 pub mod Hosts

@@ -12,6 +12,7 @@ use crate::fault::{HostFault, QueryFault};
 use crate::resolver::{AsMessage, Resolver};
 use dns_base::{IpAddr, Message, Name, ParsedName, Rtype, SocketAddr};
 use std::alloc::{AllocError, Global};
+use std::fmt;
 use std::marker::Model;
 
 /// Asks for the addresses of a host: for its A records, and then for its AAAA records.
@@ -49,6 +50,18 @@ impl<R: Resolver> Model for FoundHosts<R> {
 impl<R: Resolver> Drop for FoundHosts<R> {
     fn drop(self) {
         let FoundHosts { aaaa: _, a: _ } = self;
+    }
+}
+
+impl<R: Resolver> fmt::Debug for FoundHosts<R>
+where
+    R::Answer: fmt::Debug,
+{
+    fn fmt<W: fmt::Write>(&self, f: &mut fmt::Formatter<W>) -> fmt::Result {
+        f.debug_struct("FoundHosts")
+            .field("aaaa", &self.aaaa)
+            .field("a", &self.a)
+            .finish()
     }
 }
 

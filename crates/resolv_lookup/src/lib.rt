@@ -10,6 +10,7 @@ mod address_iter;
 mod answer;
 mod answer_section;
 mod fault;
+mod fault_text;
 mod host;
 mod host_table;
 mod laws;
