@@ -1,4 +1,5 @@
 pub mod Pieces
 pub mod Standing
+pub mod Choices
 pub mod Layers
 pub mod Cuts
