@@ -2,4 +2,5 @@ pub mod Pieces
 pub mod Standing
 pub mod Choices
 pub mod Layers
+pub mod Told
 pub mod Cuts
