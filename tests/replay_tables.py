@@ -1,0 +1,119 @@
+"""Makes the tables of scripts that the program replay_tables replays in the gate, and what it must write for them.
+
+usage: python3 tests/replay_tables.py REFERENCE_FOLDER [--check]
+
+REFERENCE_FOLDER holds the package `plain`, a reference client: what is to be written comes from it alone. The tables are
+written into crates/replay_tables/stdin and stdout; with --check they are compared with what stands there.
+
+Three worked scripts are taken: one question by a datagram; one whose answer is truncated, so that it goes on by a stream; and
+two questions that share a stream. Of each there is a script for each fault, at each place and before each event, and at the
+end. Of the last there is one whose octets come one by one, and one for each place at which they can be cut in two. Then come
+a moment past which there is no other, moments that go back, events for a place that is not there, and writes that take
+nothing.
+"""
+
+import subprocess
+import sys
+from pathlib import Path
+
+ROOT = Path(__file__).resolve().parent.parent
+TABLES = ROOT / "crates" / "replay_tables"
+
+NAME = "076578616d706c6503636f6d00"
+ASK = "ask 000001000001000000000000%s00010001 00000100 -" % NAME
+ASK_MORE = "ask 000001000001000000000000%s001c0001 00000100 -" % NAME
+ADDRESS = "c00c00010001000000640004c0000201"
+FAULTS = ("open-failed %d refused", "send-failed %d refused", "short-send %d", "recv-failed %d reset", "wrote %d 0",
+          "write-failed %d reset", "read-failed %d broken", "ended %d")
+
+
+def answer(ident):
+    return "%s81800001000100000000%s00010001%s" % (ident, NAME, ADDRESS)
+
+
+FRAME = "002d" + answer("0000")
+FRAME_MORE = "001d000181800001000000000000%s001c0001" % NAME
+
+DATAGRAM = (["conf nameserver 192.0.2.53", "words 4660"],
+            ["at 0 " + ASK, "at 10 opened 0", "at 20000 datagram 0 " + answer("1234")])
+TRUNCATED = (["conf nameserver 192.0.2.53", "words 4660"],
+             ["at 0 " + ASK, "at 10 opened 0", "at 20000 datagram 0 123483800001000000000000%s00010001" % NAME,
+              "at 20001 datagram 0 " + answer("1234"), "at 20002 opened 1", "at 20003 wrote 1 46",
+              "at 20004 bytes 1 " + FRAME])
+SHARED = (["conf nameserver 192.0.2.53", "conf options use-vc"],
+          ["at 0 " + ASK, "at 0 " + ASK_MORE, "at 0 opened 0", "at 0 wrote 0 46", "at 0 wrote 0 20", "at 0 wrote 0 11",
+           "at 0 bytes 0 " + FRAME + FRAME_MORE])
+
+
+def moment_of(event):
+    return event.split()[1]
+
+
+def with_faults(name, script, places):
+    """The script with one fault more, at each place and before each event, and at the end."""
+    head, events = script
+    for at in range(len(events) + 1):
+        moment = moment_of(events[min(at, len(events) - 1)])
+        for place in places:
+            for fault in FAULTS:
+                event = "at %s %s" % (moment, fault % place)
+                yield "%s, before event %d: %s" % (name, at, fault % place), head + events[:at] + [event] + events[at:]
+
+
+def cut():
+    head, events = SHARED
+    octets = FRAME + FRAME_MORE
+    pieces = [octets[at:at + 2] for at in range(0, len(octets), 2)]
+    yield "a stream, octet by octet", head + events[:-1] + ["at 0 bytes 0 " + piece for piece in pieces]
+    for at in range(2, len(octets), 2):
+        yield "a stream, cut behind %d octets" % (at // 2), head + events[:-1] + [
+            "at 0 bytes 0 " + octets[:at], "at 0 bytes 0 " + octets[at:]]
+
+
+def others():
+    head, events = DATAGRAM
+    later = "at 18446744073709551615 tick"
+    yield "the last moment", head + ["conf options timeout:10", "at 0 " + ASK, "at 0 opened 0", later, "at 0 " + ASK]
+    yield "moments that go back", head + ["at 10 tick", "at 5 tick", "at 5 " + ASK, "at 5 opened 0", "at 5000009 tick",
+                                          "at 5000010 tick"]
+    yield "a place that is not there", head + ["at 0 " + (fault % 9) for fault in FAULTS] + [
+        "at 0 datagram 9 00", "at 0 bytes 9 00", "at 0 opened 9"] + events
+    head, events = SHARED
+    yield "a write that takes nothing", head + events[:4] + ["at 0 wrote 0 0"] + events[4:]
+    yield "a write of more than there is", head + events[:3] + ["at 0 wrote 0 18446744073709551615"] + events[4:]
+
+
+def scripts():
+    yield "a datagram", sum(DATAGRAM, [])
+    yield "truncated", sum(TRUNCATED, [])
+    yield "a stream for two", sum(SHARED, [])
+    yield from with_faults("a datagram", DATAGRAM, (0,))
+    yield from with_faults("truncated", TRUNCATED, (0, 1))
+    yield from with_faults("a stream for two", SHARED, (0,))
+    yield from cut()
+    yield from others()
+
+
+def replayed(folder, lines):
+    ran = subprocess.run([sys.executable, "-m", "plain.dnsq", "--stage", "16", "replay"], cwd=folder, capture_output=True,
+                         input="\n".join(lines).encode() + b"\n")
+    return ran.stdout.decode() + "status %d\n" % ran.returncode
+
+
+def main():
+    if len(sys.argv) < 2:
+        sys.exit(__doc__)
+    told, due = [], []
+    for name, lines in scripts():
+        told.append("script %s\n%s\n" % (name, "\n".join(lines)))
+        due.append("script %s\n%s" % (name, replayed(sys.argv[1], lines)))
+    for file, text in (("stdin", "".join(told)), ("stdout", "".join(due))):
+        if "--check" not in sys.argv:
+            (TABLES / file).write_text(text)
+        elif (TABLES / file).read_text() != text:
+            sys.exit("%s is not what the reference client gives" % file)
+    print("%d scripts" % len(told))
+
+
+if __name__ == "__main__":
+    main()
