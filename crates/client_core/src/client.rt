@@ -4,7 +4,7 @@ ghost use Rattle.std.specs.Prelude.{◌≡◌, if◌then◌else◌, true, false,
 ghost use Rattle.client_request.specs.Calls.{Steps, NumbersRunOut, AnswersFailed};
 ghost use Rattle.client_request.specs.Cx.{LendsTheSame};
 ghost use Rattle.client_request.specs.Response.{IsRefusal};
-ghost use Rattle.client_request.specs.Timers.{IsWant, next_due};
+ghost use Rattle.client_request.specs.Timers.{IsWant, due_now, next_due};
 ghost use Rattle.client_steps.specs.Client as plain;
 ghost use Rattle.client_steps.specs.Machines.{client_in};
 ghost use Rattle.client_runs.specs.Above.{AreWords};
@@ -177,8 +177,10 @@ impl Client {
     ///
     /// `NoMemory`, or `NumbersUsed` where a number would pass the greatest `u64`; after either each
     /// further step answers `Failed` and changes nothing.
+    #[tactic(auto, using(crate::proofs::Resting::rests))]
     pub fn step<W: Words>(&mut self, words: &mut W, event: Event) -> Result<Row, Error>
         ensures row { IfOk result (λ row. plain_step (W.stream words.old) event self.old ≡ Some (row, client_with (W.stream words.new) self.new)) }
+        ensures none_due { OnOk result (due_now self.new.now self.new.timers.set ≡ None) }
         ensures timeout { OnOk result (self.new.timeout ≡ self.old.timeout) }
         ensures use_vc { OnOk result (self.new.use_vc ≡ self.old.use_vc) }
         ensures count { OnOk result (self.new.count ≡ self.old.count) }

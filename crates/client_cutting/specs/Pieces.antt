@@ -28,6 +28,7 @@ module _ {U : Type 0} (octets : U → Option (List ℕ)) (IsFit : U → (timer :
   -- What a call leaves where a request is sent or given up: the octets stand as before.
   pub record Stays (u : U) (v : View) (w : U) (x : View) : Type 0 where
     pub fit : IsFit w x.timers.next
+    pub now : x.now ≡ v.now
     pub timer : v.timers.next ≤ x.timers.next
     pub octets : octets w ≡ octets u
     pub more : x.more ≡ v.more
@@ -35,6 +36,7 @@ module _ {U : Type 0} (octets : U → Option (List ℕ)) (IsFit : U → (timer :
   -- where a timer fired: the place may have been closed
   pub record MayClose (u : U) (v : View) (w : U) (x : View) : Type 0 where
     pub fit : IsFit w x.timers.next
+    pub now : x.now ≡ v.now
     pub timer : v.timers.next ≤ x.timers.next
     pub octets : (octets w ≡ octets u) ⊎ (octets w ≡ None)
     pub more : x.more ≡ v.more
@@ -42,6 +44,7 @@ module _ {U : Type 0} (octets : U → Option (List ℕ)) (IsFit : U → (timer :
   -- where a frame was taken: those behind it stand, or the place was closed; and it is said whether another one stands
   pub record Takes (u : U) (v : View) (w : U) (x : View) : Type 0 where
     pub fit : IsFit w x.timers.next
+    pub now : x.now ≡ v.now
     pub timer : v.timers.next ≤ x.timers.next
     pub octets : (octets w ≡ option_map behind_frame (octets u)) ⊎ (octets w ≡ None)
     pub more : x.more ≡ stands (octets w)
@@ -55,8 +58,10 @@ pub record IsCuttable {R U P : Type 0} (place : ℕ) (t : Transport R U P) (octe
   pub later : (u : U) (n m : ℕ) → n ≤ m → IsFit u n → IsFit u m
   -- octets that come stand behind the others, and the first frame is taken
   pub bytes : (piece : List ℕ) (u : U) (v : View) → IsFit u v.timers.next → v.more ≡ false → t.step (told (Bytes place piece)) u v ≡ t.step (more_at place) (longer piece u) v
+  -- octets for a place that is not open are not heard
+  pub unheard : (piece : List ℕ) (u : U) (v : View) → IsFit u v.timers.next → octets u ≡ None → t.step (told (Bytes place piece)) u v ≡ Some (u, v)
   -- where no whole frame stands, nothing is taken
-  pub rests : (u : U) (v : View) → IsFit u v.timers.next → stands (octets u) ≡ false → v.more ≡ false → t.step (more_at place) u v ≡ Some (u, v)
+  pub rests : (u : U) (v : View) → IsFit u v.timers.next → stands (octets u) ≡ false → t.step (more_at place) u v ≡ Some (u, v)
   -- what is done does not depend on the octets, nor on what was put out
   pub response : (piece : List ℕ) (before : List Out) (more : Bool) (request : ℕ) (r : R) (u : U) (v : View) → t.response r (longer piece u) (like before more request v) ≡ t.response r u v
   pub sends : (piece : List ℕ) (before : List Out) (more : Bool) (r : R) (u : U) (v : View) → IsFit u v.timers.next
@@ -68,7 +73,11 @@ pub record IsCuttable {R U P : Type 0} (place : ℕ) (t : Transport R U P) (octe
   pub takes : (piece : List ℕ) (before : List Out) (request : ℕ) (u : U) (v : View) → IsFit u v.timers.next → IsReady (octets u) → v.more ≡ false
       → Both (longer piece) before (Takes octets IsFit u v) (t.step (more_at place) u v) (t.step (more_at place) (longer piece u) (like before false request v))
 
+-- Of a request that is given up nothing is posted at once.
+abbrev pub CancelsQuietly : {R U P : Type 0} → Transport R U P → (U → (timer : ℕ) → Type 0) → Type 0
+CancelsQuietly {R} {U} {P} t IsFit = (r : P) (u : U) (v : View) (w : U) (x : View) → IsFit u v.timers.next → t.cancel r u v ≡ Some (w, x) → x.board ≡ v.board
+
 -- Of a request that is sent or given up nothing is posted at once.
-pub record PostsNothing {R U P : Type 0} (t : Transport R U P) : Type 0 where
-  pub sent : (r : R) (u : U) (v : View) (w : U) (x : View) → t.send r u v ≡ Some (w, x) → x.board ≡ v.board
-  pub cancelled : (r : P) (u : U) (v : View) (w : U) (x : View) → t.cancel r u v ≡ Some (w, x) → x.board ≡ v.board
+pub record PostsNothing {R U P : Type 0} (t : Transport R U P) (IsFit : U → (timer : ℕ) → Type 0) : Type 0 where
+  pub sent : (r : R) (u : U) (v : View) (w : U) (x : View) → IsFit u v.timers.next → t.send r u v ≡ Some (w, x) → x.board ≡ v.board
+  pub cancelled : CancelsQuietly t IsFit

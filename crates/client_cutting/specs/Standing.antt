@@ -44,5 +44,7 @@ pub record AreFit (t : StreamTables) (timer : ℕ) : Type 0 where
   pub placed : (p : ℕ) (l : Link Request) → entry_at p t.connections ≡ Some l → (l.place ≡ p) × (has_ended l.line.stage ≡ false)
   pub watched : (p : ℕ) (l : Link Request) (i : ℕ) → entry_at p t.connections ≡ Some l → timer_at l.line.stage ≡ Some i → entry_at i t.watches ≡ Some p
 
-abbrev pub IsFitStream : Streams → (timer : ℕ) → Type 0
-IsFitStream s timer = AreFit s.tables timer
+-- Its tables are fit, and it takes requests on.
+pub record IsFitStream (s : Streams) (timer : ℕ) : Type 0 where
+  pub tables : AreFit s.tables timer
+  pub takes : s.shut ≡ false

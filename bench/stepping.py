@@ -1,0 +1,51 @@
+"""Times a client that is stepped by hand through more and more events, and tells what memory it takes.
+
+usage: python3 bench/stepping.py PROGRAM
+
+PROGRAM is the built stepped_events. One name after another is asked for and answered, three events each, by datagrams and on
+one stream; no row is kept, and of the answers the cache keeps its thousand. Each run steps through 100,000, 1,000,000 and
+10,000,000 events. Told are the least processor time of three runs each, how many times as long ten times as many events
+take, and the most memory that a run had. More than 12 times as long, or more than 1 MB of memory more for ten times as many
+events, ends with status 1.
+"""
+
+import os
+import subprocess
+import sys
+
+WAYS = ("datagrams", "streams")
+EVENTS = (100_000, 1_000_000, 10_000_000)
+EACH = 3
+RUNS = 3
+MOST = 12
+MOST_MEMORY = 1024
+
+
+def run(program, way, events):
+    """The processor seconds and the kilobytes of memory of one run, whose replies are counted."""
+    ran = subprocess.Popen([program, way, str(events)], stdout=subprocess.PIPE)
+    replies = int(ran.stdout.read())
+    _, status, used = os.wait4(ran.pid, 0)
+    ran.returncode = os.waitstatus_to_exitcode(status)
+    if ran.returncode != 0 or replies != events // EACH:
+        sys.exit("%s %d: status %d, %d replies" % (way, events, ran.returncode, replies))
+    return used.ru_utime + used.ru_stime, used.ru_maxrss
+
+
+def main():
+    if len(sys.argv) != 2:
+        sys.exit(__doc__)
+    good = True
+    for way in WAYS:
+        measured = [min(run(sys.argv[1], way, events) for _ in range(RUNS)) for events in EVENTS]
+        for events, (seconds, memory) in zip(EVENTS, measured):
+            print("%s: %d events: %.3f s, %.2f microseconds each, %d kB" % (way, events, seconds, seconds / events * 1e6, memory))
+        for (fewer, memory), (more, more_memory) in zip(measured, measured[1:]):
+            print("%s: ten times as many take %.1f times as long, and %+d kB" % (way, more / fewer, more_memory - memory))
+            good = good and more <= MOST * fewer and more_memory - memory <= MOST_MEMORY
+    if not good:
+        sys.exit(1)
+
+
+if __name__ == "__main__":
+    main()
