@@ -16,7 +16,7 @@ servers_octets octets [] = None
 servers_octets octets (s ∷ more) = octets_or (octets s.upstream) (servers_octets octets more)
 
 abbrev pub longer_servers : {U : Type 0} → (List ℕ → U → U) → (piece : List ℕ) → List (Server U) → List (Server U)
-longer_servers longer piece servers = map (λ s. record s { upstream = longer piece s.upstream }) servers
+longer_servers {U} longer piece servers = map (λ (s : Server U). record s { upstream = longer piece s.upstream }) servers
 
 -- Each server is fit and has posted nothing that is not taken yet, and one alone has the place.
 pub record AreFitServers {U : Type 0} (octets : U → Option (List ℕ)) (IsFit : U → (timer : ℕ) → Type 0) (servers : List (Server U)) (timer : ℕ) : Type 0 where

@@ -24,13 +24,13 @@ pub data Both {U : Type 0} (longer : U → U) (before : List Out) (Leaves : U �
   Neither : Both longer before Leaves None None
   Each : (u : U) (v : View) (more : Bool) (request : ℕ) → Leaves u v → Both longer before Leaves (Some (u, v)) (Some (longer u, like before more request v))
 
-module _ {U : Type 0} (octets : U → Option (List ℕ)) (IsFit : U → (timer : ℕ) → Type 0) where
+module _ {U : Type 0} (octets_at : U → Option (List ℕ)) (IsFit : U → (timer : ℕ) → Type 0) where
   -- What a call leaves where a request is sent or given up: the octets stand as before.
   pub record Stays (u : U) (v : View) (w : U) (x : View) : Type 0 where
     pub fit : IsFit w x.timers.next
     pub now : x.now ≡ v.now
     pub timer : v.timers.next ≤ x.timers.next
-    pub octets : octets w ≡ octets u
+    pub octets : octets_at w ≡ octets_at u
     pub more : x.more ≡ v.more
 
   -- where a timer fired: the place may have been closed
@@ -38,7 +38,7 @@ module _ {U : Type 0} (octets : U → Option (List ℕ)) (IsFit : U → (timer :
     pub fit : IsFit w x.timers.next
     pub now : x.now ≡ v.now
     pub timer : v.timers.next ≤ x.timers.next
-    pub octets : (octets w ≡ octets u) ⊎ (octets w ≡ None)
+    pub octets : (octets_at w ≡ octets_at u) ⊎ (octets_at w ≡ None)
     pub more : x.more ≡ v.more
 
   -- where a frame was taken: those behind it stand, or the place was closed; and it is said whether another one stands
@@ -46,8 +46,8 @@ module _ {U : Type 0} (octets : U → Option (List ℕ)) (IsFit : U → (timer :
     pub fit : IsFit w x.timers.next
     pub now : x.now ≡ v.now
     pub timer : v.timers.next ≤ x.timers.next
-    pub octets : (octets w ≡ option_map behind_frame (octets u)) ⊎ (octets w ≡ None)
-    pub more : x.more ≡ stands (octets w)
+    pub octets : (octets_at w ≡ option_map behind_frame (octets_at u)) ⊎ (octets_at w ≡ None)
+    pub more : x.more ≡ stands (octets_at w)
 
 -- What is owed at a place. `octets` has those that stand there, if it is open, `longer` puts more behind them, and calls are made of what is fit, where `timer` is the number of the next timer.
 pub record IsCuttable {R U P : Type 0} (place : ℕ) (t : Transport R U P) (octets : U → Option (List ℕ)) (longer : List ℕ → U → U) (IsFit : U → (timer : ℕ) → Type 0) : Type 0 where
