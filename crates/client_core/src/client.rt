@@ -177,7 +177,6 @@ impl Client {
     ///
     /// `NoMemory`, or `NumbersUsed` where a number would pass the greatest `u64`; after either each
     /// further step answers `Failed` and changes nothing.
-    #[tactic(auto, using(crate::proofs::Resting::rests))]
     pub fn step<W: Words>(&mut self, words: &mut W, event: Event) -> Result<Row, Error>
         ensures row { IfOk result (λ row. plain_step (W.stream words.old) event self.old ≡ Some (row, client_with (W.stream words.new) self.new)) }
         ensures none_due { OnOk result (due_now self.new.now self.new.timers.set ≡ None) }
