@@ -1,10 +1,11 @@
--- What a replay has made when no event is left is right and timely, and hits.
+-- What a replay has made when no event is left is right and timely, and hits, and its events may be cut.
 use Rattle.std.proofs.Common.{◌≡◌, ℕ, ◌≤◌, List, [], ◌++◌, length, drop, Some, ap, ◌∙◌, append-nil}
 use Rattle.std.proofs.lemmas.List.{drop_all}
 use Rattle.std.specs.Prelude.{option_map}
 use Rattle.client_request.specs.declared.event.Event.{Event}
 use Rattle.client_request.specs.declared.event.Row.{Row}
 use Rattle.client_steps.specs.Client.{plain_rows}
+use Rattle.client_cutting.specs.Cuts.{EveryPlainTraceMayBeCut, MayBeCut}
 use Rattle.client_runs.specs.Ties.{AreHandedIn, EveryPlainTraceHits, EveryPlainTraceIsRight}
 use Rattle.client_settings.specs.Settings.{CacheSettings, RedundantSettings}
 use Rattle.client_steps.specs.Headline.{conf_of, settings_of}
@@ -30,3 +31,7 @@ module _ (redundant : RedundantSettings) (cache : CacheSettings) (conf : ResolvC
   pub hits_at_the_end : EveryPlainTraceHits → plain_trace redundant cache conf words events ≡ option_map (λ rest. rows ++ rest) (plain_rows machine timeout (drop i events) client)
       → length events ≤ i → AreHandedIn cache words events → AllHit (conf_of conf) (settings_of redundant cache) composed (room_of cache) [] rows
   hits_at_the_end law same le handed = law redundant cache conf words events rows (plain_at_the_end same le) handed
+
+  pub cut_at_the_end : EveryPlainTraceMayBeCut → plain_trace redundant cache conf words events ≡ option_map (λ rest. rows ++ rest) (plain_rows machine timeout (drop i events) client)
+      → length events ≤ i → AreHandedIn cache words events → MayBeCut redundant cache conf words events rows
+  cut_at_the_end law same le handed = law redundant cache conf words events rows (plain_at_the_end same le) handed

@@ -7,6 +7,7 @@ ghost use Rattle.client_request.specs.Response.{IsRefusal};
 ghost use Rattle.client_request.specs.Timers.{IsWant, due_now, next_due};
 ghost use Rattle.client_steps.specs.Client as plain;
 ghost use Rattle.client_steps.specs.Machines.{client_in};
+ghost use Rattle.client_cutting.specs.Cuts.{MayBeCut};
 ghost use Rattle.client_runs.specs.Above.{AreWords};
 ghost use Rattle.client_steps.specs.Headline.{conf_of, settings_of};
 ghost use Rattle.client_steps.specs.Upstream as upstream;
@@ -27,6 +28,7 @@ use client_choice::redundant as choice;
 use client_request::{
     Board, Cx, Error, Event, Moment, Outs, RequestMessage, Row, Rows, Timers, Trace, Words,
 };
+use client_cutting::every_plain_trace_may_be_cut;
 use client_runs::{every_plain_trace_hits, every_plain_trace_is_right};
 use client_steps::{Asked, take_in};
 use dns_base::Duration;
@@ -255,7 +257,8 @@ impl Client {
     ///
     /// The trace is right and timely whatever the events are, as long as each word that comes has 64 bits; and what is kept is
     /// given: a request with the key of a message that is kept is answered from the cache in its own row, few enough requests
-    /// and replies later.
+    /// and replies later. Where the octets that one event brings to a stream come in several, one behind another at one moment,
+    /// the same is put out in the same order, and the same client is left.
     pub fn replay<W: Words>(
         alloc: Global,
         conf: &ResolvConf,
@@ -269,6 +272,7 @@ impl Client {
         ensures right { IfOk result (λ t. AreWords (W.stream words.old) → Right (conf_of conf.now) (settings_of redundant cache) t.rows) }
         ensures timely { IfOk result (λ t. AreWords (W.stream words.old) → Timely (conf_of conf.now) t.rows) }
         ensures hits { IfOk result (λ t. AreWords (W.stream words.old) → AllHit (conf_of conf.now) (settings_of redundant cache) composed (room_of cache) [] t.rows) }
+        ensures cut { IfOk result (λ t. AreWords (W.stream words.old) → MayBeCut redundant cache conf.now (W.stream words.old) events.now t.rows) }
         ensures numbers { IsErrOf result Error.NumbersUsed → plain_trace redundant cache conf.now (W.stream words.old) events.now ≡ None }
         ensures refused { IfErr result IsWant }
     {
@@ -284,6 +288,7 @@ impl Client {
         all_in_octets(events);
         every_plain_trace_is_right();
         every_plain_trace_hits();
+        every_plain_trace_may_be_cut();
         Ok(Trace { rows })
     }
 }

@@ -1,0 +1,14 @@
+pub mod Views
+pub mod Datagrams
+pub mod FallingBack
+pub mod OneServer
+pub mod Counting
+pub mod Replying
+pub mod Beside
+pub mod Firing
+pub mod Looping
+pub mod Telling
+pub mod Rows
+pub mod Cutting
+pub mod Pieces
+pub mod OutsTold

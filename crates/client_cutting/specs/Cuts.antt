@@ -1,6 +1,5 @@
 -- Octets that come in pieces do to the client of a configuration what they do in one.
-use Rattle.std.specs.Prelude.{◌≡◌, ℕ, List, Option, Some, map}
-use Rattle.std.specs.List.{concat}
+use Rattle.std.specs.Prelude.{◌≡◌, ℕ, List, [], ◌∷◌, ◌++◌, Option, Some}
 use Rattle.client_request.specs.declared.event.Event.{Event}
 use Rattle.client_request.specs.declared.event.Out.{Out}
 use Rattle.client_request.specs.declared.event.Row.{Row}
@@ -21,7 +20,8 @@ PiecesDoTheSame = (redundant : RedundantSettings) (cache : CacheSettings) (conf 
 
 -- what rows put out, in order
 abbrev pub outs_of : List Row → List Out
-outs_of rows = concat (map (λ row. row.outs) rows)
+outs_of [] = []
+outs_of (row ∷ rows) = row.outs ++ outs_of rows
 
 -- However one of these events is cut, what these rows put out is put out, and the same client is left, with the same words.
 pub record MayBeCut (redundant : RedundantSettings) (cache : CacheSettings) (conf : ResolvConf) (words : ℕ → ℕ) (events : List Event) (rows : List Row) : Type 0 where

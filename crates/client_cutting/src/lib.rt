@@ -3,4 +3,4 @@
 
 mod laws;
 
-pub use laws::pieces_do_the_same;
+pub use laws::every_plain_trace_may_be_cut;
