@@ -131,7 +131,7 @@ module _ (g : Tying) where
   }
 
   -- what a step of the plain client is to the machine
-  record IsStepped (e : Event) (from : State g) (b : Kept g) (d : PlainClient g) : Type 0 where
+  pub record IsStepped (e : Event) (from : State g) (b : Kept g) (d : PlainClient g) : Type 0 where
     pub phase : Phase
     pub may_end : MayEnd phase
     pub pending : What
@@ -142,7 +142,7 @@ module _ (g : Tying) where
     pub tied : IsTied g phase pending (rested d) end kept
 
   -- Timers fire, the event happens, and timers fire again.
-  steps_do : (e : Event) (phase : Phase) (w : What) (d : PlainClient g) (x : State g) (b : Kept g) → IsAskedInOctets e.what → IsInOctets e.what → MayEnd phase → IsTied g phase w d x b → d.view.outs ≡ []
+  pub steps_do : (e : Event) (phase : Phase) (w : What) (d : PlainClient g) (x : State g) (b : Kept g) → IsAskedInOctets e.what → IsInOctets e.what → MayEnd phase → IsTied g phase w d x b → d.view.outs ≡ []
       → IfSome g (IsStepped e x b) (client_step (machine_of g.T g.ticket) (g.c).timeout e d)
   steps_do e phase w d x b asked octets end t none =
       let d0 : PlainClient g = at_moment e.moment.0 d in
@@ -208,7 +208,7 @@ module _ (g : Tying) where
           rest (Some rows) r = (Goes_on x (row_of e d1) s.end rows s.step r.0, (s.kept, s.beside, r.1))
 
   -- nothing is tied to nothing
-  starts : (words : ℕ → ℕ) → AreWords words → IsTied g (Told 0 0) Tick (begins_with words g.first) (begun g.c g.st composed g.P) (g.B).first
+  pub starts : (words : ℕ → ℕ) → AreWords words → IsTied g (Told 0 0) Tick (begins_with words g.first) (begun g.c g.st composed g.P) (g.B).first
   starts words small = record {
     fits = record {
       holds = record {

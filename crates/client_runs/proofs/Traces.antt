@@ -39,11 +39,11 @@ use Rattle.client_runs.proofs.Joining.{choosing}
 use Rattle.client_runs.proofs.Rows.{clients_above_ties_run}
 use Rattle.client_runs.proofs.Servers.{all_begin}
 
-fits : (n : ℕ) → n ≤ seconds 6048000 → n ≤ seconds 4294967295
+pub fits : (n : ℕ) → n ≤ seconds 6048000 → n ≤ seconds 4294967295
 fits n le = omega (arith, le)
 
 -- a cache above the choice among the servers of a configuration
-abbrev above_servers : (c : Conf) → RedundantSettings → (settings : CacheSettings) → settings.max_validity ≤ seconds 6048000 → Caching
+abbrev pub above_servers : (c : Conf) → RedundantSettings → (settings : CacheSettings) → settings.max_validity ≤ seconds 6048000 → Caching
 above_servers c redundant settings limited = record {
   c = c;
   base = settings_of redundant settings;
@@ -65,7 +65,7 @@ above_servers c redundant settings limited = record {
 }
 
 -- the client above that
-abbrev tying : Caching → Tying
+abbrev pub tying : Caching → Tying
 tying g = record {
   c = g.c;
   st = cache.its g;
