@@ -25,10 +25,10 @@ use crate::servers::{Layers, add_server, servers_of};
 use crate::{cache, redundant};
 use client_cache::Request;
 use client_choice::redundant as choice;
+use client_cutting::every_plain_trace_may_be_cut;
 use client_request::{
     Board, Cx, Error, Event, Moment, Outs, RequestMessage, Row, Rows, Timers, Trace, Words,
 };
-use client_cutting::every_plain_trace_may_be_cut;
 use client_runs::{every_plain_trace_hits, every_plain_trace_is_right};
 use client_steps::{Asked, take_in};
 use dns_base::Duration;

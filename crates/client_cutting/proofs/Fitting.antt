@@ -1,19 +1,17 @@
 -- A connection is taken out of tables that are fit, and put back: they are fit again.
-use Rattle.std.proofs.Common.{◌≡◌, ℕ, suc, ◌+◌, ◌≤◌, ◌<◌, ◌⊎◌, inl, inr, Bool, true, false, if◌then◌else◌, Option, Some, None, List, length, refl, sym, ap, ap₂, subst, ◌∙◌, arith, le_refl, le_trans}
-use Rattle.std.specs.Prelude.{◌==◌, ◌&&◌, not, option_map, option_and_then}
+use Rattle.std.proofs.Common.{◌≡◌, ℕ, ◌≤◌, ◌<◌, ◌⊎◌, inl, inr, Bool, true, false, if◌then◌else◌, Option, Some, None, List, length, refl, sym, ap, ap₂, subst, ◌∙◌, arith}
+use Rattle.std.specs.Prelude.{◌==◌}
 use Rattle.std.proofs.lemmas.Bool.Decides.{nat_tests}
 use Rattle.client_request.specs.Numbered.{puts, frees, entry_at}
 use Rattle.client_request.specs.Request.{Request}
-use Rattle.client_request.specs.View.{View, Transport}
+use Rattle.client_request.specs.View.{Transport}
 use Rattle.client_stream.specs.Plain.{Asked, has_ended, timer_at, started}
 use Rattle.client_multi.specs.Links.{Link}
 use Rattle.client_multi.specs.MultiStream.{OneStream, watched, unwatched, keeps, taken, with_connection}
 use Rattle.client_ties.specs.Lines.{Sorted}
-use Rattle.client_ties.proofs.Tables.{rises_below, absent_above, at_puts, at_frees, sorted_puts, sorted_frees, present_below, put_back}
-use Rattle.client_cutting.specs.Standing.{StreamTables, AreFit, link_octets, longer_link, longer_tables}
-use Rattle.client_cutting.proofs.Links.{LinkGoes, longer_line, longer_there, longer_ended}
+use Rattle.client_ties.proofs.Tables.{rises_below, at_puts, at_frees, sorted_puts, sorted_frees, present_below, put_back}
+use Rattle.client_cutting.specs.Standing.{StreamTables, AreFit}
 use Rattle.client_cutting.proofs.Lines.{IsKnown}
-use Rattle.client_cutting.proofs.Longer.{entry_here, entry_there, frees_here, frees_there, puts_here, puts_there, longer_absent}
 
 -- What is asked of tables, of those of the connections and of their timers alone.
 pub record Fits (es : List (ℕ × Link Request)) (ws : List (ℕ × ℕ)) (n : ℕ) : Type 0 where

@@ -1,5 +1,5 @@
 -- A connection's calls agree whatever was put out before, and say the same of more octets.
-use Rattle.std.proofs.Common.{◌≡◌, ℕ, ◌+◌, ◌≤◌, ◌<◌, ◌⊎◌, inl, inr, Bool, true, false, if◌then◌else◌, Option, Some, None, List, [], ◌∷◌, ◌++◌, length, refl, sym, ap, subst, ◌∙◌, arith, le_refl, le_trans}
+use Rattle.std.proofs.Common.{◌≡◌, ℕ, ◌+◌, ◌≤◌, ◌<◌, ◌⊎◌, inl, inr, Bool, true, false, if◌then◌else◌, Option, Some, None, List, [], ◌∷◌, length, refl, sym, ap, subst, ◌∙◌, arith, le_refl, le_trans}
 use Rattle.std.specs.Prelude.{◌==◌, nat_le, is_some, option_map, option_and_then, Ok, Err}
 use Rattle.std.specs.Prelude.{Result}
 use Rattle.std.specs.Option.{unwrap_or}
@@ -7,7 +7,7 @@ use Rattle.dns_base.specs.Message.{sole_question}
 use Rattle.client_request.specs.Board.{Part, posted}
 use Rattle.client_request.specs.Numbered.{puts, frees, entry_at}
 use Rattle.client_request.specs.Requests.{Requests}
-use Rattle.client_request.specs.View.{View, sets_timer, drops_timer, asks, answers}
+use Rattle.client_request.specs.View.{View, sets_timer, asks, answers}
 use Rattle.client_request.specs.declared.board.Posted.{Posted}
 use Rattle.client_request.specs.declared.error.Error.{Error}
 use Rattle.client_request.specs.declared.error.Error.TheVariants as errors
@@ -30,7 +30,7 @@ use Rattle.client_stream.specs.declared.request.Waiting.{Waiting}
 use Rattle.client_stream.specs.declared.stage.Stage.{Stage}
 use Rattle.client_stream.specs.declared.stage.Stage.TheVariants as stage
 use Rattle.client_multi.specs.MultiStream.{is_result}
-use Rattle.client_cutting.specs.Pieces.{like, Both, Neither, Each}
+use Rattle.client_cutting.specs.Pieces.{like, Both, Each}
 use Rattle.client_cutting.proofs.Views.{asks_like, timed, next_ticket, weaker, if_both, sets_both, tickets_both, then_both}
 
 -- ---- what is posted
@@ -330,8 +330,8 @@ module _ {R M : Type 0} (one : Requests R) (several : Requests M) (before : List
       pumps_alike more request settings (entry ∷ queue) s v going fs =
           if_both (is_some s.writing) (λ e. Each s v more request (record { goes = goes_nowhere s.stage v; going = going; faults = fs }))
           (λ e. then_both (λ x. plain.pumps one several place settings queue x.0 x.1) (λ x. plain.pumps one several place settings queue x.0 x.1)
-            (takes_alike more request settings entry.0 entry.1 (record s { queue = queue }) v going fs)
-            (λ t w more request l. weaker (λ u x m. sends_on s.stage v.timers.next v.more v.now t.stage w u.stage x l m) (pumps_alike more request settings queue t w l.going l.faults)))
+          (takes_alike more request settings entry.0 entry.1 (record s { queue = queue }) v going fs)
+          (λ t w more request l. weaker (λ u x m. sends_on s.stage v.timers.next v.more v.now t.stage w u.stage x l m) (pumps_alike more request settings queue t w l.going l.faults)))
 
       pub takes_on_alike : (more : Bool) (settings : Settings) (request : AnyRequest R M) (s : Line R M) (v : View) → has_ended s.stage ≡ false → AreFaults v.board
           → Alike before (Sends s.stage v.timers.next v.more v.now) (plain.takes_on one several place settings request s v) (plain.takes_on one several place settings request s (like before more v.request v))
@@ -343,8 +343,8 @@ module _ {R M : Type 0} (one : Requests R) (several : Requests M) (before : List
 
           queued : (b : Bool) → b ≡ false
               → Alike before (Sends s.stage v.timers.next v.more v.now)
-                (if b then Some (s, answers v.ticket (Err errors.ConnectionClosed) (next_ticket v)) else plain.pumps one several place settings (puts v.ticket waiting s.queue) (record s { queue = puts v.ticket waiting s.queue }) (next_ticket v))
-                (if b then Some (s, answers v.ticket (Err errors.ConnectionClosed) (like before more v.request (next_ticket v))) else plain.pumps one several place settings (puts v.ticket waiting s.queue) (record s { queue = puts v.ticket waiting s.queue }) (like before more v.request (next_ticket v)))
+              (if b then Some (s, answers v.ticket (Err errors.ConnectionClosed) (next_ticket v)) else plain.pumps one several place settings (puts v.ticket waiting s.queue) (record s { queue = puts v.ticket waiting s.queue }) (next_ticket v))
+              (if b then Some (s, answers v.ticket (Err errors.ConnectionClosed) (like before more v.request (next_ticket v))) else plain.pumps one several place settings (puts v.ticket waiting s.queue) (record s { queue = puts v.ticket waiting s.queue }) (like before more v.request (next_ticket v)))
           queued true e = absurd (cc)
           queued false e = pumps_alike more v.request settings (puts v.ticket waiting s.queue) (record s { queue = puts v.ticket waiting s.queue }) (next_ticket v) going fs
 

@@ -1,6 +1,6 @@
 -- One connection meets what is owed at a place.
-use Rattle.std.proofs.Common.{◌≡◌, ℕ, ◌+◌, ◌≤◌, ◌<◌, ◌⊎◌, inl, inr, Bool, true, false, if◌then◌else◌, Option, Some, None, List, [], ◌∷◌, ◌++◌, length, refl, sym, ap, subst, ◌∙◌, arith, le_refl, le_trans}
-use Rattle.std.specs.Prelude.{◌==◌, ◌&&◌, not, Err, option_and_then}
+use Rattle.std.proofs.Common.{◌≡◌, ℕ, ◌≤◌, inl, Bool, true, false, if◌then◌else◌, Some, None, List, [], ◌++◌, refl, sym, ap, subst, ◌∙◌, arith, le_refl}
+use Rattle.std.specs.Prelude.{◌==◌, ◌&&◌, not, Err}
 use Rattle.std.proofs.lemmas.Bool.Decides.{nat_tests}
 use Rattle.client_request.specs.Request.{Request}
 use Rattle.client_request.specs.Requests.{Requests}
@@ -12,14 +12,13 @@ use Rattle.client_stream.specs.Frames.{has_frame, behind_frame}
 use Rattle.client_stream.specs.Plain as plain
 use Rattle.client_stream.specs.Plain.{Asked, Line, After, has_ended, timer_at, octets_left}
 use Rattle.client_stream.specs.declared.request.AnyRequest.TheVariants.{Single}
-use Rattle.client_stream.specs.declared.stage.Stage.{Stage}
 use Rattle.client_stream.proofs.Frames.{body, behind, still_whole, same_body, same_behind}
 use Rattle.client_multi.specs.Links.{Link}
 use Rattle.client_multi.specs.MultiStream.{is_result}
-use Rattle.client_cutting.specs.Pieces.{like, Both, Neither, Each}
-use Rattle.client_cutting.specs.Standing.{link_octets, longer_link}
-use Rattle.client_cutting.proofs.Views.{weaker, same_both, then_both}
-use Rattle.client_cutting.proofs.Lines.{AreFaults, IsKnown, Goes, Sends, Alike, frame_alike, fires_alike, takes_on_alike, same_stage}
+use Rattle.client_cutting.specs.Pieces.{like, Both, Each}
+use Rattle.client_cutting.specs.Standing.{longer_link}
+use Rattle.client_cutting.proofs.Views.{same_both, then_both}
+use Rattle.client_cutting.proofs.Lines.{AreFaults, IsKnown, Goes, frame_alike, fires_alike, takes_on_alike, same_stage}
 
 -- ---- what a call leaves of a connection
 
@@ -143,10 +142,10 @@ module _ (one several : Requests Request) (place : ℕ) where
   link_sends fair piece before more r l v going fs =
       same_both refl (ap (λ (l : Link Request). plain.plain_send one several (Single r) l (like before more v.request v)) (longer_is piece place l))
       (then_both (λ x. Some (record l { line = x.0 }, x.1)) (λ x. Some (record l { octets = longer_by piece (l.place == place) (has_ended l.line.stage) l.octets; line = x.0 }, x.1))
-        (takes_on_alike one several before l.place fair more l.settings (Single r) l.line v going fs)
-        (λ t w more request s. each_link piece before (LinkStays l v) (record l { line = t }) (record l { octets = longer_by piece (l.place == place) (has_ended l.line.stage) l.octets; line = t }) w more request
-          (moved_longer piece place l t going s.going)
-          (record { goes = goes_link l v (record l { line = t }) w refl s.goes; more = (let g = s.goes in g.more); going = s.going; octets = refl; faults = s.faults })))
+      (takes_on_alike one several before l.place fair more l.settings (Single r) l.line v going fs)
+      (λ t w more request s. each_link piece before (LinkStays l v) (record l { line = t }) (record l { octets = longer_by piece (l.place == place) (has_ended l.line.stage) l.octets; line = t }) w more request
+      (moved_longer piece place l t going s.going)
+      (record { goes = goes_link l v (record l { line = t }) w refl s.goes; more = (let g = s.goes in g.more); going = s.going; octets = refl; faults = s.faults })))
 
   link_cancels : (piece : List ℕ) (before : List Out) (more : Bool) (request : ℕ) (r : Asked) (l : Link Request) (v : View) → has_ended l.line.stage ≡ false → AreFaults v.board
       → Both (longer_link place piece) before (LinkStays l v) (plain.plain_cancel r.ticket l v) (plain.plain_cancel r.ticket (longer_link place piece l) (like before more request v))
@@ -156,8 +155,8 @@ module _ (one several : Requests Request) (place : ℕ) where
       let going_on : has_ended t.stage ≡ false = ap has_ended same ∙ going in
       same_both refl (ap (λ (l : Link Request). plain.plain_cancel r.ticket l (like before more request v)) (longer_is piece place l))
       (each_link piece before (LinkStays l v) (record l { line = t }) (record l { octets = longer_by piece (l.place == place) (has_ended l.line.stage) l.octets; line = t }) v more request
-        (moved_longer piece place l t going going_on)
-        (record { goes = record { place = refl; timer = le_refl _; now = refl; known = λ i e. inl (ap timer_at (sym same) ∙ e) }; more = refl; going = going_on; octets = refl; faults = fs }))
+      (moved_longer piece place l t going going_on)
+      (record { goes = record { place = refl; timer = le_refl _; now = refl; known = λ i e. inl (ap timer_at (sym same) ∙ e) }; more = refl; going = going_on; octets = refl; faults = fs }))
 
   -- a step of a connection that has not ended
   heard : (h : Heard) (l : Link Request) (v : View) → has_ended l.line.stage ≡ false → plain.plain_step one several h l v ≡ plain.hears one several h l v
@@ -168,12 +167,12 @@ module _ (one several : Requests Request) (place : ℕ) where
   link_fires piece before more request timer l v going =
       same_both (heard (due_timer timer) l v going)
       (ap (λ (l : Link Request). plain.plain_step one several (due_timer timer) l (like before more request v)) (longer_is piece place l)
-        ∙ heard (due_timer timer) (record l { octets = longer_by piece (l.place == place) (has_ended l.line.stage) l.octets }) (like before more request v) going)
+      ∙ heard (due_timer timer) (record l { octets = longer_by piece (l.place == place) (has_ended l.line.stage) l.octets }) (like before more request v) going)
       (then_both (λ x. Some (record l { octets = octets_left x.0.stage l.octets; line = x.0 }, x.1)) (λ x. Some (record l { octets = octets_left x.0.stage (longer_by piece (l.place == place) (has_ended l.line.stage) l.octets); line = x.0 }, x.1))
-        (fires_alike before more request l.place timer l.line v l.line.stage)
-        (λ t w more request g. each_link piece before (LinkCloses l v) (record l { octets = octets_left t.stage l.octets; line = t }) (record l { octets = octets_left t.stage (longer_by piece (l.place == place) (has_ended l.line.stage) l.octets); line = t }) w more request
-          (kept_longer piece place l t going)
-          (record { goes = goes_link l v (record l { octets = octets_left t.stage l.octets; line = t }) w refl g; more = g.more; octets = λ e. ap (λ b. if b then [] else l.octets) e })))
+      (fires_alike before more request l.place timer l.line v l.line.stage)
+      (λ t w more request g. each_link piece before (LinkCloses l v) (record l { octets = octets_left t.stage l.octets; line = t }) (record l { octets = octets_left t.stage (longer_by piece (l.place == place) (has_ended l.line.stage) l.octets); line = t }) w more request
+      (kept_longer piece place l t going)
+      (record { goes = goes_link l v (record l { octets = octets_left t.stage l.octets; line = t }) w refl g; more = g.more; octets = λ e. ap (λ b. if b then [] else l.octets) e })))
 
   -- ---- a frame is taken
 
@@ -253,20 +252,20 @@ module _ (one several : Requests Request) (place : ℕ) where
       let u : View = like before false request v in
       same_both (reads_more l v going at ∙ reads_one l v whole)
       (ap (λ (l : Link Request). plain.plain_step one several (more_at place) l u) (longer_here piece place l at going)
-        ∙ reads_more m u going at
-        ∙ reads_one m u (still_whole l.octets piece whole)
-        ∙ ap (λ f. plain.says (plain.keeps m (behind (l.octets ++ piece)) (plain.frame_comes one several l.place f l.line u))) (same_body l.octets piece whole)
-        ∙ ap (λ o. plain.says (plain.keeps m o (plain.frame_comes one several l.place (body l.octets) l.line u))) (same_behind l.octets piece whole))
+      ∙ reads_more m u going at
+      ∙ reads_one m u (still_whole l.octets piece whole)
+      ∙ ap (λ f. plain.says (plain.keeps m (behind (l.octets ++ piece)) (plain.frame_comes one several l.place f l.line u))) (same_body l.octets piece whole)
+      ∙ ap (λ o. plain.says (plain.keeps m o (plain.frame_comes one several l.place (body l.octets) l.line u))) (same_behind l.octets piece whole))
       (then_both (λ x. Some (x.0, plain.says_more x.0 x.1)) (λ x. Some (x.0, plain.says_more x.0 x.1))
-        (then_both (λ x. Some (record l { octets = octets_left x.0.stage (behind l.octets); line = x.0 }, x.1)) (λ x. Some (record l { octets = octets_left x.0.stage (behind l.octets ++ piece); line = x.0 }, x.1))
-          (frame_alike one several before l.place false request (body l.octets) l.line v)
-          (λ t w more request g. each_link piece before (IsRead l v) (record l { octets = octets_left t.stage (behind l.octets); line = t }) (record l { octets = octets_left t.stage (behind l.octets ++ piece); line = t }) w more request
-            (ap (λ b. record l { octets = octets_left t.stage (longer_by piece b false (behind l.octets)); line = t }) (sym (ap (λ n. n == place) at ∙ same_place place)) ∙ kept_by piece place l t (behind l.octets))
-            (record { goes = g; place = refl; octets = refl })))
-        (λ d w more request r.
-          subst (λ x. Both (longer_link place piece) before (LinkTakes l v) (Some (d, plain.says_more d w)) (Some (longer_link place piece d, x)))
-          (sym (says_alike before d (longer_link place piece d) more request w))
-          (Each d (plain.says_more d w) (if has_frame (longer_link place piece d).octets then true else more) request (said_takes l v d w whole quiet r))))
+      (then_both (λ x. Some (record l { octets = octets_left x.0.stage (behind l.octets); line = x.0 }, x.1)) (λ x. Some (record l { octets = octets_left x.0.stage (behind l.octets ++ piece); line = x.0 }, x.1))
+      (frame_alike one several before l.place false request (body l.octets) l.line v)
+      (λ t w more request g. each_link piece before (IsRead l v) (record l { octets = octets_left t.stage (behind l.octets); line = t }) (record l { octets = octets_left t.stage (behind l.octets ++ piece); line = t }) w more request
+      (ap (λ b. record l { octets = octets_left t.stage (longer_by piece b false (behind l.octets)); line = t }) (sym (ap (λ n. n == place) at ∙ same_place place)) ∙ kept_by piece place l t (behind l.octets))
+      (record { goes = g; place = refl; octets = refl })))
+      (λ d w more request r.
+      subst (λ x. Both (longer_link place piece) before (LinkTakes l v) (Some (d, plain.says_more d w)) (Some (longer_link place piece d, x)))
+      (sym (says_alike before d (longer_link place piece d) more request w))
+      (Each d (plain.says_more d w) (if has_frame (longer_link place piece d).octets then true else more) request (said_takes l v d w whole quiet r))))
 
 pub links_are_cuttable : (one several : Requests Request) (place : ℕ) → ((request : Request) (error : Error) → several.composed request ≡ Err error → is_result (Err error) ≡ false)
     → IsLinkCuttable place (plain.transport one several)

@@ -1,16 +1,14 @@
 -- The table of connections with more octets behind those of one of them.
-use Rattle.std.proofs.Common.{◌≡◌, ℕ, suc, ◌+◌, ◌≤◌, ◌<◌, Bool, true, false, cond, if◌then◌else◌, Option, Some, None, Ordering, Less, Equal, Greater, nat_cmp, is_eq, List, [], ◌∷◌, ◌++◌, length, refl, sym, ap, subst, ◌∙◌, arith, append_assoc}
+use Rattle.std.proofs.Common.{◌≡◌, ℕ, suc, Bool, true, false, cond, if◌then◌else◌, Some, None, Ordering, Less, Equal, Greater, nat_cmp, is_eq, List, [], ◌∷◌, ◌++◌, refl, sym, ap, ◌∙◌, arith, append_assoc}
 use Rattle.std.specs.Prelude.{◌==◌, ◌&&◌, not, option_map, option_and_then}
 use Rattle.std.specs.Ordering.{match_ordering}
 use Rattle.std.proofs.lemmas.Bool.Decides.{nat_tests}
 use Rattle.client_request.specs.Numbered.{puts, frees, entry_at}
 use Rattle.client_request.specs.Request.{Request}
 use Rattle.client_stream.specs.Plain.{has_ended}
-use Rattle.client_multi.specs.Links.{Link, one_stream}
-use Rattle.client_multi.specs.MultiStream.{newest}
+use Rattle.client_multi.specs.Links.{Link}
 use Rattle.client_cutting.specs.Standing.{link_octets, longer_link, longer_entry}
 use Rattle.client_ties.specs.Lines.{Sorted}
-use Rattle.client_cutting.proofs.Links.{longer_line, longer_there}
 
 -- ---- keys
 
@@ -122,7 +120,7 @@ module _ (place : ℕ) (piece : List ℕ) where
 
       by : (b : Bool) → (e.0 == place) ≡ b → (o : Ordering) → nat_cmp p e.0 ≡ o → puts p d (longer es) ≡ longer (puts p d es)
           → (if b then match_ordering o ((p, d) ∷ (e.0, longer_one e.1) ∷ es) ((e.0, d) ∷ es) ((e.0, longer_one e.1) ∷ puts p d es) else match_ordering o ((p, d) ∷ e ∷ longer es) ((e.0, d) ∷ longer es) (e ∷ puts p d (longer es)))
-              ≡ longer (match_ordering o ((p, d) ∷ e ∷ es) ((e.0, d) ∷ es) (e ∷ puts p d es))
+          ≡ longer (match_ordering o ((p, d) ∷ e ∷ es) ((e.0, d) ∷ es) (e ∷ puts p d es))
       by true at Less h ih = sym (first true at)
       by false at Less h ih = sym (first false at)
       by true at Equal h ih = absurd (let no = not_both e.0 p place other at in let yes_ = same p e.0 h in cc)

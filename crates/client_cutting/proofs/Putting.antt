@@ -1,5 +1,5 @@
 -- A connection with longer octets is taken out of its tables, and put back, as the one of before is.
-use Rattle.std.proofs.Common.{◌≡◌, ℕ, ◌+◌, ◌≤◌, ◌<◌, Bool, true, false, if◌then◌else◌, Option, Some, None, List, [], ◌∷◌, length, refl, sym, ap, ap₂, subst, ◌∙◌, arith}
+use Rattle.std.proofs.Common.{◌≡◌, ℕ, Bool, true, false, if◌then◌else◌, Option, Some, None, List, [], ◌∷◌, length, refl, sym, ap, ap₂, subst, ◌∙◌}
 use Rattle.std.specs.Prelude.{◌==◌, ◌&&◌, not, option_map, option_and_then}
 use Rattle.client_request.specs.Numbered.{puts, frees, entry_at}
 use Rattle.client_request.specs.Request.{Request}
@@ -10,7 +10,7 @@ use Rattle.client_multi.specs.MultiStream.{newest, with_room, keeps, taken, with
 use Rattle.client_ties.proofs.Tables.{at_frees}
 use Rattle.client_cutting.specs.Standing.{StreamTables, link_octets, longer_link, longer_entry, longer_tables}
 use Rattle.client_cutting.proofs.Fitting.{Fits, over, back, put, entry_back, itself, is_same}
-use Rattle.client_cutting.proofs.Links.{longer_line, longer_place, longer_there, longer_ended}
+use Rattle.client_cutting.proofs.Links.{longer_line, longer_place, longer_there}
 use Rattle.client_cutting.proofs.Longer.{either_way, entry_here, entry_there, frees_here, frees_there, puts_here, puts_there, longer_absent, sorted_longer}
 
 -- the octets that stand at a place in tables

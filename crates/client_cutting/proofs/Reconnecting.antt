@@ -1,21 +1,19 @@
 -- Reconnection meets what is owed at a place, over one connection that does.
-use Rattle.std.proofs.Common.{◌≡◌, ℕ, suc, ◌+◌, ◌≤◌, ◌<◌, ◌⊎◌, inl, inr, Bool, true, false, if◌then◌else◌, Option, Some, None, List, [], ◌∷◌, ◌++◌, length, refl, sym, ap, ap₂, subst, ◌∙◌, arith, le_refl, le_trans}
-use Rattle.std.specs.Prelude.{◌==◌, ◌&&◌, not, nat_lt, Ok, Err, option_map, option_and_then}
+use Rattle.std.proofs.Common.{◌≡◌, ℕ, ◌+◌, ◌≤◌, Bool, true, false, if◌then◌else◌, Option, Some, None, List, [], ◌∷◌, refl, sym, ap, subst, ◌∙◌, arith, le_refl, le_trans}
+use Rattle.std.specs.Prelude.{◌==◌, ◌&&◌, not, nat_lt, Err, option_map, option_and_then}
 use Rattle.std.specs.Ordering.{nat_cmp}
 use Rattle.std.specs.BTreeMap.{is_at}
 use Rattle.std.specs.Set.{remove_key}
 use Rattle.client_request.specs.Board.{Part}
 use Rattle.client_request.specs.Numbered.{puts, frees, entry_at}
 use Rattle.client_request.specs.Request.{Request}
-use Rattle.client_request.specs.View.{View, Heard, Step, Transport, told, more_at, due_timer, word, drawn, asks, answers, sets_timer, drops_timer}
+use Rattle.client_request.specs.View.{View, Step, Transport, word, drawn, asks, answers, drops_timer}
 use Rattle.client_request.specs.declared.board.Posted.{Posted}
 use Rattle.client_request.specs.declared.error.Error.TheVariants as errors
 use Rattle.client_request.specs.declared.event.Out.{Out}
 use Rattle.client_request.specs.declared.event.Out.TheVariants.{OpenStream}
-use Rattle.client_request.specs.declared.event.What.TheVariants.{Bytes}
 use Rattle.dns_values.specs.Source.{one_more}
-use Rattle.client_stream.specs.Frames.{has_frame, behind_frame}
-use Rattle.client_stream.specs.Plain.{Asked, asked, has_ended, timer_at}
+use Rattle.client_stream.specs.Plain.{Asked, asked, has_ended}
 use Rattle.client_multi.specs.Links.{Link}
 use Rattle.client_multi.specs.MultiStream as multi
 use Rattle.client_multi.specs.MultiStream.{is_result, lent, taken_back, taken, with_room}
@@ -24,13 +22,13 @@ use Rattle.client_multi.specs.Settings.{Settings}
 use Rattle.client_multi.specs.declared.multi_stream.job.Job.{Job}
 use Rattle.client_multi.specs.declared.multi_stream.job.Stage.{Stage}
 use Rattle.client_multi.specs.declared.multi_stream.job.Stage.TheVariants.{Waiting, Resting, Held}
-use Rattle.client_cutting.specs.Pieces.{like, stands, Both, Neither, Each}
+use Rattle.client_cutting.specs.Pieces.{like, Both, Each}
 use Rattle.client_cutting.specs.Standing.{StreamTables, link_octets, longer_link, longer_tables}
 use Rattle.client_cutting.proofs.Views.{asks_like, timed, next_ticket, next_place, weaker, same_both, if_both, sets_both, tickets_both, places_both, then_both}
 use Rattle.client_cutting.proofs.Lines.{AreFaults}
-use Rattle.client_cutting.proofs.Links.{LinkGoes, LinkStays, LinkCloses, LinkTakes, IsLinkCuttable}
+use Rattle.client_cutting.proofs.Links.{LinkGoes, LinkStays, IsLinkCuttable}
 use Rattle.client_cutting.proofs.Fitting.{Fits, fits_later, fits_back, over, put, is_same}
-use Rattle.client_cutting.proofs.Putting.{tables_octets, octets_back, entry_longer, taken_longer, put_longer, room_longer}
+use Rattle.client_cutting.proofs.Putting.{tables_octets, octets_back, entry_longer, put_longer, room_longer}
 
 -- What a call leaves of the tables and of the view, where the octets at the place are these. Of a quiet call nothing is posted.
 pub record Kept (place : ℕ) (quiet : Bool) (board : List Posted) (octets : Option (List ℕ)) (n : ℕ) (said : Bool) (moment : ℕ) (t : StreamTables) (w : View) : Type 0 where
@@ -73,7 +71,7 @@ module _ (place : ℕ) (piece : List ℕ) (before : List Out) where
   backs_off_kept quiet more request ticket job s v fits =
       sets_both (λ w. Some (multi.rests ticket (multi.once_more job) v.timers.next s, w)) (λ w. Some (multi.rests ticket (multi.once_more job) v.timers.next (long s), w)) due more request (drawn v)
       (λ h. Each (multi.rests ticket (multi.once_more job) v.timers.next s) (timed due (drawn v)) more request
-        (record { fit = fits_later s.connections s.watches v.timers.next (v.timers.next + 1) (omega arith) fits; timer = omega arith; standing = refl; more = refl; now = refl; unposted = λ e. refl }))
+      (record { fit = fits_later s.connections s.watches v.timers.next (v.timers.next + 1) (omega arith) fits; timer = omega arith; standing = refl; more = refl; now = refl; unposted = λ e. refl }))
     where
       due : ℕ
       due = v.now + retry_time (one_more job.back_offs) (word v)
@@ -124,12 +122,12 @@ module _ (place : ℕ) (calls : Transport Request (Link Request) Asked) (laws : 
   returned : (quiet : Bool) (more : Bool) (request : ℕ) (said : Bool) (number : ℕ) (p : ℕ) (c : Link Request) (s : StreamTables) (v : View) (d : Link Request) (w : View) → Fits s.connections s.watches v.timers.next → entry_at p s.connections ≡ Some c
       → LinkGoes c v.timers.next v.now d w → (quiet ≡ true → AreFaults w.board)
       → Both (long place piece before) before (Kept place quiet v.board (tables_octets place (put calls p c d s)) v.timers.next w.more v.now)
-        (multi.returns (over calls) p (taken (over calls) p c s) v (d, w))
-        (multi.returns (over calls) p (taken (over calls) p (longer c) (long place piece before s)) (like before more request v) (longer d, like before said number w))
+      (multi.returns (over calls) p (taken (over calls) p c s) v (d, w))
+      (multi.returns (over calls) p (taken (over calls) p (longer c) (long place piece before s)) (like before more request v) (longer d, like before said number w))
   returned quiet more request said number p c s v d w fits at goes faults =
       same_both refl (ap (λ t. multi.collects w.board t (like before said number (taken_back v w))) (put_longer calls place piece s v.timers.next fits p c d is_at))
       (weaker (λ t x k. kept_from place quiet v.board (tables_octets place (put calls p c d s)) (tables_octets place (put calls p c d s)) w.timers.next v.timers.next w.more w.more w.now v.now refl goes.timer refl goes.now t x k)
-        (collects_kept place piece before quiet said number w.board faults (put calls p c d s) (taken_back v w) (fits_back calls p c s v.timers.next fits at d w.timers.next is_at goes.timer goes.known)))
+      (collects_kept place piece before quiet said number w.board faults (put calls p c d s) (taken_back v w) (fits_back calls p c s v.timers.next fits at d w.timers.next is_at goes.timer goes.known)))
     where
       is_at : d.place ≡ p
       is_at = goes.place ∙ (let x = fits.placed p c at in x.0)
@@ -151,8 +149,8 @@ module _ (place : ℕ) (calls : Transport Request (Link Request) Asked) (laws : 
       go (Some c) e =
           then_both (multi.returns (over calls) p (taken (over calls) p c s) v) (multi.returns (over calls) p (taken (over calls) p (longer c) (long place piece before s)) (like before more request v)) (both c e)
           (λ d w said number l.
-            let g = goes c d w e l in
-            weaker (less c d w e l) (returned quiet more request said number p c s v d w fits e g.0 g.1))
+          let g = goes c d w e l in
+          weaker (less c d w e l) (returned quiet more request said number p c s v d w fits e g.0 g.1))
 
   -- where its octets stand as before
   pub same_octets : (c d : Link Request) → d.place ≡ c.place → has_ended d.line.stage ≡ has_ended c.line.stage → d.octets ≡ c.octets → link_octets place d ≡ link_octets place c
@@ -217,8 +215,8 @@ module _ (place : ℕ) (calls : Transport Request (Link Request) Asked) (laws : 
       then_both (multi.returns (over calls) p (taken (over calls) p c y) v) (multi.returns (over calls) p (taken (over calls) p (longer c) (long place piece before y)) (like before more request v))
       (laws.sends piece before more job.request c u (let x = fits.placed p c at in x.1) tt)
       (λ d w said number l.
-        weaker (λ t x k. kept_from place quiet v.board (tables_octets place (put calls p c d y)) (tables_octets place s) v.timers.next v.timers.next w.more v.more v.now v.now (stays_octets p c d y v.timers.next u w fits at l) (le_refl _) l.more refl t x k)
-        (returned quiet more request said number p c y v d w fits at l.goes (λ e. l.faults)))
+      weaker (λ t x k. kept_from place quiet v.board (tables_octets place (put calls p c d y)) (tables_octets place s) v.timers.next v.timers.next w.more v.more v.now v.now (stays_octets p c d y v.timers.next u w fits at l) (le_refl _) l.more refl t x k)
+      (returned quiet more request said number p c y v d w fits at l.goes (λ e. l.faults)))
     where
       u : View
       u = lent (record v { request = job.number })
@@ -232,7 +230,7 @@ module _ (place : ℕ) (calls : Transport Request (Link Request) Asked) (laws : 
     opens_kept quiet more request ticket job s v fits =
         places_both (λ w. Some (y, asks (OpenStream v.place server) w)) (λ w. Some (long place piece before y, asks (OpenStream v.place server) w)) more request v
         (λ h. subst (λ x. Both (long place piece before) before (KeptOf place quiet s v) (Some (y, asks (OpenStream v.place server) (next_place v))) (Some (long place piece before y, x))) (sym (asks_like before more request (OpenStream v.place server) (next_place v)))
-          (Each y (asks (OpenStream v.place server) (next_place v)) more request (record { fit = fits; timer = le_refl _; standing = refl; more = refl; now = refl; unposted = λ e. refl })))
+        (Each y (asks (OpenStream v.place server) (next_place v)) more request (record { fit = fits; timer = le_refl _; standing = refl; more = refl; now = refl; unposted = λ e. refl })))
       where
         y : StreamTables
         y = record (multi.waits ticket job s) { opening = Some v.place }
@@ -261,7 +259,7 @@ module _ (place : ℕ) (calls : Transport Request (Link Request) Asked) (laws : 
 
         go : (o : Option (ℕ × Link Request)) → with_room (over calls) s.connections ≡ o
             → Both (long place piece before) before (KeptOf place quiet s v) (multi.hands_at (over calls) server ticket job (multi.without_found (over calls) o s) v o)
-              (multi.hands_at (over calls) server ticket job (multi.without_found (over calls) (option_map (λ (f : ℕ × Link Request). (f.0, longer f.1)) o) (long place piece before s)) (like before more request v) (option_map (λ (f : ℕ × Link Request). (f.0, longer f.1)) o))
+            (multi.hands_at (over calls) server ticket job (multi.without_found (over calls) (option_map (λ (f : ℕ × Link Request). (f.0, longer f.1)) o) (long place piece before s)) (like before more request v) (option_map (λ (f : ℕ × Link Request). (f.0, longer f.1)) o))
         go None e = goes_on_kept quiet more request ticket job s v s.opening fits
         go (Some f) e = holds_kept quiet more request ticket job f.0 f.1 s v fits (found (multi.newest (over calls) None s.connections) f.0 f.1 e)
 
@@ -272,10 +270,10 @@ module _ (place : ℕ) (calls : Transport Request (Link Request) Asked) (laws : 
     takes_kept settings quiet more r s v fits =
         tickets_both (λ w. multi.takes_on (over calls) server settings false v.ticket r s w) (λ w. multi.takes_on (over calls) server settings false v.ticket r (long place piece before s) w) more v.request v
         (λ h. sets_both
-          (λ w. multi.hands (over calls) server v.ticket (multi.newcomer (over calls) server settings r v.timers.next (next_ticket v)) (record s { timers = puts v.timers.next v.ticket s.timers }) w)
-          (λ w. multi.hands (over calls) server v.ticket (multi.newcomer (over calls) server settings r v.timers.next (next_ticket v)) (long place piece before (record s { timers = puts v.timers.next v.ticket s.timers })) w)
-          (v.now + settings.response_timeout) more v.request (next_ticket v)
-          (λ h. weaker
-            (λ t x k. kept_from place quiet v.board (tables_octets place s) (tables_octets place s) (v.timers.next + 1) v.timers.next v.more v.more v.now v.now refl (omega arith) refl refl t x k)
-            (hands_kept quiet more v.request v.ticket (multi.newcomer (over calls) server settings r v.timers.next (next_ticket v)) (record s { timers = puts v.timers.next v.ticket s.timers }) (timed (v.now + settings.response_timeout) (next_ticket v))
-              (fits_later s.connections s.watches v.timers.next (v.timers.next + 1) (omega arith) fits))))
+        (λ w. multi.hands (over calls) server v.ticket (multi.newcomer (over calls) server settings r v.timers.next (next_ticket v)) (record s { timers = puts v.timers.next v.ticket s.timers }) w)
+        (λ w. multi.hands (over calls) server v.ticket (multi.newcomer (over calls) server settings r v.timers.next (next_ticket v)) (long place piece before (record s { timers = puts v.timers.next v.ticket s.timers })) w)
+        (v.now + settings.response_timeout) more v.request (next_ticket v)
+        (λ h. weaker
+        (λ t x k. kept_from place quiet v.board (tables_octets place s) (tables_octets place s) (v.timers.next + 1) v.timers.next v.more v.more v.now v.now refl (omega arith) refl refl t x k)
+        (hands_kept quiet more v.request v.ticket (multi.newcomer (over calls) server settings r v.timers.next (next_ticket v)) (record s { timers = puts v.timers.next v.ticket s.timers }) (timed (v.now + settings.response_timeout) (next_ticket v))
+        (fits_later s.connections s.watches v.timers.next (v.timers.next + 1) (omega arith) fits))))

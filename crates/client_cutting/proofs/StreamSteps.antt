@@ -1,25 +1,25 @@
 -- What reconnection hears does the same over longer octets, until a frame stands that did not stand before.
-use Rattle.std.proofs.Common.{◌≡◌, ℕ, ◌+◌, ◌≤◌, ◌⊎◌, inl, inr, Bool, true, false, if◌then◌else◌, Option, Some, None, List, [], ◌∷◌, ◌++◌, refl, sym, ap, ap₂, subst, ◌∙◌, arith, le_refl, le_trans}
+use Rattle.std.proofs.Common.{◌≡◌, ℕ, ◌⊎◌, inl, inr, Bool, true, false, if◌then◌else◌, Option, Some, None, List, refl, sym, ap, ap₂, subst, ◌∙◌, le_refl}
 use Rattle.std.specs.Prelude.{◌==◌, ◌&&◌, not, option_map, option_and_then}
 use Rattle.client_request.specs.Numbered.{frees, entry_at}
 use Rattle.client_request.specs.Request.{Request}
 use Rattle.client_request.specs.View.{View, Transport, told, more_at, due_timer}
 use Rattle.client_request.specs.declared.event.Out.{Out}
 use Rattle.client_request.specs.declared.event.What.TheVariants.{Bytes}
-use Rattle.client_stream.specs.Frames.{has_frame, behind_frame}
+use Rattle.client_stream.specs.Frames.{behind_frame}
 use Rattle.client_stream.specs.Plain.{Asked, has_ended, timer_at}
 use Rattle.client_multi.specs.Links.{Link}
 use Rattle.client_multi.specs.MultiStream as multi
 use Rattle.client_multi.specs.MultiStream.{lent, taken, unwatched}
 use Rattle.client_multi.specs.declared.multi_stream.job.Job.{Job}
-use Rattle.client_cutting.specs.Pieces.{like, stands, IsReady, MayClose, Takes, Both, Neither, Each}
+use Rattle.client_cutting.specs.Pieces.{like, stands, IsReady, MayClose, Takes, Both, Each}
 use Rattle.client_cutting.specs.Standing.{StreamTables, link_octets, longer_link, longer_tables}
-use Rattle.client_cutting.proofs.Views.{weaker, same_both, if_both, then_both}
+use Rattle.client_cutting.proofs.Views.{weaker, if_both}
 use Rattle.client_cutting.proofs.Links.{LinkCloses, LinkTakes, IsLinkCuttable, longer_line}
 use Rattle.client_cutting.proofs.Longer.{frees_here, longer_absent}
 use Rattle.client_cutting.proofs.Fitting.{Fits, over, put, itself, put_itself}
 use Rattle.client_cutting.proofs.Putting.{tables_octets, octets_back, entry_longer}
-use Rattle.client_cutting.proofs.Reconnecting.{Kept, KeptOf, kept_itself, at_ticket_kept, called, put_octets, same_octets, times_out_kept, hands_kept}
+use Rattle.client_cutting.proofs.Reconnecting.{KeptOf, kept_itself, at_ticket_kept, called, put_octets, same_octets, times_out_kept, hands_kept}
 
 abbrev pub FitTables : StreamTables → ℕ → Type 0
 FitTables t n = Fits t.connections t.watches n
@@ -136,8 +136,8 @@ module _ (place : ℕ) (calls : Transport Request (Link Request) Asked) (laws : 
       (λ c e. let x = fits.placed place c e in laws.takes piece before request c (lent v) x.1 x.0 (subst IsReady (standing_is s v.timers.next c fits e) ready) quiet)
       (λ c d w e l. (l.goes, λ q. absurd (cc)))
       (λ c d w e l t x k.
-        let o = taken_octets c d s v w fits e l in
-        record { fit = k.fit; timer = k.timer; octets = stood t (put calls place c d s) k.standing o.0; more = k.more ∙ o.1 ∙ sym (ap stands k.standing); now = k.now })
+      let o = taken_octets c d s v w fits e l in
+      record { fit = k.fit; timer = k.timer; octets = stood t (put calls place c d s) k.standing o.0; more = k.more ∙ o.1 ∙ sym (ap stands k.standing); now = k.now })
     where
       stood : (t y : StreamTables) → tables_octets place t ≡ tables_octets place y → (tables_octets place y ≡ option_map behind_frame (tables_octets place s)) ⊎ (tables_octets place y ≡ None) → (tables_octets place t ≡ option_map behind_frame (tables_octets place s)) ⊎ (tables_octets place t ≡ None)
       stood t y e (inl a) = inl (e ∙ a)

@@ -1,6 +1,6 @@
 -- A server by streams meets what is owed at a place, and posts nothing where a request is sent or given up.
-use Rattle.std.proofs.Common.{◌≡◌, ℕ, ◌≤◌, Bool, true, false, if◌then◌else◌, Option, Some, None, List, [], ◌∷◌, ◌++◌, refl, sym, ap, subst, ◌∙◌, arith}
-use Rattle.std.specs.Prelude.{◌==◌, ◌&&◌, not, Result, Ok, Err, option_map, option_and_then}
+use Rattle.std.proofs.Common.{◌≡◌, ℕ, ◌≤◌, Bool, true, false, if◌then◌else◌, Option, Some, None, List, [], ◌++◌, refl, sym, ap, subst, ◌∙◌}
+use Rattle.std.specs.Prelude.{◌==◌, ◌&&◌, not, Ok, Err, option_map, option_and_then}
 use Rattle.client_request.specs.Composed.{Copied, appended, composed, error_of, message_of}
 use Rattle.client_request.specs.declared.error.CopyRecordsError.TheVariants.{Parse, Push}
 use Rattle.dns_base.specs.Draft.{fresh}
@@ -8,7 +8,7 @@ use Rattle.dns_base.specs.declared.push_error.PushError.TheVariants as refusals
 use Rattle.client_request.specs.Numbered.{entry_at}
 use Rattle.client_request.specs.Request.{Request}
 use Rattle.client_request.specs.Requests.{for_one, for_several}
-use Rattle.client_request.specs.View.{View, Transport, told, more_at, due_timer}
+use Rattle.client_request.specs.View.{View, Transport, more_at, due_timer}
 use Rattle.client_request.specs.declared.error.Error.{Error}
 use Rattle.client_request.specs.declared.event.Out.{Out}
 use Rattle.client_stream.specs.Plain as plain
@@ -17,13 +17,13 @@ use Rattle.client_multi.specs.Links.{Link, one_stream}
 use Rattle.client_multi.specs.MultiStream as multi
 use Rattle.client_multi.specs.MultiStream.{is_result, transport}
 use Rattle.client_cutting.specs.Pieces.{like, IsReady, Both, Neither, Each, Stays, MayClose, Takes, IsCuttable, PostsNothing}
-use Rattle.client_cutting.specs.Standing.{Streams, StreamTables, AreFit, IsFitStream, link_octets, longer_link, longer_tables, stream_octets, longer_stream}
-use Rattle.client_cutting.proofs.Views.{left_of, weaker, same_both, then_both}
-use Rattle.client_cutting.proofs.Links.{IsLinkCuttable, links_are_cuttable, longer_line, longer_place}
+use Rattle.client_cutting.specs.Standing.{Streams, StreamTables, IsFitStream, link_octets, longer_link, longer_tables, stream_octets, longer_stream}
+use Rattle.client_cutting.proofs.Views.{same_both, then_both}
+use Rattle.client_cutting.proofs.Links.{IsLinkCuttable, links_are_cuttable}
 use Rattle.client_cutting.proofs.Longer as table
 use Rattle.client_cutting.proofs.Fitting.{over, fits_of, fit_of, fits_later}
 use Rattle.client_cutting.proofs.Putting.{tables_octets, fits_longer}
-use Rattle.client_cutting.proofs.Reconnecting.{Kept, KeptOf, drops_kept, takes_kept}
+use Rattle.client_cutting.proofs.Reconnecting.{KeptOf, drops_kept, takes_kept}
 use Rattle.client_cutting.proofs.StreamSteps.{FitTables, due_closes, frame_taken, bytes_come, none_taken, none_heard}
 
 -- why a message is not composed is no result of a request

@@ -1,5 +1,5 @@
 -- What is done to a view is done to one like it, and calls that agree agree once more is done to what they leave.
-use Rattle.std.proofs.Common.{◌≡◌, ℕ, ◌+◌, Bool, true, false, if◌then◌else◌, Option, Some, None, List, [], ◌∷◌, ◌++◌, refl, sym, ap, subst, append_assoc}
+use Rattle.std.proofs.Common.{◌≡◌, ℕ, ◌+◌, Bool, true, false, if◌then◌else◌, Option, Some, None, List, [], ◌∷◌, refl, sym, ap, subst, append_assoc}
 use Rattle.std.specs.Prelude.{option_and_then, option_map}
 use Rattle.client_request.specs.Timers.{can_draw, with_timer}
 use Rattle.client_request.specs.View.{View, asks, sets_timer, draws_ticket, draws_place}

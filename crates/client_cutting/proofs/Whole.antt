@@ -47,10 +47,10 @@ module _ (place : ℕ) where
   choices_cut = choices_are_cuttable place (upstream.transport for_one) (server_octets place) (longer_server place) IsFitServer (servers_are_cuttable place (streams_are_cuttable place)) (servers_post_nothing streams_post_nothing)
 
   layers_cut : IsCuttable place layer (layer_octets place) (longer_layer place) (IsFitLayer place)
-  layers_cut = caches_are_cuttable place reading (λ r. r.ticket) choice (choice_octets (server_octets place)) (longer_choice (longer_server place)) (IsFitChoice (server_octets place) IsFitServer) choices_cut
+  layers_cut = caches_are_cuttable place choice (choice_octets (server_octets place)) (longer_choice (longer_server place)) (IsFitChoice (server_octets place) IsFitServer) reading (λ r. r.ticket) choices_cut
 
   cancels_quietly : CancelsQuietly layer (IsFitLayer place)
-  cancels_quietly = caches_cancel_quietly reading (λ r. r.ticket) choice (IsFitChoice (server_octets place) IsFitServer) (choices_cancel_quietly (upstream.transport for_one) (server_octets place) IsFitServer)
+  cancels_quietly = caches_cancel_quietly choice (IsFitChoice (server_octets place) IsFitServer) reading (λ r. r.ticket) (choices_cancel_quietly (upstream.transport for_one) (server_octets place) IsFitServer)
 
 module _ (redundant : RedundantSettings) (cache : CacheSettings) (conf : ResolvConf) (words : ℕ → ℕ) where
   abbrev told : List Event → Option (List Out × Client)

@@ -30,12 +30,7 @@ fn client(alloc: Global, by: By) -> Result<Client, StepFault> {
     let mut conf = ResolvConf::new(alloc);
     conf.options.use_vc = by == By::Streams;
     conf.servers.push(ServerConf::new(addr, Transport::UdpTcp))?;
-    Ok(Client::new(
-        alloc,
-        &conf,
-        redundant::Config::new(),
-        cache::Config::new(),
-    )?)
+    Ok(Client::new(alloc, &conf, redundant::Config::new(), cache::Config::new())?)
 }
 
 /// The place that an out wants opened, if it wants one.
