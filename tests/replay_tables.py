@@ -8,8 +8,9 @@ written into crates/replay_tables/stdin and stdout; with --check they are compar
 Three worked scripts are taken: one question by a datagram; one whose answer is truncated, so that it goes on by a stream; and
 two questions that share a stream. Of each there is a script for each fault, at each place and before each event, and at the
 end. Of the last there is one whose octets come one by one, and one for each place at which they can be cut in two. Then come
-a moment past which there is no other, moments that go back, events for a place that is not there, and writes that take
-nothing.
+a moment past which there is no other, moments that go back, events for a place that is not there, writes that take nothing, a
+thousand answers under other ids before the true one, and worked scripts of answers that are errors, of streams that end, of
+several servers, and of what a cache gives.
 """
 
 import subprocess
@@ -78,9 +79,52 @@ def others():
                                           "at 5000010 tick"]
     yield "a place that is not there", head + ["at 0 " + (fault % 9) for fault in FAULTS] + [
         "at 0 datagram 9 00", "at 0 bytes 9 00", "at 0 opened 9"] + events
+    wrong = ["at 20 datagram 0 %04x81820000000000000000" % ident for ident in range(1000)]
+    yield "a thousand answers under other ids", head + events[:2] + wrong + events[2:]
     head, events = SHARED
     yield "a write that takes nothing", head + events[:4] + ["at 0 wrote 0 0"] + events[4:]
     yield "a write of more than there is", head + events[:3] + ["at 0 wrote 0 18446744073709551615"] + events[4:]
+
+
+def of_one_server():
+    head, events = DATAGRAM
+    begun = head + events[:2]
+    yield "an answer under another id, and then its own", begun + ["at 15000 datagram 0 " + answer("1235"), events[2]]
+    yield "an error alone", begun + ["at 20000 datagram 0 123481820000000000000000"]
+    yield "an error with a record", begun + ["at 20000 datagram 0 123481820000000000000001"]
+    yield "the deadline", head + ["at 0 " + ASK, "at 0 opened 0", "at 5000000 tick"]
+    yield "a second try", ["conf nameserver 192.0.2.53", "conf options timeout:10", "words 4660", "at 0 " + ASK, "at 0 opened 0",
+                           "at 12000000 tick"]
+    yield "no server", ["at 0 " + ASK]
+    head, events = SHARED
+    written = head + [events[0], events[2], events[3]]
+    yield "a message that is too short", written + ["at 100 bytes 0 00050102030405", "at 101 tick"]
+    wrong = "001d000081800001000000000000" + "076578616d706c65036f726700" + "00010001"
+    yield "the answer to another question", written + ["at 100 bytes 0 " + wrong, "at 101 bytes 0 " + FRAME]
+    yield "a stream that does not open", head + [events[0], "at 0 open-failed 0 refused", "at 1 tick"]
+
+
+def of_two_servers():
+    head = ["conf nameserver 192.0.2.53", "conf nameserver 192.0.2.54"]
+    yield "a server that is silent", head + ["at 0 " + ASK, "at 300000 tick", "at 300000 opened 1",
+                                             "at 320000 datagram 1 " + answer("0000")]
+    yield "a failure that is put off", head + ["set defer-servfail on", "set defer-transport-error on", "at 0 " + ASK,
+                                               "at 0 opened 0", "at 10000 datagram 0 000081820000000000000000",
+                                               "at 20000 open-failed 1 refused"]
+
+
+def of_a_cache():
+    head, events = DATAGRAM
+    came = ["at 0 " + ASK, "at 0 opened 0", "at 0 datagram 0 " + answer("1234")]
+    yield "an answer as it ages", head + came + ["at %d %s" % (moment, ASK) for moment in (30000000, 100000000, 101000000)]
+    yield "an answer that is kept for a minute", [head[0], "set max-validity 1", head[1]] + came + [
+        "at 60000000 " + ASK, "at 60000001 " + ASK]
+    yield "an error that is kept", head[:1] + ["at 0 " + ASK, "at 0 open-failed 0 refused", "at 30000000 " + ASK,
+                                               "at 30000001 " + ASK]
+    plain, do = ASK[:-10], ASK[:-1] + "0000290000000080000000"
+    signed = "000081a00001000200000000%s00010001%sc00c002e0001000000320003010203" % (NAME, ADDRESS)
+    yield "an answer that is signed", head[:1] + ["at 0 " + do, "at 0 opened 0", "at 0 datagram 0 " + signed] + [
+        "at 60000000 " + asked for asked in (plain + "00000120 -", ASK, plain + "00000110 -", do)]
 
 
 def scripts():
@@ -92,10 +136,13 @@ def scripts():
     yield from with_faults("a stream for two", SHARED, (0,))
     yield from cut()
     yield from others()
+    yield from of_one_server()
+    yield from of_two_servers()
+    yield from of_a_cache()
 
 
 def replayed(folder, lines):
-    ran = subprocess.run([sys.executable, "-m", "plain.dnsq", "--stage", "16", "replay"], cwd=folder, capture_output=True,
+    ran = subprocess.run([sys.executable, "-m", "plain.dnsq", "--stage", "16", "--compress", "replay"], cwd=folder, capture_output=True,
                          input="\n".join(lines).encode() + b"\n")
     return ran.stdout.decode() + "status %d\n" % ran.returncode
 

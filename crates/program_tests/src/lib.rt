@@ -2,18 +2,10 @@
 #![tactic(auto)]
 
 #[cfg(test)]
-mod cached;
-#[cfg(test)]
 mod queries;
 #[cfg(test)]
-mod replays;
-#[cfg(test)]
 mod runs;
-#[cfg(test)]
-mod servers;
 #[cfg(test)]
 mod sinks;
 #[cfg(test)]
 mod statuses;
-#[cfg(test)]
-mod streams;

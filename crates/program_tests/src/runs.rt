@@ -43,25 +43,3 @@ pub fn run<K: Sink>(alloc: Global, words: &[String], source: &mut MemSource, sin
     );
     status.0
 }
-
-/// A script that begins so, and has the rows of its trace without what is put out.
-fn script(alloc: Global, head: &str, rows: &str) -> Result<String, AllocError> {
-    let mut script = String::from_str(alloc, head)?;
-    for line in rows.lines() {
-        if !line.starts_with('>') {
-            script.push_str(line)?;
-            script.push_str("\n")?;
-        }
-    }
-    Ok(script)
-}
-
-/// Whether a script that begins so is replayed with these rows.
-pub fn is_replayed(alloc: Global, head: &str, rows: &str) -> Result<bool, Fail> {
-    let script = script(alloc, head, rows)?;
-    let trace = format!(in alloc; "trace 1\n{rows}end\n")?;
-    let mut source = source(alloc, script.as_str(), 9)?;
-    let mut sink = sink(alloc, 9)?;
-    let words = words(alloc, "replay")?;
-    Ok(run(alloc, &words, &mut source, &mut sink) == 0 && sink.as_slice() == trace.as_bytes())
-}
