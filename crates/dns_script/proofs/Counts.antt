@@ -80,7 +80,7 @@ row_more all i s d inside h = record {
   closes = omega (arith, sum_by_more (λ row. count_by closes row.outs) all i d inside, h.closes);
   hits =
       let next : hits_behind s.asks (drop i all) ≡ hits_at s.asks (get_or all i d) + hits_behind (s.asks + asks_of (get_or all i d)) (drop (i + 1) all) =
-          ap (λ rows. hits_behind s.asks rows) (drop_next all i d inside) in
+      ap (λ rows. hits_behind s.asks rows) (drop_next all i d inside) in
       omega (arith, h.hits);
 }
 

@@ -46,9 +46,9 @@ two_are_read a b = refl
 
 pub query_is_read : (host : ℕ) → host < 50 → is_misformed (host_query host) ≡ false
 query_is_read host small = elim (cases_lt host 10) [
-    inl h ↦ subst (λ (digits : List ℕ). is_misformed (query_of digits) ≡ false) (sym (decimal_digit host h)) (one_is_read (48 + host))
+  | inl h ↦ subst (λ (digits : List ℕ). is_misformed (query_of digits) ≡ false) (sym (decimal_digit host h)) (one_is_read (48 + host))
   | inr h ↦ subst (λ (digits : List ℕ). is_misformed (query_of digits) ≡ false) (sym (two_digits host h small)) (two_are_read (48 + host / 10) (48 + host % 10))
-  ]
+]
 
 pub is_no_refusal : (host : ℕ) (message : List ℕ) → host < 50 → message ≡ host_query host → IsTrue (is_misformed message) → ⊥
 is_no_refusal host message small is misformed = false≢true (sym (query_is_read host small) ∙ sym (ap is_misformed is) ∙ misformed)

@@ -88,13 +88,13 @@ with_outs outs s = record s {
 abbrev pub with_row : Row → Summary → Summary
 with_row row s = record (with_outs row.outs s) { asks = s.asks + asks_of row; rows = s.rows + 1; hits = s.hits + hits_at s.asks row }
 
--- a line of the summary
+-- a word, a blank and a number
 abbrev pub count_line : List ℕ → ℕ → List ℕ
 count_line word count = line (word ∷ decimal count ∷ [])
 
-abbrev pub summary_text_of : List Row → List ℕ
-summary_text_of rows =
-    let s = summarized rows in
+-- a line for each count
+abbrev pub summary_lines : Summary → List ℕ
+summary_lines s =
     count_line (codes "asks") s.asks
     ++ count_line (codes "ok") s.ok
     ++ count_line (codes "errors") s.errors
@@ -103,3 +103,6 @@ summary_text_of rows =
     ++ count_line (codes "stream-opens") s.stream_opens
     ++ count_line (codes "closes") s.closes
     ++ count_line (codes "hits") s.hits
+
+abbrev pub summary_text_of : List Row → List ℕ
+summary_text_of rows = summary_lines (summarized rows)

@@ -132,15 +132,14 @@ fn generated_conf(alloc: Global) -> Result<ResolvConf, NoMemory>
         port: 53,
     };
     let mut conf = ResolvConf::new(alloc);
-    conf.servers
-        .push(ServerConf::new(addr, Transport::UdpTcp))?;
+    conf.servers.push(ServerConf::new(addr, Transport::UdpTcp))?;
     Ok(conf)
 }
 
 /// A script in which fifty hosts are asked for in turn, one a second, 200 times for each of `n`. The server
 /// answers every third time that a host is asked for, and for the first host by stream; the cache is to
 /// give the other results.
-#[tactic(auto, using(crate::proofs::Turning::turn_more, crate::proofs::Turning::free_place))]
+#[tactic(auto, using(crate::proofs::Turning::free_place))]
 pub fn generate(alloc: Global, n: u32) -> Result<Script, NoMemory>
     requires some { 1 ≤ n }
     requires few { n ≤ 1000 }

@@ -35,13 +35,7 @@ fn push_question(octets: &mut Vec<u8>, host: u8) -> Result<(), NoMemory>
 }
 
 /// A message with the question for a host: its header, and so many answers are to follow.
-fn begun(
-    alloc: Global,
-    id: u16,
-    flags: u16,
-    answers: u8,
-    host: u8,
-) -> Result<Vec<u8>, NoMemory>
+fn begun(alloc: Global, id: u16, flags: u16, answers: u8, host: u8) -> Result<Vec<u8>, NoMemory>
     requires { host < 50 }
     ensures { IfOk result (λ v. v.items ≡ header id flags answers ++ host_question host) }
 {

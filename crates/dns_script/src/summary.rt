@@ -1,8 +1,9 @@
 //! The summary of a trace.
 
-ghost use Rattle.std.specs.Prelude.{◌≡◌, ◌+◌, [], ◌∷◌, IfOk, OnOk};
+ghost use Rattle.std.specs.Prelude.{◌≡◌, ◌+◌, [], ◌∷◌, ◌++◌, IfOk, OnOk};
 ghost use Rattle.std.specs.List.{count_by};
-ghost use Rattle.dns_script.specs.Summary.{is_ok_of, nothing_counted, summarized, summary_text_of, with_outs, with_row};
+ghost use Rattle.std.specs.String.{string_bytes};
+ghost use Rattle.dns_script.specs.Summary.{count_line, is_ok_of, nothing_counted, summarized, summary_lines, summary_text_of, with_outs, with_row};
 
 use client_request::{Out, Row, Trace, What};
 use dns_base::NoMemory;
@@ -135,17 +136,36 @@ impl Summary {
     }
 }
 
+/// Adds a line: a word, a blank and a number.
+fn push_count(text: &mut String, word: &str, count: u64) -> Result<(), NoMemory>
+    ensures { OnOk result (string_bytes text.new ≡ string_bytes text.old ++ count_line word.now count) }
+{
+    write!(text, "{word} {count}\n")?;
+    Ok(())
+}
+
+/// A line for each count.
+fn summary_lines(alloc: Global, summary: Summary) -> Result<Vec<u8>, NoMemory>
+    ensures { IfOk result (λ v. v.items ≡ summary_lines summary) }
+{
+    let mut text = String::new(alloc);
+    push_count(&mut text, "asks", summary.asks)?;
+    push_count(&mut text, "ok", summary.ok)?;
+    push_count(&mut text, "errors", summary.errors)?;
+    push_count(&mut text, "rows", summary.rows)?;
+    push_count(&mut text, "dgram-opens", summary.dgram_opens)?;
+    push_count(&mut text, "stream-opens", summary.stream_opens)?;
+    push_count(&mut text, "closes", summary.closes)?;
+    push_count(&mut text, "hits", summary.hits)?;
+    Ok(text.into_bytes())
+}
+
 /// The summary of a trace: how many requests were asked, how many replies are messages and errors, how
 /// many rows there are, how many sockets were to be opened and closed, and how many replies came with
 /// their request.
 pub fn summary_text(alloc: Global, trace: &Trace) -> Result<Vec<u8>, NoMemory>
     ensures { IfOk result (λ v. v.items ≡ summary_text_of trace.now.rows) }
 {
-    let s = Summary::of(trace.rows.as_slice())?;
-    let mut text = String::new(alloc);
-    write!(text, "asks {}\nok {}\nerrors {}\n", s.asks, s.ok, s.errors)?;
-    write!(text, "rows {}\ndgram-opens {}\n", s.rows, s.dgram_opens)?;
-    write!(text, "stream-opens {}\ncloses {}\n", s.stream_opens, s.closes)?;
-    write!(text, "hits {}\n", s.hits)?;
-    Ok(text.into_bytes())
+    let summary = Summary::of(trace.rows.as_slice())?;
+    summary_lines(alloc, summary)
 }

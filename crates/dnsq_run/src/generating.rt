@@ -3,7 +3,7 @@
 ghost use Rattle.std.specs.Prelude.{◌≡◌, ◌⊎◌, ◌≤◌, None, IfOk, IfErr, IfSome};
 ghost use Rattle.dns_script.specs.Generated.{generated};
 ghost use Rattle.dnsq_run.specs.Generating.{IsSummary, count_of};
-ghost use Rattle.dnsq_run.specs.Program.{line_of, numbers_line, rows_of, status_of};
+ghost use Rattle.dnsq_run.specs.Program.{IsEarly, line_of, numbers_line, rows_of, status_of};
 
 use crate::ending::Ending;
 use crate::number::number_of;
@@ -33,6 +33,7 @@ pub fn summary(alloc: Global, n: u32) -> Result<Vec<u8>, Ending>
     requires some { 1 ≤ n }
     requires few { n ≤ 1000 }
     ensures summary { IfOk result (λ v. IsSummary n v.items) }
+    ensures early { IfErr result IsEarly }
     ensures statuses { IfErr result (λ e. (status_of e ≡ 6) ⊎ (status_of e ≡ 7)) }
     ensures numbers { IfErr result (λ e. status_of e ≡ 7 → rows_of (generated n) ≡ None) }
     ensures numbers_line { IfErr result (λ e. status_of e ≡ 7 → line_of e ≡ numbers_line) }

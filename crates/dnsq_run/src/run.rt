@@ -195,7 +195,7 @@ fn run_generated<K: Sink>(alloc: Global, n: u32, sink: &mut K) -> Status
     ensures line_flushed { result.0 ≡ 7 → IsFlushed (K.held sink.new) (K.flushed sink.new) ⊎ Rose (K.faults sink.old) (K.faults sink.new) }
 {
     match summary(alloc, n) {
-        Ok(text) => deliver(sink, &text),
+        Ok(summary) => deliver(sink, &summary),
         Err(Ending::Silent(ended)) => ended,
         Err(Ending::Says(status, line)) => end_by(sink, status, &line),
     }

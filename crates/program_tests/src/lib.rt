@@ -4,6 +4,8 @@
 #[cfg(test)]
 mod cached;
 #[cfg(test)]
+mod generated;
+#[cfg(test)]
 mod queries;
 #[cfg(test)]
 mod replays;

@@ -17,7 +17,7 @@ returns-in-Ok-say-clause-complete g c =
 
 pub returns-clause-memory : goal.returns-clause-memory
 returns-clause-memory g c =
-    λ is_six. (line_left _ _ c.in-Some.command _ _ _ c.in-Err-Says.line.items c.in-Err-Says.status.0 (sym c.in-Some.ensures) (rw c.in-Err-Says.field-0-is at c.in-Err-Says.ensures.early) (rw c.in-Err-Says.field-0-is at c.in-Err-Says.ensures.refused) (rw c.in-Err-Says.field-0-is at c.in-Err-Says.ensures.numbers) (rw c.in-Err-Says.field-0-is at c.in-Err-Says.ensures.numbers_line) (rw c.deref-in-Err-Says.ensures.value at c.say.ensures.begun))
+    λ is_six. (line_left _ _ _ c.in-Some.command _ _ _ c.in-Err-Says.line.items c.in-Err-Says.status.0 (sym c.in-Some.ensures) (rw c.in-Err-Says.field-0-is at c.in-Err-Says.ensures.early) (rw c.in-Err-Says.field-0-is at c.in-Err-Says.ensures.refused) (rw c.in-Err-Says.field-0-is at c.in-Err-Says.ensures.numbers) (rw c.in-Err-Says.field-0-is at c.in-Err-Says.ensures.numbers_line) (rw c.deref-in-Err-Says.ensures.value at c.say.ensures.begun))
 
 pub returns-in_default-clause-memory : goal.returns-in_default-clause-memory
 returns-in_default-clause-memory g c = λ is_six. other_left _ _ _ _ _ (sym c.command_of.ensures ∙ c.in_default.is) (c.run_other.ensures.memory is_six)
