@@ -4,6 +4,8 @@ ghost use Rattle.std.specs.Prelude.{◌≡◌, ◌⊎◌, ◌≤◌, None, IfOk,
 ghost use Rattle.dns_script.specs.Generated.{generated};
 ghost use Rattle.dnsq_run.specs.Generating.{IsSummary, count_of};
 ghost use Rattle.dnsq_run.specs.Program.{IsEarly, line_of, numbers_line, rows_of, status_of};
+ghost use Rattle.dnsq_run.specs.QueryWords.{query_of};
+ghost use Rattle.dnsq_run.specs.Words.{command_of};
 
 use crate::ending::Ending;
 use crate::number::number_of;
@@ -18,6 +20,8 @@ const MOST: u16 = 1000;
 pub fn count_of(words: &[String]) -> Option<u32>
     ensures count { result ≡ count_of words.now }
     ensures range { IfSome result (λ n. (1 ≤ n) × (n ≤ 1000)) }
+    ensures no_command { IfSome result (λ _. command_of words.now ≡ None) }
+    ensures no_query { IfSome result (λ _. query_of words.now ≡ None) }
 {
     match words {
         [word, count] if word.as_bytes() == b"gen".as_slice() => {
