@@ -1,6 +1,4 @@
 -- The octets that are added are those of the label.
-use Rattle.std.proofs.Common.{arith}
-use Rattle.std.proofs.lemmas.Grind.{common_steps}
 use Rattle.dns_script.proofs.HostTexts.{long_label, short_label}
 use Rattle.dns_script.proofs.hosts.push_label.Goals as goal
 

@@ -1,5 +1,5 @@
 -- The server is asked, and a word drawn.
-use Rattle.std.proofs.Common.{ap, sym, ◌∙◌, ◌+◌, ◌++◌, ◌∷◌, []}
+use Rattle.std.proofs.Common.{ap, sym, ◌∙◌, ◌++◌, ◌∷◌, []}
 use Rattle.client_request.specs.Request.{recorded_from}
 use Rattle.client_request.specs.declared.event.What.TheVariants.{Ask}
 use Rattle.dns_script.specs.Generated.{after, host_query}
