@@ -12,14 +12,8 @@ use Rattle.dns_script.specs.Generated.{generated}
 use Rattle.dnsq_run.specs.Generating.{IsDueFor, IsSummary, SummarizesSo, count_in, count_of, is_summary, stops}
 use Rattle.dnsq_run.specs.Program.{IsBegun, numbers_line, rows_of}
 use Rattle.dnsq_run.specs.QueryWords.{asked, nothing_said, query_of, said_by}
-use Rattle.dnsq_run.specs.Words.{command_of, is_word}
+use Rattle.dnsq_run.specs.Words.{is_word}
 use Rattle.dnsq_run.specs.declared.query_words.Query.{Query}
-
--- the words are two
-pub no_command : (words : List (String Global)) (n : ℕ) → count_of words ≡ Some n → command_of words ≡ None
-no_command [] n is = refl
-no_command (word ∷ []) n is = absurd (none-some n is)
-no_command (word ∷ count ∷ words) n is = refl
 
 -- a word that is `gen` is not `query`
 other_word : (word : List ℕ) → pointwise ◌==◌ word (codes "gen") ≡ true → pointwise ◌==◌ word (codes "query") ≡ false

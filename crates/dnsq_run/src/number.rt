@@ -1,11 +1,12 @@
 //! Numbers among the words.
 
-ghost use Rattle.std.specs.Prelude.{◌≡◌};
+ghost use Rattle.std.specs.Prelude.{◌≡◌, ◌≤◌, IfSome};
 ghost use Rattle.dns_script.specs.Reading.{number_of, with_digit};
 
 /// A number with one more digit, where it is at most the greatest.
 fn with_digit(greatest: u16, number: u16, digit: u8) -> Option<u16>
-    ensures { result ≡ with_digit greatest number digit }
+    ensures value { result ≡ with_digit greatest number digit }
+    ensures most { IfSome result (λ n. n ≤ greatest) }
 {
     if !digit.is_ascii_digit() {
         return None;
@@ -17,7 +18,8 @@ fn with_digit(greatest: u16, number: u16, digit: u8) -> Option<u16>
 /// A decimal number without sign or leading zeros, which is at most the greatest.
 #[tactic(auto, unfolding(dns_script::specs::Reading::number_of))]
 pub fn number_of(greatest: u16, word: &[u8]) -> Option<u16>
-    ensures { result ≡ number_of greatest word.now }
+    ensures value { result ≡ number_of greatest word.now }
+    ensures most { IfSome result (λ n. n ≤ greatest) }
 {
     if word.len() == 0 || (word.len() > 1 && word[0] == b'0') {
         return None;

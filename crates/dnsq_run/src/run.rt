@@ -1,6 +1,6 @@
 //! What the program does, over a source, a sink and the rest of its world.
 
-ghost use Rattle.std.specs.Prelude.{◌≡◌, ◌≢◌, ◌⊎◌, [], true, false, Some, None, IfSome, IfOk, IfErr, OnOk};
+ghost use Rattle.std.specs.Prelude.{◌≡◌, ◌≢◌, ◌≤◌, ◌⊎◌, [], true, false, Some, None, IfSome, IfOk, IfErr, OnOk};
 ghost use Rattle.dns_values.specs.Source.{Rose};
 ghost use Rattle.dns_values.specs.Sink.{IsFlushed, with_octets};
 ghost use Rattle.dnsq_run.specs.Generating.{SummarizesSo, count_of};
@@ -255,11 +255,11 @@ pub fn run_alone<S: Source, K: Sink, E: Edge, C: Clock, W: Words>(
     // A line that tells why nothing else is written is handed on too.
     ensures line_flushed { EndsByLine result.0 → IsFlushed (K.held sink.new) (K.flushed sink.new) ⊎ Rose (K.faults sink.old) (K.faults sink.new) }
 {
-    if let Some(n) = count_of(words) {
-        return run_generated(alloc, n, sink);
-    }
     let Some(command) = command_of(words) else {
-        return run_other(alloc, words, source, sink, edge, clock, random);
+        return match count_of(words) {
+            Some(n) => run_generated(alloc, n, sink),
+            None => run_other(alloc, words, source, sink, edge, clock, random),
+        };
     };
     input_laws();
     match output(alloc, command, source) {
