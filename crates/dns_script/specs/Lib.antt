@@ -1,9 +1,11 @@
+pub mod Generated
 pub mod Grammar
 pub mod Lines
 pub mod Names
 pub mod Reading
 pub mod ScriptReading
 pub mod Settings
+pub mod Summary
 pub mod TextLaws
 pub mod Told
 pub mod TraceReading

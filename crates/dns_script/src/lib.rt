@@ -13,6 +13,8 @@
 #![tactic(auto)]
 
 mod bounds;
+mod generating;
+mod hosts;
 mod laws;
 mod line;
 mod names;
@@ -21,12 +23,15 @@ mod reading;
 mod script;
 mod script_lines;
 mod settings;
+mod summary;
 mod told;
 mod trace_lines;
 mod words;
 
+pub use generating::generate;
 pub use laws::{script_laws, text_laws};
 pub use printing::trace_text;
 pub use script::{Lanes, Script, ScriptFault};
 pub use script_lines::read_script;
+pub use summary::summary_text;
 pub use trace_lines::read_trace;

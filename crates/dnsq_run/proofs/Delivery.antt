@@ -49,37 +49,46 @@ refusal_said asked command told before after faults faults_after line is h said 
     asked_for asked command (Saying told before after faults faults_after) is
     (told_with told (λ text. IsRefused command text line) (λ text. RefusalIsSaid command text before after faults faults_after) (λ text r. record { line = line; refusal = r; said = said }) h)
 
-ran_out : (asked : Option Command) (query : Option Query) (command : Command) (told before after : Option (List ℕ)) → asked ≡ Some command
-    → (after ≡ before) ⊎ IfSome told (λ text. IsLeft command text before after) → RanOut asked query told before after
-ran_out asked query command told before after is h = subst (λ (o : Option Command). RanOut o query told before after) (sym is) h
+ran_out : (asked : Option Command) (query : Option Query) (count : Option ℕ) (command : Command) (told before after : Option (List ℕ)) → asked ≡ Some command
+    → (after ≡ before) ⊎ IfSome told (λ text. IsLeft command text before after) → RanOut asked query count told before after
+ran_out asked query count command told before after is h = subst (λ (o : Option Command). RanOut o query count told before after) (sym is) h
 
-pub nothing_left : (asked : Option Command) (query : Option Query) (command : Command) (told before after : Option (List ℕ)) → asked ≡ Some command
-    → after ≡ before → RanOut asked query told before after
-nothing_left asked query command told before after is same = ran_out asked query command told before after is (inl same)
+pub nothing_left : (asked : Option Command) (query : Option Query) (count : Option ℕ) (command : Command) (told before after : Option (List ℕ)) → asked ≡ Some command
+    → after ≡ before → RanOut asked query count told before after
+nothing_left asked query count command told before after is same = ran_out asked query count command told before after is (inl same)
 
-pub other_left : (asked : Option Command) (query : Option Query) (told before after : Option (List ℕ)) → asked ≡ None → RanOut None query told before after → RanOut asked query told before after
-other_left asked query told before after is left = subst (λ (o : Option Command). RanOut o query told before after) (sym is) left
+pub other_left : (asked : Option Command) (query : Option Query) (count : Option ℕ) (told before after : Option (List ℕ)) → asked ≡ None → count ≡ None
+    → RanOut None query None told before after → RanOut asked query count told before after
+other_left asked query count told before after is none left =
+    subst (λ (o : Option Command). RanOut o query count told before after) (sym is) (subst (λ (n : Option ℕ). RanOut None query n told before after) (sym none) left)
 
 -- of words that are no command, and no query or one
-pub usage_left : (query : Option Query) (told before after : Option (List ℕ)) → query ≡ None → IsBegun usage_line before after → RanOut None query told before after
-usage_left query told before after is begun = subst (λ (o : Option Query). RanOut None o told before after) (sym is) (inr begun)
+pub usage_left : (query : Option Query) (told before after : Option (List ℕ)) → query ≡ None → IsBegun usage_line before after → RanOut None query None told before after
+usage_left query told before after is begun = subst (λ (o : Option Query). RanOut None o None told before after) (sym is) (inr begun)
 
-pub none_left : (query : Option Query) (told before after : Option (List ℕ)) → after ≡ before → RanOut None query told before after
+pub none_left : (query : Option Query) (told before after : Option (List ℕ)) → after ≡ before → RanOut None query None told before after
 none_left None told before after same = inl same
 none_left (Some query) told before after same = tt
 
-pub query_left : (query : Option Query) (q : Query) (told before after : Option (List ℕ)) → query ≡ Some q → RanOut None query told before after
-query_left query q told before after is = subst (λ (o : Option Query). RanOut None o told before after) (sym is) tt
+pub query_left : (query : Option Query) (q : Query) (told before after : Option (List ℕ)) → query ≡ Some q → RanOut None query None told before after
+query_left query q told before after is = subst (λ (o : Option Query). RanOut None o None told before after) (sym is) tt
 
-pub line_left : (asked : Option Command) (query : Option Query) (command : Command) (told before after : Option (List ℕ)) (line : List ℕ) (status : ℕ)
+-- of words that ask for a count it is told elsewhere
+pub count_left : (asked : Option Command) (query : Option Query) (count : Option ℕ) (n : ℕ) (told before after : Option (List ℕ)) → asked ≡ None → query ≡ None → count ≡ Some n
+    → RanOut asked query count told before after
+count_left asked query count n told before after no_command no_query is =
+    subst (λ (o : Option Command). RanOut o query count told before after) (sym no_command)
+    (subst (λ (o : Option Query). RanOut None o count told before after) (sym no_query) (subst (λ (o : Option ℕ). RanOut None None o told before after) (sym is) tt))
+
+pub line_left : (asked : Option Command) (query : Option Query) (count : Option ℕ) (command : Command) (told before after : Option (List ℕ)) (line : List ℕ) (status : ℕ)
     → asked ≡ Some command
     → (status ≡ 1) ⊎ (status ≡ 7)
     → (status ≡ 1 → IfSome told (λ text. IsRefused command text line))
     → (status ≡ 7 → IfSome told (λ text. StopsForNumbers command text))
     → (status ≡ 7 → line ≡ numbers_line)
     → IsBegun line before after
-    → RanOut asked query told before after
-line_left asked query command told before after line status is (inl one) refused numbers says begun =
-    ran_out asked query command told before after is (inr (told_with told (λ text. IsRefused command text line) (λ text. IsLeft command text before after) (λ text r. record { out = line; sayable = is_refusal r; begun = begun }) (refused one)))
-line_left asked query command told before after line status is (inr seven) refused numbers says begun =
-    ran_out asked query command told before after is (inr (told_with told (λ text. StopsForNumbers command text) (λ text. IsLeft command text before after) (λ text s. record { out = line; sayable = stops s (says seven); begun = begun }) (numbers seven)))
+    → RanOut asked query count told before after
+line_left asked query count command told before after line status is (inl one) refused numbers says begun =
+    ran_out asked query count command told before after is (inr (told_with told (λ text. IsRefused command text line) (λ text. IsLeft command text before after) (λ text r. record { out = line; sayable = is_refusal r; begun = begun }) (refused one)))
+line_left asked query count command told before after line status is (inr seven) refused numbers says begun =
+    ran_out asked query count command told before after is (inr (told_with told (λ text. StopsForNumbers command text) (λ text. IsLeft command text before after) (λ text s. record { out = line; sayable = stops s (says seven); begun = begun }) (numbers seven)))

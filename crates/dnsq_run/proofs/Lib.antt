@@ -4,3 +4,4 @@ pub mod Outcomes
 pub mod Refusals
 pub mod Queries
 pub mod QueryEnds
+pub mod Generations

@@ -1,5 +1,6 @@
-pub mod Words
-pub mod QueryWords
-pub mod Program
+pub mod Generating
 pub mod InputLaws
+pub mod Program
 pub mod Query
+pub mod QueryWords
+pub mod Words

@@ -149,12 +149,13 @@ pub record IsLeft (command : Command) (text : List ℕ) (before after : Option (
   pub sayable : IsSayable command text out
   pub begun : IsBegun out before after
 
--- What memory runs out of: of the words' line, where they are no command and no query, or of what is due for the text, nothing or the
--- first is written. Of a query that is said elsewhere.
-abbrev pub RanOut : Option Command → Option Query → (told before after : Option (List ℕ)) → Type 0
-RanOut None None told before after = (after ≡ before) ⊎ IsBegun usage_line before after
-RanOut None (Some query) told before after = Unit {0}
-RanOut (Some command) query told before after = (after ≡ before) ⊎ IfSome told (λ text. IsLeft command text before after)
+-- What memory runs out of: of the words' line, where they are no command, no query and no count, or of what is due for the text, nothing or
+-- the first is written. Of a query and of a count that is said elsewhere.
+abbrev pub RanOut : Option Command → Option Query → (count : Option ℕ) → (told before after : Option (List ℕ)) → Type 0
+RanOut None None None told before after = (after ≡ before) ⊎ IsBegun usage_line before after
+RanOut None None (Some n) told before after = Unit {0}
+RanOut None (Some query) count told before after = Unit {0}
+RanOut (Some command) query count told before after = (after ≡ before) ⊎ IfSome told (λ text. IsLeft command text before after)
 
 -- a fact of the command and of the octets that the source tells
 abbrev pub IfInput : Option Command → Option (List ℕ) → (Command → List ℕ → Type 0) → Type 0

@@ -13,8 +13,10 @@
 
 mod configure;
 mod ending;
+mod generating;
 mod laws;
 mod lines;
+mod number;
 mod query;
 mod query_words;
 mod question;

@@ -1,9 +1,9 @@
 //! The words of a query: what is asked, and at which port.
 
 ghost use Rattle.std.specs.Prelude.{◌≡◌, ◌≤◌, IfOk, IfSome};
-ghost use Rattle.dns_script.specs.Reading.{number_of, with_digit};
 ghost use Rattle.dnsq_run.specs.QueryWords as spec;
 
+use crate::number::number_of;
 use dns_base::{Name, NameFault, NoMemory, Rtype};
 use std::alloc::Global;
 
@@ -63,36 +63,11 @@ fn rtype_of(word: &str) -> Option<Rtype>
     }
 }
 
-/// A number with one more digit, where it is at most 65535.
-fn with_digit(number: u16, digit: u8) -> Option<u16>
-    ensures { result ≡ with_digit 65535 number digit }
-{
-    if !digit.is_ascii_digit() {
-        return None;
-    }
-    number.checked_mul(10)?.checked_add((digit - b'0') as u16)
-}
-
-/// A decimal number of at most 65535 without sign or leading zeros.
-#[tactic(auto, unfolding(dns_script::specs::Reading::number_of))]
-fn number_of(word: &[u8]) -> Option<u16>
-    ensures { result ≡ number_of 65535 word.now }
-{
-    if word.len() == 0 || (word.len() > 1 && word[0] == b'0') {
-        return None;
-    }
-    let mut number = 0;
-    for digit in word {
-        number = with_digit(number, *digit)?;
-    }
-    Some(number)
-}
-
 /// The port that a word names: a number from 1 to 65535, without sign or leading zeros.
 fn port_of(word: &[u8]) -> Option<u16>
     ensures { result ≡ spec.port_of word.now }
 {
-    let port = number_of(word)?;
+    let port = number_of(u16::MAX, word)?;
     if port == 0 { None } else { Some(port) }
 }
 

@@ -68,7 +68,7 @@ fn first_lane(lanes: &Lanes) -> &[Event]
 }
 
 /// The trace of a script with one lane.
-fn trace_of(alloc: Global, script: Script) -> Result<Trace, Ending>
+pub fn trace_of(alloc: Global, script: Script) -> Result<Trace, Ending>
     ensures plain { IfOk result (λ t. rows_of script ≡ Some t.rows) }
     ensures right { IfOk result (λ t. Right (conf_of script.conf) (settings_of script.redundant script.cache) t.rows) }
     ensures timely { IfOk result (λ t. Timely (conf_of script.conf) t.rows) }

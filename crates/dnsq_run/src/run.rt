@@ -1,8 +1,9 @@
 //! What the program does, over a source, a sink and the rest of its world.
 
-ghost use Rattle.std.specs.Prelude.{◌≡◌, ◌≢◌, ◌⊎◌, [], true, false, Some, None, IfSome, IfOk, IfErr, OnOk};
+ghost use Rattle.std.specs.Prelude.{◌≡◌, ◌≢◌, ◌≤◌, ◌⊎◌, [], true, false, Some, None, IfSome, IfOk, IfErr, OnOk};
 ghost use Rattle.dns_values.specs.Source.{Rose};
 ghost use Rattle.dns_values.specs.Sink.{IsFlushed, with_octets};
+ghost use Rattle.dnsq_run.specs.Generating.{SummarizesSo, count_of};
 ghost use Rattle.dnsq_run.specs.Program.{EndsByLine, IfInput, IsOutput, IsRefused, IsTaken, RanOut, RefusalIsSaid, StopsForNumbers, IsDelivered, IsBegun, IsSaid, IsCut, IsStatus, IsEarly, status_of, line_of, numbers_line, usage_line};
 ghost use Rattle.dnsq_run.specs.Query.{EndsSo, OtherEnd, QueryEnd, answer_line, is_message, on};
 ghost use Rattle.dnsq_run.specs.QueryWords.{query_of};
@@ -10,6 +11,7 @@ ghost use Rattle.dnsq_run.specs.Words.{command_of};
 
 use crate::configure::configure;
 use crate::ending::Ending;
+use crate::generating::{count_of, summary};
 use crate::laws::input_laws;
 use crate::query::{Answer, answer_line, is_message, query};
 use crate::query_words::{Query, query_of};
@@ -171,7 +173,7 @@ fn run_other<S: Source, K: Sink, E: Edge, C: Clock, W: Words>(
     ensures source_fault { result.0 ≡ 3 → Rose (S.faults source.old) (S.faults source.new) }
     ensures silent { result.0 ≡ 3 → K.held sink.new ≡ K.held sink.old }
     ensures sink_fault { result.0 ≡ 4 → Rose (K.faults sink.old) (K.faults sink.new) }
-    ensures memory { result.0 ≡ 6 → RanOut None (query_of words.now) (S.left source.old) (K.held sink.old) (K.held sink.new) }
+    ensures memory { result.0 ≡ 6 → RanOut None (query_of words.now) None (S.left source.old) (K.held sink.old) (K.held sink.new) }
     ensures numbers_line { result.0 ≡ 7 → IsSaid numbers_line (K.held sink.old) (K.held sink.new) (K.faults sink.old) (K.faults sink.new) }
     ensures line_flushed { EndsByLine result.0 → IsFlushed (K.held sink.new) (K.flushed sink.new) ⊎ Rose (K.faults sink.old) (K.faults sink.new) }
 {
@@ -179,6 +181,23 @@ fn run_other<S: Source, K: Sink, E: Edge, C: Clock, W: Words>(
         Ok(Some(asked)) => run_query(alloc, &asked, source, sink, edge, clock, random),
         Ok(None) => tell_usage(sink),
         Err(NoMemory) => NO_MEMORY,
+    }
+}
+
+/// Writes the summary of the trace of the script that is generated for a count.
+fn run_generated<K: Sink>(alloc: Global, n: u32, sink: &mut K) -> Status
+    requires some { 1 ≤ n }
+    requires few { n ≤ 1000 }
+    ensures summarized { SummarizesSo n result.0 (K.held sink.old) (K.held sink.new) }
+    ensures flushed { result.0 ≡ 0 → IsFlushed (K.held sink.new) (K.flushed sink.new) }
+    ensures sink_fault { result.0 ≡ 4 → Rose (K.faults sink.old) (K.faults sink.new) }
+    ensures numbers_line { result.0 ≡ 7 → IsSaid numbers_line (K.held sink.old) (K.held sink.new) (K.faults sink.old) (K.faults sink.new) }
+    ensures line_flushed { result.0 ≡ 7 → IsFlushed (K.held sink.new) (K.flushed sink.new) ⊎ Rose (K.faults sink.old) (K.faults sink.new) }
+{
+    match summary(alloc, n) {
+        Ok(summary) => deliver(sink, &summary),
+        Err(Ending::Silent(ended)) => ended,
+        Err(Ending::Says(status, line)) => end_by(sink, status, &line),
     }
 }
 
@@ -198,7 +217,8 @@ pub fn run_alone<S: Source, K: Sink, E: Edge, C: Clock, W: Words>(
     ensures usage { result.0 ≡ 2 → command_of words.now ≡ None }
     ensures no_query { result.0 ≡ 2 → query_of words.now ≡ None }
     ensures no_reply { result.0 ≡ 5 → command_of words.now ≡ None }
-    ensures no_command { command_of words.now ≡ None → query_of words.now ≡ None → (result.0 ≡ 2) ⊎ (result.0 ≡ 6) }
+    ensures no_count { result.0 ≡ 2 → count_of words.now ≡ None }
+    ensures no_command { command_of words.now ≡ None → query_of words.now ≡ None → count_of words.now ≡ None → (result.0 ≡ 2) ⊎ (result.0 ≡ 6) }
     ensures usage_line { result.0 ≡ 2 → IsSaid usage_line (K.held sink.old) (K.held sink.new) (K.faults sink.old) (K.faults sink.new) }
 
     // The output.
@@ -208,6 +228,11 @@ pub fn run_alone<S: Source, K: Sink, E: Edge, C: Clock, W: Words>(
 
     // A query: the servers are asked, and the line of what they answer is written.
     ensures query { on E.deeds E.polls C.given W.stream S.left K.held K.faults (edge.old, clock.old, random.old, source.old, sink.old) (edge.new, clock.new, random.new, source.new, sink.new) (OtherEnd words.now result.0) }
+
+    // `gen N`: the summary of what the generated script's replay comes to is written, and the source is left alone.
+    ensures summarized { IfSome (count_of words.now) (λ n. SummarizesSo n result.0 (K.held sink.old) (K.held sink.new)) }
+    ensures source_left { IfSome (count_of words.now) (λ _. S.left source.new ≡ S.left source.old) }
+    ensures source_faults { IfSome (count_of words.now) (λ _. S.faults source.new ≡ S.faults source.old) }
 
     // A refusal.
     ensures refused { result.0 ≡ 1 → IfInput (command_of words.now) (S.left source.old) (λ command text.
@@ -222,7 +247,7 @@ pub fn run_alone<S: Source, K: Sink, E: Edge, C: Clock, W: Words>(
         IsCut command text (K.held sink.old) (K.held sink.new)) }
 
     // Memory and numbers.
-    ensures memory { result.0 ≡ 6 → RanOut (command_of words.now) (query_of words.now) (S.left source.old) (K.held sink.old) (K.held sink.new) }
+    ensures memory { result.0 ≡ 6 → RanOut (command_of words.now) (query_of words.now) (count_of words.now) (S.left source.old) (K.held sink.old) (K.held sink.new) }
     ensures numbers { result.0 ≡ 7 → IfInput (command_of words.now) (S.left source.old) (λ command text. StopsForNumbers command text) }
     ensures numbers_line { result.0 ≡ 7 → IsSaid numbers_line (K.held sink.old) (K.held sink.new) (K.faults sink.old) (K.faults sink.new) }
     ensures stops { IfInput (command_of words.now) (S.left source.old) (λ command text. StopsForNumbers command text → result.0 ≢ 0) }
@@ -231,7 +256,10 @@ pub fn run_alone<S: Source, K: Sink, E: Edge, C: Clock, W: Words>(
     ensures line_flushed { EndsByLine result.0 → IsFlushed (K.held sink.new) (K.flushed sink.new) ⊎ Rose (K.faults sink.old) (K.faults sink.new) }
 {
     let Some(command) = command_of(words) else {
-        return run_other(alloc, words, source, sink, edge, clock, random);
+        return match count_of(words) {
+            Some(n) => run_generated(alloc, n, sink),
+            None => run_other(alloc, words, source, sink, edge, clock, random),
+        };
     };
     input_laws();
     match output(alloc, command, source) {

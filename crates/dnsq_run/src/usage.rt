@@ -1,6 +1,7 @@
 //! The words of the command line.
 
-ghost use Rattle.std.specs.Prelude.{◌≡◌};
+ghost use Rattle.std.specs.Prelude.{◌≡◌, None, IfSome};
+ghost use Rattle.dnsq_run.specs.Generating.{count_of};
 ghost use Rattle.dnsq_run.specs.Words.{command_of};
 
 /// What the words ask for.
@@ -17,7 +18,8 @@ pub const USAGE_LINE: &str = "usage: dnsq replay|conf|gen N|many|query NAME TYPE
 
 /// The command of the words, which do not hold the program's own name.
 pub fn command_of(words: &[String]) -> Option<Command>
-    ensures { result ≡ command_of words.now }
+    ensures command { result ≡ command_of words.now }
+    ensures no_count { IfSome result (λ _. count_of words.now ≡ None) }
 {
     match words {
         [word] if word.as_bytes() == b"replay".as_slice() => Some(Command::Replay),

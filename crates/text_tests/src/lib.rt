@@ -8,6 +8,8 @@ mod conf_options;
 #[cfg(test)]
 mod conf_texts;
 #[cfg(test)]
+mod generated;
+#[cfg(test)]
 mod scripts;
 #[cfg(test)]
 mod trace_errors;
