@@ -66,6 +66,7 @@ silent_ends n status held statuses stopped = record {
     none : status ≡ 0 → (status ≡ 6) ⊎ (status ≡ 7) → ⊥
     none zero (inl e) = omega arith
     none zero (inr e) = omega arith
+
     never : status ≡ 4 → (status ≡ 6) ⊎ (status ≡ 7) → ⊥
     never four (inl e) = omega arith
     never four (inr e) = omega arith
