@@ -26,7 +26,8 @@ fn ends(alloc: Global, text: &str, status: u8, written: &str) -> Result<bool, Fa
 
 #[test]
 fn a_generated_script_is_summed_up(rt: HostRuntime) -> Result<(), Fail> {
-    let summary = "asks 200\nok 200\nerrors 0\nrows 406\ndgram-opens 100\nstream-opens 2\ncloses 102\nhits 100\n";
+    let summary =
+        "asks 200\nok 200\nerrors 0\nrows 406\ndgram-opens 100\nstream-opens 2\ncloses 102\nhits 100\n";
     assert!(rt; ends(rt.alloc(), "gen 1", 0, summary)?);
     Ok(())
 }

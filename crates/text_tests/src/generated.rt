@@ -72,6 +72,9 @@ const SUMMARY: &str =
 #[test]
 fn a_trace_is_summed_up(rt: HostRuntime) -> Result<(), Fail> {
     let trace = read_trace(rt.alloc(), TRACE.as_bytes())?;
-    assert_eq!(rt; summary_text(rt.alloc(), &trace)?.as_slice(), SUMMARY.as_bytes());
+    assert_eq!(rt;
+        summary_text(rt.alloc(), &trace)?.as_slice(),
+        SUMMARY.as_bytes()
+    );
     Ok(())
 }

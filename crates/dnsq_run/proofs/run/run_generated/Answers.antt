@@ -13,6 +13,6 @@ returns-in-Err-Silent-clause-summarized g c =
 pub returns-in-Err-Says-clause-summarized : goal.returns-in-Err-Says-clause-summarized
 returns-in-Err-Says-clause-summarized g c =
     let seven = only_seven c.in-Err-Says.status.0 (rw c.in-Err-Says.field-0-is at c.in-Err-Says.ensures.early) (rw c.in-Err-Says.field-0-is at c.in-Err-Says.ensures.statuses) in
-    stopped_ends _ c.in-Err-Says.status c.end_by.result c.in-Err-Says.line.items _ _ seven (rw c.in-Err-Says.field-0-is at c.end_by.ensures.status)
+    stopped_ends _ c.in-Err-Says.status c.end_by.result c.in-Err-Says.line.items _ _ seven c.end_by.ensures.status
     ((rw c.in-Err-Says.field-0-is at c.in-Err-Says.ensures.numbers) seven) ((rw c.in-Err-Says.field-0-is at c.in-Err-Says.ensures.numbers_line) seven)
-    (rw (c.deref.ensures.value, c.in-Err-Says.field-0-is) at c.end_by.ensures.begun)
+    (rw c.deref-in-Err-Says.ensures.value at c.end_by.ensures.begun)
