@@ -30,11 +30,7 @@ fn socket(rt: HostRuntime) -> io::Result<(UdpSocket, u16)> {
 }
 
 /// Whether a server by datagrams does its part of a row, and a resolver its own.
-fn does_by_datagrams(
-    threads: &(impl Threads + Wait),
-    rt: HostRuntime,
-    row: &'static Row,
-) -> bool {
+fn does_by_datagrams(threads: &(impl Threads + Wait), rt: HostRuntime, row: &'static Row) -> bool {
     let Ok((peer, port)) = socket(rt) else {
         return false;
     };
@@ -65,11 +61,7 @@ fn listener(rt: HostRuntime) -> io::Result<(TcpListener, u16)> {
 }
 
 /// The same by a stream.
-fn does_by_stream(
-    threads: &(impl Threads + Wait),
-    rt: HostRuntime,
-    row: &'static Row,
-) -> bool {
+fn does_by_stream(threads: &(impl Threads + Wait), rt: HostRuntime, row: &'static Row) -> bool {
     let Ok((listener, port)) = listener(rt) else {
         return false;
     };
