@@ -129,36 +129,3 @@ fn comments_alone_are_taken(rt: HostRuntime) -> Result<(), Fail> {
     }
     Ok(())
 }
-
-/// A script of comments alone, which is read in four pieces.
-fn comments(alloc: Global) -> Result<String, AllocError> {
-    let mut text = String::new(alloc);
-    for _ in 0..12_500 {
-        text.push_str("#\n")?;
-    }
-    Ok(text)
-}
-
-/// Whether it has this status and writes this where a call of the source fails.
-fn is_read(alloc: Global, call: u64, status: u8, written: &str) -> Result<bool, Fail> {
-    let text = comments(alloc)?;
-    ends(alloc, "replay", text.as_str(), [call, 9], status, written)
-}
-
-/// The call of the source that fails, the status, and what is written.
-const READ: [(u64, u8, &str); 6] = [
-    (0, 3, ""),
-    (1, 3, ""),
-    (2, 3, ""),
-    (3, 3, ""),
-    (4, 3, ""),
-    (5, 0, "trace 1\nend\n"),
-];
-
-#[test]
-fn each_fault_of_the_source_is_told(rt: HostRuntime) -> Result<(), Fail> {
-    for (call, status, written) in READ {
-        assert!(rt; is_read(rt.alloc(), call, status, written)?, "at {call}");
-    }
-    Ok(())
-}
