@@ -10,26 +10,44 @@ events, ends with status 1.
 """
 
 import os
+import re
 import subprocess
 import sys
+import time
+from pathlib import Path
 
 WAYS = ("datagrams", "streams")
 EVENTS = (100_000, 1_000_000, 10_000_000)
 EACH = 3
 RUNS = 3
 MOST = 12
-MOST_MEMORY = 1024
+MOST_MEMORY = 1024  # kilobytes
+
+
+def memory_of(pid):
+    """The most kilobytes that a process had in use so far; 0 where it has ended."""
+    try:
+        found = re.search(r"VmHWM:\s+(\d+) kB", Path("/proc/%d/status" % pid).read_text())
+    except OSError:
+        return 0
+    return int(found.group(1)) if found else 0
 
 
 def run(program, way, events):
     """The processor seconds and the kilobytes of memory of one run, whose replies are counted."""
     ran = subprocess.Popen([program, way, str(events)], stdout=subprocess.PIPE)
-    replies = int(ran.stdout.read())
-    _, status, used = os.wait4(ran.pid, 0)
+    memory = 0
+    while True:
+        ended, status, used = os.wait4(ran.pid, os.WNOHANG)
+        if ended:
+            break
+        memory = max(memory, memory_of(ran.pid))
+        time.sleep(0.002)
     ran.returncode = os.waitstatus_to_exitcode(status)
+    replies = int(ran.stdout.read() or 0)
     if ran.returncode != 0 or replies != events // EACH:
         sys.exit("%s %d: status %d, %d replies" % (way, events, ran.returncode, replies))
-    return used.ru_utime + used.ru_stime, used.ru_maxrss
+    return used.ru_utime + used.ru_stime, memory
 
 
 def main():
@@ -37,7 +55,8 @@ def main():
         sys.exit(__doc__)
     good = True
     for way in WAYS:
-        measured = [min(run(sys.argv[1], way, events) for _ in range(RUNS)) for events in EVENTS]
+        runs = [[run(sys.argv[1], way, events) for _ in range(RUNS)] for events in EVENTS]
+        measured = [(min(seconds for seconds, _ in each), max(memory for _, memory in each)) for each in runs]
         for events, (seconds, memory) in zip(EVENTS, measured):
             print("%s: %d events: %.3f s, %.2f microseconds each, %d kB" % (way, events, seconds, seconds / events * 1e6, memory))
         for (fewer, memory), (more, more_memory) in zip(measured, measured[1:]):
