@@ -1,6 +1,6 @@
 //! The words of a line.
 
-ghost use Rattle.std.specs.Prelude.{◌≡◌, ◌++◌, ◌<◌, OnOk};
+ghost use Rattle.std.specs.Prelude.{◌≡◌, ◌++◌, ◌<◌, ◌≤◌, OnOk, length};
 ghost use Rattle.std.specs.Char.{digit_char};
 ghost use Rattle.std.specs.List.{flat_map};
 ghost use Rattle.std.specs.String.{string_bytes};
@@ -67,24 +67,41 @@ pub(crate) fn error_name(error: Error) -> &'static str
 }
 
 /// The lower-case hexadecimal digit of a number below 16.
-fn hex_digit(number: u8) -> char
+fn hex_digit(number: u8) -> u8
     requires { number < 16 }
-    ensures { result ≡ digit_char number }
+    ensures value { result ≡ digit_char number }
+    ensures ascii { result < 128 }
 {
     if number < 10 {
-        (b'0' + number) as char
+        b'0' + number
     } else {
-        (b'a' - 10 + number) as char
+        b'a' - 10 + number
     }
+}
+
+/// How many octets are spelled at once.
+const SPELLED: usize = 32;
+
+/// Adds two digits for each octet of a piece.
+fn push_piece(text: &mut String, piece: &[u8]) -> Result<(), NoMemory>
+    requires { length piece.now ≤ 32 }
+    ensures { OnOk result (string_bytes text.new ≡ string_bytes text.old ++ flat_map octet_digits piece.now) }
+{
+    let mut digits = [0; 2 * SPELLED];
+    for (at, octet) in piece.iter().enumerate() {
+        digits[2 * at] = hex_digit(*octet / 16);
+        digits[2 * at + 1] = hex_digit(*octet % 16);
+    }
+    text.push_str(str::from_utf8(&digits[..2 * piece.len()]).unwrap())?;
+    Ok(())
 }
 
 /// Adds two digits for each octet.
 pub(crate) fn push_digits(text: &mut String, octets: &[u8]) -> Result<(), NoMemory>
     ensures { OnOk result (string_bytes text.new ≡ string_bytes text.old ++ flat_map octet_digits octets.now) }
 {
-    for octet in octets {
-        text.push(hex_digit(*octet / 16))?;
-        text.push(hex_digit(*octet % 16))?;
+    for piece in octets.chunks(SPELLED) {
+        push_piece(text, piece)?;
     }
     Ok(())
 }
