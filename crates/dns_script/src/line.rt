@@ -122,7 +122,7 @@ fn pairs(alloc: Global, digits: &[u8]) -> Result<Vec<u8>, LineFault>
     while let [high, low, behind @ ..] = rest {
         match octet_of(*high, *low) {
             None => return Err(LineFault::Refused),
-            Some(octet) => octets.push(octet)?,
+            Some(octet) => octets.push_reserved(octet),
         }
         rest = behind;
     }
