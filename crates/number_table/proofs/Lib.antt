@@ -1,2 +1,0 @@
-pub mod SlotTable
-pub mod Written
