@@ -1,9 +1,7 @@
 -- What is composed says what the request says.
-use Rattle.std.proofs.Common.{◌≡◌, ◌≢◌, ℕ, zero, suc, inl, inr, List, [], ◌∷◌, ◌++◌, length, take, drop, refl, ap, sym, subst, ◌∙◌, arith, true, false, append_assoc, append-nil, length-drop}
+use Rattle.std.proofs.Common.{◌≡◌, ◌≢◌, ℕ, zero, suc, inl, inr, List, [], ◌∷◌, ◌++◌, refl, ap, sym, subst, ◌∙◌, arith, true, false, append_assoc, append-nil, length-drop}
 use Rattle.std.specs.Prelude.{Option, Some, None, IfSome, Result, Ok, Err, map, not, if◌then◌else◌}
 use Rattle.std.specs.List.{filter}
-use Rattle.std.proofs.lemmas.Bool.{eq-eqb}
-use Rattle.std.proofs.Math.Seq.{take-append_seam}
 use Rattle.dns_names.proofs.Heads.{chosen, none_some}
 use Rattle.dns_values.specs.declared.error.ParseError.{ParseError}
 use Rattle.dns_values.specs.declared.numbers.Section.{Section}
@@ -16,7 +14,7 @@ use Rattle.dns_base.specs.Sections.{HasNoRecords, HasNoneAfter, one_more_in, ent
 use Rattle.dns_base.specs.Header.{Counts}
 use Rattle.dns_base.specs.OptRecord.{OptFields}
 use Rattle.dns_base.specs.Draft.{Draft, counts_in, refusal, fresh, with_header, pushed_question, pushed_record, finished}
-use Rattle.dns_base.specs.Holding.{Contents, no_contents, with_question, with_record, IsAskable, IsWritable, Holds, header_in}
+use Rattle.dns_base.specs.Holding.{Contents, no_contents, with_question, with_record, IsAskable, IsWritable, Holds}
 use Rattle.dns_base.proofs.Holding.{draft_laws}
 use Rattle.dns_base.proofs.Steps.{draft_steps}
 use Rattle.client_request.specs.Request.{Request, opt_written, opt_or_empty, with_id, with_payload_size}

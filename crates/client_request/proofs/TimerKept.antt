@@ -1,5 +1,5 @@
 -- What the heap keeps as timers are set and dropped, and what it shows.
-use Rattle.std.proofs.Common.{◌≡◌, ℕ, zero, suc, ◌∙◌, ◌+◌, ◌-◌, ◌/◌, ◌<◌, ap, sym, subst, refl, arith, length, List, [], ◌∷◌, ◌++◌, Bool, true, false, get_or}
+use Rattle.std.proofs.Common.{◌≡◌, ℕ, zero, suc, ◌∙◌, ◌+◌, ◌-◌, ◌*◌, ◌/◌, ◌<◌, ◌≤◌, ap, sym, subst, refl, arith, length, List, [], ◌∷◌, ◌++◌, Bool, true, false, get_or}
 use Rattle.std.specs.Prelude.{nat_eq, nat_lt, Option, None, Some, is_some, is_none, option_map, slice_get, MatchOption}
 use Rattle.std.specs.List.{All, Contains, IsDistinct, AllByRecursion}
 use Rattle.std.specs.List.Sorted.{IsPermutation}
@@ -7,9 +7,9 @@ use Rattle.std.specs.BinaryHeap.{IsHeap, KeepsHeap}
 use Rattle.std.proofs.HeapSift as sifts
 use Rattle.std.proofs.lemmas.Bool.Decides.{nat_tests}
 use Rattle.std.proofs.lemmas.Cmp.{nat_eq_equiv}
-use Rattle.std.proofs.lemmas.List.{get_or-map, length-map, get_or_default, map-append}
+use Rattle.std.proofs.lemmas.List.{get_or-map, length-map, length_push, get_or_default, map-append}
 use Rattle.std.proofs.lemmas.List.Elements.{All-from_recursion, recursion_from_All, All-weaker, All-contains, All-contains_itself, Contains-push, All-cons, All-nil, All-push, All-map}
-use Rattle.std.proofs.lemmas.List.Sorted.{IsPermutation-sym, IsPermutation-map, All-permutation, Contains-permutation}
+use Rattle.std.proofs.lemmas.List.Sorted.{length_permutation, IsPermutation-sym, IsPermutation-map, All-permutation, Contains-permutation}
 use Rattle.std.proofs.lemmas.Map.Keys.{IsDistinct-cons, IsDistinct-IsPermutation, apart_from_distinct}
 use Rattle.client_request.specs.declared.timers.Timer.{Timer}
 use Rattle.client_request.specs.Numbered.{entry_at, frees, puts}
@@ -100,6 +100,10 @@ pub shows_parents : (heap : List Entry) → IsHeap urgency_cmp heap → ParentsG
 unfolding IsHeap
 shows_parents heap order = λ i d above within. sym (less-goes_before (get_or heap i d) (get_or heap ((i - 1) / 2) d)) ∙ order ((i - 1) / 2) i d (omega arith) (omega arith) (omega arith) within
 
+-- at most as many as are set, and 16, are cancelled
+pub shows_bound : (next : ℕ) (table : List (ℕ × ℕ)) (heap : List Entry) → IsHeapOf next table heap → length heap ≤ 2 * length (timers_of table) + 16
+shows_bound next table heap kept = let long = length-map table timer_of in let short = kept.bound in omega arith
+
 -- ---- setting a timer
 
 below_more : (n : ℕ) (heap : List Entry) → All (λ e. e.1.0 < n) heap → All (λ e. e.1.0 < n + 1) heap
@@ -158,12 +162,13 @@ set_kept n due table heap new kept keeps moves =
           (All-weaker (λ e. Contains heap (entry_of_pair e)) (λ e. Contains new (entry_of_pair e)) (λ e m. Contains-permutation (x ∷ heap) new (entry_of_pair e) moves (member_later x heap (entry_of_pair e) m)) table kept.stands)
           (Contains-permutation (x ∷ heap) new x moves (0, omega arith, refl));
       top = new_top n due table heap new kept moves order;
+      bound = let long = length_permutation (x ∷ heap) new moves in let more = length_push table (n, due) in let short = kept.bound in omega arith;
     })
 
 -- ---- dropping a timer
 
-pub cancel_kept : (n id : ℕ) (table : List (ℕ × ℕ)) (heap new : List Entry) → IsHeapOf n table heap → DropsCancelled (frees id table) heap new → top_is_cancelled (frees id table) new ≡ false → IsHeapOf n (frees id table) new
-cancel_kept n id table heap new kept drops top =
+pub cancel_kept : (n id : ℕ) (table : List (ℕ × ℕ)) (heap new : List Entry) → IsHeapOf n table heap → DropsCancelled (frees id table) heap new → top_is_cancelled (frees id table) new ≡ false → length new ≤ 2 * length (frees id table) + 16 → IsHeapOf n (frees id table) new
+cancel_kept n id table heap new kept drops top bound =
     let left = frees id table in
     let stood : All (λ e. Contains heap (entry_of_pair e)) left = All-from_recursion (λ e. Contains heap (entry_of_pair e)) left (frees-All (λ e. Contains heap (entry_of_pair e)) id table (recursion_from_All (λ e. Contains heap (entry_of_pair e)) table kept.stands)) in record {
       order = drops.order kept.order;
@@ -171,6 +176,7 @@ cancel_kept n id table heap new kept drops top =
       drawn = drops.drawn n kept.drawn;
       stands = All-weaker (Contains left) (λ e. Contains new (entry_of_pair e)) (λ e member. drops.stands (entry_of_pair e) (entry_at-member left e member) (All-contains (λ x. Contains heap (entry_of_pair x)) left e stood member)) left (All-contains_itself left);
       top = top;
+      bound = bound;
     }
 
 pub none_kept : (table : List (ℕ × ℕ)) (heap : List Entry) → table ≡ [] → heap ≡ [] → IsHeapOf 0 table heap
@@ -181,6 +187,7 @@ none_kept [] [] e f = record {
   drawn = All-nil (λ e. e.1.0 < 0);
   stands = All-nil (λ e. Contains [] (entry_of_pair e));
   top = refl;
+  bound = omega arith;
 }
 none_kept (x ∷ xs) heap e f = absurd (cc)
 none_kept [] (x ∷ xs) e f = absurd (cc)

@@ -1,11 +1,12 @@
 -- The table of timers that are set, and the list of them.
-use Rattle.std.proofs.Common.{◌≡◌, ℕ, zero, suc, ◌∙◌, ◌+◌, ◌<◌, ap, sym, refl, arith, length, List, [], ◌∷◌, ◌++◌, Bool, true, false, cond}
-use Rattle.std.specs.Prelude.{◌==◌, nat_lt, not, Option, None, Some, is_some, option_map}
-use Rattle.std.specs.List.{Contains, position, prefix_len, AllByRecursion}
+use Rattle.std.proofs.Common.{◌≡◌, ℕ, zero, suc, ◌∙◌, ◌+◌, ◌<◌, ◌≤◌, ap, sym, refl, arith, length, List, [], ◌∷◌, ◌++◌, Bool, true, false, cond}
+use Rattle.std.specs.Prelude.{◌==◌, nat_eq, nat_lt, not, Option, None, Some, is_some, option_map}
+use Rattle.std.specs.List.{Contains, position, prefix_len, IsDistinct, AllByRecursion}
 use Rattle.std.specs.BTreeMap.{is_at}
 use Rattle.std.specs.Ordering.{nat_cmp}
 use Rattle.std.proofs.lemmas.Bool.{eqb-true}
 use Rattle.std.proofs.lemmas.Bool.Decides.{nat_tests}
+use Rattle.std.proofs.lemmas.Map.Keys.{IsDistinct-head, IsDistinct-tail}
 use Rattle.client_request.specs.declared.timers.Timer.{Timer}
 use Rattle.client_request.specs.Numbered.{entry_at, frees, puts}
 use Rattle.client_request.specs.Timers.{without_timer, removed_at, timer_at}
@@ -121,3 +122,38 @@ pub entry_at-push : (table : List (ℕ × ℕ)) (id : ℕ) (e : ℕ × ℕ) → 
 entry_at-push [] id e found = absurd (cc)
 entry_at-push (x ∷ xs) id e found =
     found_still (is_at (nat_cmp id) x.0) x.1 (entry_at id xs) (entry_at id (xs ++ e ∷ [])) (entry_at-push xs id e) found
+
+-- ---- how many timers are set
+
+gone_one : (b : Bool) (e : ℕ × ℕ) (es rest : List (ℕ × ℕ)) (o : Option ℕ) → is_some (cond b (Some e.1) o) ≡ true → (is_some o ≡ true → length rest + 1 ≡ length es) → length (cond b es (e ∷ rest)) + 1 ≡ length (e ∷ es)
+gone_one true e es rest o found one = omega arith
+gone_one false e es rest o found one = let fewer = one found in omega arith
+
+frees-length : (id : ℕ) (table : List (ℕ × ℕ)) → is_some (entry_at id table) ≡ true → length (frees id table) + 1 ≡ length table
+frees-length id [] found = absurd (cc)
+frees-length id (e ∷ es) found = gone_one (is_at (nat_cmp id) e.0) e es (frees id es) (entry_at id es) found (frees-length id es)
+
+-- b and d say whether the number that leaves and the one that stays are the key of e
+found_without : (b d : Bool) (e : ℕ × ℕ) (es rest : List (ℕ × ℕ)) (stays : ℕ) → (b ≡ true → d ≡ false) → d ≡ is_at (nat_cmp stays) e.0 → (is_some (entry_at stays es) ≡ true → is_some (entry_at stays rest) ≡ true) → is_some (cond d (Some e.1) (entry_at stays es)) ≡ true → is_some (entry_at stays (cond b es (e ∷ rest))) ≡ true
+found_without true true e es rest stays apart key later found = absurd (let no = apart refl in cc)
+found_without true false e es rest stays apart key later found = found
+found_without false true e es rest stays apart key later found = rw (sym key) refl
+found_without false false e es rest stays apart key later found = rw (sym key) (later found)
+
+-- a number stays found where another is taken out
+frees-other : (id stays : ℕ) (table : List (ℕ × ℕ)) → nat_eq id stays ≡ false → is_some (entry_at stays table) ≡ true → is_some (entry_at stays (frees id table)) ≡ true
+frees-other id stays [] apart found = found
+frees-other id stays (e ∷ es) apart found =
+    found_without (is_at (nat_cmp id) e.0) (is_at (nat_cmp stays) e.0) e es (frees id es) stays (λ same. grind (arith, nat_tests)) refl (frees-other id stays es apart) found
+
+others_stay : (id : ℕ) (ns : List ℕ) (table : List (ℕ × ℕ)) → AllByRecursion (λ n. nat_eq id n ≡ false) ns → AllByRecursion (λ n. is_some (entry_at n table) ≡ true) ns → AllByRecursion (λ n. is_some (entry_at n (frees id table)) ≡ true) ns
+others_stay id [] table apart found = tt
+others_stay id (n ∷ ns) table apart found = (frees-other id n table apart.0 found.0, others_stay id ns table apart.1 found.1)
+
+-- no more numbers than entries, where each number is that of an entry, and none stands twice
+pub no_more : (ns : List ℕ) (table : List (ℕ × ℕ)) → IsDistinct nat_eq ns → AllByRecursion (λ n. is_some (entry_at n table) ≡ true) ns → length ns ≤ length table
+no_more [] table once found = omega arith
+no_more (n ∷ ns) table once found =
+    let less = frees-length n table found.0 in
+    let rest = no_more ns (frees n table) (IsDistinct-tail nat_eq n ns once) (others_stay n ns table (IsDistinct-head nat_eq n ns once) found.1) in
+    omega arith

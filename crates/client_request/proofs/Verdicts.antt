@@ -16,7 +16,7 @@ use Rattle.dns_base.specs.Draft.{Draft, fresh, with_header, pushed_question, pus
 use Rattle.dns_base.proofs.Steps.{draft_steps}
 use Rattle.client_request.specs.declared.error.Error.{Error}
 use Rattle.client_request.specs.declared.error.CopyRecordsError.{CopyRecordsError}
-use Rattle.client_request.specs.declared.error.CopyRecordsError.TheVariants.{Parse, Push}
+use Rattle.client_request.specs.declared.error.CopyRecordsError.TheVariants.{Push}
 use Rattle.client_request.specs.Request.{Request, opt_written}
 use Rattle.client_request.specs.Composed.{Copied, ◌>>◌, unless, asks, adds, copies, each, each_found, is_replaced, section_items, copies_section, adds_opt, copies_all, written_from, appended, message_of, error_of, composed}
 use Rattle.client_request.specs.Composing.{without_message}

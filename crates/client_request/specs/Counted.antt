@@ -8,7 +8,7 @@ use Rattle.dns_base.specs.Answering.{question_items}
 use Rattle.dns_base.specs.Header.{Counts}
 use Rattle.dns_base.specs.Message.{Asked, Known}
 use Rattle.dns_base.specs.OptRecord.{OptFields}
-use Rattle.dns_base.specs.Sections.{no_entries, one_question_more, entries_in, one_more_in}
+use Rattle.dns_base.specs.Sections.{one_question_more, entries_in, one_more_in}
 use Rattle.client_request.specs.declared.error.Error.{Error}
 use Rattle.client_request.specs.declared.error.CopyRecordsError.{CopyRecordsError}
 use Rattle.client_request.specs.declared.error.CopyRecordsError.TheVariants.{Parse, Push}

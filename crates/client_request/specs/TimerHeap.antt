@@ -1,5 +1,5 @@
 -- The heap of timers beside the table of those that are set: the due moment of each by its number.
-use Rattle.std.specs.Prelude.{◌≡◌, ℕ, ◌<◌, nat_eq, Bool, false, List, [], ◌∷◌, map, is_none, IsSome}
+use Rattle.std.specs.Prelude.{◌≡◌, ℕ, ◌+◌, ◌*◌, ◌<◌, ◌≤◌, nat_eq, Bool, false, List, [], ◌∷◌, length, map, is_none, IsSome}
 use Rattle.std.specs.declared.cmp.Ordering.{Ordering}
 use Rattle.std.specs.Ordering.{nat_cmp, ordering_then}
 use Rattle.std.specs.List.{All, Contains, IsDistinct}
@@ -33,11 +33,13 @@ pub record DropsCancelled (table : List (ℕ × ℕ)) (old new : List Entry) : T
   pub once : IsDistinct nat_eq (numbers_of old) → IsDistinct nat_eq (numbers_of new)
   pub drawn : (n : ℕ) → All (λ e. e.1.0 < n) old → All (λ e. e.1.0 < n) new
   pub stands : (e : Entry) → IsSome (entry_at e.1.0 table) → Contains old e → Contains new e
+  pub fewer : length new ≤ length old
 
--- The heap is in order, each number stands in it once, and each timer of the table does; the one at the top is set.
+-- The heap is in order, each number stands in it once, and each timer of the table does; the one at the top is set; at most as many as are set, and 16, are cancelled.
 pub record IsHeapOf (next : ℕ) (table : List (ℕ × ℕ)) (heap : List Entry) : Type 0 where
   pub order : IsHeap urgency_cmp heap
   pub once : IsDistinct nat_eq (numbers_of heap)
   pub drawn : All (λ e. e.1.0 < next) heap
   pub stands : All (λ e. Contains heap (entry_of_pair e)) table
   pub top : top_is_cancelled table heap ≡ false
+  pub bound : length heap ≤ 2 * length table + 16

@@ -1,14 +1,15 @@
 //! A binary heap of timers: the one that goes first stands at its top. Timers that were cancelled stay in
-//! it until they come to the top.
+//! it until they come to the top, or until they are more than half of it.
 
-ghost use Rattle.std.specs.Prelude.{◌≡◌, ◌+◌, ◌*◌, ◌<◌, ◌≤◌, ◌∷◌, false, length, vec_len, slice_index_or, OnOk, OnErr, IsErrOf, IfErr, Err};
+ghost use Rattle.std.specs.Prelude.{◌≡◌, ◌+◌, ◌*◌, ◌<◌, ◌≤◌, ◌∷◌, false, nat_eq, length, vec_len, slice_index_or, IsSome, OnOk, OnErr, IsErrOf, IfErr, Err};
 ghost use Rattle.std.specs.Ordering.{nat_cmp};
+ghost use Rattle.std.specs.List.{All, IsDistinct};
 ghost use Rattle.std.specs.List.Sorted.{IsPermutation};
-ghost use Rattle.std.specs.BinaryHeap.{KeepsHeap};
+ghost use Rattle.std.specs.BinaryHeap.{IsHeap, KeepsHeap};
 ghost use Rattle.std.specs.BinaryHeap.Sift.{IsGreaterChild, SiftsUp, SiftsDown};
-ghost use Rattle.client_request.specs.Timers.{goes_before, Entry};
+ghost use Rattle.client_request.specs.Timers.{goes_before, numbers_of, Entry};
 ghost use Rattle.client_request.specs.TimerHeap.{urgency_cmp, top_is_cancelled, DropsCancelled};
-ghost use Rattle.client_request.specs.Numbered.{puts};
+ghost use Rattle.client_request.specs.Numbered.{entry_at, puts};
 
 use crate::error::Error;
 use crate::timers::TimerId;
@@ -16,6 +17,9 @@ use std::collections::BTreeMap;
 
 /// When a timer is due, and its number.
 type Entry = (u128, TimerId);
+
+/// A heap of at most this many entries is not compacted.
+const COMPACT_ABOVE: usize = 16;
 
 /// Whether the entry at a place goes before the one at another.
 fn goes_first(heap: &[Entry], place: usize, other: usize) -> bool
@@ -63,13 +67,12 @@ fn first_child(heap: &[Entry], at: usize) -> usize
     }
 }
 
-/// Moves the entry at the top down, until it goes before its children.
-fn sink(heap: &mut [Entry])
+/// Moves the entry at a place down, until it goes before its children.
+fn sink(heap: &mut [Entry], mut at: usize)
     ensures moves { IsPermutation heap.old heap.new }
-    ensures sinks { SiftsDown urgency_cmp heap.old 0 (length heap.old) heap.new }
+    ensures sinks { SiftsDown urgency_cmp heap.old at (length heap.old) heap.new }
 {
     let parents = heap.len() / 2;
-    let mut at = 0;
     while at < parents {
         let child = first_child(heap, at);
         if !goes_first(heap, child, at) {
@@ -77,6 +80,16 @@ fn sink(heap: &mut [Entry])
         }
         heap.swap(at, child);
         at = child;
+    }
+}
+
+/// Puts the entries in the order of a heap, in a time that is linear in their number.
+fn rebuild(heap: &mut [Entry])
+    ensures moves { IsPermutation heap.old heap.new }
+    ensures order { IsHeap urgency_cmp heap.new }
+{
+    for at in (0..heap.len() / 2).rev() {
+        sink(heap, at);
     }
 }
 
@@ -88,7 +101,7 @@ fn pop_top(heap: &mut Vec<Entry>) -> Entry
     ensures order { KeepsHeap urgency_cmp heap.old.items heap.new.items }
 {
     let top = heap.swap_remove(0);
-    sink(heap.as_mut_slice());
+    sink(heap.as_mut_slice(), 0);
     top
 }
 
@@ -109,6 +122,26 @@ pub(crate) fn settle(heap: &mut Vec<Entry>, table: &BTreeMap<u64, u128>)
 {
     while is_cancelled_at_top(heap, table) {
         let _cancelled = pop_top(heap);
+    }
+}
+
+/// Drops all cancelled timers.
+fn drop_cancelled(heap: &mut Vec<Entry>, table: &BTreeMap<u64, u128>)
+    ensures drops { DropsCancelled table.now.entries heap.old.items heap.new.items }
+    ensures set { All (λ e. IsSome (entry_at e.1.0 table.now.entries)) heap.new.items }
+{
+    heap.retain(|entry| table.contains_key(&entry.1.0));
+    rebuild(heap.as_mut_slice());
+}
+
+/// Drops all cancelled timers where they are more than half of a heap that is not small: each that is dropped
+/// pays for less than one that stays. It takes no memory.
+pub(crate) fn compact(heap: &mut Vec<Entry>, table: &BTreeMap<u64, u128>)
+    ensures drops { DropsCancelled table.now.entries heap.old.items heap.new.items }
+    ensures bound { IsDistinct nat_eq (numbers_of heap.old.items) → length heap.new.items ≤ 2 * length table.now.entries + 16 }
+{
+    if COMPACT_ABOVE < heap.len() && table.len() < heap.len() / 2 {
+        drop_cancelled(heap, table);
     }
 }
 

@@ -1,13 +1,13 @@
 //! The timers that are set: a binary heap, in which those that were cancelled stay until they come to its
-//! top.
+//! top, or until they are more than half of it.
 
-ghost use Rattle.std.specs.Prelude.{◌≡◌, ◌==◌, ◌<◌, true, false, [], nat_eq, length, slice_get, option_map, OnOk, OnErr, IfOk, IfErr, IsErrOf};
+ghost use Rattle.std.specs.Prelude.{◌≡◌, ◌+◌, ◌*◌, ◌==◌, ◌<◌, ◌≤◌, true, false, [], nat_eq, length, slice_get, option_map, OnOk, OnErr, IfOk, IfErr, IsErrOf};
 ghost use Rattle.std.specs.List.{All, Contains, IsDistinct};
 ghost use Rattle.client_request.specs.Timers.{next_due, with_timer, cancelled, due_now, fired, can_draw, IsWant, entry_of, numbers_of, IsSetOrCancelled, ParentsGoFirst};
 
 use crate::error::Error;
 use crate::event::Moment;
-use crate::timer_heap::{add, settle};
+use crate::timer_heap::{add, compact, settle};
 use std::alloc::Global;
 use std::collections::BTreeMap;
 use std::marker::Model;
@@ -87,6 +87,7 @@ impl Timers {
         ensures { self.new ≡ cancelled id.0 self.old }
     {
         let _ = self.table.remove(&id.0);
+        compact(&mut self.heap, &self.table);
         settle(&mut self.heap, &self.table);
     }
 
@@ -110,13 +111,14 @@ impl Timers {
         Some(id)
     }
 
-    /// The heap: each timer that is set, and cancelled ones.
+    /// The heap: each timer that is set, and cancelled ones, at most as many as are set and 16.
     pub fn heap(&self) -> &[(u128, TimerId)]
         ensures set { All (λ t. Contains result.now (entry_of t)) self.now.set }
         ensures once { IsDistinct nat_eq (numbers_of result.now) }
         ensures rest { All (IsSetOrCancelled self.now) result.now }
         ensures top { slice_get result.now 0 ≡ option_map entry_of (next_due self.now.set) }
         ensures parents { ParentsGoFirst result.now }
+        ensures bound { length result.now ≤ 2 * length self.now.set + 16 }
     {
         self.heap.as_slice()
     }

@@ -41,6 +41,23 @@ fn the_heap_of_timers_shows_the_next_first(rt: HostRuntime) -> Result<(), Fail> 
     Ok(())
 }
 
+/// Whether the heap has room for few more than the one timer that stays, once a later one was set and cancelled.
+fn forgets(timers: &mut Timers, due: u32) -> Result<bool, Error> {
+    let id = timers.set(u128::from(due))?;
+    timers.cancel(id);
+    Ok(timers.heap().len() <= 2 + 16)
+}
+
+#[test]
+fn the_heap_forgets_cancelled_timers(rt: HostRuntime) -> Result<(), Fail> {
+    let mut timers = timers_of(rt.alloc(), &[10])?;
+    for due in 30..1030 {
+        assert!(rt; forgets(&mut timers, due)?);
+    }
+    assert_eq!(rt; timers.fire(Moment(10)), Some(TimerId(0)));
+    Ok(())
+}
+
 fn board(alloc: Global) -> Result<Board, Error> {
     let mut board = Board::new(alloc);
     board.put(2, Err(Error::TimedOut))?;

@@ -1,8 +1,8 @@
-use Rattle.std.proofs.Common.{◌∙◌, ap, sym, subst, List}
+use Rattle.std.proofs.Common.{◌+◌, ◌*◌, ◌≤◌, ◌∙◌, ap, sym, subst, length, List}
 use Rattle.std.specs.Prelude.{slice_get, option_map}
 use Rattle.std.specs.List.{All, Contains}
 use Rattle.client_request.specs.Timers.{Entry, TimerList, entry_of, next_due, IsSetOrCancelled, ParentsGoFirst}
-use Rattle.client_request.proofs.TimerKept.{shows_next, shows_set, shows_rest, shows_parents}
+use Rattle.client_request.proofs.TimerKept.{shows_next, shows_set, shows_rest, shows_parents, shows_bound}
 use Rattle.client_request.proofs.timers.Timers.heap.Goals as goal
 
 pub returns-clause-set : goal.returns-clause-set
@@ -23,3 +23,8 @@ returns-clause-top c =
 
 pub returns-clause-parents : goal.returns-clause-parents
 returns-clause-parents c = subst ParentsGoFirst (sym c.as_slice.ensures.value) (shows_parents _ c.self.invariant.order)
+
+pub returns-clause-bound : goal.returns-clause-bound
+returns-clause-bound c =
+    subst (λ (l : List Entry). length l ≤ 2 * length c.args.self.now.set + 16) (sym c.as_slice.ensures.value)
+    (subst (λ (v : TimerList). length c.self.inside.heap.items ≤ 2 * length v.set + 16) c.self.view_is (shows_bound _ _ _ c.self.invariant))
