@@ -1,0 +1,2 @@
+pub mod SlotTable
+pub mod Written

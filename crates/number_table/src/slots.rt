@@ -1,0 +1,66 @@
+//! The slots of a table: one for each key, in rising order of keys. A slot stays, empty, where its value was
+//! taken out.
+
+ghost use Rattle.std.specs.Prelude.{◌≡◌, ◌<◌, false, slice_set, vec_len, IfOk, IfErr, slice_index_or};
+ghost use Rattle.number_table.specs.declared.slots.Slot.{Slot};
+ghost use Rattle.number_table.specs.Slots.{entries_in, Rising, HasKeyAt, IsGapFor, AreEmptyBefore, empty_at};
+
+use std::mem;
+
+/// A key, and what stands under it.
+#[derive(Debug, Drop)]
+pub(crate) struct Slot<V> {
+    pub(crate) key: u64,
+    pub(crate) value: Option<V>,
+}
+
+/// The place of the slot of a key, or the place at which it would go. A key above all others is found at once.
+pub(crate) fn find<V>(slots: &[Slot<V>], key: u64) -> Result<usize, usize>
+    requires { Rising 0 slots.now }
+    ensures found { IfOk result (HasKeyAt key slots.now) }
+    ensures gap { IfErr result (IsGapFor key slots.now) }
+{
+    match slots.last() {
+        Some(last) if key <= last.key => slots.binary_search_by_key(&key, |slot| slot.key),
+        _ => Err(slots.len()),
+    }
+}
+
+/// Puts a slot in the place of one, whose value it returns.
+pub(crate) fn replace_at<V>(slots: &mut Vec<Slot<V>>, at: usize, slot: Slot<V>) -> Option<V>
+    requires { at < vec_len slots.old }
+    ensures old { (d : Slot V) → (slice_index_or slots.old.items at d).value ≡ result }
+    ensures slots { slots.new.items ≡ slice_set slots.old.items at slot }
+{
+    let Slot { key: _, value } = mem::replace(&mut slots[at], slot);
+    value
+}
+
+/// Whether a slot is at a place, and empty.
+fn is_empty_at<V>(slots: &[Slot<V>], place: usize) -> bool
+    ensures { result ≡ empty_at place slots.now }
+{
+    match slots.get(place) {
+        Some(slot) => slot.value.is_none(),
+        None => false,
+    }
+}
+
+/// The place of the first slot that is not empty, from a place on, or a place behind all.
+pub(crate) fn first_place<V>(slots: &[Slot<V>], mut place: usize) -> usize
+    ensures passed { AreEmptyBefore place slots.now → AreEmptyBefore result slots.now }
+    ensures full { empty_at result slots.now ≡ false }
+{
+    while is_empty_at(slots, place) {
+        place += 1;
+    }
+    place
+}
+
+/// Takes the empty slots out. It takes no memory.
+pub(crate) fn drop_empty<V: Drop>(slots: &mut Vec<Slot<V>>)
+    ensures entries { entries_in slots.new.items ≡ entries_in slots.old.items }
+    ensures rising { Rising 0 slots.old.items → Rising 0 slots.new.items }
+{
+    slots.retain(|slot| slot.value.is_some());
+}
