@@ -11,7 +11,7 @@ use client_settings::cache::Config;
 use client_views::Key;
 use dns_base::{Message, NoMemory};
 use std::alloc::Global;
-use std::collections::BTreeMap;
+use number_table::NumberTable;
 use std::marker::Model;
 
 /// A request that was handed on.
@@ -37,7 +37,7 @@ pub struct Kept {
     pub(crate) alloc: Global,
     pub(crate) config: Config,
     pub(crate) table: Table,
-    pub(crate) waiting: BTreeMap<u64, Job>,
+    pub(crate) waiting: NumberTable<Job>,
 }
 
 impl Model for Kept {
@@ -58,7 +58,7 @@ impl Kept {
             alloc,
             config,
             table,
-            waiting: BTreeMap::new(alloc),
+            waiting: NumberTable::new(alloc),
         })
     }
 }
@@ -116,7 +116,7 @@ fn settle<W: Words>(kept: &mut Kept, cx: &mut Cx<'_, W>, posted: Posted) -> Resu
     ensures ok { OnOk result ((kept.new, view_of W.stream cx.new) ≡ plain.settles posted kept.old (view_of W.stream cx.old)) }
 {
     let Posted { ticket, part } = posted;
-    match kept.waiting.remove(&ticket) {
+    match kept.waiting.remove(ticket) {
         None => cx.board.put(ticket, part),
         Some(job) => give(kept, cx, job, part),
     }

@@ -237,7 +237,7 @@ pub(crate) fn give_up<CR: ComposeRequest, U: SendRequest<CR>, W: Words>(
     let Some(response) = response else {
         return Ok(());
     };
-    let Some(_job) = kept.waiting.remove(&response.ticket()) else {
+    let Some(_job) = kept.waiting.remove(response.ticket()) else {
         return Ok(());
     };
     let mut board = Board::new(kept.alloc);

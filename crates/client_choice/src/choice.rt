@@ -14,7 +14,7 @@ use client_request::{ComposeRequest, Cx, Error, SendRequest, TimerId, Words};
 use client_settings::redundant::Config;
 use dns_base::{Message, NoMemory, OptRcode};
 use std::alloc::Global;
-use std::collections::BTreeMap;
+use number_table::NumberTable;
 use std::marker::Model;
 
 /// Refused by policy (RFC 1035 4.1.1).
@@ -28,8 +28,8 @@ const SERVFAIL: OptRcode = OptRcode(2);
 pub struct Choice<Req, U: SendRequest<Req>> {
     pub(crate) alloc: Global,
     pub(crate) servers: Vec<Server<U>>,
-    pub(crate) jobs: BTreeMap<u64, Job<Req, U::Response>>,
-    pub(crate) timers: BTreeMap<u64, u64>,
+    pub(crate) jobs: NumberTable<Job<Req, U::Response>>,
+    pub(crate) timers: NumberTable<u64>,
 }
 
 impl<Req, U: SendRequest<Req>> Model for Choice<Req, U> {
@@ -48,8 +48,8 @@ impl<Req, U: SendRequest<Req>> Choice<Req, U> {
         Choice {
             alloc,
             servers: Vec::new(alloc),
-            jobs: BTreeMap::new(alloc),
-            timers: BTreeMap::new(alloc),
+            jobs: NumberTable::new(alloc),
+            timers: NumberTable::new(alloc),
         }
     }
 }
@@ -85,7 +85,7 @@ pub(crate) fn is_deferred(config: &Config, part: &Result<Option<Message>, Error>
 
 /// Sets the timer that starts the next server, if there is one.
 pub(crate) fn arm<Req: Drop, P: Drop, W: Words>(
-    timers: &mut BTreeMap<u64, u64>,
+    timers: &mut NumberTable<u64>,
     cx: &mut Cx<'_, W>,
     ticket: u64,
     job: &mut Job<Req, P>,
@@ -109,7 +109,7 @@ pub(crate) fn arm<Req: Drop, P: Drop, W: Words>(
 
 /// Cancels the timer that would start the next server, if one is set.
 pub(crate) fn disarm<W: Words>(
-    timers: &mut BTreeMap<u64, u64>,
+    timers: &mut NumberTable<u64>,
     cx: &mut Cx<'_, W>,
     timer: Option<u64>,
 )
@@ -118,7 +118,7 @@ pub(crate) fn disarm<W: Words>(
     ensures view { view_of W.stream cx.new ≡ plain.stopped timer (view_of W.stream cx.old) }
 {
     if let Some(timer) = timer {
-        let _ = timers.remove(&timer);
+        let _ = timers.remove(timer);
         cx.timers.cancel(TimerId(timer));
     }
 }

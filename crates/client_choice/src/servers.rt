@@ -14,7 +14,7 @@ use client_request::{
 };
 use dns_base::Message;
 use std::alloc::Global;
-use std::collections::BTreeMap;
+use number_table::NumberTable;
 use std::marker::Model;
 use std::mem;
 
@@ -27,7 +27,7 @@ pub struct Server<U> {
     /// How many requests were started there; the count stands still at its last value.
     pub(crate) starts: u64,
     /// The ticket of each request that waits there, by its ticket there.
-    pub(crate) waiting: BTreeMap<u64, u64>,
+    pub(crate) waiting: NumberTable<u64>,
     /// What its transport posted and was not taken yet.
     pub(crate) posted: Board,
 }
@@ -64,7 +64,7 @@ impl<U> Server<U> {
             upstream,
             stats: Stats::new(),
             starts: 0,
-            waiting: BTreeMap::new(alloc),
+            waiting: NumberTable::new(alloc),
             posted: Board::new(alloc),
         }
     }
@@ -162,7 +162,7 @@ fn give_up<Req: ComposeRequest, U: SendRequest<Req>, W: Words>(
     ensures refused { IfErr result IsRefusal }
     ensures failed_only { IsErrOf result Error.Failed → U.holds_failed server.old.upstream ≡ true }
 {
-    let _ = server.waiting.remove(&lower);
+    let _ = server.waiting.remove(lower);
     cancel_below(&mut server.upstream, &mut server.posted, cx, response)
 }
 
@@ -271,5 +271,5 @@ pub(crate) fn take_owner<U>(servers: &mut Vec<Server<U>>, index: usize, lower: u
     ensures after { servers.new.items ≡ plain.disowned index lower servers.old.items }
 {
     let server = servers.get_mut(index)?;
-    server.waiting.remove(&lower)
+    server.waiting.remove(lower)
 }

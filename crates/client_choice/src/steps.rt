@@ -221,7 +221,7 @@ fn settle<Req: ComposeRequest, U: SendRequest<Req>, W: Words>(
         cx.board.put(lower, part)?;
         return Ok(());
     };
-    let Some(job) = choice.jobs.remove(&ticket) else {
+    let Some(job) = choice.jobs.remove(ticket) else {
         return Ok(());
     };
     let mut job = job;
@@ -304,7 +304,7 @@ fn fire<Req: ComposeRequest, U: SendRequest<Req>, W: Words>(
     ensures refused { IfErr result IsRefusal }
     ensures failed_only { IsErrOf result Error.Failed → of_servers.holds_failed U.holds_failed choice.old.servers ≡ true }
 {
-    let Some(job) = choice.jobs.remove(&ticket) else {
+    let Some(job) = choice.jobs.remove(ticket) else {
         return Ok(());
     };
     let mut job = job;
@@ -326,7 +326,7 @@ fn due<Req: ComposeRequest, U: SendRequest<Req>, W: Words>(
     ensures refused { IfErr result IsRefusal }
     ensures failed_only { IsErrOf result Error.Failed → of_servers.holds_failed U.holds_failed choice.old.servers ≡ true }
 {
-    match choice.timers.remove(&timer.0) {
+    match choice.timers.remove(timer.0) {
         Some(ticket) => fire(choice, config, cx, ticket),
         None => hear_all(choice, config, cx, Signal::Due(timer)),
     }
@@ -392,7 +392,7 @@ pub(crate) fn give_up<Req: ComposeRequest, U: SendRequest<Req>, W: Words>(
     ensures refused { IfErr result IsRefusal }
     ensures failed_only { IsErrOf result Error.Failed → of_servers.holds_failed U.holds_failed choice.old.servers ≡ true }
 {
-    let Some(job) = choice.jobs.remove(&ticket) else {
+    let Some(job) = choice.jobs.remove(ticket) else {
         return Ok(());
     };
     disarm(&mut choice.timers, cx, job.timer);

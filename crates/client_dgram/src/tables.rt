@@ -14,16 +14,17 @@ use client_request::{
 };
 use dns_base::{Message, Octets};
 use std::alloc::Global;
-use std::collections::{BTreeMap, BTreeSet};
+use number_table::NumberTable;
+use std::collections::BTreeSet;
 use std::marker::Model;
 
 /// The jobs by ticket, the ticket of each live place and of each read timer, the tickets that wait for
 /// a slot, and how many slots are held. Tickets rise, so the least that waits came first.
 #[derive(Debug, Drop)]
 pub struct Tables<Req> {
-    jobs: BTreeMap<u64, Job<Req>>,
-    places: BTreeMap<u64, u64>,
-    timers: BTreeMap<u64, u64>,
+    jobs: NumberTable<Job<Req>>,
+    places: NumberTable<u64>,
+    timers: NumberTable<u64>,
     queue: BTreeSet<u64>,
     used: usize,
 }
@@ -48,9 +49,9 @@ impl<Req> Tables<Req> {
         ensures { result ≡ plain.fresh }
     {
         Tables {
-            jobs: BTreeMap::new(alloc),
-            places: BTreeMap::new(alloc),
-            timers: BTreeMap::new(alloc),
+            jobs: NumberTable::new(alloc),
+            places: NumberTable::new(alloc),
+            timers: NumberTable::new(alloc),
             queue: BTreeSet::new(alloc),
             used: 0,
         }
@@ -107,7 +108,7 @@ fn give_on<Req: ComposeRequest, W: Words>(
             tables.used = tables.used.saturating_sub(1);
             Ok(())
         }
-        Some(ticket) => match tables.jobs.remove(&ticket) {
+        Some(ticket) => match tables.jobs.remove(ticket) {
             None => Ok(()),
             Some(job) => open_next(tables, server, cx, ticket, job),
         },
@@ -171,17 +172,17 @@ pub(crate) fn take_on<Req: ComposeRequest, W: Words>(
 }
 
 /// What stands in a table under a number.
-fn number_at(table: &BTreeMap<u64, u64>, key: u64) -> Option<u64>
+fn number_at(table: &NumberTable<u64>, key: u64) -> Option<u64>
     ensures { result ≡ entry_at key table.now.entries }
 {
-    table.get(&key).copied()
+    table.get(key).copied()
 }
 
 /// Where the request with a ticket is.
-fn stage_at<Req>(jobs: &BTreeMap<u64, Job<Req>>, ticket: u64) -> Option<Stage>
+fn stage_at<Req>(jobs: &NumberTable<Job<Req>>, ticket: u64) -> Option<Stage>
     ensures { result ≡ option_map (λ job. job.stage) (entry_at ticket jobs.now.entries) }
 {
-    let job = jobs.get(&ticket)?;
+    let job = jobs.get(ticket)?;
     Some(job.stage)
 }
 
@@ -205,7 +206,7 @@ fn send<Req: ComposeRequest, W: Words>(
         Ok(message) => message,
         Err(Error::NoMemory) => return Err(Error::NoMemory),
         Err(error) => {
-            let _ = tables.places.remove(&place);
+            let _ = tables.places.remove(place);
             cx.outs.push(Out::Close { place })?;
             return finish(tables, server, cx, ticket, Err(error));
         }
@@ -262,7 +263,7 @@ fn opened<Req: ComposeRequest, W: Words>(
     let Some(Stage::Opening { .. }) = stage_at(&tables.jobs, ticket) else {
         return Ok(());
     };
-    let Some(mut job) = tables.jobs.remove(&ticket) else {
+    let Some(mut job) = tables.jobs.remove(ticket) else {
         return Ok(());
     };
     let id = (cx.words.next() % 65536) as u16;
@@ -292,8 +293,8 @@ fn open_failed<Req: ComposeRequest, W: Words>(
     let Some(Stage::Opening { .. }) = stage_at(&tables.jobs, ticket) else {
         return Ok(());
     };
-    let _ = tables.jobs.remove(&ticket);
-    let _ = tables.places.remove(&place);
+    let _ = tables.jobs.remove(ticket);
+    let _ = tables.places.remove(place);
     finish(tables, server, cx, ticket, Err(error))
 }
 
@@ -301,9 +302,9 @@ fn open_failed<Req: ComposeRequest, W: Words>(
 fn leave<Req: ComposeRequest>(tables: &mut Tables<Req>, place: u64, ticket: u64, timer: u64)
     ensures { tables.new ≡ plain.leaves place ticket timer tables.old }
 {
-    let _ = tables.jobs.remove(&ticket);
-    let _ = tables.places.remove(&place);
-    let _ = tables.timers.remove(&timer);
+    let _ = tables.jobs.remove(ticket);
+    let _ = tables.places.remove(place);
+    let _ = tables.timers.remove(timer);
 }
 
 /// What came where a request was sent is its result: the place is closed.
@@ -351,13 +352,13 @@ fn broken<Req: ComposeRequest, W: Words>(
 
 /// The message of a datagram, where it is one that answers a job's request.
 fn answer_in<Req: ComposeRequest>(
-    jobs: &BTreeMap<u64, Job<Req>>,
+    jobs: &NumberTable<Job<Req>>,
     ticket: u64,
     octets: Octets,
 ) -> Option<Message>
     ensures { result ≡ plain.answer_in Req.requests octets (entry_at ticket jobs.now.entries) }
 {
-    let job = jobs.get(&ticket)?;
+    let job = jobs.get(ticket)?;
     let Ok(message) = Message::from_octets(octets) else {
         return None;
     };
@@ -408,16 +409,16 @@ fn late<Req: ComposeRequest, W: Words>(
     ensures numbers { NumbersRunOut result (plain.late server timer tables.old (view_of W.stream cx.old)) }
     ensures want { IfErr result IsWant }
 {
-    let Some(ticket) = tables.timers.remove(&timer) else {
+    let Some(ticket) = tables.timers.remove(timer) else {
         return Ok(());
     };
     let Some(Stage::Sent { place, .. }) = stage_at(&tables.jobs, ticket) else {
         return Ok(());
     };
-    let Some(mut job) = tables.jobs.remove(&ticket) else {
+    let Some(mut job) = tables.jobs.remove(ticket) else {
         return Ok(());
     };
-    let _ = tables.places.remove(&place);
+    let _ = tables.places.remove(place);
     cx.outs.push(Out::Close { place })?;
     if job.left == 0 {
         return finish(
@@ -505,13 +506,13 @@ pub(crate) fn give_up<Req: ComposeRequest, W: Words>(
     };
     match stage {
         Stage::Queued => {
-            let _ = tables.jobs.remove(&ticket);
+            let _ = tables.jobs.remove(ticket);
             let _ = tables.queue.remove(&ticket);
             return Ok(());
         }
         Stage::Opening { place } => {
-            let _ = tables.jobs.remove(&ticket);
-            let _ = tables.places.remove(&place);
+            let _ = tables.jobs.remove(ticket);
+            let _ = tables.places.remove(place);
             cx.outs.push(Out::Close { place })?;
         }
         Stage::Sent { place, timer } => {

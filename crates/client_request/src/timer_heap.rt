@@ -13,7 +13,7 @@ ghost use Rattle.client_request.specs.Numbered.{entry_at, puts};
 
 use crate::error::Error;
 use crate::timers::TimerId;
-use std::collections::BTreeMap;
+use number_table::NumberTable;
 
 /// When a timer is due, and its number.
 type Entry = (u128, TimerId);
@@ -106,17 +106,17 @@ fn pop_top(heap: &mut Vec<Entry>) -> Entry
 }
 
 /// Whether the timer at the top is cancelled.
-fn is_cancelled_at_top(heap: &[Entry], table: &BTreeMap<u64, u128>) -> bool
+fn is_cancelled_at_top(heap: &[Entry], table: &NumberTable<u128>) -> bool
     ensures { result ≡ top_is_cancelled table.now.entries heap.now }
 {
     match heap {
         [] => false,
-        [top, ..] => !table.contains_key(&top.1.0),
+        [top, ..] => !table.contains_key(top.1.0),
     }
 }
 
 /// Drops the cancelled timers at the top, until one that is set stands there or none is left.
-pub(crate) fn settle(heap: &mut Vec<Entry>, table: &BTreeMap<u64, u128>)
+pub(crate) fn settle(heap: &mut Vec<Entry>, table: &NumberTable<u128>)
     ensures drops { DropsCancelled table.now.entries heap.old.items heap.new.items }
     ensures top { top_is_cancelled table.now.entries heap.new.items ≡ false }
 {
@@ -126,17 +126,17 @@ pub(crate) fn settle(heap: &mut Vec<Entry>, table: &BTreeMap<u64, u128>)
 }
 
 /// Drops all cancelled timers.
-fn drop_cancelled(heap: &mut Vec<Entry>, table: &BTreeMap<u64, u128>)
+fn drop_cancelled(heap: &mut Vec<Entry>, table: &NumberTable<u128>)
     ensures drops { DropsCancelled table.now.entries heap.old.items heap.new.items }
     ensures set { All (λ e. IsSome (entry_at e.1.0 table.now.entries)) heap.new.items }
 {
-    heap.retain(|entry| table.contains_key(&entry.1.0));
+    heap.retain(|entry| table.contains_key(entry.1.0));
     rebuild(heap.as_mut_slice());
 }
 
 /// Drops all cancelled timers where they are more than half of a heap that is not small: each that is dropped
 /// pays for less than one that stays. It takes no memory.
-pub(crate) fn compact(heap: &mut Vec<Entry>, table: &BTreeMap<u64, u128>)
+pub(crate) fn compact(heap: &mut Vec<Entry>, table: &NumberTable<u128>)
     ensures drops { DropsCancelled table.now.entries heap.old.items heap.new.items }
     ensures bound { IsDistinct nat_eq (numbers_of heap.old.items) → length heap.new.items ≤ 2 * length table.now.entries + 16 }
 {
@@ -148,7 +148,7 @@ pub(crate) fn compact(heap: &mut Vec<Entry>, table: &BTreeMap<u64, u128>)
 /// Puts a timer into the table and the heap. After a refusal both are as they were.
 pub(crate) fn add(
     heap: &mut Vec<Entry>,
-    table: &mut BTreeMap<u64, u128>,
+    table: &mut NumberTable<u128>,
     due: u128,
     id: TimerId,
 ) -> Result<(), Error>

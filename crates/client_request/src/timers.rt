@@ -9,7 +9,7 @@ use crate::error::Error;
 use crate::event::Moment;
 use crate::timer_heap::{add, compact, settle};
 use std::alloc::Global;
-use std::collections::BTreeMap;
+use number_table::NumberTable;
 use std::marker::Model;
 
 /// The number of a timer. Numbers rise from 0 in the order in which timers are set.
@@ -30,7 +30,7 @@ pub struct Timer {
 #[derive(Drop)]
 pub struct Timers {
     heap: Vec<(u128, TimerId)>,
-    table: BTreeMap<u64, u128>,
+    table: NumberTable<u128>,
     next: u64,
 }
 
@@ -52,7 +52,7 @@ impl Timers {
     {
         Timers {
             heap: Vec::new(alloc),
-            table: BTreeMap::new(alloc),
+            table: NumberTable::new(alloc),
             next: 0,
         }
     }
@@ -86,7 +86,7 @@ impl Timers {
     pub fn cancel(&mut self, id: TimerId)
         ensures { self.new ≡ cancelled id.0 self.old }
     {
-        let _ = self.table.remove(&id.0);
+        let _ = self.table.remove(id.0);
         compact(&mut self.heap, &self.table);
         settle(&mut self.heap, &self.table);
     }

@@ -8,7 +8,7 @@ ghost use Rattle.client_request.specs.Numbered.{entry_at};
 use client_request::{Cx, Error, Out, Posted, TimerId, Words};
 use dns_base::{Message, NoMemory};
 use std::alloc::Global;
-use std::collections::BTreeMap;
+use number_table::NumberTable;
 use std::marker::Model;
 
 /// A request that waits: the number that its reply will have, its deadline's timer, and what stands for
@@ -27,8 +27,8 @@ pub struct Waiting<P> {
 /// of the next request.
 #[derive(Drop)]
 pub struct Asked<P> {
-    waiting: BTreeMap<u64, Waiting<P>>,
-    deadlines: BTreeMap<u64, u64>,
+    waiting: NumberTable<Waiting<P>>,
+    deadlines: NumberTable<u64>,
     next: u64,
 }
 
@@ -57,8 +57,8 @@ impl<P: Drop> Asked<P> {
         ensures { result ≡ plain.nothing_asked }
     {
         Asked {
-            waiting: BTreeMap::new(alloc),
-            deadlines: BTreeMap::new(alloc),
+            waiting: NumberTable::new(alloc),
+            deadlines: NumberTable::new(alloc),
             next: 0,
         }
     }
@@ -75,8 +75,8 @@ impl<P: Drop> Asked<P> {
         ensures value { result ≡ entry_at ticket self.old.waiting }
         ensures after { self.new ≡ plain.without_request ticket (entry_at ticket self.old.waiting) self.old }
     {
-        let waiting = self.waiting.remove(&ticket)?;
-        let _ = self.deadlines.remove(&waiting.timer);
+        let waiting = self.waiting.remove(ticket)?;
+        let _ = self.deadlines.remove(waiting.timer);
         Some(waiting)
     }
 
@@ -85,8 +85,8 @@ impl<P: Drop> Asked<P> {
         ensures value { result ≡ option_map (λ ticket. entry_at ticket self.old.waiting) (entry_at timer self.old.deadlines) }
         ensures after { self.new ≡ plain.without_late timer (entry_at timer self.old.deadlines) self.old }
     {
-        let ticket = self.deadlines.remove(&timer)?;
-        Some(self.waiting.remove(&ticket))
+        let ticket = self.deadlines.remove(timer)?;
+        Some(self.waiting.remove(ticket))
     }
 
     /// Keeps a request that waits. Its number is that of the next request.

@@ -34,7 +34,7 @@ fn deliver_part<Req: ComposeRequest, ReqMulti: ComposeRequestMulti, W: Words>(
     let (ends, state, taken) = check_stream(&request, state, &message);
     cx.board.put(ticket, part_of(message, taken))?;
     if ends {
-        let _ = line.ids.remove(&ticket);
+        let _ = line.ids.remove(ticket);
         return cx.board.put(ticket, Ok(None));
     }
     let holder = Holder::Transfers {
@@ -63,7 +63,7 @@ fn deliver<Req: ComposeRequest, ReqMulti: ComposeRequestMulti, W: Words>(
     match holder {
         Holder::GivenUp => Ok(()),
         Holder::Waits { ticket, request } => {
-            let _ = line.ids.remove(&ticket);
+            let _ = line.ids.remove(ticket);
             let part = if request.is_answer(&message) {
                 Ok(Some(message))
             } else {

@@ -13,7 +13,7 @@ use crate::stage::Stage;
 use client_request::{Board, ComposeRequest, ComposeRequestMulti, Cx, Error, Out, TimerId, Words};
 use dns_base::{Duration, NoMemory, Octets};
 use std::alloc::Global;
-use std::collections::BTreeMap;
+use number_table::NumberTable;
 use std::marker::Model;
 
 /// Who holds each id, the id of each request that waits for its answer, the requests that were not
@@ -22,8 +22,8 @@ use std::marker::Model;
 pub struct Line<Req, ReqMulti> {
     pub(crate) alloc: Global,
     pub(crate) held: Queries<Holder<Req, ReqMulti>>,
-    pub(crate) ids: BTreeMap<u64, u16>,
-    pub(crate) queue: BTreeMap<u64, Waiting<Req, ReqMulti>>,
+    pub(crate) ids: NumberTable<u16>,
+    pub(crate) queue: NumberTable<Waiting<Req, ReqMulti>>,
     /// What is outstanding of the frame that is being written.
     pub(crate) writing: Option<Octets>,
     pub(crate) stage: Stage,
@@ -59,8 +59,8 @@ impl<Req: Drop, ReqMulti: Drop> Line<Req, ReqMulti> {
         Line {
             alloc,
             held: Queries::new(alloc),
-            ids: BTreeMap::new(alloc),
-            queue: BTreeMap::new(alloc),
+            ids: NumberTable::new(alloc),
+            queue: NumberTable::new(alloc),
             writing: None,
             stage: Stage::New,
             timeout: config.response_timeout(),
@@ -126,7 +126,7 @@ fn fail_holders<Req: Drop, ReqMulti: Drop>(
 /// Gives an error to the requests that were not written, in order.
 fn fail_queued<Req: Drop, ReqMulti: Drop>(
     board: &mut Board,
-    queue: &mut BTreeMap<u64, Waiting<Req, ReqMulti>>,
+    queue: &mut NumberTable<Waiting<Req, ReqMulti>>,
 ) -> Result<(), NoMemory>
     ensures ok { OnOk result (board.new ≡ plain.fails_queued queue.old.entries board.old) }
     ensures empty { OnOk result (queue.new.entries ≡ []) }
@@ -336,10 +336,10 @@ pub(crate) fn give_up<Req: ComposeRequest, ReqMulti: ComposeRequestMulti>(
 )
     ensures { line.new ≡ plain.gives_up ticket line.old }
 {
-    if line.queue.remove(&ticket).is_some() {
+    if line.queue.remove(ticket).is_some() {
         return;
     }
-    let Some(id) = line.ids.remove(&ticket) else {
+    let Some(id) = line.ids.remove(ticket) else {
         return;
     };
     if line.held.try_remove(id).is_some() {

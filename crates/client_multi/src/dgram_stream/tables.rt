@@ -7,15 +7,15 @@ ghost use Rattle.client_multi.specs.Fallback as plain;
 use crate::dgram_stream::job::Job;
 use client_request::{Error, SendRequest};
 use std::alloc::Global;
-use std::collections::BTreeMap;
+use number_table::NumberTable;
 use std::marker::Model;
 
 /// The requests that wait by ticket, and the ticket of each by that under which its result comes from
 /// below.
 #[derive(Drop)]
 pub struct Tables<Req, P, Q> {
-    jobs: BTreeMap<u64, Job<Req, P, Q>>,
-    tickets: BTreeMap<u64, u64>,
+    jobs: NumberTable<Job<Req, P, Q>>,
+    tickets: NumberTable<u64>,
 }
 
 impl<Req, P, Q> Model for Tables<Req, P, Q> {
@@ -32,8 +32,8 @@ impl<Req, P, Q> Tables<Req, P, Q> {
         ensures { result ≡ plain.fresh }
     {
         Tables {
-            jobs: BTreeMap::new(alloc),
-            tickets: BTreeMap::new(alloc),
+            jobs: NumberTable::new(alloc),
+            tickets: NumberTable::new(alloc),
         }
     }
 }
@@ -59,8 +59,8 @@ impl<Req: Drop, P: Drop, Q: Drop> Tables<Req, P, Q> {
         ensures value { result ≡ plain.waiting_below lower self.old }
         ensures after { self.new ≡ plain.without_below lower self.old }
     {
-        let ticket = self.tickets.remove(&lower)?;
-        let job = self.jobs.remove(&ticket)?;
+        let ticket = self.tickets.remove(lower)?;
+        let job = self.jobs.remove(ticket)?;
         Some((ticket, job))
     }
 
@@ -69,8 +69,8 @@ impl<Req: Drop, P: Drop, Q: Drop> Tables<Req, P, Q> {
         ensures value { result ≡ entry_at ticket self.old.jobs }
         ensures after { self.new ≡ plain.without ticket self.old }
     {
-        let job = self.jobs.remove(&ticket)?;
-        let _ = self.tickets.remove(&job.lower());
+        let job = self.jobs.remove(ticket)?;
+        let _ = self.tickets.remove(job.lower());
         Some(job)
     }
 }

@@ -200,7 +200,7 @@ fn hand_waiting<Req: ComposeRequest, S: OneStream<Req>, W: Words>(
     ensures numbers { NumbersRunOut result (plain.at_ticket (plain.hands S.machine server) ticket tables.old (view_of W.stream cx.old)) }
     ensures want { IfErr result IsWant }
 {
-    let Some(job) = tables.jobs.remove(&ticket) else {
+    let Some(job) = tables.jobs.remove(ticket) else {
         return Ok(());
     };
     hand(tables, server, cx, ticket, job)
@@ -236,7 +236,7 @@ fn back_off_waiting<Req: ComposeRequest, S: OneStream<Req>, W: Words>(
     ensures numbers { NumbersRunOut result (plain.at_ticket plain.backs_off ticket tables.old (view_of W.stream cx.old)) }
     ensures want { IfErr result IsWant }
 {
-    let Some(job) = tables.jobs.remove(&ticket) else {
+    let Some(job) = tables.jobs.remove(ticket) else {
         return Ok(());
     };
     back_off(tables, cx, ticket, job)
@@ -349,7 +349,7 @@ fn give_up_at<Req: ComposeRequest, S: OneStream<Req>, W: Words>(
     ensures numbers { NumbersRunOut result (plain.gives_up_at S.machine place response tables.old (view_of W.stream cx.old)) }
     ensures want { IfErr result IsWant }
 {
-    let _ = tables.inner.remove(&response.ticket());
+    let _ = tables.inner.remove(response.ticket());
     let Some(connection) = take_at(tables, place) else {
         return Ok(());
     };
@@ -376,7 +376,7 @@ fn leave<Req: ComposeRequest, S: OneStream<Req>, W: Words>(
             Ok(())
         }
         Stage::Resting { timer } => {
-            let _ = tables.timers.remove(&timer);
+            let _ = tables.timers.remove(timer);
             cx.timers.cancel(TimerId(timer));
             Ok(())
         }
@@ -395,10 +395,10 @@ pub(crate) fn give_up<Req: ComposeRequest, S: OneStream<Req>, W: Words>(
     ensures numbers { NumbersRunOut result (plain.drops S.machine ticket tables.old (view_of W.stream cx.old)) }
     ensures want { IfErr result IsWant }
 {
-    let Some(job) = tables.jobs.remove(&ticket) else {
+    let Some(job) = tables.jobs.remove(ticket) else {
         return Ok(());
     };
-    let _ = tables.timers.remove(&job.end);
+    let _ = tables.timers.remove(job.end);
     cx.timers.cancel(TimerId(job.end));
     leave(tables, cx, ticket, job.stage)
 }
@@ -433,7 +433,7 @@ fn fire<Req: ComposeRequest, S: OneStream<Req>, W: Words>(
     ensures numbers { NumbersRunOut result (plain.at_ticket (plain.fires S.machine server timer) ticket tables.old (view_of W.stream cx.old)) }
     ensures want { IfErr result IsWant }
 {
-    let Some(job) = tables.jobs.remove(&ticket) else {
+    let Some(job) = tables.jobs.remove(ticket) else {
         return Ok(());
     };
     if timer == job.end {
@@ -455,9 +455,9 @@ fn due<Req: ComposeRequest, S: OneStream<Req>, W: Words>(
     ensures numbers { NumbersRunOut result (plain.due S.machine server timer tables.old (view_of W.stream cx.old)) }
     ensures want { IfErr result IsWant }
 {
-    match tables.timers.remove(&timer) {
+    match tables.timers.remove(timer) {
         Some(ticket) => fire(tables, server, cx, timer, ticket),
-        None => match tables.watches.get(&timer).copied() {
+        None => match tables.watches.get(timer).copied() {
             None => Ok(()),
             Some(place) => hear_at(tables, cx, place, Signal::Due(TimerId(timer))),
         },

@@ -13,6 +13,7 @@ use crate::multi_stream::retry::retry_due;
 use client_request::{Board, ComposeRequest, Cx, Error, Posted, TimerId, Words};
 use dns_base::{Message, NoMemory};
 use std::alloc::Global;
+use number_table::NumberTable;
 use std::collections::{BTreeMap, BTreeSet};
 use std::marker::Model;
 
@@ -22,12 +23,12 @@ use std::marker::Model;
 #[derive(Drop)]
 pub struct Tables<Req, S> {
     pub(crate) alloc: Global,
-    pub(crate) jobs: BTreeMap<u64, Job<Req>>,
-    pub(crate) timers: BTreeMap<u64, u64>,
-    pub(crate) inner: BTreeMap<u64, u64>,
+    pub(crate) jobs: NumberTable<Job<Req>>,
+    pub(crate) timers: NumberTable<u64>,
+    pub(crate) inner: NumberTable<u64>,
     pub(crate) waiting: BTreeSet<u64>,
     pub(crate) connections: BTreeMap<u64, S>,
-    pub(crate) watches: BTreeMap<u64, u64>,
+    pub(crate) watches: NumberTable<u64>,
     /// The place that opens.
     pub(crate) opening: Option<u64>,
     /// How often none was opened since one was; the count stands still at its last value.
@@ -61,12 +62,12 @@ impl<Req, S> Tables<Req, S> {
     {
         Tables {
             alloc,
-            jobs: BTreeMap::new(alloc),
-            timers: BTreeMap::new(alloc),
-            inner: BTreeMap::new(alloc),
+            jobs: NumberTable::new(alloc),
+            timers: NumberTable::new(alloc),
+            inner: NumberTable::new(alloc),
             waiting: BTreeSet::new(alloc),
             connections: BTreeMap::new(alloc),
-            watches: BTreeMap::new(alloc),
+            watches: NumberTable::new(alloc),
             opening: None,
             refusals: 0,
             calm: 0,
@@ -162,7 +163,7 @@ fn get_part<Req: ComposeRequest, S: OneStream<Req>, W: Words>(
     ensures want { IfErr result IsWant }
 {
     if is_result(&part) {
-        let _ = tables.timers.remove(&job.end);
+        let _ = tables.timers.remove(job.end);
         cx.timers.cancel(TimerId(job.end));
         cx.board.put(ticket, part)?;
         return Ok(());
@@ -185,10 +186,10 @@ fn collect_one<Req: ComposeRequest, S: OneStream<Req>, W: Words>(
         ticket: inner,
         part,
     } = posted;
-    let Some(ticket) = tables.inner.remove(&inner) else {
+    let Some(ticket) = tables.inner.remove(inner) else {
         return Ok(());
     };
-    let Some(job) = tables.jobs.remove(&ticket) else {
+    let Some(job) = tables.jobs.remove(ticket) else {
         return Ok(());
     };
     get_part(tables, cx, ticket, job, part)
@@ -240,7 +241,7 @@ pub(crate) fn take_at<Req: ComposeRequest, S: OneStream<Req>>(
 {
     let connection = tables.connections.remove(&place)?;
     if let Some(timer) = connection.timer() {
-        let _ = tables.watches.remove(&timer);
+        let _ = tables.watches.remove(timer);
     }
     Some(connection)
 }
