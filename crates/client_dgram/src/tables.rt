@@ -13,8 +13,8 @@ use client_request::{
     ComposeRequest, Cx, Error, Fault, Out, QueryError, Signal, TimerId, What, Words,
 };
 use dns_base::{Message, Octets};
-use std::alloc::Global;
 use number_table::NumberTable;
+use std::alloc::Global;
 use std::collections::BTreeSet;
 use std::marker::Model;
 
@@ -35,9 +35,9 @@ impl<Req> Model for Tables<Req> {
     ghost Value = { Tables Req };
 
     ghost view = { λ s. record {
-      jobs = s.jobs.entries;
-      places = s.places.entries;
-      timers = s.timers.entries;
+      jobs = s.jobs;
+      places = s.places;
+      timers = s.timers;
       queue = s.queue.keys;
       used = s.used;
     } };
@@ -173,14 +173,14 @@ pub(crate) fn take_on<Req: ComposeRequest, W: Words>(
 
 /// What stands in a table under a number.
 fn number_at(table: &NumberTable<u64>, key: u64) -> Option<u64>
-    ensures { result ≡ entry_at key table.now.entries }
+    ensures { result ≡ entry_at key table.now }
 {
     table.get(key).copied()
 }
 
 /// Where the request with a ticket is.
 fn stage_at<Req>(jobs: &NumberTable<Job<Req>>, ticket: u64) -> Option<Stage>
-    ensures { result ≡ option_map (λ job. job.stage) (entry_at ticket jobs.now.entries) }
+    ensures { result ≡ option_map (λ job. job.stage) (entry_at ticket jobs.now) }
 {
     let job = jobs.get(ticket)?;
     Some(job.stage)
@@ -356,7 +356,7 @@ fn answer_in<Req: ComposeRequest>(
     ticket: u64,
     octets: Octets,
 ) -> Option<Message>
-    ensures { result ≡ plain.answer_in Req.requests octets (entry_at ticket jobs.now.entries) }
+    ensures { result ≡ plain.answer_in Req.requests octets (entry_at ticket jobs.now) }
 {
     let job = jobs.get(ticket)?;
     let Ok(message) = Message::from_octets(octets) else {
