@@ -107,7 +107,7 @@ fn pop_top(heap: &mut Vec<Entry>) -> Entry
 
 /// Whether the timer at the top is cancelled.
 fn is_cancelled_at_top(heap: &[Entry], table: &NumberTable<u128>) -> bool
-    ensures { result ≡ top_is_cancelled table.now.entries heap.now }
+    ensures { result ≡ top_is_cancelled table.now heap.now }
 {
     match heap {
         [] => false,
@@ -117,8 +117,8 @@ fn is_cancelled_at_top(heap: &[Entry], table: &NumberTable<u128>) -> bool
 
 /// Drops the cancelled timers at the top, until one that is set stands there or none is left.
 pub(crate) fn settle(heap: &mut Vec<Entry>, table: &NumberTable<u128>)
-    ensures drops { DropsCancelled table.now.entries heap.old.items heap.new.items }
-    ensures top { top_is_cancelled table.now.entries heap.new.items ≡ false }
+    ensures drops { DropsCancelled table.now heap.old.items heap.new.items }
+    ensures top { top_is_cancelled table.now heap.new.items ≡ false }
 {
     while is_cancelled_at_top(heap, table) {
         let _cancelled = pop_top(heap);
@@ -127,8 +127,8 @@ pub(crate) fn settle(heap: &mut Vec<Entry>, table: &NumberTable<u128>)
 
 /// Drops all cancelled timers.
 fn drop_cancelled(heap: &mut Vec<Entry>, table: &NumberTable<u128>)
-    ensures drops { DropsCancelled table.now.entries heap.old.items heap.new.items }
-    ensures set { All (λ e. IsSome (entry_at e.1.0 table.now.entries)) heap.new.items }
+    ensures drops { DropsCancelled table.now heap.old.items heap.new.items }
+    ensures set { All (λ e. IsSome (entry_at e.1.0 table.now)) heap.new.items }
 {
     heap.retain(|entry| table.contains_key(entry.1.0));
     rebuild(heap.as_mut_slice());
@@ -137,8 +137,8 @@ fn drop_cancelled(heap: &mut Vec<Entry>, table: &NumberTable<u128>)
 /// Drops all cancelled timers where they are more than half of a heap that is not small: each that is dropped
 /// pays for less than one that stays. It takes no memory.
 pub(crate) fn compact(heap: &mut Vec<Entry>, table: &NumberTable<u128>)
-    ensures drops { DropsCancelled table.now.entries heap.old.items heap.new.items }
-    ensures bound { IsDistinct nat_eq (numbers_of heap.old.items) → length heap.new.items ≤ 2 * length table.now.entries + 16 }
+    ensures drops { DropsCancelled table.now heap.old.items heap.new.items }
+    ensures bound { IsDistinct nat_eq (numbers_of heap.old.items) → length heap.new.items ≤ 2 * length table.now + 16 }
 {
     if COMPACT_ABOVE < heap.len() && table.len() < heap.len() / 2 {
         drop_cancelled(heap, table);
@@ -152,11 +152,11 @@ pub(crate) fn add(
     due: u128,
     id: TimerId,
 ) -> Result<(), Error>
-    ensures table { OnOk result (table.new.entries ≡ puts id.0 due table.old.entries) }
+    ensures table { OnOk result (table.new ≡ puts id.0 due table.old) }
     ensures order { OnOk result (KeepsHeap urgency_cmp heap.old.items heap.new.items) }
     ensures added { OnOk result (IsPermutation ((due, id) ∷ heap.old.items) heap.new.items) }
     ensures refused { IfErr result (λ e. e ≡ Error.NoMemory) }
-    ensures table_err { OnErr result (table.new.entries ≡ table.old.entries) }
+    ensures table_err { OnErr result (table.new ≡ table.old) }
     ensures heap_err { OnErr result (heap.new.items ≡ heap.old.items) }
 {
     let last = heap.len();

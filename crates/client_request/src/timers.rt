@@ -8,8 +8,8 @@ ghost use Rattle.client_request.specs.Timers.{next_due, with_timer, cancelled, d
 use crate::error::Error;
 use crate::event::Moment;
 use crate::timer_heap::{add, compact, settle};
-use std::alloc::Global;
 use number_table::NumberTable;
+use std::alloc::Global;
 use std::marker::Model;
 
 /// The number of a timer. Numbers rise from 0 in the order in which timers are set.
@@ -40,9 +40,9 @@ impl Model for Timers {
 
     ghost Value = { TimerList };
 
-    ghost view = { λ t. record { next = t.next; set = timers_of t.table.entries } };
+    ghost view = { λ t. record { next = t.next; set = timers_of t.table } };
 
-    ghost invariant = { λ t. IsHeapOf t.next t.table.entries t.heap.items };
+    ghost invariant = { λ t. IsHeapOf t.next t.table t.heap.items };
 }
 
 impl Timers {

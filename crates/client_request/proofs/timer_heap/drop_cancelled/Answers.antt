@@ -10,7 +10,7 @@ use Rattle.client_request.specs.TimerHeap.{DropsCancelled}
 use Rattle.client_request.proofs.TimerMoves.{drops_all, all_set, written}
 use Rattle.client_request.proofs.timer_heap.drop_cancelled.Goals as goal
 
-kept : (c : goal.After-heap-1) → c.retain.new.self.items ≡ filter (λ e. is_some (entry_at e.1.0 c.args.table.now.entries)) c.args.heap.now.items
+kept : (c : goal.After-heap-1) → c.retain.new.self.items ≡ filter (λ e. is_some (entry_at e.1.0 c.args.table.now)) c.args.heap.now.items
 kept c = filter_same _ _ _ (λ x b f' k. search rules) _ _ c.retain.ensures.filtered
 
 moved : (c : goal.After-heap-1) → IsPermutation c.retain.new.self.items c.rebuild.new.heap
@@ -24,8 +24,8 @@ as_given c =
 
 pub returns-clause-drops : goal.returns-clause-drops
 returns-clause-drops c =
-    subst (DropsCancelled c.args.table.now.entries c.args.heap.now.items) (sym (as_given c)) (drops_all _ _ _ _ (kept c) (moved c) c.rebuild.ensures.order)
+    subst (DropsCancelled c.args.table.now c.args.heap.now.items) (sym (as_given c)) (drops_all _ _ _ _ (kept c) (moved c) c.rebuild.ensures.order)
 
 pub returns-clause-set : goal.returns-clause-set
 returns-clause-set c =
-    subst (All (λ e. IsSome (entry_at e.1.0 c.args.table.now.entries))) (sym (as_given c)) (all_set _ _ _ _ (kept c) (moved c))
+    subst (All (λ e. IsSome (entry_at e.1.0 c.args.table.now))) (sym (as_given c)) (all_set _ _ _ _ (kept c) (moved c))

@@ -17,5 +17,5 @@ loop-heap-preserved c =
     let lent = c.deref.ensures.value in
     let tested = c.is_cancelled_at_top.ensures in
     let true' = c.loop-heap-test.true in
-    let gone : top_is_cancelled c.args.table.now.entries c.loop-heap.heap.items ≡ true = cc in
+    let gone : top_is_cancelled c.args.table.now c.loop-heap.heap.items ≡ true = cc in
     drops_more _ _ _ _ c.loop-heap.invariant (drops_top _ _ _ c.pop_top-cancelled.result gone told.top told.taken told.order)

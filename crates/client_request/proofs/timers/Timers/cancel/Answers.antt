@@ -12,10 +12,10 @@ invariant_of-self c =
     let old = c.self.inside.heap.items in
     let between = c.compact.new.heap.items in
     let heap = c.settle.new.heap.items in
-    let drops : DropsCancelled c.remove.new.self.entries old heap = drops_more _ _ _ _ c.compact.ensures.drops c.settle.ensures.drops in
+    let drops : DropsCancelled c.remove.new.self old heap = drops_more _ _ _ _ c.compact.ensures.drops c.settle.ensures.drops in
     let before = c.compact.ensures.bound c.self.invariant.once in
     let fewer = c.settle.ensures.drops.fewer in
-    let bound : length heap ≤ 2 * length c.remove.new.self.entries + 16 = omega arith in
+    let bound : length heap ≤ 2 * length c.remove.new.self + 16 = omega arith in
     subst (λ (t : List (ℕ × ℕ)). IsHeapOf c.self.inside.next t heap) (sym left)
     (cancel_kept _ c.args.id.0 _ _ heap c.self.invariant
     (subst (λ (t : List (ℕ × ℕ)). DropsCancelled t old heap) left drops)
@@ -24,5 +24,5 @@ invariant_of-self c =
 
 pub returns : goal.returns
 returns c =
-    let is = ap timers_of c.remove.ensures.entries ∙ timers_of-frees c.args.id.0 c.self.inside.table.entries in
+    let is = ap timers_of c.remove.ensures.entries ∙ timers_of-frees c.args.id.0 c.self.inside.table in
     (λ i. record { next = c.self.inside.next; set = is i }) ∙ ap (cancelled c.args.id.0) c.self.view_is

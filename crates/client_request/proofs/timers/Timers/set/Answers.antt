@@ -14,7 +14,7 @@ invariant_of-self-2 c =
     let told = c.in_ok-add.ensures in
     let next = drawn c in
     let kept = set_kept c.self.inside.next c.args.due _ _ c.add.new.heap.items c.self.invariant told.order told.added in
-    subst (λ (n : ℕ). IsHeapOf n c.add.new.table.entries c.add.new.heap.items) (sym next)
+    subst (λ (n : ℕ). IsHeapOf n c.add.new.table c.add.new.heap.items) (sym next)
     (subst (λ (t : List (ℕ × ℕ)). IsHeapOf (c.self.inside.next + 1) t c.add.new.heap.items) (sym told.table) kept)
 
 pub returns-clause-set : goal.returns-clause-set
