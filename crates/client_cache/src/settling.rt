@@ -10,8 +10,8 @@ use client_request::{Board, Cx, Error, Posted, Words};
 use client_settings::cache::Config;
 use client_views::Key;
 use dns_base::{Message, NoMemory};
-use std::alloc::Global;
 use number_table::NumberTable;
+use std::alloc::Global;
 use std::marker::Model;
 
 /// A request that was handed on.
@@ -45,7 +45,7 @@ impl Model for Kept {
 
     ghost Value = { Kept };
 
-    ghost view = { λ k. record { settings = k.config; table = k.table; waiting = k.waiting.entries } };
+    ghost view = { λ k. record { settings = k.config; table = k.table; waiting = k.waiting } };
 }
 
 impl Kept {

@@ -7,8 +7,8 @@ ghost use Rattle.client_request.specs.Numbered.{entry_at};
 
 use client_request::{Cx, Error, Out, Posted, TimerId, Words};
 use dns_base::{Message, NoMemory};
-use std::alloc::Global;
 use number_table::NumberTable;
+use std::alloc::Global;
 use std::marker::Model;
 
 /// A request that waits: the number that its reply will have, its deadline's timer, and what stands for
@@ -37,7 +37,7 @@ impl<P> Model for Asked<P> {
 
     ghost Value = { Asked P };
 
-    ghost view = { λ a. record { waiting = a.waiting.entries; deadlines = a.deadlines.entries; next = a.next } };
+    ghost view = { λ a. record { waiting = a.waiting; deadlines = a.deadlines; next = a.next } };
 }
 
 /// The result that a part is, for a request of one message.
