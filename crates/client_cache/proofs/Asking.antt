@@ -1,15 +1,13 @@
 -- A request that looks a cache up does what an asking of `headline`'s machine does.
-use Rattle.std.proofs.Common.{◌≡◌, ℕ, Bool, true, false, ◌&&◌, not, is_some, List, [], ◌∷◌, ◌++◌, map, Option, Some, None, Result, Ok, Err, ◌⊎◌, inl, inr, refl, sym, ◌∙◌, ap, subst, if◌then◌else◌}
+use Rattle.std.proofs.Common.{◌≡◌, ℕ, Bool, true, false, ◌&&◌, not, is_some, List, [], ◌∷◌, ◌++◌, map, Option, Some, None, Result, Ok, Err, inl, inr, refl, sym, ◌∙◌, ap, subst, if◌then◌else◌}
 use Rattle.client_request.specs.declared.error.Error.{Error}
 use Rattle.client_settings.specs.Settings.{CacheSettings}
-use Rattle.lru.specs.LruCache.{lru_cache, promoted, put_entries}
 use Rattle.headline.specs.Keys.{FlagClass, Do, Ad, Plain, Key, is_signing}
-use Rattle.headline.specs.machine.Cache.{Op, Uses, Stores, AskDoes, Misses, Takes, TakesFlags, TakesRd, TakesBoth, First, NoneThere, tried, block, in_block}
-use Rattle.client_views.specs.declared.key.AdDo.{AdDo}
+use Rattle.headline.specs.machine.Cache.{Uses, Stores, Misses, Takes, TakesFlags, TakesRd, TakesBoth, First, NoneThere, tried, block, in_block}
 use Rattle.client_views.specs.declared.key.AdDo.TheVariants as classes
 use Rattle.client_views.specs.Key.{same_key, flag_class}
 use Rattle.client_cache.specs.declared.table.Flags.{Flags}
-use Rattle.client_cache.specs.Keeping.{Entry, Table, Asked, Found, entry_under, uses, with_flags, if_kept, or_else, flags, first_above_ad, first_from_ad, first_of_class, first_class, first_kept, same_class, clears_rd, is_own, keeps_derived, gives_own, gives_other, takes, looks_up, derived, rd_cleared}
+use Rattle.client_cache.specs.Keeping.{Entry, Table, Asked, Found, entry_under, uses, with_flags, if_kept, or_else, flags, first_above_ad, first_from_ad, first_of_class, first_class, first_kept, same_class, clears_rd, is_own, keeps_derived, gives_own, gives_other, takes, derived, rd_cleared}
 use Rattle.client_cache.specs.Laws.{Does, LookUpsAreAskings}
 
 -- ---- the flags that are found are those of the first key that is there

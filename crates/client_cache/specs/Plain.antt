@@ -3,13 +3,12 @@
 --   send ──► composed ──► not to be kept, or nothing serves it ──► handed on ──► its result, kept and given
 --                │ refused         │ an entry serves it
 --                └──► result ◄─────┘
-use Rattle.std.specs.Prelude.{ℕ, ◌+◌, ◌||◌, max, Bool, false, List, [], ◌∷◌, Option, Some, None, option_map, option_and_then, Result, Ok, Err}
-use Rattle.client_request.specs.Board.{Part, posted}
+use Rattle.std.specs.Prelude.{ℕ, ◌+◌, ◌||◌, max, Bool, false, List, [], ◌∷◌, Option, Some, None, option_map, option_and_then, Ok, Err}
+use Rattle.client_request.specs.Board.{Part}
 use Rattle.client_request.specs.Numbered.{puts, frees, entry_at}
 use Rattle.client_request.specs.Requests.{Requests}
 use Rattle.client_request.specs.View.{View, Heard, Transport, answers, draws_ticket}
 use Rattle.client_request.specs.declared.board.Posted.{Posted}
-use Rattle.client_request.specs.declared.error.Error.{Error}
 use Rattle.client_settings.specs.Settings.{CacheSettings}
 use Rattle.lru.specs.LruCache.{lru_cache}
 use Rattle.headline.specs.Keys.{Key}

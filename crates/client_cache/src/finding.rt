@@ -5,7 +5,7 @@ ghost use Rattle.client_views.specs.Key.{flag_class};
 ghost use Rattle.client_cache.specs.Keeping as plain;
 
 use crate::entry::{Answer, Asked, Entry, is_same_class};
-use crate::table::{Flags, Table, set_flags, store};
+use crate::table::{Flags, Table, holds, set_flags, store};
 use client_request::Error;
 use client_settings::cache::Config;
 use client_views::{AdDo, Key, is_signing};
@@ -19,7 +19,7 @@ fn if_kept(table: &Table, key: &mut Key, flags: Flags) -> Option<Flags>
 {
     let own = Flags::new(key.addo(), key.rd());
     set_flags(key, flags);
-    let is_kept = table.contains(&*key);
+    let is_kept = holds(table, &*key);
     set_flags(key, own);
     if is_kept { Some(flags) } else { None }
 }

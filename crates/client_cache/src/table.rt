@@ -1,6 +1,6 @@
 //! The table of what is kept.
 
-ghost use Rattle.std.specs.Prelude.{◌≡◌, [], IfOk, OnOk, fold};
+ghost use Rattle.std.specs.Prelude.{◌≡◌, [], IfOk, OnOk, fold, is_some};
 ghost use Rattle.std.specs.Hash as fed;
 ghost use Rattle.std.specs.Hash.DefaultHasher as sip;
 ghost use Rattle.std.specs.NonZero.{non_zero_usize_get};
@@ -56,6 +56,13 @@ pub(crate) fn new_table(alloc: Global, config: &Config, seed: u64) -> Result<Tab
     let mut table = LruCache::unbounded_with_hasher(alloc, Seeded { seed })?;
     table.resize(room_of(config));
     Ok(table)
+}
+
+/// Whether there is an entry under a key. An empty table says so at once, since a search would hash the key first.
+pub(crate) fn holds(table: &Table, key: &Key) -> bool
+    ensures { result ≡ is_some (plain.entry_under key.now table.now) }
+{
+    !table.is_empty() && table.contains(key)
 }
 
 /// Stores an entry; what was there under the key is no more.
