@@ -12,8 +12,8 @@ use crate::request::{AnyRequest, Holder, Waiting};
 use crate::stage::Stage;
 use client_request::{Board, ComposeRequest, ComposeRequestMulti, Cx, Error, Out, TimerId, Words};
 use dns_base::{Duration, NoMemory, Octets};
-use std::alloc::Global;
 use number_table::NumberTable;
+use std::alloc::Global;
 use std::marker::Model;
 
 /// Who holds each id, the id of each request that waits for its answer, the requests that were not
@@ -42,8 +42,8 @@ impl<Req, ReqMulti> Model for Line<Req, ReqMulti> {
 
     ghost view = { λ s. record {
       held = s.held;
-      ids = s.ids.entries;
-      queue = s.queue.entries;
+      ids = s.ids;
+      queue = s.queue;
       writing = s.writing;
       stage = s.stage;
       timeout = s.timeout;
@@ -128,8 +128,8 @@ fn fail_queued<Req: Drop, ReqMulti: Drop>(
     board: &mut Board,
     queue: &mut NumberTable<Waiting<Req, ReqMulti>>,
 ) -> Result<(), NoMemory>
-    ensures ok { OnOk result (board.new ≡ plain.fails_queued queue.old.entries board.old) }
-    ensures empty { OnOk result (queue.new.entries ≡ []) }
+    ensures ok { OnOk result (board.new ≡ plain.fails_queued queue.old board.old) }
+    ensures empty { OnOk result (queue.new ≡ []) }
 {
     while let Some((ticket, _)) = queue.pop_first() {
         board.put(ticket, Err(Error::StreamReceiveError))?;

@@ -25,7 +25,7 @@ returns-clause-ok g c =
 pub loop-line-preserved : goal.loop-line-preserved
 loop-line-preserved g c =
     let free : is_some c.loop-line.line.writing ≡ false = ap (λ s. is_some s.writing) (sym c.line.view_is) ∙ c.is_none.ensures ∙ ap not c.loop-line-test.true in
-    let first : c.loop-line.line.queue ≡ (c.in-Some.ticket, c.in-Some.waiting) ∷ c.pop_first.new.self.entries = ap (λ s. s.queue) (sym c.line.view_is) ∙ c.in-Some.ensures.removal in
+    let first : c.loop-line.line.queue ≡ (c.in-Some.ticket, c.in-Some.waiting) ∷ c.pop_first.new.self = ap (λ s. s.queue) (sym c.line.view_is) ∙ c.in-Some.ensures.removal in
     let taken = c.in_ok-take_next.ensures in
     let before = c.loop-line.invariant in
     record {
@@ -36,7 +36,7 @@ loop-line-preserved g c =
         timers = taken.lends.timers ∙ before.lends.timers;
       };
       same = (
-          goes_on g.Req.Compose.requests g.ReqMulti.Compose.requests c.args.place c.args.config.now c.loop-line.line (view_of g.W.Words.stream c.loop-line.cx) (c.in-Some.ticket, c.in-Some.waiting) c.pop_first.new.self.entries _ _
-          free first (ap (with_queue c.pop_first.new.self.entries) c.line.view_is) taken.ok
+          goes_on g.Req.Compose.requests g.ReqMulti.Compose.requests c.args.place c.args.config.now c.loop-line.line (view_of g.W.Words.stream c.loop-line.cx) (c.in-Some.ticket, c.in-Some.waiting) c.pop_first.new.self _ _
+          free first (ap (with_queue c.pop_first.new.self) c.line.view_is) taken.ok
           ∙ before.same);
     }
