@@ -13,8 +13,8 @@ use crate::servers::{Server, give_up_at, judge_at, take_owner};
 use client_request::{ComposeRequest, Cx, Error, SendRequest, TimerId, Words};
 use client_settings::redundant::Config;
 use dns_base::{Message, NoMemory, OptRcode};
-use std::alloc::Global;
 use number_table::NumberTable;
+use std::alloc::Global;
 use std::marker::Model;
 
 /// Refused by policy (RFC 1035 4.1.1).
@@ -37,7 +37,7 @@ impl<Req, U: SendRequest<Req>> Model for Choice<Req, U> {
 
     ghost Value = { Choice Req U U.Response };
 
-    ghost view = { λ c. record { servers = c.servers.items; jobs = c.jobs.entries; timers = c.timers.entries } };
+    ghost view = { λ c. record { servers = c.servers.items; jobs = c.jobs; timers = c.timers } };
 }
 
 impl<Req, U: SendRequest<Req>> Choice<Req, U> {
@@ -92,8 +92,8 @@ pub(crate) fn arm<Req: Drop, P: Drop, W: Words>(
     due: u128,
 ) -> Result<(), Error>
     ensures lends { LendsTheSame cx.old cx.new }
-    ensures ok { Steps result (plain.arms ticket due job.old timers.old.entries (view_of W.stream cx.old)) ((job.new, timers.new.entries), view_of W.stream cx.new) }
-    ensures numbers { NumbersRunOut result (plain.arms ticket due job.old timers.old.entries (view_of W.stream cx.old)) }
+    ensures ok { Steps result (plain.arms ticket due job.old timers.old (view_of W.stream cx.old)) ((job.new, timers.new), view_of W.stream cx.new) }
+    ensures numbers { NumbersRunOut result (plain.arms ticket due job.old timers.old (view_of W.stream cx.old)) }
     ensures want { IfErr result IsWant }
 {
     if job.left.is_empty() {
@@ -114,7 +114,7 @@ pub(crate) fn disarm<W: Words>(
     timer: Option<u64>,
 )
     ensures lends { LendsTheSame cx.old cx.new }
-    ensures timers { timers.new.entries ≡ plain.unset timer timers.old.entries }
+    ensures timers { timers.new ≡ plain.unset timer timers.old }
     ensures view { view_of W.stream cx.new ≡ plain.stopped timer (view_of W.stream cx.old) }
 {
     if let Some(timer) = timer {

@@ -13,8 +13,8 @@ use client_request::{
     send_below, step_below,
 };
 use dns_base::Message;
-use std::alloc::Global;
 use number_table::NumberTable;
+use std::alloc::Global;
 use std::marker::Model;
 use std::mem;
 
@@ -41,7 +41,7 @@ impl<U> Model for Server<U> {
       upstream = s.upstream;
       stats = s.stats;
       starts = s.starts;
-      waiting = s.waiting.entries;
+      waiting = s.waiting;
       posted = s.posted;
     } };
 }
