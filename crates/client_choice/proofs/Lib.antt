@@ -1,3 +1,4 @@
+pub mod Absent
 pub mod At
 pub mod Failing
 pub mod Hearing

@@ -1,0 +1,9 @@
+use Rattle.std.proofs.Common.{arith}
+use Rattle.std.proofs.lemmas.Grind.{common_steps}
+use Rattle.client_choice.proofs.Absent.{stays_where_none}
+use Rattle.client_choice.proofs.steps.give_up.Goals as goal
+
+pub returns-in_default-clause-ok : goal.returns-in_default-clause-ok
+returns-in_default-clause-ok g c =
+    let same = stays_where_none c.args.ticket c.choice.inside.jobs c.remove.new.self c.remove.result c.remove.ensures.value c.remove.ensures.entries in
+    grind (arith, common_steps)
