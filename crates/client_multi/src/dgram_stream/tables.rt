@@ -6,8 +6,8 @@ ghost use Rattle.client_multi.specs.Fallback as plain;
 
 use crate::dgram_stream::job::Job;
 use client_request::{Error, SendRequest};
-use std::alloc::Global;
 use number_table::NumberTable;
+use std::alloc::Global;
 use std::marker::Model;
 
 /// The requests that wait by ticket, and the ticket of each by that under which its result comes from
@@ -23,7 +23,7 @@ impl<Req, P, Q> Model for Tables<Req, P, Q> {
 
     ghost Value = { Tables Req P Q };
 
-    ghost view = { λ t. record { jobs = t.jobs.entries; tickets = t.tickets.entries } };
+    ghost view = { λ t. record { jobs = t.jobs; tickets = t.tickets } };
 }
 
 impl<Req, P, Q> Tables<Req, P, Q> {

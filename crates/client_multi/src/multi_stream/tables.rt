@@ -12,8 +12,8 @@ use crate::multi_stream::one_stream::OneStream;
 use crate::multi_stream::retry::retry_due;
 use client_request::{Board, ComposeRequest, Cx, Error, Posted, TimerId, Words};
 use dns_base::{Message, NoMemory};
-use std::alloc::Global;
 use number_table::NumberTable;
+use std::alloc::Global;
 use std::collections::{BTreeMap, BTreeSet};
 use std::marker::Model;
 
@@ -43,12 +43,12 @@ impl<Req, S> Model for Tables<Req, S> {
     ghost Value = { Tables Req S };
 
     ghost view = { λ s. record {
-      jobs = s.jobs.entries;
-      timers = s.timers.entries;
-      inner = s.inner.entries;
+      jobs = s.jobs;
+      timers = s.timers;
+      inner = s.inner;
       waiting = s.waiting.keys;
       connections = s.connections.entries;
-      watches = s.watches.entries;
+      watches = s.watches;
       opening = s.opening;
       refusals = s.refusals;
       calm = s.calm;
