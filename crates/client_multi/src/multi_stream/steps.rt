@@ -189,6 +189,7 @@ pub(crate) fn take_on<Req: ComposeRequest, S: OneStream<Req>, W: Words>(
 }
 
 /// A request that waited goes on.
+#[tactic(auto, using(client_dgram::proofs::Absent::frees_absent))]
 fn hand_waiting<Req: ComposeRequest, S: OneStream<Req>, W: Words>(
     tables: &mut Tables<Req, S>,
     server: u32,
@@ -226,6 +227,7 @@ fn hand_each<Req: ComposeRequest, S: OneStream<Req>, W: Words>(
 }
 
 /// A request that waited backs off.
+#[tactic(auto, using(client_dgram::proofs::Absent::frees_absent))]
 fn back_off_waiting<Req: ComposeRequest, S: OneStream<Req>, W: Words>(
     tables: &mut Tables<Req, S>,
     cx: &mut Cx<'_, W>,
@@ -385,6 +387,7 @@ fn leave<Req: ComposeRequest, S: OneStream<Req>, W: Words>(
 }
 
 /// Gives a request up.
+#[tactic(auto, using(client_dgram::proofs::Absent::frees_absent))]
 pub(crate) fn give_up<Req: ComposeRequest, S: OneStream<Req>, W: Words>(
     tables: &mut Tables<Req, S>,
     cx: &mut Cx<'_, W>,
@@ -421,6 +424,7 @@ fn time_out<Req: ComposeRequest, S: OneStream<Req>, W: Words>(
 }
 
 /// A timer of a request fired.
+#[tactic(auto, using(client_dgram::proofs::Absent::frees_absent))]
 fn fire<Req: ComposeRequest, S: OneStream<Req>, W: Words>(
     tables: &mut Tables<Req, S>,
     server: u32,
@@ -444,6 +448,7 @@ fn fire<Req: ComposeRequest, S: OneStream<Req>, W: Words>(
 }
 
 /// A timer fired: one of a request, or of a connection.
+#[tactic(auto, using(client_dgram::proofs::Absent::frees_absent))]
 fn due<Req: ComposeRequest, S: OneStream<Req>, W: Words>(
     tables: &mut Tables<Req, S>,
     server: u32,

@@ -172,6 +172,7 @@ fn get_part<Req: ComposeRequest, S: OneStream<Req>, W: Words>(
 }
 
 /// Takes one of the parts that a connection posted.
+#[tactic(auto, using(client_dgram::proofs::Absent::frees_absent))]
 fn collect_one<Req: ComposeRequest, S: OneStream<Req>, W: Words>(
     tables: &mut Tables<Req, S>,
     cx: &mut Cx<'_, W>,
