@@ -1,35 +1,33 @@
 //! The text of a trace.
 
 ghost use Rattle.std.specs.Prelude.{◌≡◌, ◌++◌, ◌∷◌, [], OnOk, IfOk};
-ghost use Rattle.std.specs.String.{string_bytes};
 ghost use Rattle.std.specs.Fmt.{decimal};
 ghost use Rattle.std.specs.List.{join_with_byte};
 ghost use Rattle.dns_script.specs.Words.{error_words, fault_word, hex_word, query_error_words};
-ghost use Rattle.dns_script.specs.Lines.{event_line, opt_octets, out_line, request_words, result_words, what_words};
+ghost use Rattle.dns_script.specs.Lines.{event_line, line, opt_octets, out_line, request_words, result_words, what_words};
 ghost use Rattle.dns_script.specs.TraceReading.{IsTrace};
 ghost use Rattle.dns_script.specs.TraceText.{row_text, trace_text_of};
 
 use crate::bounds::trace_is_in_range;
-use crate::words::{error_name, fault_word, push_digits, push_hex, via_word};
+use crate::words::{error_name, fault_word, push_digits, push_hex, push_number, via_word};
 use client_request::{
     Compose, Error, Event, Fault, Out, QueryError, RequestMessage, Row, Trace, What,
 };
 use dns_base::{Message, NoMemory, OptRecord};
 use std::alloc::Global;
-use std::fmt::Write;
 
 /// Adds a blank and a word.
-fn push_word(text: &mut String, word: &str) -> Result<(), NoMemory>
-    ensures { OnOk result (string_bytes text.new ≡ string_bytes text.old ++ 32 ∷ word.now) }
+fn push_word(text: &mut Vec<u8>, word: &str) -> Result<(), NoMemory>
+    ensures { OnOk result (text.new.items ≡ text.old.items ++ 32 ∷ word.now) }
 {
-    text.push_str(" ")?;
-    text.push_str(word)?;
+    text.push(b' ')?;
+    text.extend_from_slice(word.as_bytes())?;
     Ok(())
 }
 
 /// Adds the words of a datagram try's error, each behind a blank.
-fn push_query_error(text: &mut String, error: QueryError) -> Result<(), NoMemory>
-    ensures { OnOk result (string_bytes text.new ≡ string_bytes text.old ++ 32 ∷ join_with_byte 32 (query_error_words error)) }
+fn push_query_error(text: &mut Vec<u8>, error: QueryError) -> Result<(), NoMemory>
+    ensures { OnOk result (text.new.items ≡ text.old.items ++ 32 ∷ join_with_byte 32 (query_error_words error)) }
 {
     let (kind, fault) = match error {
         QueryError::Connect(fault) => (" Connect", fault),
@@ -37,15 +35,15 @@ fn push_query_error(text: &mut String, error: QueryError) -> Result<(), NoMemory
         QueryError::Receive(fault) => (" Receive", fault),
         QueryError::Timeout => (" Timeout", Fault::Expired),
     };
-    text.push_str(kind)?;
+    text.extend_from_slice(kind.as_bytes())?;
     push_word(text, fault_word(fault))
 }
 
 /// Adds the words of an error.
-fn push_error(text: &mut String, error: Error) -> Result<(), NoMemory>
-    ensures { OnOk result (string_bytes text.new ≡ string_bytes text.old ++ join_with_byte 32 (error_words error)) }
+fn push_error(text: &mut Vec<u8>, error: Error) -> Result<(), NoMemory>
+    ensures { OnOk result (text.new.items ≡ text.old.items ++ join_with_byte 32 (error_words error)) }
 {
-    text.push_str(error_name(error))?;
+    text.extend_from_slice(error_name(error).as_bytes())?;
     match error {
         Error::StreamReadError(fault) => push_word(text, fault_word(fault)),
         Error::StreamWriteError(fault) => push_word(text, fault_word(fault)),
@@ -54,24 +52,63 @@ fn push_error(text: &mut String, error: Error) -> Result<(), NoMemory>
     }
 }
 
-fn push_result(text: &mut String, reply: &Result<Message, Error>) -> Result<(), NoMemory>
-    ensures { OnOk result (string_bytes text.new ≡ string_bytes text.old ++ join_with_byte 32 (result_words reply.now)) }
+/// Adds octets in hexadecimal digits, and a line feed.
+fn push_octets(text: &mut Vec<u8>, octets: &[u8]) -> Result<(), NoMemory>
+    ensures { OnOk result (text.new.items ≡ text.old.items ++ hex_word octets.now ++ 10 ∷ []) }
+{
+    push_hex(text, octets)?;
+    text.push(b'\n')?;
+    Ok(())
+}
+
+/// Adds a result and a line feed.
+fn push_result(text: &mut Vec<u8>, reply: &Result<Message, Error>) -> Result<(), NoMemory>
+    ensures { OnOk result (text.new.items ≡ text.old.items ++ line (result_words reply.now)) }
 {
     match reply {
         Ok(message) => {
-            text.push_str("ok ")?;
-            push_hex(text, message.as_slice())
+            text.extend_from_slice(b"ok ")?;
+            push_octets(text, message.as_slice())
         }
         Err(error) => {
-            text.push_str("err ")?;
-            push_error(text, *error)
+            text.extend_from_slice(b"err ")?;
+            push_error(text, *error)?;
+            text.push(b'\n')?;
+            Ok(())
         }
     }
 }
 
+/// Adds a word, two numbers and a line feed.
+fn push_pair(text: &mut Vec<u8>, word: &[u8], first: u64, second: u64) -> Result<(), NoMemory>
+    ensures { OnOk result (text.new.items ≡ text.old.items ++ word.now ++ line (decimal first ∷ decimal second ∷ [])) }
+{
+    text.extend_from_slice(word)?;
+    push_number(text, first, b' ')?;
+    push_number(text, second, b'\n')
+}
+
+/// Adds a word, three numbers, octets and a line feed.
+fn push_sent(
+    text: &mut Vec<u8>,
+    word: &[u8],
+    place: u64,
+    request: u64,
+    id: u16,
+    octets: &[u8],
+) -> Result<(), NoMemory>
+    ensures { OnOk result (text.new.items ≡ text.old.items ++ word.now ++ line (decimal place ∷ decimal request ∷ decimal id ∷ hex_word octets.now ∷ [])) }
+{
+    text.extend_from_slice(word)?;
+    push_number(text, place, b' ')?;
+    push_number(text, request, b' ')?;
+    push_number(text, id as u64, b' ')?;
+    push_octets(text, octets)
+}
+
 /// Writes the line of what was put out, as it stands in a trace.
-pub(crate) fn push_out(text: &mut String, out: &Out) -> Result<(), NoMemory>
-    ensures { OnOk result (string_bytes text.new ≡ string_bytes text.old ++ out_line out.now) }
+pub(crate) fn push_out(text: &mut Vec<u8>, out: &Out) -> Result<(), NoMemory>
+    ensures { OnOk result (text.new.items ≡ text.old.items ++ out_line out.now) }
 {
     match out {
         Out::Start {
@@ -79,45 +116,57 @@ pub(crate) fn push_out(text: &mut String, out: &Out) -> Result<(), NoMemory>
             server,
             via,
         } => {
-            write!(text, "> start {request} {server} {}", via_word(*via))?;
+            text.extend_from_slice(b"> start ")?;
+            push_number(text, *request, b' ')?;
+            push_number(text, *server as u64, b' ')?;
+            text.extend_from_slice(via_word(*via).as_bytes())?;
+            text.push(b'\n')?;
+            Ok(())
         }
-        Out::OpenDgram { place, server } => write!(text, "> open-dgram {place} {server}")?,
-        Out::OpenStream { place, server } => write!(text, "> open-stream {place} {server}")?,
+        Out::OpenDgram { place, server } => push_pair(
+            text,
+            b"> open-dgram ",
+            *place,
+            *server as u64,
+        ),
+        Out::OpenStream { place, server } => push_pair(
+            text,
+            b"> open-stream ",
+            *place,
+            *server as u64,
+        ),
         Out::Send {
             place,
             request,
             id,
             octets,
-        } => {
-            write!(text, "> send {place} {request} {id} ")?;
-            push_hex(text, octets.as_slice())?;
-        }
+        } => push_sent(text, b"> send ", *place, *request, *id, octets.as_slice()),
         Out::Write {
             place,
             request,
             id,
             octets,
-        } => {
-            write!(text, "> write {place} {request} {id} ")?;
-            push_hex(text, octets.as_slice())?;
-        }
+        } => push_sent(text, b"> write ", *place, *request, *id, octets.as_slice()),
         Out::Resume { place, octets } => {
-            write!(text, "> resume {place} ")?;
-            push_hex(text, octets.as_slice())?;
+            text.extend_from_slice(b"> resume ")?;
+            push_number(text, *place, b' ')?;
+            push_octets(text, octets.as_slice())
         }
-        Out::Close { place } => write!(text, "> close {place}")?,
+        Out::Close { place } => {
+            text.extend_from_slice(b"> close ")?;
+            push_number(text, *place, b'\n')
+        }
         Out::Reply { request, result } => {
-            write!(text, "> reply {request} ")?;
-            push_result(text, result)?;
+            text.extend_from_slice(b"> reply ")?;
+            push_number(text, *request, b' ')?;
+            push_result(text, result)
         }
     }
-    text.push_str("\n")?;
-    Ok(())
 }
 
 /// Adds the digits of an OPT record of the root (RFC 6891 6.1.2).
-fn push_opt(text: &mut String, opt: &OptRecord<'_>) -> Result<(), NoMemory>
-    ensures { OnOk result (string_bytes text.new ≡ string_bytes text.old ++ hex_word (opt_octets opt.now)) }
+fn push_opt(text: &mut Vec<u8>, opt: &OptRecord<'_>) -> Result<(), NoMemory>
+    ensures { OnOk result (text.new.items ≡ text.old.items ++ hex_word (opt_octets opt.now)) }
 {
     let data = opt.data();
     let [size_high, size_low] = opt.udp_payload_size().to_be_bytes();
@@ -141,94 +190,96 @@ fn push_opt(text: &mut String, opt: &OptRecord<'_>) -> Result<(), NoMemory>
 }
 
 /// Adds the words of a request.
-fn push_request(text: &mut String, request: &RequestMessage) -> Result<(), NoMemory>
-    ensures { OnOk result (string_bytes text.new ≡ string_bytes text.old ++ join_with_byte 32 (request_words request.now)) }
+fn push_request(text: &mut Vec<u8>, request: &RequestMessage) -> Result<(), NoMemory>
+    ensures { OnOk result (text.new.items ≡ text.old.items ++ join_with_byte 32 (request_words request.now)) }
 {
     push_hex(text, request.base().as_slice())?;
-    text.push_str(" ")?;
+    text.push(b' ')?;
     push_hex(text, &request.header().to_octets())?;
-    text.push_str(" ")?;
+    text.push(b' ')?;
     match request.recorded_opt() {
         None => {
-            text.push_str("-")?;
+            text.push(b'-')?;
             Ok(())
         }
         Some(opt) => push_opt(text, &opt),
     }
 }
 
-/// Adds a word, a blank, a place, a blank and a fault's word.
-fn push_failed(text: &mut String, word: &str, place: u64, fault: Fault) -> Result<(), NoMemory>
-    ensures { OnOk result (string_bytes text.new ≡ string_bytes text.old ++ join_with_byte 32 (word.now ∷ decimal place ∷ fault_word fault ∷ [])) }
+/// Adds a word, a place, a blank, a fault's word and a line feed.
+fn push_failed(text: &mut Vec<u8>, word: &[u8], place: u64, fault: Fault) -> Result<(), NoMemory>
+    ensures { OnOk result (text.new.items ≡ text.old.items ++ word.now ++ line (decimal place ∷ fault_word fault ∷ [])) }
 {
-    write!(text, "{word} {place} {}", fault_word(fault))?;
+    text.extend_from_slice(word)?;
+    push_number(text, place, b' ')?;
+    text.extend_from_slice(fault_word(fault).as_bytes())?;
+    text.push(b'\n')?;
     Ok(())
 }
 
-/// Adds a word, a blank, a place, a blank and octets.
-fn push_came(text: &mut String, word: &str, place: u64, octets: &[u8]) -> Result<(), NoMemory>
-    ensures { OnOk result (string_bytes text.new ≡ string_bytes text.old ++ join_with_byte 32 (word.now ∷ decimal place ∷ hex_word octets.now ∷ [])) }
+/// Adds a word, a place, a blank, octets and a line feed.
+fn push_came(text: &mut Vec<u8>, word: &[u8], place: u64, octets: &[u8]) -> Result<(), NoMemory>
+    ensures { OnOk result (text.new.items ≡ text.old.items ++ word.now ++ line (decimal place ∷ hex_word octets.now ∷ [])) }
 {
-    write!(text, "{word} {place} ")?;
-    push_hex(text, octets)
+    text.extend_from_slice(word)?;
+    push_number(text, place, b' ')?;
+    push_octets(text, octets)
 }
 
-/// Adds a word, a blank and a place.
-fn push_place(text: &mut String, word: &str, place: u64) -> Result<(), NoMemory>
-    ensures { OnOk result (string_bytes text.new ≡ string_bytes text.old ++ join_with_byte 32 (word.now ∷ decimal place ∷ [])) }
+/// Adds a word, a place and a line feed.
+fn push_place(text: &mut Vec<u8>, word: &[u8], place: u64) -> Result<(), NoMemory>
+    ensures { OnOk result (text.new.items ≡ text.old.items ++ word.now ++ line (decimal place ∷ [])) }
 {
-    write!(text, "{word} {place}")?;
-    Ok(())
+    text.extend_from_slice(word)?;
+    push_number(text, place, b'\n')
 }
 
-/// Adds a word, a blank, a place, a blank and a count.
-fn push_count(text: &mut String, word: &str, place: u64, count: u64) -> Result<(), NoMemory>
-    ensures { OnOk result (string_bytes text.new ≡ string_bytes text.old ++ join_with_byte 32 (word.now ∷ decimal place ∷ decimal count ∷ [])) }
-{
-    write!(text, "{word} {place} {count}")?;
-    Ok(())
-}
-
-/// Adds what happened.
-fn push_what(text: &mut String, what: &What) -> Result<(), NoMemory>
-    ensures { OnOk result (string_bytes text.new ≡ string_bytes text.old ++ join_with_byte 32 (what_words what.now)) }
+/// Adds what happened, and a line feed.
+fn push_what(text: &mut Vec<u8>, what: &What) -> Result<(), NoMemory>
+    ensures { OnOk result (text.new.items ≡ text.old.items ++ line (what_words what.now)) }
 {
     match what {
         What::Ask { request } => {
-            text.push_str("ask ")?;
-            push_request(text, request)
+            text.extend_from_slice(b"ask ")?;
+            push_request(text, request)?;
+            text.push(b'\n')?;
+            Ok(())
         }
-        What::Opened { place } => push_place(text, "opened", *place),
-        What::OpenFailed { place, fault } => push_failed(text, "open-failed", *place, *fault),
-        What::SendFailed { place, fault } => push_failed(text, "send-failed", *place, *fault),
-        What::ShortSend { place } => push_place(text, "short-send", *place),
-        What::Datagram { place, octets } => push_came(text, "datagram", *place, octets.as_slice()),
-        What::RecvFailed { place, fault } => push_failed(text, "recv-failed", *place, *fault),
-        What::Wrote { place, count } => push_count(text, "wrote", *place, *count),
-        What::WriteFailed { place, fault } => push_failed(text, "write-failed", *place, *fault),
-        What::Bytes { place, octets } => push_came(text, "bytes", *place, octets.as_slice()),
-        What::ReadFailed { place, fault } => push_failed(text, "read-failed", *place, *fault),
-        What::Ended { place } => push_place(text, "ended", *place),
+        What::Opened { place } => push_place(text, b"opened ", *place),
+        What::OpenFailed { place, fault } => push_failed(text, b"open-failed ", *place, *fault),
+        What::SendFailed { place, fault } => push_failed(text, b"send-failed ", *place, *fault),
+        What::ShortSend { place } => push_place(text, b"short-send ", *place),
+        What::Datagram { place, octets } => push_came(
+            text,
+            b"datagram ",
+            *place,
+            octets.as_slice(),
+        ),
+        What::RecvFailed { place, fault } => push_failed(text, b"recv-failed ", *place, *fault),
+        What::Wrote { place, count } => push_pair(text, b"wrote ", *place, *count),
+        What::WriteFailed { place, fault } => push_failed(text, b"write-failed ", *place, *fault),
+        What::Bytes { place, octets } => push_came(text, b"bytes ", *place, octets.as_slice()),
+        What::ReadFailed { place, fault } => push_failed(text, b"read-failed ", *place, *fault),
+        What::Ended { place } => push_place(text, b"ended ", *place),
         What::Tick => {
-            text.push_str("tick")?;
+            text.extend_from_slice(b"tick\n")?;
             Ok(())
         }
     }
 }
 
 /// Adds the line of an event.
-fn push_event(text: &mut String, event: &Event) -> Result<(), NoMemory>
-    ensures { OnOk result (string_bytes text.new ≡ string_bytes text.old ++ event_line event.now) }
+fn push_event(text: &mut Vec<u8>, event: &Event) -> Result<(), NoMemory>
+    ensures { OnOk result (text.new.items ≡ text.old.items ++ event_line event.now) }
 {
-    write!(text, "at {} ", event.moment.0)?;
-    push_what(text, &event.what)?;
-    text.push_str("\n")?;
-    Ok(())
+    text.extend_from_slice(b"at ")?;
+    push_number(text, event.moment.0, b' ')?;
+    push_what(text, &event.what)
 }
 
 /// Adds an event's line and the lines of what was put out for it.
-fn push_row(text: &mut String, row: &Row) -> Result<(), NoMemory>
-    ensures { OnOk result (string_bytes text.new ≡ string_bytes text.old ++ row_text row.now) }
+fn push_row(text: &mut Vec<u8>, row: &Row) -> Result<(), NoMemory>
+    ensures { OnOk result (text.new.items ≡ text.old.items ++ row_text row.now) }
 {
     push_event(text, &row.event)?;
     for out in row.outs.as_slice() {
@@ -243,11 +294,11 @@ pub fn trace_text(alloc: Global, t: &Trace) -> Result<Vec<u8>, NoMemory>
     ensures back { IfOk result (λ v. IsTrace v.items t.now.rows) }
 {
     trace_is_in_range(t);
-    let mut text = String::new(alloc);
-    text.push_str("trace 1\n")?;
+    let mut text = Vec::new(alloc);
+    text.extend_from_slice(b"trace 1\n")?;
     for row in t.rows.as_slice() {
         push_row(&mut text, row)?;
     }
-    text.push_str("end\n")?;
-    Ok(text.into_bytes())
+    text.extend_from_slice(b"end\n")?;
+    Ok(text)
 }
