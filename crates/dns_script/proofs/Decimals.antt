@@ -29,7 +29,7 @@ false_of_not : (b : Bool) → not b ≡ true → b ≡ false
 false_of_not true e = sym e
 false_of_not false e = refl
 
-digits_say : (greatest n v : ℕ) (ds : List ℕ) → n ≤ greatest → with_digits greatest n ds ≡ Some v → (all_ascii_digits ds ≡ true) × (v ≡ read_on n ds) × (v ≤ greatest)
+pub digits_say : (greatest n v : ℕ) (ds : List ℕ) → n ≤ greatest → with_digits greatest n ds ≡ Some v → (all_ascii_digits ds ≡ true) × (v ≡ read_on n ds) × (v ≤ greatest)
 digits_say greatest n v [] small e = let same : n ≡ v = same_Some _ _ e in (refl, sym same, omega arith)
 digits_say greatest n v (d ∷ ds) small e =
     option_and_then_some (λ more. with_digits greatest more ds) (with_digit greatest n d) v e (λ more first rest.
@@ -39,7 +39,7 @@ digits_say greatest n v (d ∷ ds) small e =
     let next = digits_say greatest more v ds (rw (sym taken.1) fits) rest in
     (and_from (is_ascii_digit d) (all_ascii_digits ds) both.0 next.0, rw taken.1 next.1, next.2))
 
-digits_are_read : (greatest n : ℕ) (ds : List ℕ) → all_ascii_digits ds ≡ true → read_on n ds ≤ greatest → with_digits greatest n ds ≡ Some (read_on n ds)
+pub digits_are_read : (greatest n : ℕ) (ds : List ℕ) → all_ascii_digits ds ≡ true → read_on n ds ≤ greatest → with_digits greatest n ds ≡ Some (read_on n ds)
 digits_are_read greatest n [] all fits = refl
 digits_are_read greatest n (d ∷ ds) all fits =
     let both = and_parts (is_ascii_digit d) (all_ascii_digits ds) all in

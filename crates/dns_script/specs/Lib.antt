@@ -3,6 +3,7 @@ pub mod Grammar
 pub mod Lines
 pub mod Names
 pub mod Reading
+pub mod Scan
 pub mod ScriptReading
 pub mod Settings
 pub mod Summary

@@ -20,6 +20,7 @@ mod line;
 mod names;
 mod printing;
 mod reading;
+mod scan;
 mod script;
 mod script_lines;
 mod settings;

@@ -5,9 +5,10 @@ ghost use Rattle.std.specs.List.{position};
 ghost use Rattle.std.specs.Str.Lines.{lines, strip_carriage_return};
 ghost use Rattle.dns_script.specs.declared.line.LineFault.TheVariants as line;
 ghost use Rattle.dns_script.specs.Grammar.{header_of, u64_at, u32_at, u16_at, octets_at, message_at, fault_at, via_at};
-ghost use Rattle.dns_script.specs.Reading.{cut, parts, words_of, number_of, octets_of, with_digit, digit_of, octet_of, Gives, Reads, one_word, pairs};
+ghost use Rattle.dns_script.specs.Reading.{cut, parts, words_of, number_of, octets_of, with_digit, digit_of, octet_of, Gives, Reads, one_word, pairs, with_digits};
 
 use crate::names::{fault_named, via_named};
+use crate::scan::place_of;
 use client_request::{Fault, Via};
 use dns_base::{Header, Message, NoMemory, Octets};
 use std::alloc::{AllocError, AllocFailed, Global};
@@ -46,13 +47,6 @@ impl<T: Drop> From<AllocFailed<T>> for LineFault {
     }
 }
 
-/// The place of the first separator.
-fn place_of(octets: &[u8], separator: u8) -> Option<usize>
-    ensures { result ≡ position (λ octet. octet == separator) octets.now }
-{
-    octets.iter().position(|octet| *octet == separator)
-}
-
 /// The part before the first separator, and what stands behind that separator.
 #[tactic(auto, using(crate::proofs::Parts::parts_none, crate::proofs::Parts::parts_some))]
 pub(crate) fn split_first(octets: &[u8], separator: u8) -> Option<(&[u8], &[u8])>
@@ -65,17 +59,68 @@ pub(crate) fn split_first(octets: &[u8], separator: u8) -> Option<(&[u8], &[u8])
 }
 
 /// A number with one more digit, where it is at most the greatest.
-fn with_digit(greatest: u64, number: u64, digit: u8) -> Option<u64>
-    ensures { result ≡ with_digit greatest number digit }
+fn with_digit(number: u64, digit: u8) -> Option<u64>
+    ensures { result ≡ with_digit 18446744073709551615 number digit }
 {
     if !digit.is_ascii_digit() {
         return None;
     }
-    let more = number.checked_mul(10)?.checked_add((digit - b'0') as u64)?;
-    if more > greatest { None } else { Some(more) }
+    number.checked_mul(10)?.checked_add((digit - b'0') as u64)
+}
+
+/// What many digits say.
+#[inline(never)]
+fn long_number(word: &[u8]) -> Option<u64>
+    ensures { result ≡ with_digits 18446744073709551615 0 word.now }
+{
+    let mut number = 0;
+    for digit in word {
+        number = with_digit(number, *digit)?;
+    }
+    Some(number)
+}
+
+/// What so few digits say that no number of them is too great.
+#[inline(always)]
+fn short_number(word: &[u8]) -> Option<u64>
+    requires { length word.now < 19 }
+    ensures { result ≡ with_digits 18446744073709551615 0 word.now }
+{
+    let mut number = 0;
+    for digit in word {
+        if !digit.is_ascii_digit() {
+            return None;
+        }
+        number = 10 * number + (*digit - b'0') as u64;
+    }
+    Some(number)
+}
+
+/// What digits say.
+#[inline(always)]
+fn digits_of(word: &[u8]) -> Option<u64>
+    ensures { result ≡ with_digits 18446744073709551615 0 word.now }
+{
+    if word.len() < 19 {
+        short_number(word)
+    } else {
+        long_number(word)
+    }
+}
+
+/// What digits say, where it is at most the greatest.
+#[inline(always)]
+#[tactic(auto, using(crate::proofs::Digits::within_none))]
+fn digits_within(greatest: u64, word: &[u8]) -> Option<u64>
+    ensures value { result ≡ with_digits greatest 0 word.now }
+    ensures below { IfSome result (λ n. n ≤ greatest) }
+{
+    let number = digits_of(word)?;
+    if number > greatest { None } else { Some(number) }
 }
 
 /// A decimal number without sign or leading zeros that is at most the greatest.
+#[inline(always)]
 #[tactic(auto, unfolding(crate::specs::Reading::number_of))]
 pub(crate) fn number_of(greatest: u64, word: &[u8]) -> Option<u64>
     ensures value { result ≡ number_of greatest word.now }
@@ -84,11 +129,7 @@ pub(crate) fn number_of(greatest: u64, word: &[u8]) -> Option<u64>
     if word.len() == 0 || (word.len() > 1 && word[0] == b'0') {
         return None;
     }
-    let mut number = 0;
-    for digit in word {
-        number = with_digit(greatest, number, *digit)?;
-    }
-    Some(number)
+    digits_within(greatest, word)
 }
 
 /// The number that a lower-case hexadecimal digit stands for.
@@ -145,6 +186,21 @@ pub(crate) fn octets_of(alloc: Global, word: &[u8]) -> Result<Octets, LineFault>
     }
     let octets = pairs(alloc, word)?;
     Ok(Octets::from_vec(octets)?)
+}
+
+/// The first four octets of a header.
+#[tactic(auto, using(crate::proofs::Headers::header_long, crate::proofs::Headers::header_first, crate::proofs::Headers::header_second, crate::proofs::Headers::header_third, crate::proofs::Headers::header_fourth, crate::proofs::Headers::header_read))]
+fn header_of(word: &[u8]) -> Option<[u8; 4]>
+    ensures { result ≡ header_of word.now }
+{
+    let [a, b, c, d, e, f, g, h] = word else {
+        return None;
+    };
+    let first = octet_of(*a, *b)?;
+    let second = octet_of(*c, *d)?;
+    let third = octet_of(*e, *f)?;
+    let fourth = octet_of(*g, *h)?;
+    Some([first, second, third, fourth])
 }
 
 /// The line without a carriage return at its end.
@@ -249,6 +305,7 @@ impl<'a> Words<'a> {
 }
 
 impl<'a> Words<'a> {
+    #[inline(always)]
     pub(crate) fn number(&mut self, greatest: u64) -> Result<u64, LineFault>
         ensures read { Gives result self.new (one_word (number_of greatest) self.old) }
         ensures below { IfOk result (λ n. n ≤ greatest) }
@@ -259,6 +316,7 @@ impl<'a> Words<'a> {
         }
     }
 
+    #[inline(always)]
     pub(crate) fn u64(&mut self) -> Result<u64, LineFault>
         ensures { Gives result self.new (u64_at self.old) }
     {
@@ -293,14 +351,13 @@ impl<'a> Words<'a> {
     }
 
     /// The first four octets of a header.
-    pub(crate) fn header(&mut self, alloc: Global) -> Result<Header, LineFault>
+    pub(crate) fn header(&mut self) -> Result<Header, LineFault>
         ensures { Gives result self.new (one_word header_of self.old) }
     {
-        let octets = pairs(alloc, self.word()?)?;
-        if octets.len() != 4 {
-            return Err(LineFault::Refused);
+        match header_of(self.word()?) {
+            None => Err(LineFault::Refused),
+            Some(octets) => Ok(Header::from_octets(octets)),
         }
-        Ok(Header::from_octets([octets[0], octets[1], octets[2], octets[3]]))
     }
 
     pub(crate) fn fault(&mut self) -> Result<Fault, LineFault>

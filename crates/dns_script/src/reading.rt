@@ -177,7 +177,7 @@ fn request(alloc: Global, words: &mut Words<'_>) -> Result<RequestMessage, LineF
     ensures { Gives result words.new (request_at words.old) }
 {
     let base = words.message(alloc)?;
-    let header = words.header(alloc)?;
+    let header = words.header()?;
     request_of(alloc, base, header, words.word()?)
 }
 

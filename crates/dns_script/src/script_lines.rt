@@ -1,6 +1,6 @@
 //! Scripts, read line by line.
 
-ghost use Rattle.std.specs.Prelude.{◌≡◌, ◌++◌, Some, option_map};
+ghost use Rattle.std.specs.Prelude.{◌≡◌, ◌↔◌, ◌++◌, IsTrue, Some, option_map};
 ghost use Rattle.dns_script.specs.Reading.{Makes, MakesBy, Reads, named, numbers_of};
 ghost use Rattle.dns_script.specs.Names.{script_names};
 ghost use Rattle.std.specs.Str.{IsUtf8};
@@ -9,6 +9,7 @@ ghost use Rattle.dns_script.specs.ScriptReading.{ReadsScript, begun_with, event_
 use crate::line::{LineFault, Lines, Words, split_first};
 use crate::names::{ScriptName, script_named};
 use crate::reading::event;
+use crate::scan::is_ascii;
 use crate::script::{Lanes, Script, ScriptFault};
 use crate::settings::Settings;
 use crate::told::check_what;
@@ -51,6 +52,13 @@ fn event_of(alloc: Global, text: &[u8]) -> Result<Event, LineFault>
     let event = event(alloc, &mut words)?;
     words.end()?;
     Ok(event)
+}
+
+/// Whether octets are a text.
+fn is_text(octets: &[u8]) -> bool
+    ensures { IsTrue result ↔ IsUtf8 octets.now }
+{
+    is_ascii(octets) || str::from_utf8(octets).is_ok()
 }
 
 impl ScriptReader {
@@ -153,9 +161,8 @@ impl ScriptReader {
     pub(crate) fn line(&mut self, alloc: Global, line: &[u8]) -> Result<(), LineFault>
         ensures { MakesBy result self.new (TakesLine line.now self.old) }
     {
-        match str::from_utf8(line) {
-            Ok(_) => {}
-            Err(_) => return Err(LineFault::Refused),
+        if !is_text(line) {
+            return Err(LineFault::Refused);
         }
         if line.len() == 0 || line[0] == b'#' {
             return Ok(());
