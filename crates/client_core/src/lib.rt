@@ -20,5 +20,5 @@ pub use clock::{Clock, ListClock};
 pub use deed::Deed;
 pub use edge::{Edge, is_fault};
 pub use list_edge::ListEdge;
-pub use octets::in_octets;
+pub use octets::{all_asked_in_octets, all_in_octets, in_octets};
 pub use servers::{Layers, Servers};

@@ -34,7 +34,7 @@ pub fn in_octets(event: &Event)
 }
 
 /// What events ask is made of octets.
-pub(crate) fn all_asked_in_octets(events: &[Event])
+pub fn all_asked_in_octets(events: &[Event])
     ensures { AllAskedInOctets events.now }
 {
     for event in events {
@@ -43,7 +43,7 @@ pub(crate) fn all_asked_in_octets(events: &[Event])
 }
 
 /// What comes in events is made of octets.
-pub(crate) fn all_in_octets(events: &[Event])
+pub fn all_in_octets(events: &[Event])
     ensures { AllInOctets events.now }
 {
     for event in events {

@@ -54,8 +54,8 @@ same_rows o xs ys e f = cc
 pub one_output : ScriptLaws → LineLaws → (command : Command) (text a b : List ℕ) → IsOutput command text a → IsOutput command text b → a ≡ b
 one_output scripts lines Replay text a b h k =
     let same : k.script ≡ h.script = scripts.script_is_one false text k.script h.script k.is_script h.is_script in
-    let rows : h.rows ≡ k.rows = same_rows (rows_of h.script) h.rows k.rows h.plain (ap rows_of (sym same) ∙ k.plain) in
-    h.says ∙ ap trace_text_of rows ∙ sym k.says
+    let rows : h.told.rows ≡ k.told.rows = same_rows (rows_of h.script) h.told.rows k.told.rows h.told.plain (ap rows_of (sym same) ∙ k.told.plain) in
+    h.told.says ∙ ap trace_text_of rows ∙ sym k.told.says
 one_output scripts lines Conf text a b h k =
     let same : h.conf ≡ k.conf = (lines.one_answer 1 (lines_of text) no_conf h.conf k.conf good good h.parses.1 k.parses.1 has_memory has_memory).1 in
     h.says ∙ ap (λ (c : ResolvConf). conf_text (finalized c)) same ∙ sym k.says
@@ -63,7 +63,7 @@ one_output scripts lines Conf text a b h k =
 not_stopped : ScriptLaws → (text out : List ℕ) (command : Command) → IsReplayed text out → ¬ (StopsForNumbers command text)
 not_stopped scripts text out command h k =
     let same : h.script ≡ k.script = scripts.script_is_one false text h.script k.script h.is_script k.is_script in
-    let none : None ≡ Some h.rows = sym k.stops ∙ ap rows_of (sym same) ∙ h.plain in
+    let none : None ≡ Some h.told.rows = sym k.stops ∙ ap rows_of (sym same) ∙ h.told.plain in
     cc
 
 not_conf : Conf ≡ Replay → ⊥

@@ -38,17 +38,21 @@ first_lane (events ∷ lanes) = events
 abbrev pub rows_of : Script → Option (List Row)
 rows_of script = plain_trace script.redundant script.cache script.conf (listed script.words) (first_lane script.lanes)
 
--- The text is a script, not too long, and these octets are the text of its plain trace, which is right and timely, and gives what is kept.
-pub record IsReplayed (text out : List ℕ) : Type 0 where
-  pub fits : length text ≤ 16777216
-  pub script : Script
-  pub is_script : IsScript false text script
+-- These octets are the text of the plain trace of a script, which is right and timely, and gives what is kept.
+pub record IsTold (script : Script) (out : List ℕ) : Type 0 where
   pub rows : List Row
   pub plain : rows_of script ≡ Some rows
   pub right : Right (conf_of script.conf) (settings_of script.redundant script.cache) rows
   pub timely : Timely (conf_of script.conf) rows
   pub hits : AllHit (conf_of script.conf) (settings_of script.redundant script.cache) composed (room_of script.cache) [] rows
   pub says : out ≡ trace_text_of rows
+
+-- The text is a script, not too long, and these octets are the text of its plain trace, which is right and timely, and gives what is kept.
+pub record IsReplayed (text out : List ℕ) : Type 0 where
+  pub fits : length text ≤ 16777216
+  pub script : Script
+  pub is_script : IsScript false text script
+  pub told : IsTold script out
 
 -- before the first line of a configuration
 abbrev pub no_conf : ResolvConf

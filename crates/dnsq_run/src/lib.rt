@@ -24,6 +24,7 @@ mod replay;
 mod run;
 mod short_words;
 mod statuses;
+mod telling;
 mod usage;
 
 pub use laws::input_laws;

@@ -15,10 +15,11 @@ use crate::ending::Ending;
 use crate::lines::{refused_line, says};
 use crate::short_words::words_are_short;
 use crate::statuses::{NO_MEMORY, NUMBERS_USED, REFUSED, SOURCE_FAULT};
+use crate::telling::text_of;
 use crate::usage::Command;
 use client_core::Client;
 use client_request::{Error, Event, ListWords, Trace};
-use dns_script::{Lanes, Script, ScriptFault, read_script, trace_text};
+use dns_script::{Lanes, Script, ScriptFault, read_script};
 use dns_values::{ReadFault, Source, read_to_end};
 use std::alloc::Global;
 
@@ -116,6 +117,5 @@ pub fn replay<S: Source>(alloc: Global, source: &mut S) -> Result<Vec<u8>, Endin
         Ok(script) => script,
         Err(ending) => return Err(ending),
     };
-    let trace = trace_of(alloc, script)?;
-    Ok(trace_text(alloc, &trace)?)
+    text_of(alloc, script)
 }

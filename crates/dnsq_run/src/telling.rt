@@ -1,0 +1,83 @@
+//! The trace of a script, told as text row by row: each row is let go as soon as it is written, so no trace stands in
+//! memory beside its text.
+
+ghost use Rattle.std.specs.Prelude.{◌≡◌, ◌≢◌, None, Some, IfOk, IfErr, IsErrOf, option_map};
+ghost use Rattle.client_steps.specs.Whole.{plain_trace};
+ghost use Rattle.dns_script.specs.TraceText.{trace_text_of};
+ghost use Rattle.dnsq_run.specs.Program.{first_lane, rows_of, IsTold, IsEarly, status_of, line_of, numbers_line};
+
+use crate::ending::Ending;
+use crate::lines::says;
+use crate::short_words::words_are_short;
+use crate::statuses::{NO_MEMORY, NUMBERS_USED};
+use client_core::{
+    Client, all_asked_in_octets, all_in_octets, cache, every_plain_trace_hits,
+    every_plain_trace_is_right, redundant,
+};
+use client_request::{Error, Events, ListWords, Words};
+use dns_script::{Lanes, Script, begin_trace, end_trace, push_row};
+use resolv_conf::ResolvConf;
+use std::alloc::Global;
+
+/// The events of the first lane.
+fn first_of(alloc: Global, lanes: Lanes) -> Events
+    ensures { result ≡ first_lane lanes }
+{
+    let mut lanes = lanes.into_vec();
+    if lanes.is_empty() {
+        return Events::new(alloc);
+    }
+    lanes.swap_remove(0)
+}
+
+/// The text of the trace of a client that is told these events and draws these words.
+fn told<W: Words>(
+    alloc: Global,
+    conf: &ResolvConf,
+    redundant: redundant::Config,
+    cache: cache::Config,
+    words: &mut W,
+    events: Events,
+) -> Result<Vec<u8>, Error>
+    ensures text { IfOk result (λ v. option_map trace_text_of (plain_trace redundant cache conf.now (W.stream words.old) events) ≡ Some v.items) }
+    ensures numbers { IsErrOf result Error.NumbersUsed → plain_trace redundant cache conf.now (W.stream words.old) events ≡ None }
+{
+    let mut client = Client::new(alloc, conf, redundant, cache)?;
+    let mut text = begin_trace(alloc)?;
+    for event in events.into_vec() {
+        let row = client.step(words, event)?;
+        push_row(&mut text, &row)?;
+    }
+    end_trace(&mut text)?;
+    Ok(text)
+}
+
+/// The text of the trace of a script with one lane, which is right and timely, and gives what is kept.
+pub fn text_of(alloc: Global, script: Script) -> Result<Vec<u8>, Ending>
+    ensures told { IfOk result (λ v. IsTold script v.items) }
+    ensures early { IfErr result IsEarly }
+    ensures numbers { IfErr result (λ e. status_of e ≡ 7 → rows_of script ≡ None) }
+    ensures numbers_line { IfErr result (λ e. status_of e ≡ 7 → line_of e ≡ numbers_line) }
+    ensures no_fault { IfErr result (λ e. (status_of e ≢ 3) × (status_of e ≢ 1)) }
+{
+    let Script {
+        conf,
+        redundant,
+        cache,
+        words,
+        lanes,
+    } = script;
+    words_are_short(words.as_slice());
+    let mut words = ListWords::new(words);
+    let events = first_of(alloc, lanes);
+    cache.max_validity_is_limited();
+    all_asked_in_octets(events.as_slice());
+    all_in_octets(events.as_slice());
+    every_plain_trace_is_right();
+    every_plain_trace_hits();
+    match told(alloc, &conf, redundant, cache, &mut words, events) {
+        Ok(text) => Ok(text),
+        Err(Error::NumbersUsed) => Err(says(alloc, NUMBERS_USED, "numbers used\n")),
+        Err(_) => Err(Ending::Silent(NO_MEMORY)),
+    }
+}
