@@ -6,7 +6,7 @@ ghost use Rattle.std.specs.List.{join_with_byte};
 ghost use Rattle.dns_script.specs.Words.{error_words, fault_word, hex_word, query_error_words};
 ghost use Rattle.dns_script.specs.Lines.{event_line, line, opt_octets, out_line, request_words, result_words, what_words};
 ghost use Rattle.dns_script.specs.TraceReading.{IsTrace};
-ghost use Rattle.dns_script.specs.TraceText.{row_text, trace_text_of};
+ghost use Rattle.dns_script.specs.TraceText.{first_line, last_line, row_text, trace_text_of};
 
 use crate::bounds::trace_is_in_range;
 use crate::words::{error_name, fault_word, push_digits, push_hex, push_number, via_word};
@@ -277,8 +277,25 @@ fn push_event(text: &mut Vec<u8>, event: &Event) -> Result<(), NoMemory>
     push_what(text, &event.what)
 }
 
+/// The text of a trace before its rows.
+pub fn begin_trace(alloc: Global) -> Result<Vec<u8>, NoMemory>
+    ensures { IfOk result (λ v. v.items ≡ first_line) }
+{
+    let mut text = Vec::new(alloc);
+    text.extend_from_slice(b"trace 1\n")?;
+    Ok(text)
+}
+
+/// Adds what stands behind the rows of a trace.
+pub fn end_trace(text: &mut Vec<u8>) -> Result<(), NoMemory>
+    ensures { OnOk result (text.new.items ≡ text.old.items ++ last_line) }
+{
+    text.extend_from_slice(b"end\n")?;
+    Ok(())
+}
+
 /// Adds an event's line and the lines of what was put out for it.
-fn push_row(text: &mut Vec<u8>, row: &Row) -> Result<(), NoMemory>
+pub fn push_row(text: &mut Vec<u8>, row: &Row) -> Result<(), NoMemory>
     ensures { OnOk result (text.new.items ≡ text.old.items ++ row_text row.now) }
 {
     push_event(text, &row.event)?;
@@ -294,11 +311,10 @@ pub fn trace_text(alloc: Global, t: &Trace) -> Result<Vec<u8>, NoMemory>
     ensures back { IfOk result (λ v. IsTrace v.items t.now.rows) }
 {
     trace_is_in_range(t);
-    let mut text = Vec::new(alloc);
-    text.extend_from_slice(b"trace 1\n")?;
+    let mut text = begin_trace(alloc)?;
     for row in t.rows.as_slice() {
         push_row(&mut text, row)?;
     }
-    text.extend_from_slice(b"end\n")?;
+    end_trace(&mut text)?;
     Ok(text)
 }
