@@ -19,15 +19,15 @@ none_unless greatest ds h = go (with_digits greatest 0 ds) refl
 pub within_none : (greatest : ℕ) (ds : List ℕ) → greatest < 18446744073709551616 → None ≡ with_digits 18446744073709551615 0 ds → None ≡ with_digits greatest 0 ds
 within_none greatest ds small none =
     none_unless greatest ds (λ v e.
-      let said = digits_say greatest 0 v ds (omega arith) e in
-      absurd (none-some _ (none ∙ digits_are_read 18446744073709551615 0 ds said.0 (omega (arith, said.1, said.2)))))
+    let said = digits_say greatest 0 v ds (omega arith) e in
+    absurd (none-some _ (none ∙ digits_are_read 18446744073709551615 0 ds said.0 (omega (arith, said.1, said.2)))))
 
 pub within_past : (greatest n : ℕ) (ds : List ℕ) → Some n ≡ with_digits 18446744073709551615 0 ds → greatest < n → None ≡ with_digits greatest 0 ds
 within_past greatest n ds some past =
     let free = digits_say 18446744073709551615 0 n ds (omega arith) (sym some) in
     none_unless greatest ds (λ v e.
-      let said = digits_say greatest 0 v ds (omega arith) e in
-      absurd (omega (arith, said.1, said.2, free.1)))
+    let said = digits_say greatest 0 v ds (omega arith) e in
+    absurd (omega (arith, said.1, said.2, free.1)))
 
 pub within_some : (greatest n : ℕ) (ds : List ℕ) → Some n ≡ with_digits 18446744073709551615 0 ds → n ≤ greatest → Some n ≡ with_digits greatest 0 ds
 within_some greatest n ds some within =

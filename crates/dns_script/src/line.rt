@@ -116,7 +116,11 @@ fn digits_within(greatest: u64, word: &[u8]) -> Option<u64>
     ensures below { IfSome result (λ n. n ≤ greatest) }
 {
     let number = digits_of(word)?;
-    if number > greatest { None } else { Some(number) }
+    if number > greatest {
+        None
+    } else {
+        Some(number)
+    }
 }
 
 /// A decimal number without sign or leading zeros that is at most the greatest.
