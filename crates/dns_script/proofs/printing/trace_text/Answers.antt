@@ -7,5 +7,5 @@ use Rattle.dns_script.proofs.printing.trace_text.Goals as goal
 
 pub returns-clause-back : goal.returns-clause-back
 returns-clause-back c =
-    let printed : c.extend_from_slice-2.new.self.items ≡ trace_text_of c.args.t.now.rows = grind (arith, common_steps) in
-    printed_is_read c.extend_from_slice-2.new.self.items c.args.t.now.rows c.trace_is_in_range.ensures printed
+    let printed : c.end_trace.new.text.items ≡ trace_text_of c.args.t.now.rows = grind (arith, common_steps) in
+    printed_is_read c.end_trace.new.text.items c.args.t.now.rows c.trace_is_in_range.ensures printed
