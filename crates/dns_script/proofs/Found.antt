@@ -1,5 +1,5 @@
 -- The first separator, as a search finds it.
-use Rattle.std.proofs.Common.{◌≡◌, ◌+◌, ◌<◌, ◌≤◌, ℕ, eqb, true, false, List, length, get_or, Option, Some, None, ltb, sym, ap, ◌∙◌, subst, arith, inl, inr}
+use Rattle.std.proofs.Common.{◌≡◌, ◌+◌, ◌<◌, ◌≤◌, ℕ, eqb, true, false, List, length, get_or, Some, None, sym, subst, arith, inl, inr}
 use Rattle.std.specs.List.{position, position_or_len}
 use Rattle.dns_script.specs.Scan.{IsRunAt}
 use Rattle.std.proofs.lemmas.Bool.{cases_lt, lt-ltb, le-ltb, cond-true, cond-false}

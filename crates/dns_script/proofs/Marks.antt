@@ -1,5 +1,5 @@
 -- What the marks of a vector say of the octets that it was loaded from.
-use Rattle.std.proofs.Common.{◌≡◌, ◌+◌, ◌-◌, ◌<◌, ◌≤◌, ℕ, Bool, true, false, not, eqb, leb, cond, List, [], ◌∷◌, length, get_or, map, replicate, ◌%◌, ◌^◌, refl, sym, ap, ◌∙◌, arith, w8}
+use Rattle.std.proofs.Common.{◌≡◌, ◌+◌, ◌≤◌, ℕ, Bool, not, cond, List, [], ◌∷◌, length, map, replicate, ◌%◌, ◌^◌, refl, sym, ap, ◌∙◌, arith, w8}
 use Rattle.std.specs.Simd.Lanes.{chunk, zip2, mask_l, top}
 use Rattle.std.proofs.lemmas.Simd.{run_in_chunk_le, run_in_chunk_fails, run_in_chunk_stops, tops_compared, mask_l-mod}
 use Rattle.std.proofs.lemmas.List.{length-map}

@@ -1,5 +1,5 @@
 -- each octet before the place is ASCII
-use Rattle.std.proofs.Common.{◌+◌, ◌-◌, ◌<◌, ◌≤◌, ℕ, get_or, length}
+use Rattle.std.proofs.Common.{◌-◌, ◌<◌, ℕ, get_or, length}
 use Rattle.dns_script.proofs.scan.is_ascii.Given as goal
 
 abbrev pub invariant-loop-from : goal.invariant-loop-from

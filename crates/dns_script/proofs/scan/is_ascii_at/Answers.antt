@@ -1,5 +1,5 @@
 -- Where no octet is marked, each is below 128.
-use Rattle.std.proofs.Common.{◌≡◌, ◌<◌, leb, eqb, true, sym, ◌∙◌, arith}
+use Rattle.std.proofs.Common.{leb, sym, ◌∙◌, arith}
 use Rattle.std.specs.Simd.Lanes.{chunk}
 use Rattle.std.proofs.lemmas.Bool.{leb-false, eqb-true}
 use Rattle.std.proofs.lemmas.Simd.{length-chunk, none_from_empty_mask}
