@@ -5,3 +5,4 @@ pub mod Refusals
 pub mod Queries
 pub mod QueryEnds
 pub mod Generations
+pub mod ToldTexts

@@ -4,7 +4,7 @@ use Rattle.std.specs.Vec.Iter.{into_iter_items}
 use Rattle.client_steps.specs.Client.{plain_rows}
 use Rattle.client_steps.specs.Whole.{machine, plain_trace, client_with}
 use Rattle.dns_script.specs.TraceText.{trace_text_of}
-use Rattle.dnsq_run.proofs.Telling.{text_with}
+use Rattle.dnsq_run.proofs.ToldTexts.{text_with}
 use Rattle.dnsq_run.proofs.telling.told.Given as goal
 
 abbrev pub invariant-loop-event : goal.invariant-loop-event
