@@ -53,6 +53,7 @@ fn told<W: Words>(
 }
 
 /// The text of the trace of a script with one lane, which is right and timely, and gives what is kept.
+#[tactic(auto, using(crate::proofs::ToldTexts::is_told))]
 pub fn text_of(alloc: Global, script: Script) -> Result<Vec<u8>, Ending>
     ensures told { IfOk result (λ v. IsTold script v.items) }
     ensures early { IfErr result IsEarly }
