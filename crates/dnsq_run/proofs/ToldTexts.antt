@@ -19,9 +19,7 @@ abbrev pub text_with : List ℕ → List Row → List ℕ
 text_with text rest = text ++ flat_map row_text rest ++ last_line
 
 one_more : (text : List ℕ) (row : Row) (rest : List Row) → text_with text (row ∷ rest) ≡ text_with (text ++ row_text row) rest
-one_more text row rest =
-    ap (λ (xs : List ℕ). text ++ xs) (append_assoc (row_text row) (flat_map row_text rest) last_line)
-    ∙ sym (append_assoc text (row_text row) (flat_map row_text rest ++ last_line))
+one_more text row rest = ap (λ (xs : List ℕ). xs ++ last_line) (sym (append_assoc text (row_text row) (flat_map row_text rest)))
 
 behind : (text : List ℕ) (row : Row) (rest : Option (List Row)) → option_map (text_with text) (option_map (λ xs. row ∷ xs) rest) ≡ option_map (text_with (text ++ row_text row)) rest
 behind text row None = refl

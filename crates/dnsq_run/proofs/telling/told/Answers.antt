@@ -1,10 +1,11 @@
-use Rattle.std.proofs.Common.{◌≡◌, ℕ, List, [], ◌∷◌, ◌++◌, rules, sym, subst, ap, ◌∙◌, Some, None}
+use Rattle.std.proofs.Common.{◌≡◌, ℕ, List, [], ◌∷◌, ◌++◌, rules, sym, subst, ap, ◌∙◌, Some, None, append-nil}
 use Rattle.std.proofs.lemmas.List.{nil_from_length}
 use Rattle.std.specs.Prelude.{option_map}
 use Rattle.std.specs.Vec.Iter.{into_iter_items}
 use Rattle.client_request.specs.declared.event.Event.{Event}
 use Rattle.client_steps.specs.Client.{plain_rows, row_step}
 use Rattle.client_steps.specs.Whole.{machine, client_with}
+use Rattle.dns_script.specs.TraceText.{last_line}
 use Rattle.dnsq_run.proofs.ToldTexts.{text_with, next_written, none_written, none_told}
 use Rattle.dnsq_run.proofs.telling.told.Goals as goal
 
@@ -35,6 +36,7 @@ returns-clause-text g c =
     let client = client_with (g.W.Words.stream c.loop-event.words) c.loop-event.client in
     c.loop-event.invariant.same
     ∙ ap (λ (es : List Event). option_map (text_with text) (plain_rows machine c.args.conf.now.options.timeout es client)) none
+    ∙ ap (λ (xs : List ℕ). Some (xs ++ last_line)) (append-nil text)
     ∙ ap Some (sym c.in_ok-end_trace.ensures)
 
 pub returns-in_err-row-clause-numbers : goal.returns-in_err-row-clause-numbers
