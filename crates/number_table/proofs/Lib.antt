@@ -1,3 +1,2 @@
-pub mod Absent
 pub mod SlotTable
 pub mod Written
