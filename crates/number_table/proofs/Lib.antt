@@ -1,2 +1,3 @@
+pub mod Absent
 pub mod SlotTable
 pub mod Written

@@ -1,7 +1,7 @@
 //! The slots of a table: one for each key, in rising order of keys. A slot stays, empty, where its value was
 //! taken out.
 
-ghost use Rattle.std.specs.Prelude.{◌≡◌, ◌<◌, false, slice_set, vec_len, IfOk, IfErr, slice_index_or};
+ghost use Rattle.std.specs.Prelude.{◌≡◌, ◌<◌, false, slice_set, vec_len, IsTrue, IfOk, IfErr, slice_index_or};
 ghost use Rattle.number_table.specs.declared.slots.Slot.{Slot};
 ghost use Rattle.number_table.specs.Slots.{entries_in, Rising, HasKeyAt, IsGapFor, AreEmptyBefore, empty_at};
 
@@ -14,12 +14,26 @@ pub(crate) struct Slot<V> {
     pub(crate) value: Option<V>,
 }
 
-/// The place of the slot of a key, or the place at which it would go. A key above all others is found at once.
-pub(crate) fn find<V>(slots: &[Slot<V>], key: u64) -> Result<usize, usize>
+/// Whether the slot of a key is at a place.
+fn is_key_at<V>(slots: &[Slot<V>], place: usize, key: u64) -> bool
+    ensures { IsTrue result → HasKeyAt key slots.now place }
+{
+    match slots.get(place) {
+        Some(slot) => slot.key == key,
+        None => false,
+    }
+}
+
+/// The place of the slot of a key, or the place at which it would go. A key at the place that is looked at first, or above all
+/// others, is found at once.
+pub(crate) fn find<V>(slots: &[Slot<V>], first: usize, key: u64) -> Result<usize, usize>
     requires { Rising 0 slots.now }
     ensures found { IfOk result (HasKeyAt key slots.now) }
     ensures gap { IfErr result (IsGapFor key slots.now) }
 {
+    if is_key_at(slots, first, key) {
+        return Ok(first);
+    }
     match slots.last() {
         Some(last) if key <= last.key => slots.binary_search_by_key(&key, |slot| slot.key),
         _ => Err(slots.len()),

@@ -79,7 +79,7 @@ impl<V> NumberTable<V> {
     pub fn get(&self, key: u64) -> Option<&V>
         ensures { option_copied result ≡ entry_at key self.now }
     {
-        match find(self.slots.as_slice(), key) {
+        match find(self.slots.as_slice(), self.front, key) {
             Ok(at) => self.slots[at].value.as_ref(),
             Err(_) => None,
         }
@@ -100,7 +100,7 @@ impl<V: Drop> NumberTable<V> {
             key,
             value: Some(value),
         };
-        match find(self.slots.as_slice(), key) {
+        match find(self.slots.as_slice(), self.front, key) {
             Ok(at) => {
                 let old = replace_at(&mut self.slots, at, slot);
                 self.front = self.front.min(at);
@@ -124,12 +124,14 @@ impl<V: Drop> NumberTable<V> {
     pub fn remove(&mut self, key: u64) -> Option<V>
         ensures value { result ≡ entry_at key self.old }
         ensures entries { self.new ≡ frees key self.old }
+        ensures none { IfNone result (self.new ≡ self.old) }
     {
-        let Ok(at) = find(self.slots.as_slice(), key) else {
+        let Ok(at) = find(self.slots.as_slice(), self.front, key) else {
             return None;
         };
         let value = replace_at(&mut self.slots, at, Slot { key, value: None })?;
         self.len -= 1;
+        self.front = first_place(self.slots.as_slice(), self.front);
         self.compact();
         Some(value)
     }
