@@ -1,10 +1,12 @@
 //! The slots of a table: one for each key, in rising order of keys. A slot stays, empty, where its value was
 //! taken out.
 
-ghost use Rattle.std.specs.Prelude.{◌≡◌, ◌<◌, false, slice_set, vec_len, IsTrue, IfOk, IfErr, slice_index_or};
+ghost use Rattle.std.specs.Prelude.{◌≡◌, ◌<◌, ◌≤◌, false, slice_set, vec_len, is_ok, IsTrue, IfOk, IfErr, slice_index_or, if◌then◌else◌};
+ghost use Rattle.std.specs.List.{insert};
 ghost use Rattle.number_table.specs.declared.slots.Slot.{Slot};
 ghost use Rattle.number_table.specs.Slots.{entries_in, Rising, HasKeyAt, IsGapFor, AreEmptyBefore, empty_at};
 
+use std::alloc::AllocFailed;
 use std::mem;
 
 /// A key, and what stands under it.
@@ -24,8 +26,14 @@ fn is_key_at<V>(slots: &[Slot<V>], place: usize, key: u64) -> bool
     }
 }
 
-/// The place of the slot of a key, or the place at which it would go. A key at the place that is looked at first, or above all
-/// others, is found at once.
+/// Where the slot of a key stands among so many, if each number from it to the last key has a slot.
+fn place_from_last(count: usize, last: u64, key: u64) -> usize {
+    let behind = last.saturating_sub(key);
+    count.saturating_sub(1).saturating_sub(behind as usize)
+}
+
+/// The place of the slot of a key, or the place at which it would go. A key at the place that is looked at first, one behind
+/// which no number lacks a slot, and one above all others are found at once.
 pub(crate) fn find<V>(slots: &[Slot<V>], first: usize, key: u64) -> Result<usize, usize>
     requires { Rising 0 slots.now }
     ensures found { IfOk result (HasKeyAt key slots.now) }
@@ -35,8 +43,32 @@ pub(crate) fn find<V>(slots: &[Slot<V>], first: usize, key: u64) -> Result<usize
         return Ok(first);
     }
     match slots.last() {
-        Some(last) if key <= last.key => slots.binary_search_by_key(&key, |slot| slot.key),
+        Some(last) if key <= last.key => {
+            let likely = place_from_last(slots.len(), last.key, key);
+            if is_key_at(slots, likely, key) {
+                return Ok(likely);
+            }
+            slots.binary_search_by_key(&key, |slot| slot.key)
+        }
         _ => Err(slots.len()),
+    }
+}
+
+/// Puts a slot at a place: mostly at the end, where nothing has to move.
+#[tactic(auto, using(std::proofs::lemmas::List::Edits::insert_end))]
+pub(crate) fn insert_at<V>(
+    slots: &mut Vec<Slot<V>>,
+    at: usize,
+    slot: Slot<V>,
+) -> Result<(), AllocFailed<Slot<V>>>
+    requires { at ≤ vec_len slots.old }
+    ensures items { slots.new.items ≡ (if is_ok result then insert slots.old.items at slot else slots.old.items) }
+    ensures value_returned { IfErr result (λ refused. refused.value ≡ slot) }
+{
+    if at == slots.len() {
+        slots.push(slot)
+    } else {
+        slots.insert(at, slot)
     }
 }
 

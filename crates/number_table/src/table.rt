@@ -3,7 +3,8 @@
 ghost use Rattle.std.specs.Prelude.{◌≡◌, ◌==◌, ◌∷◌, [], None, length, slice_get, option_copied, option_map, is_some, IsSome, IfSome, IfNone, IfOk, IfErr, OnOk, OnErr};
 ghost use Rattle.number_table.specs.Entries.{puts, frees, entry_at};
 
-use crate::slots::{Slot, drop_empty, find, first_place, replace_at};
+use crate::entries::Entries;
+use crate::slots::{Slot, drop_empty, find, first_place, insert_at, replace_at};
 use std::alloc::{AllocFailed, Global};
 use std::marker::Model;
 
@@ -86,6 +87,20 @@ impl<V> NumberTable<V> {
     }
 }
 
+impl<'a, V> IntoIterator for &'a NumberTable<V> {
+    type Item = (u64, &'a V);
+
+    type IntoIter = Entries<'a, V>;
+
+    ghost into_iter_gives = { λ table entries. entries ≡ table.now };
+
+    fn into_iter(self) -> Entries<'a, V> {
+        Entries {
+            slots: self.slots.as_slice(),
+        }
+    }
+}
+
 impl<V: Drop> NumberTable<V> {
     /// Puts a value under a key, and returns the one that stood there. Only a new key can fail, for want of
     /// memory: then the pair comes back and the entries stay.
@@ -110,7 +125,7 @@ impl<V: Drop> NumberTable<V> {
                 Ok(old)
             }
             Err(at) => {
-                if let Err(refused) = self.slots.insert(at, slot) {
+                if let Err(refused) = insert_at(&mut self.slots, at, slot) {
                     return Err(handed_back(refused.value));
                 }
                 self.front = self.front.min(at);

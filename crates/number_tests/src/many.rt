@@ -47,3 +47,23 @@ fn the_least_stays_where_those_behind_it_leave(rt: HostRuntime) -> Result<(), Fa
     assert!(rt; pops_from(&mut table, 901));
     Ok(())
 }
+
+/// Whether the entries are those of 0 and of 901 to 999, in order.
+fn are_the_least_and_the_last(table: &NumberTable<u64>) -> bool {
+    let mut wanted = 0;
+    for (key, value) in table {
+        if key != wanted || *value != wanted {
+            return false;
+        }
+        wanted = if key == 0 { 901 } else { key.saturating_add(1) };
+    }
+    wanted == 1000
+}
+
+#[test]
+fn the_entries_that_stay_come_in_order(rt: HostRuntime) -> Result<(), Fail> {
+    let mut table = thousand(rt.alloc())?;
+    hollow_out(&mut table);
+    assert!(rt; are_the_least_and_the_last(&table));
+    Ok(())
+}

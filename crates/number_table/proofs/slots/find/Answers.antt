@@ -3,14 +3,14 @@ use Rattle.std.proofs.lemmas.List.Sorted.{answers_always}
 use Rattle.number_table.proofs.SlotTable.{searched, gap_at_end}
 use Rattle.number_table.proofs.slots.find.Goals as goal
 
-pub returns-in-Some-clause-found : goal.returns-in-Some-clause-found
-returns-in-Some-clause-found g c =
+pub returns-else-is_key_at-2-clause-found : goal.returns-else-is_key_at-2-clause-found
+returns-else-is_key_at-2-clause-found g c =
     let facts = c.binary_search_by_key.ensures in
     let by_key = facts.position (λ slot. slot.key) (answers_always _ _ _ (λ f a r k called. search rules)) in
     (searched c.args.key c.args.slots.now c.requires _ facts.bound by_key).found
 
-pub returns-in-Some-clause-gap : goal.returns-in-Some-clause-gap
-returns-in-Some-clause-gap g c =
+pub returns-else-is_key_at-2-clause-gap : goal.returns-else-is_key_at-2-clause-gap
+returns-else-is_key_at-2-clause-gap g c =
     let facts = c.binary_search_by_key.ensures in
     let by_key = facts.position (λ slot. slot.key) (answers_always _ _ _ (λ f a r k called. search rules)) in
     (searched c.args.key c.args.slots.now c.requires _ facts.bound by_key).gap

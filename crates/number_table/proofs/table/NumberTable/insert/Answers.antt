@@ -41,8 +41,8 @@ returns-after-is_none-clause-entries g c =
     let put = written_puts _ _ c.args.key c.in-Ok.at _ _ c.args.value c.self.invariant (here _ _ _ _ c.as_slice.ensures.value c.in-Ok.ensures.found) c.replace_at-old.ensures.slots ∙ ap (puts c.args.key c.args.value) c.self.view_is in
     elim c.if-is_none.branch [ then-is_none w ↦ w.self-is ∙ put | else-is_none w ↦ w.self-is ∙ put ]
 
-pub returns-in-Err-insert-clause-absent : goal.returns-in-Err-insert-clause-absent
-returns-in-Err-insert-clause-absent g c =
+pub returns-in-Err-insert_at-clause-absent : goal.returns-in-Err-insert_at-clause-absent
+returns-in-Err-insert_at-clause-absent g c =
     ap (entry_at c.args.key) (sym c.self.view_is) ∙ entry_in_gap 0 c.args.key _ _ c.self.invariant.rising (gap _ _ _ _ c.as_slice.ensures.value c.in-Err.ensures.gap)
 
 pub invariant_of-self-in-Err : goal.invariant_of-self-in-Err
