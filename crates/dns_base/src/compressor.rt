@@ -193,12 +193,16 @@ impl Compressor {
     }
 }
 
+/// Room for so many octets is taken at first: most queries need no more.
+const FIRST_ROOM: usize = 64;
+
 impl Compressor {
     /// Twelve zero octets.
     pub(crate) fn new(alloc: Global) -> Result<Compressor, NoMemory>
         ensures { IfOk result (λ c. c ≡ record { octets = replicate 12 0; places = [] }) }
     {
-        let octets = vec![in alloc; 0; 12]?;
+        let mut octets = Vec::with_capacity(alloc, FIRST_ROOM)?;
+        octets.extend_from_slice(&[0; 12])?;
         Ok(Compressor {
             octets,
             places: Vec::new(alloc),
