@@ -64,6 +64,15 @@ impl Board {
         }
     }
 
+    /// Lets go what stands, and keeps the memory for what is put next.
+    pub fn clear(&mut self)
+        ensures { self.new ≡ [] }
+    {
+        if !self.posted.is_empty() {
+            self.posted.clear();
+        }
+    }
+
     /// Takes the part that was put first, of all that stand.
     pub fn take_first(&mut self) -> Option<Posted>
         ensures { TakesFirst result self.old self.new }

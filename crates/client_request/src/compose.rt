@@ -6,12 +6,12 @@ ghost use Rattle.dns_base.specs.contracts.header.Header.{the_row as header_row};
 ghost use Rattle.dns_base.specs.Draft.{Draft};
 ghost use Rattle.client_request.specs.declared.error.Error.{Error};
 ghost use Rattle.client_request.specs.declared.error.Error.TheVariants as errors;
-ghost use Rattle.client_request.specs.Composing.{IsComposed, without_message};
+ghost use Rattle.client_request.specs.Composing.{IsComposed, without_message, IsAsked};
 ghost use Rattle.client_request.specs.Requests.{Requests};
 ghost use Rattle.client_request.specs.Composed.{Copied, IsCopied, HoldsNothing};
 
 use crate::error::{CopyRecordsError, Error};
-use dns_base::{Builder, Header, Message, NoMemory};
+use dns_base::{Builder, Header, Message, NoMemory, Question};
 use std::alloc::Global;
 
 /// A message that is composed of what is recorded of a request, and told from others' answers.
@@ -43,6 +43,12 @@ pub trait Compose: Drop {
     /// two the first in message order.
     fn check_message(&self) -> Result<(), Error>
         ensures { result ≡ without_message (requests.composed self.now) };
+
+    /// The only question of that message, without making it: where one can be made, None exactly where it has
+    /// none or several. The name is the base's, whose case the message need not keep: what is written of a name
+    /// may point to the same name in another case (RFC 1035 4.1.4). It takes no memory.
+    fn sole_question(&self) -> Option<Question<'_>>
+        ensures { IfOk (requests.composed self.now) (λ message. IsAsked message result) };
 
     /// Records an id.
     fn set_id(&mut self, id: u16)

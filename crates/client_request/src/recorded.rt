@@ -12,7 +12,7 @@ use crate::compose::{Compose, ComposeRequest};
 use crate::counting::check;
 use crate::error::{CopyRecordsError, Error};
 use crate::recorded_opt::RecordedOpt;
-use dns_base::{Builder, Header, Message, NoMemory, OptRecord, is_answer};
+use dns_base::{Builder, Header, Message, NoMemory, OptRecord, Question, is_answer};
 use std::alloc::Global;
 use std::marker::Model;
 
@@ -161,6 +161,11 @@ impl Compose for Recorded {
 
     fn check_message(&self) -> Result<(), Error> {
         check(&self.base, self.header, self.recorded_opt())
+    }
+
+    fn sole_question(&self) -> Option<Question<'_>> {
+        self.is_of_octets();
+        self.base.sole_question().ok()
     }
 
     fn set_id(&mut self, id: u16) {

@@ -10,7 +10,7 @@ ghost use Rattle.client_request.specs.declared.error.Error.TheVariants as errors
 use crate::compose::{Compose, ComposeRequest};
 use crate::error::{CopyRecordsError, Error};
 use crate::recorded::Recorded;
-use dns_base::{Builder, Header, Message, NoMemory, Opcode, OptRecord, Rtype};
+use dns_base::{Builder, Header, Message, NoMemory, Opcode, OptRecord, Question, Rtype};
 use std::alloc::Global;
 use std::marker::Model;
 
@@ -127,6 +127,10 @@ impl Compose for RequestMessage {
 
     fn check_message(&self) -> Result<(), Error> {
         self.recorded.check_message()
+    }
+
+    fn sole_question(&self) -> Option<Question<'_>> {
+        self.recorded.sole_question()
     }
 
     fn set_id(&mut self, id: u16) {

@@ -10,7 +10,7 @@ ghost use Rattle.client_request.specs.declared.error.Error.TheVariants as errors
 use crate::compose::{Compose, ComposeRequestMulti};
 use crate::error::{CopyRecordsError, Error};
 use crate::recorded::Recorded;
-use dns_base::{Builder, Header, Message, NoMemory, OptRecord, Rtype};
+use dns_base::{Builder, Header, Message, NoMemory, OptRecord, Question, Rtype};
 use std::alloc::Global;
 use std::marker::Model;
 
@@ -88,6 +88,10 @@ impl Compose for RequestMessageMulti {
 
     fn check_message(&self) -> Result<(), Error> {
         self.recorded.check_message()
+    }
+
+    fn sole_question(&self) -> Option<Question<'_>> {
+        self.recorded.sole_question()
     }
 
     fn set_id(&mut self, id: u16) {

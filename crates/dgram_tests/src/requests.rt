@@ -2,7 +2,7 @@
 
 use crate::queries::{QUERY, message, query_octets, request, short_of_a_question};
 use client_request::{Compose, ComposeRequest, Error, RequestMessage};
-use dns_base::{Header, OptRecord};
+use dns_base::{Header, Name, OptRecord, ToName};
 use std::alloc::{AllocError, Global};
 use std::test::Fail;
 
@@ -118,6 +118,23 @@ fn a_question_may_be_missing(rt: HostRuntime) -> Result<(), Fail> {
     let request = request(rt.alloc(), &short_of_a_question())?;
     assert!(rt; request.to_message().err() == Some(Error::MessageParseError));
     assert!(rt; request.check_message() == Err(Error::MessageParseError));
+    Ok(())
+}
+
+/// The query with a second question, whose name is a pointer to the first one's (RFC 1035 4.1.4).
+const TWICE: [u8; 35] = [
+    0, 0, 1, 0, 0, 2, 0, 0, 0, 0, 0, 0, 7, 101, 120, 97, 109, 112, 108, 101, 3, 99, 111, 109, 0, 0,
+    1, 0, 1, 0xc0, 12, 0, 28, 0, 1,
+];
+
+#[test]
+fn an_only_question_is_told(rt: HostRuntime) -> Result<(), Fail> {
+    let query = request(rt.alloc(), &QUERY)?;
+    let question = query.sole_question().ok_or("no question")?;
+    let name = question.qname().to_name(rt.alloc())?;
+    assert!(rt; name == Name::from_text(rt.alloc(), "example.com")?);
+    assert!(rt; question.qtype().0 == 1 && question.qclass().0 == 1);
+    assert!(rt; request(rt.alloc(), &TWICE)?.sole_question().is_none());
     Ok(())
 }
 

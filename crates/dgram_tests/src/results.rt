@@ -96,6 +96,16 @@ fn the_part_that_was_put_first_is_taken_first(rt: HostRuntime) -> Result<(), Fai
     Ok(())
 }
 
+#[test]
+fn a_board_that_was_cleared_is_as_a_new_one(rt: HostRuntime) -> Result<(), Fail> {
+    let mut board = board(rt.alloc())?;
+    board.clear();
+    assert_eq!(rt; board.len(), 0);
+    board.put(3, Ok(None))?;
+    assert_eq!(rt; board.take_first().map(|posted| posted.ticket), Some(3));
+    Ok(())
+}
+
 /// Parts for one ticket: a reply that is wrong, and then the end.
 fn board_of_parts(alloc: Global) -> Result<Board, Error> {
     let mut board = Board::new(alloc);
