@@ -1,31 +1,25 @@
 -- The key that a message shows is that of the request which it says, and equal keys are told.
-use Rattle.std.proofs.Common.{◌≡◌, ℕ, Bool, true, false, List, [], ◌∷◌, length, refl, ap, sym, subst, ◌∙◌, arith, ◌&&◌, ◌==◌}
-use Rattle.std.specs.Prelude.{Option, Some, None, option_map, is_some, if◌then◌else◌}
+use Rattle.std.proofs.Common.{◌≡◌, ℕ, Bool, true, false, List, [], ◌∷◌, refl, ap, sym, subst, ◌∙◌, ◌&&◌, ◌==◌}
+use Rattle.std.specs.Prelude.{Option, Some, None, is_some, if◌then◌else◌}
 use Rattle.std.specs.Option.{option_map_or}
-use Rattle.std.proofs.lemmas.Bool.{ne_eqb}
 use Rattle.std.specs.List.{AllZip}
 use Rattle.dns_names.specs.Name.{lowered}
-use Rattle.dns_names.proofs.Heads.{then_ok, none_some}
+use Rattle.dns_names.proofs.Heads.{then_ok}
 use Rattle.dns_values.specs.declared.numbers.Section.TheVariants.{Answer, Authority, Additional}
 use Rattle.dns_base.specs.Header.{opcode_of, cd_of, rd_of}
-use Rattle.dns_base.specs.Numbers.{u16_at}
 use Rattle.dns_base.specs.Knowing.{lowered_asked}
-use Rattle.dns_base.specs.Message.{Asked, sole_question, question_at, list_at, items_at, item_then, all_read}
+use Rattle.dns_base.specs.Message.{Asked, sole_question, all_read}
 use Rattle.dns_base.specs.Answering.{question_items}
 use Rattle.dns_base.specs.Holding.{Contents, AskedReadsAs}
-use Rattle.dns_base.proofs.Lists.{items_are_list, list_length}
 use Rattle.dns_base.proofs.Readings.{reading_laws}
 use Rattle.client_request.specs.Request.{Request, is_dnssec_ok}
 use Rattle.client_request.specs.Carries.{SaysRequest, IsOfOctets, contents_of, records_of}
+use Rattle.client_request.proofs.SoleQuestion.{only, sole_is}
 use Rattle.headline.specs.Messages.{Octets, base_is_read}
 use Rattle.headline.specs.Keys.{key_of, is_cacheable, question_of, question_or}
 use Rattle.headline.specs.Theorem.{TellsKeys}
 use Rattle.client_views.specs.Key.{key_in, asked_key, class_in, same_key, same_is_equal, same_key_laws}
 use Rattle.client_views.specs.Laws.{kept_key, KeysAreOfRequests}
-
-some_inside : {A B : Type 0} → (f : A → B) (o : Option A) (y : B) → option_map f o ≡ Some y → (x : A) × (o ≡ Some x) × (f x ≡ y)
-some_inside f None y e = none_some e
-some_inside f (Some x) y e = (x, refl, cc)
 
 -- the key of one question, or of none, where the base is read
 of_question : (header : List ℕ) (d z : Bool) (o : Option Asked)
@@ -46,31 +40,6 @@ unfolding is_cacheable key_of question_of
 of_base r read =
     of_question r.header (is_dnssec_ok r) (opcode_of r.header == 0) (sole_question r.base)
     ∙ ap (λ b. if b && (opcode_of r.header == 0 && option_map_or (λ q. q.class == 1) (sole_question r.base) false) then Some (key_of r) else None) (sym read)
-
--- the one question of these
-only : List Asked → Option Asked
-only [] = None
-only (q ∷ []) = Some q
-only (q ∷ p ∷ more) = None
-
-as_listed : (one : ℕ → Option (Asked × ℕ)) (n at : ℕ) (qs : List Asked) → all_read (items_at one n at) ≡ Some qs → length qs ≡ n
-as_listed one n at qs e =
-    let found = some_inside (λ (y : List Asked × ℕ). y.0) (list_at one n at) qs (sym (items_are_list one n at) ∙ e) in
-    subst (λ qs. length qs ≡ n) found.2 (list_length one n at found.0 found.1)
-
-sole_of : (one : ℕ → Option (Asked × ℕ)) (n at : ℕ) (qs : List Asked) → all_read (items_at one n at) ≡ Some qs → length qs ≡ n → (if n == 1 then option_map (λ x. x.0) (one at) else None) ≡ only qs
-unfolding only items_at
-sole_of one n at [] e long = let is : (n == 1) ≡ false = ap (λ n. n == 1) (sym long) in rw is refl
-sole_of one n at (q ∷ []) e long = subst (λ n. all_read (items_at one n at) ≡ Some (q ∷ []) → (if n == 1 then option_map (λ x. x.0) (one at) else None) ≡ Some q) long (λ f. here (one at) f) e
-  where
-    here : (o : Option (Asked × ℕ)) → all_read (item_then (λ end. []) o) ≡ Some (q ∷ []) → option_map (λ x. x.0) o ≡ Some q
-    here None f = none_some f
-    here (Some x) f = cc
-sole_of one n at (q ∷ p ∷ more) e long = let is : (n == 1) ≡ false = ne_eqb n 1 (λ s. omega arith) in rw is refl
-
-sole_is : (octets : Octets) (qs : List Asked) → all_read (question_items octets) ≡ Some qs → sole_question octets ≡ only qs
-unfolding sole_question
-sole_is octets qs e = sole_of (question_at octets) (u16_at octets 4) 12 qs e (as_listed (question_at octets) (u16_at octets 4) 12 qs e)
 
 -- a key knows no case
 case_lost : (header : List ℕ) (d : Bool) (a b : Asked) → lowered_asked a ≡ lowered_asked b → asked_key header d (Some a) ≡ asked_key header d (Some b)

@@ -37,9 +37,13 @@ asked_key header d (Some q) = if q.class == 1 then Some (record {
   rd = rd_of header;
 }) else None
 
--- the key of a request with this header and this DO, which asks what a message does; none where no result of it is kept
+-- the key of a request for this with this header and this DO; none where no result of it is kept
+abbrev pub key_asking : (header : List ℕ) → (dnssec_ok : Bool) → Option Asked → Option Key
+key_asking header d question = if opcode_of header == 0 then asked_key header d question else None
+
+-- the key of a request which asks what a message does
 abbrev pub key_in : (header : List ℕ) → (dnssec_ok : Bool) → Octets → Option Key
-key_in header d message = if opcode_of header == 0 then asked_key header d (sole_question message) else None
+key_in header d message = key_asking header d (sole_question message)
 
 abbrev pub class_number : FlagClass → ℕ
 class_number Do = 0

@@ -1,6 +1,6 @@
 //! How long a result may be kept (RFC 2308 3, 5).
 
-ghost use Rattle.std.specs.Prelude.{◌≡◌, ◌≤◌, length, Some, None, MatchResult, min};
+ghost use Rattle.std.specs.Prelude.{◌≡◌, ◌≤◌, ℕ, length, false, Some, None, IsTrue, MatchResult, min};
 ghost use Rattle.dns_base.specs.Message.{first_question};
 ghost use Rattle.client_request.specs.Composed.{section_items};
 ghost use Rattle.headline.specs.Validity.{validity_of_message};
@@ -43,10 +43,26 @@ fn meets(records: RecordSection<'_>, rtype: Rtype, class: Class) -> bool
     false
 }
 
-/// The same of a section, where those before it are read.
+/// Whether a section counts no record. None is met there then, whether those before it are read or not.
+#[tactic(auto, using(crate::proofs::EmptySections::none_in_answer, crate::proofs::EmptySections::none_in_authority, crate::proofs::EmptySections::none_in_additional))]
+fn is_empty(message: &Message, section: Section) -> bool
+    ensures { IsTrue result → (t c : ℕ) → spec.section_meets t c (section_items section message.now) ≡ false }
+{
+    let counts = message.header_counts();
+    match section {
+        Section::Answer => counts.ancount() == 0,
+        Section::Authority => counts.nscount() == 0,
+        Section::Additional => counts.arcount() == 0,
+    }
+}
+
+/// Whether such a record is met in a section, where those before it are read.
 fn section_meets(message: &Message, section: Section, rtype: Rtype, class: Class) -> bool
     ensures { result ≡ spec.section_meets rtype.0 class.0 (section_items section message.now) }
 {
+    if is_empty(message, section) {
+        return false;
+    }
     match section_of(message, section) {
         Err(_) => false,
         Ok(records) => meets(records, rtype, class),

@@ -3,9 +3,9 @@
 ghost use Rattle.std.specs.Prelude.{◌≡◌, IfOk};
 ghost use Rattle.dns_names.specs.Name.{lowered};
 ghost use Rattle.headline.specs.Keys as keys;
-ghost use Rattle.client_views.specs.Key.{flag_class, class_in, class_number, key_in, same_key, same_key_laws, same_key_partly, key_hash, same_key_hash};
+ghost use Rattle.client_views.specs.Key.{flag_class, class_in, class_number, key_asking, key_in, same_key, same_key_laws, same_key_partly, key_hash, same_key_hash};
 
-use dns_base::{Class, Header, Message, Name, NoMemory, Opcode, Rtype, ToName};
+use dns_base::{Class, Header, Message, Name, NoMemory, Opcode, Question, Rtype, ToName};
 use std::alloc::Global;
 use std::hash::{Hash, Hasher};
 use std::marker::Model;
@@ -89,12 +89,24 @@ impl Key {
     ) -> Result<Option<Key>, NoMemory>
         ensures { IfOk result (λ k. k ≡ key_in header dnssec_ok message.now) }
     {
+        Key::asking(alloc, message.sole_question().ok(), header, dnssec_ok)
+    }
+
+    /// The key of a request for this question, with this header and this DO. None exactly where its results are not
+    /// kept: its opcode is not QUERY, or there is no question of class IN.
+    pub fn asking(
+        alloc: Global,
+        question: Option<Question<'_>>,
+        header: Header,
+        dnssec_ok: bool,
+    ) -> Result<Option<Key>, NoMemory>
+        ensures { IfOk result (λ k. k ≡ key_asking header dnssec_ok question.entry) }
+    {
         if header.opcode() != Opcode::QUERY {
             return Ok(None);
         }
-        let question = match message.sole_question() {
-            Err(_) => return Ok(None),
-            Ok(question) => question,
+        let Some(question) = question else {
+            return Ok(None);
         };
         if question.qclass() != Class::IN {
             return Ok(None);

@@ -50,6 +50,18 @@ fn a_key_is_what_is_asked(rt: HostRuntime) -> Result<(), Fail> {
 }
 
 #[test]
+fn a_key_is_made_of_a_question(rt: HostRuntime) -> Result<(), Fail> {
+    let message = message_of(rt.alloc(), &LOUD)?;
+    let header = Header::from_octets([0, 7, 1, 0]);
+    let key = Key::asking(rt.alloc(), message.sole_question().ok(), header, true)?.ok_or("no key")?;
+    assert!(rt; *key.qname() == Name::from_text(rt.alloc(), "example.com")?);
+    assert_eq!(rt; (key.qtype(), key.cd(), key.rd()), (Rtype::A, false, true));
+    assert!(rt; matches!(key.addo(), AdDo::Do));
+    assert!(rt; Key::asking(rt.alloc(), None, header, true)?.is_none());
+    Ok(())
+}
+
+#[test]
 fn keys_differ_by_flags_and_not_by_case(rt: HostRuntime) -> Result<(), Fail> {
     assert!(rt; are_same(rt.alloc(), ([1, 0], false), ([1, 0], false))?);
     assert!(rt; are_same(rt.alloc(), ([1, 0x20], true), ([1, 0], true))?);
