@@ -96,6 +96,11 @@ abbrev pub way_of : CacheSettings → (header : List ℕ) → (dnssec_ok : Bool)
 way_of s header dnssec_ok now t (Err error) = (Given (Err error), t)
 way_of s header dnssec_ok now t (Ok message) = way_asked s now t (asked_in header dnssec_ok message)
 
+-- a request that no entry serves is handed on, if a message can be composed of it
+abbrev pub way_unserved : Option Key → Outcome → Way
+way_unserved key (Err error) = Given (Err error)
+way_unserved key (Ok message) = Asks key
+
 -- what a transport asks of requests of a type, as far as a cache goes
 pub record Reading (R : Type 0) : Type 0 where
   pub composed : R → Outcome

@@ -27,6 +27,8 @@ use std::marker::{Model, PhantomData};
 pub struct Connection<CR, U: SendRequest<CR>> {
     upstream: U,
     kept: Kept,
+    /// Where the transport below posts during a call, kept for its memory alone: each call clears it first.
+    board: Board,
     failed: bool,
     requests: PhantomData<CR>,
 }
@@ -71,6 +73,7 @@ impl<CR, U: SendRequest<CR> + Drop> Connection<CR, U> {
         Ok(Connection {
             upstream,
             kept,
+            board: Board::new(alloc),
             failed: false,
             requests: PhantomData,
         })
@@ -151,7 +154,13 @@ impl<CR: ComposeRequest, U: SendRequest<CR>> SendRequest<CR> for Connection<CR, 
         if self.failed {
             return Err(Error::Failed);
         }
-        let result = take_on(&mut self.upstream, &mut self.kept, cx, request);
+        let result = take_on(
+            &mut self.upstream,
+            &mut self.kept,
+            &mut self.board,
+            cx,
+            request,
+        );
         if result.is_err() {
             self.failed = true;
         }
@@ -162,7 +171,13 @@ impl<CR: ComposeRequest, U: SendRequest<CR>> SendRequest<CR> for Connection<CR, 
         if self.failed {
             return Err(Error::Failed);
         }
-        let result = hear(&mut self.upstream, &mut self.kept, cx, signal);
+        let result = hear(
+            &mut self.upstream,
+            &mut self.kept,
+            &mut self.board,
+            cx,
+            signal,
+        );
         if result.is_err() {
             self.failed = true;
         }
@@ -177,7 +192,13 @@ impl<CR: ComposeRequest, U: SendRequest<CR>> SendRequest<CR> for Connection<CR, 
         if self.failed {
             return Err(Error::Failed);
         }
-        let result = give_up(&mut self.upstream, &mut self.kept, cx, response.below);
+        let result = give_up(
+            &mut self.upstream,
+            &mut self.kept,
+            &mut self.board,
+            cx,
+            response.below,
+        );
         if result.is_err() {
             self.failed = true;
         }

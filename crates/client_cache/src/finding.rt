@@ -64,7 +64,7 @@ fn first_class(table: &Table, key: &mut Key, rd: bool) -> Option<Flags>
 
 /// The flags of the first entry that is there, of those that may serve a request with this key. The key is then as it
 /// was.
-fn first_kept(table: &Table, key: &mut Key) -> Option<Flags>
+pub(crate) fn first_kept(table: &Table, key: &mut Key) -> Option<Flags>
     ensures kept { result ≡ plain.first_kept table.now key.old }
     ensures same { key.new ≡ key.old }
 {
@@ -181,7 +181,7 @@ fn take_other(
 }
 
 /// What a request is given from the entry with these flags.
-fn take(
+pub(crate) fn take(
     table: &mut Table,
     alloc: Global,
     config: &Config,
@@ -196,22 +196,5 @@ fn take(
         take_own(table, alloc, asked, now)
     } else {
         take_other(table, alloc, config, asked, flags, now)
-    }
-}
-
-/// What a request is given from the table, if anything there serves it.
-pub(crate) fn look_up(
-    table: &mut Table,
-    alloc: Global,
-    config: &Config,
-    asked: &mut Asked,
-    now: u64,
-) -> Result<Answer, NoMemory>
-    ensures found { IfOk result (λ answer. plain.looks_up config.now asked.old now table.old ≡ plain.found answer table.new) }
-    ensures same { asked.new ≡ asked.old }
-{
-    match first_kept(table, &mut asked.key) {
-        None => Ok(None),
-        Some(flags) => take(table, alloc, config, asked, flags, now),
     }
 }

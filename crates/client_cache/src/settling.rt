@@ -126,12 +126,11 @@ fn settle<W: Words>(kept: &mut Kept, cx: &mut Cx<'_, W>, posted: Posted) -> Resu
 pub(crate) fn settle_all<W: Words>(
     kept: &mut Kept,
     cx: &mut Cx<'_, W>,
-    board: Board,
+    board: &mut Board,
 ) -> Result<(), NoMemory>
     ensures lends { LendsTheSame cx.old cx.new }
-    ensures ok { OnOk result ((kept.new, view_of W.stream cx.new) ≡ plain.settles_all board kept.old (view_of W.stream cx.old)) }
+    ensures ok { OnOk result ((kept.new, view_of W.stream cx.new) ≡ plain.settles_all board.old kept.old (view_of W.stream cx.old)) }
 {
-    let mut board = board;
     while let Some(posted) = board.take_first() {
         settle(kept, cx, posted)?;
     }

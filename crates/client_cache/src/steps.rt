@@ -4,21 +4,24 @@ ghost use Rattle.std.specs.Prelude.{◌≡◌, true, OnOk, IfOk, IfErr, IsErrOf,
 ghost use Rattle.client_request.specs.Calls.{Steps, NumbersRunOut};
 ghost use Rattle.client_request.specs.Cx.{view_of, heard, LendsTheSame};
 ghost use Rattle.client_request.specs.Response.{IsRefusal};
+ghost use Rattle.dns_base.specs.Message.{sole_question};
+ghost use Rattle.headline.specs.Keys.{question_or};
+ghost use Rattle.client_views.specs.Key.{key_in};
 ghost use Rattle.client_cache.specs.Keeping as keeping;
 ghost use Rattle.client_cache.specs.Plain as plain;
 
 use crate::connection::Request;
 use crate::entry::Asked;
-use crate::finding::look_up;
+use crate::finding::{first_kept, take};
 use crate::settling::{Job, Kept, part_of, settle_all};
-use crate::table::Table;
+use crate::table::{Flags, Table};
 use client_request::{
     Board, ComposeRequest, Cx, Error, GetResponse, SendRequest, Signal, Words, cancel_below,
     send_below, step_below,
 };
 use client_settings::cache::Config;
 use client_views::Key;
-use dns_base::{Header, Message, Name, NoMemory, ToName};
+use dns_base::{Message, Name, NoMemory, ToName};
 use std::alloc::Global;
 
 /// How a request goes on.
@@ -30,46 +33,79 @@ pub enum Way {
     Asks(Option<Key>),
 }
 
-/// What a request asks of which a message was composed, unless its results are not kept.
-fn asked_in(
-    alloc: Global,
-    header: Header,
-    dnssec_ok: bool,
-    message: &Message,
-) -> Result<Option<Asked>, NoMemory>
-    ensures { IfOk result (λ asked. asked ≡ keeping.asked_in header dnssec_ok message.now) }
+/// The key of a request, unless its results are not kept.
+fn key_of<CR: ComposeRequest>(alloc: Global, request: &CR) -> Result<Option<Key>, NoMemory>
+    ensures { IfOk result (λ key. IfOk (CR.requests.composed request.now) (λ message. key ≡ key_in (CR.header_of request.now) (CR.is_dnssec_ok request.now) message)) }
 {
-    let Some(key) = Key::of(alloc, message, header, dnssec_ok)? else {
-        return Ok(None);
-    };
-    let name = match message.sole_question() {
-        Ok(question) => question.qname().to_name(alloc)?,
-        Err(_) => Name::root(alloc),
-    };
-    Ok(Some(Asked { key, name }))
+    let question = request.sole_question();
+    Key::asking(alloc, question, *request.header(), request.dnssec_ok())
 }
 
-/// How a request goes on of which a message was composed.
-fn way_asked(
+/// The name of a message's only question as it is spelled there.
+fn name_in(alloc: Global, message: &Message) -> Result<Name, NoMemory>
+    ensures { IfOk result (λ name. name ≡ (question_or (sole_question message.now)).name) }
+{
+    match message.sole_question() {
+        Ok(question) => question.qname().to_name(alloc),
+        Err(_) => Ok(Name::root(alloc)),
+    }
+}
+
+/// How a request goes on for which an entry with these flags is there.
+fn way_taken(
     table: &mut Table,
     alloc: Global,
     config: &Config,
     now: u64,
-    asked: Option<Asked>,
+    asked: Asked,
+    flags: Flags,
 ) -> Result<Way, NoMemory>
-    ensures way { IfOk result (λ way. way ≡ (plain.way_asked config.now now table.old asked).0) }
-    ensures table { OnOk result (table.new ≡ (plain.way_asked config.now now table.old asked).1) }
+    requires { keeping.first_kept table.old asked.key ≡ Some flags }
+    ensures way { IfOk result (λ way. way ≡ (plain.way_asked config.now now table.old (Some asked)).0) }
+    ensures table { OnOk result (table.new ≡ (plain.way_asked config.now now table.old (Some asked)).1) }
 {
-    let Some(mut asked) = asked else {
-        return Ok(Way::Asks(None));
-    };
-    match look_up(table, alloc, config, &mut asked, now)? {
+    match take(table, alloc, config, &asked, flags, now)? {
         Some(outcome) => Ok(Way::Given(outcome)),
         None => Ok(Way::Asks(Some(asked.key))),
     }
 }
 
-/// How a request goes on.
+/// The same, of a request with this key: its message spells the name that is given back.
+fn way_served<CR: ComposeRequest>(
+    table: &mut Table,
+    alloc: Global,
+    config: &Config,
+    now: u64,
+    request: &CR,
+    key: Key,
+    flags: Flags,
+) -> Result<Way, NoMemory>
+    requires kept { keeping.first_kept table.old key ≡ Some flags }
+    requires key { IfOk (CR.requests.composed request.now) (λ message. Some key ≡ key_in (CR.header_of request.now) (CR.is_dnssec_ok request.now) message) }
+    ensures way { IfOk result (λ way. way ≡ (plain.way_of config.now (CR.header_of request.now) (CR.is_dnssec_ok request.now) now table.old (CR.requests.composed request.now)).0) }
+    ensures table { OnOk result (table.new ≡ (plain.way_of config.now (CR.header_of request.now) (CR.is_dnssec_ok request.now) now table.old (CR.requests.composed request.now)).1) }
+{
+    match request.to_message() {
+        Ok(message) => {
+            let name = name_in(alloc, &message)?;
+            way_taken(table, alloc, config, now, Asked { key, name }, flags)
+        }
+        Err(Error::NoMemory) => Err(NoMemory),
+        Err(error) => Ok(Way::Given(Err(error))),
+    }
+}
+
+/// How a request goes on that no entry serves: whether a message can be made of it is told without making one.
+fn way_unserved<CR: ComposeRequest>(request: &CR, key: Option<Key>) -> Way
+    ensures { result ≡ plain.way_unserved key (CR.requests.composed request.now) }
+{
+    match request.check_message() {
+        Ok(()) => Way::Asks(key),
+        Err(error) => Way::Given(Err(error)),
+    }
+}
+
+/// How a request goes on. Its message is composed only where an entry is there that may serve it.
 fn way_of<CR: ComposeRequest>(
     table: &mut Table,
     alloc: Global,
@@ -80,13 +116,12 @@ fn way_of<CR: ComposeRequest>(
     ensures way { IfOk result (λ way. way ≡ (plain.way_of config.now (CR.header_of request.now) (CR.is_dnssec_ok request.now) now table.old (CR.requests.composed request.now)).0) }
     ensures table { OnOk result (table.new ≡ (plain.way_of config.now (CR.header_of request.now) (CR.is_dnssec_ok request.now) now table.old (CR.requests.composed request.now)).1) }
 {
-    match request.to_message() {
-        Ok(message) => {
-            let asked = asked_in(alloc, *request.header(), request.dnssec_ok(), &message)?;
-            way_asked(table, alloc, config, now, asked)
-        }
-        Err(Error::NoMemory) => Err(NoMemory),
-        Err(error) => Ok(Way::Given(Err(error))),
+    let Some(mut key) = key_of(alloc, request)? else {
+        return Ok(way_unserved(request, None));
+    };
+    match first_kept(table, &mut key) {
+        Some(flags) => way_served(table, alloc, config, now, request, key, flags),
+        None => Ok(way_unserved(request, Some(key))),
     }
 }
 
@@ -94,6 +129,7 @@ fn way_of<CR: ComposeRequest>(
 fn hand_on<CR: ComposeRequest, U: SendRequest<CR>, W: Words>(
     below: &mut U,
     kept: &mut Kept,
+    board: &mut Board,
     cx: &mut Cx<'_, W>,
     ticket: u64,
     key: Option<Key>,
@@ -107,8 +143,8 @@ fn hand_on<CR: ComposeRequest, U: SendRequest<CR>, W: Words>(
     ensures refused { IfErr result IsRefusal }
     ensures failed_only { IsErrOf result Error.Failed → U.holds_failed below.old ≡ true }
 {
-    let mut board = Board::new(kept.alloc);
-    let response = send_below(below, &mut board, cx, request)?;
+    board.clear();
+    let response = send_below(below, board, cx, request)?;
     let job = Job { ticket, key };
     if kept.waiting.insert(response.ticket(), job).is_err() {
         return Err(Error::NoMemory);
@@ -121,6 +157,7 @@ fn hand_on<CR: ComposeRequest, U: SendRequest<CR>, W: Words>(
 fn go_on<CR: ComposeRequest, U: SendRequest<CR>, W: Words>(
     below: &mut U,
     kept: &mut Kept,
+    board: &mut Board,
     cx: &mut Cx<'_, W>,
     ticket: u64,
     way: Way,
@@ -140,7 +177,7 @@ fn go_on<CR: ComposeRequest, U: SendRequest<CR>, W: Words>(
             Ok(None)
         }
         Way::Asks(key) => {
-            let response = hand_on(below, kept, cx, ticket, key, request)?;
+            let response = hand_on(below, kept, board, cx, ticket, key, request)?;
             Ok(Some(response))
         }
     }
@@ -150,6 +187,7 @@ fn go_on<CR: ComposeRequest, U: SendRequest<CR>, W: Words>(
 fn send<CR: ComposeRequest, U: SendRequest<CR>, W: Words>(
     below: &mut U,
     kept: &mut Kept,
+    board: &mut Board,
     cx: &mut Cx<'_, W>,
     ticket: u64,
     request: CR,
@@ -169,13 +207,14 @@ fn send<CR: ComposeRequest, U: SendRequest<CR>, W: Words>(
         cx.now.0,
         &request,
     )?;
-    go_on(below, kept, cx, ticket, way, request)
+    go_on(below, kept, board, cx, ticket, way, request)
 }
 
 /// Takes a request on.
 pub(crate) fn take_on<CR: ComposeRequest, U: SendRequest<CR>, W: Words>(
     below: &mut U,
     kept: &mut Kept,
+    board: &mut Board,
     cx: &mut Cx<'_, W>,
     request: CR,
 ) -> Result<Request<U::Response>, Error>
@@ -192,7 +231,7 @@ pub(crate) fn take_on<CR: ComposeRequest, U: SendRequest<CR>, W: Words>(
         return Err(Error::NumbersUsed);
     };
     cx.ticket = next;
-    let response = send(below, kept, cx, ticket, request)?;
+    let response = send(below, kept, board, cx, ticket, request)?;
     Ok(Request {
         ticket,
         given: false,
@@ -204,6 +243,7 @@ pub(crate) fn take_on<CR: ComposeRequest, U: SendRequest<CR>, W: Words>(
 pub(crate) fn hear<CR: ComposeRequest, U: SendRequest<CR>, W: Words>(
     below: &mut U,
     kept: &mut Kept,
+    board: &mut Board,
     cx: &mut Cx<'_, W>,
     signal: Signal<'_>,
 ) -> Result<(), Error>
@@ -214,8 +254,8 @@ pub(crate) fn hear<CR: ComposeRequest, U: SendRequest<CR>, W: Words>(
     ensures refused { IfErr result IsRefusal }
     ensures failed_only { IsErrOf result Error.Failed → U.holds_failed below.old ≡ true }
 {
-    let mut board = Board::new(kept.alloc);
-    step_below(below, &mut board, cx, signal)?;
+    board.clear();
+    step_below(below, board, cx, signal)?;
     settle_all(kept, cx, board)?;
     Ok(())
 }
@@ -224,6 +264,7 @@ pub(crate) fn hear<CR: ComposeRequest, U: SendRequest<CR>, W: Words>(
 pub(crate) fn give_up<CR: ComposeRequest, U: SendRequest<CR>, W: Words>(
     below: &mut U,
     kept: &mut Kept,
+    board: &mut Board,
     cx: &mut Cx<'_, W>,
     response: Option<U::Response>,
 ) -> Result<(), Error>
@@ -240,8 +281,8 @@ pub(crate) fn give_up<CR: ComposeRequest, U: SendRequest<CR>, W: Words>(
     let Some(_job) = kept.waiting.remove(response.ticket()) else {
         return Ok(());
     };
-    let mut board = Board::new(kept.alloc);
-    cancel_below(below, &mut board, cx, response)?;
+    board.clear();
+    cancel_below(below, board, cx, response)?;
     settle_all(kept, cx, board)?;
     Ok(())
 }
