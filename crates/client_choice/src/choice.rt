@@ -10,7 +10,7 @@ ghost use Rattle.client_choice.specs.Servers as of_servers;
 
 use crate::job::{Job, Started};
 use crate::servers::{Server, give_up_at, judge_at, take_owner};
-use client_request::{ComposeRequest, Cx, Error, SendRequest, TimerId, Words};
+use client_request::{Board, ComposeRequest, Cx, Error, SendRequest, TimerId, Words};
 use client_settings::redundant::Config;
 use dns_base::{Message, NoMemory, OptRcode};
 use number_table::NumberTable;
@@ -30,6 +30,8 @@ pub struct Choice<Req, U: SendRequest<Req>> {
     pub(crate) servers: Vec<Server<U>>,
     pub(crate) jobs: NumberTable<Job<Req, U::Response>>,
     pub(crate) timers: NumberTable<u64>,
+    /// Takes what a server posted while it is settled, and is kept only for its memory.
+    pub(crate) board: Board,
 }
 
 impl<Req, U: SendRequest<Req>> Model for Choice<Req, U> {
@@ -50,6 +52,7 @@ impl<Req, U: SendRequest<Req>> Choice<Req, U> {
             servers: Vec::new(alloc),
             jobs: NumberTable::new(alloc),
             timers: NumberTable::new(alloc),
+            board: Board::new(alloc),
         }
     }
 }

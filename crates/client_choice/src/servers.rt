@@ -130,22 +130,24 @@ fn send<Req: ComposeRequest, U: SendRequest<Req>, W: Words>(
     Ok(response)
 }
 
-/// A server hears a signal. What it posted is taken.
+/// A server hears a signal. What it posted is taken to `board`.
 fn hear<Req: ComposeRequest, U: SendRequest<Req>, W: Words>(
     server: &mut Server<U>,
-    alloc: Global,
+    board: &mut Board,
     cx: &mut Cx<'_, W>,
     signal: Signal<'_>,
-) -> Result<Board, Error>
+) -> Result<(), Error>
     ensures lends { LendsTheSame cx.old cx.new }
-    ensures ok { IfOk result (λ b. plain.hears U.transport (heard signal.entry) server.old (view_of W.stream cx.old) ≡ Some ((b, server.new), view_of W.stream cx.new)) }
+    ensures ok { OnOk result (plain.hears U.transport (heard signal.entry) server.old (view_of W.stream cx.old) ≡ Some ((board.new, server.new), view_of W.stream cx.new)) }
     ensures numbers { NumbersRunOut result (plain.hears U.transport (heard signal.entry) server.old (view_of W.stream cx.old)) }
     ensures keeps { OnOk result (U.holds_failed server.new.upstream ≡ U.holds_failed server.old.upstream) }
     ensures refused { IfErr result IsRefusal }
     ensures failed_only { IsErrOf result Error.Failed → U.holds_failed server.old.upstream ≡ true }
 {
     step_below(&mut server.upstream, &mut server.posted, cx, signal)?;
-    Ok(mem::replace(&mut server.posted, Board::new(alloc)))
+    board.clear();
+    mem::swap(&mut server.posted, board);
+    Ok(())
 }
 
 /// Gives a request up at a server.
@@ -213,25 +215,26 @@ pub(crate) fn send_at<Req: ComposeRequest, U: SendRequest<Req>, W: Words>(
     Ok(Some(response))
 }
 
-/// The server of an index hears a signal. What it posted is taken.
+/// The server of an index hears a signal. What it posted is taken to `board`.
 pub(crate) fn hear_at<Req: ComposeRequest, U: SendRequest<Req>, W: Words>(
     servers: &mut Vec<Server<U>>,
     index: usize,
-    alloc: Global,
+    board: &mut Board,
     cx: &mut Cx<'_, W>,
     signal: Signal<'_>,
-) -> Result<Board, Error>
+) -> Result<(), Error>
     ensures lends { LendsTheSame cx.old cx.new }
-    ensures ok { IfOk result (λ b. plain.hears_at U.transport index (heard signal.entry) servers.old.items (view_of W.stream cx.old) ≡ Some ((b, servers.new.items), view_of W.stream cx.new)) }
+    ensures ok { OnOk result (plain.hears_at U.transport index (heard signal.entry) servers.old.items (view_of W.stream cx.old) ≡ Some ((board.new, servers.new.items), view_of W.stream cx.new)) }
     ensures numbers { NumbersRunOut result (plain.hears_at U.transport index (heard signal.entry) servers.old.items (view_of W.stream cx.old)) }
     ensures keeps { OnOk result (plain.flags U.holds_failed servers.new.items ≡ plain.flags U.holds_failed servers.old.items) }
     ensures refused { IfErr result IsRefusal }
     ensures failed_only { IsErrOf result Error.Failed → plain.holds_failed U.holds_failed servers.old.items ≡ true }
 {
     let Some(server) = servers.get_mut(index) else {
-        return Ok(Board::new(alloc));
+        board.clear();
+        return Ok(());
     };
-    hear(server, alloc, cx, signal)
+    hear(server, board, cx, signal)
 }
 
 /// Gives a request up at the server of an index.

@@ -42,7 +42,10 @@ fn square_root(n: u64) -> u64
     ensures value { result ≡ isqrt n }
     ensures bound { result < 2 ^ 32 }
 {
-    n.isqrt()
+    match u16::try_from(n) {
+        Ok(n) => u64::from(n.isqrt()),
+        Err(_) => n.isqrt(),
+    }
 }
 
 impl Stats {

@@ -16,6 +16,7 @@ use client_request::{
 use client_settings::redundant::Config;
 use dns_base::{Message, NoMemory};
 use std::collections::VecDeque;
+use std::mem;
 
 /// Starts a request at a server. When the estimate of that one has passed, the next one is started.
 fn begin<Req: ComposeRequest, U: SendRequest<Req>, W: Words>(
@@ -235,16 +236,15 @@ fn settle_all<Req: ComposeRequest, U: SendRequest<Req>, W: Words>(
     config: &Config,
     cx: &mut Cx<'_, W>,
     server: usize,
-    board: Board,
+    board: &mut Board,
 ) -> Result<(), Error>
     ensures lends { LendsTheSame cx.old cx.new }
-    ensures ok { Steps result (plain.settles_all U.transport config.now server board choice.old (view_of W.stream cx.old)) (choice.new, view_of W.stream cx.new) }
-    ensures numbers { NumbersRunOut result (plain.settles_all U.transport config.now server board choice.old (view_of W.stream cx.old)) }
+    ensures ok { Steps result (plain.settles_all U.transport config.now server board.old choice.old (view_of W.stream cx.old)) (choice.new, view_of W.stream cx.new) }
+    ensures numbers { NumbersRunOut result (plain.settles_all U.transport config.now server board.old choice.old (view_of W.stream cx.old)) }
     ensures keeps { OnOk result (of_servers.flags U.holds_failed choice.new.servers ≡ of_servers.flags U.holds_failed choice.old.servers) }
     ensures refused { IfErr result IsRefusal }
     ensures failed_only { IsErrOf result Error.Failed → of_servers.holds_failed U.holds_failed choice.old.servers ≡ true }
 {
-    let mut board = board;
     while let Some(posted) = board.take_first() {
         settle(choice, config, cx, server, posted)?;
     }
@@ -256,6 +256,7 @@ fn hear_one<Req: ComposeRequest, U: SendRequest<Req>, W: Words>(
     choice: &mut Choice<Req, U>,
     config: &Config,
     cx: &mut Cx<'_, W>,
+    board: &mut Board,
     server: usize,
     signal: Signal<'_>,
 ) -> Result<(), Error>
@@ -266,7 +267,7 @@ fn hear_one<Req: ComposeRequest, U: SendRequest<Req>, W: Words>(
     ensures refused { IfErr result IsRefusal }
     ensures failed_only { IsErrOf result Error.Failed → of_servers.holds_failed U.holds_failed choice.old.servers ≡ true }
 {
-    let board = hear_at(&mut choice.servers, server, choice.alloc, cx, signal)?;
+    hear_at(&mut choice.servers, server, board, cx, signal)?;
     settle_all(choice, config, cx, server, board)
 }
 
@@ -284,9 +285,11 @@ fn hear_all<Req: ComposeRequest, U: SendRequest<Req>, W: Words>(
     ensures refused { IfErr result IsRefusal }
     ensures failed_only { IsErrOf result Error.Failed → of_servers.holds_failed U.holds_failed choice.old.servers ≡ true }
 {
+    let mut board = mem::replace(&mut choice.board, Board::new(choice.alloc));
     for server in 0..choice.servers.len() {
-        hear_one(choice, config, cx, server, signal)?;
+        hear_one(choice, config, cx, &mut board, server, signal)?;
     }
+    choice.board = board;
     Ok(())
 }
 

@@ -1,6 +1,6 @@
-use Rattle.std.proofs.Common.{◌<◌, ◌∙◌, length, rules, arith}
+use Rattle.std.proofs.Common.{◌<◌, ◌∙◌, sym, length, rules, arith}
 use Rattle.std.proofs.lemmas.Grind.{common_steps}
-use Rattle.client_choice.proofs.Hearing.{hears_next}
+use Rattle.client_choice.proofs.Hearing.{hears_next, hears_stop}
 use Rattle.client_choice.proofs.steps.hear_all.Goals as goal
 
 pub loop-server-preserved : goal.loop-server-preserved
@@ -14,3 +14,9 @@ loop-server-preserved g c =
           ∙ c.loop-server.invariant.same;
       keeps = c.in_ok-hear_one.ensures.keeps ∙ c.loop-server.invariant.keeps;
     }
+
+pub returns-in_err-hear_one-clause-numbers : goal.returns-in_err-hear_one-clause-numbers
+returns-in_err-hear_one-clause-numbers g c is =
+    let next : c.loop-server.server < length c.args.choice.now.servers = grind (arith, common_steps) in
+    sym c.loop-server.invariant.same
+    ∙ hears_stop g.U.SendRequest.transport c.args.config.now (length c.args.choice.now.servers) c.loop-server.server _ c.loop-server.choice _ next (c.in_err-hear_one.ensures.numbers (search rules))
