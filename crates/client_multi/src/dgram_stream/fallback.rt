@@ -4,7 +4,7 @@ ghost use Rattle.std.specs.Prelude.{◌≡◌, true, false};
 ghost use Rattle.client_multi.specs.Fallback as plain;
 
 use crate::dgram_stream::steps::{give_up, hear, take_on};
-use crate::dgram_stream::tables::{Parts, Tables};
+use crate::dgram_stream::tables::{Boards, Parts, Tables};
 use client_request::{
     Board, ComposeRequest, Cx, Error, GetResponse, Poll, SendRequest, Signal, Words, take_response,
 };
@@ -20,6 +20,8 @@ pub struct Fallback<Req, D: SendRequest<Req>, S: SendRequest<Req>> {
     alloc: Global,
     server: u32,
     parts: Parts<Req, D, S>,
+    /// Where both post during a call.
+    boards: Boards,
     failed: bool,
 }
 
@@ -42,6 +44,7 @@ impl<Req, D: SendRequest<Req>, S: SendRequest<Req>> Fallback<Req, D, S> {
                 stream,
                 tables: Tables::new(alloc),
             },
+            boards: Boards::new(alloc),
             failed: false,
         }
     }
@@ -121,7 +124,14 @@ impl<Req: ComposeRequest, D: SendRequest<Req>, S: SendRequest<Req>> SendRequest<
         if self.failed {
             return Err(Error::Failed);
         }
-        let result = take_on(&mut self.parts, self.server, self.alloc, cx, request);
+        let result = take_on(
+            &mut self.parts,
+            &mut self.boards,
+            self.server,
+            self.alloc,
+            cx,
+            request,
+        );
         match result {
             Ok(ticket) => Ok(Request {
                 ticket,
@@ -138,7 +148,7 @@ impl<Req: ComposeRequest, D: SendRequest<Req>, S: SendRequest<Req>> SendRequest<
         if self.failed {
             return Err(Error::Failed);
         }
-        let result = hear(&mut self.parts, self.server, self.alloc, cx, signal);
+        let result = hear(&mut self.parts, &mut self.boards, self.server, cx, signal);
         if result.is_err() {
             self.failed = true;
         }
@@ -151,8 +161,8 @@ impl<Req: ComposeRequest, D: SendRequest<Req>, S: SendRequest<Req>> SendRequest<
         }
         let result = give_up(
             &mut self.parts,
+            &mut self.boards,
             self.server,
-            self.alloc,
             cx,
             response.ticket,
         );

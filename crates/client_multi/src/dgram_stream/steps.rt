@@ -7,7 +7,7 @@ ghost use Rattle.client_request.specs.Response.{IsRefusal};
 ghost use Rattle.client_multi.specs.Fallback as plain;
 
 use crate::dgram_stream::job::Job;
-use crate::dgram_stream::tables::{Parts, Tables};
+use crate::dgram_stream::tables::{Boards, Parts, Tables};
 use client_request::{
     Board, ComposeRequest, Cx, Error, GetResponse, Out, Posted, SendRequest, Signal, Via, Words,
     cancel_below, send_below, step_below,
@@ -146,26 +146,32 @@ fn give_all<Req: Drop, P: Drop, Q: Drop>(
 /// What was posted below is settled: that of the datagrams first.
 fn collect<Req: ComposeRequest, D: SendRequest<Req>, S: SendRequest<Req>, W: Words>(
     parts: &mut Parts<Req, D, S>,
+    boards: &mut Boards,
     server: u32,
-    mut from_dgram: Board,
-    mut from_stream: Board,
     cx: &mut Cx<'_, W>,
 ) -> Result<(), Error>
     ensures lends { LendsTheSame cx.old cx.new }
-    ensures ok { Steps result (plain.collects server S.transport from_dgram from_stream parts.old (view_of W.stream cx.old)) (parts.new, view_of W.stream cx.new) }
-    ensures numbers { NumbersRunOut result (plain.collects server S.transport from_dgram from_stream parts.old (view_of W.stream cx.old)) }
+    ensures ok { Steps result (plain.collects server S.transport boards.old.from_dgram boards.old.from_stream parts.old (view_of W.stream cx.old)) (parts.new, view_of W.stream cx.new) }
+    ensures numbers { NumbersRunOut result (plain.collects server S.transport boards.old.from_dgram boards.old.from_stream parts.old (view_of W.stream cx.old)) }
     ensures keeps { OnOk result (plain.holds_below D.holds_failed S.holds_failed parts.new ≡ plain.holds_below D.holds_failed S.holds_failed parts.old) }
     ensures refused { IfErr result IsRefusal }
     ensures failed_only { IsErrOf result Error.Failed → plain.holds_below D.holds_failed S.holds_failed parts.old ≡ true }
 {
-    settle_all(parts, server, &mut from_dgram, &mut from_stream, cx)?;
-    give_all(&mut parts.tables, cx.board, &mut from_stream)?;
+    settle_all(
+        parts,
+        server,
+        &mut boards.from_dgram,
+        &mut boards.from_stream,
+        cx,
+    )?;
+    give_all(&mut parts.tables, cx.board, &mut boards.from_stream)?;
     Ok(())
 }
 
 /// Takes a request on: it goes to the datagrams.
 pub(crate) fn take_on<Req: ComposeRequest, D: SendRequest<Req>, S: SendRequest<Req>, W: Words>(
     parts: &mut Parts<Req, D, S>,
+    boards: &mut Boards,
     server: u32,
     alloc: Global,
     cx: &mut Cx<'_, W>,
@@ -185,8 +191,8 @@ pub(crate) fn take_on<Req: ComposeRequest, D: SendRequest<Req>, S: SendRequest<R
     };
     cx.ticket = next;
     let copy = request.try_clone(alloc)?;
-    let mut from_dgram = Board::new(alloc);
-    let response = send_below(&mut parts.dgram, &mut from_dgram, cx, copy)?;
+    boards.clear();
+    let response = send_below(&mut parts.dgram, &mut boards.from_dgram, cx, copy)?;
     let lower = response.ticket();
     let job = Job::Dgram {
         lower,
@@ -195,15 +201,15 @@ pub(crate) fn take_on<Req: ComposeRequest, D: SendRequest<Req>, S: SendRequest<R
         response,
     };
     parts.tables.admit(ticket, job)?;
-    collect(parts, server, from_dgram, Board::new(alloc), cx)?;
+    collect(parts, boards, server, cx)?;
     Ok(ticket)
 }
 
 /// Both transports hear what happened, the datagrams first. Only one of them has the place or the timer.
 pub(crate) fn hear<Req: ComposeRequest, D: SendRequest<Req>, S: SendRequest<Req>, W: Words>(
     parts: &mut Parts<Req, D, S>,
+    boards: &mut Boards,
     server: u32,
-    alloc: Global,
     cx: &mut Cx<'_, W>,
     signal: Signal<'_>,
 ) -> Result<(), Error>
@@ -214,17 +220,17 @@ pub(crate) fn hear<Req: ComposeRequest, D: SendRequest<Req>, S: SendRequest<Req>
     ensures refused { IfErr result IsRefusal }
     ensures failed_only { IsErrOf result Error.Failed → plain.holds_below D.holds_failed S.holds_failed parts.old ≡ true }
 {
-    let (mut from_dgram, mut from_stream) = (Board::new(alloc), Board::new(alloc));
-    step_below(&mut parts.dgram, &mut from_dgram, cx, signal)?;
-    step_below(&mut parts.stream, &mut from_stream, cx, signal)?;
-    collect(parts, server, from_dgram, from_stream, cx)
+    boards.clear();
+    step_below(&mut parts.dgram, &mut boards.from_dgram, cx, signal)?;
+    step_below(&mut parts.stream, &mut boards.from_stream, cx, signal)?;
+    collect(parts, boards, server, cx)
 }
 
 /// Gives a request up, where it waits.
 pub(crate) fn give_up<Req: ComposeRequest, D: SendRequest<Req>, S: SendRequest<Req>, W: Words>(
     parts: &mut Parts<Req, D, S>,
+    boards: &mut Boards,
     server: u32,
-    alloc: Global,
     cx: &mut Cx<'_, W>,
     ticket: u64,
 ) -> Result<(), Error>
@@ -235,7 +241,7 @@ pub(crate) fn give_up<Req: ComposeRequest, D: SendRequest<Req>, S: SendRequest<R
     ensures refused { IfErr result IsRefusal }
     ensures failed_only { IsErrOf result Error.Failed → plain.holds_below D.holds_failed S.holds_failed parts.old ≡ true }
 {
-    let (mut from_dgram, mut from_stream) = (Board::new(alloc), Board::new(alloc));
+    boards.clear();
     let Some(job) = parts.tables.take(ticket) else {
         return Ok(());
     };
@@ -245,11 +251,11 @@ pub(crate) fn give_up<Req: ComposeRequest, D: SendRequest<Req>, S: SendRequest<R
             number: _number,
             request: _request,
             response,
-        } => cancel_below(&mut parts.dgram, &mut from_dgram, cx, response)?,
+        } => cancel_below(&mut parts.dgram, &mut boards.from_dgram, cx, response)?,
         Job::Stream {
             lower: _lower,
             response,
-        } => cancel_below(&mut parts.stream, &mut from_stream, cx, response)?,
+        } => cancel_below(&mut parts.stream, &mut boards.from_stream, cx, response)?,
     }
-    collect(parts, server, from_dgram, from_stream, cx)
+    collect(parts, boards, server, cx)
 }

@@ -1,11 +1,11 @@
 //! The requests of a fallback, and what is below it.
 
-ghost use Rattle.std.specs.Prelude.{◌≡◌, OnOk, IfErr};
+ghost use Rattle.std.specs.Prelude.{◌≡◌, OnOk, IfErr, []};
 ghost use Rattle.client_request.specs.Numbered.{entry_at};
 ghost use Rattle.client_multi.specs.Fallback as plain;
 
 use crate::dgram_stream::job::Job;
-use client_request::{Error, SendRequest};
+use client_request::{Board, Error, SendRequest};
 use number_table::NumberTable;
 use std::alloc::Global;
 use std::marker::Model;
@@ -72,6 +72,33 @@ impl<Req: Drop, P: Drop, Q: Drop> Tables<Req, P, Q> {
         let job = self.jobs.remove(ticket)?;
         let _ = self.tickets.remove(job.lower());
         Some(job)
+    }
+}
+
+/// Where each transport posts during a call. The boards are kept for their memory alone: each call clears them
+/// first.
+#[derive(Drop)]
+pub struct Boards {
+    pub(crate) from_dgram: Board,
+    pub(crate) from_stream: Board,
+}
+
+impl Boards {
+    /// No part stands. It takes no memory.
+    pub(crate) fn new(alloc: Global) -> Boards {
+        Boards {
+            from_dgram: Board::new(alloc),
+            from_stream: Board::new(alloc),
+        }
+    }
+
+    /// Lets go what a call that gave up left there.
+    pub(crate) fn clear(&mut self)
+        ensures dgram { self.new.from_dgram ≡ [] }
+        ensures stream { self.new.from_stream ≡ [] }
+    {
+        self.from_dgram.clear();
+        self.from_stream.clear();
     }
 }
 

@@ -11,9 +11,7 @@ use crate::multi_stream::job::{Job, Stage};
 use crate::multi_stream::one_stream::OneStream;
 use crate::multi_stream::retry::retry_due;
 use crate::multi_stream::tables::{Tables, back_off, keep, put_back, take_at, wait};
-use client_request::{
-    Board, ComposeRequest, Cx, Error, GetResponse, Out, Signal, TimerId, What, Words,
-};
+use client_request::{ComposeRequest, Cx, Error, GetResponse, Out, Signal, TimerId, What, Words};
 use std::alloc::Global;
 use std::collections::BTreeSet;
 use std::mem;
@@ -25,7 +23,7 @@ fn newest<Req: ComposeRequest, S: OneStream<Req>>(tables: &Tables<Req, S>) -> Op
     let mut found = None;
     for (place, connection) in &tables.connections {
         if !connection.is_full() {
-            found = Some(*place);
+            found = Some(place);
         }
     }
     found
@@ -57,7 +55,7 @@ fn hold<Req: ComposeRequest, S: OneStream<Req>, W: Words>(
     ensures numbers { NumbersRunOut result (plain.holds S.machine ticket job place connection tables.old (view_of W.stream cx.old)) }
     ensures want { IfErr result IsWant }
 {
-    let mut board = Board::new(tables.alloc);
+    let mut board = tables.lend_board();
     let copy = job.request.try_clone(tables.alloc)?;
     cx.request = job.number;
     let (connection, response) = connection.send_request(&mut board, cx, copy)?;
@@ -74,7 +72,9 @@ fn hold<Req: ComposeRequest, S: OneStream<Req>, W: Words>(
     if tables.jobs.insert(ticket, job).is_err() {
         return Err(Error::NoMemory);
     }
-    put_back(tables, cx, place, connection, &mut board)
+    put_back(tables, cx, place, connection, &mut board)?;
+    tables.board = board;
+    Ok(())
 }
 
 /// A connection is to be opened, and a request waits for it.
@@ -189,7 +189,6 @@ pub(crate) fn take_on<Req: ComposeRequest, S: OneStream<Req>, W: Words>(
 }
 
 /// A request that waited goes on.
-#[tactic(auto, using(client_dgram::proofs::Absent::frees_absent))]
 fn hand_waiting<Req: ComposeRequest, S: OneStream<Req>, W: Words>(
     tables: &mut Tables<Req, S>,
     server: u32,
@@ -227,7 +226,6 @@ fn hand_each<Req: ComposeRequest, S: OneStream<Req>, W: Words>(
 }
 
 /// A request that waited backs off.
-#[tactic(auto, using(client_dgram::proofs::Absent::frees_absent))]
 fn back_off_waiting<Req: ComposeRequest, S: OneStream<Req>, W: Words>(
     tables: &mut Tables<Req, S>,
     cx: &mut Cx<'_, W>,
@@ -334,9 +332,11 @@ fn hear_at<Req: ComposeRequest, S: OneStream<Req>, W: Words>(
     let Some(connection) = take_at(tables, place) else {
         return Ok(());
     };
-    let mut board = Board::new(tables.alloc);
+    let mut board = tables.lend_board();
     let connection = connection.step(&mut board, cx, signal)?;
-    put_back(tables, cx, place, connection, &mut board)
+    put_back(tables, cx, place, connection, &mut board)?;
+    tables.board = board;
+    Ok(())
 }
 
 /// A request is given up at the connection that has it.
@@ -355,9 +355,11 @@ fn give_up_at<Req: ComposeRequest, S: OneStream<Req>, W: Words>(
     let Some(connection) = take_at(tables, place) else {
         return Ok(());
     };
-    let mut board = Board::new(tables.alloc);
+    let mut board = tables.lend_board();
     let connection = connection.cancel(&mut board, cx, response)?;
-    put_back(tables, cx, place, connection, &mut board)
+    put_back(tables, cx, place, connection, &mut board)?;
+    tables.board = board;
+    Ok(())
 }
 
 /// A request, which is in no table any more, is given up where it is.
@@ -387,7 +389,6 @@ fn leave<Req: ComposeRequest, S: OneStream<Req>, W: Words>(
 }
 
 /// Gives a request up.
-#[tactic(auto, using(client_dgram::proofs::Absent::frees_absent))]
 pub(crate) fn give_up<Req: ComposeRequest, S: OneStream<Req>, W: Words>(
     tables: &mut Tables<Req, S>,
     cx: &mut Cx<'_, W>,
@@ -424,7 +425,6 @@ fn time_out<Req: ComposeRequest, S: OneStream<Req>, W: Words>(
 }
 
 /// A timer of a request fired.
-#[tactic(auto, using(client_dgram::proofs::Absent::frees_absent))]
 fn fire<Req: ComposeRequest, S: OneStream<Req>, W: Words>(
     tables: &mut Tables<Req, S>,
     server: u32,
@@ -448,7 +448,6 @@ fn fire<Req: ComposeRequest, S: OneStream<Req>, W: Words>(
 }
 
 /// A timer fired: one of a request, or of a connection.
-#[tactic(auto, using(client_dgram::proofs::Absent::frees_absent))]
 fn due<Req: ComposeRequest, S: OneStream<Req>, W: Words>(
     tables: &mut Tables<Req, S>,
     server: u32,

@@ -1,6 +1,6 @@
 //! The requests that wait for their results, where each is, and the connections.
 
-ghost use Rattle.std.specs.Prelude.{◌≡◌, ◌+◌, Some, Err, IfErr, IfOk, OnOk, Option, Result, Ok, option_map, map};
+ghost use Rattle.std.specs.Prelude.{◌≡◌, ◌+◌, Some, Err, IfErr, IfOk, OnOk, Option, Result, Ok, [], option_map, map};
 ghost use Rattle.client_request.specs.Calls.{Steps, NumbersRunOut};
 ghost use Rattle.client_request.specs.Cx.{view_of, view_below, heard, LendsTheSame};
 ghost use Rattle.client_request.specs.Numbered.{entry_at};
@@ -14,8 +14,9 @@ use client_request::{Board, ComposeRequest, Cx, Error, Posted, TimerId, Words};
 use dns_base::{Message, NoMemory};
 use number_table::NumberTable;
 use std::alloc::Global;
-use std::collections::{BTreeMap, BTreeSet};
+use std::collections::BTreeSet;
 use std::marker::Model;
+use std::mem;
 
 /// The requests by ticket; the ticket of each timer, and of each ticket at a connection; those that wait
 /// for a connection to open; the connections by place, and the place of each timer of one. Tickets and places rise, so the least ticket
@@ -27,7 +28,7 @@ pub struct Tables<Req, S> {
     pub(crate) timers: NumberTable<u64>,
     pub(crate) inner: NumberTable<u64>,
     pub(crate) waiting: BTreeSet<u64>,
-    pub(crate) connections: BTreeMap<u64, S>,
+    pub(crate) connections: NumberTable<S>,
     pub(crate) watches: NumberTable<u64>,
     /// The place that opens.
     pub(crate) opening: Option<u64>,
@@ -35,6 +36,8 @@ pub struct Tables<Req, S> {
     pub(crate) refusals: u64,
     /// The moment before which none is to be opened, in microseconds.
     pub(crate) calm: u128,
+    /// Where a connection posts during a call, kept for its memory alone.
+    pub(crate) board: Board,
 }
 
 impl<Req, S> Model for Tables<Req, S> {
@@ -47,7 +50,7 @@ impl<Req, S> Model for Tables<Req, S> {
       timers = s.timers;
       inner = s.inner;
       waiting = s.waiting.keys;
-      connections = s.connections.entries;
+      connections = s.connections;
       watches = s.watches;
       opening = s.opening;
       refusals = s.refusals;
@@ -66,12 +69,24 @@ impl<Req, S> Tables<Req, S> {
             timers: NumberTable::new(alloc),
             inner: NumberTable::new(alloc),
             waiting: BTreeSet::new(alloc),
-            connections: BTreeMap::new(alloc),
+            connections: NumberTable::new(alloc),
             watches: NumberTable::new(alloc),
             opening: None,
             refusals: 0,
             calm: 0,
+            board: Board::new(alloc),
         }
+    }
+
+    /// The board on which a connection is to post during a call. It is put back as `board` once what was posted
+    /// is taken; where the call gives up it may be lost.
+    pub(crate) fn lend_board(&mut self) -> Board
+        ensures value { result ≡ [] }
+        ensures tables { self.new ≡ self.old }
+    {
+        let mut board = mem::replace(&mut self.board, Board::new(self.alloc));
+        board.clear();
+        board
     }
 }
 
@@ -172,7 +187,6 @@ fn get_part<Req: ComposeRequest, S: OneStream<Req>, W: Words>(
 }
 
 /// Takes one of the parts that a connection posted.
-#[tactic(auto, using(client_dgram::proofs::Absent::frees_absent))]
 fn collect_one<Req: ComposeRequest, S: OneStream<Req>, W: Words>(
     tables: &mut Tables<Req, S>,
     cx: &mut Cx<'_, W>,
@@ -240,7 +254,7 @@ pub(crate) fn take_at<Req: ComposeRequest, S: OneStream<Req>>(
     ensures found { result ≡ entry_at place tables.old.connections }
     ensures taken { tables.new ≡ plain.without_at S.machine place result tables.old }
 {
-    let connection = tables.connections.remove(&place)?;
+    let connection = tables.connections.remove(place)?;
     if let Some(timer) = connection.timer() {
         let _ = tables.watches.remove(timer);
     }
