@@ -1,5 +1,5 @@
 -- A text says one script, and a script is not refused.
-use Rattle.std.proofs.Common.{◌≡◌, ℕ, ◌<◌, Bool, true, false, List, [], ◌∷◌, ◌++◌, Option, Some, None, Result, Ok, Err, MatchResult, ◌*◌, refl, sym, ap, ◌∙◌, subst, arith, append_assoc, decimal, length}
+use Rattle.std.proofs.Common.{◌≡◌, ℕ, Bool, true, false, List, [], ◌∷◌, ◌++◌, Option, Some, None, Result, Ok, Err, MatchResult, refl, sym, ap, ◌∙◌, subst, arith, length}
 use Rattle.std.specs.Str.Lines.{lines}
 use Rattle.std.proofs.lemmas.Option.{same_Some}
 use Rattle.dns_names.proofs.Heads.{none_some}
@@ -16,7 +16,7 @@ use Rattle.dns_script.specs.declared.script.ScriptFault.{ScriptFault}
 use Rattle.dns_script.specs.declared.script.ScriptFault.TheVariants as faults
 use Rattle.dns_script.specs.declared.script_lines.ScriptReader.{ScriptReader}
 use Rattle.dns_script.specs.Names.{script_names}
-use Rattle.dns_script.specs.Reading.{cut, named, parts}
+use Rattle.dns_script.specs.Reading.{cut, named}
 use Rattle.dns_script.specs.ScriptReading.{IsScript, ReadsScript, RefusesLine, TakesLine, TakesLines, TakesNamed, TakesParts, TakesSkipped, begun_with, is_skipped, misses_lane, refuses_line}
 use Rattle.dns_script.proofs.OneTrace.{first_same, rest_same}
 

@@ -4,7 +4,7 @@ use Rattle.std.specs.Prelude.{option_map}
 use Rattle.std.specs.Result.{IsErrOf}
 use Rattle.std.proofs.lemmas.Bool.{cond-true, cond-false}
 use Rattle.client_request.specs.declared.error.Error.{Error}
-use Rattle.client_request.specs.Request.{Request, is_misformed}
+use Rattle.client_request.specs.Request.{is_misformed}
 use Rattle.dns_script.specs.Grammar.{opt_of, request_of}
 
 pub made_request : (base header word : List ℕ) → is_misformed base ≡ false → request_of base header word ≡ option_map (λ opt. record { base = base; header = header; opt = opt }) (opt_of word)

@@ -1,6 +1,5 @@
 -- Reading a trace line by line.
 use Rattle.std.proofs.Common.{◌≡◌, ◌≢◌, ℕ, ◌+◌, ◌<◌, ◌≤◌, List, [], ◌∷◌, ◌++◌, length, Option, Some, None, refl, sym, ap, ◌∙◌, append_assoc, length-append, subst, arith}
-use Rattle.client_request.specs.declared.event.Row.{Row}
 use Rattle.dns_script.specs.declared.trace_lines.TraceReader.{TraceReader}
 use Rattle.dns_script.specs.declared.trace_lines.TraceStage.TheVariants as stage
 use Rattle.dns_script.specs.Reading.{◌>>=◌, parts}

@@ -1,5 +1,5 @@
 -- The lines of traces and scripts as words: what happened, and what was put out.
-use Rattle.std.specs.Prelude.{◌≡◌, ℕ, ◌+◌, ◌-◌, ◌^◌, List, [], ◌∷◌, length, Option, Some, None, Result, Ok, Err, option_map, ◌==◌, nat_lt, if◌then◌else◌, codes}
+use Rattle.std.specs.Prelude.{ℕ, List, length, Option, Some, None, Result, Ok, Err, option_map, ◌==◌, nat_lt, if◌then◌else◌, codes}
 use Rattle.std.specs.Str.{bytes_eq}
 use Rattle.dns_base.specs.OptRecord.{OptFields, opt_record}
 use Rattle.client_request.specs.Request.{Request, is_misformed}
@@ -12,7 +12,6 @@ use Rattle.client_request.specs.declared.error.QueryError.TheVariants as query
 use Rattle.client_request.specs.declared.error.QueryErrorKind.{QueryErrorKind}
 use Rattle.client_request.specs.declared.error.QueryErrorKind.TheVariants as kind
 use Rattle.client_request.specs.declared.event.Via.{Via}
-use Rattle.client_request.specs.declared.event.Moment.{Moment}
 use Rattle.client_request.specs.declared.event.Event.{Event}
 use Rattle.client_request.specs.declared.event.What.{What}
 use Rattle.client_request.specs.declared.event.What.TheVariants as what

@@ -6,7 +6,6 @@ use Rattle.std.specs.Int.{w16, to_be_bytes}
 use Rattle.dns_base.specs.OptRecord.{OptFields}
 use Rattle.client_request.specs.Request.{Request}
 use Rattle.client_request.specs.declared.error.Error.{Error}
-use Rattle.client_request.specs.declared.event.Moment.{Moment}
 use Rattle.client_request.specs.declared.event.Event.{Event}
 use Rattle.client_request.specs.declared.event.What.{What}
 use Rattle.client_request.specs.declared.event.What.TheVariants as what

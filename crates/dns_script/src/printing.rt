@@ -11,7 +11,7 @@ ghost use Rattle.dns_script.specs.TraceText.{first_line, last_line, row_text, tr
 use crate::bounds::trace_is_in_range;
 use crate::words::{error_name, fault_word, push_digits, push_hex, push_number, via_word};
 use client_request::{
-    Compose, Error, Event, Fault, Out, QueryError, RequestMessage, Row, Trace, What,
+    Compose, Error, Event, Fault, Out, QueryError, RequestMessage, Row, Trace, Via, What,
 };
 use dns_base::{Message, NoMemory, OptRecord};
 use std::alloc::Global;
@@ -106,6 +106,38 @@ fn push_sent(
     push_octets(text, octets)
 }
 
+/// Adds a word, a place, a server and a line feed.
+fn push_open(text: &mut Vec<u8>, word: &[u8], place: u64, server: u32) -> Result<(), NoMemory>
+    ensures { OnOk result (text.new.items ≡ text.old.items ++ word.now ++ line (decimal place ∷ decimal server ∷ [])) }
+{
+    push_pair(text, word, place, server as u64)
+}
+
+/// Adds the line of a request that begins at a server.
+fn push_start(text: &mut Vec<u8>, request: u64, server: u32, via: Via) -> Result<(), NoMemory>
+    ensures { OnOk result (text.new.items ≡ text.old.items ++ out_line (Out.Start request server via)) }
+{
+    text.extend_from_slice(b"> start ")?;
+    push_number(text, request, b' ')?;
+    push_number(text, server as u64, b' ')?;
+    text.extend_from_slice(via_word(via).as_bytes())?;
+    text.push(b'\n')?;
+    Ok(())
+}
+
+/// Adds the line of a reply.
+fn push_reply(
+    text: &mut Vec<u8>,
+    request: u64,
+    reply: &Result<Message, Error>,
+) -> Result<(), NoMemory>
+    ensures { OnOk result (text.new.items ≡ text.old.items ++ out_line (Out.Reply request reply.now)) }
+{
+    text.extend_from_slice(b"> reply ")?;
+    push_number(text, request, b' ')?;
+    push_result(text, reply)
+}
+
 /// Writes the line of what was put out, as it stands in a trace.
 pub(crate) fn push_out(text: &mut Vec<u8>, out: &Out) -> Result<(), NoMemory>
     ensures { OnOk result (text.new.items ≡ text.old.items ++ out_line out.now) }
@@ -115,26 +147,9 @@ pub(crate) fn push_out(text: &mut Vec<u8>, out: &Out) -> Result<(), NoMemory>
             request,
             server,
             via,
-        } => {
-            text.extend_from_slice(b"> start ")?;
-            push_number(text, *request, b' ')?;
-            push_number(text, *server as u64, b' ')?;
-            text.extend_from_slice(via_word(*via).as_bytes())?;
-            text.push(b'\n')?;
-            Ok(())
-        }
-        Out::OpenDgram { place, server } => push_pair(
-            text,
-            b"> open-dgram ",
-            *place,
-            *server as u64,
-        ),
-        Out::OpenStream { place, server } => push_pair(
-            text,
-            b"> open-stream ",
-            *place,
-            *server as u64,
-        ),
+        } => push_start(text, *request, *server, *via),
+        Out::OpenDgram { place, server } => push_open(text, b"> open-dgram ", *place, *server),
+        Out::OpenStream { place, server } => push_open(text, b"> open-stream ", *place, *server),
         Out::Send {
             place,
             request,
@@ -156,11 +171,7 @@ pub(crate) fn push_out(text: &mut Vec<u8>, out: &Out) -> Result<(), NoMemory>
             text.extend_from_slice(b"> close ")?;
             push_number(text, *place, b'\n')
         }
-        Out::Reply { request, result } => {
-            text.extend_from_slice(b"> reply ")?;
-            push_number(text, *request, b' ')?;
-            push_result(text, result)
-        }
+        Out::Reply { request, result } => push_reply(text, *request, result),
     }
 }
 
@@ -277,7 +288,7 @@ fn push_event(text: &mut Vec<u8>, event: &Event) -> Result<(), NoMemory>
     push_what(text, &event.what)
 }
 
-/// The text of a trace before its rows.
+/// The text of a trace before its rows. `NoMemory` where memory runs out.
 pub fn begin_trace(alloc: Global) -> Result<Vec<u8>, NoMemory>
     ensures { IfOk result (λ v. v.items ≡ first_line) }
 {
@@ -286,7 +297,7 @@ pub fn begin_trace(alloc: Global) -> Result<Vec<u8>, NoMemory>
     Ok(text)
 }
 
-/// Adds what stands behind the rows of a trace.
+/// Adds what stands behind the rows of a trace. `NoMemory` where memory runs out, and then the text stays as it was.
 pub fn end_trace(text: &mut Vec<u8>) -> Result<(), NoMemory>
     ensures { OnOk result (text.new.items ≡ text.old.items ++ last_line) }
 {
@@ -295,6 +306,9 @@ pub fn end_trace(text: &mut Vec<u8>) -> Result<(), NoMemory>
 }
 
 /// Adds an event's line and the lines of what was put out for it.
+///
+/// `NoMemory` where memory runs out. What was added until then stays: the first of these lines, and perhaps a part of
+/// the next.
 pub fn push_row(text: &mut Vec<u8>, row: &Row) -> Result<(), NoMemory>
     ensures { OnOk result (text.new.items ≡ text.old.items ++ row_text row.now) }
 {

@@ -1,10 +1,7 @@
 -- A base is taken where it is not misformed.
-use Rattle.std.proofs.Common.{◌≡◌, List, ℕ, false, ap, sym, subst, refl}
-use Rattle.std.specs.Prelude.{option_map}
+use Rattle.std.proofs.Common.{◌≡◌, false, ap}
 use Rattle.std.proofs.lemmas.Bool.{false_from_ne_true}
 use Rattle.client_request.specs.Request.{Request, is_misformed}
-use Rattle.dns_script.specs.Grammar.{opt_of}
-use Rattle.dns_script.specs.Reading.{Reads}
 use Rattle.dns_script.proofs.Requests.{error_is, made_request, misformed_request, ok_is_no_error}
 use Rattle.dns_script.proofs.reading.request_of.Goals as goal
 

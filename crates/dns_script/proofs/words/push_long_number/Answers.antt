@@ -2,7 +2,7 @@
 use Rattle.std.proofs.Common.{◌≡◌, ◌≤◌, ◌<◌, drop, take, slice_set, ◌-◌, ◌+◌, ◌%◌, [], ◌∷◌, ◌++◌, rules, arith, ap, sym, ◌∙◌, append_assoc, length-set}
 use Rattle.std.specs.Fmt.{decimal}
 use Rattle.dns_script.proofs.WrittenNumbers.{digit_written, first_written, longest, one_digit_more, two_digits}
-use Rattle.dns_script.proofs.words.push_number.Goals as goal
+use Rattle.dns_script.proofs.words.push_long_number.Goals as goal
 
 pub loop-left-init : goal.loop-left-init
 loop-left-init c = search (rules, longest c.args.number c.ranges.number.fits)

@@ -1,7 +1,7 @@
 -- the digits behind those of what is left have been written
 use Rattle.std.proofs.Common.{◌≡◌, ◌+◌, ◌<◌, ◌≤◌, ◌∷◌, [], ◌++◌, length, drop}
 use Rattle.std.specs.Fmt.{decimal}
-use Rattle.dns_script.proofs.words.push_number.Given as goal
+use Rattle.dns_script.proofs.words.push_long_number.Given as goal
 
 abbrev pub invariant-loop-left : goal.invariant-loop-left
 invariant-loop-left l = record {
