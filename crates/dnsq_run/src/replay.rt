@@ -117,5 +117,5 @@ pub fn replay<S: Source>(alloc: Global, source: &mut S) -> Result<Vec<u8>, Endin
         Ok(script) => script,
         Err(ending) => return Err(ending),
     };
-    text_of(alloc, script)
+    text_of(alloc, script, text)
 }

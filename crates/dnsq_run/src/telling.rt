@@ -3,7 +3,7 @@
 
 ghost use Rattle.std.specs.Prelude.{◌≡◌, ◌≢◌, None, Some, IfOk, IfErr, IsErrOf, option_map};
 ghost use Rattle.client_steps.specs.Whole.{plain_trace};
-ghost use Rattle.dns_script.specs.TraceText.{trace_text_of};
+ghost use Rattle.dns_script.specs.TraceText.{first_line, trace_text_of};
 ghost use Rattle.dnsq_run.specs.Program.{first_lane, rows_of, IsTold, IsEarly, status_of, line_of, numbers_line};
 
 use crate::ending::Ending;
@@ -15,6 +15,7 @@ use client_core::{
     every_plain_trace_is_right, redundant,
 };
 use client_request::{Error, Events, ListWords, Words};
+use dns_base::NoMemory;
 use dns_script::{Lanes, Script, begin_trace, end_trace, push_row};
 use resolv_conf::ResolvConf;
 use std::alloc::Global;
@@ -30,6 +31,17 @@ fn first_of(alloc: Global, lanes: Lanes) -> Events
     lanes.swap_remove(0)
 }
 
+/// The text of a trace before its rows, in memory that other octets had.
+fn begun(alloc: Global, room: Vec<u8>) -> Result<Vec<u8>, NoMemory>
+    ensures { IfOk result (λ v. v.items ≡ first_line) }
+{
+    let first = begin_trace(alloc)?;
+    let mut text = room;
+    text.clear();
+    text.extend_from_slice(&first)?;
+    Ok(text)
+}
+
 /// The text of the trace of a client that is told these events and draws these words.
 fn told<W: Words>(
     alloc: Global,
@@ -38,12 +50,13 @@ fn told<W: Words>(
     cache: cache::Config,
     words: &mut W,
     events: Events,
+    room: Vec<u8>,
 ) -> Result<Vec<u8>, Error>
     ensures text { IfOk result (λ v. option_map trace_text_of (plain_trace redundant cache conf.now (W.stream words.old) events) ≡ Some v.items) }
     ensures numbers { IsErrOf result Error.NumbersUsed → plain_trace redundant cache conf.now (W.stream words.old) events ≡ None }
 {
     let mut client = Client::new(alloc, conf, redundant, cache)?;
-    let mut text = begin_trace(alloc)?;
+    let mut text = begun(alloc, room)?;
     for event in events.into_vec() {
         let row = client.step(words, event)?;
         push_row(&mut text, &row)?;
@@ -52,9 +65,10 @@ fn told<W: Words>(
     Ok(text)
 }
 
-/// The text of the trace of a script with one lane, which is right and timely, and gives what is kept.
+/// The text of the trace of a script with one lane, which is right and timely, and gives what is kept. It takes the memory
+/// of `room`, whose octets are let go: a script's own text is nearly long enough for that of its trace.
 #[tactic(auto, using(crate::proofs::ToldTexts::is_told))]
-pub fn text_of(alloc: Global, script: Script) -> Result<Vec<u8>, Ending>
+pub fn text_of(alloc: Global, script: Script, room: Vec<u8>) -> Result<Vec<u8>, Ending>
     ensures told { IfOk result (λ v. IsTold script v.items) }
     ensures early { IfErr result IsEarly }
     ensures numbers { IfErr result (λ e. status_of e ≡ 7 → rows_of script ≡ None) }
@@ -76,7 +90,7 @@ pub fn text_of(alloc: Global, script: Script) -> Result<Vec<u8>, Ending>
     all_in_octets(events.as_slice());
     every_plain_trace_is_right();
     every_plain_trace_hits();
-    match told(alloc, &conf, redundant, cache, &mut words, events) {
+    match told(alloc, &conf, redundant, cache, &mut words, events, room) {
         Ok(text) => Ok(text),
         Err(Error::NumbersUsed) => Err(says(alloc, NUMBERS_USED, "numbers used\n")),
         Err(_) => Err(Ending::Silent(NO_MEMORY)),
