@@ -1,9 +1,10 @@
 -- What a call of a transport owes, over the step of the plain machine that it makes.
-use Rattle.std.specs.Prelude.{◌≡◌, ℕ, Bool, true, Option, Some, None, Result, Err, OnOk, IfErr, IsErrOf}
-use Rattle.client_request.specs.Cx.{view_of, LendsTheSame}
+use Rattle.std.specs.Prelude.{◌≡◌, ℕ, Bool, true, List, Option, Some, None, Result, Err, OnOk, IfErr, IsErrOf}
+use Rattle.client_request.specs.Cx.{view_of, view_below, LendsTheSame}
 use Rattle.client_request.specs.Response.{IsRefusal}
 use Rattle.client_request.specs.Timers.{IsWant}
 use Rattle.client_request.specs.View.{View}
+use Rattle.client_request.specs.declared.board.Posted.{Posted}
 use Rattle.client_request.specs.declared.cx.Cx.{Cx}
 use Rattle.client_request.specs.declared.error.Error.{Error}
 use Rattle.client_request.specs.declared.error.Error.TheVariants.{NumbersUsed, Failed}
@@ -49,3 +50,8 @@ module _ {W S A : Type 0} (stream : W → ℕ → ℕ) (old new : Cx W) (result 
   abbrev pub Holds : {L : Type 0} → (holds_failed : L → Bool) → (before after : L) → Type 0
   Holds holds_failed before after =
       HoldsStep old new result (step (view_of stream old)) (left, view_of stream new) (holds_failed before) (holds_failed before) (holds_failed after)
+
+-- the same of a call below, whose results stand on a board of its own
+abbrev pub HoldsBelow : {W S A L : Type 0} → (stream : W → ℕ → ℕ) → (old new : Cx W) → (board after : List Posted) → Result A Error → (step : View → Option (S × View)) → (left : S) → (holds_failed : L → Bool) → (before later : L) → Type 0
+HoldsBelow stream old new board after result step left holds_failed before later =
+    HoldsStep old new result (step (view_below stream board old)) (left, view_below stream after new) (holds_failed before) (holds_failed before) (holds_failed later)
