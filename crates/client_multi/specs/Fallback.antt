@@ -5,12 +5,16 @@
 --              └──truncated message: Start──► Stream ──its result─────┘
 --
 -- What a transport below posts stands on a board of its own for the call. It is settled once both have heard: that of the datagrams first.
-use Rattle.std.specs.Prelude.{ℕ, ◌||◌, Bool, true, false, List, [], ◌∷◌, Option, Some, None, option_map, option_and_then, Ok, Err}
+use Rattle.std.specs.Prelude.{ℕ, ◌||◌, Bool, true, false, List, [], ◌∷◌, Option, Some, None, option_map, option_and_then, Result, Ok, Err}
 use Rattle.dns_base.specs.Answering.{truncated}
 use Rattle.client_request.specs.Board.{Part, posted}
+use Rattle.client_request.specs.Calls.{Holds}
 use Rattle.client_request.specs.Numbered.{puts, frees, entry_at}
+use Rattle.client_request.specs.Response as response
 use Rattle.client_request.specs.View.{View, Heard, Transport, asks, answers, draws_ticket}
 use Rattle.client_request.specs.declared.board.Posted.{Posted}
+use Rattle.client_request.specs.declared.cx.Cx.{Cx}
+use Rattle.client_request.specs.declared.error.Error.{Error}
 use Rattle.client_request.specs.declared.event.Out.TheVariants.{Start}
 use Rattle.client_request.specs.declared.event.Via.TheVariants as via
 use Rattle.client_multi.specs.declared.dgram_stream.job.Job.{Job}
@@ -200,9 +204,8 @@ pub record Fallback (R D S P Q : Type 0) : Type 0 where
   pub failed : Bool
 
 -- what stands for the result of a request
-pub record Asked : Type 0 where
-  pub ticket : ℕ
-  pub given : Bool
+abbrev pub Asked : Type 0
+Asked = response.Asked
 
 module _ {R D S P Q : Type 0} where
   abbrev pub started : ℕ → D → S → Fallback R D S P Q
@@ -225,3 +228,8 @@ module _ {R D S P Q : Type 0} where
     cancel = λ asked f v. with_parts f (drops f.server dgram stream asked.ticket f.parts v);
     response = λ request f v. record { ticket = v.ticket; given = false };
   }
+
+module _ {W R D S P Q A L : Type 0} (by_dgram : D → Bool) (by_stream : S → Bool) where
+  -- what a call that hands on to both transports owes
+  abbrev pub Relays : (stream : W → ℕ → ℕ) → (old new : Cx W) → Result A Error → (View → Option (L × View)) → L → (before after : Parts R D S P Q) → Type 0
+  Relays stream old new result step left before after = Holds stream old new result step left (holds_below by_dgram by_stream) before after

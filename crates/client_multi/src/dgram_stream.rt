@@ -15,8 +15,9 @@ mod job;
 mod steps;
 mod tables;
 
+pub use client_request::Pending as Request;
 pub use config::Config;
 pub use connection::Connection;
-pub use fallback::{Fallback, Request};
+pub use fallback::Fallback;
 pub use job::Job;
 pub use tables::{Parts, Tables};

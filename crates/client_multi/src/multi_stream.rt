@@ -9,8 +9,9 @@ mod retry;
 mod steps;
 mod tables;
 
+pub use client_request::Pending as Request;
 pub use config::Config;
-pub use connection::{Connection, Request, Transport};
+pub use connection::{Connection, Transport};
 pub use job::{Job, Stage};
 pub use one_stream::{Link, OneStream};
 pub use retry::retry_time;

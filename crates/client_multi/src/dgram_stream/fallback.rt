@@ -1,16 +1,14 @@
 //! A server over two transports.
 
-ghost use Rattle.std.specs.Prelude.{◌≡◌, true, false};
+ghost use Rattle.std.specs.Prelude.{◌≡◌, true};
 ghost use Rattle.client_multi.specs.Fallback as plain;
 
 use crate::dgram_stream::steps::{give_up, hear, take_on};
 use crate::dgram_stream::tables::{Boards, Parts, Tables};
 use client_request::{
-    Board, ComposeRequest, Cx, Error, GetResponse, Poll, SendRequest, Signal, Words, take_response,
+    ComposeRequest, Cx, Error, GetResponse, Latch, Pending, SendRequest, Signal, Words,
 };
-use dns_base::Message;
 use std::alloc::Global;
-use std::fmt;
 use std::marker::Model;
 
 /// A server that is asked by `dgram`, and by `stream` where a message of `dgram` is truncated. `server`
@@ -22,7 +20,7 @@ pub struct Fallback<Req, D: SendRequest<Req>, S: SendRequest<Req>> {
     parts: Parts<Req, D, S>,
     /// Where both post during a call.
     boards: Boards,
-    failed: bool,
+    failed: Latch,
 }
 
 impl<Req, D: SendRequest<Req>, S: SendRequest<Req>> Model for Fallback<Req, D, S> {
@@ -45,7 +43,7 @@ impl<Req, D: SendRequest<Req>, S: SendRequest<Req>> Fallback<Req, D, S> {
                 tables: Tables::new(alloc),
             },
             boards: Boards::new(alloc),
-            failed: false,
+            failed: Latch::new(),
         }
     }
 
@@ -60,55 +58,20 @@ impl<Req, D: SendRequest<Req>, S: SendRequest<Req>> Fallback<Req, D, S> {
     pub fn has_failed(&self) -> bool
         ensures { result ≡ self.now.failed }
     {
-        self.failed
+        self.failed.is_set()
     }
 
     /// Lets each later call answer `Failed`, for what holds it and could not go on.
     pub fn fail(&mut self)
         ensures { self.new ≡ record self.old { failed = true } }
     {
-        self.failed = true;
-    }
-}
-
-/// What stands for the result of a request.
-#[derive(Drop)]
-pub struct Request {
-    ticket: u64,
-    given: bool,
-}
-
-impl Model for Request {
-    ghost use Rattle.client_multi.specs.Fallback.{Asked};
-
-    ghost Value = { Asked };
-
-    ghost view = { λ r. record { ticket = r.ticket; given = r.given } };
-}
-
-impl fmt::Debug for Request {
-    fn fmt<W: fmt::Write>(&self, f: &mut fmt::Formatter<W>) -> fmt::Result {
-        f.write_str("Request { fut: _ }")
-    }
-}
-
-impl GetResponse for Request {
-    ghost ticket_of = { λ r. r.ticket };
-
-    ghost has_given = { λ r. r.given };
-
-    fn get_response(&mut self, board: &mut Board) -> Poll<Result<Message, Error>> {
-        take_response(board, self.ticket, &mut self.given)
-    }
-
-    fn ticket(&self) -> u64 {
-        self.ticket
+        self.failed.set();
     }
 }
 
 impl<Req: ComposeRequest, D: SendRequest<Req>, S: SendRequest<Req>> SendRequest<Req>
     for Fallback<Req, D, S> {
-    type Response = Request;
+    type Response = Pending;
 
     ghost has_failed = { λ f. f.failed };
 
@@ -120,11 +83,9 @@ impl<Req: ComposeRequest, D: SendRequest<Req>, S: SendRequest<Req>> SendRequest<
         &mut self,
         cx: &mut Cx<'_, W>,
         request: Req,
-    ) -> Result<Request, Error> {
-        if self.failed {
-            return Err(Error::Failed);
-        }
-        let result = take_on(
+    ) -> Result<Pending, Error> {
+        self.failed.check()?;
+        let taken = take_on(
             &mut self.parts,
             &mut self.boards,
             self.server,
@@ -132,43 +93,25 @@ impl<Req: ComposeRequest, D: SendRequest<Req>, S: SendRequest<Req>> SendRequest<
             cx,
             request,
         );
-        match result {
-            Ok(ticket) => Ok(Request {
-                ticket,
-                given: false,
-            }),
-            Err(error) => {
-                self.failed = true;
-                Err(error)
-            }
-        }
+        let ticket = self.failed.keep(taken)?;
+        Ok(Pending::new(ticket))
     }
 
     fn step<W: Words>(&mut self, cx: &mut Cx<'_, W>, signal: Signal<'_>) -> Result<(), Error> {
-        if self.failed {
-            return Err(Error::Failed);
-        }
+        self.failed.check()?;
         let result = hear(&mut self.parts, &mut self.boards, self.server, cx, signal);
-        if result.is_err() {
-            self.failed = true;
-        }
-        result
+        self.failed.keep(result)
     }
 
-    fn cancel<W: Words>(&mut self, cx: &mut Cx<'_, W>, response: Request) -> Result<(), Error> {
-        if self.failed {
-            return Err(Error::Failed);
-        }
+    fn cancel<W: Words>(&mut self, cx: &mut Cx<'_, W>, response: Pending) -> Result<(), Error> {
+        self.failed.check()?;
         let result = give_up(
             &mut self.parts,
             &mut self.boards,
             self.server,
             cx,
-            response.ticket,
+            response.ticket(),
         );
-        if result.is_err() {
-            self.failed = true;
-        }
-        result
+        self.failed.keep(result)
     }
 }

@@ -1,22 +1,21 @@
 //! What each call of a fallback does.
 
-ghost use Rattle.std.specs.Prelude.{◌≡◌, true, OnOk, IfOk, IfErr, IsErrOf};
-ghost use Rattle.client_request.specs.Calls.{Steps, NumbersRunOut};
-ghost use Rattle.client_request.specs.Cx.{view_of, heard, LendsTheSame};
-ghost use Rattle.client_request.specs.Response.{IsRefusal};
+ghost use Rattle.std.specs.Prelude.{◌≡◌, OnOk, IfOk};
+ghost use Rattle.client_request.specs.Cx.{heard};
 ghost use Rattle.client_multi.specs.Fallback as plain;
+ghost use Rattle.client_multi.specs.Fallback.{Relays};
 
 use crate::dgram_stream::job::Job;
 use crate::dgram_stream::tables::{Boards, Parts, Tables};
 use client_request::{
-    Board, ComposeRequest, Cx, Error, GetResponse, Out, Posted, SendRequest, Signal, Via, Words,
-    cancel_below, send_below, step_below,
+    Board, ComposeRequest, Cx, Error, GetResponse, Out, Part, Posted, SendRequest, Signal, Via,
+    Words, cancel_below, send_below, step_below,
 };
-use dns_base::{Message, NoMemory};
+use dns_base::NoMemory;
 use std::alloc::Global;
 
 /// Whether what came is a message that has not all that there is.
-fn is_truncated(part: &Result<Option<Message>, Error>) -> bool
+fn is_truncated(part: &Part) -> bool
     ensures { result ≡ plain.is_truncated part.now }
 {
     match part {
@@ -35,12 +34,7 @@ fn follow<Req: ComposeRequest, D: SendRequest<Req>, S: SendRequest<Req>, W: Word
     number: u64,
     request: Req,
 ) -> Result<(), Error>
-    ensures lends { LendsTheSame cx.old cx.new }
-    ensures ok { Steps result (plain.follows server S.transport ticket number request parts.old from_stream.old (view_of W.stream cx.old)) ((parts.new, from_stream.new), view_of W.stream cx.new) }
-    ensures numbers { NumbersRunOut result (plain.follows server S.transport ticket number request parts.old from_stream.old (view_of W.stream cx.old)) }
-    ensures keeps { OnOk result (plain.holds_below D.holds_failed S.holds_failed parts.new ≡ plain.holds_below D.holds_failed S.holds_failed parts.old) }
-    ensures refused { IfErr result IsRefusal }
-    ensures failed_only { IsErrOf result Error.Failed → plain.holds_below D.holds_failed S.holds_failed parts.old ≡ true }
+    ensures relays { Relays D.holds_failed S.holds_failed W.stream cx.old cx.new result (plain.follows server S.transport ticket number request parts.old from_stream.old) (parts.new, from_stream.new) parts.old parts.new }
 {
     cx.outs.push(Out::Start {
         request: number,
@@ -61,12 +55,7 @@ fn settle<Req: ComposeRequest, D: SendRequest<Req>, S: SendRequest<Req>, W: Word
     cx: &mut Cx<'_, W>,
     posted: Posted,
 ) -> Result<(), Error>
-    ensures lends { LendsTheSame cx.old cx.new }
-    ensures ok { Steps result (plain.settles server S.transport posted parts.old from_stream.old (view_of W.stream cx.old)) ((parts.new, from_stream.new), view_of W.stream cx.new) }
-    ensures numbers { NumbersRunOut result (plain.settles server S.transport posted parts.old from_stream.old (view_of W.stream cx.old)) }
-    ensures keeps { OnOk result (plain.holds_below D.holds_failed S.holds_failed parts.new ≡ plain.holds_below D.holds_failed S.holds_failed parts.old) }
-    ensures refused { IfErr result IsRefusal }
-    ensures failed_only { IsErrOf result Error.Failed → plain.holds_below D.holds_failed S.holds_failed parts.old ≡ true }
+    ensures relays { Relays D.holds_failed S.holds_failed W.stream cx.old cx.new result (plain.settles server S.transport posted parts.old from_stream.old) (parts.new, from_stream.new) parts.old parts.new }
 {
     let Posted {
         ticket: lower,
@@ -98,12 +87,7 @@ fn settle_all<Req: ComposeRequest, D: SendRequest<Req>, S: SendRequest<Req>, W: 
     from_stream: &mut Board,
     cx: &mut Cx<'_, W>,
 ) -> Result<(), Error>
-    ensures lends { LendsTheSame cx.old cx.new }
-    ensures ok { Steps result (plain.settles_all server S.transport from_dgram.old parts.old from_stream.old (view_of W.stream cx.old)) ((parts.new, from_stream.new), view_of W.stream cx.new) }
-    ensures numbers { NumbersRunOut result (plain.settles_all server S.transport from_dgram.old parts.old from_stream.old (view_of W.stream cx.old)) }
-    ensures keeps { OnOk result (plain.holds_below D.holds_failed S.holds_failed parts.new ≡ plain.holds_below D.holds_failed S.holds_failed parts.old) }
-    ensures refused { IfErr result IsRefusal }
-    ensures failed_only { IsErrOf result Error.Failed → plain.holds_below D.holds_failed S.holds_failed parts.old ≡ true }
+    ensures relays { Relays D.holds_failed S.holds_failed W.stream cx.old cx.new result (plain.settles_all server S.transport from_dgram.old parts.old from_stream.old) (parts.new, from_stream.new) parts.old parts.new }
 {
     while let Some(posted) = from_dgram.take_first() {
         settle(parts, server, from_stream, cx, posted)?;
@@ -150,12 +134,7 @@ fn collect<Req: ComposeRequest, D: SendRequest<Req>, S: SendRequest<Req>, W: Wor
     server: u32,
     cx: &mut Cx<'_, W>,
 ) -> Result<(), Error>
-    ensures lends { LendsTheSame cx.old cx.new }
-    ensures ok { Steps result (plain.collects server S.transport boards.old.from_dgram boards.old.from_stream parts.old (view_of W.stream cx.old)) (parts.new, view_of W.stream cx.new) }
-    ensures numbers { NumbersRunOut result (plain.collects server S.transport boards.old.from_dgram boards.old.from_stream parts.old (view_of W.stream cx.old)) }
-    ensures keeps { OnOk result (plain.holds_below D.holds_failed S.holds_failed parts.new ≡ plain.holds_below D.holds_failed S.holds_failed parts.old) }
-    ensures refused { IfErr result IsRefusal }
-    ensures failed_only { IsErrOf result Error.Failed → plain.holds_below D.holds_failed S.holds_failed parts.old ≡ true }
+    ensures relays { Relays D.holds_failed S.holds_failed W.stream cx.old cx.new result (plain.collects server S.transport boards.old.from_dgram boards.old.from_stream parts.old) parts.new parts.old parts.new }
 {
     settle_all(
         parts,
@@ -177,19 +156,11 @@ pub(crate) fn take_on<Req: ComposeRequest, D: SendRequest<Req>, S: SendRequest<R
     cx: &mut Cx<'_, W>,
     request: Req,
 ) -> Result<u64, Error>
-    ensures lends { LendsTheSame cx.old cx.new }
-    ensures ok { Steps result (plain.takes server D.transport S.transport request parts.old (view_of W.stream cx.old)) (parts.new, view_of W.stream cx.new) }
+    ensures relays { Relays D.holds_failed S.holds_failed W.stream cx.old cx.new result (plain.takes server D.transport S.transport request parts.old) parts.new parts.old parts.new }
     ensures ticket { IfOk result (λ ticket. ticket ≡ cx.old.ticket) }
-    ensures numbers { NumbersRunOut result (plain.takes server D.transport S.transport request parts.old (view_of W.stream cx.old)) }
-    ensures keeps { OnOk result (plain.holds_below D.holds_failed S.holds_failed parts.new ≡ plain.holds_below D.holds_failed S.holds_failed parts.old) }
-    ensures refused { IfErr result IsRefusal }
-    ensures failed_only { IsErrOf result Error.Failed → plain.holds_below D.holds_failed S.holds_failed parts.old ≡ true }
 {
-    let (ticket, number) = (cx.ticket, cx.request);
-    let Some(next) = ticket.checked_add(1) else {
-        return Err(Error::NumbersUsed);
-    };
-    cx.ticket = next;
+    let number = cx.request;
+    let ticket = cx.draw_ticket()?;
     let copy = request.try_clone(alloc)?;
     boards.clear();
     let response = send_below(&mut parts.dgram, &mut boards.from_dgram, cx, copy)?;
@@ -213,12 +184,7 @@ pub(crate) fn hear<Req: ComposeRequest, D: SendRequest<Req>, S: SendRequest<Req>
     cx: &mut Cx<'_, W>,
     signal: Signal<'_>,
 ) -> Result<(), Error>
-    ensures lends { LendsTheSame cx.old cx.new }
-    ensures ok { Steps result (plain.hears server D.transport S.transport (heard signal.entry) parts.old (view_of W.stream cx.old)) (parts.new, view_of W.stream cx.new) }
-    ensures numbers { NumbersRunOut result (plain.hears server D.transport S.transport (heard signal.entry) parts.old (view_of W.stream cx.old)) }
-    ensures keeps { OnOk result (plain.holds_below D.holds_failed S.holds_failed parts.new ≡ plain.holds_below D.holds_failed S.holds_failed parts.old) }
-    ensures refused { IfErr result IsRefusal }
-    ensures failed_only { IsErrOf result Error.Failed → plain.holds_below D.holds_failed S.holds_failed parts.old ≡ true }
+    ensures relays { Relays D.holds_failed S.holds_failed W.stream cx.old cx.new result (plain.hears server D.transport S.transport (heard signal.entry) parts.old) parts.new parts.old parts.new }
 {
     boards.clear();
     step_below(&mut parts.dgram, &mut boards.from_dgram, cx, signal)?;
@@ -234,12 +200,7 @@ pub(crate) fn give_up<Req: ComposeRequest, D: SendRequest<Req>, S: SendRequest<R
     cx: &mut Cx<'_, W>,
     ticket: u64,
 ) -> Result<(), Error>
-    ensures lends { LendsTheSame cx.old cx.new }
-    ensures ok { Steps result (plain.drops server D.transport S.transport ticket parts.old (view_of W.stream cx.old)) (parts.new, view_of W.stream cx.new) }
-    ensures numbers { NumbersRunOut result (plain.drops server D.transport S.transport ticket parts.old (view_of W.stream cx.old)) }
-    ensures keeps { OnOk result (plain.holds_below D.holds_failed S.holds_failed parts.new ≡ plain.holds_below D.holds_failed S.holds_failed parts.old) }
-    ensures refused { IfErr result IsRefusal }
-    ensures failed_only { IsErrOf result Error.Failed → plain.holds_below D.holds_failed S.holds_failed parts.old ≡ true }
+    ensures relays { Relays D.holds_failed S.holds_failed W.stream cx.old cx.new result (plain.drops server D.transport S.transport ticket parts.old) parts.new parts.old parts.new }
 {
     boards.clear();
     let Some(job) = parts.tables.take(ticket) else {

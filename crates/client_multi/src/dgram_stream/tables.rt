@@ -45,12 +45,8 @@ impl<Req: Drop, P: Drop, Q: Drop> Tables<Req, P, Q> {
         ensures want { IfErr result (λ e. e ≡ Error.NoMemory) }
     {
         let lower = job.lower();
-        if self.jobs.insert(ticket, job).is_err() {
-            return Err(Error::NoMemory);
-        }
-        if self.tickets.insert(lower, ticket).is_err() {
-            return Err(Error::NoMemory);
-        }
+        self.jobs.insert(ticket, job)?;
+        self.tickets.insert(lower, ticket)?;
         Ok(())
     }
 

@@ -1,6 +1,6 @@
 //! The settings of reconnection.
 
-ghost use Rattle.std.specs.Prelude.{◌≡◌, ℕ, Ok};
+ghost use Rattle.std.specs.Prelude.{◌≡◌, Ok};
 ghost use Rattle.std.specs.Borrow.{Lends, sem};
 ghost use Rattle.std.specs.Ordering.{nat_cmp};
 ghost use Rattle.client_request.specs.Limits.{limited};

@@ -1,9 +1,9 @@
 //! One server by streams.
 
-ghost use Rattle.std.specs.Prelude.{◌≡◌, true, false, Some, None, Ok, Err, IsOk, IsOkAnd, OnOk, OnErr, IfOk, IfErr, IsErrOf};
+ghost use Rattle.std.specs.Prelude.{◌≡◌, true, false, Ok, Err, IsOk, IsOkAnd, OnOk, OnErr, IfOk, IfErr, IsErrOf};
 ghost use Rattle.client_request.specs.Calls.{Steps, NumbersRunOut, AnswersFailed};
-ghost use Rattle.client_request.specs.Cx.{view_of, heard, LendsTheSame};
-ghost use Rattle.client_request.specs.Response.{response_of, IsRefusal};
+ghost use Rattle.client_request.specs.Cx.{view_of, LendsTheSame};
+ghost use Rattle.client_request.specs.Response.{IsRefusal};
 ghost use Rattle.client_stream.specs.Plain.{asked};
 ghost use Rattle.client_multi.specs.Links.{one_stream};
 ghost use Rattle.client_multi.specs.MultiStream as plain;
@@ -14,11 +14,10 @@ use crate::multi_stream::one_stream::Link;
 use crate::multi_stream::steps::{give_up, hear, take_on};
 use crate::multi_stream::tables::Tables;
 use client_request::{
-    Board, ComposeRequest, Cx, Error, GetResponse, Poll, SendRequest, Signal, Words, take_response,
+    ComposeRequest, Cx, Error, GetResponse, Latch, Pending, SendRequest, Signal, Words,
 };
-use dns_base::{Message, NoMemory};
+use dns_base::NoMemory;
 use std::alloc::Global;
-use std::fmt;
 use std::marker::Model;
 
 /// A server that is asked by streams, one after another. `server` is the number that its outs name.
@@ -31,7 +30,7 @@ pub struct Connection<Req> {
     config: Config,
     tables: Tables<Req, Link<Req>>,
     shut: bool,
-    failed: bool,
+    failed: Latch,
 }
 
 /// The same: what runs a connection and what asks by it are one value here.
@@ -73,7 +72,7 @@ impl<Req> Connection<Req> {
             config,
             tables: Tables::new(alloc),
             shut: false,
-            failed: false,
+            failed: Latch::new(),
         })
     }
 
@@ -88,14 +87,14 @@ impl<Req> Connection<Req> {
     pub fn has_failed(&self) -> bool
         ensures { result ≡ self.now.failed }
     {
-        self.failed
+        self.failed.is_set()
     }
 
     /// Lets each later call answer `Failed`, for what holds it and could not go on.
     pub fn fail(&mut self)
         ensures { self.new ≡ record self.old { failed = true } }
     {
-        self.failed = true;
+        self.failed.set();
     }
 
     /// Lets no further request in: each later one gets `ConnectionClosed`, and the earlier ones go on. A
@@ -108,9 +107,7 @@ impl<Req> Connection<Req> {
         ensures failed { self.old.failed ≡ true → (result ≡ Err Error.Failed) × (self.new ≡ self.old) }
     {
         let _ = cx;
-        if self.failed {
-            return Err(Error::Failed);
-        }
+        self.failed.check()?;
         self.shut = true;
         Ok(())
     }
@@ -120,7 +117,7 @@ impl<Req: ComposeRequest> Connection<Req> {
     /// Takes a request on, as `send_request` does. Its result will stand on the board under the
     /// response's ticket: a message, `WrongReplyForQuery` where a message came under its id and is no
     /// answer, `StreamReadTimeout` where its time was over before, or `ConnectionClosed` after `shutdown`.
-    pub fn request<W: Words>(&mut self, cx: &mut Cx<'_, W>, request: Req) -> Result<Request, Error>
+    pub fn request<W: Words>(&mut self, cx: &mut Cx<'_, W>, request: Req) -> Result<Pending, Error>
         ensures lends { LendsTheSame cx.old cx.new }
         ensures ok { Steps result (plain.plain_send (one_stream Req.requests) request self.old (view_of W.stream cx.old)) (self.new, view_of W.stream cx.new) }
         ensures response { IfOk result (λ r. r ≡ asked cx.old.ticket) }
@@ -131,66 +128,22 @@ impl<Req: ComposeRequest> Connection<Req> {
         ensures failed { self.old.failed ≡ true → AnswersFailed result (self.old, view_of W.stream cx.old) (self.new, view_of W.stream cx.new) }
         ensures failed_only { IsErrOf result Error.Failed → self.old.failed ≡ true }
     {
-        if self.failed {
-            return Err(Error::Failed);
-        }
-        match take_on(
+        self.failed.check()?;
+        let taken = take_on(
             &mut self.tables,
             self.server,
             &self.config,
             self.shut,
             cx,
             request,
-        ) {
-            Ok(ticket) => Ok(Request {
-                ticket,
-                given: false,
-            }),
-            Err(error) => {
-                self.failed = true;
-                Err(error)
-            }
-        }
-    }
-}
-
-/// What stands for the result of a request by streams.
-#[derive(Drop)]
-pub struct Request {
-    ticket: u64,
-    given: bool,
-}
-
-impl Model for Request {
-    ghost use Rattle.client_stream.specs.Plain.{Asked};
-
-    ghost Value = { Asked };
-
-    ghost view = { λ r. record { ticket = r.ticket; given = r.given } };
-}
-
-impl fmt::Debug for Request {
-    fn fmt<W: fmt::Write>(&self, f: &mut fmt::Formatter<W>) -> fmt::Result {
-        f.write_str("Request { fut: _ }")
-    }
-}
-
-impl GetResponse for Request {
-    ghost ticket_of = { λ r. r.ticket };
-
-    ghost has_given = { λ r. r.given };
-
-    fn get_response(&mut self, board: &mut Board) -> Poll<Result<Message, Error>> {
-        take_response(board, self.ticket, &mut self.given)
-    }
-
-    fn ticket(&self) -> u64 {
-        self.ticket
+        );
+        let ticket = self.failed.keep(taken)?;
+        Ok(Pending::new(ticket))
     }
 }
 
 impl<Req: ComposeRequest> SendRequest<Req> for Connection<Req> {
-    type Response = Request;
+    type Response = Pending;
 
     ghost has_failed = { λ c. c.failed };
 
@@ -202,29 +155,19 @@ impl<Req: ComposeRequest> SendRequest<Req> for Connection<Req> {
         &mut self,
         cx: &mut Cx<'_, W>,
         request: Req,
-    ) -> Result<Request, Error> {
+    ) -> Result<Pending, Error> {
         self.request(cx, request)
     }
 
     fn step<W: Words>(&mut self, cx: &mut Cx<'_, W>, signal: Signal<'_>) -> Result<(), Error> {
-        if self.failed {
-            return Err(Error::Failed);
-        }
+        self.failed.check()?;
         let result = hear(&mut self.tables, self.server, &self.config, cx, signal);
-        if result.is_err() {
-            self.failed = true;
-        }
-        result
+        self.failed.keep(result)
     }
 
-    fn cancel<W: Words>(&mut self, cx: &mut Cx<'_, W>, response: Request) -> Result<(), Error> {
-        if self.failed {
-            return Err(Error::Failed);
-        }
-        let result = give_up(&mut self.tables, cx, response.ticket);
-        if result.is_err() {
-            self.failed = true;
-        }
-        result
+    fn cancel<W: Words>(&mut self, cx: &mut Cx<'_, W>, response: Pending) -> Result<(), Error> {
+        self.failed.check()?;
+        let result = give_up(&mut self.tables, cx, response.ticket());
+        self.failed.keep(result)
     }
 }

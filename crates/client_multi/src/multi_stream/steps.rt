@@ -1,9 +1,8 @@
 //! What happens to the requests and to the connections.
 
-ghost use Rattle.std.specs.Prelude.{◌≡◌, Some, None, Err, IfErr, IfOk};
-ghost use Rattle.client_request.specs.Calls.{Steps, NumbersRunOut};
-ghost use Rattle.client_request.specs.Cx.{view_of, heard, LendsTheSame};
-ghost use Rattle.client_request.specs.Timers.{IsWant};
+ghost use Rattle.std.specs.Prelude.{◌≡◌, Some, None, Err, IfOk};
+ghost use Rattle.client_request.specs.Calls.{Follows};
+ghost use Rattle.client_request.specs.Cx.{heard};
 ghost use Rattle.client_multi.specs.MultiStream as plain;
 
 use crate::multi_stream::config::Config;
@@ -50,18 +49,13 @@ fn hold<Req: ComposeRequest, S: OneStream<Req>, W: Words>(
     place: u64,
     connection: S,
 ) -> Result<(), Error>
-    ensures lends { LendsTheSame cx.old cx.new }
-    ensures ok { Steps result (plain.holds S.machine ticket job place connection tables.old (view_of W.stream cx.old)) (tables.new, view_of W.stream cx.new) }
-    ensures numbers { NumbersRunOut result (plain.holds S.machine ticket job place connection tables.old (view_of W.stream cx.old)) }
-    ensures want { IfErr result IsWant }
+    ensures follows { Follows W.stream cx.old cx.new result (plain.holds S.machine ticket job place connection tables.old) tables.new }
 {
     let mut board = tables.lend_board();
     let copy = job.request.try_clone(tables.alloc)?;
     cx.request = job.number;
     let (connection, response) = connection.send_request(&mut board, cx, copy)?;
-    if tables.inner.insert(response.ticket(), ticket).is_err() {
-        return Err(Error::NoMemory);
-    }
+    tables.inner.insert(response.ticket(), ticket)?;
     let job = Job {
         number: job.number,
         request: job.request,
@@ -69,9 +63,7 @@ fn hold<Req: ComposeRequest, S: OneStream<Req>, W: Words>(
         end: job.end,
         stage: Stage::Held { place, response },
     };
-    if tables.jobs.insert(ticket, job).is_err() {
-        return Err(Error::NoMemory);
-    }
+    tables.jobs.insert(ticket, job)?;
     put_back(tables, cx, place, connection, &mut board)?;
     tables.board = board;
     Ok(())
@@ -85,19 +77,12 @@ fn open_next<Req: ComposeRequest, S: OneStream<Req>, W: Words>(
     ticket: u64,
     job: Job<Req>,
 ) -> Result<(), Error>
-    ensures lends { LendsTheSame cx.old cx.new }
-    ensures ok { Steps result (plain.opens S.machine server ticket job tables.old (view_of W.stream cx.old)) (tables.new, view_of W.stream cx.new) }
-    ensures numbers { NumbersRunOut result (plain.opens S.machine server ticket job tables.old (view_of W.stream cx.old)) }
-    ensures want { IfErr result IsWant }
+    ensures follows { Follows W.stream cx.old cx.new result (plain.opens S.machine server ticket job tables.old) tables.new }
 {
-    let place = cx.place;
-    let Some(next) = place.checked_add(1) else {
-        return Err(Error::NumbersUsed);
-    };
+    let place = cx.draw_place()?;
     wait(tables, ticket, job)?;
     tables.opening = Some(place);
     cx.outs.push(Out::OpenStream { place, server })?;
-    cx.place = next;
     Ok(())
 }
 
@@ -109,10 +94,7 @@ fn go_on<Req: ComposeRequest, S: OneStream<Req>, W: Words>(
     ticket: u64,
     job: Job<Req>,
 ) -> Result<(), Error>
-    ensures lends { LendsTheSame cx.old cx.new }
-    ensures ok { Steps result (plain.goes_on S.machine server ticket job tables.old (view_of W.stream cx.old) tables.old.opening) (tables.new, view_of W.stream cx.new) }
-    ensures numbers { NumbersRunOut result (plain.goes_on S.machine server ticket job tables.old (view_of W.stream cx.old) tables.old.opening) }
-    ensures want { IfErr result IsWant }
+    ensures follows { Follows W.stream cx.old cx.new result (λ v. plain.goes_on S.machine server ticket job tables.old v tables.old.opening) tables.new }
 {
     match tables.opening {
         Some(_) => {
@@ -137,10 +119,7 @@ fn hand<Req: ComposeRequest, S: OneStream<Req>, W: Words>(
     ticket: u64,
     job: Job<Req>,
 ) -> Result<(), Error>
-    ensures lends { LendsTheSame cx.old cx.new }
-    ensures ok { Steps result (plain.hands S.machine server ticket job tables.old (view_of W.stream cx.old)) (tables.new, view_of W.stream cx.new) }
-    ensures numbers { NumbersRunOut result (plain.hands S.machine server ticket job tables.old (view_of W.stream cx.old)) }
-    ensures want { IfErr result IsWant }
+    ensures follows { Follows W.stream cx.old cx.new result (plain.hands S.machine server ticket job tables.old) tables.new }
 {
     match take_with_room(tables) {
         Some((place, connection)) => hold(tables, cx, ticket, job, place, connection),
@@ -157,26 +136,17 @@ pub(crate) fn take_on<Req: ComposeRequest, S: OneStream<Req>, W: Words>(
     cx: &mut Cx<'_, W>,
     request: Req,
 ) -> Result<u64, Error>
-    ensures lends { LendsTheSame cx.old cx.new }
-    ensures ok { Steps result (plain.takes S.machine server config.now shut request tables.old (view_of W.stream cx.old)) (tables.new, view_of W.stream cx.new) }
+    ensures follows { Follows W.stream cx.old cx.new result (plain.takes S.machine server config.now shut request tables.old) tables.new }
     ensures ticket { IfOk result (λ ticket. ticket ≡ cx.old.ticket) }
-    ensures numbers { NumbersRunOut result (plain.takes S.machine server config.now shut request tables.old (view_of W.stream cx.old)) }
-    ensures want { IfErr result IsWant }
 {
-    let ticket = cx.ticket;
-    let Some(next) = ticket.checked_add(1) else {
-        return Err(Error::NumbersUsed);
-    };
-    cx.ticket = next;
+    let ticket = cx.draw_ticket()?;
     if shut {
         cx.board.put(ticket, Err(Error::ConnectionClosed))?;
         return Ok(ticket);
     }
     let due = u128::from(cx.now.0) + config.response_timeout().as_micros();
     let timer = cx.timers.set(due)?;
-    if tables.timers.insert(timer.0, ticket).is_err() {
-        return Err(Error::NoMemory);
-    }
+    tables.timers.insert(timer.0, ticket)?;
     let job = Job {
         number: cx.request,
         request,
@@ -195,10 +165,7 @@ fn hand_waiting<Req: ComposeRequest, S: OneStream<Req>, W: Words>(
     cx: &mut Cx<'_, W>,
     ticket: u64,
 ) -> Result<(), Error>
-    ensures lends { LendsTheSame cx.old cx.new }
-    ensures ok { Steps result (plain.at_ticket (plain.hands S.machine server) ticket tables.old (view_of W.stream cx.old)) (tables.new, view_of W.stream cx.new) }
-    ensures numbers { NumbersRunOut result (plain.at_ticket (plain.hands S.machine server) ticket tables.old (view_of W.stream cx.old)) }
-    ensures want { IfErr result IsWant }
+    ensures follows { Follows W.stream cx.old cx.new result (plain.at_ticket (plain.hands S.machine server) ticket tables.old) tables.new }
 {
     let Some(job) = tables.jobs.remove(ticket) else {
         return Ok(());
@@ -213,10 +180,7 @@ fn hand_each<Req: ComposeRequest, S: OneStream<Req>, W: Words>(
     cx: &mut Cx<'_, W>,
     waiting: BTreeSet<u64>,
 ) -> Result<(), Error>
-    ensures lends { LendsTheSame cx.old cx.new }
-    ensures ok { Steps result (plain.each (plain.hands S.machine server) waiting.keys tables.old (view_of W.stream cx.old)) (tables.new, view_of W.stream cx.new) }
-    ensures numbers { NumbersRunOut result (plain.each (plain.hands S.machine server) waiting.keys tables.old (view_of W.stream cx.old)) }
-    ensures want { IfErr result IsWant }
+    ensures follows { Follows W.stream cx.old cx.new result (plain.each (plain.hands S.machine server) waiting.keys tables.old) tables.new }
 {
     let mut waiting = waiting;
     while let Some(ticket) = waiting.pop_first() {
@@ -231,10 +195,7 @@ fn back_off_waiting<Req: ComposeRequest, S: OneStream<Req>, W: Words>(
     cx: &mut Cx<'_, W>,
     ticket: u64,
 ) -> Result<(), Error>
-    ensures lends { LendsTheSame cx.old cx.new }
-    ensures ok { Steps result (plain.at_ticket plain.backs_off ticket tables.old (view_of W.stream cx.old)) (tables.new, view_of W.stream cx.new) }
-    ensures numbers { NumbersRunOut result (plain.at_ticket plain.backs_off ticket tables.old (view_of W.stream cx.old)) }
-    ensures want { IfErr result IsWant }
+    ensures follows { Follows W.stream cx.old cx.new result (plain.at_ticket plain.backs_off ticket tables.old) tables.new }
 {
     let Some(job) = tables.jobs.remove(ticket) else {
         return Ok(());
@@ -248,10 +209,7 @@ fn back_off_each<Req: ComposeRequest, S: OneStream<Req>, W: Words>(
     cx: &mut Cx<'_, W>,
     tired: BTreeSet<u64>,
 ) -> Result<(), Error>
-    ensures lends { LendsTheSame cx.old cx.new }
-    ensures ok { Steps result (plain.each plain.backs_off tired.keys tables.old (view_of W.stream cx.old)) (tables.new, view_of W.stream cx.new) }
-    ensures numbers { NumbersRunOut result (plain.each plain.backs_off tired.keys tables.old (view_of W.stream cx.old)) }
-    ensures want { IfErr result IsWant }
+    ensures follows { Follows W.stream cx.old cx.new result (plain.each plain.backs_off tired.keys tables.old) tables.new }
 {
     let mut tired = tired;
     while let Some(ticket) = tired.pop_first() {
@@ -278,10 +236,7 @@ fn opened<Req: ComposeRequest, S: OneStream<Req>, W: Words>(
     cx: &mut Cx<'_, W>,
     place: u64,
 ) -> Result<(), Error>
-    ensures lends { LendsTheSame cx.old cx.new }
-    ensures ok { Steps result (plain.is_open S.machine server config.now.stream place tables.old (view_of W.stream cx.old)) (tables.new, view_of W.stream cx.new) }
-    ensures numbers { NumbersRunOut result (plain.is_open S.machine server config.now.stream place tables.old (view_of W.stream cx.old)) }
-    ensures want { IfErr result IsWant }
+    ensures follows { Follows W.stream cx.old cx.new result (plain.is_open S.machine server config.now.stream place tables.old) tables.new }
 {
     if !is_number(place, tables.opening) {
         return Ok(());
@@ -301,10 +256,7 @@ fn open_failed<Req: ComposeRequest, S: OneStream<Req>, W: Words>(
     cx: &mut Cx<'_, W>,
     place: u64,
 ) -> Result<(), Error>
-    ensures lends { LendsTheSame cx.old cx.new }
-    ensures ok { Steps result (plain.open_fails place tables.old (view_of W.stream cx.old)) (tables.new, view_of W.stream cx.new) }
-    ensures numbers { NumbersRunOut result (plain.open_fails place tables.old (view_of W.stream cx.old)) }
-    ensures want { IfErr result IsWant }
+    ensures follows { Follows W.stream cx.old cx.new result (plain.open_fails place tables.old) tables.new }
 {
     if !is_number(place, tables.opening) {
         return Ok(());
@@ -324,10 +276,7 @@ fn hear_at<Req: ComposeRequest, S: OneStream<Req>, W: Words>(
     place: u64,
     signal: Signal<'_>,
 ) -> Result<(), Error>
-    ensures lends { LendsTheSame cx.old cx.new }
-    ensures ok { Steps result (plain.calls_at S.machine place (S.machine.calls.step (heard signal.entry)) tables.old (view_of W.stream cx.old)) (tables.new, view_of W.stream cx.new) }
-    ensures numbers { NumbersRunOut result (plain.calls_at S.machine place (S.machine.calls.step (heard signal.entry)) tables.old (view_of W.stream cx.old)) }
-    ensures want { IfErr result IsWant }
+    ensures follows { Follows W.stream cx.old cx.new result (plain.calls_at S.machine place (S.machine.calls.step (heard signal.entry)) tables.old) tables.new }
 {
     let Some(connection) = take_at(tables, place) else {
         return Ok(());
@@ -346,10 +295,7 @@ fn give_up_at<Req: ComposeRequest, S: OneStream<Req>, W: Words>(
     place: u64,
     response: client_stream::Request,
 ) -> Result<(), Error>
-    ensures lends { LendsTheSame cx.old cx.new }
-    ensures ok { Steps result (plain.gives_up_at S.machine place response tables.old (view_of W.stream cx.old)) (tables.new, view_of W.stream cx.new) }
-    ensures numbers { NumbersRunOut result (plain.gives_up_at S.machine place response tables.old (view_of W.stream cx.old)) }
-    ensures want { IfErr result IsWant }
+    ensures follows { Follows W.stream cx.old cx.new result (plain.gives_up_at S.machine place response tables.old) tables.new }
 {
     let _ = tables.inner.remove(response.ticket());
     let Some(connection) = take_at(tables, place) else {
@@ -369,10 +315,7 @@ fn leave<Req: ComposeRequest, S: OneStream<Req>, W: Words>(
     ticket: u64,
     stage: Stage,
 ) -> Result<(), Error>
-    ensures lends { LendsTheSame cx.old cx.new }
-    ensures ok { Steps result (plain.leaves S.machine ticket stage tables.old (view_of W.stream cx.old)) (tables.new, view_of W.stream cx.new) }
-    ensures numbers { NumbersRunOut result (plain.leaves S.machine ticket stage tables.old (view_of W.stream cx.old)) }
-    ensures want { IfErr result IsWant }
+    ensures follows { Follows W.stream cx.old cx.new result (plain.leaves S.machine ticket stage tables.old) tables.new }
 {
     match stage {
         Stage::Waiting => {
@@ -394,10 +337,7 @@ pub(crate) fn give_up<Req: ComposeRequest, S: OneStream<Req>, W: Words>(
     cx: &mut Cx<'_, W>,
     ticket: u64,
 ) -> Result<(), Error>
-    ensures lends { LendsTheSame cx.old cx.new }
-    ensures ok { Steps result (plain.drops S.machine ticket tables.old (view_of W.stream cx.old)) (tables.new, view_of W.stream cx.new) }
-    ensures numbers { NumbersRunOut result (plain.drops S.machine ticket tables.old (view_of W.stream cx.old)) }
-    ensures want { IfErr result IsWant }
+    ensures follows { Follows W.stream cx.old cx.new result (plain.drops S.machine ticket tables.old) tables.new }
 {
     let Some(job) = tables.jobs.remove(ticket) else {
         return Ok(());
@@ -414,10 +354,7 @@ fn time_out<Req: ComposeRequest, S: OneStream<Req>, W: Words>(
     ticket: u64,
     job: Job<Req>,
 ) -> Result<(), Error>
-    ensures lends { LendsTheSame cx.old cx.new }
-    ensures ok { Steps result (plain.times_out S.machine ticket job tables.old (view_of W.stream cx.old)) (tables.new, view_of W.stream cx.new) }
-    ensures numbers { NumbersRunOut result (plain.times_out S.machine ticket job tables.old (view_of W.stream cx.old)) }
-    ensures want { IfErr result IsWant }
+    ensures follows { Follows W.stream cx.old cx.new result (plain.times_out S.machine ticket job tables.old) tables.new }
 {
     leave(tables, cx, ticket, job.stage)?;
     cx.board.put(ticket, Err(Error::StreamReadTimeout))?;
@@ -432,10 +369,7 @@ fn fire<Req: ComposeRequest, S: OneStream<Req>, W: Words>(
     timer: u64,
     ticket: u64,
 ) -> Result<(), Error>
-    ensures lends { LendsTheSame cx.old cx.new }
-    ensures ok { Steps result (plain.at_ticket (plain.fires S.machine server timer) ticket tables.old (view_of W.stream cx.old)) (tables.new, view_of W.stream cx.new) }
-    ensures numbers { NumbersRunOut result (plain.at_ticket (plain.fires S.machine server timer) ticket tables.old (view_of W.stream cx.old)) }
-    ensures want { IfErr result IsWant }
+    ensures follows { Follows W.stream cx.old cx.new result (plain.at_ticket (plain.fires S.machine server timer) ticket tables.old) tables.new }
 {
     let Some(job) = tables.jobs.remove(ticket) else {
         return Ok(());
@@ -454,10 +388,7 @@ fn due<Req: ComposeRequest, S: OneStream<Req>, W: Words>(
     cx: &mut Cx<'_, W>,
     timer: u64,
 ) -> Result<(), Error>
-    ensures lends { LendsTheSame cx.old cx.new }
-    ensures ok { Steps result (plain.due S.machine server timer tables.old (view_of W.stream cx.old)) (tables.new, view_of W.stream cx.new) }
-    ensures numbers { NumbersRunOut result (plain.due S.machine server timer tables.old (view_of W.stream cx.old)) }
-    ensures want { IfErr result IsWant }
+    ensures follows { Follows W.stream cx.old cx.new result (plain.due S.machine server timer tables.old) tables.new }
 {
     match tables.timers.remove(timer) {
         Some(ticket) => fire(tables, server, cx, timer, ticket),
@@ -490,10 +421,7 @@ fn told<Req: ComposeRequest, S: OneStream<Req>, W: Words>(
     cx: &mut Cx<'_, W>,
     what: &What,
 ) -> Result<(), Error>
-    ensures lends { LendsTheSame cx.old cx.new }
-    ensures ok { Steps result (plain.tells S.machine server config.now what.now tables.old (view_of W.stream cx.old)) (tables.new, view_of W.stream cx.new) }
-    ensures numbers { NumbersRunOut result (plain.tells S.machine server config.now what.now tables.old (view_of W.stream cx.old)) }
-    ensures want { IfErr result IsWant }
+    ensures follows { Follows W.stream cx.old cx.new result (plain.tells S.machine server config.now what.now tables.old) tables.new }
 {
     match what {
         What::Opened { place } => opened(tables, server, config, cx, *place),
@@ -513,10 +441,7 @@ pub(crate) fn hear<Req: ComposeRequest, S: OneStream<Req>, W: Words>(
     cx: &mut Cx<'_, W>,
     signal: Signal<'_>,
 ) -> Result<(), Error>
-    ensures lends { LendsTheSame cx.old cx.new }
-    ensures ok { Steps result (plain.hears S.machine server config.now (heard signal.entry) tables.old (view_of W.stream cx.old)) (tables.new, view_of W.stream cx.new) }
-    ensures numbers { NumbersRunOut result (plain.hears S.machine server config.now (heard signal.entry) tables.old (view_of W.stream cx.old)) }
-    ensures want { IfErr result IsWant }
+    ensures follows { Follows W.stream cx.old cx.new result (plain.hears S.machine server config.now (heard signal.entry) tables.old) tables.new }
 {
     match signal {
         Signal::Told(what) => told(tables, server, config, cx, what),

@@ -1,10 +1,8 @@
 //! The requests that wait for their results, where each is, and the connections.
 
-ghost use Rattle.std.specs.Prelude.{◌≡◌, ◌+◌, Some, Err, IfErr, IfOk, OnOk, Option, Result, Ok, [], option_map, map};
-ghost use Rattle.client_request.specs.Calls.{Steps, NumbersRunOut};
-ghost use Rattle.client_request.specs.Cx.{view_of, view_below, heard, LendsTheSame};
+ghost use Rattle.std.specs.Prelude.{◌≡◌, Some, Err, OnOk, Option, Result, Ok, []};
+ghost use Rattle.client_request.specs.Calls.{Follows};
 ghost use Rattle.client_request.specs.Numbered.{entry_at};
-ghost use Rattle.client_request.specs.Timers.{IsWant};
 ghost use Rattle.client_multi.specs.MultiStream as plain;
 
 use crate::multi_stream::job::{Job, Stage};
@@ -99,12 +97,8 @@ pub(crate) fn wait<Req: ComposeRequest, S: OneStream<Req>>(
     ensures { OnOk result (tables.new ≡ plain.waits ticket job tables.old) }
 {
     job.stage = Stage::Waiting;
-    if tables.jobs.insert(ticket, job).is_err() {
-        return Err(NoMemory);
-    }
-    if tables.waiting.insert(ticket).is_err() {
-        return Err(NoMemory);
-    }
+    tables.jobs.insert(ticket, job)?;
+    tables.waiting.insert(ticket)?;
     Ok(())
 }
 
@@ -126,12 +120,8 @@ fn rest<Req: ComposeRequest, S: OneStream<Req>>(
     ensures { OnOk result (tables.new ≡ plain.rests ticket job timer tables.old) }
 {
     job.stage = Stage::Resting { timer };
-    if tables.jobs.insert(ticket, job).is_err() {
-        return Err(NoMemory);
-    }
-    if tables.timers.insert(timer, ticket).is_err() {
-        return Err(NoMemory);
-    }
+    tables.jobs.insert(ticket, job)?;
+    tables.timers.insert(timer, ticket)?;
     Ok(())
 }
 
@@ -142,10 +132,7 @@ pub(crate) fn back_off<Req: ComposeRequest, S: OneStream<Req>, W: Words>(
     ticket: u64,
     job: Job<Req>,
 ) -> Result<(), Error>
-    ensures lends { LendsTheSame cx.old cx.new }
-    ensures ok { Steps result (plain.backs_off ticket job tables.old (view_of W.stream cx.old)) (tables.new, view_of W.stream cx.new) }
-    ensures numbers { NumbersRunOut result (plain.backs_off ticket job tables.old (view_of W.stream cx.old)) }
-    ensures want { IfErr result IsWant }
+    ensures follows { Follows W.stream cx.old cx.new result (plain.backs_off ticket job tables.old) tables.new }
 {
     let job = once_more(job);
     let word = cx.words.next();
@@ -172,10 +159,7 @@ fn get_part<Req: ComposeRequest, S: OneStream<Req>, W: Words>(
     job: Job<Req>,
     part: Result<Option<Message>, Error>,
 ) -> Result<(), Error>
-    ensures lends { LendsTheSame cx.old cx.new }
-    ensures ok { Steps result (plain.gets_part (plain.is_result part) ticket job part tables.old (view_of W.stream cx.old)) (tables.new, view_of W.stream cx.new) }
-    ensures numbers { NumbersRunOut result (plain.gets_part (plain.is_result part) ticket job part tables.old (view_of W.stream cx.old)) }
-    ensures want { IfErr result IsWant }
+    ensures follows { Follows W.stream cx.old cx.new result (plain.gets_part (plain.is_result part) ticket job part tables.old) tables.new }
 {
     if is_result(&part) {
         let _ = tables.timers.remove(job.end);
@@ -192,10 +176,7 @@ fn collect_one<Req: ComposeRequest, S: OneStream<Req>, W: Words>(
     cx: &mut Cx<'_, W>,
     posted: Posted,
 ) -> Result<(), Error>
-    ensures lends { LendsTheSame cx.old cx.new }
-    ensures ok { Steps result (plain.collects_one posted tables.old (view_of W.stream cx.old)) (tables.new, view_of W.stream cx.new) }
-    ensures numbers { NumbersRunOut result (plain.collects_one posted tables.old (view_of W.stream cx.old)) }
-    ensures want { IfErr result IsWant }
+    ensures follows { Follows W.stream cx.old cx.new result (plain.collects_one posted tables.old) tables.new }
 {
     let Posted {
         ticket: inner,
@@ -216,10 +197,7 @@ fn collect<Req: ComposeRequest, S: OneStream<Req>, W: Words>(
     cx: &mut Cx<'_, W>,
     board: &mut Board,
 ) -> Result<(), Error>
-    ensures lends { LendsTheSame cx.old cx.new }
-    ensures ok { Steps result (plain.collects board.old tables.old (view_of W.stream cx.old)) (tables.new, view_of W.stream cx.new) }
-    ensures numbers { NumbersRunOut result (plain.collects board.old tables.old (view_of W.stream cx.old)) }
-    ensures want { IfErr result IsWant }
+    ensures follows { Follows W.stream cx.old cx.new result (plain.collects board.old tables.old) tables.new }
 {
     while let Some(posted) = board.take_first() {
         collect_one(tables, cx, posted)?;
@@ -236,13 +214,9 @@ pub(crate) fn keep<Req: ComposeRequest, S: OneStream<Req>>(
     ensures { OnOk result (tables.new ≡ plain.keeps S.machine place connection tables.old) }
 {
     if let Some(timer) = connection.timer() {
-        if tables.watches.insert(timer, place).is_err() {
-            return Err(NoMemory);
-        }
+        tables.watches.insert(timer, place)?;
     }
-    if tables.connections.insert(place, connection).is_err() {
-        return Err(NoMemory);
-    }
+    tables.connections.insert(place, connection)?;
     Ok(())
 }
 
@@ -270,10 +244,7 @@ pub(crate) fn put_back<Req: ComposeRequest, S: OneStream<Req>, W: Words>(
     connection: S,
     board: &mut Board,
 ) -> Result<(), Error>
-    ensures lends { LendsTheSame cx.old cx.new }
-    ensures ok { Steps result (plain.collects board.old (plain.with_connection S.machine place connection tables.old) (view_of W.stream cx.old)) (tables.new, view_of W.stream cx.new) }
-    ensures numbers { NumbersRunOut result (plain.collects board.old (plain.with_connection S.machine place connection tables.old) (view_of W.stream cx.old)) }
-    ensures want { IfErr result IsWant }
+    ensures follows { Follows W.stream cx.old cx.new result (plain.collects board.old (plain.with_connection S.machine place connection tables.old)) tables.new }
 {
     if !connection.is_closed() {
         keep(tables, place, connection)?;
