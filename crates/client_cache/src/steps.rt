@@ -8,6 +8,7 @@ ghost use Rattle.headline.specs.Keys.{question_or};
 ghost use Rattle.client_views.specs.Key.{key_in};
 ghost use Rattle.client_cache.specs.Keeping as keeping;
 ghost use Rattle.client_cache.specs.Plain as plain;
+ghost use Rattle.client_cache.specs.Plain.{read};
 
 use crate::connection::Request;
 use crate::entry::Asked;
@@ -179,8 +180,8 @@ fn send<CR: ComposeRequest, U: SendRequest<CR>, W: Words>(
     ticket: u64,
     request: CR,
 ) -> Result<Option<U::Response>, Error>
-    ensures holds { Holds W.stream cx.old cx.new result (plain.send (plain.read CR.requests CR.header_of CR.is_dnssec_ok) U.transport ticket request below.old kept.old) (below.new, kept.new) U.holds_failed below.old below.new }
-    ensures response { IfOk result (λ r. r ≡ plain.response_to (plain.read CR.requests CR.header_of CR.is_dnssec_ok) U.transport request below.old kept.old (view_of W.stream cx.old)) }
+    ensures holds { Holds W.stream cx.old cx.new result (plain.send (read CR.requests CR.header_of CR.is_dnssec_ok) U.transport ticket request below.old kept.old) (below.new, kept.new) U.holds_failed below.old below.new }
+    ensures response { IfOk result (λ r. r ≡ plain.response_to (read CR.requests CR.header_of CR.is_dnssec_ok) U.transport request below.old kept.old (view_of W.stream cx.old)) }
 {
     let way = way_of(
         &mut kept.table,
@@ -200,8 +201,8 @@ pub(crate) fn take_on<CR: ComposeRequest, U: SendRequest<CR>, W: Words>(
     cx: &mut Cx<'_, W>,
     request: CR,
 ) -> Result<Request<U::Response>, Error>
-    ensures holds { Holds W.stream cx.old cx.new result (plain.takes (plain.read CR.requests CR.header_of CR.is_dnssec_ok) U.transport request below.old kept.old) (below.new, kept.new) U.holds_failed below.old below.new }
-    ensures response { IfOk result (λ r. r ≡ plain.response_of (plain.read CR.requests CR.header_of CR.is_dnssec_ok) U.transport request below.old kept.old (view_of W.stream cx.old)) }
+    ensures holds { Holds W.stream cx.old cx.new result (plain.takes (read CR.requests CR.header_of CR.is_dnssec_ok) U.transport request below.old kept.old) (below.new, kept.new) U.holds_failed below.old below.new }
+    ensures response { IfOk result (λ r. r ≡ plain.response_of (read CR.requests CR.header_of CR.is_dnssec_ok) U.transport request below.old kept.old (view_of W.stream cx.old)) }
 {
     let ticket = cx.draw_ticket()?;
     let response = send(below, kept, board, cx, ticket, request)?;
