@@ -14,7 +14,8 @@ ghost use Rattle.client_cache.specs.Plain as plain;
 use crate::settling::Kept;
 use crate::steps::{give_up, hear, take_on};
 use client_request::{
-    Board, ComposeRequest, Cx, Error, GetResponse, Poll, SendRequest, Signal, Words, take_response,
+    Board, ComposeRequest, Cx, Error, GetResponse, Latch, Poll, SendRequest, Signal, Words,
+    take_response,
 };
 use client_settings::cache::Config;
 use dns_base::{Message, NoMemory};
@@ -29,7 +30,7 @@ pub struct Connection<CR, U: SendRequest<CR>> {
     kept: Kept,
     /// Where the transport below posts during a call, kept for its memory alone: each call clears it first.
     board: Board,
-    failed: bool,
+    failed: Latch,
     requests: PhantomData<CR>,
 }
 
@@ -74,7 +75,7 @@ impl<CR, U: SendRequest<CR> + Drop> Connection<CR, U> {
             upstream,
             kept,
             board: Board::new(alloc),
-            failed: false,
+            failed: Latch::new(),
             requests: PhantomData,
         })
     }
@@ -151,9 +152,7 @@ impl<CR: ComposeRequest, U: SendRequest<CR>> SendRequest<CR> for Connection<CR, 
         cx: &mut Cx<'_, W>,
         request: CR,
     ) -> Result<Request<U::Response>, Error> {
-        if self.failed {
-            return Err(Error::Failed);
-        }
+        self.failed.check()?;
         let result = take_on(
             &mut self.upstream,
             &mut self.kept,
@@ -161,16 +160,11 @@ impl<CR: ComposeRequest, U: SendRequest<CR>> SendRequest<CR> for Connection<CR, 
             cx,
             request,
         );
-        if result.is_err() {
-            self.failed = true;
-        }
-        result
+        self.failed.keep(result)
     }
 
     fn step<W: Words>(&mut self, cx: &mut Cx<'_, W>, signal: Signal<'_>) -> Result<(), Error> {
-        if self.failed {
-            return Err(Error::Failed);
-        }
+        self.failed.check()?;
         let result = hear(
             &mut self.upstream,
             &mut self.kept,
@@ -178,10 +172,7 @@ impl<CR: ComposeRequest, U: SendRequest<CR>> SendRequest<CR> for Connection<CR, 
             cx,
             signal,
         );
-        if result.is_err() {
-            self.failed = true;
-        }
-        result
+        self.failed.keep(result)
     }
 
     fn cancel<W: Words>(
@@ -189,9 +180,7 @@ impl<CR: ComposeRequest, U: SendRequest<CR>> SendRequest<CR> for Connection<CR, 
         cx: &mut Cx<'_, W>,
         response: Request<U::Response>,
     ) -> Result<(), Error> {
-        if self.failed {
-            return Err(Error::Failed);
-        }
+        self.failed.check()?;
         let result = give_up(
             &mut self.upstream,
             &mut self.kept,
@@ -199,9 +188,6 @@ impl<CR: ComposeRequest, U: SendRequest<CR>> SendRequest<CR> for Connection<CR, 
             cx,
             response.below,
         );
-        if result.is_err() {
-            self.failed = true;
-        }
-        result
+        self.failed.keep(result)
     }
 }

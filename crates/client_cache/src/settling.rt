@@ -1,6 +1,6 @@
 //! What is kept beside the transport below, and how its results are given.
 
-ghost use Rattle.std.specs.Prelude.{◌≡◌, IfOk, OnOk, IfErr, Ok, Err};
+ghost use Rattle.std.specs.Prelude.{◌≡◌, IfOk, OnOk, Ok, Err};
 ghost use Rattle.client_request.specs.Cx.{view_of, LendsTheSame};
 ghost use Rattle.client_cache.specs.Plain as plain;
 

@@ -1,14 +1,14 @@
 //! What each call of a cache does.
 
-ghost use Rattle.std.specs.Prelude.{◌≡◌, true, OnOk, IfOk, IfErr, IsErrOf, [], Some, Ok, Err};
-ghost use Rattle.client_request.specs.Calls.{Steps, NumbersRunOut};
-ghost use Rattle.client_request.specs.Cx.{view_of, heard, LendsTheSame};
-ghost use Rattle.client_request.specs.Response.{IsRefusal};
+ghost use Rattle.std.specs.Prelude.{◌≡◌, OnOk, IfOk, [], Some, Ok, Err};
+ghost use Rattle.client_request.specs.Calls.{Holds};
+ghost use Rattle.client_request.specs.Cx.{view_of, heard};
 ghost use Rattle.dns_base.specs.Message.{sole_question};
 ghost use Rattle.headline.specs.Keys.{question_or};
 ghost use Rattle.client_views.specs.Key.{key_in};
 ghost use Rattle.client_cache.specs.Keeping as keeping;
 ghost use Rattle.client_cache.specs.Plain as plain;
+ghost use Rattle.client_cache.specs.Plain.{read};
 
 use crate::connection::Request;
 use crate::entry::Asked;
@@ -135,20 +135,13 @@ fn hand_on<CR: ComposeRequest, U: SendRequest<CR>, W: Words>(
     key: Option<Key>,
     request: CR,
 ) -> Result<U::Response, Error>
-    ensures lends { LendsTheSame cx.old cx.new }
-    ensures ok { Steps result (plain.hands_on U.transport ticket key request below.old kept.old (view_of W.stream cx.old)) ((below.new, kept.new), view_of W.stream cx.new) }
+    ensures holds { Holds W.stream cx.old cx.new result (plain.hands_on U.transport ticket key request below.old kept.old) (below.new, kept.new) U.holds_failed below.old below.new }
     ensures response { IfOk result (λ r. r ≡ U.transport.response request below.old (plain.onto [] (view_of W.stream cx.old))) }
-    ensures numbers { NumbersRunOut result (plain.hands_on U.transport ticket key request below.old kept.old (view_of W.stream cx.old)) }
-    ensures keeps { OnOk result (U.holds_failed below.new ≡ U.holds_failed below.old) }
-    ensures refused { IfErr result IsRefusal }
-    ensures failed_only { IsErrOf result Error.Failed → U.holds_failed below.old ≡ true }
 {
     board.clear();
     let response = send_below(below, board, cx, request)?;
     let job = Job { ticket, key };
-    if kept.waiting.insert(response.ticket(), job).is_err() {
-        return Err(Error::NoMemory);
-    }
+    kept.waiting.insert(response.ticket(), job)?;
     settle_all(kept, cx, board)?;
     Ok(response)
 }
@@ -163,13 +156,8 @@ fn go_on<CR: ComposeRequest, U: SendRequest<CR>, W: Words>(
     way: Way,
     request: CR,
 ) -> Result<Option<U::Response>, Error>
-    ensures lends { LendsTheSame cx.old cx.new }
-    ensures ok { Steps result (plain.goes U.transport ticket request below.old kept.old (view_of W.stream cx.old) way) ((below.new, kept.new), view_of W.stream cx.new) }
+    ensures holds { Holds W.stream cx.old cx.new result (λ v. plain.goes U.transport ticket request below.old kept.old v way) (below.new, kept.new) U.holds_failed below.old below.new }
     ensures response { IfOk result (λ r. r ≡ plain.response_below U.transport request below.old (view_of W.stream cx.old) way) }
-    ensures numbers { NumbersRunOut result (plain.goes U.transport ticket request below.old kept.old (view_of W.stream cx.old) way) }
-    ensures keeps { OnOk result (U.holds_failed below.new ≡ U.holds_failed below.old) }
-    ensures refused { IfErr result IsRefusal }
-    ensures failed_only { IsErrOf result Error.Failed → U.holds_failed below.old ≡ true }
 {
     match way {
         Way::Given(outcome) => {
@@ -192,13 +180,8 @@ fn send<CR: ComposeRequest, U: SendRequest<CR>, W: Words>(
     ticket: u64,
     request: CR,
 ) -> Result<Option<U::Response>, Error>
-    ensures lends { LendsTheSame cx.old cx.new }
-    ensures ok { Steps result (plain.send (plain.read CR.requests CR.header_of CR.is_dnssec_ok) U.transport ticket request below.old kept.old (view_of W.stream cx.old)) ((below.new, kept.new), view_of W.stream cx.new) }
-    ensures response { IfOk result (λ r. r ≡ plain.response_to (plain.read CR.requests CR.header_of CR.is_dnssec_ok) U.transport request below.old kept.old (view_of W.stream cx.old)) }
-    ensures numbers { NumbersRunOut result (plain.send (plain.read CR.requests CR.header_of CR.is_dnssec_ok) U.transport ticket request below.old kept.old (view_of W.stream cx.old)) }
-    ensures keeps { OnOk result (U.holds_failed below.new ≡ U.holds_failed below.old) }
-    ensures refused { IfErr result IsRefusal }
-    ensures failed_only { IsErrOf result Error.Failed → U.holds_failed below.old ≡ true }
+    ensures holds { Holds W.stream cx.old cx.new result (plain.send (read CR.requests CR.header_of CR.is_dnssec_ok) U.transport ticket request below.old kept.old) (below.new, kept.new) U.holds_failed below.old below.new }
+    ensures response { IfOk result (λ r. r ≡ plain.response_to (read CR.requests CR.header_of CR.is_dnssec_ok) U.transport request below.old kept.old (view_of W.stream cx.old)) }
 {
     let way = way_of(
         &mut kept.table,
@@ -218,19 +201,10 @@ pub(crate) fn take_on<CR: ComposeRequest, U: SendRequest<CR>, W: Words>(
     cx: &mut Cx<'_, W>,
     request: CR,
 ) -> Result<Request<U::Response>, Error>
-    ensures lends { LendsTheSame cx.old cx.new }
-    ensures ok { Steps result (plain.takes (plain.read CR.requests CR.header_of CR.is_dnssec_ok) U.transport request below.old kept.old (view_of W.stream cx.old)) ((below.new, kept.new), view_of W.stream cx.new) }
-    ensures response { IfOk result (λ r. r ≡ plain.response_of (plain.read CR.requests CR.header_of CR.is_dnssec_ok) U.transport request below.old kept.old (view_of W.stream cx.old)) }
-    ensures numbers { NumbersRunOut result (plain.takes (plain.read CR.requests CR.header_of CR.is_dnssec_ok) U.transport request below.old kept.old (view_of W.stream cx.old)) }
-    ensures keeps { OnOk result (U.holds_failed below.new ≡ U.holds_failed below.old) }
-    ensures refused { IfErr result IsRefusal }
-    ensures failed_only { IsErrOf result Error.Failed → U.holds_failed below.old ≡ true }
+    ensures holds { Holds W.stream cx.old cx.new result (plain.takes (read CR.requests CR.header_of CR.is_dnssec_ok) U.transport request below.old kept.old) (below.new, kept.new) U.holds_failed below.old below.new }
+    ensures response { IfOk result (λ r. r ≡ plain.response_of (read CR.requests CR.header_of CR.is_dnssec_ok) U.transport request below.old kept.old (view_of W.stream cx.old)) }
 {
-    let ticket = cx.ticket;
-    let Some(next) = ticket.checked_add(1) else {
-        return Err(Error::NumbersUsed);
-    };
-    cx.ticket = next;
+    let ticket = cx.draw_ticket()?;
     let response = send(below, kept, board, cx, ticket, request)?;
     Ok(Request {
         ticket,
@@ -247,12 +221,7 @@ pub(crate) fn hear<CR: ComposeRequest, U: SendRequest<CR>, W: Words>(
     cx: &mut Cx<'_, W>,
     signal: Signal<'_>,
 ) -> Result<(), Error>
-    ensures lends { LendsTheSame cx.old cx.new }
-    ensures ok { Steps result (plain.hears U.transport (heard signal.entry) below.old kept.old (view_of W.stream cx.old)) ((below.new, kept.new), view_of W.stream cx.new) }
-    ensures numbers { NumbersRunOut result (plain.hears U.transport (heard signal.entry) below.old kept.old (view_of W.stream cx.old)) }
-    ensures keeps { OnOk result (U.holds_failed below.new ≡ U.holds_failed below.old) }
-    ensures refused { IfErr result IsRefusal }
-    ensures failed_only { IsErrOf result Error.Failed → U.holds_failed below.old ≡ true }
+    ensures holds { Holds W.stream cx.old cx.new result (plain.hears U.transport (heard signal.entry) below.old kept.old) (below.new, kept.new) U.holds_failed below.old below.new }
 {
     board.clear();
     step_below(below, board, cx, signal)?;
@@ -268,12 +237,7 @@ pub(crate) fn give_up<CR: ComposeRequest, U: SendRequest<CR>, W: Words>(
     cx: &mut Cx<'_, W>,
     response: Option<U::Response>,
 ) -> Result<(), Error>
-    ensures lends { LendsTheSame cx.old cx.new }
-    ensures ok { Steps result (plain.drops_below U.transport U.Response.ticket_of below.old kept.old (view_of W.stream cx.old) response) ((below.new, kept.new), view_of W.stream cx.new) }
-    ensures numbers { NumbersRunOut result (plain.drops_below U.transport U.Response.ticket_of below.old kept.old (view_of W.stream cx.old) response) }
-    ensures keeps { OnOk result (U.holds_failed below.new ≡ U.holds_failed below.old) }
-    ensures refused { IfErr result IsRefusal }
-    ensures failed_only { IsErrOf result Error.Failed → U.holds_failed below.old ≡ true }
+    ensures holds { Holds W.stream cx.old cx.new result (λ v. plain.drops_below U.transport U.Response.ticket_of below.old kept.old v response) (below.new, kept.new) U.holds_failed below.old below.new }
 {
     let Some(response) = response else {
         return Ok(());
