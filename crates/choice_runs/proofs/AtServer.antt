@@ -5,6 +5,7 @@ use Rattle.std.proofs.lemmas.Option.{slice_get_within}
 use Rattle.client_request.specs.Timers.{TimerList}
 use Rattle.client_request.specs.View.{View}
 use Rattle.client_choice.specs.Servers.{Server}
+use Rattle.client_choice.proofs.At.{set_here, set_there}
 use Rattle.headline.specs.machine.Part.{Act}
 use Rattle.client_ties.specs.PartTie.{Phase}
 use Rattle.client_ties.specs.Sights.{sight, due_of, IsFair}
@@ -15,18 +16,6 @@ use Rattle.choice_runs.proofs.Opening.{below_up_to}
 use Rattle.choice_runs.specs.Servers.{State, Listed, AreTied, OthersAreTied, IsCalled, OthersStayTied}
 
 module _ {A : Type 0} where
-  pub set_here : (xs : List A) (i : ℕ) (a b : A) → slice_get xs i ≡ Some a → slice_get (set xs i b) i ≡ Some b
-  set_here [] i a b e = absurd (cc)
-  set_here (x ∷ xs) zero a b e = refl
-  set_here (x ∷ xs) (suc i) a b e = set_here xs i a b e
-
-  pub set_there : (xs : List A) (i j : ℕ) (b : A) → (i ≡ j → ⊥) → slice_get (set xs i b) j ≡ slice_get xs j
-  set_there [] i j b ne = refl
-  set_there (x ∷ xs) zero zero b ne = absurd (ne refl)
-  set_there (x ∷ xs) zero (suc j) b ne = refl
-  set_there (x ∷ xs) (suc i) zero b ne = refl
-  set_there (x ∷ xs) (suc i) (suc j) b ne = set_there xs i j b (λ e. ne (ap suc e))
-
   pub set_length : (xs : List A) (i : ℕ) (b : A) → length (set xs i b) ≡ length xs
   set_length [] i b = refl
   set_length (x ∷ xs) zero b = refl

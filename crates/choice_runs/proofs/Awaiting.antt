@@ -6,10 +6,10 @@ use Rattle.client_request.specs.Board.{Part}
 use Rattle.client_request.specs.Numbered.{puts, frees, entry_at}
 use Rattle.client_request.specs.Timers.{can_draw, with_timer}
 use Rattle.client_request.specs.View.{View, Transport, answers}
-use Rattle.client_choice.specs.Choice.{Choice, Job, rests, gives, all_gave, keeps, unarmed, stopped, judged, judges_each, drops_each, drops_response, gives_up, ends, noted, parted, begun, begun_at, begins}
+use Rattle.client_choice.specs.Choice.{Choice, ChoiceJob, rests, gives, all_gave, keeps, unarmed, stopped, judged, judges_each, drops_each, drops_response, gives_up, ends, noted, parted, begun, begun_at, begins}
 use Rattle.client_choice.specs.Servers as at
 use Rattle.client_choice.specs.Servers.{Server, starts_at, starts_found, drops_at, drops_found, hears_at, hears_found, judges, judges_found, disowned, disowned_at, owner, for_request, onto}
-use Rattle.client_choice.specs.declared.job.Entry.{Entry}
+use Rattle.client_choice.specs.declared.job.ListedServer.{ListedServer}
 use Rattle.client_choice.specs.declared.job.Started.{Started}
 use Rattle.client_choice.specs.declared.servers.Reply.{Reply}
 use Rattle.client_choice.specs.declared.servers.Reply.TheVariants.{Later, Now}
@@ -47,7 +47,7 @@ module _ {U : Type 0} where
       by (Some s) = set_length servers index (record s { waiting = frees lower s.waiting })
 
 module _ {R P : Type 0} (count : ℕ) where
-  pub awaited_puts : (t : ℕ) (job : Job R P) (es : List (ℕ × Job R P)) → IsAwaited count job → AreAwaited count es → AreAwaited count (puts t job es)
+  pub awaited_puts : (t : ℕ) (job : ChoiceJob R P) (es : List (ℕ × ChoiceJob R P)) → IsAwaited count job → AreAwaited count es → AreAwaited count (puts t job es)
   awaited_puts t job [] a all = (a, tt)
   awaited_puts t job (e ∷ es) a all = by (nat_cmp t e.0) (awaited_puts t job es a all.1)
     where
@@ -56,7 +56,7 @@ module _ {R P : Type 0} (count : ℕ) where
       by Equal ih = (a, all.1)
       by Greater ih = (all.0, ih)
 
-  pub awaited_frees : (t : ℕ) (es : List (ℕ × Job R P)) → AreAwaited count es → AreAwaited count (frees t es)
+  pub awaited_frees : (t : ℕ) (es : List (ℕ × ChoiceJob R P)) → AreAwaited count es → AreAwaited count (frees t es)
   awaited_frees t [] all = tt
   awaited_frees t (e ∷ es) all = by (is_eq (nat_cmp t e.0)) (awaited_frees t es all.1)
     where
@@ -64,40 +64,40 @@ module _ {R P : Type 0} (count : ℕ) where
       by true ih = all.1
       by false ih = (all.0, ih)
 
-  pub awaited_at : (t : ℕ) (job : Job R P) (es : List (ℕ × Job R P)) → AreAwaited count es → entry_at t es ≡ Some job → IsAwaited count job
+  pub awaited_at : (t : ℕ) (job : ChoiceJob R P) (es : List (ℕ × ChoiceJob R P)) → AreAwaited count es → entry_at t es ≡ Some job → IsAwaited count job
   awaited_at t job [] all e = absurd (cc)
   awaited_at t job (e ∷ es) all is = by (is_eq (nat_cmp t e.0)) is (awaited_at t job es all.1)
     where
       by : (b : Bool) → cond b (Some e.1) (entry_at t es) ≡ Some job → (entry_at t es ≡ Some job → IsAwaited count job) → IsAwaited count job
-      by true is ih = subst (λ (j : Job R P). IsAwaited count j) (same e.1 job is) all.0
+      by true is ih = subst (λ (j : ChoiceJob R P). IsAwaited count j) (same e.1 job is) all.0
         where
-          same : (a b : Job R P) → Some a ≡ Some b → a ≡ b
+          same : (a b : ChoiceJob R P) → Some a ≡ Some b → a ≡ b
           same a b e = cc
       by false is ih = ih is
 
   -- What is known of a request that is put back: where servers are left, the last one that was started owes its result.
-  pub record MayRest (job : Job R P) : Type 0 where
+  pub record MayRest (job : ChoiceJob R P) : Type 0 where
     pub last : (job.left ≡ [] → ⊥) → LastOwes job.started
     pub within : AreWithin count job.left
 
-  pub of_awaited : (job : Job R P) → IsAwaited count job → MayRest job
+  pub of_awaited : (job : ChoiceJob R P) → IsAwaited count job → MayRest job
   of_awaited job a = record { last = a.last; within = a.within }
 
   module _ {U : Type 0} where
     -- the choice is as it was, but for its table, its timers, and what the servers are
     pub with_jobs : (c d : Choice R U P) → length d.servers ≡ length c.servers → d.jobs ≡ c.jobs → Awaits count c → Awaits count d
-    with_jobs c d same jobs a = record { servers = same ∙ a.servers; jobs = subst (λ (js : List (ℕ × Job R P)). AreAwaited count js) (sym jobs) a.jobs }
+    with_jobs c d same jobs a = record { servers = same ∙ a.servers; jobs = subst (λ (js : List (ℕ × ChoiceJob R P)). AreAwaited count js) (sym jobs) a.jobs }
 
     abbrev pub Kept : Choice R U P → View → Type 0
     Kept d w = Awaits count d
 
-    pub rests_awaits : (t : ℕ) (job : Job R P) (c : Choice R U P) (v : View) → MayRest job → Awaits count c → Leads Kept (rests t job c v)
+    pub rests_awaits : (t : ℕ) (job : ChoiceJob R P) (c : Choice R U P) (v : View) → MayRest job → Awaits count c → Leads Kept (rests t job c v)
     rests_awaits t job c v m a = by (length job.left == 0) refl (all_gave job.started) refl
       where
         kept : OneOwes job.started → Awaits count (keeps t job c)
         kept o = record { servers = a.servers; jobs = awaited_puts t job c.jobs (record { one = o; last = m.last; within = m.within }) a.jobs }
 
-        some : (es : List Entry) → (length es == 0) ≡ false → es ≡ [] → ⊥
+        some : (es : List ListedServer) → (length es == 0) ≡ false → es ≡ [] → ⊥
         some [] n e = absurd (cc)
         some (e ∷ es) n q = cc
 
@@ -134,7 +134,7 @@ module _ {R P : Type 0} (count : ℕ) where
       gives_up_awaits started c v a = leads_map (SameLength c.servers) Kept (λ x. (record c { servers = x.0 }, x.1)) (drops_each below started c.servers v)
           (λ xs w l. with_jobs c (record c { servers = xs }) l refl a) (drops_each_length started c.servers v)
 
-      pub ends_awaits : (t giver : ℕ) (part : Part) (job : Job R P) (c : Choice R U P) (v : View) → Awaits count c → Leads Kept (ends below t giver part job c v)
+      pub ends_awaits : (t giver : ℕ) (part : Part) (job : ChoiceJob R P) (c : Choice R U P) (v : View) → Awaits count c → Leads Kept (ends below t giver part job c v)
       ends_awaits t giver part job c v a = gives_up_awaits job.started (unarmed job.timer (judged giver job v.now c)) (answers t part (stopped job.timer v))
           (with_jobs c (unarmed job.timer (judged giver job v.now c)) (judges_each_length giver v.now job.started c.servers) refl a)
 
@@ -154,12 +154,12 @@ module _ {R P : Type 0} (count : ℕ) where
               any (Some z) = tt
 
       -- A server was started: where it gave nothing, it owes its result.
-      pub record HasStarted (job : Job R P) (y : (Option Part × Job R P) × Choice R U P) (w : View) : Type 0 where
+      pub record HasStarted (job : ChoiceJob R P) (y : (Option Part × ChoiceJob R P) × Choice R U P) (w : View) : Type 0 where
         pub awaits : Awaits count y.1
         pub left : (y.0.1).left ≡ job.left
         pub owes : y.0.0 ≡ None → LastOwes (y.0.1).started
 
-      pub begins_awaits : (t : ℕ) (e : Entry) (job : Job R P) (c : Choice R U P) (v : View) → e.server < count → Awaits count c → Leads (HasStarted job) (begins below t e job c v)
+      pub begins_awaits : (t : ℕ) (e : ListedServer) (job : ChoiceJob R P) (c : Choice R U P) (v : View) → e.server < count → Awaits count c → Leads (HasStarted job) (begins below t e job c v)
       begins_awaits t e job c v lt a = leads_then (Replied c.servers) (HasStarted job) (begun below t e job c v) (starts_at below e.server t job.request c.servers (for_request job.number v))
           (λ y w r. then_arms y w r) (starts_reply e.server t job.request c.servers (for_request job.number v) (subst (λ n. e.server < n) (sym a.servers) lt))
         where
@@ -171,7 +171,7 @@ module _ {R P : Type 0} (count : ℕ) where
           then_arms : (y : Option (Reply P) × List (Server U)) (w : View) → Replied c.servers y w → Leads (HasStarted job) (begun below t e job c v (y, w))
           then_arms y w r = by (length job.left == 0) (can_draw w.timers.next)
             where
-              one : Job R P
+              one : ChoiceJob R P
               one = noted e.server v.now v.ticket (parted y.0).0 job
 
               said : (timer : Option ℕ) (timers : List (ℕ × ℕ)) (u : View) → HasStarted job (((parted y.0).1, record (noted e.server v.now v.ticket (parted y.0).0 job) { timer = timer }), record c { servers = y.1; timers = timers }) u

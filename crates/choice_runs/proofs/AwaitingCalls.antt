@@ -6,10 +6,10 @@ use Rattle.client_request.specs.Numbered.{frees, entry_at}
 use Rattle.client_request.specs.View.{View, Heard, Transport}
 use Rattle.client_request.specs.declared.board.Posted.{Posted}
 use Rattle.client_settings.specs.Settings.{RedundantSettings}
-use Rattle.client_choice.specs.Choice.{Choice, Job, rests, unarmed, unset, stopped, ends, put_off, is_better, is_deferred, is_last, is_of, silenced, disarmed, goes_on, begins, runs, puts_off, gets, settled, settles_job, settles_owner, settles, settles_all, without_owner, fresh_job, fires, takes_on, drops, drops_job, hears_one, hears_some, hears_all}
+use Rattle.client_choice.specs.Choice.{Choice, ChoiceJob, rests, unarmed, unset, stopped, ends, put_off, is_better, is_deferred, is_last, is_of, silenced, disarmed, goes_on, begins, runs, puts_off, gets, settled, settles_job, settles_owner, settles, settles_all, without_owner, fresh_job, fires, takes_on, drops, drops_job, hears_one, hears_some, hears_all}
 use Rattle.client_choice.specs.Servers as at
 use Rattle.client_choice.specs.Servers.{Server, hears_at, hears_found, disowned, owner}
-use Rattle.client_choice.specs.declared.job.Entry.{Entry}
+use Rattle.client_choice.specs.declared.job.ListedServer.{ListedServer}
 use Rattle.client_choice.specs.declared.job.Started.{Started}
 use Rattle.client_ties.specs.PartTie.{Leads}
 use Rattle.choice_runs.specs.Awaiting.{LastOwes, AreWithin, IsAwaited, Awaits}
@@ -23,14 +23,14 @@ not_both b p q = cc
 
 module _ {R P : Type 0} where
   -- what is put off changes neither who was started nor who is left
-  put_off_left : (part : Part) (job : Job R P) → (put_off part job).left ≡ job.left
+  put_off_left : (part : Part) (job : ChoiceJob R P) → (put_off part job).left ≡ job.left
   put_off_left part job = by (is_better job.deferred part)
     where
       by : (b : Bool) → (if b then record job { deferred = Some part } else job).left ≡ job.left
       by true = refl
       by false = refl
 
-  put_off_started : (part : Part) (job : Job R P) → (put_off part job).started ≡ job.started
+  put_off_started : (part : Part) (job : ChoiceJob R P) → (put_off part job).started ≡ job.started
   put_off_started part job = by (is_better job.deferred part)
     where
       by : (b : Bool) → (if b then record job { deferred = Some part } else job).started ≡ job.started
@@ -39,18 +39,18 @@ module _ {R P : Type 0} where
 
 module _ {R U P : Type 0} (count : ℕ) (below : Transport R U P) (settings : RedundantSettings) where
   -- a request is put back, or goes on to be started at these servers
-  abbrev Going : List Entry → Type 0
-  Going es = (t : ℕ) (job : Job R P) (c : Choice R U P) (v : View) → job.left ≡ es → AreWithin count es → Awaits count c → Leads (Kept count) (runs below settings t es job c v)
+  abbrev Going : List ListedServer → Type 0
+  Going es = (t : ℕ) (job : ChoiceJob R P) (c : Choice R U P) (v : View) → job.left ≡ es → AreWithin count es → Awaits count c → Leads (Kept count) (runs below settings t es job c v)
 
-  none_left : (t : ℕ) (job : Job R P) (c : Choice R U P) (v : View) → job.left ≡ [] → Awaits count c → Leads (Kept count) (rests t job c v)
+  none_left : (t : ℕ) (job : ChoiceJob R P) (c : Choice R U P) (v : View) → job.left ≡ [] → Awaits count c → Leads (Kept count) (rests t job c v)
   none_left t job c v none a = rests_awaits count t job c v (record { last = λ some. absurd (some none); within = subst (AreWithin count) (sym none) tt }) a
 
-  pub runs_awaits : (es : List Entry) → Going es
+  pub runs_awaits : (es : List ListedServer) → Going es
   runs_awaits [] t job c v left within a = none_left t job c v left a
   runs_awaits (e ∷ es) t job c v left within a = leads_then (HasStarted count below (record job { left = es })) (Kept count) (λ x. goes_on below settings t e.server (runs below settings t es) x.0.0.1 x.0.1 x.1 x.0.0.0)
       (begins below t e (record job { left = es }) c v) (λ y w s. on y.0.1 y.1 w y.0.0 s.left s.owes s.awaits (runs_awaits es)) (begins_awaits count below t e (record job { left = es }) c v within.0 a)
     where
-      on : (one : Job R P) (d : Choice R U P) (w : View) (o : Option Part) → one.left ≡ es → (o ≡ None → LastOwes one.started) → Awaits count d → Going es → Leads (Kept count) (goes_on below settings t e.server (runs below settings t es) one d w o)
+      on : (one : ChoiceJob R P) (d : Choice R U P) (w : View) (o : Option Part) → one.left ≡ es → (o ≡ None → LastOwes one.started) → Awaits count d → Going es → Leads (Kept count) (goes_on below settings t e.server (runs below settings t es) one d w o)
       on one d w None same owes b ih = record {
         servers = b.servers;
         jobs = awaited_puts count t one d.jobs (record { one = one_of_last one.started (owes refl); last = λ some. owes refl; within = subst (AreWithin count) (sym same) within.1 }) b.jobs;
@@ -61,18 +61,18 @@ module _ {R U P : Type 0} (count : ℕ) (below : Transport R U P) (settings : Re
           (ends_awaits count below t e.server part one d w b)
 
   -- A request is in hand, of which one server gave its result.
-  record InHand (server : ℕ) (job : Job R P) : Type 0 where
+  record InHand (server : ℕ) (job : ChoiceJob R P) : Type 0 where
     last : is_last server job ≡ false → (job.left ≡ [] → ⊥) → LastOwes job.started
     within : AreWithin count job.left
 
-  puts_off_awaits : (t server : ℕ) (job : Job R P) (c : Choice R U P) (v : View) → InHand server job → Awaits count c → Leads (Kept count) (puts_off below settings t server job c v)
+  puts_off_awaits : (t server : ℕ) (job : ChoiceJob R P) (c : Choice R U P) (v : View) → InHand server job → Awaits count c → Leads (Kept count) (puts_off below settings t server job c v)
   puts_off_awaits t server job c v h a = by (is_last server job) refl
     where
       by : (b : Bool) → is_last server job ≡ b → Leads (Kept count) (if b then runs below settings t job.left (disarmed job) (unarmed job.timer c) (stopped job.timer v) else rests t job c v)
       by true is = runs_awaits job.left t (disarmed job) (unarmed job.timer c) (stopped job.timer v) refl h.within (with_jobs count c (unarmed job.timer c) refl refl a)
       by false is = rests_awaits count t job c v (record { last = h.last is; within = h.within }) a
 
-  gets_awaits : (t server : ℕ) (part : Part) (job : Job R P) (c : Choice R U P) (v : View) → InHand server job → Awaits count c → Leads (Kept count) (gets below settings t server part job c v)
+  gets_awaits : (t server : ℕ) (part : Part) (job : ChoiceJob R P) (c : Choice R U P) (v : View) → InHand server job → Awaits count c → Leads (Kept count) (gets below settings t server part job c v)
   gets_awaits t server part job c v h a = leads_if (Kept count) (is_deferred settings part) (puts_off below settings t server (put_off part job) c v) (ends below t server part job c v)
       (puts_off_awaits t server (put_off part job) c v (record {
         last = λ n some. subst LastOwes (sym (put_off_started part job)) (h.last (sym (ap (λ (es : List (Started P)). is_of server (slice_get es (length es - 1))) (put_off_started part job)) ∙ n) (λ none. some (put_off_left part job ∙ none)));
@@ -81,7 +81,7 @@ module _ {R U P : Type 0} (count : ℕ) (below : Transport R U P) (settings : Re
       (ends_awaits count below t server part job c v a)
 
   -- one of its servers gave the result
-  in_hand : (server : ℕ) (job : Job R P) → IsAwaited count job → InHand server (settled server job)
+  in_hand : (server : ℕ) (job : ChoiceJob R P) → IsAwaited count job → InHand server (settled server job)
   in_hand server job a = record { last = λ n some. by (is_of server (slice_get job.started (length job.started - 1))) refl n some; within = a.within }
     where
       by : (b : Bool) → is_of server (slice_get job.started (length job.started - 1)) ≡ b → is_last server (settled server job) ≡ false → (job.left ≡ [] → ⊥) → LastOwes (silenced server job.started)
@@ -94,7 +94,7 @@ module _ {R U P : Type 0} (count : ℕ) (below : Transport R U P) (settings : Re
       freed : Awaits count (without_owner server p.ticket c)
       freed = with_jobs count c (without_owner server p.ticket c) (disowned_length server p.ticket c.servers) refl a
 
-      found : (t : ℕ) (o : Option (Job R P)) → entry_at t c.jobs ≡ o → Leads (Kept count) (settles_job below settings t server p.part (without_owner server p.ticket c) v o)
+      found : (t : ℕ) (o : Option (ChoiceJob R P)) → entry_at t c.jobs ≡ o → Leads (Kept count) (settles_job below settings t server p.part (without_owner server p.ticket c) v o)
       found t None is = freed
       found t (Some job) is = gets_awaits t server p.part (settled server job) (record (without_owner server p.ticket c) { jobs = frees t c.jobs }) v (in_hand server job (awaited_at count t job c.jobs a.jobs is))
           (record { servers = freed.servers; jobs = awaited_frees count t c.jobs a.jobs })
@@ -133,20 +133,20 @@ module _ {R U P : Type 0} (count : ℕ) (below : Transport R U P) (settings : Re
   pub fires_awaits : (t : ℕ) (c : Choice R U P) (v : View) → Awaits count c → Leads (Kept count) (fires below settings t c v (entry_at t c.jobs))
   fires_awaits t c v a = by (entry_at t c.jobs) refl
     where
-      by : (o : Option (Job R P)) → entry_at t c.jobs ≡ o → Leads (Kept count) (fires below settings t c v o)
+      by : (o : Option (ChoiceJob R P)) → entry_at t c.jobs ≡ o → Leads (Kept count) (fires below settings t c v o)
       by None is = a
       by (Some job) is = runs_awaits job.left t (disarmed job) (record c { jobs = frees t c.jobs }) v refl (awaited_at count t job c.jobs a.jobs is).within (record { servers = a.servers; jobs = awaited_frees count t c.jobs a.jobs })
 
-  pub takes_on_awaits : (t : ℕ) (es : List Entry) (request : R) (c : Choice R U P) (v : View) → AreWithin count es → Awaits count c → Leads (Kept count) (takes_on below settings t es request c v)
+  pub takes_on_awaits : (t : ℕ) (es : List ListedServer) (request : R) (c : Choice R U P) (v : View) → AreWithin count es → Awaits count c → Leads (Kept count) (takes_on below settings t es request c v)
   takes_on_awaits t es request c v within a = runs_awaits es t (fresh_job v.request request es) c v refl within a
 
   pub drops_awaits : (t : ℕ) (c : Choice R U P) (v : View) → Awaits count c → Leads (Kept count) (drops below t c v)
   drops_awaits t c v a = by (entry_at t c.jobs)
     where
-      by : (o : Option (Job R P)) → Leads (Kept count) (drops_job below t c v o)
+      by : (o : Option (ChoiceJob R P)) → Leads (Kept count) (drops_job below t c v o)
       by None = a
       by (Some job) = gives_up_awaits count below job.started (record c { jobs = frees t c.jobs; timers = unset job.timer c.timers }) (stopped job.timer v) (record { servers = a.servers; jobs = awaited_frees count t c.jobs a.jobs })
 
 -- each request that waits is awaited
-pub is_awaited : {R U P : Type 0} (count t : ℕ) (job : Job R P) (c : Choice R U P) → Awaits count c → entry_at t c.jobs ≡ Some job → IsAwaited count job
+pub is_awaited : {R U P : Type 0} (count t : ℕ) (job : ChoiceJob R P) (c : Choice R U P) → Awaits count c → entry_at t c.jobs ≡ Some job → IsAwaited count job
 is_awaited count t job c a is = awaited_at count t job c.jobs a.jobs is

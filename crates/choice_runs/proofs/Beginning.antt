@@ -8,7 +8,7 @@ use Rattle.client_request.specs.View.{View}
 use Rattle.client_request.specs.declared.error.Error.{Error}
 use Rattle.client_choice.specs.Choice.{Choice, arms, begun, begun_at, begins, parted}
 use Rattle.client_choice.specs.Servers.{Server, owner, for_request, starts_at}
-use Rattle.client_choice.specs.declared.job.Entry.{Entry}
+use Rattle.client_choice.specs.declared.job.ListedServer.{ListedServer}
 use Rattle.client_choice.specs.declared.servers.Reply.{Reply}
 use Rattle.headline.specs.Messages.{Octets}
 use Rattle.headline.specs.machine.Client.{Posted, hand, with_up, tag}
@@ -24,7 +24,8 @@ use Rattle.choice_runs.specs.Choosing.{Choosing}
 use Rattle.choice_runs.specs.Servers.{State, Listed, IsStarted, HasReply, Comes, Came}
 use Rattle.choice_runs.specs.Requests.{Beside, Work, Begun, Desk, Waits, IsKept, IsOwed, AreToStart, desk_of, Stands, Went, IsToStart, IsAside}
 use Rattle.choice_runs.proofs.Asides.{calm_aside}
-use Rattle.choice_runs.proofs.AtServer.{both_are, set_here}
+use Rattle.choice_runs.proofs.AtServer.{both_are}
+use Rattle.client_choice.proofs.At.{set_here}
 use Rattle.choice_runs.proofs.Disarming.{again_path}
 use Rattle.choice_runs.proofs.Dropping.{found_at, without_none, stands_on, dues_on, left_then, owner_there, owner_here, follows_of, follows_then}
 use Rattle.choice_runs.proofs.Leading.{up_here, up_other}
@@ -43,7 +44,7 @@ pub data Gave (k s : ℕ) (old new : List Posted) : Option Part → Type 0 where
   Nothing : new ≡ old → Gave k s old new None
   AResult : (result : Result Octets Error) → new ≡ old ++ record { server = s; request = k; result = result } ∷ [] → Gave k s old new (Some (part_of result))
 
-module _ (g : Choosing) (beside : Beside) (phase : ℕ → Phase) (current : ℕ) (t : ℕ) (job : Work g) (e : Entry) (es : List Entry) (tab : ℕ → Option (Work g)) (named : ℕ → ℕ → Option ℕ) (c : Choice Request g.U g.R) (v : View) (x : State g)
+module _ (g : Choosing) (beside : Beside) (phase : ℕ → Phase) (current : ℕ) (t : ℕ) (job : Work g) (e : ListedServer) (es : List ListedServer) (tab : ℕ → Option (Work g)) (named : ℕ → ℕ → Option ℕ) (c : Choice Request g.U g.R) (v : View) (x : State g)
     (calm : job.timer ≡ None) (lined : job.left ≡ e ∷ es) (aside : current ≡ e.server → ⊥) (is_aside : IsAside g current job) (st : Stands g beside phase current (with_at t (Some job) tab) named 0 [] c v x) where
   abbrev entry : Option (Reply g.R) → Begun g
   entry o = record { server = e.server; since = v.now; lower = v.ticket; response = (parted o).0 }

@@ -5,7 +5,7 @@ use Rattle.client_request.specs.Numbered.{entry_at}
 use Rattle.client_request.specs.Request.{Request}
 use Rattle.client_request.specs.View.{View}
 use Rattle.client_choice.specs.Choice.{Choice, fresh_job, takes_on}
-use Rattle.client_choice.specs.declared.job.Entry.{Entry}
+use Rattle.client_choice.specs.declared.job.ListedServer.{ListedServer}
 use Rattle.headline.specs.Parts.{IsIn}
 use Rattle.headline.specs.machine.Client.{Waiting, Posted, newcomer}
 use Rattle.headline.specs.machine.Streams.{with_at}
@@ -24,7 +24,7 @@ use Rattle.choice_runs.proofs.Firing.{none_past}
 use Rattle.choice_runs.proofs.Runs.{runs_do}
 use Rattle.choice_runs.proofs.Taking.{has_acted}
 
-module _ (g : Choosing) (others : Others) (phase : ℕ → Phase) (t : ℕ) (request : Request) (entries : List Entry) (left : ℕ → Option ℕ) (named : ℕ → ℕ → Option ℕ) (c : Choice Request g.U g.R) (v : View) (x y : State g)
+module _ (g : Choosing) (others : Others) (phase : ℕ → Phase) (t : ℕ) (request : Request) (entries : List ListedServer) (left : ℕ → Option ℕ) (named : ℕ → ℕ → Option ℕ) (c : Choice Request g.U g.R) (v : View) (x y : State g)
     (is_still : IsStill g others phase (nobody g) left named c v x) (new : entry_at t c.jobs ≡ None) (octets : IsOfOctets request) (lined : IsLinedUp (length (g.c).servers) entries) (taken : HasTakenOn v.request request x y) where
   abbrev count : ℕ
   count = length (g.c).servers

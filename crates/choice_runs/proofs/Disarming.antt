@@ -19,7 +19,8 @@ use Rattle.choice_runs.specs.Choosing.{Choosing}
 use Rattle.choice_runs.specs.Servers.{State, Listed, AreTied}
 use Rattle.choice_runs.specs.Requests.{Beside, Work, Begun, Desk, IsKept, AreKept, desk_of, Stands}
 use Rattle.choice_runs.proofs.Asides.{calm_aside}
-use Rattle.choice_runs.proofs.AtServer.{both_are, set_here, set_there, set_length}
+use Rattle.choice_runs.proofs.AtServer.{both_are, set_length}
+use Rattle.client_choice.proofs.At.{set_here, set_there}
 use Rattle.choice_runs.proofs.Changing.{Changes, changed}
 use Rattle.choice_runs.proofs.ServerCalls.{in_conf}
 

@@ -25,7 +25,8 @@ use Rattle.client_ties.specs.Leading.{Arrives}
 use Rattle.choice_runs.specs.Servers.{State, Listed, AfterCall, IsDropped}
 use Rattle.client_ties.specs.WholeTie.{Follows}
 use Rattle.choice_runs.specs.Requests.{Beside, Work, Begun, Desk, Waits, AreKept, AreApart, desk_of, Stands, Went, AreAside}
-use Rattle.choice_runs.proofs.AtServer.{both_are, none_is, set_here, set_there}
+use Rattle.choice_runs.proofs.AtServer.{both_are, none_is}
+use Rattle.client_choice.proofs.At.{set_here, set_there}
 use Rattle.choice_runs.proofs.Keeping.{Differ, one_dropped, none_dropped, waits_on}
 use Rattle.choice_runs.proofs.Leading.{leads_on, up_here, up_other}
 use Rattle.choice_runs.proofs.Opening.{below_up_to}

@@ -7,7 +7,7 @@ use Rattle.client_request.specs.Request.{Request}
 use Rattle.client_request.specs.Timers.{cancelled}
 use Rattle.client_request.specs.View.{View}
 use Rattle.client_choice.specs.Choice.{Choice, due, due_at, fires, runs, disarmed, unarmed, stopped}
-use Rattle.client_choice.specs.declared.job.Entry.{Entry}
+use Rattle.client_choice.specs.declared.job.ListedServer.{ListedServer}
 use Rattle.headline.specs.Parts.{IsIn}
 use Rattle.headline.specs.machine.Client.{Posted}
 use Rattle.headline.specs.machine.Streams.{with_at}
@@ -29,7 +29,7 @@ not_below : (n : ℕ) → n < n → ⊥
 not_below n lt = omega arith
 
 -- none is past the last server
-pub none_past : (count : ℕ) (l : List Entry) (tried : ℕ → Bool) → AreToStart count tried l → IsToStart count l → ⊥
+pub none_past : (count : ℕ) (l : List ListedServer) (tried : ℕ → Bool) → AreToStart count tried l → IsToStart count l → ⊥
 none_past count [] tried line m = m
 none_past count (e ∷ l) tried line m = elim m [
   | inl same ↦ not_below count (subst (λ n. n < count) same line.0)

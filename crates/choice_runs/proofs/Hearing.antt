@@ -23,7 +23,8 @@ use Rattle.choice_runs.specs.Choosing.{Choosing}
 use Rattle.choice_runs.specs.Doing.{numbers_of, IsStill, HasActed, HasHeard, HasTold, TellingIsMoves, TakingIsMoves, WakingIsMoves}
 use Rattle.choice_runs.specs.Servers.{State, Listed, IsHeard, IsTold}
 use Rattle.choice_runs.specs.Requests.{Others, Beside, Desk, AreKept, desk_of, Stands, AreAside}
-use Rattle.choice_runs.proofs.AtServer.{both_are, set_here, set_there}
+use Rattle.choice_runs.proofs.AtServer.{both_are}
+use Rattle.client_choice.proofs.At.{set_here, set_there}
 use Rattle.choice_runs.proofs.Dropping.{IsWithout, without_none, dues_on, foreign_on, drawn_on, due_on, far_then, is_open_on, aside_on, left_then, left_on, owner_there, owner_here, follows_of, went_then}
 use Rattle.choice_runs.proofs.Leading.{up_other}
 use Rattle.choice_runs.proofs.ServerCalls.{one_tells, one_takes, one_fires}

@@ -9,7 +9,7 @@ use Rattle.choice_runs.proofs.AtServer.{both_are, none_is}
 use Rattle.choice_runs.proofs.Dropping.{found_at}
 use Rattle.client_choice.specs.Redundant.{entry_of, first_above, lined_up, lined_up_at, all_lined_up, by_estimate, with_probe, promoted, put_first}
 use Rattle.client_choice.specs.Servers.{Server}
-use Rattle.client_choice.specs.declared.job.Entry.{Entry}
+use Rattle.client_choice.specs.declared.job.ListedServer.{ListedServer}
 use Rattle.choice_runs.specs.Requests.{AreToStart, IsToStart}
 
 take_and_drop : {A : Type 0} (xs : List A) (i : ℕ) → take i xs ++ drop i xs ≡ xs
@@ -26,7 +26,7 @@ or_swap false b c = refl
 is_other : (s q : ℕ) (c : Bool) → (s ≡ q → ⊥) → c ≡ false → ((s == q) || c) ≡ false
 is_other s q c ne e = grind (arith, nat_tests)
 
-with_one_tried : (count s : ℕ) (es : List Entry) (tried : ℕ → Bool) → (IsToStart s es → ⊥) → AreToStart count tried es → AreToStart count (λ t. (s == t) || tried t) es
+with_one_tried : (count s : ℕ) (es : List ListedServer) (tried : ℕ → Bool) → (IsToStart s es → ⊥) → AreToStart count tried es → AreToStart count (λ t. (s == t) || tried t) es
 with_one_tried count s [] tried none line = tt
 with_one_tried count s (e ∷ es) tried none line = (
   line.0,
@@ -34,27 +34,27 @@ with_one_tried count s (e ∷ es) tried none line = (
   subst (λ f. AreToStart count f es) (fun_ext (λ t. or_swap (s == t) (e.server == t) (tried t))) (with_one_tried count s es (λ t. (e.server == t) || tried t) (λ m. none (inr m)) line.2),
 )
 
-pub one_between : (count : ℕ) (front bs : List Entry) (e : Entry) (tried : ℕ → Bool) → AreToStart count tried (front ++ bs) → e.server < count → tried e.server ≡ false → (IsToStart e.server (front ++ bs) → ⊥) → AreToStart count tried (front ++ e ∷ bs)
+pub one_between : (count : ℕ) (front bs : List ListedServer) (e : ListedServer) (tried : ℕ → Bool) → AreToStart count tried (front ++ bs) → e.server < count → tried e.server ≡ false → (IsToStart e.server (front ++ bs) → ⊥) → AreToStart count tried (front ++ e ∷ bs)
 one_between count [] bs e tried line lt new none = (lt, new, with_one_tried count e.server bs tried none line)
 one_between count (a ∷ front) bs e tried line lt new none = (line.0, line.1, one_between count front bs e (λ t. (a.server == t) || tried t) line.2 lt (is_other a.server e.server (tried e.server) (λ same. none (inl same)) new) (λ m. none (inr m)))
 
-pub is_between : (s : ℕ) (front bs : List Entry) (e : Entry) → ((e.server ≡ s) ⊎ IsToStart s (front ++ bs)) → IsToStart s (front ++ e ∷ bs)
+pub is_between : (s : ℕ) (front bs : List ListedServer) (e : ListedServer) → ((e.server ≡ s) ⊎ IsToStart s (front ++ bs)) → IsToStart s (front ++ e ∷ bs)
 is_between s [] bs e m = m
 is_between s (a ∷ front) bs e (inl same) = inr (is_between s front bs e (inl same))
 is_between s (a ∷ front) bs e (inr m) = elim m [ inl p ↦ inl p | inr n ↦ inr (is_between s front bs e (inr n)) ]
 
-pub was_between : (s : ℕ) (front bs : List Entry) (e : Entry) → IsToStart s (front ++ e ∷ bs) → (e.server ≡ s) ⊎ IsToStart s (front ++ bs)
+pub was_between : (s : ℕ) (front bs : List ListedServer) (e : ListedServer) → IsToStart s (front ++ e ∷ bs) → (e.server ≡ s) ⊎ IsToStart s (front ++ bs)
 was_between s [] bs e m = m
 was_between s (a ∷ front) bs e m = elim m [ inl p ↦ inr (inl p) | inr n ↦ elim (was_between s front bs e n) [ inl p ↦ inl p | inr q ↦ inr (inr q) ] ]
 
 -- where it stands
-record IsPlaced (e : Entry) (old new : List Entry) : Type 0 where
-  pub before : List Entry
-  pub after : List Entry
+record IsPlaced (e : ListedServer) (old new : List ListedServer) : Type 0 where
+  pub before : List ListedServer
+  pub after : List ListedServer
   pub was : old ≡ before ++ after
   pub is : new ≡ before ++ e ∷ after
 
-placed : (e : Entry) (es : List Entry) → IsPlaced e es (lined_up e es)
+placed : (e : ListedServer) (es : List ListedServer) → IsPlaced e es (lined_up e es)
 placed e es = by (first_above e.estimate es)
   where
     by : (o : Option ℕ) → IsPlaced e es (lined_up_at e es o)
@@ -62,12 +62,12 @@ placed e es = by (first_above e.estimate es)
     by (Some i) = record { before = take i es; after = drop i es; was = sym (take_and_drop es i); is = refl }
 
 -- the servers below a number stand in a list, each once
-record AreBelow (count index : ℕ) (es : List Entry) : Type 0 where
+record AreBelow (count index : ℕ) (es : List ListedServer) : Type 0 where
   pub line : AreToStart count (λ s. false) es
   pub all : (s : ℕ) → s < index → IsToStart s es
   pub below : (s : ℕ) → IsToStart s es → s < index
 
-one_below : (count : ℕ) (e : Entry) (es new : List Entry) → IsPlaced e es new → e.server < count → AreBelow count e.server es → AreBelow count (e.server + 1) new
+one_below : (count : ℕ) (e : ListedServer) (es new : List ListedServer) → IsPlaced e es new → e.server < count → AreBelow count e.server es → AreBelow count (e.server + 1) new
 one_below count e es new p lt b = subst (AreBelow count (e.server + 1)) (sym p.is) (record {
   line = one_between count p.before p.after e (λ s. false) (subst (λ l. AreToStart count (λ s. false) l) p.was b.line) lt refl (λ m. not_below e.server (b.below e.server (subst (λ l. IsToStart e.server l) (sym p.was) m)));
   all = λ s le. elim (last_or_less s e.server le) [ inl same ↦ is_between s p.before p.after e (inl same) | inr less ↦ is_between s p.before p.after e (inr (subst (λ l. IsToStart s l) p.was (b.all s less))) ];
@@ -86,7 +86,7 @@ one_below count e es new p lt b = subst (AreBelow count (e.server + 1)) (sym p.i
     less_then : (s n : ℕ) → s < n → s < n + 1
     less_then s n lt = omega arith
 
-all_below : {U : Type 0} → (count index : ℕ) (servers : List (Server U)) (es : List Entry) → index + length servers ≡ count → AreBelow count index es → AreBelow count count (all_lined_up index servers es)
+all_below : {U : Type 0} → (count index : ℕ) (servers : List (Server U)) (es : List ListedServer) → index + length servers ≡ count → AreBelow count index es → AreBelow count count (all_lined_up index servers es)
 all_below count index [] es sum b = subst (λ n. AreBelow count n es) (whole index count sum) b
   where
     whole : (i c : ℕ) → i + 0 ≡ c → i ≡ c
@@ -112,7 +112,7 @@ by_estimate_has_each servers =
     none_below s lt = omega arith
 
 -- One that goes first is in its place no more.
-goes_first : (count : ℕ) (front bs : List Entry) (e : Entry) (tried : ℕ → Bool) → AreToStart count tried (front ++ e ∷ bs) → (e.server < count) × (tried e.server ≡ false) × AreToStart count (λ t. (e.server == t) || tried t) (front ++ bs)
+goes_first : (count : ℕ) (front bs : List ListedServer) (e : ListedServer) (tried : ℕ → Bool) → AreToStart count tried (front ++ e ∷ bs) → (e.server < count) × (tried e.server ≡ false) × AreToStart count (λ t. (e.server == t) || tried t) (front ++ bs)
 goes_first count [] bs e tried line = line
 goes_first count (a ∷ front) bs e tried line =
     let m = goes_first count front bs e (λ t. (a.server == t) || tried t) line.2 in (
@@ -138,7 +138,7 @@ split_there (y ∷ xs) zero x e = ap (λ z. z ∷ xs) (both_are (Some y) y x ref
 split_there (y ∷ xs) (suc i) x e = ap (λ ys. y ∷ ys) (split_there xs i x e)
 
 -- The list with the server that is probed in front has each once.
-pub probed_has_each : (count estimate place : ℕ) (es : List Entry) → AreToStart count (λ s. false) es → ((s : ℕ) → s < count → IsToStart s es)
+pub probed_has_each : (count estimate place : ℕ) (es : List ListedServer) → AreToStart count (λ s. false) es → ((s : ℕ) → s < count → IsToStart s es)
     → AreToStart count (λ s. false) (promoted place estimate es) × ((s : ℕ) → s < count → IsToStart s (promoted place estimate es))
 probed_has_each count estimate place es line all = by (slice_get es place) refl (nat_lt place (length es)) refl
   where
@@ -148,7 +148,7 @@ probed_has_each count estimate place es line all = by (slice_get es place) refl 
     outside : (i n : ℕ) → nat_lt i n ≡ false → i < n → ⊥
     outside i n e lt = grind (arith, nat_tests)
 
-    by : (o : Option Entry) → slice_get es place ≡ o → (b : Bool) → nat_lt place (length es) ≡ b
+    by : (o : Option ListedServer) → slice_get es place ≡ o → (b : Bool) → nat_lt place (length es) ≡ b
         → AreToStart count (λ s. false) (put_first estimate o (if b then remove es place else es)) × ((s : ℕ) → s < count → IsToStart s (put_first estimate o (if b then remove es place else es)))
     by None e false n = (line, all)
     by None e true n = (let f = found_at es place (inside place (length es) n) in absurd (none_is (slice_get es place) f.0 e f.1))
@@ -159,7 +159,7 @@ probed_has_each count estimate place es line all = by (slice_get es place) refl 
           λ s lt. was_between s (take place es) (drop (suc place) es) x (subst (λ l. IsToStart s l) split (all s lt)),
         )
 
-pub each_has : {U : Type 0} → (servers : List (Server U)) (probed : Option ℕ) (first : Entry)
+pub each_has : {U : Type 0} → (servers : List (Server U)) (probed : Option ℕ) (first : ListedServer)
     → AreToStart (length servers) (λ s. false) (with_probe probed first (by_estimate servers)) × ((s : ℕ) → s < length servers → IsToStart s (with_probe probed first (by_estimate servers)))
 each_has servers None first = by_estimate_has_each servers
 each_has servers (Some place) first = (let b = by_estimate_has_each servers in probed_has_each (length servers) first.estimate place (by_estimate servers) b.0 b.1)

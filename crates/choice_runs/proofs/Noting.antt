@@ -1,7 +1,7 @@
 -- What agrees of the requests stays so while one is started at one more server.
 use Rattle.std.proofs.Common.{◌≡◌, ℕ, ◌⊎◌, inl, inr, Bool, true, false, ◌==◌, ◌||◌, List, [], ◌∷◌, ◌++◌, length, Option, Some, None, refl, sym, ap, subst, subst₂, ◌∙◌, arith}
 use Rattle.std.proofs.lemmas.Bool.Decides.{nat_tests}
-use Rattle.client_choice.specs.declared.job.Entry.{Entry}
+use Rattle.client_choice.specs.declared.job.ListedServer.{ListedServer}
 use Rattle.client_choice.specs.declared.job.Started.{Started}
 use Rattle.headline.specs.Parts.{IsIn}
 use Rattle.headline.specs.machine.Client.{Waiting, handing, best}
@@ -44,11 +44,11 @@ apart_more (e ∷ es) b apart new = (λ f m. elim (front_or_end f b es m) [ inl 
 
 module _ (g : Choosing) where
   -- the request, started at one more server
-  abbrev pub noting : Work g → List Entry → Begun g → Work g
+  abbrev pub noting : Work g → List ListedServer → Begun g → Work g
   noting job es b = record job { left = es; started = job.started ++ b ∷ [] }
 
   -- Of d and d', the request of ticket t was started at one more server, which is the next one.
-  pub record Notes (t : ℕ) (job : Work g) (f : Entry) (es : List Entry) (b : Begun g) (ask : Waiting) (d d' : Desk g) : Type 0 where
+  pub record Notes (t : ℕ) (job : Work g) (f : ListedServer) (es : List ListedServer) (b : Begun g) (ask : Waiting) (d d' : Desk g) : Type 0 where
     pub jobs : d'.jobs ≡ with_at t (Some (noting job es b)) d.jobs
     pub is : d.jobs t ≡ Some job
     pub calm : job.timer ≡ None
@@ -62,7 +62,7 @@ module _ (g : Choosing) where
     pub named : (i k : ℕ) → d'.named b.server i ≡ Some k → (d.named b.server i ≡ Some k) ⊎ ((job.number ≡ k) × (b.lower ≡ i) × ((r : g.R) × (b.response ≡ Some r)))
     pub waits : (r : g.R) → b.response ≡ Some r → Waits g d' t job.number b r
 
-  pub noted_so : (t : ℕ) (job : Work g) (f : Entry) (es : List Entry) (b : Begun g) (ask : Waiting) (d d' : Desk g) → Notes t job f es b ask d d' → AreKept g 0 [] d → AreKept g 0 [] d'
+  pub noted_so : (t : ℕ) (job : Work g) (f : ListedServer) (es : List ListedServer) (b : Begun g) (ask : Waiting) (d d' : Desk g) → Notes t job f es b ask d d' → AreKept g 0 [] d → AreKept g 0 [] d'
   noted_so t job f es b ask d d' n k = changed g t job (noting job es b) 0 d d' changes k
     where
       mine : IsKept g d t job
@@ -72,7 +72,7 @@ module _ (g : Choosing) where
       same_ask = both_are (d.held job.number) mine.ask ask mine.is n.asks
 
       line : AreToStart (length (g.c).servers) ask.tried (f ∷ es)
-      line = subst₂ (λ (a : Waiting) (l : List Entry). AreToStart (length (g.c).servers) a.tried l) same_ask n.left mine.left
+      line = subst₂ (λ (a : Waiting) (l : List ListedServer). AreToStart (length (g.c).servers) a.tried l) same_ask n.left mine.left
 
       tried_so : (e : Begun g) → IsIn e job.started → ask.tried e.server ≡ true
       tried_so e m = subst (λ (a : Waiting). a.tried e.server ≡ true) same_ask (mine.tried e m)
@@ -101,7 +101,7 @@ module _ (g : Choosing) where
         request = ap (λ (a : Waiting). a.request) (sym same_ask) ∙ mine.request;
         octets = mine.octets;
         left = line.2;
-        all = λ s lt. all_so s (subst₂ (λ (a : Waiting) (l : List Entry). (a.tried s ≡ true) ⊎ IsToStart s l) same_ask n.left (mine.all s lt));
+        all = λ s lt. all_so s (subst₂ (λ (a : Waiting) (l : List ListedServer). (a.tried s ≡ true) ⊎ IsToStart s l) same_ask n.left (mine.all s lt));
         tried = λ e m. elim (front_or_end e b job.started m) [
           | inl p ↦ or_true (f.server == e.server) (ask.tried e.server) (tried_so e p)
           | inr same ↦ it_is f.server e.server (ask.tried e.server) (sym n.server ∙ ap (λ (e : Begun g). e.server) same)

@@ -4,7 +4,7 @@ use Rattle.client_request.specs.Board.{Part}
 use Rattle.client_request.specs.Composed.{composed}
 use Rattle.client_request.specs.Request.{Request}
 use Rattle.client_request.specs.View.{View}
-use Rattle.client_choice.specs.Choice.{Choice, Job, put_off, is_better}
+use Rattle.client_choice.specs.Choice.{Choice, ChoiceJob, put_off, is_better}
 use Rattle.headline.specs.Validity.{waits_for_others}
 use Rattle.headline.specs.machine.Client.{Waiting, Posted, Given, Keeps_back, keeping, unmade, with_held}
 use Rattle.headline.specs.machine.Streams.{with_at}
@@ -23,11 +23,11 @@ use Rattle.choice_runs.proofs.Keepsakes.{best_with}
 use Rattle.choice_runs.proofs.Leading.{one_move}
 
 -- with this in place of what was put off
-abbrev deferring : {R P : Type 0} → Option Part → Job R P → Job R P
+abbrev deferring : {R P : Type 0} → Option Part → ChoiceJob R P → ChoiceJob R P
 deferring d job = record job { deferred = d }
 
 -- what is put off is the better of two
-pub put_off_is : {R P : Type 0} → (part : Part) (job : Job R P) → put_off part job ≡ deferring (if is_better job.deferred part then Some part else job.deferred) job
+pub put_off_is : {R P : Type 0} → (part : Part) (job : ChoiceJob R P) → put_off part job ≡ deferring (if is_better job.deferred part then Some part else job.deferred) job
 put_off_is part job = by (is_better job.deferred part)
   where
     by : (b : Bool) → (if b then record job { deferred = Some part } else job) ≡ deferring (if b then Some part else job.deferred) job

@@ -6,7 +6,7 @@ use Rattle.client_request.specs.Numbered.{entry_at}
 use Rattle.client_request.specs.Request.{Request}
 use Rattle.client_request.specs.View.{View}
 use Rattle.client_choice.specs.Choice.{Choice, runs, goes_on, begins, ends, put_off, is_deferred, is_better, disarmed, unarmed, stopped, keeps}
-use Rattle.client_choice.specs.declared.job.Entry.{Entry}
+use Rattle.client_choice.specs.declared.job.ListedServer.{ListedServer}
 use Rattle.headline.specs.Parts.{IsIn}
 use Rattle.headline.specs.Validity.{waits_for_others}
 use Rattle.headline.specs.machine.Client.{Posted, NoneOf}
@@ -84,7 +84,7 @@ module _ (g : Choosing) (beside : Beside) (phase : ℕ → Phase) (current : ℕ
         | inr o ↦ (o.1).is
       ]
 
-  pub runs_do : (es : List Entry) (t : ℕ) (job : Work g) (tab : ℕ → Option (Work g)) (named : ℕ → ℕ → Option ℕ) (c : Choice Request g.U g.R) (v : View) (x : State g) → InHand g beside phase current t es job tab named c v x → IfLeft (HasDone g beside phase current t job.number tab x.board named v x) (runs g.below g.settings t es job c v)
+  pub runs_do : (es : List ListedServer) (t : ℕ) (job : Work g) (tab : ℕ → Option (Work g)) (named : ℕ → ℕ → Option ℕ) (c : Choice Request g.U g.R) (v : View) (x : State g) → InHand g beside phase current t es job tab named c v x → IfLeft (HasDone g beside phase current t job.number tab x.board named v x) (runs g.below g.settings t es job c v)
   runs_do [] t job tab named c v x h = (let p = h.has refl in rests_do g beside phase current t job tab named c v x h.is_table h.new h.sorted h.stands p.0 p.1 (none_of t job tab named c v x h.stands h.clear h.pending))
   runs_do (e ∷ es) t job tab named c v x h =
       left_then g (HasBegun g beside phase current t job e es tab named c v x h.calm h.left not_cur is_aside h.stands) (HasDone g beside phase current t job.number tab x.board named v x)

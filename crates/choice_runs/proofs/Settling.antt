@@ -9,7 +9,7 @@ use Rattle.client_request.specs.declared.board.Posted.{Posted as OnBoard}
 use Rattle.client_request.specs.declared.error.Error.{Error}
 use Rattle.client_choice.specs.Choice.{Choice, settled, silenced, gets, puts_off, put_off, is_deferred, is_better, is_last, ends, runs, rests, disarmed, unarmed, stopped}
 use Rattle.client_choice.specs.Servers.{Server, owner}
-use Rattle.client_choice.specs.declared.job.Entry.{Entry}
+use Rattle.client_choice.specs.declared.job.ListedServer.{ListedServer}
 use Rattle.headline.specs.Parts.{IsIn}
 use Rattle.headline.specs.machine.Client.{Posted, with_up, tag}
 use Rattle.headline.specs.Messages.{Octets}
@@ -27,7 +27,8 @@ use Rattle.choice_runs.specs.Servers.{State}
 use Rattle.choice_runs.specs.Requests.{Beside, Work, Begun, Desk, Waits, IsKept, IsOwed, IsToStart, AreToStart, desk_of, Stands, Went}
 use Rattle.choice_runs.specs.Doing.{HasDone}
 use Rattle.choice_runs.proofs.Asides.{put_aside}
-use Rattle.choice_runs.proofs.AtServer.{both_are, none_is, set_here, set_there, set_length}
+use Rattle.choice_runs.proofs.AtServer.{both_are, none_is, set_length}
+use Rattle.client_choice.proofs.At.{set_here, set_there}
 use Rattle.choice_runs.proofs.Changing.{Changes, changed}
 use Rattle.choice_runs.proofs.Disarming.{again_path, goes_stopped, disarms}
 use Rattle.choice_runs.proofs.Dropping.{owner_there, owner_here, left_on, follows_of}
@@ -49,7 +50,7 @@ gives_less named (p ∷ ps) [] left i k gives is = absurd gives
 gives_less named (p ∷ ps) (q ∷ qs) left i k gives is = (was_there p.ticket named i k (gives_less (with_at p.ticket None named) ps qs left i k gives.2 is)).1
 
 -- who was tried is not to be started
-tried_no : (count : ℕ) {s : ℕ} (l : List Entry) (tried : ℕ → Bool) → IsToStart s l → AreToStart count tried l → tried s ≡ true → ⊥
+tried_no : (count : ℕ) {s : ℕ} (l : List ListedServer) (tried : ℕ → Bool) → IsToStart s l → AreToStart count tried l → tried s ≡ true → ⊥
 tried_no count [] tried m line is = m
 tried_no count {s = s} (e ∷ l) tried m line is = elim m [
   | inl same ↦ not_both (tried s) is (subst (λ s. tried s ≡ false) same line.1)
@@ -287,7 +288,7 @@ module _ (g : Choosing) (beside : Beside) (phase : ℕ → Phase) (current : ℕ
       pending_then y m = (let h = behind y (subst (λ ps. IsIn y ps) kept.board m) in (within, (h.0, here_named t lower job e named c v x a st table at is mine server under waits gone h.0 ∙ h.1)))
 
       -- it was not to be started again
-      not_to_start : (l : List Entry) → IsToStart current l → AreToStart (length (g.c).servers) (st.kept.kept t job is).ask.tried l → ⊥
+      not_to_start : (l : List ListedServer) → IsToStart current l → AreToStart (length (g.c).servers) (st.kept.kept t job is).ask.tried l → ⊥
       not_to_start l m line = tried_no (length (g.c).servers) l (st.kept.kept t job is).ask.tried m line (subst (λ s. (st.kept.kept t job is).ask.tried s ≡ true) server ((st.kept.kept t job is).tried e mine))
 
       came_on : (k : ℕ) (d : Choice Request g.U g.R) (w : View) (u : View) → Went g v x u kept.end → u.board ≡ v.board → u.more ≡ v.more → k ≡ job.number → HasDone g beside phase current t k others kept.end.board names_then u kept.end d w → IsSettled lower rest named c v x d w

@@ -8,7 +8,7 @@ use Rattle.client_request.specs.Timers.{with_timer, can_draw}
 use Rattle.client_request.specs.View.{View, sets_timer}
 use Rattle.client_choice.specs.Choice.{Choice, arms}
 use Rattle.client_choice.specs.Servers.{Server}
-use Rattle.client_choice.specs.declared.job.Entry.{Entry}
+use Rattle.client_choice.specs.declared.job.ListedServer.{ListedServer}
 use Rattle.headline.specs.machine.Streams.{with_at}
 use Rattle.client_ties.specs.Lines.{Sorted}
 use Rattle.client_ties.specs.PartTie.{Phase, Leads as IfLeft}
@@ -247,10 +247,10 @@ module _ (g : Choosing) (beside : Beside) (phase : ℕ → Phase) (current : ℕ
           more = refl;
         }
 
-        not_empty : (e : Entry) (es : List Entry) → job.left ≡ e ∷ es → job.left ≡ [] → ⊥
+        not_empty : (e : ListedServer) (es : List ListedServer) → job.left ≡ e ∷ es → job.left ≡ [] → ⊥
         not_empty e es p q = cc
 
-        by : (l : List Entry) → job.left ≡ l → IfLeft (IsArmed t job tab c v x) (if length l == 0 then Some ((job, c.timers), v)
+        by : (l : List ListedServer) → job.left ≡ l → IfLeft (IsArmed t job tab c v x) (if length l == 0 then Some ((job, c.timers), v)
             else option_map (λ w. ((record job { timer = Some v.timers.next }, puts v.timers.next t c.timers), w)) (sets_timer due v))
         by [] is = as_it_is
         by (e ∷ es) is = on (can_draw v.timers.next)

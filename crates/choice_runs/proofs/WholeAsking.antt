@@ -11,7 +11,7 @@ use Rattle.client_request.specs.declared.event.What.{What}
 use Rattle.client_choice.specs.Choice.{Choice, takes_on, drops}
 use Rattle.client_choice.specs.Redundant.{with_choice, transport, takes, takes_listed, by_estimate, probe, asks_for_probe, probed_place, with_probe, Asked}
 use Rattle.client_choice.specs.Servers.{Server}
-use Rattle.client_choice.specs.declared.job.Entry.{Entry}
+use Rattle.client_choice.specs.declared.job.ListedServer.{ListedServer}
 use Rattle.headline.specs.machine.Streams.{with_at}
 use Rattle.client_ties.specs.PartTie.{Untold, IsOpen, Leads}
 use Rattle.client_ties.specs.Sights.{sight, IsFair}
@@ -68,7 +68,7 @@ probe_draws count v are = by (nat_lt 1 count) (asks_for_probe (word v))
     by true false = record { words = rest_of v.words; are = λ i. are (i + 1); is = refl }
     by false asks = record { words = v.words; are = are; is = refl }
 
-within_of : (n : ℕ) (tried : ℕ → Bool) (es : List Entry) → AreToStart n tried es → AreWithin n es
+within_of : (n : ℕ) (tried : ℕ → Bool) (es : List ListedServer) → AreToStart n tried es → AreWithin n es
 within_of n tried [] line = tt
 within_of n tried (e ∷ es) line = (line.0, within_of n (λ t. (e.server == t) || tried t) es line.2)
 
@@ -77,7 +77,7 @@ module _ (g : Choosing) (calls : CallsAreMoves g) where
   count = length (g.c).servers
 
   -- the list of servers has each once, whichever is probed
-  lined : (servers : List (Server g.U)) (probed : Option ℕ) (first : Entry) → 0 < count → length servers ≡ count → IsLinedUp count (with_probe probed first (by_estimate servers))
+  lined : (servers : List (Server g.U)) (probed : Option ℕ) (first : ListedServer) → 0 < count → length servers ≡ count → IsLinedUp count (with_probe probed first (by_estimate servers))
   lined servers probed first some same =
       let l = calls.lists servers probed first in
       record {
@@ -139,7 +139,7 @@ module _ (g : Choosing) (calls : CallsAreMoves g) where
         | inr was ↦ up_one n v.ticket (small_so g t.phases t.named r v x h n k was.1)
       ]
 
-      takes_it : (entries : List Entry) → IsLinedUp count entries → Leads (WholeLeaves g numbers y r at_ask (Untold what)) (with_choice r (takes_on g.below g.settings v.ticket entries request c at_ask))
+      takes_it : (entries : List ListedServer) → IsLinedUp count entries → Leads (WholeLeaves g numbers y r at_ask (Untold what)) (with_choice r (takes_on g.below g.settings v.ticket entries request c at_ask))
       takes_it entries each =
           closes g r at_ask (λ others. HasActed g others t.phases (nobody g) numbers (t.named (nobody g)) v.more at_ask y) (WholeLeaves g numbers y r at_ask (Untold what)) (takes_on g.below g.settings v.ticket entries request c at_ask)
           (λ others o. calls.taking_on others t.phases v.ticket request entries (t.named (nobody g)) t.named c at_ask x y (still_of g others t.phases (nobody g) t.named r at_ask x agrees o (open_all at_ask) (λ p frames told n job j m entry timer due_j le. aside_of_nobody g t.phases t.named r v x h n job entry)) unused octets each taken)
@@ -183,7 +183,7 @@ module _ (g : Choosing) (calls : CallsAreMoves g) where
         left_on : (o : Option (Whole g × View)) → (words : ℕ → ℕ) → Leads (WholeLeaves g (with_at v.ticket (Some v.request) (names g r)) y r (asked_at v words) (Untold what)) o → ((i : ℕ) → words i < 2 ^ 64) → Leads Left o
         left_on o words l are = leads_on (WholeLeaves g (with_at v.ticket (Some v.request) (names g r)) y r (asked_at v words) (Untold what)) Left o (λ d w l. earlier some request octets taken words are d w l) l
 
-        listed : (es : List Entry) → by_estimate c.servers ≡ es → Leads Left (with_choice r (takes_listed g.settings g.below v.ticket request es c numbered))
+        listed : (es : List ListedServer) → by_estimate c.servers ≡ es → Leads Left (with_choice r (takes_listed g.settings g.below v.ticket request es c numbered))
         listed [] is = absurd ((lined c.servers None (record { server = 0; estimate = 0 }) some h.servers.count).some is)
         listed (e ∷ more) is =
             let p = probe_draws (length (e ∷ more)) numbered h.servers.fair.words in

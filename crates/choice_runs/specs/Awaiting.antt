@@ -1,7 +1,7 @@
 -- What is still to come of each request of a choice: a server that was started owes its result, and where servers are left to be started, the last one does.
 use Rattle.std.specs.Prelude.{◌≡◌, ℕ, ◌<◌, ◌⊎◌, List, [], ◌∷◌, length, Some}
-use Rattle.client_choice.specs.Choice.{Choice, Job}
-use Rattle.client_choice.specs.declared.job.Entry.{Entry}
+use Rattle.client_choice.specs.Choice.{Choice, ChoiceJob}
+use Rattle.client_choice.specs.declared.job.ListedServer.{ListedServer}
 use Rattle.client_choice.specs.declared.job.Started.{Started}
 
 module _ {P : Type 0} where
@@ -19,18 +19,18 @@ module _ {P : Type 0} where
   LastOwes (e ∷ f ∷ es) = LastOwes (f ∷ es)
 
 -- each is one of so many servers
-abbrev pub AreWithin : (count : ℕ) → List Entry → Type 0
+abbrev pub AreWithin : (count : ℕ) → List ListedServer → Type 0
 AreWithin count [] = Unit {0}
 AreWithin count (e ∷ es) = (e.server < count) × AreWithin count es
 
 module _ {R P : Type 0} (count : ℕ) where
   -- a request that waits
-  pub record IsAwaited (job : Job R P) : Type 0 where
+  pub record IsAwaited (job : ChoiceJob R P) : Type 0 where
     pub one : OneOwes job.started
     pub last : (job.left ≡ [] → ⊥) → LastOwes job.started
     pub within : AreWithin count job.left
 
-  abbrev pub AreAwaited : List (ℕ × Job R P) → Type 0
+  abbrev pub AreAwaited : List (ℕ × ChoiceJob R P) → Type 0
   AreAwaited [] = Unit {0}
   AreAwaited (e ∷ es) = IsAwaited e.1 × AreAwaited es
 

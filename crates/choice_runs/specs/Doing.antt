@@ -11,7 +11,7 @@ use Rattle.client_request.specs.declared.event.What.{What}
 use Rattle.client_choice.specs.Choice.{Choice, takes_on, drops, due, runs, settles_all, hears_one}
 use Rattle.client_choice.specs.Redundant.{by_estimate, with_probe}
 use Rattle.client_choice.specs.Servers.{Server}
-use Rattle.client_choice.specs.declared.job.Entry.{Entry}
+use Rattle.client_choice.specs.declared.job.ListedServer.{ListedServer}
 use Rattle.headline.specs.Parts.{IsIn}
 use Rattle.headline.specs.machine.Client.{Posted, tag, with_up}
 use Rattle.headline.specs.machine.Part.{Post}
@@ -44,7 +44,7 @@ module _ (g : Choosing) (beside : Beside) (phase : ℕ → Phase) (current : ℕ
     pub come : HasCome t k v x d w end
 
   -- What is known of a request in hand, whose timer is not set.
-  pub record InHand (t : ℕ) (es : List Entry) (job : Work g) (table : ℕ → Option (Work g)) (named : ℕ → ℕ → Option ℕ) (c : Choice Request g.U g.R) (v : View) (x : State g) : Type 0 where
+  pub record InHand (t : ℕ) (es : List ListedServer) (job : Work g) (table : ℕ → Option (Work g)) (named : ℕ → ℕ → Option ℕ) (c : Choice Request g.U g.R) (v : View) (x : State g) : Type 0 where
     pub left : job.left ≡ es
     pub calm : job.timer ≡ None
     pub has : es ≡ [] → (part : Part) × (job.deferred ≡ Some part)
@@ -58,7 +58,7 @@ module _ (g : Choosing) (beside : Beside) (phase : ℕ → Phase) (current : ℕ
 
 -- Whichever servers a request is started at: what the choice leaves is what moves of the machine leave.
 abbrev pub RunsAreMoves : Choosing → Type 0
-RunsAreMoves g = (beside : Beside) (phase : ℕ → Phase) (current : ℕ) (es : List Entry) (t : ℕ) (job : Work g) (table : ℕ → Option (Work g))
+RunsAreMoves g = (beside : Beside) (phase : ℕ → Phase) (current : ℕ) (es : List ListedServer) (t : ℕ) (job : Work g) (table : ℕ → Option (Work g))
     → (named : ℕ → ℕ → Option ℕ) (c : Choice Request g.U g.R) (v : View) (x : State g)
     → InHand g beside phase current t es job table named c v x → Leads (HasDone g beside phase current t job.number table x.board named v x) (runs g.below g.settings t es job c v)
 
@@ -147,19 +147,19 @@ FiringIsMoves g = (others : Others) (phase : ℕ → Phase) (current i t : ℕ) 
     → Leads (HasActed g others phase current (numbers_of g c.jobs) left v.more (record v { timers = cancelled i v.timers }) x) (due g.below g.settings i c (record v { timers = cancelled i v.timers }))
 
 -- A list of servers has each once.
-pub record IsLinedUp (count : ℕ) (entries : List Entry) : Type 0 where
+pub record IsLinedUp (count : ℕ) (entries : List ListedServer) : Type 0 where
   pub line : AreToStart count (λ s. false) entries
   pub all : (s : ℕ) → s < count → IsToStart s entries
   pub some : entries ≡ [] → ⊥
 
 -- The list that the choice makes for a request, with any server probed or none, has each once.
 abbrev pub ListsHaveEach : Choosing → Type 0
-ListsHaveEach g = (servers : List (Server g.U)) (probed : Option ℕ) (first : Entry)
+ListsHaveEach g = (servers : List (Server g.U)) (probed : Option ℕ) (first : ListedServer)
     → AreToStart (length servers) (λ s. false) (with_probe probed first (by_estimate servers)) × ((s : ℕ) → s < length servers → IsToStart s (with_probe probed first (by_estimate servers)))
 
 -- A request that the machine tries is started at servers, in any order that has each: what is left is what moves leave.
 abbrev pub TakingOnIsMoves : Choosing → Type 0
-TakingOnIsMoves g = (others : Others) (phase : ℕ → Phase) (t : ℕ) (request : Request) (entries : List Entry)
+TakingOnIsMoves g = (others : Others) (phase : ℕ → Phase) (t : ℕ) (request : Request) (entries : List ListedServer)
     → (left : ℕ → Option ℕ) (named : ℕ → ℕ → Option ℕ) (c : Choice Request g.U g.R) (v : View) (x y : State g)
     → IsStill g others phase (nobody g) left named c v x → entry_at t c.jobs ≡ None → IsOfOctets request → IsLinedUp (length (g.c).servers) entries → HasTakenOn v.request request x y
     → Leads (HasActed g others phase (nobody g) (with_at t (Some v.request) (numbers_of g c.jobs)) left v.more v y) (takes_on g.below g.settings t entries request c v)

@@ -5,9 +5,9 @@ use Rattle.client_request.specs.Composed.{composed}
 use Rattle.client_request.specs.Numbered.{entry_at}
 use Rattle.client_request.specs.Request.{Request}
 use Rattle.client_request.specs.View.{View}
-use Rattle.client_choice.specs.Choice.{Choice, Job}
+use Rattle.client_choice.specs.Choice.{Choice, ChoiceJob}
 use Rattle.client_choice.specs.Servers.{Server, owner}
-use Rattle.client_choice.specs.declared.job.Entry.{Entry}
+use Rattle.client_choice.specs.declared.job.ListedServer.{ListedServer}
 use Rattle.client_choice.specs.declared.job.Started.{Started}
 use Rattle.client_request.specs.declared.event.Out.{Out}
 use Rattle.headline.specs.Parts.{IsIn}
@@ -22,11 +22,11 @@ use Rattle.choice_runs.specs.Choosing.{Choosing}
 use Rattle.choice_runs.specs.Servers.{State, AreTied}
 
 -- each is a server that was not tried yet, when its turn comes
-abbrev pub AreToStart : (count : ℕ) → (tried : ℕ → Bool) → List Entry → Type 0
+abbrev pub AreToStart : (count : ℕ) → (tried : ℕ → Bool) → List ListedServer → Type 0
 AreToStart count tried [] = Unit {0}
 AreToStart count tried (e ∷ es) = (e.server < count) × (tried e.server ≡ false) × AreToStart count (λ t. (e.server == t) || tried t) es
 
-abbrev pub IsToStart : ℕ → List Entry → Type 0
+abbrev pub IsToStart : ℕ → List ListedServer → Type 0
 IsToStart s [] = ⊥
 IsToStart s (e ∷ es) = (e.server ≡ s) ⊎ IsToStart s es
 
@@ -47,7 +47,7 @@ pub record Beside : Type 0 where
 
 module _ (g : Choosing) where
   abbrev pub Work : Type 0
-  Work = Job Request g.R
+  Work = ChoiceJob Request g.R
 
   abbrev pub Begun : Type 0
   Begun = Started g.R

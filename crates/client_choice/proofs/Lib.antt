@@ -5,5 +5,6 @@ pub mod Hearing
 pub mod Keeping
 pub mod RootLemmas
 pub mod Saying
+pub mod Sorting
 pub mod StatsLaws
 pub mod Surveying

@@ -7,7 +7,7 @@ use Rattle.client_request.specs.Board.{Part}
 use Rattle.client_request.specs.Requests.{Requests}
 use Rattle.client_request.specs.View.{View, Heard, Transport, answers, draws_ticket}
 use Rattle.client_request.specs.declared.error.Error.{Error}
-use Rattle.client_choice.specs.declared.job.Entry.{Entry}
+use Rattle.client_choice.specs.declared.job.ListedServer.{ListedServer}
 use Rattle.client_choice.specs.declared.candidates.Candidate.{Candidate}
 use Rattle.client_choice.specs.BalancerSettings.{BalancerSettings, BurstSettings}
 use Rattle.client_choice.specs.Bursts.{Limit, Survey, fresh_limit, surveyed}
@@ -50,7 +50,7 @@ module _ {R U P : Type 0} where
 
 module _ {R U P : Type 0} (requests : Requests R) (below : Transport R U P) (settings : BalancerSettings) where
   -- A request is started at these servers, in order.
-  abbrev pub spreads : ℕ → R → Parts R U P → List Entry × View → After R U P
+  abbrev pub spreads : ℕ → R → Parts R U P → List ListedServer × View → After R U P
   spreads ticket request parts order = with_choice parts (choice.takes_on below settings.deferring ticket order.0 request parts.choice order.1)
 
   abbrev pub takes_at : ℕ → R → Parts R U P → View → List Candidate → After R U P

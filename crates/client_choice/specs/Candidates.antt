@@ -3,7 +3,7 @@ use Rattle.std.specs.Prelude.{ℕ, ◌*◌, ◌==◌, nat_lt, min, Bool, true, f
 use Rattle.std.specs.List.{position}
 use Rattle.client_request.specs.View.{View}
 use Rattle.client_choice.specs.Redundant.{probe}
-use Rattle.client_choice.specs.declared.job.Entry.{Entry}
+use Rattle.client_choice.specs.declared.job.ListedServer.{ListedServer}
 use Rattle.client_choice.specs.declared.candidates.Candidate.{Candidate}
 
 -- a server takes longer than that many thousandths of a microsecond
@@ -58,11 +58,11 @@ abbrev pub probed : (least : ℕ) → Option ℕ → List Candidate → List Can
 probed least None list = list
 probed least (Some place) list = forward least place list
 
-abbrev pub entry_of : Candidate → Entry
+abbrev pub entry_of : Candidate → ListedServer
 entry_of c = record { server = c.server; estimate = c.estimate }
 
 -- what a request is started at, in order, where a server is slow past so many thousandths of the least estimate
-abbrev pub in_order : (factor : ℕ) → List Candidate → View → List Entry × View
+abbrev pub in_order : (factor : ℕ) → List Candidate → View → List ListedServer × View
 in_order factor list v =
     let order = placed_all (least_of list * factor) list [] in
     let draw = probe (length order) v in

@@ -14,17 +14,17 @@ use Rattle.client_request.specs.View.{View, Heard, Transport, told, more_at, due
 use Rattle.client_request.specs.declared.board.Posted.{Posted}
 use Rattle.client_settings.specs.Settings.{RedundantSettings}
 use Rattle.client_choice.specs.Servers.{Server, added, for_request, starts_at, hears_at, drops_at, judges, owner, disowned}
-use Rattle.client_choice.specs.declared.job.Entry.{Entry}
+use Rattle.client_choice.specs.declared.job.ListedServer.{ListedServer}
 use Rattle.client_choice.specs.declared.job.Started.{Started}
 use Rattle.client_choice.specs.declared.servers.Reply.{Reply}
 use Rattle.client_choice.specs.declared.servers.Reply.TheVariants.{Later, Now}
 
 -- A request that waits: its number, the servers that are still to be started and those that were, both in order; the timer that starts the next one;
 -- and of the results that were put off the one to give where no better one comes.
-pub record Job (R P : Type 0) : Type 0 where
+pub record ChoiceJob (R P : Type 0) : Type 0 where
   pub number : ℕ
   pub request : R
-  pub left : List Entry
+  pub left : List ListedServer
   pub started : List (Started P)
   pub timer : Option ℕ
   pub deferred : Option Part
@@ -32,7 +32,7 @@ pub record Job (R P : Type 0) : Type 0 where
 -- The servers; the requests by ticket, and the ticket of each timer.
 pub record Choice (R U P : Type 0) : Type 0 where
   pub servers : List (Server U)
-  pub jobs : List (ℕ × Job R P)
+  pub jobs : List (ℕ × ChoiceJob R P)
   pub timers : List (ℕ × ℕ)
 
 -- what a step leaves of the choice and of the view
@@ -41,7 +41,7 @@ After R U P = Option (Choice R U P × View)
 
 -- what the start of a server leaves: its result, if it came at once, the request, the choice, and the view
 abbrev pub Begun : (R U P : Type 0) → Type 0
-Begun R U P = Option (((Option Part × Job R P) × Choice R U P) × View)
+Begun R U P = Option (((Option Part × ChoiceJob R P) × Choice R U P) × View)
 
 -- A result is put off: a message by its code where the settings say so (RFC 1035 4.1.1: 5 is REFUSED, 2 SERVFAIL), and an error.
 abbrev pub is_deferred : RedundantSettings → Part → Bool
@@ -101,32 +101,32 @@ module _ {P : Type 0} where
   is_of server (Some s) = s.server == server
 
 module _ {R P : Type 0} where
-  abbrev pub fresh_job : ℕ → R → List Entry → Job R P
+  abbrev pub fresh_job : ℕ → R → List ListedServer → ChoiceJob R P
   fresh_job number request entries = record { number = number; request = request; left = entries; started = []; timer = None; deferred = None }
 
-  abbrev pub put_off : Part → Job R P → Job R P
+  abbrev pub put_off : Part → ChoiceJob R P → ChoiceJob R P
   put_off part job = if is_better job.deferred part then record job { deferred = Some part } else job
 
-  abbrev pub noted : (server since lower : ℕ) → Option P → Job R P → Job R P
+  abbrev pub noted : (server since lower : ℕ) → Option P → ChoiceJob R P → ChoiceJob R P
   noted server since lower response job =
       record job { started = job.started ++ record { server = server; since = since; lower = lower; response = response } ∷ [] }
 
-  abbrev pub settled : ℕ → Job R P → Job R P
+  abbrev pub settled : ℕ → ChoiceJob R P → ChoiceJob R P
   settled server job = record job { started = silenced server job.started }
 
   -- whether a server is the one that was started last
-  abbrev pub is_last : ℕ → Job R P → Bool
+  abbrev pub is_last : ℕ → ChoiceJob R P → Bool
   is_last server job = is_of server (slice_get job.started (length job.started - 1))
 
   -- whether each server was started and gave a result
-  abbrev pub is_over : Job R P → Bool
+  abbrev pub is_over : ChoiceJob R P → Bool
   is_over job = (length job.left == 0) && all_gave job.started
 
-  abbrev pub disarmed : Job R P → Job R P
+  abbrev pub disarmed : ChoiceJob R P → ChoiceJob R P
   disarmed job = record job { timer = None }
 
   -- The timer is set that starts the next server, if there is one.
-  abbrev pub arms : (ticket due : ℕ) → Job R P → List (ℕ × ℕ) → View → Option ((Job R P × List (ℕ × ℕ)) × View)
+  abbrev pub arms : (ticket due : ℕ) → ChoiceJob R P → List (ℕ × ℕ) → View → Option ((ChoiceJob R P × List (ℕ × ℕ)) × View)
   arms ticket due job timers v =
       if length job.left == 0 then Some ((job, timers), v)
       else option_map (λ w. ((record job { timer = Some v.timers.next }, puts v.timers.next ticket timers), w)) (sets_timer due v)
@@ -143,7 +143,7 @@ module _ {R U P : Type 0} where
   abbrev pub with_server : U → Choice R U P → Choice R U P
   with_server upstream c = record c { servers = c.servers ++ added upstream ∷ [] }
 
-  abbrev pub keeps : ℕ → Job R P → Choice R U P → Choice R U P
+  abbrev pub keeps : ℕ → ChoiceJob R P → Choice R U P → Choice R U P
   keeps ticket job c = record c { jobs = puts ticket job c.jobs }
 
   abbrev pub unarmed : Option ℕ → Choice R U P → Choice R U P
@@ -152,11 +152,11 @@ module _ {R U P : Type 0} where
   abbrev pub without_owner : (server lower : ℕ) → Choice R U P → Choice R U P
   without_owner server lower c = record c { servers = disowned server lower c.servers }
 
-  abbrev pub judged : ℕ → Job R P → ℕ → Choice R U P → Choice R U P
+  abbrev pub judged : ℕ → ChoiceJob R P → ℕ → Choice R U P → Choice R U P
   judged giver job now c = record c { servers = judges_each giver now job.started c.servers }
 
   -- A request waits on, unless no result is to come.
-  abbrev pub rests : ℕ → Job R P → Choice R U P → View → After R U P
+  abbrev pub rests : ℕ → ChoiceJob R P → Choice R U P → View → After R U P
   rests ticket job c v = if is_over job then Some (c, gives job.deferred ticket v) else Some (keeps ticket job c, v)
 
 module _ {R U P : Type 0} (below : Transport R U P) where
@@ -173,32 +173,32 @@ module _ {R U P : Type 0} (below : Transport R U P) where
   gives_up started c v = option_map (λ x. (record c { servers = x.0 }, x.1)) (drops_each started c.servers v)
 
   -- A server gave the result: each that was started is judged, and the others give the request up.
-  abbrev pub ends : (ticket giver : ℕ) → Part → Job R P → Choice R U P → View → After R U P
+  abbrev pub ends : (ticket giver : ℕ) → Part → ChoiceJob R P → Choice R U P → View → After R U P
   ends ticket giver part job c v = gives_up job.started (unarmed job.timer (judged giver job v.now c)) (answers ticket part (stopped job.timer v))
 
   -- A server is started. When its estimate has passed, the next one is.
-  abbrev pub begun_at : Option Part → Choice R U P → List (Server U) → (Job R P × List (ℕ × ℕ)) × View → ((Option Part × Job R P) × Choice R U P) × View
+  abbrev pub begun_at : Option Part → Choice R U P → List (Server U) → (ChoiceJob R P × List (ℕ × ℕ)) × View → ((Option Part × ChoiceJob R P) × Choice R U P) × View
   begun_at part c servers y = (((part, y.0.0), record c { servers = servers; timers = y.0.1 }), y.1)
 
-  abbrev pub begun : ℕ → Entry → Job R P → Choice R U P → View → (Option (Reply P) × List (Server U)) × View → Begun R U P
+  abbrev pub begun : ℕ → ListedServer → ChoiceJob R P → Choice R U P → View → (Option (Reply P) × List (Server U)) × View → Begun R U P
   begun ticket e job c v x =
       option_map
       (begun_at (parted x.0.0).1 c x.0.1)
       (arms ticket (v.now + e.estimate) (noted e.server v.now v.ticket (parted x.0.0).0 job) c.timers x.1)
 
-  abbrev pub begins : ℕ → Entry → Job R P → Choice R U P → View → Begun R U P
+  abbrev pub begins : ℕ → ListedServer → ChoiceJob R P → Choice R U P → View → Begun R U P
   begins ticket e job c v = option_and_then (begun ticket e job c v) (starts_at below e.server ticket job.request c.servers (for_request job.number v))
 
   module _ (settings : RedundantSettings) where
     -- A server that was started gave its result at once, or not.
-    abbrev pub goes_on : (ticket server : ℕ) → (Job R P → Choice R U P → View → After R U P) → Job R P → Choice R U P → View → Option Part → After R U P
+    abbrev pub goes_on : (ticket server : ℕ) → (ChoiceJob R P → Choice R U P → View → After R U P) → ChoiceJob R P → Choice R U P → View → Option Part → After R U P
     goes_on ticket server next job c v None = Some (keeps ticket job c, v)
     goes_on ticket server next job c v (Some part) =
         if is_deferred settings part then next (put_off part (disarmed job)) (unarmed job.timer c) (stopped job.timer v)
         else ends ticket server part job c v
 
     -- The servers that are left are started in order, up to the first whose result is not put off at once.
-    abbrev pub runs : ℕ → List Entry → Job R P → Choice R U P → View → After R U P
+    abbrev pub runs : ℕ → List ListedServer → ChoiceJob R P → Choice R U P → View → After R U P
     runs ticket [] job c v = rests ticket job c v
     runs ticket (e ∷ es) job c v =
         option_and_then
@@ -206,17 +206,17 @@ module _ {R U P : Type 0} (below : Transport R U P) where
         (begins ticket e (record job { left = es }) c v)
 
     -- A server gave its result for a request, which is in no table then.
-    abbrev pub puts_off : (ticket server : ℕ) → Job R P → Choice R U P → View → After R U P
+    abbrev pub puts_off : (ticket server : ℕ) → ChoiceJob R P → Choice R U P → View → After R U P
     puts_off ticket server job c v =
         if is_last server job then runs ticket job.left (disarmed job) (unarmed job.timer c) (stopped job.timer v)
         else rests ticket job c v
 
-    abbrev pub gets : (ticket server : ℕ) → Part → Job R P → Choice R U P → View → After R U P
+    abbrev pub gets : (ticket server : ℕ) → Part → ChoiceJob R P → Choice R U P → View → After R U P
     gets ticket server part job c v =
         if is_deferred settings part then puts_off ticket server (put_off part job) c v
         else ends ticket server part job c v
 
-    abbrev pub settles_job : (ticket server : ℕ) → Part → Choice R U P → View → Option (Job R P) → After R U P
+    abbrev pub settles_job : (ticket server : ℕ) → Part → Choice R U P → View → Option (ChoiceJob R P) → After R U P
     settles_job ticket server part c v None = Some (c, v)
     settles_job ticket server part c v (Some job) = gets ticket server part (settled server job) (record c { jobs = frees ticket c.jobs }) v
 
@@ -245,7 +245,7 @@ module _ {R U P : Type 0} (below : Transport R U P) where
     hears_all h c v = hears_some 0 (length c.servers) h c v
 
     -- An estimate has passed: the next server is started.
-    abbrev pub fires : ℕ → Choice R U P → View → Option (Job R P) → After R U P
+    abbrev pub fires : ℕ → Choice R U P → View → Option (ChoiceJob R P) → After R U P
     fires ticket c v None = Some (c, v)
     fires ticket c v (Some job) = runs ticket job.left (disarmed job) (record c { jobs = frees ticket c.jobs }) v
 
@@ -265,11 +265,11 @@ module _ {R U P : Type 0} (below : Transport R U P) where
     hears (due_timer timer) c v = due timer c v
 
     -- A request is taken on, with the servers that it is to be started at, in order.
-    abbrev pub takes_on : ℕ → List Entry → R → Choice R U P → View → After R U P
+    abbrev pub takes_on : ℕ → List ListedServer → R → Choice R U P → View → After R U P
     takes_on ticket entries request c v = runs ticket entries (fresh_job v.request request entries) c v
 
   -- A request is given up, where it waits.
-  abbrev pub drops_job : ℕ → Choice R U P → View → Option (Job R P) → After R U P
+  abbrev pub drops_job : ℕ → Choice R U P → View → Option (ChoiceJob R P) → After R U P
   drops_job ticket c v None = Some (c, v)
   drops_job ticket c v (Some job) =
       gives_up job.started (record c { jobs = frees ticket c.jobs; timers = unset job.timer c.timers }) (stopped job.timer v)

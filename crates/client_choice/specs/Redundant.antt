@@ -10,32 +10,37 @@ use Rattle.client_choice.specs.Choice.{Choice, After, empty, takes_on, hears, dr
 use Rattle.client_choice.specs.Servers as of_servers
 use Rattle.client_choice.specs.Servers.{Server}
 use Rattle.client_choice.specs.Stats.{estimate}
-use Rattle.client_choice.specs.declared.job.Entry.{Entry}
+use Rattle.client_choice.specs.declared.job.ListedServer.{ListedServer}
 
 -- ---- which servers a request is to be started at, in order
 
-abbrev pub entry_of : {U : Type 0} → ℕ → Server U → Entry
+abbrev pub entry_of : {U : Type 0} → ℕ → Server U → ListedServer
 entry_of index s = record { server = index; estimate = estimate s.stats }
 
 -- the place of the first entry of which more is expected
-abbrev pub first_above : (estimate : ℕ) → List Entry → Option ℕ
+abbrev pub first_above : (estimate : ℕ) → List ListedServer → Option ℕ
 first_above estimate entries = position (λ x. nat_lt estimate x.estimate) entries
 
 -- the entries with one more, which stands before that place
-abbrev pub lined_up_at : Entry → List Entry → Option ℕ → List Entry
+abbrev pub lined_up_at : ListedServer → List ListedServer → Option ℕ → List ListedServer
 lined_up_at e entries None = entries ++ e ∷ []
 lined_up_at e entries (Some place) = insert entries place e
 
-abbrev pub lined_up : Entry → List Entry → List Entry
+abbrev pub lined_up : ListedServer → List ListedServer → List ListedServer
 lined_up e entries = lined_up_at e entries (first_above e.estimate entries)
 
 -- Servers by estimate, ties in the order in which they were added.
-abbrev pub all_lined_up : {U : Type 0} → ℕ → List (Server U) → List Entry → List Entry
+abbrev pub all_lined_up : {U : Type 0} → ℕ → List (Server U) → List ListedServer → List ListedServer
 all_lined_up index [] entries = entries
 all_lined_up index (s ∷ more) entries = all_lined_up (index + 1) more (lined_up (entry_of index s) entries)
 
-abbrev pub by_estimate : {U : Type 0} → List (Server U) → List Entry
+abbrev pub by_estimate : {U : Type 0} → List (Server U) → List ListedServer
 by_estimate servers = all_lined_up 0 servers []
+
+-- Each server with its estimate, in the order in which they were added: what is sorted.
+abbrev pub in_order_added : {U : Type 0} → ℕ → List (Server U) → List ListedServer
+in_order_added index [] = []
+in_order_added index (s ∷ more) = entry_of index s ∷ in_order_added (index + 1) more
 
 -- ---- probes
 
@@ -52,16 +57,16 @@ probe count v =
     if nat_lt 1 count then (if asks_for_probe (word v) then (Some (probed_place count (word (drawn v))), drawn (drawn v)) else (None, drawn v)) else (None, v)
 
 -- An entry goes first, with an estimate.
-abbrev pub put_first : ℕ → Option Entry → List Entry → List Entry
+abbrev pub put_first : ℕ → Option ListedServer → List ListedServer → List ListedServer
 put_first estimate None entries = entries
 put_first estimate (Some e) entries = record e { estimate = estimate } ∷ entries
 
 -- the entry at a place goes first
-abbrev pub promoted : (place estimate : ℕ) → List Entry → List Entry
+abbrev pub promoted : (place estimate : ℕ) → List ListedServer → List ListedServer
 promoted place estimate entries = put_first estimate (slice_get entries place) (if nat_lt place (length entries) then remove entries place else entries)
 
 -- the entry that is probed goes first, with the least estimate, which is that of the first
-abbrev pub with_probe : Option ℕ → Entry → List Entry → List Entry
+abbrev pub with_probe : Option ℕ → ListedServer → List ListedServer → List ListedServer
 with_probe None first entries = entries
 with_probe (Some place) first entries = promoted place first.estimate entries
 
@@ -69,7 +74,7 @@ with_probe (Some place) first entries = promoted place first.estimate entries
 
 module _ {R U P : Type 0} (settings : RedundantSettings) (below : Transport R U P) where
   -- A request is taken on: where there is no server, it gets that error.
-  abbrev pub takes_listed : ℕ → R → List Entry → Choice R U P → View → After R U P
+  abbrev pub takes_listed : ℕ → R → List ListedServer → Choice R U P → View → After R U P
   takes_listed ticket request [] c v = Some (c, answers ticket (Err errors.NoTransportAvailable) v)
   takes_listed ticket request (e ∷ more) c v =
       takes_on below settings ticket (with_probe (probe (length (e ∷ more)) v).0 e (e ∷ more)) request c (probe (length (e ∷ more)) v).1

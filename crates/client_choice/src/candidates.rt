@@ -6,7 +6,7 @@ ghost use Rattle.client_request.specs.Cx.{view_of, LendsTheSame};
 ghost use Rattle.client_choice.specs.Candidates as plain;
 
 use crate::entries::probe;
-use crate::job::Entry;
+use crate::job::ListedServer;
 use client_request::{Cx, Words};
 use dns_base::NoMemory;
 use std::alloc::Global;
@@ -65,7 +65,7 @@ fn place_of(list: &[Candidate], c: &Candidate, bound: u128) -> Option<usize>
 }
 
 /// Puts a server in its place.
-fn place(list: &mut Vec<Candidate>, c: Candidate, bound: u128) -> Result<(), NoMemory>
+fn insert_in_order(list: &mut Vec<Candidate>, c: Candidate, bound: u128) -> Result<(), NoMemory>
     ensures { OnOk result (list.new.items ≡ plain.placed bound c list.old.items) }
 {
     let at = place_of(list, &c, bound).unwrap_or(list.len());
@@ -96,7 +96,7 @@ fn place_all(
 {
     let mut list = Vec::new(alloc);
     for c in candidates {
-        place(&mut list, *c, bound)?;
+        insert_in_order(&mut list, *c, bound)?;
     }
     Ok(list)
 }
@@ -137,12 +137,12 @@ fn put_probed_first(
 }
 
 /// What a request is started at.
-fn entries_of(alloc: Global, list: &[Candidate]) -> Result<VecDeque<Entry>, NoMemory>
+fn entries_of(alloc: Global, list: &[Candidate]) -> Result<VecDeque<ListedServer>, NoMemory>
     ensures { IfOk result (λ entries. entries.items ≡ map plain.entry_of list.now) }
 {
     let mut entries = VecDeque::new(alloc);
     for c in list {
-        let entry = Entry {
+        let entry = ListedServer {
             server: c.server,
             estimate: c.estimate,
         };
@@ -161,7 +161,7 @@ pub(crate) fn in_order<W: Words>(
     cx: &mut Cx<'_, W>,
     factor: u32,
     candidates: &[Candidate],
-) -> Result<VecDeque<Entry>, NoMemory>
+) -> Result<VecDeque<ListedServer>, NoMemory>
     ensures lends { LendsTheSame cx.old cx.new }
     ensures ok { IfOk result (λ entries. (entries.items, view_of W.stream cx.new) ≡ plain.in_order factor candidates.now (view_of W.stream cx.old)) }
 {

@@ -8,7 +8,7 @@ ghost use Rattle.client_request.specs.Timers.{IsWant};
 ghost use Rattle.client_choice.specs.Choice as plain;
 ghost use Rattle.client_choice.specs.Servers as of_servers;
 
-use crate::job::{Job, Started};
+use crate::job::{ChoiceJob, Started};
 use crate::servers::{Server, give_up_at, judge_at, take_owner};
 use client_request::{Board, ComposeRequest, Cx, Error, SendRequest, TimerId, Words};
 use client_settings::redundant::Config;
@@ -28,7 +28,7 @@ const SERVFAIL: OptRcode = OptRcode(2);
 pub struct Choice<Req, U: SendRequest<Req>> {
     pub(crate) alloc: Global,
     pub(crate) servers: Vec<Server<U>>,
-    pub(crate) jobs: NumberTable<Job<Req, U::Response>>,
+    pub(crate) jobs: NumberTable<ChoiceJob<Req, U::Response>>,
     pub(crate) timers: NumberTable<u64>,
     /// Takes what a server posted while it is settled, and is kept only for its memory.
     pub(crate) board: Board,
@@ -71,17 +71,18 @@ impl<Req, U: SendRequest<Req> + Drop> Choice<Req, U> {
     }
 }
 
-/// Whether a result is put off while another server may still give a better one.
+/// Whether a result is put off while another server may still give a better one. A message's code takes a
+/// walk to its OPT record, so it is read only where the settings put some code off.
 pub(crate) fn is_deferred(config: &Config, part: &Result<Option<Message>, Error>) -> bool
     ensures { result ≡ plain.is_deferred config.now part.now }
 {
     match part {
-        Ok(Some(message)) => {
+        Ok(Some(message)) if config.defer_refused() || config.defer_servfail() => {
             let code = message.opt_rcode();
             (config.defer_refused() && code == REFUSED)
                 || (config.defer_servfail() && code == SERVFAIL)
         }
-        Ok(None) => false,
+        Ok(_) => false,
         Err(_) => config.defer_transport_error(),
     }
 }
@@ -91,7 +92,7 @@ pub(crate) fn arm<Req: Drop, P: Drop, W: Words>(
     timers: &mut NumberTable<u64>,
     cx: &mut Cx<'_, W>,
     ticket: u64,
-    job: &mut Job<Req, P>,
+    job: &mut ChoiceJob<Req, P>,
     due: u128,
 ) -> Result<(), Error>
     ensures lends { LendsTheSame cx.old cx.new }
@@ -144,7 +145,7 @@ fn judge_each<U, P>(servers: &mut Vec<Server<U>>, started: &[Started<P>], giver:
 #[tactic(auto, using(crate::proofs::Keeping::kept_each))]
 pub(crate) fn judge_all<Req: ComposeRequest, U: SendRequest<Req>>(
     choice: &mut Choice<Req, U>,
-    job: &Job<Req, U::Response>,
+    job: &ChoiceJob<Req, U::Response>,
     giver: usize,
     now: u64,
 )

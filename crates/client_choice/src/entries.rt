@@ -1,56 +1,41 @@
 //! Which servers a request is to be started at, in order, and which one is probed.
 
-ghost use Rattle.std.specs.Prelude.{◌≡◌, ◌+◌, ◌*◌, ◌<◌, ◌^◌, IfOk, OnOk, IfErr, IfSome, length};
+ghost use Rattle.std.specs.Prelude.{◌≡◌, ◌+◌, ◌*◌, ◌<◌, ◌^◌, IfOk, OnOk};
 ghost use Rattle.client_request.specs.Cx.{view_of, LendsTheSame};
 ghost use Rattle.client_choice.specs.Redundant as plain;
 
-use crate::job::Entry;
+use crate::job::ListedServer;
 use crate::servers::Server;
 use client_request::{Cx, Words};
 use dns_base::NoMemory;
 use std::alloc::Global;
 use std::collections::VecDeque;
 
-/// The place of the first entry of which more is expected.
-fn first_above(entries: &VecDeque<Entry>, estimate: u64) -> Option<usize>
-    ensures value { result ≡ plain.first_above estimate entries.now.items }
-    ensures within { IfSome result (λ i. i < length entries.now.items) }
+/// Each server with its estimate, in the order in which they were added.
+fn in_order_added<U>(alloc: Global, servers: &[Server<U>]) -> Result<Vec<ListedServer>, NoMemory>
+    ensures { IfOk result (λ list. list.items ≡ plain.in_order_added 0 servers.now) }
 {
-    entries.iter().position(|x| estimate < x.estimate)
-}
-
-/// Lines an entry up: those of which more is expected stand behind it.
-fn line_up(entries: &mut VecDeque<Entry>, entry: Entry) -> Result<(), NoMemory>
-    ensures { OnOk result (entries.new.items ≡ plain.lined_up entry entries.old.items) }
-{
-    let result = match first_above(entries, entry.estimate) {
-        None => entries.push_back(entry),
-        Some(place) => entries.insert(place, entry),
-    };
-    match result {
-        Ok(()) => Ok(()),
-        Err(_) => Err(NoMemory),
+    let mut list = Vec::with_capacity(alloc, servers.len())?;
+    for (index, server) in servers.iter().enumerate() {
+        let listed = ListedServer {
+            server: index,
+            estimate: server.stats.estimate(),
+        };
+        list.push(listed)?;
     }
+    Ok(list)
 }
 
 /// The servers by estimate, ties in the order in which they were added.
 pub(crate) fn by_estimate<U>(
     alloc: Global,
     servers: &[Server<U>],
-) -> Result<VecDeque<Entry>, NoMemory>
+) -> Result<VecDeque<ListedServer>, NoMemory>
     ensures { IfOk result (λ entries. entries.items ≡ plain.by_estimate servers.now) }
 {
-    let mut entries = VecDeque::new(alloc);
-    let mut index = 0;
-    for server in servers {
-        let entry = Entry {
-            server: index,
-            estimate: server.stats.estimate(),
-        };
-        line_up(&mut entries, entry)?;
-        index += 1;
-    }
-    Ok(entries)
+    let mut list = in_order_added(alloc, servers)?;
+    list.sort_by_key(|listed| listed.estimate)?;
+    Ok(VecDeque::from(list))
 }
 
 /// The entry behind the first that a word says, of `count`.
@@ -81,7 +66,7 @@ pub(crate) fn probe<W: Words>(cx: &mut Cx<'_, W>, count: usize) -> Option<usize>
 
 /// The entry that is probed goes first, with an estimate.
 pub(crate) fn promote(
-    entries: &mut VecDeque<Entry>,
+    entries: &mut VecDeque<ListedServer>,
     place: usize,
     estimate: u64,
 ) -> Result<(), NoMemory>
@@ -90,7 +75,7 @@ pub(crate) fn promote(
     let Some(entry) = entries.remove(place) else {
         return Ok(());
     };
-    let first = Entry {
+    let first = ListedServer {
         server: entry.server,
         estimate,
     };

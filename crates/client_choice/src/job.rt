@@ -12,7 +12,7 @@ use std::marker::Model;
 /// A server that a request may be started at: its index, and how long it is expected to take, in
 /// microseconds.
 #[derive(Clone, Copy, Debug, PartialEq, Eq)]
-pub struct Entry {
+pub struct ListedServer {
     /// Its place among the servers, from 0.
     pub server: usize,
     /// How long it is expected to take, in microseconds.
@@ -34,13 +34,13 @@ pub struct Started<P> {
 
 /// A request that waits for its result.
 #[derive(Drop)]
-pub struct Job<Req, P> {
+pub struct ChoiceJob<Req, P> {
     /// The number that its outs name.
     pub(crate) number: u64,
     /// The request, for the servers that are still to be started.
     pub(crate) request: Req,
     /// The servers that are still to be started, in order.
-    pub(crate) left: VecDeque<Entry>,
+    pub(crate) left: VecDeque<ListedServer>,
     /// The servers that were started, in order.
     pub(crate) started: Vec<Started<P>>,
     /// The timer that starts the next server.
@@ -49,10 +49,10 @@ pub struct Job<Req, P> {
     pub(crate) deferred: Option<Result<Option<Message>, Error>>,
 }
 
-impl<Req, P> Model for Job<Req, P> {
-    ghost use Rattle.client_choice.specs.Choice.{Job};
+impl<Req, P> Model for ChoiceJob<Req, P> {
+    ghost use Rattle.client_choice.specs.Choice.{ChoiceJob};
 
-    ghost Value = { Job Req P };
+    ghost Value = { ChoiceJob Req P };
 
     ghost view = { λ j. record {
       number = j.number;
@@ -93,7 +93,7 @@ fn all_gave<P>(started: &[Started<P>]) -> bool
     started.iter().all(|s| s.response.is_none())
 }
 
-impl<Req: Drop, P: Drop> Job<Req, P> {
+impl<Req: Drop, P: Drop> ChoiceJob<Req, P> {
     /// Puts a result off.
     pub(crate) fn put_off(&mut self, part: Result<Option<Message>, Error>)
         ensures { self.new ≡ plain.put_off part self.old }
@@ -126,7 +126,7 @@ impl<Req: Drop, P: Drop> Job<Req, P> {
     }
 
     /// A server gave its result.
-    pub(crate) fn settle(&mut self, server: usize)
+    pub(crate) fn mark_given(&mut self, server: usize)
         ensures { self.new ≡ plain.settled server self.old }
     {
         let Some(place) = place_of(&self.started, server) else {

@@ -17,7 +17,7 @@ mod steps;
 
 pub use candidates::Candidate;
 pub use choice::Choice;
-pub use job::{Entry, Job, Started};
+pub use job::{ChoiceJob, ListedServer, Started};
 pub use servers::{Reply, Server};
 pub use servfail::serve_fail;
 pub use stats::{Stats, stats_law};

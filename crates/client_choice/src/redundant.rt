@@ -21,9 +21,9 @@ ghost use Rattle.client_choice.specs.Servers as of_servers;
 
 use crate::choice::Choice;
 use crate::entries::{by_estimate, probe, promote};
-use crate::job::Entry;
+use crate::job::ListedServer;
 use crate::servers::send_at;
-use crate::steps::{give_up, hear, take_on};
+use crate::steps::{give_up, hear, start_job};
 use client_request::{
     Board, ComposeRequest, Cx, Error, GetResponse, Poll, SendRequest, Signal, Words, take_response,
 };
@@ -113,9 +113,9 @@ pub(crate) fn send_past<Req: ComposeRequest, U: SendRequest<Req>, W: Words>(
 /// The entry that is probed goes first, with the least estimate. Its list is in order, so the first
 /// entry has it.
 fn draw_probe<W: Words>(
-    entries: &mut VecDeque<Entry>,
+    entries: &mut VecDeque<ListedServer>,
     cx: &mut Cx<'_, W>,
-    first: Entry,
+    first: ListedServer,
 ) -> Result<(), NoMemory>
     ensures lends { LendsTheSame cx.old cx.new }
     ensures entries { OnOk result (entries.new.items ≡ plain.with_probe (plain.probe (length entries.old.items) (view_of W.stream cx.old)).0 first entries.old.items) }
@@ -128,12 +128,12 @@ fn draw_probe<W: Words>(
 }
 
 /// Takes a request on, with the servers in order. Where there is none, it gets that error.
-fn take_listed<Req: ComposeRequest, U: SendRequest<Req>, W: Words>(
+fn start_listed<Req: ComposeRequest, U: SendRequest<Req>, W: Words>(
     choice: &mut Choice<Req, U>,
     config: &Config,
     cx: &mut Cx<'_, W>,
     ticket: u64,
-    entries: VecDeque<Entry>,
+    entries: VecDeque<ListedServer>,
     request: Req,
 ) -> Result<(), Error>
     ensures lends { LendsTheSame cx.old cx.new }
@@ -149,11 +149,11 @@ fn take_listed<Req: ComposeRequest, U: SendRequest<Req>, W: Words>(
         return Ok(());
     };
     draw_probe(&mut entries, cx, first)?;
-    take_on(choice, config, cx, ticket, entries, request)
+    start_job(choice, config, cx, ticket, entries, request)
 }
 
 /// Takes a request on.
-fn take<Req: ComposeRequest, U: SendRequest<Req>, W: Words>(
+fn take_on<Req: ComposeRequest, U: SendRequest<Req>, W: Words>(
     choice: &mut Choice<Req, U>,
     config: &Config,
     cx: &mut Cx<'_, W>,
@@ -173,7 +173,7 @@ fn take<Req: ComposeRequest, U: SendRequest<Req>, W: Words>(
     };
     cx.ticket = next;
     let entries = by_estimate(choice.alloc, &choice.servers)?;
-    take_listed(choice, config, cx, ticket, entries, request)?;
+    start_listed(choice, config, cx, ticket, entries, request)?;
     Ok(ticket)
 }
 
@@ -288,7 +288,7 @@ impl<Req: ComposeRequest, U: SendRequest<Req>> SendRequest<Req> for Connection<R
         if self.failed {
             return Err(Error::Failed);
         }
-        let result = take(&mut self.choice, &self.config, cx, request);
+        let result = take_on(&mut self.choice, &self.config, cx, request);
         match result {
             Ok(ticket) => Ok(Request {
                 ticket,

@@ -8,7 +8,7 @@ ghost use Rattle.client_choice.specs.Choice as plain;
 ghost use Rattle.client_choice.specs.Servers as of_servers;
 
 use crate::choice::{Choice, arm, disarm, disown, give_up_all, is_deferred, judge_all};
-use crate::job::{Entry, Job, parted};
+use crate::job::{ChoiceJob, ListedServer, parted};
 use crate::servers::{hear_at, start_at};
 use client_request::{
     Board, ComposeRequest, Cx, Error, Posted, SendRequest, Signal, TimerId, Words,
@@ -19,12 +19,12 @@ use std::collections::VecDeque;
 use std::mem;
 
 /// Starts a request at a server. When the estimate of that one has passed, the next one is started.
-fn begin<Req: ComposeRequest, U: SendRequest<Req>, W: Words>(
+fn start_server<Req: ComposeRequest, U: SendRequest<Req>, W: Words>(
     choice: &mut Choice<Req, U>,
     cx: &mut Cx<'_, W>,
     ticket: u64,
-    job: &mut Job<Req, U::Response>,
-    entry: Entry,
+    job: &mut ChoiceJob<Req, U::Response>,
+    entry: ListedServer,
 ) -> Result<Option<Result<Option<Message>, Error>>, Error>
     ensures lends { LendsTheSame cx.old cx.new }
     ensures ok { IfOk result (λ part. plain.begins U.transport ticket entry job.old choice.old (view_of W.stream cx.old) ≡ Some (((part, job.new), choice.new), view_of W.stream cx.new)) }
@@ -46,10 +46,10 @@ fn begin<Req: ComposeRequest, U: SendRequest<Req>, W: Words>(
 }
 
 /// Keeps a request that waits.
-fn keep<Req: ComposeRequest, U: SendRequest<Req>>(
+fn keep_job<Req: ComposeRequest, U: SendRequest<Req>>(
     choice: &mut Choice<Req, U>,
     ticket: u64,
-    job: Job<Req, U::Response>,
+    job: ChoiceJob<Req, U::Response>,
 ) -> Result<(), NoMemory>
     ensures { OnOk result (choice.new ≡ plain.keeps ticket job choice.old) }
 {
@@ -60,12 +60,12 @@ fn keep<Req: ComposeRequest, U: SendRequest<Req>>(
 }
 
 /// A server gave the result of a request: each that was started is judged, and the others give it up.
-fn end<Req: ComposeRequest, U: SendRequest<Req>, W: Words>(
+fn give_result<Req: ComposeRequest, U: SendRequest<Req>, W: Words>(
     choice: &mut Choice<Req, U>,
     cx: &mut Cx<'_, W>,
     ticket: u64,
     giver: usize,
-    job: Job<Req, U::Response>,
+    job: ChoiceJob<Req, U::Response>,
     part: Result<Option<Message>, Error>,
 ) -> Result<(), Error>
     ensures lends { LendsTheSame cx.old cx.new }
@@ -82,11 +82,11 @@ fn end<Req: ComposeRequest, U: SendRequest<Req>, W: Words>(
 }
 
 /// A request waits on. Where each server gave a result, the best of those that were put off is given.
-fn rest<Req: ComposeRequest, U: SendRequest<Req>, W: Words>(
+fn keep_or_give_deferred<Req: ComposeRequest, U: SendRequest<Req>, W: Words>(
     choice: &mut Choice<Req, U>,
     cx: &mut Cx<'_, W>,
     ticket: u64,
-    job: Job<Req, U::Response>,
+    job: ChoiceJob<Req, U::Response>,
 ) -> Result<(), Error>
     ensures lends { LendsTheSame cx.old cx.new }
     ensures ok { Steps result (plain.rests ticket job choice.old (view_of W.stream cx.old)) (choice.new, view_of W.stream cx.new) }
@@ -96,10 +96,10 @@ fn rest<Req: ComposeRequest, U: SendRequest<Req>, W: Words>(
     ensures failed_only { IsErrOf result Error.Failed → of_servers.holds_failed U.holds_failed choice.old.servers ≡ true }
 {
     if !job.is_over() {
-        keep(choice, ticket, job)?;
+        keep_job(choice, ticket, job)?;
         return Ok(());
     }
-    let Job {
+    let ChoiceJob {
         number: _number,
         request: _request,
         left: _left,
@@ -118,12 +118,12 @@ fn rest<Req: ComposeRequest, U: SendRequest<Req>, W: Words>(
 
 /// The servers that are left are started in order, up to the first whose result is not put off at
 /// once.
-fn run<Req: ComposeRequest, U: SendRequest<Req>, W: Words>(
+fn start_next_servers<Req: ComposeRequest, U: SendRequest<Req>, W: Words>(
     choice: &mut Choice<Req, U>,
     config: &Config,
     cx: &mut Cx<'_, W>,
     ticket: u64,
-    job: Job<Req, U::Response>,
+    job: ChoiceJob<Req, U::Response>,
 ) -> Result<(), Error>
     ensures lends { LendsTheSame cx.old cx.new }
     ensures ok { Steps result (plain.runs U.transport config.now ticket job.left job choice.old (view_of W.stream cx.old)) (choice.new, view_of W.stream cx.new) }
@@ -134,28 +134,28 @@ fn run<Req: ComposeRequest, U: SendRequest<Req>, W: Words>(
 {
     let mut job = job;
     while let Some(entry) = job.left.pop_front() {
-        let Some(part) = begin(choice, cx, ticket, &mut job, entry)? else {
-            keep(choice, ticket, job)?;
+        let Some(part) = start_server(choice, cx, ticket, &mut job, entry)? else {
+            keep_job(choice, ticket, job)?;
             return Ok(());
         };
         if !is_deferred(config, &part) {
-            return end(choice, cx, ticket, entry.server, job, part);
+            return give_result(choice, cx, ticket, entry.server, job, part);
         }
         disarm(&mut choice.timers, cx, job.timer);
         job.timer = None;
         job.put_off(part);
     }
-    rest(choice, cx, ticket, job)
+    keep_or_give_deferred(choice, cx, ticket, job)
 }
 
 /// The result of a server was put off: where that one was started last, the next one is started.
-fn go_on<Req: ComposeRequest, U: SendRequest<Req>, W: Words>(
+fn start_next_if_last<Req: ComposeRequest, U: SendRequest<Req>, W: Words>(
     choice: &mut Choice<Req, U>,
     config: &Config,
     cx: &mut Cx<'_, W>,
     ticket: u64,
     server: usize,
-    job: Job<Req, U::Response>,
+    job: ChoiceJob<Req, U::Response>,
 ) -> Result<(), Error>
     ensures lends { LendsTheSame cx.old cx.new }
     ensures ok { Steps result (plain.puts_off U.transport config.now ticket server job choice.old (view_of W.stream cx.old)) (choice.new, view_of W.stream cx.new) }
@@ -165,22 +165,22 @@ fn go_on<Req: ComposeRequest, U: SendRequest<Req>, W: Words>(
     ensures failed_only { IsErrOf result Error.Failed → of_servers.holds_failed U.holds_failed choice.old.servers ≡ true }
 {
     if !job.is_last(server) {
-        return rest(choice, cx, ticket, job);
+        return keep_or_give_deferred(choice, cx, ticket, job);
     }
     let mut job = job;
     disarm(&mut choice.timers, cx, job.timer);
     job.timer = None;
-    run(choice, config, cx, ticket, job)
+    start_next_servers(choice, config, cx, ticket, job)
 }
 
 /// A server gave its result for a request, which is in no table any more.
-fn get<Req: ComposeRequest, U: SendRequest<Req>, W: Words>(
+fn defer_or_give<Req: ComposeRequest, U: SendRequest<Req>, W: Words>(
     choice: &mut Choice<Req, U>,
     config: &Config,
     cx: &mut Cx<'_, W>,
     ticket: u64,
     server: usize,
-    job: Job<Req, U::Response>,
+    job: ChoiceJob<Req, U::Response>,
     part: Result<Option<Message>, Error>,
 ) -> Result<(), Error>
     ensures lends { LendsTheSame cx.old cx.new }
@@ -191,11 +191,11 @@ fn get<Req: ComposeRequest, U: SendRequest<Req>, W: Words>(
     ensures failed_only { IsErrOf result Error.Failed → of_servers.holds_failed U.holds_failed choice.old.servers ≡ true }
 {
     if !is_deferred(config, &part) {
-        return end(choice, cx, ticket, server, job, part);
+        return give_result(choice, cx, ticket, server, job, part);
     }
     let mut job = job;
     job.put_off(part);
-    go_on(choice, config, cx, ticket, server, job)
+    start_next_if_last(choice, config, cx, ticket, server, job)
 }
 
 /// What a server posted is the result of the request that waits under that ticket. Else it is handed
@@ -226,8 +226,8 @@ fn settle<Req: ComposeRequest, U: SendRequest<Req>, W: Words>(
         return Ok(());
     };
     let mut job = job;
-    job.settle(server);
-    get(choice, config, cx, ticket, server, job, part)
+    job.mark_given(server);
+    defer_or_give(choice, config, cx, ticket, server, job, part)
 }
 
 /// What a server posted is settled, in order.
@@ -294,7 +294,7 @@ fn hear_all<Req: ComposeRequest, U: SendRequest<Req>, W: Words>(
 }
 
 /// An estimate has passed: the next server is started.
-fn fire<Req: ComposeRequest, U: SendRequest<Req>, W: Words>(
+fn start_after_estimate<Req: ComposeRequest, U: SendRequest<Req>, W: Words>(
     choice: &mut Choice<Req, U>,
     config: &Config,
     cx: &mut Cx<'_, W>,
@@ -312,11 +312,11 @@ fn fire<Req: ComposeRequest, U: SendRequest<Req>, W: Words>(
     };
     let mut job = job;
     job.timer = None;
-    run(choice, config, cx, ticket, job)
+    start_next_servers(choice, config, cx, ticket, job)
 }
 
 /// A timer fired: that of a request, or one of a server.
-fn due<Req: ComposeRequest, U: SendRequest<Req>, W: Words>(
+fn fire_timer<Req: ComposeRequest, U: SendRequest<Req>, W: Words>(
     choice: &mut Choice<Req, U>,
     config: &Config,
     cx: &mut Cx<'_, W>,
@@ -330,7 +330,7 @@ fn due<Req: ComposeRequest, U: SendRequest<Req>, W: Words>(
     ensures failed_only { IsErrOf result Error.Failed → of_servers.holds_failed U.holds_failed choice.old.servers ≡ true }
 {
     match choice.timers.remove(timer.0) {
-        Some(ticket) => fire(choice, config, cx, ticket),
+        Some(ticket) => start_after_estimate(choice, config, cx, ticket),
         None => hear_all(choice, config, cx, Signal::Due(timer)),
     }
 }
@@ -350,18 +350,18 @@ pub(crate) fn hear<Req: ComposeRequest, U: SendRequest<Req>, W: Words>(
     ensures failed_only { IsErrOf result Error.Failed → of_servers.holds_failed U.holds_failed choice.old.servers ≡ true }
 {
     match signal {
-        Signal::Due(timer) => due(choice, config, cx, timer),
+        Signal::Due(timer) => fire_timer(choice, config, cx, timer),
         Signal::Told(_) | Signal::More { .. } => hear_all(choice, config, cx, signal),
     }
 }
 
 /// Takes a request on, with the servers that it is to be started at, in order.
-pub(crate) fn take_on<Req: ComposeRequest, U: SendRequest<Req>, W: Words>(
+pub(crate) fn start_job<Req: ComposeRequest, U: SendRequest<Req>, W: Words>(
     choice: &mut Choice<Req, U>,
     config: &Config,
     cx: &mut Cx<'_, W>,
     ticket: u64,
-    entries: VecDeque<Entry>,
+    entries: VecDeque<ListedServer>,
     request: Req,
 ) -> Result<(), Error>
     ensures lends { LendsTheSame cx.old cx.new }
@@ -371,7 +371,7 @@ pub(crate) fn take_on<Req: ComposeRequest, U: SendRequest<Req>, W: Words>(
     ensures refused { IfErr result IsRefusal }
     ensures failed_only { IsErrOf result Error.Failed → of_servers.holds_failed U.holds_failed choice.old.servers ≡ true }
 {
-    let job = Job {
+    let job = ChoiceJob {
         number: cx.request,
         request,
         left: entries,
@@ -379,7 +379,7 @@ pub(crate) fn take_on<Req: ComposeRequest, U: SendRequest<Req>, W: Words>(
         timer: None,
         deferred: None,
     };
-    run(choice, config, cx, ticket, job)
+    start_next_servers(choice, config, cx, ticket, job)
 }
 
 /// Gives a request up, where it waits.

@@ -7,11 +7,11 @@ use Rattle.client_request.specs.View.{View, Transport, more_at, word, drawn}
 use Rattle.client_request.specs.declared.event.Out.{Out}
 use Rattle.client_settings.specs.Settings.{RedundantSettings}
 use Rattle.client_choice.specs.Choice as choice
-use Rattle.client_choice.specs.Choice.{Choice, Job, unset, stopped, drops_response, drops_each, drops_job, drops, fresh_job, runs, takes_on, due, hears_all}
+use Rattle.client_choice.specs.Choice.{Choice, ChoiceJob, unset, stopped, drops_response, drops_each, drops_job, drops, fresh_job, runs, takes_on, due, hears_all}
 use Rattle.client_choice.specs.Redundant as redundant
 use Rattle.client_choice.specs.Redundant.{Redundant, Asked, entry_of, lined_up, all_lined_up, by_estimate, asks_for_probe, probed_place, probe, with_probe, takes_listed, takes, with_choice}
 use Rattle.client_choice.specs.Servers.{Server, onto, dropped, drops_found, drops_at}
-use Rattle.client_choice.specs.declared.job.Entry.{Entry}
+use Rattle.client_choice.specs.declared.job.ListedServer.{ListedServer}
 use Rattle.client_choice.specs.declared.job.Started.{Started}
 use Rattle.client_cutting.specs.Pieces.{like, IsReady, Both, Neither, Each, Stays, MayClose, Takes, IsCuttable, PostsNothing, CancelsQuietly}
 use Rattle.client_cutting.specs.Choices.{octets_or, servers_octets, longer_servers, AreFitServers, choice_octets, longer_choice, IsFitChoice}
@@ -41,7 +41,7 @@ module _ {U : Type 0} (octets : U → Option (List ℕ)) (longer : List ℕ → 
   twice_all twice a b [] = refl
   twice_all twice a b (s ∷ more) = ap₂ (λ (u : U) (xs : List (Server U)). record s { upstream = u } ∷ xs) (twice a b s.upstream) (twice_all twice a b more)
 
-  lined_up_alike : (piece : List ℕ) (index : ℕ) (servers : List (Server U)) (entries : List Entry) → all_lined_up index (longer_servers longer piece servers) entries ≡ all_lined_up index servers entries
+  lined_up_alike : (piece : List ℕ) (index : ℕ) (servers : List (Server U)) (entries : List ListedServer) → all_lined_up index (longer_servers longer piece servers) entries ≡ all_lined_up index servers entries
   lined_up_alike piece index [] entries = refl
   lined_up_alike piece index (s ∷ more) entries = lined_up_alike piece (index + 1) more (lined_up (entry_of index s) entries)
 
@@ -103,7 +103,7 @@ module _ {R U P : Type 0} (place : ℕ) (below : Transport R U P) (octets : U �
       → Both Long before (Stay c v) (drops below ticket c v) (drops below ticket (Long c) (like before more request v))
   drops_alike ticket c v more request f = by (entry_at ticket c.jobs)
     where
-      by : (o : Option (Job R P)) → Both Long before (Stay c v) (drops_job below ticket c v o) (drops_job below ticket (Long c) (like before more request v) o)
+      by : (o : Option (ChoiceJob R P)) → Both Long before (Stay c v) (drops_job below ticket c v o) (drops_job below ticket (Long c) (like before more request v) o)
       by None = Each _ _ more request (record { fit = f; timer = le_refl v.timers.next; now = refl; octets = refl; more = refl })
       by (Some job) =
           let g : GoesOn v (stopped job.timer v) = stopped_goes job.timer v in
@@ -113,7 +113,7 @@ module _ {R U P : Type 0} (place : ℕ) (below : Transport R U P) (octets : U �
 
   module _ (settings : RedundantSettings) (request : R) (c : Choice R U P) (v : View) (more : Bool) (f : Fits c v) where
     -- the servers are probed or not
-    chosen : (ticket : ℕ) (entries : List Entry) (w : View) → GoesOn v w
+    chosen : (ticket : ℕ) (entries : List ListedServer) (w : View) → GoesOn v w
         → Both Long before (Stay c v) (takes_on below settings ticket entries request c w) (takes_on below settings ticket entries request (Long c) (like before more w.request w))
     chosen ticket entries w g = weaker (λ d x h. goes_then c d v w x f g h)
         (runs_alike place below octets longer IsFit cut quiet piece before settings ticket entries (fresh_job w.request request entries) c w more w.request (fits_then c v w f g))
@@ -124,7 +124,7 @@ module _ {R U P : Type 0} (place : ℕ) (below : Transport R U P) (octets : U �
     ticked : GoesOn v Ticked
     ticked = record { timer = le_refl v.timers.next; now = refl; more = refl }
 
-    listed : (entries : List Entry) → Both Long before (Stay c v) (takes_listed settings below v.ticket request entries c Ticked) (takes_listed settings below v.ticket request entries (Long c) (like before more v.request Ticked))
+    listed : (entries : List ListedServer) → Both Long before (Stay c v) (takes_listed settings below v.ticket request entries c Ticked) (takes_listed settings below v.ticket request entries (Long c) (like before more v.request Ticked))
     listed [] = Each _ _ more v.request (record { fit = f; timer = le_refl v.timers.next; now = refl; octets = refl; more = refl })
     listed (e ∷ es) = by (nat_lt 1 (length (e ∷ es))) (asks_for_probe (word v))
       where
@@ -235,7 +235,7 @@ module _ {R U P : Type 0} (below : Transport R U P) where
       stopped_board None = refl
       stopped_board (Some timer) = refl
 
-      by : (o : Option (Job R P)) → KeepsBoard v (drops_job below ticket c v o)
+      by : (o : Option (ChoiceJob R P)) → KeepsBoard v (drops_job below ticket c v o)
       by None = refl
       by (Some job) = keeps_from v (stopped job.timer v) (choice.gives_up below job.started (record c { jobs = frees ticket c.jobs; timers = unset job.timer c.timers }) (stopped job.timer v)) (stopped_board job.timer)
           (keeps_map (stopped job.timer v) (λ (x : List (Server U) × View). (record c { servers = x.0; jobs = frees ticket c.jobs; timers = unset job.timer c.timers }, x.1)) (drops_each below job.started c.servers (stopped job.timer v))

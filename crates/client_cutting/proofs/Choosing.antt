@@ -8,9 +8,9 @@ use Rattle.client_request.specs.View.{View, Transport, answers, sets_timer}
 use Rattle.client_request.specs.declared.board.Posted.{Posted}
 use Rattle.client_request.specs.declared.event.Out.{Out}
 use Rattle.client_settings.specs.Settings.{RedundantSettings}
-use Rattle.client_choice.specs.Choice.{Choice, Job, is_deferred, stopped, gives, parted, put_off, noted, settled, is_last, is_over, disarmed, arms, judges_each, keeps, unarmed, without_owner, judged, rests, drops_response, drops_each, gives_up, ends, begins, goes_on, runs, puts_off, gets, settles_job, settles_owner, settles, settles_all}
+use Rattle.client_choice.specs.Choice.{Choice, ChoiceJob, is_deferred, stopped, gives, parted, put_off, noted, settled, is_last, is_over, disarmed, arms, judges_each, keeps, unarmed, without_owner, judged, rests, drops_response, drops_each, gives_up, ends, begins, goes_on, runs, puts_off, gets, settles_job, settles_owner, settles, settles_all}
 use Rattle.client_choice.specs.Servers.{Server, for_request, judges, owner, disowned}
-use Rattle.client_choice.specs.declared.job.Entry.{Entry}
+use Rattle.client_choice.specs.declared.job.ListedServer.{ListedServer}
 use Rattle.client_choice.specs.declared.job.Started.{Started}
 use Rattle.client_cutting.specs.Pieces.{like, Both, Neither, Each, IsCuttable, PostsNothing}
 use Rattle.client_cutting.specs.Choices.{longer_servers, AreFitServers}
@@ -42,18 +42,18 @@ gives_goes None ticket v = record { timer = le_refl v.timers.next; now = refl; m
 gives_goes (Some part) ticket v = record { timer = le_refl v.timers.next; now = refl; more = refl }
 
 module _ {R P : Type 0} (before : List Out) where
-  arms_alike : (ticket due : ℕ) (job : Job R P) (timers : List (ℕ × ℕ)) (v : View) (more : Bool) (request : ℕ)
-      → Both (λ (x : Job R P × List (ℕ × ℕ)). x) before (λ x w. GoesOn v w) (arms ticket due job timers v) (arms ticket due job timers (like before more request v))
+  arms_alike : (ticket due : ℕ) (job : ChoiceJob R P) (timers : List (ℕ × ℕ)) (v : View) (more : Bool) (request : ℕ)
+      → Both (λ (x : ChoiceJob R P × List (ℕ × ℕ)). x) before (λ x w. GoesOn v w) (arms ticket due job timers v) (arms ticket due job timers (like before more request v))
   arms_alike ticket due job timers v more request = by (length job.left == 0)
     where
-      set : (b : Bool) → Both (λ (x : Job R P × List (ℕ × ℕ)). x) before (λ x w. GoesOn v w)
+      set : (b : Bool) → Both (λ (x : ChoiceJob R P × List (ℕ × ℕ)). x) before (λ x w. GoesOn v w)
           (option_map (λ w. ((record job { timer = Some v.timers.next }, puts v.timers.next ticket timers), w)) (if b then Some (record v { timers = with_timer due v.timers }) else None))
           (option_map (λ w. ((record job { timer = Some v.timers.next }, puts v.timers.next ticket timers), w))
           (if b then Some (like before more request (record v { timers = with_timer due v.timers })) else None))
       set true = Each _ _ more request (record { timer = omega arith; now = refl; more = refl })
       set false = Neither
 
-      by : (b : Bool) → Both (λ (x : Job R P × List (ℕ × ℕ)). x) before (λ x w. GoesOn v w)
+      by : (b : Bool) → Both (λ (x : ChoiceJob R P × List (ℕ × ℕ)). x) before (λ x w. GoesOn v w)
           (if b then Some ((job, timers), v) else option_map (λ w. ((record job { timer = Some v.timers.next }, puts v.timers.next ticket timers), w)) (sets_timer due v))
           (if b then Some ((job, timers), like before more request v) else option_map (λ w. ((record job { timer = Some v.timers.next }, puts v.timers.next ticket timers), w)) (sets_timer due (like before more request v)))
       by true = Each _ _ more request (record { timer = le_refl v.timers.next; now = refl; more = refl })
@@ -119,7 +119,7 @@ module _ {R U P : Type 0} (place : ℕ) (below : Transport R U P) (octets : U �
   answered : (timer : Option ℕ) (ticket : ℕ) (part : Part) (v : View) → GoesOn v (answers ticket part (stopped timer v))
   answered timer ticket part v = (let g = stopped_goes timer v in record { timer = g.timer; now = g.now; more = g.more })
 
-  ends_alike : (ticket giver : ℕ) (part : Part) (job : Job R P) (c : Choice R U P) (v : View) (more : Bool) (request : ℕ) → Fits c v
+  ends_alike : (ticket giver : ℕ) (part : Part) (job : ChoiceJob R P) (c : Choice R U P) (v : View) (more : Bool) (request : ℕ) → Fits c v
       → Both Long before (Kept c v) (ends below ticket giver part job c v) (ends below ticket giver part job (Long c) (like before more request v))
   ends_alike ticket giver part job c v more request f =
       let xs : List (Server U) = judges_each giver v.now job.started c.servers in
@@ -128,7 +128,7 @@ module _ {R U P : Type 0} (place : ℕ) (below : Transport R U P) (octets : U �
       rw (judges_each_alike giver v.now job.started c.servers, stopped_alike before more request job.timer v)
       (weaker (λ d w h. stay_next c.servers xs d.servers v x w here h) (gives_up_alike job.started (unarmed job.timer (judged giver job v.now c)) x more request here.fit))
 
-  rests_alike : (ticket : ℕ) (job : Job R P) (c : Choice R U P) (v : View) (more : Bool) (request : ℕ) → Fits c v
+  rests_alike : (ticket : ℕ) (job : ChoiceJob R P) (c : Choice R U P) (v : View) (more : Bool) (request : ℕ) → Fits c v
       → Both Long before (Kept c v) (rests ticket job c v) (rests ticket job (Long c) (like before more request v))
   rests_alike ticket job c v more request f = rw (gives_alike before more request job.deferred ticket v) (by (is_over job))
     where
@@ -140,8 +140,8 @@ module _ {R U P : Type 0} (place : ℕ) (below : Transport R U P) (octets : U �
   of_request : (a b : List (Server U)) (number : ℕ) (v w : View) → Stay a (for_request number v) b w → Stay a v b w
   of_request a b number v w x = record { fit = x.fit; timer = x.timer; now = x.now; more = x.more; near = x.near }
 
-  begins_alike : (ticket : ℕ) (e : Entry) (job : Job R P) (c : Choice R U P) (v : View) (more : Bool) (request : ℕ) → Fits c v
-      → Both (λ (x : (Option Part × Job R P) × Choice R U P). (x.0, Long x.1)) before (λ x w. Kept c v x.1 w) (begins below ticket e job c v) (begins below ticket e job (Long c) (like before more request v))
+  begins_alike : (ticket : ℕ) (e : ListedServer) (job : ChoiceJob R P) (c : Choice R U P) (v : View) (more : Bool) (request : ℕ) → Fits c v
+      → Both (λ (x : (Option Part × ChoiceJob R P) × Choice R U P). (x.0, Long x.1)) before (λ x w. Kept c v x.1 w) (begins below ticket e job c v) (begins below ticket e job (Long c) (like before more request v))
   begins_alike ticket e job c v more request f =
       then_both _ _
       (starts_alike place below octets longer IsFit cut quiet piece before e.server ticket job.request c.servers (for_request job.number v) more f)
@@ -150,8 +150,8 @@ module _ {R U P : Type 0} (place : ℕ) (below : Transport R U P) (octets : U �
       (λ y z more'' request'' g. Each _ _ more'' request'' (stay_goes c.servers x.1 v w z (of_request c.servers x.1 job.number v w h) g)))
 
   module _ (settings : RedundantSettings) where
-    goes_on_alike : (ticket server : ℕ) (next : Job R P → Choice R U P → View → Option (Choice R U P × View)) (part : Option Part) (job : Job R P) (c : Choice R U P) (v : View) (more : Bool) (request : ℕ)
-        → ((job : Job R P) (c : Choice R U P) (v : View) (more : Bool) (request : ℕ) → Fits c v → Both Long before (Kept c v) (next job c v) (next job (Long c) (like before more request v)))
+    goes_on_alike : (ticket server : ℕ) (next : ChoiceJob R P → Choice R U P → View → Option (Choice R U P × View)) (part : Option Part) (job : ChoiceJob R P) (c : Choice R U P) (v : View) (more : Bool) (request : ℕ)
+        → ((job : ChoiceJob R P) (c : Choice R U P) (v : View) (more : Bool) (request : ℕ) → Fits c v → Both Long before (Kept c v) (next job c v) (next job (Long c) (like before more request v)))
         → Fits c v → Both Long before (Kept c v) (goes_on below settings ticket server next job c v part) (goes_on below settings ticket server next job (Long c) (like before more request v) part)
     goes_on_alike ticket server next None job c v more request alike f = Each _ _ more request (stay_here c.servers v f)
     goes_on_alike ticket server next (Some part) job c v more request alike f = by (is_deferred settings part)
@@ -164,7 +164,7 @@ module _ {R U P : Type 0} (place : ℕ) (below : Transport R U P) (octets : U �
             (alike (put_off part (disarmed job)) (unarmed job.timer c) (stopped job.timer v) more request here.fit))
         by false = ends_alike ticket server part job c v more request f
 
-    pub runs_alike : (ticket : ℕ) (es : List Entry) (job : Job R P) (c : Choice R U P) (v : View) (more : Bool) (request : ℕ) → Fits c v
+    pub runs_alike : (ticket : ℕ) (es : List ListedServer) (job : ChoiceJob R P) (c : Choice R U P) (v : View) (more : Bool) (request : ℕ) → Fits c v
         → Both Long before (Kept c v) (runs below settings ticket es job c v) (runs below settings ticket es job (Long c) (like before more request v))
     runs_alike ticket [] job c v more request f = rests_alike ticket job c v more request f
     runs_alike ticket (e ∷ es) job c v more request f = then_both _ _
@@ -172,7 +172,7 @@ module _ {R U P : Type 0} (place : ℕ) (below : Transport R U P) (octets : U �
         (λ x w more' request' h. weaker (λ d z g. stay_next c.servers x.1.servers d.servers v w z h g)
         (goes_on_alike ticket e.server (runs below settings ticket es) x.0.0 x.0.1 x.1 w more' request' (λ job c v more request f. runs_alike ticket es job c v more request f) h.fit))
 
-    puts_off_alike : (ticket server : ℕ) (job : Job R P) (c : Choice R U P) (v : View) (more : Bool) (request : ℕ) → Fits c v
+    puts_off_alike : (ticket server : ℕ) (job : ChoiceJob R P) (c : Choice R U P) (v : View) (more : Bool) (request : ℕ) → Fits c v
         → Both Long before (Kept c v) (puts_off below settings ticket server job c v) (puts_off below settings ticket server job (Long c) (like before more request v))
     puts_off_alike ticket server job c v more request f = rw (stopped_alike before more request job.timer v) (by (is_last server job))
       where
@@ -184,7 +184,7 @@ module _ {R U P : Type 0} (place : ℕ) (below : Transport R U P) (octets : U �
             (runs_alike ticket job.left (disarmed job) (unarmed job.timer c) (stopped job.timer v) more request here.fit)
         by false = rests_alike ticket job c v more request f
 
-    gets_alike : (ticket server : ℕ) (part : Part) (job : Job R P) (c : Choice R U P) (v : View) (more : Bool) (request : ℕ) → Fits c v
+    gets_alike : (ticket server : ℕ) (part : Part) (job : ChoiceJob R P) (c : Choice R U P) (v : View) (more : Bool) (request : ℕ) → Fits c v
         → Both Long before (Kept c v) (gets below settings ticket server part job c v) (gets below settings ticket server part job (Long c) (like before more request v))
     gets_alike ticket server part job c v more request f = by (is_deferred settings part)
       where
@@ -199,7 +199,7 @@ module _ {R U P : Type 0} (place : ℕ) (below : Transport R U P) (octets : U �
         Each _ _ more request (stay_goes c.servers c.servers v v (answers p.ticket p.part v) (stay_here c.servers v f) (record { timer = le_refl v.timers.next; now = refl; more = refl }))
     settles_owner_alike server p (Some ticket) c v more request f = by (entry_at ticket c.jobs)
       where
-        by : (o : Option (Job R P)) → Both Long before (Kept c v) (settles_job below settings ticket server p.part c v o) (settles_job below settings ticket server p.part (Long c) (like before more request v) o)
+        by : (o : Option (ChoiceJob R P)) → Both Long before (Kept c v) (settles_job below settings ticket server p.part c v o) (settles_job below settings ticket server p.part (Long c) (like before more request v) o)
         by None = Each _ _ more request (stay_here c.servers v f)
         by (Some job) = gets_alike ticket server p.part (settled server job) (record c { jobs = frees ticket c.jobs }) v more request f
 

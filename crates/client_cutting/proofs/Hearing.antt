@@ -6,7 +6,7 @@ use Rattle.client_request.specs.View.{View, Transport, Heard, due_timer}
 use Rattle.client_request.specs.declared.board.Posted.{Posted}
 use Rattle.client_request.specs.declared.event.Out.{Out}
 use Rattle.client_settings.specs.Settings.{RedundantSettings}
-use Rattle.client_choice.specs.Choice.{Choice, Job, disarmed, settles_all, hears_one, hears_some, fires, due_at, due}
+use Rattle.client_choice.specs.Choice.{Choice, ChoiceJob, disarmed, settles_all, hears_one, hears_some, fires, due_at, due}
 use Rattle.client_choice.specs.Servers.{Server, onto, heard, hears_found, hears_at}
 use Rattle.client_cutting.specs.Pieces.{like, Both, Each, IsCuttable, PostsNothing}
 use Rattle.client_cutting.specs.Choices.{longer_servers, AreFitServers}
@@ -68,7 +68,7 @@ module _ {R U P : Type 0} (place : ℕ) (below : Transport R U P) (octets : U �
       → Both Long before (Closed c v) (due below settings timer c v) (due below settings timer (Long c) (like before more request v))
   due_alike timer c v more request f = by (entry_at timer c.timers)
     where
-      begun : (ticket : ℕ) (o : Option (Job R P)) → Both Long before (Closed c v) (fires below settings ticket (record c { timers = frees timer c.timers }) v o) (fires below settings ticket (record (Long c) { timers = frees timer c.timers }) (like before more request v) o)
+      begun : (ticket : ℕ) (o : Option (ChoiceJob R P)) → Both Long before (Closed c v) (fires below settings ticket (record c { timers = frees timer c.timers }) v o) (fires below settings ticket (record (Long c) { timers = frees timer c.timers }) (like before more request v) o)
       begun ticket None = Each _ _ more request (leave_same octets IsFit Closing closing_nearing c.servers v f)
       begun ticket (Some job) = weaker (λ d w h. closed_of c.servers d.servers v w h)
           (runs_alike place below octets longer IsFit cut quiet piece before settings ticket job.left (disarmed job) (record c { jobs = frees ticket c.jobs; timers = frees timer c.timers }) v more request f)

@@ -13,7 +13,8 @@ use Rattle.client_choice.specs.Servers.{Server, onto, heard, hears, hears_found,
 use Rattle.client_cutting.specs.Pieces.{like, stands, IsReady, Both, Neither, Each, Takes, IsCuttable, PostsNothing}
 use Rattle.client_cutting.specs.Choices.{servers_octets, longer_servers, AreFitServers}
 use Rattle.client_cutting.proofs.Views.{map_both, then_both, weaker}
-use Rattle.client_cutting.proofs.Listed.{set_here, set_there, longer_one, longer_get, longer_set, seen, seen_at, whose, none_of, first_of_all, stand_at, alone_seen, fit_set}
+use Rattle.client_choice.proofs.At.{set_here, set_there}
+use Rattle.client_cutting.proofs.Listed.{longer_one, longer_get, longer_set, seen, seen_at, whose, none_of, first_of_all, stand_at, alone_seen, fit_set}
 use Rattle.client_cutting.proofs.Choosing.{settles_all_alike}
 use Rattle.client_cutting.proofs.Hearing.{silent_one, silent_some, up_to_one}
 

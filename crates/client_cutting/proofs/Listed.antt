@@ -7,18 +7,6 @@ use Rattle.client_choice.specs.Servers.{Server}
 use Rattle.client_cutting.specs.Choices.{octets_or, servers_octets, longer_servers, AreFitServers}
 
 module _ {A : Type 0} where
-  pub set_here : (xs : List A) (i : ℕ) (a b : A) → slice_get xs i ≡ Some a → slice_get (set xs i b) i ≡ Some b
-  set_here [] i a b e = absurd (cc)
-  set_here (x ∷ xs) zero a b e = refl
-  set_here (x ∷ xs) (suc i) a b e = set_here xs i a b e
-
-  pub set_there : (xs : List A) (i j : ℕ) (b : A) → (i ≡ j → ⊥) → slice_get (set xs i b) j ≡ slice_get xs j
-  set_there [] i j b ne = refl
-  set_there (x ∷ xs) zero zero b ne = absurd (ne refl)
-  set_there (x ∷ xs) zero (suc j) b ne = refl
-  set_there (x ∷ xs) (suc i) zero b ne = refl
-  set_there (x ∷ xs) (suc i) (suc j) b ne = set_there xs i j b (λ e. ne (ap suc e))
-
   pub set_same : (xs : List A) (i : ℕ) (a : A) → slice_get xs i ≡ Some a → set xs i a ≡ xs
   set_same [] i a e = refl
   set_same (x ∷ xs) zero a e = cc

@@ -79,7 +79,7 @@ fn candidate<U>(index: usize, server: &Server<U>) -> Candidate
 }
 
 /// Adds a server, unless its burst has reached its limit.
-fn join<U>(
+fn add_if_room<U>(
     candidates: &mut Vec<Candidate>,
     limit: &Limit,
     index: usize,
@@ -114,7 +114,7 @@ fn survey_one<U>(
         return Ok(());
     };
     limit.restart(now, server.starts);
-    join(candidates, limit, index, server)
+    add_if_room(candidates, limit, index, server)
 }
 
 /// The servers that a request may be started at: those whose burst has not reached its limit.

@@ -47,7 +47,7 @@ fn unserved<Req: ComposeRequest>(
 
 /// Starts a request at the servers whose burst has room, in order. Where there is none it has its result at
 /// once.
-fn spread<Req: ComposeRequest, U: SendRequest<Req>, W: Words>(
+fn start_at_candidates<Req: ComposeRequest, U: SendRequest<Req>, W: Words>(
     parts: &mut Parts<Req, U>,
     config: &Config,
     cx: &mut Cx<'_, W>,
@@ -69,7 +69,7 @@ fn spread<Req: ComposeRequest, U: SendRequest<Req>, W: Words>(
         return Ok(());
     }
     let entries = in_order(alloc, cx, config.slow_rt_factor(), candidates)?;
-    steps::take_on(
+    steps::start_job(
         &mut parts.choice,
         config.deferring(),
         cx,
@@ -101,7 +101,7 @@ pub(crate) fn take_on<Req: ComposeRequest, U: SendRequest<Req>, W: Words>(
     cx.ticket = next;
     let alloc = parts.choice.alloc;
     let candidates = survey(alloc, &mut parts.limits, &parts.choice.servers, cx.now.0)?;
-    spread(parts, config, cx, ticket, &candidates, request)?;
+    start_at_candidates(parts, config, cx, ticket, &candidates, request)?;
     Ok(ticket)
 }
 

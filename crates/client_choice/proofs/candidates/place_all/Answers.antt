@@ -9,5 +9,5 @@ loop-c-preserved c =
     let within : c.loop-c.c-index < length c.args.candidates.now = search rules in
     let none : Candidate = record { server = 0; queue = 0; estimate = 0 } in
     let all : List Candidate → List Candidate = λ others. plain.placed_all c.args.bound others c.loop-c.list.items in
-    ap (λ list. plain.placed_all c.args.bound (drop (c.loop-c.c-index + 1) c.args.candidates.now) list) c.in_ok-place.ensures
+    ap (λ list. plain.placed_all c.args.bound (drop (c.loop-c.c-index + 1) c.args.candidates.now) list) c.in_ok-insert_in_order.ensures
     ∙ (sym (at_drop_more all c.args.candidates.now c.loop-c.c-index none within) ∙ c.loop-c.invariant)

@@ -2,7 +2,7 @@ use Rattle.std.proofs.Common.{◌≡◌, length}
 use Rattle.client_request.specs.Cx.{view_of, LendsTheSame}
 use Rattle.client_choice.specs.Choice as plain
 use Rattle.client_choice.specs.Servers.{flags}
-use Rattle.client_choice.proofs.steps.run.Given as goal
+use Rattle.client_choice.proofs.steps.start_next_servers.Given as goal
 
 abbrev pub invariant-loop-entry : goal.invariant-loop-entry
 invariant-loop-entry g l =

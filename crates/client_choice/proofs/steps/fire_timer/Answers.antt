@@ -1,7 +1,7 @@
 use Rattle.std.proofs.Common.{arith}
 use Rattle.std.proofs.lemmas.Grind.{common_steps}
 use Rattle.client_choice.proofs.Absent.{stays_where_none}
-use Rattle.client_choice.proofs.steps.due.Goals as goal
+use Rattle.client_choice.proofs.steps.fire_timer.Goals as goal
 
 pub returns-in-None-clause-ok : goal.returns-in-None-clause-ok
 returns-in-None-clause-ok g c =

@@ -1,7 +1,7 @@
 use Rattle.std.proofs.Common.{arith}
 use Rattle.std.proofs.lemmas.Grind.{common_steps}
 use Rattle.client_choice.proofs.Absent.{stays_where_none}
-use Rattle.client_choice.proofs.steps.fire.Goals as goal
+use Rattle.client_choice.proofs.steps.start_after_estimate.Goals as goal
 
 pub returns-in_default-clause-ok : goal.returns-in_default-clause-ok
 returns-in_default-clause-ok g c =
