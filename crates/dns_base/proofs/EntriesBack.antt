@@ -18,7 +18,7 @@ use Rattle.dns_base.proofs.Places.{NameRead, name_read, name_remembered, octets_
 use Rattle.dns_base.proofs.DataBack.{data_reads_as, data_remembered}
 use Rattle.dns_base.proofs.Sizes.{appended_long, named_continues, appended_continues, data_continues, data_behind, data_at_most, fields_continue, question_continues, record_continues, begins_long, counted_long}
 
-question_found : (octets : List ℕ) (at end pointers : ℕ) (q : Asked) → name_at octets at ≡ Some (record { labels = q.name; end = end; pointers = pointers }) → end + 4 ≤ length octets
+pub question_found : (octets : List ℕ) (at end pointers : ℕ) (q : Asked) → name_at octets at ≡ Some (record { labels = q.name; end = end; pointers = pointers }) → end + 4 ≤ length octets
     → u16_at octets end ≡ q.rtype → u16_at octets (end + 2) ≡ q.class → question_at octets at ≡ Some (q, end + 4)
 unfolding question_at
 question_found octets at end pointers q n fits t c = rw (n, le-leb (end + 4) (length octets) fits, t, c) refl

@@ -6,6 +6,7 @@ pub mod Holding
 pub mod Lists
 pub mod OtherLabels
 pub mod Places
+pub mod Queries
 pub mod ReadData
 pub mod Readings
 pub mod Sizes

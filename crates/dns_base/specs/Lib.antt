@@ -16,3 +16,5 @@ pub mod Draft
 pub mod Holding
 pub mod DraftLaws
 pub mod DraftSteps
+pub mod ErrorText
+pub mod Query

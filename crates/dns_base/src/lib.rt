@@ -4,6 +4,8 @@
 mod answer;
 mod builder;
 mod compressor;
+mod debug;
+mod error_text;
 mod header;
 mod laws;
 mod lookups;
@@ -11,6 +13,7 @@ mod message;
 mod numbers;
 mod opt_record;
 mod push_error;
+mod query;
 mod question;
 mod record;
 mod record_data;
@@ -27,7 +30,7 @@ pub use dns_values::{
     Class, Duration, Failed, IpAddr, LongName, LongOptData, MemSink, MemSource, NoMemory, Octets,
     Opcode, OptRcode, ParseError, Rcode, ReadFault, Rtype, Section, Seq, Serial, ShortMessage,
     Sink, SinkFault, SocketAddr, Source, Status, StdSink, StdSource, SureSink, SureSource, Ttl,
-    address_laws, read_to_end, write_all,
+    address_laws, number_name_laws, read_to_end, write_all,
 };
 pub use header::{Header, HeaderCounts};
 pub use laws::{draft_laws, draft_steps, reading_laws};

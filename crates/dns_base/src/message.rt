@@ -14,7 +14,7 @@ use std::alloc::Global;
 use std::marker::Model;
 
 /// A message: twelve octets at least.
-#[derive(Debug, Drop)]
+#[derive(Drop)]
 pub struct Message {
     octets: Octets,
 }

@@ -6,3 +6,4 @@ pub mod Draft
 pub mod Chain
 pub mod Reverse
 pub mod Grammar
+pub mod FaultText

@@ -3,6 +3,7 @@
 
 mod draft;
 mod fault;
+mod fault_text;
 mod laws;
 mod name;
 mod owned;

@@ -1,6 +1,6 @@
 //! Names in a message.
 
-ghost use Rattle.std.specs.Prelude.{◌≡◌, ◌≤◌, length, option_map, IfSome, IfNone, IsSome, IsTrue, ℕ, List, []};
+ghost use Rattle.std.specs.Prelude.{◌≡◌, ◌↔◌, ◌≤◌, length, option_map, IfSome, IfNone, IsSome, IsTrue, ℕ, List, []};
 ghost use Rattle.std.specs.Iterator.{YieldsFirstRef, item_count};
 ghost use Rattle.dns_names.specs.Name.{head_at, head_end, name_at, labels_at, Labels, walk, labels_within, NextLabel, IsLegal};
 
@@ -202,5 +202,12 @@ impl<'a> ParsedName<'a> {
             at: self.place,
             left: MAX_STEPS,
         }
+    }
+
+    /// Whether it has no labels.
+    pub fn is_root(&self) -> bool
+        ensures { IsTrue result ↔ (self.now ≡ []) }
+    {
+        self.labels().next().is_none()
     }
 }

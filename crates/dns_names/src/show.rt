@@ -64,14 +64,23 @@ fn write_labels<W: fmt::Write>(name: &ParsedName<'_>, f: &mut fmt::Formatter<W>)
 
 /// Labels with dots between, and no final dot; a dot for the root. A dot or a backslash in a label
 /// stands behind a backslash, and the blank and what isn't printable ASCII are `\DDD`.
-impl Display for Name {
+impl Display for ParsedName<'_> {
     ghost output = { λ n. Some (name_text n) };
 
     fn fmt<W: fmt::Write>(&self, f: &mut fmt::Formatter<W>) -> fmt::Result {
         if self.is_root() {
             return f.write_str(".");
         }
-        write_labels(&self.parsed(), f)
+        write_labels(self, f)
+    }
+}
+
+/// As a `ParsedName` prints.
+impl Display for Name {
+    ghost output = { λ n. Some (name_text n) };
+
+    fn fmt<W: fmt::Write>(&self, f: &mut fmt::Formatter<W>) -> fmt::Result {
+        Display::fmt(&self.parsed(), f)
     }
 }
 

@@ -2,9 +2,12 @@
 #![tactic(auto)]
 
 mod address;
+mod code_names;
 mod duration;
 mod error;
+mod error_text;
 mod laws;
+mod number_names;
 mod numbers;
 mod octets;
 mod seq;
@@ -12,11 +15,12 @@ mod sink;
 mod source;
 mod std_edge;
 mod streams;
+mod type_names;
 
 pub use address::{IpAddr, SocketAddr};
 pub use duration::Duration;
 pub use error::{Failed, LongName, LongOptData, NoMemory, ParseError, ShortMessage};
-pub use laws::address_laws;
+pub use laws::{address_laws, number_name_laws};
 pub use numbers::{Class, Opcode, OptRcode, Rcode, Rtype, Section, Serial, Status, Ttl};
 pub use octets::Octets;
 pub use seq::Seq;

@@ -27,6 +27,21 @@ pub enum Error {
     NoMemory,
 }
 
+impl Display for IoFault {
+    ghost use Rattle.resolv_conf.specs.Error.{io_text};
+
+    ghost output = { λ fault. Some (io_text fault) };
+
+    fn fmt<W: fmt::Write>(&self, f: &mut fmt::Formatter<W>) -> fmt::Result {
+        match self {
+            IoFault::Read => f.write_str("read failed"),
+            IoFault::NotUtf8(_) => f.write_str("line is not UTF-8"),
+        }
+    }
+}
+
+impl std::error::Error for IoFault {}
+
 impl Display for Error {
     ghost use Rattle.resolv_conf.specs.Error.{error_text};
 
@@ -35,13 +50,14 @@ impl Display for Error {
     fn fmt<W: fmt::Write>(&self, f: &mut fmt::Formatter<W>) -> fmt::Result {
         match self {
             Error::ParseError(_) => write!(f, "error parsing configuration"),
-            Error::Io(IoFault::Read) => write!(f, "read failed"),
-            Error::Io(IoFault::NotUtf8(_)) => write!(f, "line is not UTF-8"),
+            Error::Io(fault) => write!(f, "{fault}"),
             Error::TooLong => write!(f, "input too long"),
             Error::NoMemory => write!(f, "out of memory"),
         }
     }
 }
+
+impl std::error::Error for Error {}
 
 impl From<ReadFault> for Error {
     ghost use Rattle.resolv_conf.specs.Error.{read_error};

@@ -12,11 +12,11 @@ use std::alloc::Global;
 pub struct ResolvOptions {
     /// The suffixes that are tried with a short name.
     pub search: SearchList,
-    /// A name with fewer dots is tried with the search list first.
+    /// Kept alone, nothing reads it: a name with fewer dots is tried with the search list first.
     pub ndots: usize,
     /// How long a request may take.
     pub timeout: Duration,
-    /// How often a server is asked.
+    /// Kept alone, nothing reads it: how often a server is asked.
     pub attempts: usize,
     /// Kept alone: authoritative answers only (RFC 1035 4.1.1).
     pub aa_only: bool,

@@ -28,11 +28,11 @@ pub struct ServerConf {
     pub addr: SocketAddr,
     /// By which transports it is asked.
     pub transport: Transport,
-    /// How long a request may take.
+    /// Kept alone, nothing reads it: how long a request may take.
     pub request_timeout: Duration,
-    /// The greatest answer that is received, in octets.
+    /// Kept alone, nothing reads it: the greatest answer that is received, in octets.
     pub recv_size: usize,
-    /// The greatest answer that is asked for, in octets (RFC 6891 6.2.3).
+    /// Kept alone, nothing reads it: the greatest answer that is asked for, in octets (RFC 6891 6.2.3).
     pub udp_payload_size: u16,
 }
 
