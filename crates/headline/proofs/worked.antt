@@ -4,5 +4,6 @@ pub mod Servers
 pub mod Resting
 pub mod Runs
 pub mod Rightness
+pub mod Hits
 pub mod Dgrams
 pub mod Slots

@@ -6,6 +6,7 @@ ghost use Rattle.headline.specs.Timely.{Timely};
 ghost use Rattle.headline.specs.examples.Dgrams.{WorkedDatagrams};
 ghost use Rattle.headline.specs.Settings.{first_settings};
 ghost use Rattle.headline.specs.examples.Rows.{by_datagrams};
+ghost use Rattle.headline.specs.examples.Hits.{WorkedHit};
 ghost use Rattle.headline.specs.examples.Runs.{IsARun};
 ghost use Rattle.headline.specs.examples.Servers.{WorkedServers};
 ghost use Rattle.headline.specs.examples.Slots.{SlotIsGivenOn};
@@ -25,6 +26,11 @@ pub fn worked_streams()
 /// Views at 30 and 100 seconds, a signed answer for requests with other flags, a kept error, and no server.
 pub fn worked_cache()
     ensures { WorkedCache }
+{}
+
+/// A request that is asked again is answered from the cache, and all that makes this a hit holds.
+pub fn worked_hit()
+    ensures { WorkedHit }
 {}
 
 /// A slow server, and one that fails, each beside another.
