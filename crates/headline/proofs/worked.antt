@@ -5,5 +5,6 @@ pub mod Resting
 pub mod Runs
 pub mod Rightness
 pub mod Hits
+pub mod Deferred
 pub mod Dgrams
 pub mod Slots
