@@ -101,37 +101,15 @@ def clear_of_tails(trace):
     return "\n".join(lines).encode()
 
 
-def oddities(trace):
-    """Whether a start is of a request that nobody asked yet, and whether a place is opened twice."""
-    asked, opened, unasked, twice = 0, set(), False, False
-    for _, what, outs in texts.read_trace(trace):
-        asked += what.kind == "ask"
-        for out in outs:
-            unasked = unasked or out.kind == "start" and out.request >= asked
-            if out.kind in ("open-dgram", "open-stream"):
-                twice = twice or out.place in opened
-                opened.add(out.place)
-    return unasked, twice
-
-
-def known_difference(theirs, judged, without_tails, without_case, trace):
+def known_difference(theirs, judged, without_tails, without_case):
     """Where the two judges differ by what is decided, its name; the reference's words on such traces are asked as need comes."""
-    unasked, twice = oddities(trace)
     if theirs is None:
-        if twice:
-            return "the reference takes a place that is opened again for a new one"
-        if "MayClose" in judged.definitions <= {"MayClose", "PlacesAreMet: server"}:
-            return "the reference lets a number be closed before it is opened"
         others = {"InTime: request", "AllAreDone", "CameFirst", "NoneCame"}
         if judged.definitions - others <= {"MayOpenStream", "MayStart", "ServerOutRight: server"}:
             return "the reference asks less of the server of a start and of an opening, and of a stream's"
         return None
-    if judged.faults.get("Right") or judged.faults.get("Hit"):
+    if judged.faults:
         return None
-    if theirs.startswith("names what isn't there") and unasked:
-        return "the reference refuses a start of what is asked later or never"
-    if twice:
-        return "the reference takes a place that is opened again for a new one"
     if judged.unkept and not judged.has_cache:
         return "a client without a cache need not give a message without validity"
     if without_tails() is None:
@@ -151,8 +129,8 @@ def compare(reference, seed, profile, stage, events, mutates):
 
 
 def sees_alike(theirs, faults):
-    """The reference's judge has no clause on moments of timeouts nor on deferred results."""
-    return (theirs is None) == ("Right" not in faults and "Hit" not in faults)
+    """Both find the trace right, or both refuse it."""
+    return (theirs is None) == (not faults)
 
 
 WORKER = {}
@@ -170,7 +148,7 @@ def work(job):
     if not alike:
         known = known_difference(
             theirs, judged, lambda: reference.judges(script, clear_of_tails(trace), stage),
-            lambda: reference.judges_without_case(script, trace, stage), trace)
+            lambda: reference.judges_without_case(script, trace, stage))
     if keep and not alike and not known:
         os.makedirs(keep, exist_ok=True)
         name = os.path.join(keep, "%s-%s%s" % (profile, seed, "-mutated" if mutates else ""))
@@ -195,11 +173,8 @@ def go_through(jobs, options, name):
                 print("%s, so far: %s" % (name, dict(counts)), flush=True)
             if known:
                 known_ones[known] += 1
-            for clause in ("Timely", "Deferred"):
-                if clause in faults and theirs is None and alike:
-                    counts["right but for " + clause] += 1
             if theirs is not None and alike:
-                by[plain_words(faults.get("Right", faults.get("Hit")).definition)] += 1
+                by[plain_words(next(faults[clause] for clause in CLAUSES if clause in faults).definition)] += 1
             if not (alike or known) or not mutates and faults:
                 print("%s, seed %s, %s: the reference: %s; the definitions: %s"
                       % (profile, seed, done, theirs or "right", "; ".join(told(faults))), flush=True)

@@ -81,6 +81,7 @@ class History:
         self.last_try, self.sends, self.sending = Fold(), Fold(), Fold()
         self.folds = [self.asking, self.replied, self.start, self.site, self.stand, self.last_try, self.sends,
                       self.sending]
+        self.untold_here = {}
         self.live_places = set()
         self.waiting_requests, self.invalid = set(), set()
         self.places_of, self.starts_of = {}, {}
@@ -103,7 +104,7 @@ class History:
         self.row += 1
         self.now = max(self.now, moment)
         self.newest = what
-        self.closed_here, self.opened_here = set(), set()
+        self.closed_here, self.opened_here, self.untold_here = set(), set(), {}
         self.row_writes, self.row_writing = {}, {}
         self.came_place, self.frames = what.place, self.came(what)
         if what.kind == "ask":
@@ -157,6 +158,8 @@ class History:
 
     def put_opening(self, out):
         p, via, event = out.place, out.kind[5:], self.newest
+        if self.stand_untold(p) is None:
+            self.untold_here[p] = "Opening"
         if self.stand.get(p) is None:
             told = event.kind if event.place == p else None
             self.stand.set(p, {"opened": "Alive", "open-failed": "Gone"}.get(told, "Opening"))
@@ -190,6 +193,8 @@ class History:
         if site is not None and site.via == "stream" and p in self.live_places and self.ends_badly(p):
             self.breaks_off(site.server)
         self.closed_here.add(p)
+        if self.was_live(p):
+            self.untold_here[p] = "Gone"
         if self.stand.get(p) in ("Opening", "Alive"):
             self.ends(p)
 
@@ -247,6 +252,13 @@ class History:
 
     def is_at(self, via, s, p):
         return self.site.get(p) == (via, s)
+
+    def stand_untold(self, p):
+        """How a place stands, the row's event not counted."""
+        return self.untold_here[p] if p in self.untold_here else self.stand.past(p)
+
+    def was_live(self, p):
+        return self.stand_untold(p) in ("Opening", "Alive")
 
     def is_told(self, p):
         what = self.newest

@@ -137,7 +137,7 @@ def carries(octets, request, id_):
 
 def carries_in_frame(octets, request, id_):
     rest = octets[2:]
-    if octets[:2] != (len(rest) & 0xFFFF).to_bytes(2, "big") or dns.id_of(rest) != id_:
+    if len(rest) > 65535 or octets[:2] != len(rest).to_bytes(2, "big") or dns.id_of(rest) != id_:
         return False
     named = request.with_id(id_)
     return says_request(rest, named) or says_request(rest, named.with_option(11, b""))

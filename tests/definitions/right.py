@@ -94,14 +94,21 @@ class Judge:
         if out.kind in ("open-dgram", "open-stream"):
             if out.server >= len(self.conf.servers):
                 return "ServerOutRight: server"
+            if self.h.site.get(out.place) is not None:
+                return "IsUnopened"
             return None if out.kind == "open-dgram" else self.may_open_stream(out.server)
         if out.kind == "start":
-            return self.may_start(out.request, out.server, out.via)
+            return self.may_start(out.request, out.server, out.via) or self.is_asked(out.request)
         if out.kind == "send":
             return self.may_send(out)
         if out.kind == "write":
             return self.may_write(out)
-        return self.may_close(out.place) if out.kind == "close" else None
+        if out.kind == "close":
+            return self.may_close(out.place) or (None if self.h.was_live(out.place) else "WasLive")
+        return None
+
+    def is_asked(self, k):
+        return None if k in self.h.asking else "IsAsked"
 
     def may_start(self, k, s, via):
         h = self.h

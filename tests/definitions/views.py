@@ -6,7 +6,7 @@ from functools import lru_cache
 from . import messages as dns
 from .requests import DO, PLAIN, is_signing
 
-Flags = namedtuple("Flags", "id opcode rcode qr aa tc rd ra ad cd")
+Flags = namedtuple("Flags", "id opcode rcode qr aa tc rd ra z ad cd")
 Item = namedtuple("Item", "owner rtype class_ ttl content")
 Parts = namedtuple("Parts", "header code questions answer authority additional")
 SECOND = 1000000
@@ -14,7 +14,7 @@ SECOND = 1000000
 
 def flags_in(m):
     return Flags(dns.id_of(m), dns.opcode_of(m), dns.rcode_of(m), dns.qr_of(m), dns.flag_of(2, 0x04, m), dns.tc_of(m),
-                 dns.rd_of(m), dns.flag_of(3, 0x80, m), dns.ad_of(m), dns.cd_of(m))
+                 dns.rd_of(m), dns.flag_of(3, 0x80, m), dns.flag_of(3, 0x40, m), dns.ad_of(m), dns.cd_of(m))
 
 
 def parts_of(m, content):

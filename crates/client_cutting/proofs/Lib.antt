@@ -34,3 +34,4 @@ pub mod Reached
 pub mod Whole
 pub mod OutsTold
 pub mod Traces
+pub mod Worked

@@ -4,3 +4,4 @@ pub mod Choices
 pub mod Layers
 pub mod Told
 pub mod Cuts
+pub mod Worked

@@ -93,6 +93,7 @@ says_so r id w octets m h small AsItIs is le e =
     record {
       rest = m;
       framed = sym e ∙ ap (λ front. front ++ m) (two_octets (length m) le);
+      short = omega arith;
       named = said_id m id r.header says refl ∙ from_be_bytes-to_be_bytes_2 id small;
       says = inl says;
     }
@@ -101,6 +102,7 @@ says_so r id w octets m h small (WithOption room) is le e =
     record {
       rest = m;
       framed = sym e ∙ ap (λ front. front ++ m) (two_octets (length m) le);
+      short = omega arith;
       named = said_id m id r.header says refl ∙ from_be_bytes-to_be_bytes_2 id small;
       says = inr says;
     }

@@ -19,24 +19,24 @@ gone x mask bits e = and_assoc bits x mask ∙ (ap (bit_and x) e ∙ and_zero_r 
 abbrev is_set : ℕ → Bool
 is_set n = not (n == 0)
 
-same : (id : ℕ) {o1 o2 r1 r2 : ℕ} {q1 q2 a1 a2 t1 t2 d1 d2 v1 v2 n1 n2 c1 c2 : Bool} → o1 ≡ o2 → r1 ≡ r2 → q1 ≡ q2 → a1 ≡ a2 → t1 ≡ t2 → d1 ≡ d2 → v1 ≡ v2 → n1 ≡ n2 → c1 ≡ c2
-    → Path Header (record { id = id; opcode = o1; rcode = r1; qr = q1; aa = a1; tc = t1; rd = d1; ra = v1; ad = n1; cd = c1 }) (record { id = id; opcode = o2; rcode = r2; qr = q2; aa = a2; tc = t2; rd = d2; ra = v2; ad = n2; cd = c2 })
-same id o r q a t d v n c = cc
+same : (id : ℕ) {o1 o2 r1 r2 : ℕ} {q1 q2 a1 a2 t1 t2 d1 d2 v1 v2 z1 z2 n1 n2 c1 c2 : Bool} → o1 ≡ o2 → r1 ≡ r2 → q1 ≡ q2 → a1 ≡ a2 → t1 ≡ t2 → d1 ≡ d2 → v1 ≡ v2 → z1 ≡ z2 → n1 ≡ n2 → c1 ≡ c2
+    → Path Header (record { id = id; opcode = o1; rcode = r1; qr = q1; aa = a1; tc = t1; rd = d1; ra = v1; z = z1; ad = n1; cd = c1 }) (record { id = id; opcode = o2; rcode = r2; qr = q2; aa = a2; tc = t2; rd = d2; ra = v2; z = z2; ad = n2; cd = c2 })
+same id o r q a t d v z n c = cc
 
 without_aa : (a b c d : ℕ) → flags_in (with_aa false (a ∷ b ∷ c ∷ d ∷ [])) ≡ record (flags_in (a ∷ b ∷ c ∷ d ∷ [])) { aa = false }
 without_aa a b c d =
     same (flags_in (a ∷ b ∷ c ∷ d ∷ [])).id (ap (λ n. bit_and n 15) (and_shr c 251 3) ∙ kept (c / 8) 31 15 refl) refl
-    (ap is_set (kept c 251 128 refl)) (ap is_set (gone c 251 4 refl)) (ap is_set (kept c 251 2 refl)) (ap is_set (kept c 251 1 refl)) refl refl refl
+    (ap is_set (kept c 251 128 refl)) (ap is_set (gone c 251 4 refl)) (ap is_set (kept c 251 2 refl)) (ap is_set (kept c 251 1 refl)) refl refl refl refl
 
 off_rd : (a b c d : ℕ) → flags_in (with_rd false (a ∷ b ∷ c ∷ d ∷ [])) ≡ record (flags_in (a ∷ b ∷ c ∷ d ∷ [])) { rd = false }
 off_rd a b c d =
     same (flags_in (a ∷ b ∷ c ∷ d ∷ [])).id (ap (λ n. bit_and n 15) (and_shr c 254 3) ∙ kept (c / 8) 31 15 refl) refl
-    (ap is_set (kept c 254 128 refl)) (ap is_set (kept c 254 4 refl)) (ap is_set (kept c 254 2 refl)) (ap is_set (gone c 254 1 refl)) refl refl refl
+    (ap is_set (kept c 254 128 refl)) (ap is_set (kept c 254 4 refl)) (ap is_set (kept c 254 2 refl)) (ap is_set (gone c 254 1 refl)) refl refl refl refl
 
 off_ad : (a b c d : ℕ) → flags_in (with_ad false (a ∷ b ∷ c ∷ d ∷ [])) ≡ record (flags_in (a ∷ b ∷ c ∷ d ∷ [])) { ad = false }
 off_ad a b c d =
     same (flags_in (a ∷ b ∷ c ∷ d ∷ [])).id refl (kept d 223 15 refl)
-    refl refl refl refl (ap is_set (kept d 223 128 refl)) (ap is_set (gone d 223 32 refl)) (ap is_set (kept d 223 16 refl))
+    refl refl refl refl (ap is_set (kept d 223 128 refl)) (ap is_set (kept d 223 64 refl)) (ap is_set (gone d 223 32 refl)) (ap is_set (kept d 223 16 refl))
 
 and_on : (b : Bool) → b && true ≡ b
 and_on true = refl

@@ -1,6 +1,7 @@
 pub mod Copying
 pub mod Carried
 pub mod Composing
+pub mod HeaderBits
 pub mod PartLaws
 pub mod server
 pub mod client

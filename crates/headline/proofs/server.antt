@@ -12,6 +12,7 @@ pub mod Silent
 pub mod Opening
 pub mod Taking
 pub mod Beginning
+pub mod Untold
 pub mod DgramKept
 pub mod DgramPuts
 pub mod DgramMoves

@@ -4,5 +4,7 @@ pub mod Servers
 pub mod Resting
 pub mod Runs
 pub mod Rightness
+pub mod Hits
+pub mod Deferred
 pub mod Dgrams
 pub mod Slots

@@ -2,3 +2,4 @@ pub mod Dgrams
 pub mod Sends
 pub mod Streams
 pub mod Cache
+pub mod Places

@@ -1,5 +1,5 @@
 -- Messages and requests, as far as the headline speaks of them. What is not an `abbrev` is closed: no definition above looks inside.
-use Rattle.std.specs.Prelude.{◌≡◌, ℕ, zero, suc, ◌+◌, ◌*◌, ◌==◌, Option, Some, None, [], ◌∷◌, Bool, true, false, not, ◌&&◌, ◌||◌, nat_lt, nat_le, ◌⊎◌, List, ◌++◌, length, map, sum, drop, if◌then◌else◌, option_and_then, is_some, Result, Err, Ok}
+use Rattle.std.specs.Prelude.{◌≡◌, ℕ, zero, suc, ◌+◌, ◌*◌, ◌<◌, ◌==◌, Option, Some, None, [], ◌∷◌, Bool, true, false, not, ◌&&◌, ◌||◌, nat_lt, nat_le, ◌⊎◌, List, ◌++◌, length, map, sum, drop, if◌then◌else◌, option_and_then, is_some, Result, Err, Ok}
 use Rattle.std.specs.Option.{option_map_or}
 use Rattle.dns_base.specs.Message.{reads}
 use Rattle.dns_base.specs.Header.{tc_of, id_of}
@@ -22,10 +22,11 @@ Octets = List ℕ
 unfoldable pub id_in : Octets → ℕ
 id_in octets = id_of octets
 
--- By stream two octets give the length of the rest, which has the id and says the request under it, with or without the empty option 11 (RFC 7766 8, RFC 7828 3.2.1).
+-- By stream two octets give the length of the rest, so it is below 65536; it has the id and says the request under it, with or without the empty option 11 (RFC 7766 8, RFC 7828 3.2.1).
 pub record CarriesInFrame (octets : Octets) (r : Request) (id : ℕ) : Type 0 where
   pub rest : Octets
   pub framed : octets ≡ to_be_bytes w16 (length rest) ++ rest
+  pub short : length rest < 65536
   pub named : id_in rest ≡ id
   pub says : SaysRequest rest (with_id id r) ⊎ SaysRequest rest (with_option 11 [] (with_id id r))
 

@@ -13,6 +13,7 @@ abbrev pub IsIn : {A : Type 0} → A → List A → Type 0
 IsIn x [] = ⊥
 IsIn x (y ∷ ys) = (y ≡ x) ⊎ IsIn x ys
 
+-- All bits of the first four octets: `z` is the one that has no meaning yet, 0x40 of the fourth (RFC 1035 4.1.1, RFC 2535 6.1).
 pub record Header : Type 0 where
   pub id : ℕ
   pub opcode : ℕ
@@ -22,6 +23,7 @@ pub record Header : Type 0 where
   pub tc : Bool
   pub rd : Bool
   pub ra : Bool
+  pub z : Bool
   pub ad : Bool
   pub cd : Bool
 
@@ -42,7 +44,7 @@ pub record Parts (C : Type 0) : Type 0 where
   pub additional : List (Item C)
 
 abbrev pub flags_in : Octets → Header
-flags_in h = record { id = head.id_of h; opcode = head.opcode_of h; rcode = head.rcode_of h; qr = head.qr_of h; aa = head.aa_of h; tc = head.tc_of h; rd = head.rd_of h; ra = head.ra_of h; ad = head.ad_of h; cd = head.cd_of h }
+flags_in h = record { id = head.id_of h; opcode = head.opcode_of h; rcode = head.rcode_of h; qr = head.qr_of h; aa = head.aa_of h; tc = head.tc_of h; rd = head.rd_of h; ra = head.ra_of h; z = head.flag_of 3 0x40 h; ad = head.ad_of h; cd = head.cd_of h }
 
 abbrev pub raw : Known → Item Octets
 raw k = record { owner = k.entry.owner; rtype = k.entry.rtype; class = k.entry.class; ttl = k.entry.ttl; content = k.entry.octets }

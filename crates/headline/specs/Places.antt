@@ -93,6 +93,12 @@ stand p [] = Unused
 stand p (Came e ∷ h) = on_event e.what p (stand p h)
 stand p (Put o ∷ h) = on_out (newest h) o p (stand p h)
 
+-- how place p stands, the newest row's event not counted
+abbrev pub stand_untold : (p : ℕ) → History → Stand
+stand_untold p [] = Unused
+stand_untold p (Came e ∷ h) = stand p h
+stand_untold p (Put o ∷ h) = on_out Tick o p (stand_untold p h)
+
 -- it opened, and was not closed
 abbrev pub is_alive : Stand → Bool
 is_alive Alive = true

@@ -1,7 +1,7 @@
 -- When a trace is right.
 use Rattle.headline.specs.Errors.{HasCause}
 use Rattle.headline.specs.Replies.{OkIsRight}
-use Rattle.std.specs.Prelude.{◌≡◌, ℕ, ◌+◌, ◌<◌, ◌≤◌, true, false, ◌⊎◌, Some, List, [], ◌∷◌, length, Result, Ok, Err}
+use Rattle.std.specs.Prelude.{◌≡◌, ℕ, ◌+◌, ◌<◌, ◌≤◌, true, false, ◌⊎◌, Some, None, List, [], ◌∷◌, length, Result, Ok, Err}
 use Rattle.client_request.specs.Request.{Request}
 use Rattle.client_request.specs.declared.error.Error.{Error}
 use Rattle.client_request.specs.declared.event.What.{What}
@@ -14,7 +14,7 @@ use Rattle.headline.specs.Trace.{History, Conf, Came, Put, after}
 use Rattle.headline.specs.Time.{now}
 use Rattle.headline.specs.Messages.{Octets, is_valid}
 use Rattle.headline.specs.Requests.{Asking, asking, replied, waits}
-use Rattle.headline.specs.Places.{is_at}
+use Rattle.headline.specs.Places.{site, is_at, is_live, stand_untold}
 use Rattle.headline.specs.Exchanges.{Matches}
 use Rattle.headline.specs.Causes.{sends, TriesAreUp, StreamIsSilent}
 use Rattle.headline.specs.Orderly.{MayStart, MayOpenStream, MayClose, PlacesAreMet, MaySend, MayWrite}
@@ -27,14 +27,26 @@ use Rattle.client_request.specs.declared.error.QueryError.TheVariants as query
 
 -- In what follows `past` is what happened before the row, `w` is the row's event, `h` is what happened up to here, the row's event and its outs so far included, and `end` is what happened when the row is done.
 
+-- request k was asked
+abbrev pub IsAsked : (k : ℕ) → History → Type 0
+IsAsked k h = (a : Asking) × (asking k h ≡ Some a)
+
 -- a reply is to a request that was asked and has none
 pub record IsFirst (k : ℕ) (h : History) : Type 0 where
-  pub asked : (a : Asking) × (asking k h ≡ Some a)
+  pub asked : IsAsked k h
   pub none : replied k h ≡ false
 
 -- without a server nothing but replies stands in a trace
 abbrev pub HasServer : Conf → Type 0
 HasServer c = 0 < length c.servers
+
+-- no out opened place p
+abbrev pub IsUnopened : (p : ℕ) → History → Type 0
+IsUnopened p h = site p h ≡ None
+
+-- place p is live, the row's event not counted: its timers go before the event
+abbrev pub WasLive : (p : ℕ) → History → Type 0
+WasLive p h = is_live (stand_untold p h) ≡ true
 
 -- each valid request that waits when the row is done is busy
 abbrev pub WaitingIsBusy : (c : Conf) (end : History) → Type 0
@@ -64,13 +76,13 @@ ReplyRight c s past w h k (Err e) = HasCause c s e k past w h
 
 -- what an out of a server owes at the point where it is put: all outs but replies
 abbrev pub ServerOutRight : (c : Conf) (past : History) (w : What) (h end : History) → Out → Type 0
-ServerOutRight c past w h end (Start k s v) = HasServer c × MayStart c k s past w h v
-ServerOutRight c past w h end (OpenDgram p s) = HasServer c × (s < length c.servers)
-ServerOutRight c past w h end (OpenStream p s) = HasServer c × (s < length c.servers) × MayOpenStream s h
+ServerOutRight c past w h end (Start k s v) = HasServer c × MayStart c k s past w h v × IsAsked k h
+ServerOutRight c past w h end (OpenDgram p s) = HasServer c × (s < length c.servers) × IsUnopened p h
+ServerOutRight c past w h end (OpenStream p s) = HasServer c × (s < length c.servers) × MayOpenStream s h × IsUnopened p h
 ServerOutRight c past w h end (Send p k id o) = HasServer c × ((s : ℕ) → is_at Dgram s p h ≡ true → sends k s h < 6) × MaySend k p id o past h
 ServerOutRight c past w h end (Write p k id o) = HasServer c × MayWrite k p id o past h
 ServerOutRight c past w h end (Resume p o) = HasServer c
-ServerOutRight c past w h end (Close p) = HasServer c × MayClose c p past w h end
+ServerOutRight c past w h end (Close p) = HasServer c × MayClose c p past w h end × WasLive p h
 ServerOutRight c past w h end (Reply k x) = ⊥
 
 -- what an out owes

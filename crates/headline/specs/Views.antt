@@ -21,6 +21,7 @@ viewed_header q r x = record {
   tc = x.tc;
   rd = x.rd && not (q.rd && not r.rd);
   ra = x.ra;
+  z = x.z;
   ad = x.ad && not (is_plain r.flags && not (is_plain q.flags));
   cd = x.cd;
 }

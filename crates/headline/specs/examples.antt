@@ -6,4 +6,5 @@ pub mod Cache
 pub mod Servers
 pub mod Wrong
 pub mod Runs
+pub mod Hits
 pub mod Slots

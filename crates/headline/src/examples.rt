@@ -5,9 +5,10 @@ ghost use Rattle.headline.specs.Right.{Right};
 ghost use Rattle.headline.specs.Timely.{Timely};
 ghost use Rattle.headline.specs.examples.Dgrams.{WorkedDatagrams};
 ghost use Rattle.headline.specs.Settings.{first_settings};
-ghost use Rattle.headline.specs.examples.Rows.{by_datagrams};
+ghost use Rattle.headline.specs.examples.Rows.{by_datagrams, deferring, two_servers};
+ghost use Rattle.headline.specs.examples.Hits.{WorkedHit};
 ghost use Rattle.headline.specs.examples.Runs.{IsARun};
-ghost use Rattle.headline.specs.examples.Servers.{WorkedServers};
+ghost use Rattle.headline.specs.examples.Servers.{WorkedServers, failing_server};
 ghost use Rattle.headline.specs.examples.Slots.{SlotIsGivenOn};
 ghost use Rattle.headline.specs.examples.Streams.{cut_goes_on, WorkedStreams};
 
@@ -27,17 +28,24 @@ pub fn worked_cache()
     ensures { WorkedCache }
 {}
 
+/// A request that is asked again is answered from the cache, and all that makes this a hit holds.
+pub fn worked_hit()
+    ensures { WorkedHit }
+{}
+
 /// A slow server, and one that fails, each beside another.
 pub fn worked_servers()
     ensures { WorkedServers }
 {}
 
-/// The traces of a cut answer and of an answer that is given again are runs of the machine, so they are right.
+/// The traces of a cut answer, of an answer that is given again, and of one that is deferred and given when the other server
+/// failed, are runs of the machine, so they are right.
 pub fn worked_traces_are_runs()
     ensures cut_goes_on { IsARun cut_goes_on }
     ensures asked_again { IsARun asked_again }
     ensures cut_goes_on_is_right { Right by_datagrams first_settings cut_goes_on × Timely by_datagrams cut_goes_on }
     ensures asked_again_is_right { Right by_datagrams first_settings asked_again × Timely by_datagrams asked_again }
+    ensures failing_server_is_right { Right two_servers deferring failing_server × Timely two_servers failing_server }
 {}
 
 /// Where all slots are taken, that of a request whose answer was cut is given on before the request goes on by stream.

@@ -1,13 +1,13 @@
 //! What holds of every run, and of covering and views.
 
-ghost use Rattle.std.specs.Prelude.{◌/◌, ◌≡◌, ◌≢◌, ◌≤◌, ℕ, true};
+ghost use Rattle.std.specs.Prelude.{◌/◌, ◌<◌, ◌≡◌, ◌≢◌, ◌≤◌, ℕ, length, slice_index, true};
 ghost use Rattle.dns_base.specs.Data.{Data};
 ghost use Rattle.dns_base.specs.Header.{cd_of};
 ghost use Rattle.client_request.specs.Composed.{composed};
 ghost use Rattle.client_request.specs.Request.{Request};
 ghost use Rattle.headline.specs.Keys.{Covers, is_cacheable};
 ghost use Rattle.headline.specs.Messages.{Composes, Octets};
-ghost use Rattle.headline.specs.Parts.{Item, Parts};
+ghost use Rattle.headline.specs.Parts.{Item, Parts, flags_in};
 ghost use Rattle.headline.specs.Settings.{Settings};
 ghost use Rattle.headline.specs.Theorem.{EveryCachedRunHits, EveryRunIsRight, EveryRunOfOneServerIsRight, RunsOfOneServerAreRuns};
 ghost use Rattle.headline.specs.Validity.{second};
@@ -35,6 +35,11 @@ pub fn runs_of_one_server_are_runs()
 /// In every run whose cache is exact, an asking that the cache must answer is answered in its own row.
 pub fn every_cached_run_hits()
     ensures { EveryCachedRunHits }
+{}
+
+/// The parts of a header are all bits of its four octets, bit Z too (RFC 1035 4.1.1).
+pub fn headers_have_all_bits()
+    ensures { (h g : Octets) → length h ≡ 4 → length g ≡ 4 → ((i : ℕ) → slice_index h i < 256) → ((i : ℕ) → slice_index g i < 256) → flags_in h ≡ flags_in g → h ≡ g }
 {}
 
 /// An answer may serve its own request, and what may serve for one that may serve for a third may serve for that.

@@ -1,26 +1,29 @@
 //! Traces that the definitions refuse: each lacks what it owes at one point.
 
-ghost use Rattle.std.specs.Prelude.{◌<◌, ◌≡◌, ◌≢◌, ◌≤◌, ◌∷◌, List, [], ℕ, false, length, slice_index, take, true};
+ghost use Rattle.std.specs.Prelude.{◌*◌, ◌+◌, ◌<◌, ◌≡◌, ◌≢◌, ◌≤◌, ◌∷◌, List, Some, [], ℕ, false, length, slice_index, take, true};
 ghost use Rattle.client_request.specs.Carries.{Carries, IsOfOctets};
+ghost use Rattle.client_request.specs.Composed.{composed};
 ghost use Rattle.client_request.specs.Request.{Request};
 ghost use Rattle.client_request.specs.declared.error.Error.{Error};
 ghost use Rattle.client_request.specs.declared.fault.Fault.{Fault};
-ghost use Rattle.client_request.specs.declared.event.Out.TheVariants.{Send};
+ghost use Rattle.client_request.specs.declared.event.Out.TheVariants.{OpenDgram, OpenStream, Send};
 ghost use Rattle.client_request.specs.declared.event.Via.TheVariants.{Dgram};
 ghost use Rattle.client_request.specs.declared.event.What.{What};
 ghost use Rattle.headline.specs.Causes.{sends};
 ghost use Rattle.headline.specs.Frames.{Length, fed, is_bad};
+ghost use Rattle.headline.specs.Hit.{AllHit};
 ghost use Rattle.headline.specs.Messages.{IsComposingFault, Octets, answers, id_in, is_valid, truncated};
 ghost use Rattle.headline.specs.Orderly.{MaySend, MayWrite};
-ghost use Rattle.headline.specs.Places.{is_at};
+ghost use Rattle.headline.specs.Places.{Site, is_at, site};
 ghost use Rattle.headline.specs.Requests.{replied};
 ghost use Rattle.headline.specs.Right.{OutRight, Right};
 ghost use Rattle.headline.specs.Settings.{Settings, first_settings};
 ghost use Rattle.headline.specs.Timely.{Timely};
 ghost use Rattle.headline.specs.Trace.{Conf, History};
-ghost use Rattle.headline.specs.examples.Messages.{answer, plain_request, ad_request};
-ghost use Rattle.headline.specs.examples.Rows.{deferring, two_servers};
-ghost use Rattle.headline.specs.examples.Wrong.{IsItsAnswer, IsItsFrame, asked_then, blamed_unsent, blamed_when_closed, closed_for_nothing, failing_at_once, frame_passed_over, frame_taken, invented, nothing_sent, nothing_written, passed_over, refused_again, refused_thrice, replied_twice, second_while_open, second_while_opening, sent_at_once, sent_elsewhere, sent_nowhere, sent_too_soon, still_waiting, stream_closed_for_nothing, taken, taken_unwritten, taken_when_closed, timed_out_early, wrong_without_frame};
+ghost use Rattle.headline.specs.examples.Messages.{answer, answer_with_z, plain_request, ad_request};
+ghost use Rattle.headline.specs.examples.Hits.{missed};
+ghost use Rattle.headline.specs.examples.Rows.{by_datagrams, deferring, two_servers};
+ghost use Rattle.headline.specs.examples.Wrong.{IsItsAnswer, IsItsFrame, asked_then, blamed_unsent, blamed_when_closed, closed_again, closed_for_nothing, closed_twice, closed_unopened, failing_at_once, frame_passed_over, frame_taken, invented, nothing_sent, nothing_written, opened_twice, passed_over, refused_again, refused_thrice, replied_twice, second_while_open, second_while_opening, sent_at_once, sent_elsewhere, sent_nowhere, sent_too_soon, started_unasked, still_waiting, stream_closed_for_nothing, taken, taken_unwritten, taken_when_closed, timed_out_early, written, wrong_without_frame};
 
 /// By datagram: replies, sends, closes and answers that are not owed, or that are owed and do not stand.
 pub fn wrong_datagrams_are_refused()
@@ -72,8 +75,25 @@ pub fn wrong_streams_are_refused()
     ensures second_while_opening { (c : Conf) (s : Settings) (r : Request) → Right c s (second_while_opening r) → ⊥ }
     ensures second_while_open { (c : Conf) (s : Settings) (r : Request) (o : Octets) → Right c s (second_while_open r o) → ⊥ }
     ensures closed_for_nothing { (c : Conf) (s : Settings) (r : Request) (o : Octets) → Right c s (stream_closed_for_nothing r o) → ⊥ }
+    ensures wrong_length { (c : Conf) (s : Settings) (r : Request) (a b : ℕ) (rest : Octets) → 256 * a + b ≢ length rest → Right c s (written r (a ∷ b ∷ rest) []) → ⊥ }
     ensures nothing_written { (c : Conf) (s : Settings) (r : Request) → 0 < length c.servers → is_valid r ≡ true → Right c s (nothing_written r) → ⊥ }
     ensures wrong_without_frame { (c : Conf) (s : Settings) (r : Request) (o : Octets) → Right c s (wrong_without_frame r o) → ⊥ }
+{}
+
+/// No out names what is not there: a number that was opened before, a place that is not live, a request that was not asked.
+pub fn wrong_places_are_refused()
+    ensures opened_twice { (c : Conf) (s : Settings) (r : Request) → Right c s (opened_twice r) → ⊥ }
+    ensures opened_again { (c : Conf) (t : Settings) (past : History) (w : What) (h end : History) (p s : ℕ) (x : Site) → site p h ≡ Some x → OutRight c t past w h end (OpenDgram p s) → ⊥ }
+    ensures connected_again { (c : Conf) (t : Settings) (past : History) (w : What) (h end : History) (p s : ℕ) (x : Site) → site p h ≡ Some x → OutRight c t past w h end (OpenStream p s) → ⊥ }
+    ensures closed_twice { (c : Conf) (s : Settings) (r : Request) (o : Octets) → Right c s (closed_twice r o) → ⊥ }
+    ensures closed_again { (c : Conf) (s : Settings) (r : Request) (o : Octets) → Right c s (closed_again r o) → ⊥ }
+    ensures closed_unopened { (c : Conf) (s : Settings) → Right c s closed_unopened → ⊥ }
+    ensures started_unasked { (c : Conf) (s : Settings) (r : Request) → Right c s (started_unasked r) → ⊥ }
+{}
+
+/// Where an entry is kept at all, an asking that is a hit is not handed to a server.
+pub fn missed_hits_are_refused()
+    ensures { (max : ℕ) → 0 < max → AllHit by_datagrams first_settings composed max [] missed → ⊥ }
 {}
 
 /// With the cache and with two servers: views that are none, errors that are kept too long, and a deferred message given
@@ -81,6 +101,7 @@ pub fn wrong_streams_are_refused()
 pub fn wrong_replies_are_refused()
     ensures invented { (c : Conf) (s : Settings) (r : Request) (m : Octets) → Right c s (invented r m) → ⊥ }
     ensures first_ttls { (c : Conf) (s : Settings) → Right c s (asked_then 30000000 plain_request (answer 18 52 100)) → ⊥ }
+    ensures bit_z { (c : Conf) (s : Settings) → Right c s (asked_then 30000000 plain_request (answer_with_z 18 52 70)) → ⊥ }
     ensures past_validity { (c : Conf) (s : Settings) (m : Octets) → Right c s (asked_then 101000000 plain_request m) → ⊥ }
     ensures other_flags { (c : Conf) (s : Settings) (n : ℕ) (m : Octets) → Right c s (asked_then n ad_request m) → ⊥ }
     ensures error_past_its_time { (c : Conf) → Right c first_settings (refused_again 30000001) → ⊥ }

@@ -57,7 +57,7 @@ out_twice Plain Ad r a b = absurd (cc)
 out_twice Plain Plain r a b = refl
 
 header_twice : (q m r : Key) (x : Header) → KeysCover q m → KeysCover m r → viewed_header m r (viewed_header q m x) ≡ viewed_header q r x
-header_twice q m r x a b = ap₂ (λ u v. record { id = x.id; opcode = x.opcode; rcode = x.rcode; qr = x.qr; aa = false; tc = x.tc; rd = u; ra = x.ra; ad = v; cd = x.cd })
+header_twice q m r x a b = ap₂ (λ u v. record { id = x.id; opcode = x.opcode; rcode = x.rcode; qr = x.qr; aa = false; tc = x.tc; rd = u; ra = x.ra; z = x.z; ad = v; cd = x.cd })
     (rd_twice x.rd q.rd m.rd r.rd a.rd b.rd) (ad_twice x.ad q.flags m.flags r.flags a.flags b.flags)
 
 names_twice : (n o : Labels) (qs : List Asked) → map (with_name n) (map (with_name o) qs) ≡ map (with_name n) qs

@@ -12,7 +12,7 @@ use Rattle.headline.specs.Trace.{History, Conf, Put, put_all}
 use Rattle.headline.specs.Time.{now}
 use Rattle.headline.specs.Messages.{Octets}
 use Rattle.headline.specs.Requests.{replied, started}
-use Rattle.headline.specs.Places.{Stand, Unused, Opening, Alive, Gone, closed, stand}
+use Rattle.headline.specs.Places.{Stand, Unused, Opening, Alive, Gone, closed, stand, is_live}
 use Rattle.headline.specs.Frames.{came_here}
 use Rattle.headline.specs.Exchanges.{waited_for, IsAmong, Comes}
 use Rattle.headline.specs.Orderly.{OfDgram, MayCloseDgram, ItsReply, ReplyBeforeItsSend, RepliedHere}
@@ -21,10 +21,11 @@ use Rattle.headline.specs.machine.Dgrams.{Stage, Trying, Sent, Tryer}
 use Rattle.headline.specs.machine.Served.{Served, holds, Cancels, IsGivenUp}
 use Rattle.headline.proofs.server.Expecting.{Expects, ByDatagram, ByOctets, InFrames}
 use Rattle.headline.specs.Owed.{IsOwed}
-use Rattle.headline.specs.Right.{ServerOutsRight}
+use Rattle.headline.specs.Right.{WasLive, ServerOutsRight}
 use Rattle.headline.specs.machine.Part.{Act}
 use Rattle.headline.proofs.PartLaws.{Late, Goes}
 use Rattle.headline.proofs.server.DgramKept.{dgram_site, placed, TryingFits, SentFits, StageFits}
+use Rattle.headline.proofs.server.Untold.{was_alive}
 use Rattle.headline.proofs.server.DgramMoves.{standing, dgram_at}
 use Rattle.headline.proofs.server.Views.{at_there}
 use Rattle.headline.proofs.server.Fitting.{Fits}
@@ -114,12 +115,16 @@ module _ (c : Conf) (s next k : ℕ) (past : History) (w : What) (u : Served) (h
   may_close a p end held reply (inl e) = (let g = fits.dgrams.held k a held in let f : TryingFits s p past u.pending h = subst (λ st. StageFits c s k a.request past w u.pending h st) e g.stage in ReplyBeforeItsSend (dgram_site s) f.at f.unsent k g.has_it reply)
   may_close a p end held reply (inr e) = (let g = fits.dgrams.held k a held in let f : SentFits s p e.0 e.1 k a.request past u.pending h = subst (λ st. StageFits c s k a.request past w u.pending h st) e.2 g.stage in ItsReply _ f.sent reply)
 
+  was_live : (a : Tryer) (p : ℕ) → u.server.by_dgram.held k ≡ Some a → (a.stage ≡ Trying p) ⊎ ((id : ℕ) × (t : ℕ) × (a.stage ≡ Sent p id t)) → WasLive p h
+  was_live a p held (inl e) = (let f : TryingFits s p past u.pending h = subst (λ st. StageFits c s k a.request past w u.pending h st) e (fits.dgrams.held k a held).stage in ap is_live f.untold)
+  was_live a p held (inr e) = (let f : SentFits s p e.0 e.1 k a.request past u.pending h = subst (λ st. StageFits c s k a.request past w u.pending h st) e.2 (fits.dgrams.held k a held).stage in was_alive p h f.stand)
+
   pub cancels_right : s < length c.servers → (d : Act Served) → Cancels s next k u d → replied k past ≡ false → (end : History) → replied k end ≡ true → ServerOutsRight c past w end h d.outs
   cancels_right known _ (IsGivenUp x v (server.Waits a held stage)) before end after = tt
   cancels_right known _ (IsGivenUp x v (server.HasPlace a p held stage)) before end after =
       let g = fits.dgrams.held k a held in
       let st = standing c s k p a.request past w u.pending h a.stage (place_of a p stage) g.stage in
-      ((omega arith, OfDgram s (dgram_at s p h st.1) (may_close a p end held (record { now = after; not_before = before }) stage)), tt)
+      ((omega arith, OfDgram s (dgram_at s p h st.1) (may_close a p end held (record { now = after; not_before = before }) stage), was_live a p held stage), tt)
   cancels_right known _ (IsGivenUp x v (server.AtStreams none)) before end after = tt
 
   pub cancels_goes : (d : Act Served) → Cancels s next k u d → (p j : ℕ) (m : Octets) → j ≢ k → Goes Served Expects past w h u d p j m

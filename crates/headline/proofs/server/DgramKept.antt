@@ -9,7 +9,7 @@ use Rattle.headline.specs.Trace.{History, Conf}
 use Rattle.headline.specs.Time.{read_timeout, now, one_if, count_below}
 use Rattle.headline.specs.Messages.{Octets, CarriesBy}
 use Rattle.headline.specs.Requests.{asks, asking, replied, started}
-use Rattle.headline.specs.Places.{Site, site, is_at, Stand, Unused, Opening, Alive, Gone, on_event, stand, is_live, reach, live}
+use Rattle.headline.specs.Places.{Site, site, is_at, Stand, Unused, Opening, Alive, Gone, on_event, stand, stand_untold, is_live, reach, live}
 use Rattle.headline.specs.Frames.{came}
 use Rattle.headline.specs.Exchanges.{has_answer, unanswered, IsAmong}
 use Rattle.headline.specs.Causes.{sends, last_try, named, IsOneOf}
@@ -41,6 +41,7 @@ has_place (Some a) = is_some (placed a.stage)
 pub record TryingFits (s p : ℕ) (past : History) (pend : What) (h : History) : Type 0 where
   pub was : (stand p past ≡ Opening) ⊎ (stand p past ≡ Unused)
   pub stand : stand p h ≡ on_event pend p Opening
+  pub untold : stand_untold p h ≡ Opening
   pub at : site p h ≡ Some (dgram_site s)
   pub unsent : sending p h ≡ None
   pub none : (r : Request) (j i n : ℕ) → unanswered r p j i n h ≡ []

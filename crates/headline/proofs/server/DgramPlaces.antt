@@ -17,6 +17,7 @@ use Rattle.headline.specs.machine.Dgrams.{Stage, Queued, Trying, Tryer, Dgrams, 
 use Rattle.headline.specs.machine.Streams.{with_at}
 use Rattle.headline.proofs.server.DgramKept.{dgram_site, owing, placed, has_place, StageFits, TryerFits, HasOwner, is_ended, lost, KeptD}
 use Rattle.headline.proofs.server.DgramPuts.{reaches, dgram_same, tryer_put, new_put}
+use Rattle.headline.proofs.server.Untold.{was_unused}
 use Rattle.headline.proofs.server.DgramMoves.{place_below, held_below, one_owner, Standing, standing, dgram_at, is_live_at, live_same}
 use Rattle.headline.proofs.server.Counts.{count_change, count_last}
 use Rattle.headline.proofs.server.Views.{each_at, each_other, at_here, at_there}
@@ -75,7 +76,7 @@ opens_d c s past w pend d h k a kept held stage few new free =
     let off : (q j : ℕ) → d.at q ≡ Some j → p ≢ q = λ q j e g. (let u = n.unheld in let v = ap d.at g in cc) in
     record {
       held = each_at (λ j b. TryerFits c s j b past w pend (Put o ∷ h)) k (staged a (Trying p)) d.held
-          (record { asked = f.asked; has_it = f.has_it; unstreamed = f.unstreamed; trials = f.trials; few = owes; stage = record { was = inr n.was; stand = st; at = at'; unsent = n.unsent; none = n.none } })
+          (record { asked = f.asked; has_it = f.has_it; unstreamed = f.unstreamed; trials = f.trials; few = owes; stage = record { was = inr n.was; stand = st; untold = (let un = was_unused p h n.stand in rw (it, un) refl); at = at'; unsent = n.unsent; none = n.none } })
           (λ j b ne e. tryer_put c s j b past w pend o h refl (λ q g. far_open p q s (off q j (kept.points j b e q g))) (kept.held j b e));
       slots = λ q j e. slots q j e (cases_eq p q);
       points = each_at (λ j b. (q : ℕ) → placed b.stage ≡ Some q → with_at p (Some k) d.at q ≡ Some j) k (staged a (Trying p)) d.held

@@ -12,7 +12,7 @@ use Rattle.headline.specs.Trace.{History, Conf, Put}
 use Rattle.headline.specs.Time.{now, newest}
 use Rattle.headline.specs.Messages.{Octets}
 use Rattle.headline.specs.Requests.{same_via, start, started, is_start}
-use Rattle.headline.specs.Places.{Site, site, site_on, is_site, is_at, Gone, on_out, stand}
+use Rattle.headline.specs.Places.{Site, site, site_on, is_site, is_at, Gone, on_out, stand, stand_untold}
 use Rattle.headline.specs.Writes.{Written, is_write, written_by, waiting_with}
 use Rattle.headline.specs.Exchanges.{octets_for, is_before, waited_for, unanswered, IsAmong, Comes}
 use Rattle.headline.specs.Causes.{sends, last_try, named, WasOpening, ServerCause, NotOpened, NotSent, SentShort, NotReceived, NoAnswer, WrongReply, StreamSilence, NotRead, NotComposed}
@@ -39,20 +39,21 @@ concerns k _ = false
 -- two histories tell the same of place q
 pub record SameDgram (q : ℕ) (h h' : History) : Type 0 where
   pub stand : stand q h' ≡ stand q h
+  pub untold : stand_untold q h' ≡ stand_untold q h
   pub at : site q h' ≡ site q h
   pub sent : sending q h' ≡ sending q h
   pub names : (k : ℕ) → named q k h' ≡ named q k h
   pub exchange : (r : Request) (j i n : ℕ) → unanswered r q j i n h' ≡ unanswered r q j i n h
 
 pub dgram_same : (q : ℕ) (o : Out) (h : History) → reaches q o ≡ false → SameDgram q h (Put o ∷ h)
-dgram_same q (Start k t v) h e = record { stand = refl; at = refl; sent = refl; names = λ k. refl; exchange = λ r j i n. refl }
-dgram_same q (OpenDgram p t) h e = record { stand = rw e refl; at = rw e refl; sent = refl; names = λ k. refl; exchange = λ r j i n. refl }
-dgram_same q (OpenStream p t) h e = record { stand = rw e refl; at = rw e refl; sent = refl; names = λ k. refl; exchange = λ r j i n. refl }
-dgram_same q (Send p k i o) h e = record { stand = refl; at = refl; sent = rw e refl; names = λ k. rw e refl; exchange = λ r j i n. rw e refl }
-dgram_same q (Write p k i o) h e = record { stand = refl; at = refl; sent = refl; names = λ k. refl; exchange = λ r j i n. refl }
-dgram_same q (Resume p o) h e = record { stand = refl; at = refl; sent = refl; names = λ k. refl; exchange = λ r j i n. refl }
-dgram_same q (Close p) h e = record { stand = rw e refl; at = refl; sent = refl; names = λ k. refl; exchange = λ r j i n. refl }
-dgram_same q (Reply k x) h e = record { stand = refl; at = refl; sent = refl; names = λ k. refl; exchange = λ r j i n. refl }
+dgram_same q (Start k t v) h e = record { stand = refl; untold = refl; at = refl; sent = refl; names = λ k. refl; exchange = λ r j i n. refl }
+dgram_same q (OpenDgram p t) h e = record { stand = rw e refl; untold = rw e refl; at = rw e refl; sent = refl; names = λ k. refl; exchange = λ r j i n. refl }
+dgram_same q (OpenStream p t) h e = record { stand = rw e refl; untold = rw e refl; at = rw e refl; sent = refl; names = λ k. refl; exchange = λ r j i n. refl }
+dgram_same q (Send p k i o) h e = record { stand = refl; untold = refl; at = refl; sent = rw e refl; names = λ k. rw e refl; exchange = λ r j i n. rw e refl }
+dgram_same q (Write p k i o) h e = record { stand = refl; untold = refl; at = refl; sent = refl; names = λ k. refl; exchange = λ r j i n. refl }
+dgram_same q (Resume p o) h e = record { stand = refl; untold = refl; at = refl; sent = refl; names = λ k. refl; exchange = λ r j i n. refl }
+dgram_same q (Close p) h e = record { stand = rw e refl; untold = rw e refl; at = refl; sent = refl; names = λ k. refl; exchange = λ r j i n. refl }
+dgram_same q (Reply k x) h e = record { stand = refl; untold = refl; at = refl; sent = refl; names = λ k. refl; exchange = λ r j i n. refl }
 
 -- two histories tell the same of request k
 pub record SameTryer (s k : ℕ) (h h' : History) : Type 0 where
@@ -197,7 +198,7 @@ pub stage_put : (c : Conf) (s k : ℕ) (r : Request) (past : History) (w pend : 
 stage_put c s k r past w pend o h known Queued short far f = tt
 stage_put c s k r past w pend o h known (Trying p) short far f =
     let same = dgram_same p o h (far p refl) in
-    record { was = f.was; stand = same.stand ∙ f.stand; at = same.at ∙ f.at; unsent = same.sent ∙ f.unsent; none = λ r j i n. same.exchange r j i n ∙ f.none r j i n }
+    record { was = f.was; stand = same.stand ∙ f.stand; untold = same.untold ∙ f.untold; at = same.at ∙ f.at; unsent = same.sent ∙ f.unsent; none = λ r j i n. same.exchange r j i n ∙ f.none r j i n }
 stage_put c s k r past w pend o h known (Sent p id t) short far f =
     let same = dgram_same p o h (far p refl) in
     record {

@@ -34,7 +34,7 @@ use Rattle.headline.proofs.server.Beginning.{asked_still, on_alive, on_dead, on_
 
 turn_stage : (c : Conf) (s k : ℕ) (r : Request) (past : History) (w pend : What) (h : History) (st : Stage) → ((p : ℕ) → st ≡ Trying p → on_event pend p Opening ≡ Opening) → ((p id t : ℕ) → st ≡ Sent p id t → has_answer r id (came p pend past) ≡ false) → StageFits c s k r past w pend h st → StageFits c s k r past w Tick h st
 turn_stage c s k r past w pend h Queued opens none f = tt
-turn_stage c s k r past w pend h (Trying p) opens none f = record { was = f.was; stand = f.stand ∙ opens p refl; at = f.at; unsent = f.unsent; none = f.none }
+turn_stage c s k r past w pend h (Trying p) opens none f = record { was = f.was; stand = f.stand ∙ opens p refl; untold = f.untold; at = f.at; unsent = f.unsent; none = f.none }
 turn_stage c s k r past w pend h (Sent p id t) opens none f = record {
   octets = f.octets;
   carries = f.carries;
@@ -258,6 +258,7 @@ stage_begins c s k r past w e h Queued asked begun ending cut f = tt
 stage_begins c s k r past w e h (Trying p) asked begun ending cut f = record {
   was = inl f.stand;
   stand = ap (on_event e.what p) f.stand;
+  untold = f.stand;
   at = f.at;
   unsent = f.unsent;
   none = λ r j i n. none r j i n (has_answer r i (came p e.what h)) (f.none r j i n);

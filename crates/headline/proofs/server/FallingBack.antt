@@ -82,5 +82,6 @@ module _ (c : Conf) (s next k : ℕ) (past : History) (w : What) (u : Served) (h
 
   pub falls_right : s < length c.servers → replied k past ≡ false → (end : History) → ServerOutsRight c past w end h (Start k s Stream ∷ [])
   falls_right lt un end =
+      let g = f.dgrams.held k a held in
       let cut : StageFits c s k a.request past w u.pending h Cut = subst (λ st. StageFits c s k a.request past w u.pending h st) stage (f.dgrams.held k a held).stage in
-      ((omega arith, AfterCutAnswer (f.by_dgram k a held) unstreamed (cut un)), tt)
+      ((omega arith, AfterCutAnswer (f.by_dgram k a held) unstreamed (cut un), (record { request = a.request; moment = g.asked.0 }, g.asked.1)), tt)

@@ -20,6 +20,7 @@ use Rattle.headline.proofs.PartLaws.{Keeps, none_more}
 use Rattle.headline.proofs.server.Kept.{ConnFits, Kept}
 use Rattle.headline.proofs.server.Views.{each_other, at_here, at_there}
 use Rattle.headline.proofs.server.DgramKept.{KeptD}
+use Rattle.headline.proofs.server.Untold.{was_alive}
 use Rattle.headline.proofs.server.DgramMoves.{kept_put_d}
 use Rattle.headline.proofs.server.Frames.{put_at, mode_after, mode_unknown, after_frame}
 use Rattle.headline.proofs.server.Ending.{every_some, conn_below, ends, bad_ends, idle_ends, idle_is_due, may_close}
@@ -147,7 +148,7 @@ module _ (c : Conf) (s : ℕ) (past : History) (w : What) (u : Served) (h : Hist
   frame_keeps next m' x is frame = frame_keeps_at next m' x is (subst (λ n. TakesFrame n p g m x m') f.clock frame)
 
   pub frame_right : (n : ℕ) (m' : Multi) (x : Act) → s < length c.servers → TakesFrame n p g m x m' → (end : History) → ServerOutsRight c past w end h (outs_of x)
-  frame_right n _ _ lt (multi.IsBad x conn bad) end = (let wrong = bad_ends s past w Tick f.fr f.more m h p x g gs kept conn (here x conn).0 bad in ((omega arith, may_close c s p past w h end (kept.conns p x conn).at (BadFrame (ap has_bad (sym (kept.row.came p)) ∙ wrong))), tt))
+  frame_right n _ _ lt (multi.IsBad x conn bad) end = (let wrong = bad_ends s past w Tick f.fr f.more m h p x g gs kept conn (here x conn).0 bad in ((omega arith, may_close c s p past w h end (kept.conns p x conn).at (BadFrame (ap has_bad (sym (kept.row.came p)) ∙ wrong)), was_alive p h (kept.conns p x conn).alive), tt))
   frame_right n _ _ lt (multi.IsUnknown x conn good none) end = tt
   frame_right n _ _ lt (multi.IsLate x y mode conn good held late leaves') end = tt
   frame_right n _ _ lt (multi.IsResult x y mode b conn good held ask phase leaves') end = tt
@@ -162,7 +163,7 @@ module _ (c : Conf) (s : ℕ) (past : History) (w : What) (u : Served) (h : Hist
   kept_now = subst (λ v. Kept s past w v f.fr f.more u.server.by_stream h) tk.pending f.streams
 
   pub idle_right : s < length c.servers → (end : History) → ServerOutsRight c past w end h (Close u.place ∷ [])
-  idle_right lt end = ((omega arith, may_close c s u.place past w h end (kept_now.conns u.place x conn).at (IdleTimer (idle_is_due s past w Tick f.fr f.more u.server.by_stream h u.place x since kept_now conn mode late))), tt)
+  idle_right lt end = ((omega arith, may_close c s u.place past w h end (kept_now.conns u.place x conn).at (IdleTimer (idle_is_due s past w Tick f.fr f.more u.server.by_stream h u.place x since kept_now conn mode late)), was_alive u.place h (kept_now.conns u.place x conn).alive), tt)
 
   pub idle_fits : Fits c s past w (frames_left [] (multi.end_at u.place u.server.by_stream) u) (Put (Close u.place) ∷ h)
   idle_fits = record {

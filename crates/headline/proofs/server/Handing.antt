@@ -159,8 +159,8 @@ module _ (c : Conf) (s next k t : ℕ) (r : Request) (past : History) (w : What)
   starts_keeps _ at (IsHanded how x v used (server.ToStreams is free)) = record { fits = fits_after c s past w u h f v (Start k s Stream ∷ []) (handed_in how x v used (server.ToStreams is free)); others = λ i y ne g. others_all c s i past w y (Start k s Stream ∷ []) h (λ e. ne (sym e)) (refl, tt) g; silent = λ j. refl; handed_on = handed_put k s Stream h; reaches = at }
 
   pub starts_right : s < length c.servers → (d : Step Served) → Starts c s next k r u d → (end : History) → ServerOutsRight c past w end h d.outs
-  starts_right lt _ (IsHanded how x v used (server.ToDgrams is free)) end = ((omega arith, FirstDatagram (used ∙ ap Some is) no_dgram), tt)
-  starts_right lt _ (IsHanded how x v used (server.ToStreams is free)) end = ((omega arith, FirstStream (used ∙ ap Some is) no_stream), tt)
+  starts_right lt _ (IsHanded how x v used (server.ToDgrams is free)) end = ((omega arith, FirstDatagram (used ∙ ap Some is) no_dgram, (record { request = r; moment = t }, asked)), tt)
+  starts_right lt _ (IsHanded how x v used (server.ToStreams is free)) end = ((omega arith, FirstStream (used ∙ ap Some is) no_stream, (record { request = r; moment = t }, asked)), tt)
 
   or_this_of : (j : ℕ) (b : Bool) → ((k ≡ j) ⊎ (holds u j ≡ true)) → or_this k (holds u) j ≡ true
   or_this_of j b (inl e) = (let z : (k == j) ≡ true = grind (arith, nat_tests) in rw z refl)

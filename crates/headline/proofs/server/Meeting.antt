@@ -13,7 +13,7 @@ use Rattle.headline.specs.Trace.{History, Conf, Put, put_all}
 use Rattle.headline.specs.Time.{now, read_timeout}
 use Rattle.headline.specs.Messages.{Octets, answers, truncated, is_valid, base_is_read, passes_count, fits, IsComposingFault}
 use Rattle.headline.specs.Requests.{asking, replied}
-use Rattle.headline.specs.Places.{is_site, Gone, Alive, stand}
+use Rattle.headline.specs.Places.{is_site, Gone, Alive, stand, is_live}
 use Rattle.headline.specs.Frames.{came}
 use Rattle.headline.specs.Exchanges.{Comes}
 use Rattle.headline.specs.Causes.{WasOpening, FailedAt, ServerCause, NotOpened, NotSent, SentShort, NotReceived, NotRead, NotComposed}
@@ -29,6 +29,7 @@ use Rattle.headline.proofs.server.Puts.{kept_put}
 use Rattle.headline.proofs.server.DgramPuts.{comes_put}
 use Rattle.headline.proofs.server.DgramTaking.{ignores, sends_d, fails_d}
 use Rattle.headline.proofs.server.Taking.{turns, foreign_done}
+use Rattle.headline.proofs.server.Untold.{was_alive}
 use Rattle.headline.proofs.server.DgramMoves.{place_below, standing, dgram_at}
 use Rattle.headline.proofs.server.DgramPlaces.{closes_d}
 use Rattle.headline.proofs.server.Keeping.{close_foreign}
@@ -131,7 +132,7 @@ module _ (c : Conf) (s : ℕ) (past : History) (known : s < length c.servers) wh
       let try : TryingFits s p past w h = subst (λ st. StageFits c s k a.request past w w h st) stage f.stage in
       let few : a.tries + 0 ≤ 6 = (let z = f.few in omega arith) in
       leaves w m d h k a p (Ending (Err e)) kept keptd held (ap placed stage) refl few (λ un late. (cause_of c k f.asked.0 a.request past w (Put (Close p) ∷ h) e f.asked.1 bad, λ y. (p, refl))) foreign (λ d none x. (let z = sym none ∙ x.2 in cc))
-      (λ un end. ((omega arith, OfDgram s (dgram_at s p h try.at) (InvalidBeforeItsSend (dgram_site s) try.at try.unsent k _ f.asked.1 (invalid a.request e bad) f.has_it)), tt))
+      (λ un end. ((omega arith, OfDgram s (dgram_at s p h try.at) (InvalidBeforeItsSend (dgram_site s) try.at try.unsent k _ f.asked.1 (invalid a.request e bad) f.has_it), ap is_live try.untold), tt))
   meets_met _ m d h kept keptd early _ _ (dgrams.DoesNotOpen k a p g at held stage) foreign =
       let w = OpenFailed p g in
       let f = keptd.held k a held in
@@ -149,19 +150,19 @@ module _ (c : Conf) (s : ℕ) (past : History) (known : s < length c.servers) wh
       let sent : SentFits s p id t k a.request past w h = subst (λ st. StageFits c s k a.request past w w h st) stage (keptd.held k a held).stage in
       let few : a.tries + 0 ≤ 6 = (let z = (keptd.held k a held).few in omega arith) in
       leaves w m d h k a p (Ending (Err (errors.Dgram (query.Send g)))) kept keptd held (ap placed stage) refl few (λ un late. (NotSent g (failed_at s (λ p. SendFailed p g) p id t k a.request past h (λ e. cc) sent), λ e. absurd (cc))) foreign (λ d none x. (let z = sym none ∙ x.4 in cc))
-      (λ un end. ((omega arith, OfDgram s (dgram_at s p h sent.at) (ItsFault (grind (arith, nat_tests)))), tt))
+      (λ un end. ((omega arith, OfDgram s (dgram_at s p h sent.at) (ItsFault (grind (arith, nat_tests))), was_alive p h sent.stand), tt))
   meets_met _ m d h kept keptd early _ _ (dgrams.SentShort k a p id t at held stage) foreign =
       let w = ShortSend p in
       let sent : SentFits s p id t k a.request past w h = subst (λ st. StageFits c s k a.request past w w h st) stage (keptd.held k a held).stage in
       let few : a.tries + 0 ≤ 6 = (let z = (keptd.held k a held).few in omega arith) in
       leaves w m d h k a p (Ending (Err (errors.Dgram (query.Send fault.ShortSend)))) kept keptd held (ap placed stage) refl few (λ un late. (SentShort (failed_at s ShortSend p id t k a.request past h (λ e. cc) sent), λ e. absurd (cc))) foreign (λ d none x. (let z = sym none ∙ x.4 in cc))
-      (λ un end. ((omega arith, OfDgram s (dgram_at s p h sent.at) (ItsFault (grind (arith, nat_tests)))), tt))
+      (λ un end. ((omega arith, OfDgram s (dgram_at s p h sent.at) (ItsFault (grind (arith, nat_tests))), was_alive p h sent.stand), tt))
   meets_met _ m d h kept keptd early _ _ (dgrams.NotReceived k a p id t g at held stage) foreign =
       let w = RecvFailed p g in
       let sent : SentFits s p id t k a.request past w h = subst (λ st. StageFits c s k a.request past w w h st) stage (keptd.held k a held).stage in
       let few : a.tries + 0 ≤ 6 = (let z = (keptd.held k a held).few in omega arith) in
       leaves w m d h k a p (Ending (Err (errors.Dgram (query.Receive g)))) kept keptd held (ap placed stage) refl few (λ un late. (NotReceived g (failed_at s (λ p. RecvFailed p g) p id t k a.request past h (λ e. cc) sent), λ e. absurd (cc))) foreign (λ d none x. (let z = sym none ∙ x.4 in cc))
-      (λ un end. ((omega arith, OfDgram s (dgram_at s p h sent.at) (ItsFault (grind (arith, nat_tests)))), tt))
+      (λ un end. ((omega arith, OfDgram s (dgram_at s p h sent.at) (ItsFault (grind (arith, nat_tests))), was_alive p h sent.stand), tt))
   meets_met _ m d h kept keptd early _ _ (dgrams.IsAnswered k a p id t o at held stage long ok) foreign =
       let w = Datagram p o in
       let sent : SentFits s p id t k a.request past w h = subst (λ st. StageFits c s k a.request past w w h st) stage (keptd.held k a held).stage in
@@ -170,4 +171,4 @@ module _ (c : Conf) (s : ℕ) (past : History) (known : s < length c.servers) wh
       leaves w m d h k a p (stage_of g) kept keptd held (ap placed stage) (stage_free g (truncated g)) few
       (answered c s past w (Put (Close p) ∷ h) p k id a.request g w (λ un. comes_put c a.request Dgram s p k id g past w (Close p) h refl (answer_comes c s past p o h k id t a.request known un sent (early k a p id t held stage) long)) ok (truncated g) refl) foreign
       (λ d none j b id t at. absurd (let z = sym none ∙ at in cc))
-      (λ un end. ((omega arith, OfDgram s (dgram_at s p h sent.at) (ItsAnswer _ sent.sent (record { request = a.request; server = s; id = id; message = g; comes = answer_comes c s past p o h k id t a.request known (un k (dgrams.staged a (stage_of g)) (here_held k p a (stage_of g) d)) sent (early k a p id t held stage) long; agrees = ok }))), tt))
+      (λ un end. ((omega arith, OfDgram s (dgram_at s p h sent.at) (ItsAnswer _ sent.sent (record { request = a.request; server = s; id = id; message = g; comes = answer_comes c s past p o h k id t a.request known (un k (dgrams.staged a (stage_of g)) (here_held k p a (stage_of g) d)) sent (early k a p id t held stage) long; agrees = ok })), was_alive p h sent.stand), tt))

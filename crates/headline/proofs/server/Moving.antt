@@ -21,6 +21,7 @@ use Rattle.headline.specs.machine.Served.{Served, has_moved, does, outs_of, plac
 use Rattle.headline.proofs.PartLaws.{Keeps, none_more}
 use Rattle.headline.proofs.server.Kept.{listed, ConnFits, Kept}
 use Rattle.headline.proofs.server.Views.{each_at, each_other}
+use Rattle.headline.proofs.server.Untold.{was_alive}
 use Rattle.headline.proofs.server.DgramMoves.{kept_put_d}
 use Rattle.headline.proofs.server.Ending.{every_some, conn_below, ends, idle_ends, idle_is_due, may_close}
 use Rattle.headline.proofs.server.Begun.{written_of}
@@ -214,10 +215,10 @@ module _ (c : Conf) (s : ℕ) (past : History) (w : What) (u : Served) (h : Hist
 
   -- what moves by stream put out is right
   pub stream_right : (m' : Multi) (x : Act) → s < length c.servers → Moves s (now h) (reach h) m x m' → ((k : ℕ) (a : Asker) → m.asks k ≡ Some a → replied k past ≡ false) → (end : History) → ServerOutsRight c past w end h (outs_of x)
-  stream_right _ _ lt (multi.Opens k a ask phase none full) un end = ((omega arith, lt, opening.may_open s past w u.pending f.fr f.more m h f.streams none full), tt)
+  stream_right _ _ lt (multi.Opens k a ask phase none full) un end = ((omega arith, lt, opening.may_open s past w u.pending f.fr f.more m h f.streams none full, (f.streams.to_come (reach h) (omega arith)).nowhere), tt)
   stream_right _ _ lt (multi.Writes k a p x id o ask phase conn none quiet unheld carries some) un end = ((omega arith, may_write k p id a x o ask conn quiet unheld carries (un k a ask)), tt)
-  stream_right _ _ lt (multi.ReadsNothing p x since conn mode late) un end = ((omega arith, may_close c s p past w h end (f.streams.conns p x conn).at (ReadTimer (f.streams.late p x conn since mode late))), tt)
-  stream_right _ _ lt (multi.RestsTooLong p x since conn mode late pumped) un end = ((omega arith, may_close c s p past w h end (f.streams.conns p x conn).at (IdleTimer (idle_is_due s past w u.pending f.fr f.more m h p x since f.streams conn mode late))), tt)
+  stream_right _ _ lt (multi.ReadsNothing p x since conn mode late) un end = ((omega arith, may_close c s p past w h end (f.streams.conns p x conn).at (ReadTimer (f.streams.late p x conn since mode late)), was_alive p h (f.streams.conns p x conn).alive), tt)
+  stream_right _ _ lt (multi.RestsTooLong p x since conn mode late pumped) un end = ((omega arith, may_close c s p past w h end (f.streams.conns p x conn).at (IdleTimer (idle_is_due s past w u.pending f.fr f.more m h p x since f.streams conn mode late)), was_alive p h (f.streams.conns p x conn).alive), tt)
   stream_right _ _ lt (multi.Joins k a p x ask phase conn) un end = tt
   stream_right _ _ lt (multi.Expects k a p ask phase op) un end = tt
   stream_right _ _ lt (multi.Meets k a until ask phase calm low high) un end = tt

@@ -21,6 +21,7 @@ use Rattle.headline.specs.Right.{ServerOutsRight}
 use Rattle.headline.proofs.PartLaws.{Keeps, none_more}
 use Rattle.headline.proofs.server.Kept.{Kept}
 use Rattle.headline.proofs.server.DgramKept.{KeptD}
+use Rattle.headline.proofs.server.Untold.{was_alive}
 use Rattle.headline.proofs.server.DgramMoves.{kept_put_d}
 use Rattle.headline.proofs.server.DgramTaking.{ignores}
 use Rattle.headline.proofs.server.Puts.{kept_put}
@@ -59,7 +60,7 @@ takes_left c s past w m d h kept keptd ig plain _ _ (multi.ItFails _ p x conn to
       asks = λ k a e. (let y = every_some (multi.broken_at p) (m.asks k) a e in (y.0, y.1));
       free = λ q le. told_opens p w told q;
       of = ((Stream, at), tt);
-      right = λ lt end. ((omega arith, may_close c s p past w h end at (StreamFault told)), tt);
+      right = λ lt end. ((omega arith, may_close c s p past w h end at (StreamFault told), was_alive p h (kept.conns p x conn).alive), tt);
     }
 takes_left c s past _ m d h kept keptd ig plain _ _ (multi.SomeWritten p n x o conn lt) =
     let w = Wrote p n in

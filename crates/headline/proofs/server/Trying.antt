@@ -29,6 +29,7 @@ use Rattle.headline.proofs.server.Puts.{IsForeignOut, kept_put}
 use Rattle.headline.proofs.server.DgramMoves.{place_below, standing, dgram_at, forgets}
 use Rattle.headline.proofs.server.DgramPlaces.{opens_d, closes_d}
 use Rattle.headline.proofs.server.Ending.{conn_below}
+use Rattle.headline.proofs.server.Untold.{was_alive}
 use Rattle.headline.proofs.server.Fitting.{OneId, BegunBy, UnsentBy, Fits}
 use Rattle.headline.proofs.server.Moved.{fits_after, AreOf, others_all}
 use Rattle.headline.proofs.server.Keeping.{close_foreign, same_conns}
@@ -115,9 +116,9 @@ module _ (c : Conf) (s : ℕ) (past : History) (w : What) (u : Served) (h : Hist
   tries_half _ _ (dgrams.Ends k a x held stage) = absurd (f.settled k a held x stage)
 
   tries_right : (d : Dgrams) (x : Act) → s < length c.servers → Tries s (now h) (reach h) u.server.by_dgram x d → (end : History) → ServerOutsRight c past w end h (outs_of x)
-  tries_right _ _ lt (dgrams.Opens k a held stage few) end = ((omega arith, lt), tt)
-  tries_right _ _ lt (dgrams.Retries k a p id t held stage late few) end = (let g : SentFits s p id t k a.request past u.pending h = subst (λ st. StageFits c s k a.request past w u.pending h st) stage (f.dgrams.held k a held).stage in ((omega arith, OfDgram s (dgram_at s p h g.at) (ItsTimeout _ g.sent late)), tt))
-  tries_right _ _ lt (dgrams.StopsTrying k a p id t held stage late six) end = (let g : SentFits s p id t k a.request past u.pending h = subst (λ st. StageFits c s k a.request past w u.pending h st) stage (f.dgrams.held k a held).stage in ((omega arith, OfDgram s (dgram_at s p h g.at) (ItsTimeout _ g.sent late)), tt))
+  tries_right _ _ lt (dgrams.Opens k a held stage few) end = ((omega arith, lt, (f.streams.to_come (reach h) (omega arith)).nowhere), tt)
+  tries_right _ _ lt (dgrams.Retries k a p id t held stage late few) end = (let g : SentFits s p id t k a.request past u.pending h = subst (λ st. StageFits c s k a.request past w u.pending h st) stage (f.dgrams.held k a held).stage in ((omega arith, OfDgram s (dgram_at s p h g.at) (ItsTimeout _ g.sent late), was_alive p h g.stand), tt))
+  tries_right _ _ lt (dgrams.StopsTrying k a p id t held stage late six) end = (let g : SentFits s p id t k a.request past u.pending h = subst (λ st. StageFits c s k a.request past w u.pending h st) stage (f.dgrams.held k a held).stage in ((omega arith, OfDgram s (dgram_at s p h g.at) (ItsTimeout _ g.sent late), was_alive p h g.stand), tt))
   tries_right _ _ lt (dgrams.Ends k a x held stage) end = absurd (f.settled k a held x stage)
 
   reaches : (next : ℕ) (d : Dgrams) (x : Act) → next ≡ reach h → Tries s (now h) (reach h) u.server.by_dgram x d → place_after x next ≡ reach (put_all (outs_of x) h)

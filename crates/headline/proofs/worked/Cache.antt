@@ -38,7 +38,7 @@ carried = (record { contents = _; are = refl; reading = _; read = refl; header =
 
 pub carried_in_frame : CarriesBy Stream as_frame plain_request 0
 unfolding name_at walk head_at data_at data_spelling question_at record_at list_at items_at questions_of answer_of authority_of additional_of answer_items authority_items additional_items first_question sole_question reads knows opt_of opt_rcode contents_of id_in
-carried_in_frame = record { rest = drop 2 as_frame; framed = refl; named = refl; says = inr (record { contents = _; are = refl; reading = _; read = refl; header = refl; agree = record { questions = (refl, tt); answer = tt; authority = tt; additional = (record { owner = refl; rtype = refl; class = refl; ttl = refl; content = refl }, tt) } }) }
+carried_in_frame = record { rest = drop 2 as_frame; framed = refl; short = omega arith; named = refl; says = inr (record { contents = _; are = refl; reading = _; read = refl; header = refl; agree = record { questions = (refl, tt); answer = tt; authority = tt; additional = (record { owner = refl; rtype = refl; class = refl; ttl = refl; content = refl }, tt) } }) }
 
 -- the answer came for the first request
 pub answers_it : answers plain_request 4660 (answer 18 52 100) ≡ true
@@ -67,7 +67,7 @@ came_it = record {
   };
 }
 
-fresh : IsFreshReply by_datagrams first_settings 0 (answer 18 52 100) 0 (so_far 3 asked_again)
+pub fresh : IsFreshReply by_datagrams first_settings 0 (answer 18 52 100) 0 (so_far 3 asked_again)
 fresh = record { before = answered; put = refl; fresh = InThisRow came_it; at = refl }
 
 pub cacheable : is_cacheable plain_request ≡ true

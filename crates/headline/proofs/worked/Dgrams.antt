@@ -98,6 +98,7 @@ worked = record {
     named_there = inl refl;
     carries = carried;
   };
+  was_live = refl;
   not_blamed_elsewhere = not_there;
   not_blamed_of_another_server = another_server;
   not_yet_blamed = not_yet;

@@ -23,7 +23,7 @@ use Rattle.headline.proofs.server.Concrete.{every_run}
 use Rattle.headline.proofs.worked.Runs.{cut_goes_on_is_a_run, asked_again_is_a_run}
 
 -- the plain request is composed
-is_composed : (o : Octets) × (composed plain_request ≡ Ok o)
+pub is_composed : (o : Octets) × (composed plain_request ≡ Ok o)
 unfolding name_at walk head_at data_at data_spelling question_at record_at list_at items_at questions_of answer_of authority_of additional_of answer_items authority_items additional_items first_question size limit_of counts_in fresh with_header pushed_question pushed_record cleared finished refusal counts_spelling appended composed
 is_composed = (_, refl)
 

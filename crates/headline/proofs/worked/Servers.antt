@@ -28,15 +28,15 @@ use Rattle.headline.proofs.client.Promptness.{none_first}
 abbrev last_row : History
 last_row = Came (record { moment = record { 0 = 20000 }; what = OpenFailed 1 Refused }) ∷ so_far 3 failing_server
 
-carried : CarriesBy Dgram (as_datagram 0 0) plain_request 0
+pub carried : CarriesBy Dgram (as_datagram 0 0) plain_request 0
 unfolding name_at walk head_at data_at data_spelling question_at record_at list_at items_at questions_of answer_of authority_of additional_of answer_items authority_items additional_items first_question sole_question reads opt_of opt_rcode contents_of id_in
 carried = (record { contents = _; are = refl; reading = _; read = refl; header = refl; agree = record { questions = (refl, tt); answer = tt; authority = tt; additional = (record { owner = refl; rtype = refl; class = refl; ttl = refl; content = refl }, tt) } }, refl)
 
-answers_it : answers plain_request 0 failing ≡ true
+pub answers_it : answers plain_request 0 failing ≡ true
 unfolding answers is_answer name_at walk head_at question_at items_at
 answers_it = refl
 
-whole : truncated failing ≡ false
+pub whole : truncated failing ≡ false
 unfolding truncated
 whole = refl
 

@@ -1,5 +1,5 @@
 -- Traces with the cache, and with two servers, that are not right.
-use Rattle.std.proofs.Common.{◌≡◌, ℕ, ◌+◌, ◌≤◌, true, false, inl, inr, Option, Some, None, List, [], ◌∷◌, refl, arith, sym, ap, subst, subst₂, ◌∙◌}
+use Rattle.std.proofs.Common.{◌≡◌, ℕ, ◌+◌, ◌≤◌, Bool, true, false, inl, inr, Option, Some, None, List, [], ◌∷◌, refl, arith, sym, ap, subst, subst₂, ◌∙◌}
 use Rattle.std.specs.Prelude.{min, option_map, Ok, Err}
 use Rattle.dns_names.specs.Name.{name_at, walk, head_at}
 use Rattle.dns_base.specs.Data.{Data, data_at, data_spelling}
@@ -26,7 +26,7 @@ use Rattle.headline.specs.Replies.{InThisRow, Deferred, OkIsRight, Fresh, View, 
 use Rattle.headline.specs.Causes.{ServerCause, NotOpened, NotSent, SentShort, NotReceived, NoAnswer, WrongReply, StreamSilence, NotRead, NotComposed}
 use Rattle.headline.specs.Errors.{DirectCause, Deadline, NoServer, ByServer, NoValidity, ViewNotKnown, Here, Earlier, IsErrorReply, HasCause, Own, Kept}
 use Rattle.headline.specs.Right.{Right}
-use Rattle.headline.specs.examples.Messages.{plain_request, ad_request, answer, failing}
+use Rattle.headline.specs.examples.Messages.{plain_request, ad_request, answer, answer_with_z, failing}
 use Rattle.headline.specs.examples.Rows.{so_far, two_servers, deferring}
 use Rattle.headline.specs.examples.Cache.{asked_again, refused_twice}
 use Rattle.headline.specs.examples.Servers.{failing_server}
@@ -116,6 +116,11 @@ abbrev ttl_in : Option (Parts Data) → ℕ
 ttl_in None = 0
 ttl_in (Some x) = first_ttl x.answer
 
+-- bit Z of the header
+abbrev z_in : Option (Parts Data) → Bool
+z_in None = false
+z_in (Some x) = x.header.z
+
 -- what is computed of the answer: its TTL is 100, and 70 half a minute later; as a view it is valid for 100 seconds at most
 record Bounded : Type 0 where
   pub parts : Parts Data
@@ -123,13 +128,15 @@ record Bounded : Type 0 where
   pub first : ttl_in (option_map lowered_parts (known_parts first_answer)) ≡ 100
   pub later : ttl_in (Some (lowered_parts (view_of plain_request plain_request 30000000 parts))) ≡ 70
   pub bound : (s : Settings) → view_validity s plain_request plain_request parts ≤ 100000000
+  pub clear : z_in (Some (lowered_parts (view_of plain_request plain_request 30000000 parts))) ≡ false
+  pub set : z_in (option_map lowered_parts (known_parts (answer_with_z 18 52 70))) ≡ true
 
 least_of : (a b : ℕ) → min a b ≤ b
 least_of a b = omega arith
 
 bounded : Bounded
 unfolding name_at walk head_at data_at data_spelling question_at record_at list_at items_at questions_of answer_of authority_of additional_of answer_items authority_items additional_items first_question sole_question reads knows opt_of opt_rcode base_is_read question_of key_of known_parts second
-bounded = record { parts = _; is = refl; first = refl; later = refl; bound = λ s. least_of _ 100000000 }
+bounded = record { parts = _; is = refl; first = refl; later = refl; bound = λ s. least_of _ 100000000; clear = refl; set = refl }
 
 other_ttl : (x : Parts Data) → known_parts first_answer ≡ Some x → Says first_answer (view_of plain_request plain_request 30000000 x) → ⊥
 other_ttl x known says =
@@ -142,6 +149,18 @@ other_ttl x known says =
 -- its first TTLs half a minute later
 pub first_ttls : (c : Conf) (s : Settings) → Right c s (asked_then 30000000 plain_request first_answer) → ⊥
 first_ttls c s h = (let x = is_of_it c s 30000000 plain_request first_answer h in other_ttl x.parts x.known x.says)
+
+other_z : (x : Parts Data) → known_parts first_answer ≡ Some x → Says (answer_with_z 18 52 70) (view_of plain_request plain_request 30000000 x) → ⊥
+other_z x known says =
+    let same : bounded.parts ≡ x = (let z = sym bounded.is ∙ known in cc) in
+    let clear : z_in (Some (lowered_parts (view_of plain_request plain_request 30000000 x))) ≡ false = subst (λ x. z_in (Some (lowered_parts (view_of plain_request plain_request 30000000 x))) ≡ false) same bounded.clear in
+    let set = bounded.set in
+    let y : true ≡ false = sym set ∙ (ap z_in says ∙ clear) in
+    absurd (cc)
+
+-- the view of that moment, but for bit Z
+pub with_z : (c : Conf) (s : Settings) → Right c s (asked_then 30000000 plain_request (answer_with_z 18 52 70)) → ⊥
+with_z c s h = (let x = is_of_it c s 30000000 plain_request (answer_with_z 18 52 70) h in other_z x.parts x.known x.says)
 
 too_old : (s : Settings) (x : Parts Data) → known_parts first_answer ≡ Some x → 101000000 ≤ view_validity s plain_request plain_request x → ⊥
 too_old s x known le =

@@ -1,6 +1,8 @@
 -- Traces by stream that are not right.
 use Rattle.std.proofs.Common.{◌≡◌, ◌≢◌, ℕ, zero, suc, ◌+◌, ◌<◌, ◌≤◌, Bool, true, false, ◌&&◌, inl, inr, Option, Some, None, List, [], ◌∷◌, ◌++◌, length, refl, arith, sym, ap, subst, subst₂, ◌∙◌, ◌==◌}
-use Rattle.std.specs.Prelude.{if◌then◌else◌, nat_lt}
+use Rattle.std.specs.Prelude.{if◌then◌else◌, nat_lt, take, drop, ◌*◌}
+use Rattle.std.specs.Int.{w16, to_be_bytes, from_be_bytes}
+use Rattle.std.proofs.lemmas.Nat.{from_be_bytes-to_be_bytes_2}
 use Rattle.std.proofs.lemmas.Bool.Decides.{nat_tests}
 use Rattle.std.proofs.lemmas.Bool.{cases_eq, eqb-true}
 use Rattle.client_request.specs.Request.{Request}
@@ -28,9 +30,18 @@ use Rattle.headline.specs.Errors.{Deadline, NoServer, ByServer, NoValidity, View
 use Rattle.headline.specs.Orderly.{MayCloseStream, StreamFault, BadFrame, ReadTimer, IdleTimer, MayClose, OfDgram, OfStream}
 use Rattle.headline.specs.Busy.{IsBusy, BreaksOff, OpeningFailed, OpeningFailedAtOnce, IdsAreUsed, ConnectionEnded, Exchanging, PlaceIsOpening, PlacesAreTaken, StreamIsOpening, StreamIsWriting, BackingOff}
 use Rattle.headline.specs.Right.{Right, IsOverdue, PastDeadline, PastTries, PastStream}
-use Rattle.headline.specs.examples.Wrong.{frame_taken, taken_unwritten, frame_passed_over, nothing_written, stream_closed_for_nothing, wrong_without_frame, second_while_opening, second_while_open}
+use Rattle.headline.specs.examples.Wrong.{written, frame_taken, taken_unwritten, frame_passed_over, nothing_written, stream_closed_for_nothing, wrong_without_frame, second_while_opening, second_while_open}
 use Rattle.headline.proofs.client.Promptness.{none_first}
 use Rattle.headline.proofs.wrong.Dgrams.{same_asked}
+
+-- the first two octets of a frame are the length of the rest
+length_told : (a b : ℕ) (rest : Octets) (r : Request) (id : ℕ) → CarriesInFrame (a ∷ b ∷ rest) r id → 256 * a + b ≡ length rest
+length_told a b rest r id x =
+    let head : a ∷ b ∷ [] ≡ to_be_bytes w16 (length x.rest) = ap (take 2) x.framed in
+    let tail : rest ≡ x.rest = ap (drop 2) x.framed in
+    let told : from_be_bytes w16 (a ∷ b ∷ []) ≡ length x.rest = ap (from_be_bytes w16) head ∙ from_be_bytes-to_be_bytes_2 (length x.rest) x.short in
+    let same : length rest ≡ length x.rest = ap length tail in
+    omega arith
 
 abbrev asked_history : Request → History
 asked_history r = Put (OpenStream 0 0) ∷ Put (Start 0 0 Stream) ∷ Came (record { moment = record { 0 = 0 }; what = Ask r }) ∷ []
@@ -138,6 +149,10 @@ module _ (c : Conf) (s : Settings) (r : Request) (o : Octets) where
 
   pub not_before_its_write : (piece m : Octets) → Right c s (taken_unwritten r piece m) → ⊥
   not_before_its_write piece m h = unwritten piece m h.1.1.0.outs.0.1
+
+  -- two octets of length that are not the length of the rest
+  pub wrong_length : (a b : ℕ) (rest : Octets) → 256 * a + b ≢ length rest → o ≡ a ∷ b ∷ rest → Right c s (written r o []) → ⊥
+  wrong_length a b rest ne is h = (let x = h.1.0.outs.0.1 in ne (length_told a b rest x.request 7 (subst (λ o. CarriesInFrame o x.request 7) is x.carries)))
 
   -- a frame is passed over
   not_excused : (n : ℕ) (piece : Octets) → IsExcused 0 (written_history r o) (Bytes 0 piece) (framed_history r o n piece) → ⊥

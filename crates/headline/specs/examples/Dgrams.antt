@@ -2,7 +2,8 @@
 use Rattle.std.specs.Prelude.{◌≡◌, ℕ, true, false, Some, [], ◌∷◌}
 use Rattle.client_request.specs.Carries.{IsOfOctets}
 use Rattle.client_request.specs.declared.fault.Fault.{Fault}
-use Rattle.client_request.specs.declared.event.What.TheVariants.{Ask, Opened, Datagram, RecvFailed}
+use Rattle.client_request.specs.declared.fault.Fault.TheVariants.{Refused}
+use Rattle.client_request.specs.declared.event.What.TheVariants.{Ask, Opened, OpenFailed, Datagram, RecvFailed}
 use Rattle.client_request.specs.declared.event.Out.TheVariants.{Start, OpenDgram, Send, Close}
 use Rattle.client_request.specs.declared.event.Via.TheVariants.{Dgram}
 use Rattle.headline.specs.Trace.{History, Came, Put}
@@ -14,6 +15,7 @@ use Rattle.headline.specs.Frames.{came}
 use Rattle.headline.specs.Exchanges.{unanswered}
 use Rattle.headline.specs.Causes.{sends, FailedAt}
 use Rattle.headline.specs.Orderly.{MaySend}
+use Rattle.headline.specs.Right.{WasLive}
 use Rattle.headline.specs.examples.Messages.{plain_request, as_datagram, address, answer}
 
 -- What happened: it is asked, its place opens at 10 microseconds, and it is sent.
@@ -64,6 +66,7 @@ pub record WorkedDatagrams : Type 0 where
   pub not_again : MaySend 0 0 4660 (as_datagram 18 52) asked_example example_history → ⊥
   pub not_where_it_was : MaySend 0 0 4660 (as_datagram 18 52) example_history reopened_example → ⊥
   pub blamed : (f : Fault) → FailedAt (λ p. RecvFailed p f) 0 example_history (RecvFailed 0 f)
+  pub was_live : WasLive 0 (Came (record { moment = record { 0 = 5000000 }; what = OpenFailed 0 Refused }) ∷ asked_example)
   pub not_blamed_elsewhere : (f : Fault) → FailedAt (λ p. RecvFailed p f) 0 example_history (RecvFailed 1 f) → ⊥
   pub not_blamed_of_another_server : (f : Fault) → FailedAt (λ p. RecvFailed p f) 0 elsewhere_example (RecvFailed 0 f) → ⊥
   pub not_yet_blamed : (f : Fault) → FailedAt (λ p. RecvFailed p f) 0 opened_example (RecvFailed 0 f) → ⊥

@@ -65,6 +65,10 @@ last_eleven = 108 ∷ 101 ∷ 3 ∷ 99 ∷ 111 ∷ 109 ∷ 0 ∷ 0 ∷ 28 ∷ 0 
 abbrev pub answer : (high low ttl : ℕ) → Octets
 answer high low ttl = high ∷ low ∷ 129 ∷ 128 ∷ 0 ∷ 1 ∷ 0 ∷ 1 ∷ 0 ∷ 0 ∷ 0 ∷ 0 ∷ question 1 ++ address ttl
 
+-- the same with bit Z set, 0x40 of the fourth octet
+abbrev pub answer_with_z : (high low ttl : ℕ) → Octets
+answer_with_z high low ttl = high ∷ low ∷ 129 ∷ 192 ∷ 0 ∷ 1 ∷ 0 ∷ 1 ∷ 0 ∷ 0 ∷ 0 ∷ 0 ∷ question 1 ++ address ttl
+
 -- an answer that is cut: TC is set
 abbrev pub cut_answer : (high low : ℕ) → Octets
 cut_answer high low = high ∷ low ∷ 131 ∷ 128 ∷ 0 ∷ 1 ∷ 0 ∷ 0 ∷ 0 ∷ 0 ∷ 0 ∷ 0 ∷ question 1

@@ -93,6 +93,25 @@ abbrev pub blamed_when_closed : Request → Octets → Fault → List Row
 blamed_when_closed r octets f =
     sent r octets (at 5000000 Tick (Close 0 ∷ OpenDgram 1 0 ∷ []) ∷ at 5000001 (RecvFailed 0 f) (Reply 0 (Err (errors.Dgram (query.Receive f))) ∷ Close 1 ∷ []) ∷ [])
 
+-- the number of a place is opened twice
+abbrev pub opened_twice : Request → List Row
+opened_twice r = at 0 (Ask r) (Start 0 0 Dgram ∷ OpenDgram 0 0 ∷ OpenDgram 0 0 ∷ []) ∷ []
+
+-- the place is closed twice in one row after 5 s, or again in a later row
+abbrev pub closed_twice : Request → Octets → List Row
+closed_twice r octets = sent r octets (at 5000000 Tick (Close 0 ∷ Close 0 ∷ OpenDgram 1 0 ∷ []) ∷ [])
+
+abbrev pub closed_again : Request → Octets → List Row
+closed_again r octets = sent r octets (at 5000000 Tick (Close 0 ∷ OpenDgram 1 0 ∷ []) ∷ at 5000001 Tick (Close 0 ∷ []) ∷ [])
+
+-- a number is closed that no out opened
+abbrev pub closed_unopened : List Row
+closed_unopened = at 0 Tick (Close 0 ∷ []) ∷ []
+
+-- the next request is handed over before it is asked
+abbrev pub started_unasked : Request → List Row
+started_unasked r = at 0 (Ask r) (Start 1 0 Dgram ∷ []) ∷ []
+
 -- it is sent six times at once
 abbrev pub sends_six : Octets → List Out
 sends_six o = Send 0 0 7 o ∷ Send 0 0 7 o ∷ Send 0 0 7 o ∷ Send 0 0 7 o ∷ Send 0 0 7 o ∷ Send 0 0 7 o ∷ []

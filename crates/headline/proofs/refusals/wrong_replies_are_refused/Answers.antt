@@ -6,6 +6,7 @@ pub returns : goal.returns
 returns c = record {
   invented = wrong.invents;
   first_ttls = wrong.first_ttls;
+  bit_z = wrong.with_z;
   past_validity = wrong.past_validity;
   other_flags = wrong.other_flags;
   error_past_its_time = wrong.error_past_its_time;

@@ -1,5 +1,5 @@
 -- Each trace lacks what it owes at one point.
-use Rattle.std.specs.Prelude.{[]}
+use Rattle.std.proofs.Common.{[], ◌∷◌, refl}
 use Rattle.headline.proofs.wrong.Streams as wrong
 use Rattle.headline.proofs.refusals.wrong_streams_are_refused.Goals as goal
 
@@ -14,6 +14,7 @@ returns c = record {
   second_while_opening = λ c s r. wrong.second_opening c s r [];
   second_while_open = wrong.second_open;
   closed_for_nothing = wrong.closes_early;
+  wrong_length = λ c s r a b rest ne. wrong.wrong_length c s r (a ∷ b ∷ rest) a b rest ne refl;
   nothing_written = λ c s r. wrong.idles c s r [];
   wrong_without_frame = wrong.wrong_alone;
 }
