@@ -4,6 +4,7 @@ use Rattle.std.proofs.lemmas.List.{take-append-le, take_at, length-take, take-ta
 use Rattle.std.specs.Prelude.{Option, Some, None, Result, Ok, Err, OnOk, nat_lt, if◌then◌else◌}
 use Rattle.dns_names.specs.Name.{Labels}
 use Rattle.dns_base.specs.Compression.{Compressed, stands_at, found_at, pointer_to, name_octets, name_places, remembered, with_label, with_octets, with_name, Begins, Continues}
+use Rattle.dns_base.specs.Suffixes.{first_of, count_before, lead_count, lead_place}
 
 -- one place after the other
 
@@ -78,3 +79,42 @@ looked_up before now octets places from known labels h o p f k =
     let begin : take from octets ≡ before.octets = rw (o, f) h.octets in
     let first : take known places ≡ before.places = rw (p, k) h.places in
     rw (begin, first) refl
+
+-- A name whose longest suffix that is found was looked for before it is written.
+
+pub lead_next : (before : Compressed) (label : List ℕ) (labels : Labels) (left : ℕ) → left ≡ lead_count before (label ∷ labels) → 0 < left
+    → (found_at before.octets before.places (label ∷ labels) ≡ None) × (left ≡ lead_count before labels + 1) × (lead_place before (label ∷ labels) ≡ lead_place before labels)
+lead_next before label labels left count some = go (found_at before.octets before.places (label ∷ labels)) refl
+  where
+    go : (f : Option ℕ) → found_at before.octets before.places (label ∷ labels) ≡ f
+        → (found_at before.octets before.places (label ∷ labels) ≡ None) × (left ≡ lead_count before labels + 1) × (lead_place before (label ∷ labels) ≡ lead_place before labels)
+    go (Some p) e = let none : left ≡ 0 = rw e at count in absurd (omega arith)
+    go None e = let is : left ≡ lead_count before labels + 1 = rw e at count in (e, is, rw e refl)
+
+pub led_to_root : (before now : Compressed) (labels : Labels) → lead_count before labels ≡ 0 → lead_place before labels ≡ None → with_octets (0 ∷ []) now ≡ with_rest before now labels
+led_to_root before now [] count place = root_last before now
+led_to_root before now (label ∷ labels) count place = go (found_at before.octets before.places (label ∷ labels)) refl
+  where
+    go : (f : Option ℕ) → found_at before.octets before.places (label ∷ labels) ≡ f → with_octets (0 ∷ []) now ≡ with_rest before now (label ∷ labels)
+    go (Some p) e = let some : Some p ≡ None = rw e at place in absurd cc
+    go None e = let some : lead_count before labels + 1 ≡ 0 = rw e at count in absurd (omega arith)
+
+pub led_to_place : (before now : Compressed) (labels : Labels) (p : ℕ) → lead_count before labels ≡ 0 → lead_place before labels ≡ Some p → with_octets (pointer_to p) now ≡ with_rest before now labels
+led_to_place before now [] p count place = absurd cc
+led_to_place before now (label ∷ labels) p count place = go (found_at before.octets before.places (label ∷ labels)) refl
+  where
+    go : (f : Option ℕ) → found_at before.octets before.places (label ∷ labels) ≡ f → with_octets (pointer_to p) now ≡ with_rest before now (label ∷ labels)
+    go (Some q) e =
+        let some : Some q ≡ Some p = rw e at place in
+        let is : q ≡ p = cc in
+        pointer_last before now label labels p (e ∙ some)
+    go None e = let some : lead_count before labels + 1 ≡ 0 = rw e at count in absurd (omega arith)
+
+-- How a suffix is written is how the name is, one label on, where it is not found.
+pub lead_on : (before : Compressed) (label : List ℕ) (labels : Labels) → found_at before.octets before.places (label ∷ labels) ≡ None
+    → (lead_count before (label ∷ labels) ≡ lead_count before labels + 1) × (lead_place before (label ∷ labels) ≡ lead_place before labels)
+lead_on before label labels none = (rw none refl, rw none refl)
+
+pub lead_here : (before : Compressed) (label : List ℕ) (labels : Labels) (p : ℕ) → found_at before.octets before.places (label ∷ labels) ≡ Some p
+    → (lead_count before (label ∷ labels) ≡ 0) × (lead_place before (label ∷ labels) ≡ Some p)
+lead_here before label labels p some = (rw some refl, rw some refl)

@@ -3,6 +3,7 @@ pub mod Compressing
 pub mod DataBack
 pub mod EntriesBack
 pub mod Holding
+pub mod Indexed
 pub mod Lists
 pub mod OtherLabels
 pub mod Places
@@ -11,6 +12,7 @@ pub mod ReadData
 pub mod Readings
 pub mod Sizes
 pub mod Stands
+pub mod SuffixKeys
 pub mod Steps
 pub mod Whole
 pub mod Worked

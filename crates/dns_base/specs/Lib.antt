@@ -12,6 +12,7 @@ pub mod Knowing
 pub mod DataReading
 pub mod Entries
 pub mod Compression
+pub mod Suffixes
 pub mod Draft
 pub mod Holding
 pub mod DraftLaws

@@ -1,111 +1,23 @@
 //! Octets of a message that are written, with their names compressed (RFC 1035 4.1.4).
 
-ghost use Rattle.std.specs.Prelude.{◌≡◌, ◌+◌, ◌≤◌, ◌<◌, ◌^◌, ◌++◌, ◌∷◌, [], ℕ, length, take, drop, replicate, Some, None, false, OnOk, IfOk, IsTrue, nat_lt, if◌then◌else◌};
+ghost use Rattle.std.specs.Prelude.{◌≡◌, ◌+◌, ◌≤◌, ◌<◌, ◌^◌, ◌++◌, [], length, take, drop, replicate, OnOk, IfOk};
 ghost use Rattle.std.specs.Int.{w16, w32, to_be_bytes};
-ghost use Rattle.dns_names.specs.Name.{IsLegal, Labels, same_name};
+ghost use Rattle.dns_names.specs.Name.{IsLegal};
 ghost use Rattle.dns_base.specs.Compression as spec;
 ghost use Rattle.dns_base.specs.Data.{data_spelling};
 ghost use Rattle.dns_base.specs.Holding.{IsWritableData};
 ghost use Rattle.dns_base.specs.RecordData.{data_view};
+ghost use Rattle.dns_base.specs.Suffixes.{IsIndex, lead_count, lead_place};
 
 use crate::header::Header;
+use crate::place::{Place, found_at};
 use crate::record_data::RecordData;
 use crate::spelling::put_data;
-use dns_names::{LabelIter, ParsedName, are_same_labels};
+use crate::suffixes::{Suffixes, key_of};
+use dns_names::ParsedName;
 use dns_values::NoMemory;
 use std::alloc::Global;
 use std::marker::Model;
-
-/// A place that a pointer can name, below 16384.
-#[derive(Clone, Copy)]
-pub(crate) struct Place {
-    at: u16,
-}
-
-impl Model for Place {
-    ghost Value = { ℕ };
-
-    ghost view = { λ p. p.at };
-
-    ghost inverse = { λ n. record { at = n } };
-
-    ghost invariant = { λ p. p.at < 16384 };
-}
-
-impl Place {
-    /// A place, if a pointer can name it.
-    fn of(at: usize) -> Option<Place>
-        ensures { result ≡ (if nat_lt at 16384 then Some at else None) }
-    {
-        if at < 16384 {
-            Some(Place { at: at as u16 })
-        } else {
-            None
-        }
-    }
-
-    fn at(self) -> usize
-        ensures { result ≡ self }
-    {
-        self.at as usize
-    }
-
-    /// The two octets of a pointer to it.
-    fn pointer(self) -> [u8; 2]
-        ensures { result ≡ spec.pointer_to self }
-    {
-        [192 + (self.at / 256) as u8, (self.at % 256) as u8]
-    }
-}
-
-/// Whether another label than this one stands at a place: a quick test, which says no where a pointer or the root does.
-fn is_other_label(octets: &[u8], place: usize, label: &[u8]) -> bool
-    ensures { IsTrue result → (rest : Labels) → spec.stands_at octets.now (label.now ∷ rest) place ≡ false }
-{
-    let count = match octets.get(place) {
-        None => return false,
-        Some(count) => *count as usize,
-    };
-    if count == 0 || count >= 64 || octets.len() - (place + 1) < count {
-        return false;
-    }
-    !label.eq_ignore_ascii_case(&octets[place + 1..place + 1 + count])
-}
-
-/// Whether a label and the rest of a name stand at a place, but for case.
-fn stands_at(octets: &[u8], place: usize, label: &[u8], rest: &LabelIter<'_>) -> bool
-    ensures { result ≡ spec.stands_at octets.now (label.now ∷ rest.now) place }
-{
-    if is_other_label(octets, place, label) {
-        return false;
-    }
-    match ParsedName::parse(octets, place) {
-        None => false,
-        Some((name, _)) => is_same_suffix(label, rest, name.labels()),
-    }
-}
-
-/// Whether a label and the rest of a name are the same as the labels of another, but for case.
-fn is_same_suffix(label: &[u8], rest: &LabelIter<'_>, mut labels: LabelIter<'_>) -> bool
-    ensures { result ≡ same_name (label.now ∷ rest.now) labels.entry }
-{
-    match labels.next() {
-        None => false,
-        Some(first) => label.eq_ignore_ascii_case(first) && are_same_labels(rest.again(), labels),
-    }
-}
-
-/// The first of some places at which a label and the rest of a name stand.
-fn found_at(octets: &[u8], places: &[Place], label: &[u8], rest: &LabelIter<'_>) -> Option<Place>
-    ensures { result ≡ spec.found_at octets.now places.now (label.now ∷ rest.now) }
-{
-    for place in places {
-        if stands_at(octets, place.at(), label, rest) {
-            return Some(*place);
-        }
-    }
-    None
-}
 
 /// The octets of a message so far, and the places among them that a pointer may name: those of the labels that names
 /// with compression wrote out.
@@ -113,12 +25,54 @@ fn found_at(octets: &[u8], places: &[Place], label: &[u8], rest: &LabelIter<'_>)
 pub(crate) struct Compressor {
     octets: Vec<u8>,
     places: Vec<Place>,
+    /// The suffixes at the places of the entries before the last, where there are many.
+    known: Suffixes,
+    alloc: Global,
 }
 
 impl Model for Compressor {
+    ghost use Rattle.dns_base.specs.Compression as spec;
+    ghost use Rattle.dns_base.specs.Suffixes.{IsIndex};
+
     ghost Value = { spec.Compressed };
 
     ghost view = { λ c. record { octets = c.octets.items; places = c.places.items } };
+
+    ghost invariant = { λ c. IsIndex c.known c.octets.items c.places.items };
+}
+
+/// So few places are looked through one by one, which costs less than a table of them.
+const FEW_PLACES: usize = 16;
+
+/// So few places of the entry that is being written are looked through for each suffix, beside a table of those before it.
+const FEW_NEW_PLACES: usize = 4;
+
+/// Writes how many octets stand behind a place and the two octets there over these two.
+fn write_count(octets: &mut Vec<u8>, at: usize)
+    requires long { at + 2 ≤ length octets.old.items }
+    requires few { spec.count_behind at octets.old.items < 65536 }
+    ensures { octets.new.items ≡ take at octets.old.items ++ (to_be_bytes w16 (spec.count_behind at octets.old.items) ++ drop (at + 2) octets.old.items) }
+{
+    let count = (octets.len() - (at + 2)) as u16;
+    octets[at..at + 2].copy_from_slice(&count.to_be_bytes());
+}
+
+/// The suffixes at places, where they are more than a few, or else of none of them.
+fn recent_suffixes(alloc: Global, octets: &[u8], places: &[Place]) -> Result<Suffixes, NoMemory>
+    ensures { IfOk result (λ suffixes. IsIndex suffixes octets.now places.now) }
+{
+    let mut suffixes = Suffixes::new(alloc);
+    if places.len() > FEW_NEW_PLACES {
+        suffixes.take_in(octets, places)?;
+    }
+    Ok(suffixes)
+}
+
+/// How a name is written: so many of its labels, and then a pointer to a place or the root.
+#[derive(Clone, Copy)]
+struct Lead {
+    labels: usize,
+    place: Option<Place>,
 }
 
 impl Compressor {
@@ -165,8 +119,31 @@ impl Compressor {
         put_data(&mut self.octets, rdata)
     }
 
+    /// Takes the places that are remembered into the table, where there are many. No length of data may be open: it would be
+    /// written over octets that the table was made of.
+    pub(crate) fn take_in(&mut self) -> Result<(), NoMemory>
+        ensures { self.new ≡ self.old }
+    {
+        if self.places.len() > FEW_PLACES {
+            self.known.take_in(&self.octets, &self.places)?;
+        }
+        Ok(())
+    }
+
     /// Appends a name, compressed.
     pub(crate) fn put_name(&mut self, name: &ParsedName<'_>) -> Result<(), NoMemory>
+        ensures ok { OnOk result (self.new ≡ spec.with_name name.now self.old) }
+        ensures kept { spec.Continues self.old self.new }
+        ensures legal { IsLegal name.now }
+    {
+        if self.places.len() <= FEW_PLACES {
+            return self.put_among_few(name);
+        }
+        self.put_among_many(name)
+    }
+
+    /// Appends a name, each suffix of which is looked for at one place after the other.
+    fn put_among_few(&mut self, name: &ParsedName<'_>) -> Result<(), NoMemory>
         ensures ok { OnOk result (self.new ≡ spec.with_name name.now self.old) }
         ensures kept { spec.Continues self.old self.new }
         ensures legal { IsLegal name.now }
@@ -191,6 +168,70 @@ impl Compressor {
             }
         }
     }
+
+    /// How a name is written, by the tables.
+    fn lead_of(&self, name: &ParsedName<'_>) -> Result<Lead, NoMemory>
+        ensures count { IfOk result (λ lead. lead.labels ≡ lead_count self.now name.now) }
+        ensures place { IfOk result (λ lead. lead.place ≡ lead_place self.now name.now) }
+    {
+        let key = key_of(self.alloc, name)?;
+        let behind = &self.places[self.known.count()..];
+        let recent = recent_suffixes(self.alloc, &self.octets, behind)?;
+        let mut at = 0;
+        let mut count = 0;
+        let mut labels = name.labels();
+        'labels: loop {
+            match labels.next() {
+                None => {
+                    return Ok(Lead {
+                        labels: count,
+                        place: None,
+                    });
+                }
+                Some(label) => {
+                    if let Some(place) = self.known.found_before(
+                        &recent,
+                        &self.octets,
+                        &self.places,
+                        &key[at..],
+                        label,
+                        &labels,
+                    ) {
+                        return Ok(Lead {
+                            labels: count,
+                            place: Some(place),
+                        });
+                    }
+                    at += 1 + label.len();
+                    count += 1;
+                }
+            }
+        }
+    }
+
+    /// Appends a name, each suffix of which is looked for by the tables.
+    fn put_among_many(&mut self, name: &ParsedName<'_>) -> Result<(), NoMemory>
+        ensures ok { OnOk result (self.new ≡ spec.with_name name.now self.old) }
+        ensures kept { spec.Continues self.old self.new }
+        ensures legal { IsLegal name.now }
+    {
+        let mut labels = name.labels();
+        let lead = self.lead_of(name)?;
+        let mut left = lead.labels;
+        'labels: loop {
+            if left == 0 {
+                return match lead.place {
+                    None => self.put_octets(&[0]),
+                    Some(place) => self.put_octets(&place.pointer()),
+                };
+            }
+            match labels.next() {
+                None => return self.put_octets(&[0]),
+                Some(label) => self.put_label(label)?,
+            }
+            left -= 1;
+        }
+    }
 }
 
 /// Room for so many octets is taken at first: most queries need no more.
@@ -206,6 +247,8 @@ impl Compressor {
         Ok(Compressor {
             octets,
             places: Vec::new(alloc),
+            known: Suffixes::new(alloc),
+            alloc,
         })
     }
 
@@ -228,6 +271,7 @@ impl Compressor {
     pub(crate) fn back_to(&mut self, octets: usize, places: usize)
         ensures { self.new ≡ record { octets = take octets self.old.octets; places = take places self.old.places } }
     {
+        self.known.keep_within(octets, places);
         self.octets.truncate(octets);
         self.places.truncate(places);
     }
@@ -237,6 +281,7 @@ impl Compressor {
         requires { 4 ≤ length self.old.octets }
         ensures { self.new ≡ record self.old { octets = header ++ drop 4 self.old.octets } }
     {
+        self.known.keep_within(0, 0);
         header.put_over(&mut self.octets);
     }
 
@@ -272,7 +317,7 @@ impl Compressor {
         requires few { spec.count_behind at self.old.octets < 65536 }
         ensures { self.new ≡ spec.counted at self.old }
     {
-        let count = (self.octets.len() - (at + 2)) as u16;
-        self.octets[at..at + 2].copy_from_slice(&count.to_be_bytes());
+        self.known.keep_within(at, self.places.len());
+        write_count(&mut self.octets, at);
     }
 }

@@ -12,12 +12,14 @@ mod lookups;
 mod message;
 mod numbers;
 mod opt_record;
+mod place;
 mod push_error;
 mod query;
 mod question;
 mod record;
 mod record_data;
 mod spelling;
+mod suffixes;
 mod writing;
 
 pub use answer::is_answer;

@@ -27,6 +27,7 @@ impl Compressor {
         ensures kept { spec.Continues self.old self.new }
         ensures askable { OnOk result (IsAskable (question_of name.now rtype class)) }
     {
+        self.take_in()?;
         self.put_name(name)?;
         self.put_u16(rtype.0)?;
         self.put_u16(class.0)
@@ -135,6 +136,7 @@ impl Compressor {
         ensures kept { spec.Continues self.old self.new }
         ensures writable { OnOk result (IsWritable (record_of owner.now rtype class ttl rdata.now)) }
     {
+        self.take_in()?;
         self.put_fields(owner, rtype, class, ttl)?;
         self.put_counted_data(rdata)
     }

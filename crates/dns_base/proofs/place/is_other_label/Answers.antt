@@ -1,7 +1,7 @@
 use Rattle.std.proofs.Common.{◌≡◌, ◌<◌, List, ℕ, Bool, true, false, arith}
 use Rattle.std.specs.Prelude.{not}
 use Rattle.dns_base.proofs.OtherLabels.{other_label, octet_there}
-use Rattle.dns_base.proofs.compressor.is_other_label.Goals as goal
+use Rattle.dns_base.proofs.place.is_other_label.Goals as goal
 
 not_both : {A : Type 0} (b : Bool) → b ≡ true → not b ≡ true → A
 not_both true p q = absurd cc

@@ -4,7 +4,7 @@ use Rattle.std.specs.List.{AllByRecursion}
 use Rattle.dns_names.specs.Name.{Labels, IsLabel}
 use Rattle.dns_base.specs.Compression.{Compressed, found_at, pointer_to, with_name, with_octets, with_label, Continues}
 use Rattle.dns_base.proofs.Compressing.{with_rest, rest_is_name, root_last, pointer_last, label_next, continues_itself, continues_on, looked_up, on_ok}
-use Rattle.dns_base.proofs.compressor.Compressor.put_name.Goals as goal
+use Rattle.dns_base.proofs.compressor.Compressor.put_among_few.Goals as goal
 
 pub labels-init : goal.labels-init
 labels-init c =
