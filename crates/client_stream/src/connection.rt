@@ -11,7 +11,7 @@ ghost use Rattle.client_stream.specs.Settings.{default_settings};
 use crate::config::Config;
 use crate::framer::Framer;
 use crate::hearing::hear_frame;
-use crate::line::{Line, end, fire, give_up};
+use crate::line::{Line, end_by_timer, end_with, give_up};
 use crate::request::{AnyRequest, Request, RequestMulti};
 use crate::writing::{take_on, wrote};
 use client_request::{
@@ -235,7 +235,7 @@ impl<Req: ComposeRequest, ReqMulti: ComposeRequestMulti> Connection<Req, ReqMult
     }
 
     /// Takes the first frame, and says whether another whole one stands.
-    fn read<W: Words>(&mut self, cx: &mut Cx<'_, W>) -> Result<(), Error>
+    fn read_frame<W: Words>(&mut self, cx: &mut Cx<'_, W>) -> Result<(), Error>
         ensures lends { LendsTheSame cx.old cx.new }
         ensures ok { OnOk result (plain.reads Req.requests ReqMulti.requests self.old (view_of W.stream cx.old) ≡ Some (self.new, view_of W.stream cx.new)) }
         ensures numbers { IsErrOf result Error.NumbersUsed → plain.reads Req.requests ReqMulti.requests self.old (view_of W.stream cx.old) ≡ None }
@@ -255,13 +255,13 @@ impl<Req: ComposeRequest, ReqMulti: ComposeRequestMulti> Connection<Req, ReqMult
         ensures ok { OnOk result (plain.closes error self.old (view_of W.stream cx.old) ≡ Some (self.new, view_of W.stream cx.new)) }
         ensures keeps { self.new.failed ≡ self.old.failed }
     {
-        end(&mut self.line, self.place, cx, error)?;
+        end_with(&mut self.line, self.place, cx, error)?;
         self.drop_octets();
         Ok(())
     }
 
-    /// What an event at its own place does.
-    fn told<W: Words>(&mut self, cx: &mut Cx<'_, W>, what: &What) -> Result<(), Error>
+    /// Hears an event at its own place.
+    fn hear_event<W: Words>(&mut self, cx: &mut Cx<'_, W>, what: &What) -> Result<(), Error>
         ensures lends { LendsTheSame cx.old cx.new }
         ensures ok { OnOk result (plain.tells Req.requests ReqMulti.requests what.now self.old (view_of W.stream cx.old) ≡ Some (self.new, view_of W.stream cx.new)) }
         ensures numbers { IsErrOf result Error.NumbersUsed → plain.tells Req.requests ReqMulti.requests what.now self.old (view_of W.stream cx.old) ≡ None }
@@ -271,7 +271,7 @@ impl<Req: ComposeRequest, ReqMulti: ComposeRequestMulti> Connection<Req, ReqMult
         match what {
             What::Bytes { octets, .. } => {
                 self.framer.feed(octets.as_slice())?;
-                self.read(cx)
+                self.read_frame(cx)
             }
             What::Wrote { count, .. } => {
                 wrote(&mut self.line, self.place, &self.config, cx, *count)?;
@@ -306,8 +306,8 @@ impl<Req: ComposeRequest, ReqMulti: ComposeRequestMulti> Connection<Req, ReqMult
         }
     }
 
-    /// What a signal does.
-    fn hear<W: Words>(&mut self, cx: &mut Cx<'_, W>, signal: Signal<'_>) -> Result<(), Error>
+    /// Hears a signal, unless the connection has ended.
+    fn hear_signal<W: Words>(&mut self, cx: &mut Cx<'_, W>, signal: Signal<'_>) -> Result<(), Error>
         ensures lends { LendsTheSame cx.old cx.new }
         ensures ok { OnOk result (plain.plain_step Req.requests ReqMulti.requests (heard signal.entry) self.old (view_of W.stream cx.old) ≡ Some (self.new, view_of W.stream cx.new)) }
         ensures numbers { IsErrOf result Error.NumbersUsed → plain.plain_step Req.requests ReqMulti.requests (heard signal.entry) self.old (view_of W.stream cx.old) ≡ None }
@@ -320,20 +320,20 @@ impl<Req: ComposeRequest, ReqMulti: ComposeRequestMulti> Connection<Req, ReqMult
         match signal {
             Signal::Told(what) => {
                 if is_at(self.place, what) {
-                    self.told(cx, what)
+                    self.hear_event(cx, what)
                 } else {
                     Ok(())
                 }
             }
             Signal::More { place } => {
                 if self.place == place {
-                    self.read(cx)
+                    self.read_frame(cx)
                 } else {
                     Ok(())
                 }
             }
             Signal::Due(timer) => {
-                fire(&mut self.line, self.place, cx, timer.0)?;
+                end_by_timer(&mut self.line, self.place, cx, timer.0)?;
                 self.drop_octets();
                 Ok(())
             }
@@ -363,7 +363,7 @@ impl<Req: ComposeRequest, ReqMulti: ComposeRequestMulti> SendRequest<Req>
         if self.failed {
             return Err(Error::Failed);
         }
-        let result = self.hear(cx, signal);
+        let result = self.hear_signal(cx, signal);
         if result.is_err() {
             self.failed = true;
         }

@@ -8,7 +8,7 @@ ghost use Rattle.client_stream.specs.declared.request.Holder.TheVariants as hold
 ghost use Rattle.client_stream.specs.Plain as plain;
 
 use crate::keepalive::idle_time_told;
-use crate::line::{Line, activate, end, settle};
+use crate::line::{Line, become_active, become_idle_if_unused, end_with};
 use crate::request::Holder;
 use crate::transfer::part_of;
 use client_request::{ComposeRequest, ComposeRequestMulti, Cx, Error, Words};
@@ -28,7 +28,7 @@ fn deliver_part<Req: ComposeRequest, ReqMulti: ComposeRequestMulti, W: Words>(
     requires free { entry_at (plain.message_id message) line.old.held.held ≡ None }
     requires room { length line.old.held.held < 32768 }
     ensures lends { LendsTheSame cx.old cx.new }
-    ensures ok { OnOk result (plain.given Req.requests ReqMulti.requests message line.old (view_of W.stream cx.old) (holder.Transfers ticket request state) ≡ (line.new, view_of W.stream cx.new)) }
+    ensures ok { OnOk result (plain.delivers Req.requests ReqMulti.requests message line.old (view_of W.stream cx.old) (holder.Transfers ticket request state) ≡ (line.new, view_of W.stream cx.new)) }
 {
     let id = message.header().id();
     let (ends, state, taken) = check_stream(&request, state, &message);
@@ -58,7 +58,7 @@ fn deliver<Req: ComposeRequest, ReqMulti: ComposeRequestMulti, W: Words>(
     requires free { entry_at (plain.message_id message) line.old.held.held ≡ None }
     requires room { length line.old.held.held < 32768 }
     ensures lends { LendsTheSame cx.old cx.new }
-    ensures ok { OnOk result (plain.given Req.requests ReqMulti.requests message line.old (view_of W.stream cx.old) holder ≡ (line.new, view_of W.stream cx.new)) }
+    ensures ok { OnOk result (plain.delivers Req.requests ReqMulti.requests message line.old (view_of W.stream cx.old) holder ≡ (line.new, view_of W.stream cx.new)) }
 {
     match holder {
         Holder::GivenUp => Ok(()),
@@ -97,7 +97,7 @@ fn release<Req: ComposeRequest, ReqMulti: ComposeRequestMulti, W: Words>(
         return Ok(());
     };
     deliver(line, cx, message, holder)?;
-    settle(line, place, cx)
+    become_idle_if_unused(line, place, cx)
 }
 
 /// A message came: the connection is active, and who held the message's id gets it.
@@ -108,12 +108,12 @@ fn hear_message<Req: ComposeRequest, ReqMulti: ComposeRequestMulti, W: Words>(
     message: Message,
 ) -> Result<(), Error>
     ensures lends { LendsTheSame cx.old cx.new }
-    ensures ok { OnOk result (plain.comes Req.requests ReqMulti.requests place message line.old (view_of W.stream cx.old) ≡ Some (line.new, view_of W.stream cx.new)) }
-    ensures numbers { IsErrOf result Error.NumbersUsed → plain.comes Req.requests ReqMulti.requests place message line.old (view_of W.stream cx.old) ≡ None }
+    ensures ok { OnOk result (plain.message_comes Req.requests ReqMulti.requests place message line.old (view_of W.stream cx.old) ≡ Some (line.new, view_of W.stream cx.new)) }
+    ensures numbers { IsErrOf result Error.NumbersUsed → plain.message_comes Req.requests ReqMulti.requests place message line.old (view_of W.stream cx.old) ≡ None }
     ensures want { IfErr result IsWant }
 {
     line.idle_time = idle_time_told(&message).unwrap_or(line.idle_time);
-    activate(line, cx)?;
+    become_active(line, cx)?;
     release(line, place, cx, message)
 }
 
@@ -132,7 +132,7 @@ pub(crate) fn hear_frame<Req: ComposeRequest, ReqMulti: ComposeRequestMulti, W: 
     match Message::from_octets(frame) {
         Ok(message) => hear_message(line, place, cx, message),
         Err(_) => {
-            end(line, place, cx, Error::ShortMessage)?;
+            end_with(line, place, cx, Error::ShortMessage)?;
             Ok(())
         }
     }

@@ -12,7 +12,6 @@ mod laws;
 mod line;
 mod queries;
 mod request;
-mod stage;
 mod transfer;
 mod writing;
 
@@ -21,7 +20,6 @@ pub use config::Config;
 pub use connection::Connection;
 pub use framer::Framer;
 pub use laws::{cutting_law, frames_law, ids_law, transfer_law};
-pub use line::Line;
+pub use line::{Line, LineStage};
 pub use queries::{InsertFault, Queries};
-pub use request::{AnyRequest, Holder, Request, RequestMulti, Waiting};
-pub use stage::Stage;
+pub use request::{AnyRequest, Holder, QueuedRequest, Request, RequestMulti};

@@ -18,7 +18,7 @@ pub enum AnyRequest<Req, ReqMulti> {
 
 /// A request that was not written yet, with the number that outs for it name.
 #[derive(Drop)]
-pub struct Waiting<Req, ReqMulti> {
+pub struct QueuedRequest<Req, ReqMulti> {
     pub number: u64,
     pub request: AnyRequest<Req, ReqMulti>,
 }

@@ -7,10 +7,10 @@ ghost use Rattle.client_request.specs.Timers.{IsWant};
 ghost use Rattle.client_stream.specs.declared.request.AnyRequest.TheVariants as any;
 ghost use Rattle.client_stream.specs.Plain as plain;
 
-use crate::composing::ready;
+use crate::composing::prepare_frame;
 use crate::config::Config;
-use crate::line::{Line, end, timeout_by, wake};
-use crate::request::{AnyRequest, Holder, Waiting};
+use crate::line::{Line, become_active_for, end_with, timeout_by};
+use crate::request::{AnyRequest, Holder, QueuedRequest};
 use crate::transfer::first_state;
 use client_request::{ComposeRequest, ComposeRequestMulti, Cx, Error, Fault, Out, Words};
 use client_transfer::XfrState;
@@ -18,7 +18,7 @@ use dns_base::{NoMemory, Octets};
 
 /// Writes a frame for who is to hold an id, or gives the result where there is none since the message is
 /// too long. The id is free again then.
-fn write<Req: ComposeRequest, ReqMulti: ComposeRequestMulti, W: Words>(
+fn write_frame<Req: ComposeRequest, ReqMulti: ComposeRequestMulti, W: Words>(
     line: &mut Line<Req, ReqMulti>,
     place: u64,
     cx: &mut Cx<'_, W>,
@@ -70,9 +70,9 @@ fn write_single<Req: ComposeRequest, ReqMulti: ComposeRequestMulti, W: Words>(
             .board
             .put(ticket, Err(Error::StreamTooManyOutstandingQueries));
     };
-    let frame = ready(line.alloc, &mut line.had_keepalive, id, &mut request)?;
+    let frame = prepare_frame(line.alloc, &mut line.had_keepalive, id, &mut request)?;
     let holder = Holder::Waits { ticket, request };
-    write(line, place, cx, ticket, number, id, holder, frame)
+    write_frame(line, place, cx, ticket, number, id, holder, frame)
 }
 
 /// Writes a transfer, if there is an id for it.
@@ -86,24 +86,24 @@ fn write_transfer<Req: ComposeRequest, ReqMulti: ComposeRequestMulti, W: Words>(
     state: XfrState,
 ) -> Result<(), NoMemory>
     ensures lends { LendsTheSame cx.old cx.new }
-    ensures ok { OnOk result (plain.begins Req.requests ReqMulti.requests place ticket number request line.old (view_of W.stream cx.old) (Ok state) ≡ (line.new, view_of W.stream cx.new)) }
+    ensures ok { OnOk result (plain.starts_transfer Req.requests ReqMulti.requests place ticket number request line.old (view_of W.stream cx.old) (Ok state) ≡ (line.new, view_of W.stream cx.new)) }
 {
     let Some(id) = line.held.next_id() else {
         return cx
             .board
             .put(ticket, Err(Error::StreamTooManyOutstandingQueries));
     };
-    let frame = ready(line.alloc, &mut line.had_keepalive, id, &mut request)?;
+    let frame = prepare_frame(line.alloc, &mut line.had_keepalive, id, &mut request)?;
     let holder = Holder::Transfers {
         ticket,
         request,
         state,
     };
-    write(line, place, cx, ticket, number, id, holder, frame)
+    write_frame(line, place, cx, ticket, number, id, holder, frame)
 }
 
 /// Begins a transfer, or gives the result where it asks for none.
-fn begin<Req: ComposeRequest, ReqMulti: ComposeRequestMulti, W: Words>(
+fn start_transfer<Req: ComposeRequest, ReqMulti: ComposeRequestMulti, W: Words>(
     line: &mut Line<Req, ReqMulti>,
     place: u64,
     cx: &mut Cx<'_, W>,
@@ -121,24 +121,24 @@ fn begin<Req: ComposeRequest, ReqMulti: ComposeRequestMulti, W: Words>(
 }
 
 /// A request is taken from the queue: it is written, if there is an id for it.
-fn take_next<Req: ComposeRequest, ReqMulti: ComposeRequestMulti, W: Words>(
+fn take_queued<Req: ComposeRequest, ReqMulti: ComposeRequestMulti, W: Words>(
     line: &mut Line<Req, ReqMulti>,
     place: u64,
     config: &Config,
     cx: &mut Cx<'_, W>,
     ticket: u64,
-    waiting: Waiting<Req, ReqMulti>,
+    waiting: QueuedRequest<Req, ReqMulti>,
 ) -> Result<(), Error>
     ensures lends { LendsTheSame cx.old cx.new }
-    ensures ok { OnOk result (plain.takes Req.requests ReqMulti.requests place config.now ticket waiting line.old (view_of W.stream cx.old) ≡ Some (line.new, view_of W.stream cx.new)) }
-    ensures numbers { IsErrOf result Error.NumbersUsed → plain.takes Req.requests ReqMulti.requests place config.now ticket waiting line.old (view_of W.stream cx.old) ≡ None }
+    ensures ok { OnOk result (plain.takes_queued Req.requests ReqMulti.requests place config.now ticket waiting line.old (view_of W.stream cx.old) ≡ Some (line.new, view_of W.stream cx.new)) }
+    ensures numbers { IsErrOf result Error.NumbersUsed → plain.takes_queued Req.requests ReqMulti.requests place config.now ticket waiting line.old (view_of W.stream cx.old) ≡ None }
     ensures want { IfErr result IsWant }
 {
-    wake(line, cx, timeout_by(config, &waiting.request))?;
-    let Waiting { number, request } = waiting;
+    become_active_for(line, cx, timeout_by(config, &waiting.request))?;
+    let QueuedRequest { number, request } = waiting;
     match request {
         AnyRequest::Single(request) => write_single(line, place, cx, ticket, number, request)?,
-        AnyRequest::Transfer(request) => begin(line, place, cx, ticket, number, request)?,
+        AnyRequest::Transfer(request) => start_transfer(line, place, cx, ticket, number, request)?,
     }
     Ok(())
 }
@@ -159,7 +159,7 @@ fn pump<Req: ComposeRequest, ReqMulti: ComposeRequestMulti, W: Words>(
         let Some((ticket, waiting)) = line.queue.pop_first() else {
             return Ok(());
         };
-        take_next(line, place, config, cx, ticket, waiting)?;
+        take_queued(line, place, config, cx, ticket, waiting)?;
     }
     Ok(())
 }
@@ -182,7 +182,7 @@ pub(crate) fn take_on<Req: ComposeRequest, ReqMulti: ComposeRequestMulti, W: Wor
     let Some(next) = ticket.checked_add(1) else {
         return Err(Error::NumbersUsed);
     };
-    let waiting = Waiting {
+    let waiting = QueuedRequest {
         number: cx.request,
         request,
     };
@@ -234,13 +234,13 @@ pub(crate) fn wrote<Req: ComposeRequest, ReqMulti: ComposeRequestMulti, W: Words
     };
     if count == 0 {
         let error = Error::StreamWriteError(Fault::NothingTaken);
-        end(line, place, cx, error)?;
+        end_with(line, place, cx, error)?;
         return Ok(());
     }
     if octets.as_slice().len() as u64 <= count {
         return pump(line, place, config, cx);
     }
-    let rest = Octets::from_slice(line.alloc, &octets.as_slice()[count as usize..])?;
+    let rest = octets.skipping(count as usize)?;
     resume(line, place, cx, rest)?;
     Ok(())
 }

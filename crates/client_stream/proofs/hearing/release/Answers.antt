@@ -11,11 +11,11 @@ returns-clause-ok g c =
     let id : c.id-id.result ≡ plain.message_id c.args.message = c.id-id.ensures ∙ ap id_of c.header.ensures in
     let step = releases g.Req.Compose.requests g.ReqMulti.Compose.requests c.args.place c.args.message c.args.line.now _ (view_of g.W.Words.stream c.args.cx.now) _ _ c.in-Some.holder _
     c.line.view_is id c.in-Some.ensures.item c.in-Some.ensures.removed c.in_ok-deliver.ensures.ok in
-    subst (λ after. OnOk c.settle.result (after ≡ Some (c.settle.new.line, view_of g.W.Words.stream c.settle.new.cx))) (sym step) c.settle.ensures.ok
+    subst (λ after. OnOk c.become_idle_if_unused.result (after ≡ Some (c.become_idle_if_unused.new.line, view_of g.W.Words.stream c.become_idle_if_unused.new.cx))) (sym step) c.become_idle_if_unused.ensures.ok
 
 pub returns-clause-numbers : goal.returns-clause-numbers
 returns-clause-numbers g c =
     let id : c.id-id.result ≡ plain.message_id c.args.message = c.id-id.ensures ∙ ap id_of c.header.ensures in
     let step = releases g.Req.Compose.requests g.ReqMulti.Compose.requests c.args.place c.args.message c.args.line.now _ (view_of g.W.Words.stream c.args.cx.now) _ _ c.in-Some.holder _
     c.line.view_is id c.in-Some.ensures.item c.in-Some.ensures.removed c.in_ok-deliver.ensures.ok in
-    λ e. step ∙ c.settle.ensures.numbers e
+    λ e. step ∙ c.become_idle_if_unused.ensures.numbers e

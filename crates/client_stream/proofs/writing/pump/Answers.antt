@@ -7,12 +7,12 @@ use Rattle.client_request.specs.View.{View}
 use Rattle.client_stream.specs.Plain as plain
 use Rattle.client_stream.specs.Plain.{Line}
 use Rattle.client_stream.specs.Settings.{Settings}
-use Rattle.client_stream.specs.declared.request.Waiting.{Waiting}
+use Rattle.client_stream.specs.declared.request.QueuedRequest.{QueuedRequest}
 use Rattle.client_stream.proofs.Taking.{with_queue, goes_on}
 use Rattle.client_stream.proofs.writing.pump.Goals as goal
 
 -- While a frame is being written no request is taken.
-stays : {R M : Type 0} (one : Requests R) (several : Requests M) (place : ℕ) (settings : Settings) (queue : List (ℕ × Waiting R M)) (s : Line R M) (v : View) → is_some s.writing ≡ true → plain.pumps one several place settings queue s v ≡ Some (s, v)
+stays : {R M : Type 0} (one : Requests R) (several : Requests M) (place : ℕ) (settings : Settings) (queue : List (ℕ × QueuedRequest R M)) (s : Line R M) (v : View) → is_some s.writing ≡ true → plain.pumps one several place settings queue s v ≡ Some (s, v)
 stays one several place settings [] s v h = refl
 stays one several place settings (entry ∷ queue) s v h = rw h refl
 
@@ -26,7 +26,7 @@ pub loop-line-preserved : goal.loop-line-preserved
 loop-line-preserved g c =
     let free : is_some c.loop-line.line.writing ≡ false = ap (λ s. is_some s.writing) (sym c.line.view_is) ∙ c.is_none.ensures ∙ ap not c.loop-line-test.true in
     let first : c.loop-line.line.queue ≡ (c.in-Some.ticket, c.in-Some.waiting) ∷ c.pop_first.new.self = ap (λ s. s.queue) (sym c.line.view_is) ∙ c.in-Some.ensures.removal in
-    let taken = c.in_ok-take_next.ensures in
+    let taken = c.in_ok-take_queued.ensures in
     let before = c.loop-line.invariant in
     record {
       lends = record {
