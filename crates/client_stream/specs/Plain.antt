@@ -18,6 +18,7 @@ use Rattle.client_request.specs.Board.{Part, posted}
 use Rattle.client_request.specs.declared.board.Posted.{Posted}
 use Rattle.client_request.specs.Numbered.{puts, frees, entry_at}
 use Rattle.client_request.specs.Requests.{Requests}
+use Rattle.client_request.specs.Response as response
 use Rattle.client_request.specs.View.{View, Transport, Heard, told, more_at, due_timer, asks, answers, sets_timer, drops_timer, draws_ticket}
 use Rattle.client_request.specs.declared.error.Error.{Error}
 use Rattle.client_request.specs.declared.error.Error.TheVariants as errors
@@ -321,9 +322,8 @@ pub record Stream (R M : Type 0) : Type 0 where
   pub failed : Bool
 
 -- what stands for the result of a request
-pub record Asked : Type 0 where
-  pub ticket : ℕ
-  pub given : Bool
+abbrev pub Asked : Type 0
+Asked = response.Asked
 
 abbrev pub asked : ℕ → Asked
 asked ticket = record { ticket = ticket; given = false }
@@ -361,6 +361,11 @@ module _ {R M : Type 0} where
   abbrev pub started : ℕ → Settings → Stream R M
   started place settings = record { place = place; settings = settings; line = fresh_line settings; octets = []; failed = false }
 
+  -- whether it gave up
+  abbrev pub has_failed : Stream R M → Bool
+  has_failed s = s.failed
+
+  -- what its line leaves, with octets that no frame has taken, unless it has ended
   abbrev pub with_line : Stream R M → List ℕ → After R M → AfterAll R M
   with_line s octets after = option_and_then (λ x. Some (record s { line = x.0; octets = octets_left x.0.stage octets }, x.1)) after
 

@@ -15,6 +15,7 @@ mod request;
 mod transfer;
 mod writing;
 
+pub use client_request::Pending as Request;
 pub use client_transfer::{XfrState, check_stream};
 pub use config::Config;
 pub use connection::Connection;
@@ -22,4 +23,4 @@ pub use framer::Framer;
 pub use laws::{cutting_law, frames_law, ids_law, transfer_law};
 pub use line::{Line, LineStage};
 pub use queries::{InsertFault, Queries};
-pub use request::{AnyRequest, Holder, QueuedRequest, Request, RequestMulti};
+pub use request::{AnyRequest, Holder, QueuedRequest, RequestMulti};

@@ -1,9 +1,9 @@
 //! A connection without the octets that come: who holds its ids, who waits, and where it is.
 
-ghost use Rattle.std.specs.Prelude.{◌≡◌, ◌+◌, ◌<◌, ℕ, length, [], Some, None, Ok, Err, IsSome, OnOk, IsErrOf, IfErr, IfOk};
+ghost use Rattle.std.specs.Prelude.{◌≡◌, ◌+◌, ◌<◌, ℕ, length, [], Some, None, Ok, Err, IsSome, OnOk, IfOk};
+ghost use Rattle.client_request.specs.Calls.{Follows, FollowsStep};
 ghost use Rattle.client_request.specs.Cx.{view_of, LendsTheSame};
 ghost use Rattle.client_request.specs.View.{sets_timer};
-ghost use Rattle.client_request.specs.Timers.{IsWant};
 ghost use Rattle.client_stream.specs.Plain as plain;
 
 use crate::config::Config;
@@ -167,9 +167,8 @@ pub(crate) fn end_with<Req: ComposeRequest, ReqMulti: ComposeRequestMulti, W: Wo
     place: u64,
     cx: &mut Cx<'_, W>,
     error: Error,
-) -> Result<(), NoMemory>
-    ensures lends { LendsTheSame cx.old cx.new }
-    ensures ok { OnOk result (plain.ends_with place error line.old (view_of W.stream cx.old) ≡ (line.new, view_of W.stream cx.new)) }
+) -> Result<(), Error>
+    ensures follows { Follows W.stream cx.old cx.new result (plain.ends place error line.old) line.new }
 {
     cx.outs.push(Out::Close { place })?;
     drop_own_timer(cx, line.stage);
@@ -184,11 +183,8 @@ pub(crate) fn end_with<Req: ComposeRequest, ReqMulti: ComposeRequestMulti, W: Wo
 
 /// Sets the timer of a connection anew.
 fn renew_timer<W: Words>(cx: &mut Cx<'_, W>, stage: LineStage, due: u128) -> Result<u64, Error>
-    ensures lends { LendsTheSame cx.old cx.new }
-    ensures ok { OnOk result (sets_timer due (plain.drops_own_timer stage (view_of W.stream cx.old)) ≡ Some (view_of W.stream cx.new)) }
+    ensures follows { FollowsStep cx.old cx.new result (sets_timer due (plain.drops_own_timer stage (view_of W.stream cx.old))) (view_of W.stream cx.new) }
     ensures timer { IfOk result (λ timer. timer ≡ (view_of W.stream cx.old).timers.next) }
-    ensures numbers { IsErrOf result Error.NumbersUsed → sets_timer due (plain.drops_own_timer stage (view_of W.stream cx.old)) ≡ None }
-    ensures want { IfErr result IsWant }
 {
     drop_own_timer(cx, stage);
     let timer = cx.timers.set(due)?;
@@ -202,10 +198,7 @@ fn await_frame_since<Req: ComposeRequest, ReqMulti: ComposeRequestMulti, W: Word
     cx: &mut Cx<'_, W>,
     since: u64,
 ) -> Result<(), Error>
-    ensures lends { LendsTheSame cx.old cx.new }
-    ensures ok { OnOk result (plain.awaits_frame_since since line.old (view_of W.stream cx.old) ≡ Some (line.new, view_of W.stream cx.new)) }
-    ensures numbers { IsErrOf result Error.NumbersUsed → plain.awaits_frame_since since line.old (view_of W.stream cx.old) ≡ None }
-    ensures want { IfErr result IsWant }
+    ensures follows { Follows W.stream cx.old cx.new result (plain.awaits_frame_since since line.old) line.new }
 {
     let due = u128::from(since) + line.timeout.as_micros() + 1;
     let timer = renew_timer(cx, line.stage, due)?;
@@ -218,10 +211,7 @@ pub(crate) fn become_active<Req: ComposeRequest, ReqMulti: ComposeRequestMulti, 
     line: &mut Line<Req, ReqMulti>,
     cx: &mut Cx<'_, W>,
 ) -> Result<(), Error>
-    ensures lends { LendsTheSame cx.old cx.new }
-    ensures ok { OnOk result (plain.becomes_active line.old (view_of W.stream cx.old) ≡ Some (line.new, view_of W.stream cx.new)) }
-    ensures numbers { IsErrOf result Error.NumbersUsed → plain.becomes_active line.old (view_of W.stream cx.old) ≡ None }
-    ensures want { IfErr result IsWant }
+    ensures follows { Follows W.stream cx.old cx.new result (plain.becomes_active line.old) line.new }
 {
     let now = cx.now.0;
     await_frame_since(line, cx, now)
@@ -232,10 +222,7 @@ fn become_idle<Req: ComposeRequest, ReqMulti: ComposeRequestMulti, W: Words>(
     line: &mut Line<Req, ReqMulti>,
     cx: &mut Cx<'_, W>,
 ) -> Result<(), Error>
-    ensures lends { LendsTheSame cx.old cx.new }
-    ensures ok { OnOk result (plain.becomes_idle line.old (view_of W.stream cx.old) ≡ Some (line.new, view_of W.stream cx.new)) }
-    ensures numbers { IsErrOf result Error.NumbersUsed → plain.becomes_idle line.old (view_of W.stream cx.old) ≡ None }
-    ensures want { IfErr result IsWant }
+    ensures follows { Follows W.stream cx.old cx.new result (plain.becomes_idle line.old) line.new }
 {
     let due = u128::from(cx.now.0) + line.idle_time.as_micros();
     let timer = renew_timer(cx, line.stage, due)?;
@@ -249,17 +236,13 @@ pub(crate) fn become_idle_if_unused<Req: ComposeRequest, ReqMulti: ComposeReques
     place: u64,
     cx: &mut Cx<'_, W>,
 ) -> Result<(), Error>
-    ensures lends { LendsTheSame cx.old cx.new }
-    ensures ok { OnOk result (plain.becomes_idle_if_unused place line.old (view_of W.stream cx.old) ≡ Some (line.new, view_of W.stream cx.new)) }
-    ensures numbers { IsErrOf result Error.NumbersUsed → plain.becomes_idle_if_unused place line.old (view_of W.stream cx.old) ≡ None }
-    ensures want { IfErr result IsWant }
+    ensures follows { Follows W.stream cx.old cx.new result (plain.becomes_idle_if_unused place line.old) line.new }
 {
     if !line.has_nothing() {
         return Ok(());
     }
     if line.idle_time.as_micros() == 0 {
-        end_with(line, place, cx, Error::StreamReceiveError)?;
-        return Ok(());
+        return end_with(line, place, cx, Error::StreamReceiveError);
     }
     become_idle(line, cx)
 }
@@ -284,10 +267,7 @@ fn retime<Req: ComposeRequest, ReqMulti: ComposeRequestMulti, W: Words>(
     timeout: Duration,
     since: u64,
 ) -> Result<(), Error>
-    ensures lends { LendsTheSame cx.old cx.new }
-    ensures ok { OnOk result (plain.retimes timeout since line.old (view_of W.stream cx.old) ≡ Some (line.new, view_of W.stream cx.new)) }
-    ensures numbers { IsErrOf result Error.NumbersUsed → plain.retimes timeout since line.old (view_of W.stream cx.old) ≡ None }
-    ensures want { IfErr result IsWant }
+    ensures follows { Follows W.stream cx.old cx.new result (plain.retimes timeout since line.old) line.new }
 {
     if timeout == line.timeout {
         return Ok(());
@@ -303,10 +283,7 @@ pub(crate) fn become_active_for<Req: ComposeRequest, ReqMulti: ComposeRequestMul
     cx: &mut Cx<'_, W>,
     timeout: Duration,
 ) -> Result<(), Error>
-    ensures lends { LendsTheSame cx.old cx.new }
-    ensures ok { OnOk result (plain.becomes_active_for timeout line.old (view_of W.stream cx.old) line.old.stage ≡ Some (line.new, view_of W.stream cx.new)) }
-    ensures numbers { IsErrOf result Error.NumbersUsed → plain.becomes_active_for timeout line.old (view_of W.stream cx.old) line.old.stage ≡ None }
-    ensures want { IfErr result IsWant }
+    ensures follows { Follows W.stream cx.old cx.new result (λ v. plain.becomes_active_for timeout line.old v line.old.stage) line.new }
 {
     match line.stage {
         LineStage::New | LineStage::Idle { .. } => {
@@ -325,9 +302,8 @@ pub(crate) fn end_by_timer<Req: ComposeRequest, ReqMulti: ComposeRequestMulti, W
     place: u64,
     cx: &mut Cx<'_, W>,
     fired: u64,
-) -> Result<(), NoMemory>
-    ensures lends { LendsTheSame cx.old cx.new }
-    ensures ok { OnOk result (plain.fires place fired line.old (view_of W.stream cx.old) line.old.stage ≡ Some (line.new, view_of W.stream cx.new)) }
+) -> Result<(), Error>
+    ensures follows { Follows W.stream cx.old cx.new result (λ v. plain.fires place fired line.old v line.old.stage) line.new }
 {
     match line.stage {
         LineStage::Active { timer, .. } if fired == timer => end_with(
