@@ -1,9 +1,8 @@
 //! Calls of a transport below, with a board of its own.
 
 ghost use Rattle.std.specs.Prelude.{◌≡◌, true, false, OnOk, OnErr, IfOk, IfErr, IsErrOf};
-ghost use Rattle.client_request.specs.Calls.{Steps, NumbersRunOut, AnswersFailed};
-ghost use Rattle.client_request.specs.Cx.{view_below, heard, LendsTheSame};
-ghost use Rattle.client_request.specs.Response.{IsRefusal};
+ghost use Rattle.client_request.specs.Calls.{HoldsBelow, AnswersFailed};
+ghost use Rattle.client_request.specs.Cx.{view_below, heard};
 
 use crate::board::Board;
 use crate::cx::{Cx, Signal};
@@ -21,18 +20,13 @@ pub fn send_below<CR, L: SendRequest<CR>, W: Words>(
     cx: &mut Cx<'_, W>,
     request: CR,
 ) -> Result<L::Response, Error>
-    ensures lends { LendsTheSame cx.old cx.new }
+    ensures holds { HoldsBelow W.stream cx.old cx.new board.old board.new result (L.transport.send request layer.old) layer.new L.holds_failed layer.old layer.new }
     ensures board { cx.new.board.now ≡ cx.old.board.now }
-    ensures ok { Steps result (L.transport.send request layer.old (view_below W.stream board.old cx.old)) (layer.new, view_below W.stream board.new cx.new) }
     ensures response { IfOk result (λ r. r ≡ L.transport.response request layer.old (view_below W.stream board.old cx.old)) }
     ensures ticket { IfOk result (λ r. L.Response.ticket_of r ≡ cx.old.ticket) }
     ensures waits { IfOk result (λ r. L.Response.has_given r ≡ false) }
-    ensures numbers { NumbersRunOut result (L.transport.send request layer.old (view_below W.stream board.old cx.old)) }
-    ensures keeps { OnOk result (L.holds_failed layer.new ≡ L.holds_failed layer.old) }
-    ensures refused { IfErr result IsRefusal }
     ensures err { OnErr result (L.has_failed layer.new ≡ true) }
     ensures failed { L.has_failed layer.old ≡ true → AnswersFailed result (layer.old, view_below W.stream board.old cx.old) (layer.new, view_below W.stream board.new cx.new) }
-    ensures failed_only { IsErrOf result Error.Failed → L.holds_failed layer.old ≡ true }
 {
     mem::swap(&mut *cx.board, board);
     let result = layer.send_request(cx, request);
@@ -48,15 +42,10 @@ pub fn step_below<CR, L: SendRequest<CR>, W: Words>(
     cx: &mut Cx<'_, W>,
     signal: Signal<'_>,
 ) -> Result<(), Error>
-    ensures lends { LendsTheSame cx.old cx.new }
+    ensures holds { HoldsBelow W.stream cx.old cx.new board.old board.new result (L.transport.step (heard signal.entry) layer.old) layer.new L.holds_failed layer.old layer.new }
     ensures board { cx.new.board.now ≡ cx.old.board.now }
-    ensures ok { Steps result (L.transport.step (heard signal.entry) layer.old (view_below W.stream board.old cx.old)) (layer.new, view_below W.stream board.new cx.new) }
-    ensures numbers { NumbersRunOut result (L.transport.step (heard signal.entry) layer.old (view_below W.stream board.old cx.old)) }
-    ensures keeps { OnOk result (L.holds_failed layer.new ≡ L.holds_failed layer.old) }
-    ensures refused { IfErr result IsRefusal }
     ensures err { OnErr result (L.has_failed layer.new ≡ true) }
     ensures failed { L.has_failed layer.old ≡ true → AnswersFailed result (layer.old, view_below W.stream board.old cx.old) (layer.new, view_below W.stream board.new cx.new) }
-    ensures failed_only { IsErrOf result Error.Failed → L.holds_failed layer.old ≡ true }
 {
     mem::swap(&mut *cx.board, board);
     let result = layer.step(cx, signal);
@@ -72,15 +61,10 @@ pub fn cancel_below<CR, L: SendRequest<CR>, W: Words>(
     cx: &mut Cx<'_, W>,
     response: L::Response,
 ) -> Result<(), Error>
-    ensures lends { LendsTheSame cx.old cx.new }
+    ensures holds { HoldsBelow W.stream cx.old cx.new board.old board.new result (L.transport.cancel response layer.old) layer.new L.holds_failed layer.old layer.new }
     ensures board { cx.new.board.now ≡ cx.old.board.now }
-    ensures ok { Steps result (L.transport.cancel response layer.old (view_below W.stream board.old cx.old)) (layer.new, view_below W.stream board.new cx.new) }
-    ensures numbers { NumbersRunOut result (L.transport.cancel response layer.old (view_below W.stream board.old cx.old)) }
-    ensures keeps { OnOk result (L.holds_failed layer.new ≡ L.holds_failed layer.old) }
-    ensures refused { IfErr result IsRefusal }
     ensures err { OnErr result (L.has_failed layer.new ≡ true) }
     ensures failed { L.has_failed layer.old ≡ true → AnswersFailed result (layer.old, view_below W.stream board.old cx.old) (layer.new, view_below W.stream board.new cx.new) }
-    ensures failed_only { IsErrOf result Error.Failed → L.holds_failed layer.old ≡ true }
 {
     mem::swap(&mut *cx.board, board);
     let result = layer.cancel(cx, response);

@@ -2,9 +2,8 @@
 
 ghost use Rattle.std.specs.Prelude.{◌≡◌, Bool, true, false, OnOk, OnErr, IfOk, IfErr, IsErrOf};
 ghost use Rattle.client_request.specs.View.{Transport};
-ghost use Rattle.client_request.specs.Calls.{Steps, NumbersRunOut, AnswersFailed};
-ghost use Rattle.client_request.specs.Cx.{view_of, heard, LendsTheSame};
-ghost use Rattle.client_request.specs.Response.{IsRefusal};
+ghost use Rattle.client_request.specs.Calls.{Holds, AnswersFailed};
+ghost use Rattle.client_request.specs.Cx.{view_of, heard};
 
 use crate::cx::{Cx, Signal};
 use crate::error::Error;
@@ -34,28 +33,18 @@ pub trait SendRequest<CR> {
         cx: &mut Cx<'_, W>,
         request: CR,
     ) -> Result<Self::Response, Error>
-        ensures lends { LendsTheSame cx.old cx.new }
-        ensures ok { Steps result (transport.send request self.old (view_of W.stream cx.old)) (self.new, view_of W.stream cx.new) }
+        ensures holds { Holds W.stream cx.old cx.new result (transport.send request self.old) self.new holds_failed self.old self.new }
         ensures response { IfOk result (λ r. r ≡ transport.response request self.old (view_of W.stream cx.old)) }
         ensures ticket { IfOk result (λ r. Self.Response.ticket_of r ≡ cx.old.ticket) }
         ensures waits { IfOk result (λ r. Self.Response.has_given r ≡ false) }
-        ensures numbers { NumbersRunOut result (transport.send request self.old (view_of W.stream cx.old)) }
-        ensures keeps { OnOk result (holds_failed self.new ≡ holds_failed self.old) }
-        ensures refused { IfErr result IsRefusal }
         ensures err { OnErr result (has_failed self.new ≡ true) }
-        ensures failed { has_failed self.old ≡ true → AnswersFailed result (self.old, view_of W.stream cx.old) (self.new, view_of W.stream cx.new) }
-        ensures failed_only { IsErrOf result Error.Failed → holds_failed self.old ≡ true };
+        ensures failed { has_failed self.old ≡ true → AnswersFailed result (self.old, view_of W.stream cx.old) (self.new, view_of W.stream cx.new) };
 
     /// Hears what happened.
     fn step<W: Words>(&mut self, cx: &mut Cx<'_, W>, signal: Signal<'_>) -> Result<(), Error>
-        ensures lends { LendsTheSame cx.old cx.new }
-        ensures ok { Steps result (transport.step (heard signal.entry) self.old (view_of W.stream cx.old)) (self.new, view_of W.stream cx.new) }
-        ensures numbers { NumbersRunOut result (transport.step (heard signal.entry) self.old (view_of W.stream cx.old)) }
-        ensures keeps { OnOk result (holds_failed self.new ≡ holds_failed self.old) }
-        ensures refused { IfErr result IsRefusal }
+        ensures holds { Holds W.stream cx.old cx.new result (transport.step (heard signal.entry) self.old) self.new holds_failed self.old self.new }
         ensures err { OnErr result (has_failed self.new ≡ true) }
-        ensures failed { has_failed self.old ≡ true → AnswersFailed result (self.old, view_of W.stream cx.old) (self.new, view_of W.stream cx.new) }
-        ensures failed_only { IsErrOf result Error.Failed → holds_failed self.old ≡ true };
+        ensures failed { has_failed self.old ≡ true → AnswersFailed result (self.old, view_of W.stream cx.old) (self.new, view_of W.stream cx.new) };
 
     /// Gives a request up, whose result then never comes.
     fn cancel<W: Words>(
@@ -63,12 +52,7 @@ pub trait SendRequest<CR> {
         cx: &mut Cx<'_, W>,
         response: Self::Response,
     ) -> Result<(), Error>
-        ensures lends { LendsTheSame cx.old cx.new }
-        ensures ok { Steps result (transport.cancel response self.old (view_of W.stream cx.old)) (self.new, view_of W.stream cx.new) }
-        ensures numbers { NumbersRunOut result (transport.cancel response self.old (view_of W.stream cx.old)) }
-        ensures keeps { OnOk result (holds_failed self.new ≡ holds_failed self.old) }
-        ensures refused { IfErr result IsRefusal }
+        ensures holds { Holds W.stream cx.old cx.new result (transport.cancel response self.old) self.new holds_failed self.old self.new }
         ensures err { OnErr result (has_failed self.new ≡ true) }
-        ensures failed { has_failed self.old ≡ true → AnswersFailed result (self.old, view_of W.stream cx.old) (self.new, view_of W.stream cx.new) }
-        ensures failed_only { IsErrOf result Error.Failed → holds_failed self.old ≡ true };
+        ensures failed { has_failed self.old ≡ true → AnswersFailed result (self.old, view_of W.stream cx.old) (self.new, view_of W.stream cx.new) };
 }
