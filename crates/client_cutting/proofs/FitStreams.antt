@@ -5,8 +5,8 @@ use Rattle.client_request.specs.Numbered.{entry_at}
 use Rattle.client_request.specs.Request.{Request}
 use Rattle.client_stream.specs.Frames.{body_size, has_frame}
 use Rattle.client_stream.specs.Plain.{has_ended, timer_at}
-use Rattle.client_stream.specs.declared.stage.Stage.{Stage}
-use Rattle.client_stream.specs.declared.stage.Stage.TheVariants as stage
+use Rattle.client_stream.specs.declared.line.LineStage.{LineStage}
+use Rattle.client_stream.specs.declared.line.LineStage.TheVariants as stage
 use Rattle.client_multi.specs.Links.{Link}
 use Rattle.headline.specs.Frames.{Reading}
 use Rattle.headline.specs.Messages.{Octets}
@@ -41,12 +41,12 @@ no_frame octets frames got k none = by (has_frame octets) refl
         let f = kept_is_read.some octets (slice_range octets 2 (2 + body_size octets)) frames got k (ap (λ (b : Bool). if b then Some (slice_range octets 2 (2 + body_size octets)) else None) e) in
         absurd (let z : [] ≡ slice_range octets 2 (2 + body_size octets) ∷ f.0 = sym none ∙ f.1 in cc)
 
-not_ended : (dues : ℕ → Option ℕ) (idle : ℕ) (at : Stage) (mode : Mode) → StageFits dues idle at mode → has_ended at ≡ false
+not_ended : (dues : ℕ → Option ℕ) (idle : ℕ) (at : LineStage) (mode : Mode) → StageFits dues idle at mode → has_ended at ≡ false
 not_ended dues idle at mode (IsNew e m) = ap has_ended e
 not_ended dues idle at mode (IsActive timer since e m due) = ap has_ended e
 not_ended dues idle at mode (IsIdle timer since e m due) = ap has_ended e
 
-same_timer : (at : Stage) → timer_of at ≡ timer_at at
+same_timer : (at : LineStage) → timer_of at ≡ timer_at at
 same_timer stage.New = refl
 same_timer (stage.Active timer since) = refl
 same_timer (stage.Idle timer) = refl

@@ -26,9 +26,9 @@ use Rattle.client_stream.specs.declared.request.AnyRequest.{AnyRequest}
 use Rattle.client_stream.specs.declared.request.AnyRequest.TheVariants.{Single, Transfer}
 use Rattle.client_stream.specs.declared.request.Holder.{Holder}
 use Rattle.client_stream.specs.declared.request.Holder.TheVariants.{Waits, Transfers, GivenUp}
-use Rattle.client_stream.specs.declared.request.Waiting.{Waiting}
-use Rattle.client_stream.specs.declared.stage.Stage.{Stage}
-use Rattle.client_stream.specs.declared.stage.Stage.TheVariants as stage
+use Rattle.client_stream.specs.declared.request.QueuedRequest.{QueuedRequest}
+use Rattle.client_stream.specs.declared.line.LineStage.{LineStage}
+use Rattle.client_stream.specs.declared.line.LineStage.TheVariants as stage
 use Rattle.client_multi.specs.MultiStream.{is_result}
 use Rattle.client_cutting.specs.Pieces.{like, Both, Each}
 use Rattle.client_cutting.proofs.Views.{asks_like, timed, next_ticket, weaker, if_both, sets_both, tickets_both, then_both}
@@ -51,16 +51,16 @@ abbrev pub IsKnown : Option ℕ → (n m : ℕ) → Option ℕ → Type 0
 IsKnown at n m to = (i : ℕ) → to ≡ Some i → (at ≡ Some i) ⊎ ((n ≤ i) × (i < m))
 
 -- What a call leaves of the stage and of the view: numbers of timers are drawn alone.
-pub record Goes (at : Stage) (n : ℕ) (said : Bool) (moment : ℕ) (to : Stage) (w : View) : Type 0 where
+pub record Goes (at : LineStage) (n : ℕ) (said : Bool) (moment : ℕ) (to : LineStage) (w : View) : Type 0 where
   pub timer : n ≤ w.timers.next
   pub more : w.more ≡ said
   pub now : w.now ≡ moment
   pub known : IsKnown (timer_at at) n w.timers.next (timer_at to)
 
-pub goes_nowhere : (at : Stage) (v : View) → Goes at v.timers.next v.more v.now at v
+pub goes_nowhere : (at : LineStage) (v : View) → Goes at v.timers.next v.more v.now at v
 goes_nowhere at v = record { timer = le_refl _; more = refl; now = refl; known = λ i e. inl e }
 
-pub goes_on : (at : Stage) (n : ℕ) (said : Bool) (moment : ℕ) (to : Stage) (w : View) (end : Stage) (x : View) → Goes at n said moment to w → Goes to w.timers.next w.more w.now end x → Goes at n said moment end x
+pub goes_on : (at : LineStage) (n : ℕ) (said : Bool) (moment : ℕ) (to : LineStage) (w : View) (end : LineStage) (x : View) → Goes at n said moment to w → Goes to w.timers.next w.more w.now end x → Goes at n said moment end x
 goes_on at n said moment to w end x a b = record { timer = le_trans a.timer b.timer; more = b.more ∙ a.more; now = b.now ∙ a.now; known = λ i e. by i (b.known i e) }
   where
     first : (i : ℕ) → (timer_at at ≡ Some i) ⊎ ((n ≤ i) × (i < w.timers.next)) → (timer_at at ≡ Some i) ⊎ ((n ≤ i) × (i < x.timers.next))
@@ -72,12 +72,12 @@ goes_on at n said moment to w end x a b = record { timer = le_trans a.timer b.ti
     by i (inr l) = let t = a.timer in inr (omega arith, l.1)
 
 -- where a request is sent: it goes on, and errors alone are posted
-pub record Sends (at : Stage) (n : ℕ) (said : Bool) (moment : ℕ) (to : Stage) (w : View) : Type 0 where
+pub record Sends (at : LineStage) (n : ℕ) (said : Bool) (moment : ℕ) (to : LineStage) (w : View) : Type 0 where
   pub goes : Goes at n said moment to w
   pub going : has_ended to ≡ false
   pub faults : AreFaults w.board
 
-sends_on : (at : Stage) (n : ℕ) (said : Bool) (moment : ℕ) (to : Stage) (w : View) (end : Stage) (x : View) → Sends at n said moment to w → Sends to w.timers.next w.more w.now end x → Sends at n said moment end x
+sends_on : (at : LineStage) (n : ℕ) (said : Bool) (moment : ℕ) (to : LineStage) (w : View) (end : LineStage) (x : View) → Sends at n said moment to w → Sends to w.timers.next w.more w.now end x → Sends at n said moment end x
 sends_on at n said moment to w end x a b = record { goes = goes_on at n said moment to w end x a.goes b.goes; going = b.going; faults = b.faults }
 
 -- a timer that is dropped leaves the view as it was otherwise
@@ -87,20 +87,20 @@ pub record IsStopped (v w : View) : Type 0 where
   pub now : w.now ≡ v.now
   pub board : w.board ≡ v.board
 
-pub stopped : (at : Stage) (v : View) → IsStopped v (plain.stops at v)
+pub stopped : (at : LineStage) (v : View) → IsStopped v (plain.drops_own_timer at v)
 stopped stage.New v = record { next = refl; more = refl; now = refl; board = refl }
 stopped (stage.Active timer since) v = record { next = refl; more = refl; now = refl; board = refl }
 stopped (stage.Idle timer) v = record { next = refl; more = refl; now = refl; board = refl }
 stopped stage.Ended v = record { next = refl; more = refl; now = refl; board = refl }
 
-pub stops_like : (before : List Out) (more : Bool) (request : ℕ) (at : Stage) (v : View) → plain.stops at (like before more request v) ≡ like before more request (plain.stops at v)
+pub stops_like : (before : List Out) (more : Bool) (request : ℕ) (at : LineStage) (v : View) → plain.drops_own_timer at (like before more request v) ≡ like before more request (plain.drops_own_timer at v)
 stops_like before more request stage.New v = refl
 stops_like before more request (stage.Active timer since) v = refl
 stops_like before more request (stage.Idle timer) v = refl
 stops_like before more request stage.Ended v = refl
 
 -- a stage with a timer
-pub record IsTimed (to : ℕ → Stage) : Type 0 where
+pub record IsTimed (to : ℕ → LineStage) : Type 0 where
   pub going : (n : ℕ) → has_ended (to n) ≡ false
   pub timer : (n : ℕ) → timer_at (to n) ≡ Some n
 
@@ -110,10 +110,10 @@ active since = record { going = λ n. refl; timer = λ n. refl }
 idle : IsTimed stage.Idle
 idle = record { going = λ n. refl; timer = λ n. refl }
 
-drawn_timer : (at : Stage) (to : ℕ → Stage) (timed : IsTimed to) (n : ℕ) → IsKnown (timer_at at) n (n + 1) (timer_at (to n))
+drawn_timer : (at : LineStage) (to : ℕ → LineStage) (timed : IsTimed to) (n : ℕ) → IsKnown (timer_at at) n (n + 1) (timer_at (to n))
 drawn_timer at to timed n i e = let is : n ≡ i = (let z : Some n ≡ Some i = sym (timed.timer n) ∙ e in cc) in inr (omega arith, omega arith)
 
-goes_timed : (at : Stage) (to : ℕ → Stage) (due : ℕ) (v : View) → IsTimed to → Goes at v.timers.next v.more v.now (to v.timers.next) (timed due (plain.stops at v))
+goes_timed : (at : LineStage) (to : ℕ → LineStage) (due : ℕ) (v : View) → IsTimed to → Goes at v.timers.next v.more v.now (to v.timers.next) (timed due (plain.drops_own_timer at v))
 goes_timed at to due v timed_to =
     let x = stopped at v in
     record {
@@ -125,26 +125,26 @@ goes_timed at to due v timed_to =
 
 module _ {R M : Type 0} (before : List Out) where
   -- calls of two connections, of which the second has outs before its own
-  abbrev pub Alike : (Stage → View → Type 0) → (first second : After R M) → Type 0
+  abbrev pub Alike : (LineStage → View → Type 0) → (first second : After R M) → Type 0
   Alike Leaves first second = Both (λ (s : Line R M). s) before (λ s v. Leaves s.stage v) first second
 
-  each_alike : (Leaves : Stage → View → Type 0) (s : Line R M) (v w : View) (more : Bool) (request : ℕ) → w ≡ like before more request v → Leaves s.stage v → Alike Leaves (Some (s, v)) (Some (s, w))
+  each_alike : (Leaves : LineStage → View → Type 0) (s : Line R M) (v w : View) (more : Bool) (request : ℕ) → w ≡ like before more request v → Leaves s.stage v → Alike Leaves (Some (s, v)) (Some (s, w))
   each_alike Leaves s v w more request e l = subst (λ w. Alike Leaves (Some (s, v)) (Some (s, w))) (sym e) (Each s v more request l)
 
-  becomes_by : (Leaves : Stage → View → Type 0) (more : Bool) (request : ℕ) (to : ℕ → Stage) (due : ℕ) (s : Line R M) (v : View) → Leaves (to v.timers.next) (timed due (plain.stops s.stage v))
+  becomes_by : (Leaves : LineStage → View → Type 0) (more : Bool) (request : ℕ) (to : ℕ → LineStage) (due : ℕ) (s : Line R M) (v : View) → Leaves (to v.timers.next) (timed due (plain.drops_own_timer s.stage v))
       → Alike Leaves (plain.becomes to due s v) (plain.becomes to due s (like before more request v))
   becomes_by Leaves more request to due s v l =
       subst (λ u. Alike Leaves (plain.becomes to due s v) (option_and_then keep (sets_timer due u))) (sym (stops_like before more request s.stage v))
-      (sets_both keep keep due more request (plain.stops s.stage v) (λ h. Each _ (timed due (plain.stops s.stage v)) more request l))
+      (sets_both keep keep due more request (plain.drops_own_timer s.stage v) (λ h. Each _ (timed due (plain.drops_own_timer s.stage v)) more request l))
     where
       keep : View → After R M
       keep w = Some (record s { stage = to v.timers.next }, w)
 
-  becomes_alike : (more : Bool) (request : ℕ) (to : ℕ → Stage) (due : ℕ) (s : Line R M) (v : View) → IsTimed to
+  becomes_alike : (more : Bool) (request : ℕ) (to : ℕ → LineStage) (due : ℕ) (s : Line R M) (v : View) → IsTimed to
       → Alike (Goes s.stage v.timers.next v.more v.now) (plain.becomes to due s v) (plain.becomes to due s (like before more request v))
   becomes_alike more request to due s v timed_to = becomes_by (Goes s.stage v.timers.next v.more v.now) more request to due s v (goes_timed s.stage to due v timed_to)
 
-  becomes_sending : (more : Bool) (request : ℕ) (to : ℕ → Stage) (due : ℕ) (s : Line R M) (v : View) → IsTimed to → AreFaults v.board
+  becomes_sending : (more : Bool) (request : ℕ) (to : ℕ → LineStage) (due : ℕ) (s : Line R M) (v : View) → IsTimed to → AreFaults v.board
       → Alike (Sends s.stage v.timers.next v.more v.now) (plain.becomes to due s v) (plain.becomes to due s (like before more request v))
   becomes_sending more request to due s v timed_to faults =
       becomes_by (Sends s.stage v.timers.next v.more v.now) more request to due s v
@@ -154,17 +154,17 @@ module _ {R M : Type 0} (before : List Out) where
   ends_alike : (more : Bool) (request : ℕ) (place : ℕ) (error : Error) (s : Line R M) (v : View)
       → Alike (Goes s.stage v.timers.next v.more v.now) (plain.ends place error s v) (plain.ends place error s (like before more request v))
   ends_alike more request place error s v =
-      each_alike (Goes s.stage v.timers.next v.more v.now) (plain.ended s) (plain.fails_all error s u) (plain.fails_all error s (plain.stops s.stage (asks (Close place) (like before more request v)))) more request
-      (ap (plain.fails_all error s) (ap (plain.stops s.stage) (asks_like before more request (Close place) v) ∙ stops_like before more request s.stage (asks (Close place) v)))
+      each_alike (Goes s.stage v.timers.next v.more v.now) (plain.ended s) (plain.fails_all error s u) (plain.fails_all error s (plain.drops_own_timer s.stage (asks (Close place) (like before more request v)))) more request
+      (ap (plain.fails_all error s) (ap (plain.drops_own_timer s.stage) (asks_like before more request (Close place) v) ∙ stops_like before more request s.stage (asks (Close place) v)))
       (record { timer = (let e = x.next in omega arith); more = x.more; now = x.now; known = λ i e. absurd (cc) })
     where
       u : View
-      u = plain.stops s.stage (asks (Close place) v)
+      u = plain.drops_own_timer s.stage (asks (Close place) v)
 
-      x : IsStopped (asks (Close place) v) (plain.stops s.stage (asks (Close place) v))
+      x : IsStopped (asks (Close place) v) (plain.drops_own_timer s.stage (asks (Close place) v))
       x = stopped s.stage (asks (Close place) v)
 
-  pub fires_alike : (more : Bool) (request : ℕ) (place timer : ℕ) (s : Line R M) (v : View) (at : Stage)
+  pub fires_alike : (more : Bool) (request : ℕ) (place timer : ℕ) (s : Line R M) (v : View) (at : LineStage)
       → Alike (Goes s.stage v.timers.next v.more v.now) (plain.fires place timer s v at) (plain.fires place timer s (like before more request v) at)
   fires_alike more request place timer s v (stage.Active own since) = if_both (timer == own) (λ e. ends_alike more request place errors.StreamReadTimeout s v) (λ e. Each s v more request (goes_nowhere s.stage v))
   fires_alike more request place timer s v (stage.Idle own) = if_both (timer == own) (λ e. ends_alike more request place errors.StreamReceiveError s v) (λ e. Each s v more request (goes_nowhere s.stage v))
@@ -172,7 +172,7 @@ module _ {R M : Type 0} (before : List Out) where
   fires_alike more request place timer s v stage.Ended = Each s v more request (goes_nowhere s.stage v)
 
   settles_alike : (more : Bool) (request : ℕ) (place : ℕ) (s : Line R M) (v : View)
-      → Alike (Goes s.stage v.timers.next v.more v.now) (plain.settles place s v) (plain.settles place s (like before more request v))
+      → Alike (Goes s.stage v.timers.next v.more v.now) (plain.becomes_idle_if_unused place s v) (plain.becomes_idle_if_unused place s (like before more request v))
   settles_alike more request place s v =
       if_both (plain.has_nothing s)
       (λ e. if_both (s.idle_time == 0) (λ e. ends_alike more request place errors.StreamReceiveError s v) (λ e. becomes_alike more request stage.Idle (v.now + s.idle_time) s v idle))
@@ -194,17 +194,17 @@ module _ {R M : Type 0} (before : List Out) (said : Bool) (number : ℕ) (s : Li
       subst (λ (y : Line R M × View). Alike before (Goes s.stage v.timers.next v.more v.now) (f x.0 x.1) (f y.0 y.1)) (sym p.alike)
       (weaker (λ t w g. moved t.stage w g) (h x.0 x.1))
     where
-      moved : (to : Stage) (w : View) → Goes x.0.stage x.1.timers.next x.1.more x.1.now to w → Goes s.stage v.timers.next v.more v.now to w
+      moved : (to : LineStage) (w : View) → Goes x.0.stage x.1.timers.next x.1.more x.1.now to w → Goes s.stage v.timers.next v.more v.now to w
       moved to w g = record { timer = (let e = p.next in let t = g.timer in omega arith); more = g.more ∙ p.more; now = g.now ∙ p.now; known = subst (λ n. IsKnown (timer_at s.stage) n w.timers.next (timer_at to)) p.next (subst (λ at. IsKnown (timer_at at) x.1.timers.next w.timers.next (timer_at to)) p.stage g.known) }
 
 module _ {R M : Type 0} (one : Requests R) (several : Requests M) (before : List Out) where
   goes_on_paired : (said : Bool) (number : ℕ) (message : List ℕ) (ticket : ℕ) (request : M) (state : XfrState) (s : Line R M) (v : View) (ends : Bool)
-      → IsPaired before said number s v (plain.goes_on message ticket request state s v ends) (plain.goes_on message ticket request state s (like before said number v) ends)
+      → IsPaired before said number s v (plain.ends_or_holds_again message ticket request state s v ends) (plain.ends_or_holds_again message ticket request state s (like before said number v) ends)
   goes_on_paired said number message ticket request state s v true = record { alike = refl; stage = refl; next = refl; more = refl; now = refl }
   goes_on_paired said number message ticket request state s v false = record { alike = refl; stage = refl; next = refl; more = refl; now = refl }
 
   given_paired : (said : Bool) (number : ℕ) (message : List ℕ) (s : Line R M) (v : View) (holder : Holder R M)
-      → IsPaired before said number s v (plain.given one several message s v holder) (plain.given one several message s (like before said number v) holder)
+      → IsPaired before said number s v (plain.delivers one several message s v holder) (plain.delivers one several message s (like before said number v) holder)
   given_paired said number message s v GivenUp = record { alike = refl; stage = refl; next = refl; more = refl; now = refl }
   given_paired said number message s v (Waits ticket request) = record { alike = refl; stage = refl; next = refl; more = refl; now = refl }
   given_paired said number message s v (Transfers ticket request state) =
@@ -218,11 +218,11 @@ module _ {R M : Type 0} (one : Requests R) (several : Requests M) (before : List
     frees_alike more request message s v None = Each s v more request (goes_nowhere s.stage v)
     frees_alike more request message s v (Some holder) =
         let s' : Line R M = record s { held = removed (message_id message) s.held } in
-        behind_pair before more request s' v (plain.given one several message s' v holder) (plain.given one several message s' (like before more request v) holder)
-        (given_paired more request message s' v holder) (plain.settles place) (λ t w. settles_alike before more request place t w)
+        behind_pair before more request s' v (plain.delivers one several message s' v holder) (plain.delivers one several message s' (like before more request v) holder)
+        (given_paired more request message s' v holder) (plain.becomes_idle_if_unused place) (λ t w. settles_alike before more request place t w)
 
     comes_alike : (more : Bool) (request : ℕ) (message : List ℕ) (s : Line R M) (v : View)
-        → Alike before (Goes s.stage v.timers.next v.more v.now) (plain.comes one several place message s v) (plain.comes one several place message s (like before more request v))
+        → Alike before (Goes s.stage v.timers.next v.more v.now) (plain.message_comes one several place message s v) (plain.message_comes one several place message s (like before more request v))
     comes_alike more request message s v =
         then_both (λ x. plain.releases one several place message x.0 x.1) (λ x. plain.releases one several place message x.0 x.1)
         (becomes_alike before more request (λ timer. stage.Active timer v.now) (v.now + s.timeout + 1) (record s { idle_time = unwrap_or (idle_time_told message) s.idle_time }) v (active v.now))
@@ -259,7 +259,7 @@ module _ {R M : Type 0} (one : Requests R) (several : Requests M) (before : List
 
     module _ {T : Type 0} (requests : Requests T) (holding : T → Holder R M) where
       numbers_asked : (said : Bool) (own : ℕ) (ticket number : ℕ) (request : T) (s : Line R M) (v : View) (o : Option ℕ) → AreFaults v.board
-          → IsAsked said own s v (plain.numbers one several place requests holding ticket number request s v o) (plain.numbers one several place requests holding ticket number request s (like before said own v) o)
+          → IsAsked said own s v (plain.takes_free_id one several place requests holding ticket number request s v o) (plain.takes_free_id one several place requests holding ticket number request s (like before said own v) o)
       numbers_asked said own ticket number request s v None fs = refused said own ticket errors.StreamTooManyOutstandingQueries s s v refl refl fs
       numbers_asked said own ticket number request s v (Some id) fs =
           let t : Line R M = record s { had_keepalive = plain.had_by requests id s.had_keepalive request } in
@@ -282,7 +282,7 @@ module _ {R M : Type 0} (one : Requests R) (several : Requests M) (before : List
       first_fault request (Err other) error is e = let same : other ≡ error = cc in fair request error (is ∙ ap Err same)
 
       begins_asked : (said : Bool) (own : ℕ) (ticket number : ℕ) (request : M) (s : Line R M) (v : View) (r : Result XfrState Error) → ((error : Error) → r ≡ Err error → is_result (Err error) ≡ false) → AreFaults v.board
-          → IsAsked said own s v (plain.begins one several place ticket number request s v r) (plain.begins one several place ticket number request s (like before said own v) r)
+          → IsAsked said own s v (plain.starts_transfer one several place ticket number request s v r) (plain.starts_transfer one several place ticket number request s (like before said own v) r)
       begins_asked said own ticket number request s v (Err error) h fs = refused said own ticket error s s v refl (h error refl) fs
       begins_asked said own ticket number request s v (Ok state) h fs = numbers_asked several (λ r. Transfers ticket r state) said own ticket number request s v (plain.free_id s) fs
 
@@ -298,8 +298,8 @@ module _ {R M : Type 0} (one : Requests R) (several : Requests M) (before : List
           if_both (timeout == s.timeout) (λ e. Each s v more request (record { goes = goes_nowhere s.stage v; going = going; faults = fs }))
           (λ e. becomes_sending before more request (λ timer. stage.Active timer since) (since + timeout + 1) (record s { timeout = timeout }) v (active since) fs)
 
-      wakes_alike : (more : Bool) (request : ℕ) (timeout : ℕ) (s : Line R M) (v : View) (at : Stage) → has_ended s.stage ≡ false → AreFaults v.board
-          → Alike before (Sends s.stage v.timers.next v.more v.now) (plain.wakes timeout s v at) (plain.wakes timeout s (like before more request v) at)
+      wakes_alike : (more : Bool) (request : ℕ) (timeout : ℕ) (s : Line R M) (v : View) (at : LineStage) → has_ended s.stage ≡ false → AreFaults v.board
+          → Alike before (Sends s.stage v.timers.next v.more v.now) (plain.becomes_active_for timeout s v at) (plain.becomes_active_for timeout s (like before more request v) at)
       wakes_alike more request timeout s v stage.New going fs = becomes_sending before more request (λ timer. stage.Active timer v.now) (v.now + timeout + 1) (record s { timeout = timeout }) v (active v.now) fs
       wakes_alike more request timeout s v (stage.Idle own) going fs = becomes_sending before more request (λ timer. stage.Active timer v.now) (v.now + timeout + 1) (record s { timeout = timeout }) v (active v.now) fs
       wakes_alike more request timeout s v (stage.Active own since) going fs = retimes_alike more request timeout since s v going fs
@@ -317,14 +317,14 @@ module _ {R M : Type 0} (one : Requests R) (several : Requests M) (before : List
             faults = a.faults;
           }))
 
-      takes_alike : (more : Bool) (request : ℕ) (settings : Settings) (ticket : ℕ) (waiting : Waiting R M) (s : Line R M) (v : View) → has_ended s.stage ≡ false → AreFaults v.board
-          → Alike before (Sends s.stage v.timers.next v.more v.now) (plain.takes one several place settings ticket waiting s v) (plain.takes one several place settings ticket waiting s (like before more request v))
+      takes_alike : (more : Bool) (request : ℕ) (settings : Settings) (ticket : ℕ) (waiting : QueuedRequest R M) (s : Line R M) (v : View) → has_ended s.stage ≡ false → AreFaults v.board
+          → Alike before (Sends s.stage v.timers.next v.more v.now) (plain.takes_queued one several place settings ticket waiting s v) (plain.takes_queued one several place settings ticket waiting s (like before more request v))
       takes_alike more request settings ticket waiting s v going fs =
           then_both (λ x. Some (plain.prepares one several place ticket waiting.number waiting.request x.0 x.1)) (λ x. Some (plain.prepares one several place ticket waiting.number waiting.request x.0 x.1))
           (wakes_alike more request (plain.timeout_by settings waiting.request) s v s.stage going fs)
           (λ t w more request l. weaker (λ u x m. sends_on s.stage v.timers.next v.more v.now t.stage w u.stage x l m) (asked_alike more request t w _ _ l.going (prepares_asked more request ticket waiting.number waiting.request t w l.faults)))
 
-      pumps_alike : (more : Bool) (request : ℕ) (settings : Settings) (queue : List (ℕ × Waiting R M)) (s : Line R M) (v : View) → has_ended s.stage ≡ false → AreFaults v.board
+      pumps_alike : (more : Bool) (request : ℕ) (settings : Settings) (queue : List (ℕ × QueuedRequest R M)) (s : Line R M) (v : View) → has_ended s.stage ≡ false → AreFaults v.board
           → Alike before (Sends s.stage v.timers.next v.more v.now) (plain.pumps one several place settings queue s v) (plain.pumps one several place settings queue s (like before more request v))
       pumps_alike more request settings [] s v going fs = Each s v more request (record { goes = goes_nowhere s.stage v; going = going; faults = fs })
       pumps_alike more request settings (entry ∷ queue) s v going fs =
@@ -338,7 +338,7 @@ module _ {R M : Type 0} (one : Requests R) (several : Requests M) (before : List
       takes_on_alike more settings request s v going fs =
           tickets_both (λ w. plain.queues one several place settings v.ticket waiting s w) (λ w. plain.queues one several place settings v.ticket waiting s w) more v.request v (λ e. queued (has_ended s.stage) going)
         where
-          waiting : Waiting R M
+          waiting : QueuedRequest R M
           waiting = record { number = v.request; request = request }
 
           queued : (b : Bool) → b ≡ false

@@ -178,13 +178,13 @@ module _ (one several : Requests Request) (place : ℕ) where
 
   reads_none : (l : Link Request) (v : View) → has_frame l.octets ≡ false → plain.reads one several l v ≡ Some (l, v)
   reads_none l v h =
-      ap (λ b. plain.says (plain.takes_frame one several l v (if b then Some (body l.octets) else None))) h
+      ap (λ b. plain.says_if_more (plain.takes_frame one several l v (if b then Some (body l.octets) else None))) h
       ∙ ap (λ b. Some (l, (if b then record v { more = true } else v))) h
 
-  reads_one : (l : Link Request) (v : View) → has_frame l.octets ≡ true → plain.reads one several l v ≡ plain.says (plain.keeps l (behind l.octets) (plain.frame_comes one several l.place (body l.octets) l.line v))
+  reads_one : (l : Link Request) (v : View) → has_frame l.octets ≡ true → plain.reads one several l v ≡ plain.says_if_more (plain.with_line l (behind l.octets) (plain.frame_comes one several l.place (body l.octets) l.line v))
   reads_one l v h =
-      ap (λ b. plain.says (plain.takes_frame one several l v (if b then Some (body l.octets) else None))) h
-      ∙ ap (λ b. plain.says (plain.keeps l (if b then behind l.octets else l.octets) (plain.frame_comes one several l.place (body l.octets) l.line v))) h
+      ap (λ b. plain.says_if_more (plain.takes_frame one several l v (if b then Some (body l.octets) else None))) h
+      ∙ ap (λ b. plain.says_if_more (plain.with_line l (if b then behind l.octets else l.octets) (plain.frame_comes one several l.place (body l.octets) l.line v))) h
 
   link_rests : (l : Link Request) (v : View) → has_frame l.octets ≡ false → plain.plain_step one several (more_at place) l v ≡ Some (l, v)
   link_rests l v h = either (has_ended l.line.stage) (l.place == place)
@@ -254,8 +254,8 @@ module _ (one several : Requests Request) (place : ℕ) where
       (ap (λ (l : Link Request). plain.plain_step one several (more_at place) l u) (longer_here piece place l at going)
       ∙ reads_more m u going at
       ∙ reads_one m u (still_whole l.octets piece whole)
-      ∙ ap (λ f. plain.says (plain.keeps m (behind (l.octets ++ piece)) (plain.frame_comes one several l.place f l.line u))) (same_body l.octets piece whole)
-      ∙ ap (λ o. plain.says (plain.keeps m o (plain.frame_comes one several l.place (body l.octets) l.line u))) (same_behind l.octets piece whole))
+      ∙ ap (λ f. plain.says_if_more (plain.with_line m (behind (l.octets ++ piece)) (plain.frame_comes one several l.place f l.line u))) (same_body l.octets piece whole)
+      ∙ ap (λ o. plain.says_if_more (plain.with_line m o (plain.frame_comes one several l.place (body l.octets) l.line u))) (same_behind l.octets piece whole))
       (then_both (λ x. Some (x.0, plain.says_more x.0 x.1)) (λ x. Some (x.0, plain.says_more x.0 x.1))
       (then_both (λ x. Some (record l { octets = octets_left x.0.stage (behind l.octets); line = x.0 }, x.1)) (λ x. Some (record l { octets = octets_left x.0.stage (behind l.octets ++ piece); line = x.0 }, x.1))
       (frame_alike one several before l.place false request (body l.octets) l.line v)

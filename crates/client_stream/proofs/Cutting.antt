@@ -19,8 +19,8 @@ use Rattle.client_stream.specs.Plain as plain
 use Rattle.client_stream.specs.Plain.{Line, Stream, After, AfterAll, has_ended, message_id, octets_left}
 use Rattle.client_stream.specs.declared.request.Holder.{Holder}
 use Rattle.client_stream.specs.declared.request.Holder.TheVariants.{Waits, Transfers, GivenUp}
-use Rattle.client_stream.specs.declared.stage.Stage.{Stage}
-use Rattle.client_stream.specs.declared.stage.Stage.TheVariants as stage
+use Rattle.client_stream.specs.declared.line.LineStage.{LineStage}
+use Rattle.client_stream.specs.declared.line.LineStage.TheVariants as stage
 use Rattle.client_stream.proofs.Frames.{body, behind, whole, still_whole, same_body, same_behind}
 
 same_place : (n : ℕ) → (n == n) ≡ true
@@ -34,7 +34,7 @@ set_more due u w e = go (can_draw u.timers.next) refl
     go true h = let x : sets_timer due u ≡ Some (record u { timers = with_timer due u.timers }) = rw h refl in let is : w ≡ record u { timers = with_timer due u.timers } = cc in ap (λ w. w.more) is
     go false h = absurd (let x : sets_timer due u ≡ None = rw h refl in cc)
 
-stop_more : (at : Stage) (v : View) → (plain.stops at v).more ≡ v.more
+stop_more : (at : LineStage) (v : View) → (plain.drops_own_timer at v).more ≡ v.more
 stop_more stage.New v = refl
 stop_more (stage.Active timer since) v = refl
 stop_more (stage.Idle timer) v = refl
@@ -44,30 +44,30 @@ module _ {R M : Type 0} where
   abbrev SaysSame : Bool → After R M → Type 0
   SaysSame m after = IfSome after (λ x. x.1.more ≡ m)
 
-  timed : (to : Stage) (s : Line R M) (m : Bool) (o : Option View) → ((w : View) → o ≡ Some w → w.more ≡ m) → SaysSame m (option_and_then (λ w. Some (record s { stage = to }, w)) o)
+  timed : (to : LineStage) (s : Line R M) (m : Bool) (o : Option View) → ((w : View) → o ≡ Some w → w.more ≡ m) → SaysSame m (option_and_then (λ w. Some (record s { stage = to }, w)) o)
   timed to s m None h = tt
   timed to s m (Some w) h = h w refl
 
-  becomes : (to : ℕ → Stage) (due : ℕ) (s : Line R M) (v : View) → SaysSame v.more (plain.becomes to due s v)
-  becomes to due s v = timed (to v.timers.next) s v.more (sets_timer due (plain.stops s.stage v)) (λ w e. set_more due (plain.stops s.stage v) w e ∙ stop_more s.stage v)
+  becomes : (to : ℕ → LineStage) (due : ℕ) (s : Line R M) (v : View) → SaysSame v.more (plain.becomes to due s v)
+  becomes to due s v = timed (to v.timers.next) s v.more (sets_timer due (plain.drops_own_timer s.stage v)) (λ w e. set_more due (plain.drops_own_timer s.stage v) w e ∙ stop_more s.stage v)
 
   ends : (place : ℕ) (error : Error) (s : Line R M) (v : View) → SaysSame v.more (plain.ends place error s v)
   ends place error s v = stop_more s.stage (asks _ v)
 
-  settles : (place : ℕ) (s : Line R M) (v : View) → SaysSame v.more (plain.settles place s v)
+  settles : (place : ℕ) (s : Line R M) (v : View) → SaysSame v.more (plain.becomes_idle_if_unused place s v)
   settles place s v = go (plain.has_nothing s) (s.idle_time == 0)
     where
-      go : (b c : Bool) → SaysSame v.more (if b then (if c then plain.ends place errors.StreamReceiveError s v else plain.rests s v) else Some (s, v))
+      go : (b c : Bool) → SaysSame v.more (if b then (if c then plain.ends place errors.StreamReceiveError s v else plain.becomes_idle s v) else Some (s, v))
       go true true = ends place errors.StreamReceiveError s v
       go true false = becomes stage.Idle (v.now + s.idle_time) s v
       go false c = refl
 
 module _ {R M : Type 0} (one : Requests R) (several : Requests M) (place : ℕ) where
-  goes_on : (message : List ℕ) (ticket : ℕ) (request : M) (state : XfrState) (s : Line R M) (v : View) (ends : Bool) → (plain.goes_on message ticket request state s v ends).1.more ≡ v.more
+  goes_on : (message : List ℕ) (ticket : ℕ) (request : M) (state : XfrState) (s : Line R M) (v : View) (ends : Bool) → (plain.ends_or_holds_again message ticket request state s v ends).1.more ≡ v.more
   goes_on message ticket request state s v true = refl
   goes_on message ticket request state s v false = refl
 
-  given : (message : List ℕ) (s : Line R M) (v : View) (holder : Holder R M) → (plain.given one several message s v holder).1.more ≡ v.more
+  given : (message : List ℕ) (s : Line R M) (v : View) (holder : Holder R M) → (plain.delivers one several message s v holder).1.more ≡ v.more
   given message s v GivenUp = refl
   given message s v (Waits ticket request) = refl
   given message s v (Transfers ticket request state) =
@@ -77,23 +77,23 @@ module _ {R M : Type 0} (one : Requests R) (several : Requests M) (place : ℕ) 
   frees_id message s v None = refl
   frees_id message s v (Some holder) =
       let s' : Line R M = record s { held = removed (message_id message) s.held } in
-      let x = plain.given one several message s' v holder in
-      subst (λ m. SaysSame m (plain.settles place x.0 x.1)) (given message s' v holder) (settles place x.0 x.1)
+      let x = plain.delivers one several message s' v holder in
+      subst (λ m. SaysSame m (plain.becomes_idle_if_unused place x.0 x.1)) (given message s' v holder) (settles place x.0 x.1)
 
-  timed_then : (message : List ℕ) (to : Stage) (s : Line R M) (m : Bool) (o : Option View) → ((w : View) → o ≡ Some w → w.more ≡ m)
+  timed_then : (message : List ℕ) (to : LineStage) (s : Line R M) (m : Bool) (o : Option View) → ((w : View) → o ≡ Some w → w.more ≡ m)
       → SaysSame m (option_and_then (λ (x : Line R M × View). plain.releases one several place message x.0 x.1) (option_and_then (λ w. Some (record s { stage = to }, w)) o))
   timed_then message to s m None h = tt
   timed_then message to s m (Some w) h =
       subst (λ m. SaysSame m (plain.releases one several place message (record s { stage = to }) w)) (h w refl) (frees_id message (record s { stage = to }) w (entry_at (message_id message) s.held.held))
 
-  comes : (message : List ℕ) (s : Line R M) (v : View) → SaysSame v.more (plain.comes one several place message s v)
-  comes message s v = timed_then message (stage.Active v.timers.next v.now) (record s { idle_time = _ }) v.more (sets_timer (v.now + s.timeout + 1) (plain.stops s.stage v))
-      (λ w e. set_more (v.now + s.timeout + 1) (plain.stops s.stage v) w e ∙ stop_more s.stage v)
+  comes : (message : List ℕ) (s : Line R M) (v : View) → SaysSame v.more (plain.message_comes one several place message s v)
+  comes message s v = timed_then message (stage.Active v.timers.next v.now) (record s { idle_time = _ }) v.more (sets_timer (v.now + s.timeout + 1) (plain.drops_own_timer s.stage v))
+      (λ w e. set_more (v.now + s.timeout + 1) (plain.drops_own_timer s.stage v) w e ∙ stop_more s.stage v)
 
   frame_comes : (frame : List ℕ) (s : Line R M) (v : View) → SaysSame v.more (plain.frame_comes one several place frame s v)
   frame_comes frame s v = go (nat_le 12 (length frame))
     where
-      go : (b : Bool) → SaysSame v.more (if b then plain.comes one several place frame s v else plain.ends place errors.ShortMessage s v)
+      go : (b : Bool) → SaysSame v.more (if b then plain.message_comes one several place frame s v else plain.ends place errors.ShortMessage s v)
       go true = comes frame s v
       go false = ends place errors.ShortMessage s v
 
@@ -110,16 +110,16 @@ module _ {R M : Type 0} (one : Requests R) (several : Requests M) where
   abbrev moved : Stream R M → List ℕ → Line R M → Stream R M
   moved s octets line = record s { line = line; octets = octets_left line.stage octets }
 
-  taken_is : (s : Stream R M) (v : View) → has_frame s.octets ≡ true → plain.frame_taken one several s v ≡ plain.keeps s (behind s.octets) (framed s v)
+  taken_is : (s : Stream R M) (v : View) → has_frame s.octets ≡ true → plain.frame_taken one several s v ≡ plain.with_line s (behind s.octets) (framed s v)
   taken_is s v h =
       ap (λ b. plain.takes_frame one several s v (if b then Some (body s.octets) else None)) h
-      ∙ ap (λ b. plain.keeps s (if b then behind s.octets else s.octets) (framed s v)) h
+      ∙ ap (λ b. plain.with_line s (if b then behind s.octets else s.octets) (framed s v)) h
 
   all_none : (n : ℕ) (s : Stream R M) (v : View) → has_frame s.octets ≡ false → all_taken n s v ≡ Some (s, v)
   all_none zero s v h = refl
   all_none (suc n) s v h = rw h refl
 
-  all_one : (n : ℕ) (s : Stream R M) (v : View) → has_frame s.octets ≡ true → all_taken (suc n) s v ≡ option_and_then (λ x. all_taken n x.0 x.1) (plain.keeps s (behind s.octets) (framed s v))
+  all_one : (n : ℕ) (s : Stream R M) (v : View) → has_frame s.octets ≡ true → all_taken (suc n) s v ≡ option_and_then (λ x. all_taken n x.0 x.1) (plain.with_line s (behind s.octets) (framed s v))
   all_one n s v h =
       ap (λ b. if b then option_and_then (λ x. all_taken n x.0 x.1) (plain.frame_taken one several s v) else Some (s, v)) h
       ∙ ap (option_and_then (λ x. all_taken n x.0 x.1)) (taken_is s v h)
@@ -128,10 +128,10 @@ module _ {R M : Type 0} (one : Requests R) (several : Requests M) where
   abbrev IsClean : Stream R M → Type 0
   IsClean s = has_ended s.line.stage ≡ true → s.octets ≡ []
 
-  left_clean : (at : Stage) (octets : List ℕ) → has_ended at ≡ true → octets_left at octets ≡ []
+  left_clean : (at : LineStage) (octets : List ℕ) → has_ended at ≡ true → octets_left at octets ≡ []
   left_clean at octets e = rw e refl
 
-  left_short : (at : Stage) (octets : List ℕ) → length (octets_left at octets) ≤ length octets
+  left_short : (at : LineStage) (octets : List ℕ) → length (octets_left at octets) ≤ length octets
   left_short at octets = go (has_ended at)
     where
       go : (b : Bool) → length (if b then [] else octets) ≤ length octets
@@ -158,7 +158,7 @@ module _ {R M : Type 0} (one : Requests R) (several : Requests M) where
   steady_more n zero s v p q ih true h = absurd (let w = whole s.octets h in omega arith)
   steady_more n (suc m) s v p q ih true h = all_one n s v h ∙ go (framed s v) ∙ sym (all_one m s v h)
     where
-      go : (o : After R M) → option_and_then (λ x. all_taken n x.0 x.1) (plain.keeps s (behind s.octets) o) ≡ option_and_then (λ x. all_taken m x.0 x.1) (plain.keeps s (behind s.octets) o)
+      go : (o : After R M) → option_and_then (λ x. all_taken n x.0 x.1) (plain.with_line s (behind s.octets) o) ≡ option_and_then (λ x. all_taken m x.0 x.1) (plain.with_line s (behind s.octets) o)
       go None = refl
       go (Some y) = let l = behind_short s y.0 h in ih m (moved s (behind s.octets) y.0) y.1 (omega arith) (omega arith)
 
@@ -182,11 +182,11 @@ module _ {R M : Type 0} (one : Requests R) (several : Requests M) where
 
   reads_none : (s : Stream R M) (v : View) → has_frame s.octets ≡ false → plain.reads one several s v ≡ Some (s, v)
   reads_none s v h =
-      ap (λ b. plain.says (plain.takes_frame one several s v (if b then Some (body s.octets) else None))) h
+      ap (λ b. plain.says_if_more (plain.takes_frame one several s v (if b then Some (body s.octets) else None))) h
       ∙ ap (λ b. Some (s, (if b then record v { more = true } else v))) h
 
-  reads_one : (s : Stream R M) (v : View) → has_frame s.octets ≡ true → plain.reads one several s v ≡ plain.says (plain.keeps s (behind s.octets) (framed s v))
-  reads_one s v h = ap plain.says (taken_is s v h)
+  reads_one : (s : Stream R M) (v : View) → has_frame s.octets ≡ true → plain.reads one several s v ≡ plain.says_if_more (plain.with_line s (behind s.octets) (framed s v))
+  reads_one s v h = ap plain.says_if_more (taken_is s v h)
 
   abbrev Reads : ℕ → Type 0
   Reads n = (s : Stream R M) (v : View) → IsClean s → v.more ≡ false → length s.octets ≤ n → option_and_then (λ x. takes_more one several n x.0 x.1) (plain.reads one several s v) ≡ all_taken (suc n) s v
@@ -200,7 +200,7 @@ module _ {R M : Type 0} (one : Requests R) (several : Requests M) where
   reading : (n : ℕ) → ((k : ℕ) → n ≡ suc k → Reads k) → Reads n
   reading n ih s v c m l = go (has_frame s.octets) refl
     where
-      taken : has_frame s.octets ≡ true → (o : After R M) → SaysSame v.more o → option_and_then (λ x. takes_more one several n x.0 x.1) (plain.says (plain.keeps s (behind s.octets) o)) ≡ option_and_then (λ x. all_taken n x.0 x.1) (plain.keeps s (behind s.octets) o)
+      taken : has_frame s.octets ≡ true → (o : After R M) → SaysSame v.more o → option_and_then (λ x. takes_more one several n x.0 x.1) (plain.says_if_more (plain.with_line s (behind s.octets) o)) ≡ option_and_then (λ x. all_taken n x.0 x.1) (plain.with_line s (behind s.octets) o)
       taken h None k = refl
       taken h (Some y) k =
           let b = behind_short s y.0 h in
@@ -240,19 +240,19 @@ module _ {R M : Type 0} (one : Requests R) (several : Requests M) where
   added n b ih m k s v c p q r = go n m ih p q (has_frame s.octets) refl
     where
       first : (j i : ℕ) → Adds j b → has_frame s.octets ≡ true → length s.octets ≤ suc j → length s.octets + length b ≤ suc i → (o : After R M)
-          → option_and_then (λ x. all_taken i x.0 x.1) (plain.keeps s (behind s.octets ++ b) o) ≡ option_and_then (λ x. all_taken k (adds b x.0) x.1) (option_and_then (λ x. all_taken j x.0 x.1) (plain.keeps s (behind s.octets) o))
+          → option_and_then (λ x. all_taken i x.0 x.1) (plain.with_line s (behind s.octets ++ b) o) ≡ option_and_then (λ x. all_taken k (adds b x.0) x.1) (option_and_then (λ x. all_taken j x.0 x.1) (plain.with_line s (behind s.octets) o))
       first j i ih h p q None = refl
       first j i ih h p q (Some y) =
           let l = behind_short s y.0 h in
           ap (λ s. all_taken i s y.1) (sym (adds_moved b s (behind s.octets) y.0)) ∙ ih i k (moved s (behind s.octets) y.0) y.1 (left_clean y.0.stage (behind s.octets)) (omega arith) (omega arith) (omega arith)
 
-      longer : has_frame s.octets ≡ true → (i : ℕ) → all_taken (suc i) (adds b s) v ≡ option_and_then (λ x. all_taken i x.0 x.1) (plain.keeps s (behind s.octets ++ b) (framed s v))
+      longer : has_frame s.octets ≡ true → (i : ℕ) → all_taken (suc i) (adds b s) v ≡ option_and_then (λ x. all_taken i x.0 x.1) (plain.with_line s (behind s.octets ++ b) (framed s v))
       longer h i =
           let s' : Stream R M = record s { octets = s.octets ++ b } in
           ap (λ c. all_taken (suc i) (if c then s else s') v) (going s c h)
           ∙ all_one i s' v (still_whole s.octets b h)
-          ∙ ap (λ o. option_and_then (λ x. all_taken i x.0 x.1) (plain.keeps s o (plain.frame_comes one several s.place (body (s.octets ++ b)) s.line v))) (same_behind s.octets b h)
-          ∙ ap (λ f. option_and_then (λ x. all_taken i x.0 x.1) (plain.keeps s (behind s.octets ++ b) (plain.frame_comes one several s.place f s.line v))) (same_body s.octets b h)
+          ∙ ap (λ o. option_and_then (λ x. all_taken i x.0 x.1) (plain.with_line s o (plain.frame_comes one several s.place (body (s.octets ++ b)) s.line v))) (same_behind s.octets b h)
+          ∙ ap (λ f. option_and_then (λ x. all_taken i x.0 x.1) (plain.with_line s (behind s.octets ++ b) (plain.frame_comes one several s.place f s.line v))) (same_body s.octets b h)
 
       go : (n m : ℕ) → ((j : ℕ) → n ≡ suc j → Adds j b) → length s.octets ≤ n → length s.octets + length b ≤ m → (x : Bool) → has_frame s.octets ≡ x
           → all_taken m (adds b s) v ≡ option_and_then (λ x. all_taken k (adds b x.0) x.1) (all_taken n s v)
@@ -279,7 +279,7 @@ module _ {R M : Type 0} (one : Requests R) (several : Requests M) where
   leaves (suc n) k s v c l m = go (has_frame s.octets) refl (λ s v. leaves n k s v)
     where
       first : has_frame s.octets ≡ true → (o : After R M) → SaysSame v.more o → ((s : Stream R M) (v : View) → IsClean s → length s.octets ≤ k → v.more ≡ false → IfSome (all_taken n s v) (IsLeft k))
-          → IfSome (option_and_then (λ x. all_taken n x.0 x.1) (plain.keeps s (behind s.octets) o)) (IsLeft k)
+          → IfSome (option_and_then (λ x. all_taken n x.0 x.1) (plain.with_line s (behind s.octets) o)) (IsLeft k)
       first h None x ih = tt
       first h (Some y) x ih = let b = behind_short s y.0 h in ih (moved s (behind s.octets) y.0) y.1 (left_clean y.0.stage (behind s.octets)) (omega arith) (x ∙ m)
 

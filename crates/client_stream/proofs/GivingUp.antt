@@ -9,7 +9,7 @@ use Rattle.client_stream.specs.Plain as plain
 use Rattle.client_stream.specs.Plain.{Line}
 use Rattle.client_stream.specs.declared.request.Holder.{Holder}
 use Rattle.client_stream.specs.declared.request.Holder.TheVariants.{GivenUp}
-use Rattle.client_stream.specs.declared.request.Waiting.{Waiting}
+use Rattle.client_stream.specs.declared.request.QueuedRequest.{QueuedRequest}
 
 is_none : {A : Type 0} (o : Option A) → is_some o ≡ false → o ≡ None
 is_none None h = refl
@@ -33,10 +33,10 @@ module _ {A : Type 0} where
 
 module _ {R M : Type 0} where
   -- with other requests queued, and other ids held
-  abbrev with_tables : IdTable (Holder R M) → List (ℕ × ℕ) → List (ℕ × Waiting R M) → Line R M → Line R M
+  abbrev with_tables : IdTable (Holder R M) → List (ℕ × ℕ) → List (ℕ × QueuedRequest R M) → Line R M → Line R M
   with_tables held ids queue s = record s { held = held; ids = ids; queue = queue }
 
-module _ {R M : Type 0} (ticket : ℕ) (s t : Line R M) (ids : List (ℕ × ℕ)) (queue : List (ℕ × Waiting R M)) (same : t ≡ s)
+module _ {R M : Type 0} (ticket : ℕ) (s t : Line R M) (ids : List (ℕ × ℕ)) (queue : List (ℕ × QueuedRequest R M)) (same : t ≡ s)
     (absent : is_some (entry_at ticket t.queue) ≡ false) (freed : queue ≡ frees ticket t.queue) (id_freed : ids ≡ frees ticket t.ids) where
   by_id : plain.gives_up_id ticket t (entry_at ticket t.ids) ≡ plain.gives_up ticket s
   by_id = ap (λ b. if b then record t { queue = frees ticket t.queue } else plain.gives_up_id ticket t (entry_at ticket t.ids)) (sym absent) ∙ ap (plain.gives_up ticket) same

@@ -24,11 +24,11 @@ use Rattle.client_stream.specs.Plain.{Line, Stream, After, AfterAll, has_ended, 
 use Rattle.client_stream.specs.Settings.{Settings}
 use Rattle.client_stream.specs.declared.request.AnyRequest.{AnyRequest}
 use Rattle.client_stream.specs.declared.request.AnyRequest.TheVariants.{Single, Transfer}
-use Rattle.client_stream.specs.declared.request.Waiting.{Waiting}
+use Rattle.client_stream.specs.declared.request.QueuedRequest.{QueuedRequest}
 use Rattle.client_stream.specs.declared.request.Holder.{Holder}
 use Rattle.client_stream.specs.declared.request.Holder.TheVariants.{Waits, Transfers, GivenUp}
-use Rattle.client_stream.specs.declared.stage.Stage.{Stage}
-use Rattle.client_stream.specs.declared.stage.Stage.TheVariants as stage
+use Rattle.client_stream.specs.declared.line.LineStage.{LineStage}
+use Rattle.client_stream.specs.declared.line.LineStage.TheVariants as stage
 use Rattle.client_stream.proofs.HeldIds.{holds, IsTable, still_held, now_held, held_apart, held_over, next_free, table_new, table_inserted, table_removed, table_over}
 
 writes_append : (place id : ℕ) (a : List Out) (out : Out) → writes_of place id (a ++ out ∷ []) ≡ writes_of place id a + (if is_write place id out then 1 else 0)
@@ -49,7 +49,7 @@ ticket_outs v w e = go (can_draw v.ticket) refl
     go true h = let x : draws_ticket v ≡ Some (record v { ticket = v.ticket + 1 }) = rw h refl in let is : w ≡ record v { ticket = v.ticket + 1 } = cc in ap (λ w. w.outs) is
     go false h = absurd (let x : draws_ticket v ≡ None = rw h refl in cc)
 
-stop_outs : (at : Stage) (v : View) → (plain.stops at v).outs ≡ v.outs
+stop_outs : (at : LineStage) (v : View) → (plain.drops_own_timer at v).outs ≡ v.outs
 stop_outs stage.New v = refl
 stop_outs (stage.Active timer since) v = refl
 stop_outs (stage.Idle timer) v = refl
@@ -103,25 +103,25 @@ module _ {R M : Type 0} (place id : ℕ) where
   chain t w None f a b = tt
   chain t w (Some x) f a b = go_on t w x.0 x.1 (f x.0 x.1) a (b x.0 x.1)
 
-  timed : (to : Stage) (s : Line R M) (v : View) (o : Option View) → ((w : View) → o ≡ Some w → w.outs ≡ v.outs) → KeepsAll s.held (written place id v) (option_and_then (λ w. Some (record s { stage = to }, w)) o)
+  timed : (to : LineStage) (s : Line R M) (v : View) (o : Option View) → ((w : View) → o ≡ Some w → w.outs ≡ v.outs) → KeepsAll s.held (written place id v) (option_and_then (λ w. Some (record s { stage = to }, w)) o)
   timed to s v None h = tt
   timed to s v (Some w) h = same s.held s.held (written place id v) (written place id w) refl (ap (writes_of place id) (h w refl))
 
-  becomes : (to : ℕ → Stage) (due : ℕ) (s : Line R M) (v : View) → KeepsAll s.held (written place id v) (plain.becomes to due s v)
-  becomes to due s v = timed (to v.timers.next) s v (sets_timer due (plain.stops s.stage v)) (λ w e. set_outs due (plain.stops s.stage v) w e ∙ stop_outs s.stage v)
+  becomes : (to : ℕ → LineStage) (due : ℕ) (s : Line R M) (v : View) → KeepsAll s.held (written place id v) (plain.becomes to due s v)
+  becomes to due s v = timed (to v.timers.next) s v (sets_timer due (plain.drops_own_timer s.stage v)) (λ w e. set_outs due (plain.drops_own_timer s.stage v) w e ∙ stop_outs s.stage v)
 
   stays : (s : Line R M) (v : View) → KeepsAll s.held (written place id v) (Some (s, v))
   stays s v = same s.held s.held (written place id v) (written place id v) refl refl
 
-  waits_from : (since : ℕ) (s : Line R M) (v : View) → KeepsAll s.held (written place id v) (plain.waits_from since s v)
+  waits_from : (since : ℕ) (s : Line R M) (v : View) → KeepsAll s.held (written place id v) (plain.awaits_frame_since since s v)
   waits_from since s v = becomes (λ timer. stage.Active timer since) (since + s.timeout + 1) s v
 
-  wakes : (timeout : ℕ) (s : Line R M) (v : View) (at : Stage) → KeepsAll s.held (written place id v) (plain.wakes timeout s v at)
+  wakes : (timeout : ℕ) (s : Line R M) (v : View) (at : LineStage) → KeepsAll s.held (written place id v) (plain.becomes_active_for timeout s v at)
   wakes timeout s v stage.New = waits_from v.now (record s { timeout = timeout }) v
   wakes timeout s v (stage.Idle _) = waits_from v.now (record s { timeout = timeout }) v
   wakes timeout s v (stage.Active _ since) = go (timeout == s.timeout)
     where
-      go : (b : Bool) → KeepsAll s.held (written place id v) (if b then Some (s, v) else plain.waits_from since (record s { timeout = timeout }) v)
+      go : (b : Bool) → KeepsAll s.held (written place id v) (if b then Some (s, v) else plain.awaits_frame_since since (record s { timeout = timeout }) v)
       go true = stays s v
       go false = waits_from since (record s { timeout = timeout }) v
   wakes timeout s v stage.Ended = stays s v
@@ -158,12 +158,12 @@ module _ {R M : Type 0} (place id : ℕ) where
 
     module _ {T : Type 0} (requests : Requests T) (holding : T → Holder R M) where
       numbers : (ticket number : ℕ) (request : T) (s : Line R M) (v : View) (b : Bool)
-          → let x = plain.numbers one several place requests holding ticket number request s v (if b then None else Some (next_id s.held)) in Keeps s.held (written place id v) x.0.held (written place id x.1)
+          → let x = plain.takes_free_id one several place requests holding ticket number request s v (if b then None else Some (next_id s.held)) in Keeps s.held (written place id v) x.0.held (written place id x.1)
       numbers ticket number request s v true = same s.held s.held (written place id v) (written place id v) refl refl
       numbers ticket number request s v false = writes ticket number _ (record s { had_keepalive = _ }) v _
 
     begins : (ticket number : ℕ) (request : M) (s : Line R M) (v : View) (o : Result XfrState Error)
-        → let x = plain.begins one several place ticket number request s v o in Keeps s.held (written place id v) x.0.held (written place id x.1)
+        → let x = plain.starts_transfer one several place ticket number request s v o in Keeps s.held (written place id v) x.0.held (written place id x.1)
     begins ticket number request s v (Err error) = same s.held s.held (written place id v) (written place id v) refl refl
     begins ticket number request s v (Ok state) = numbers several (λ r. Transfers ticket r state) ticket number request s v (length s.held.held == 32768)
 
@@ -172,22 +172,22 @@ module _ {R M : Type 0} (place id : ℕ) where
     prepares ticket number (Single request) s v = numbers one (λ r. Waits ticket r) ticket number request s v (length s.held.held == 32768)
     prepares ticket number (Transfer request) s v = begins ticket number request s v (plain.first_state (several.composed request))
 
-    takes : (settings : Settings) (ticket : ℕ) (waiting : Waiting R M) (s : Line R M) (v : View) → KeepsAll s.held (written place id v) (plain.takes one several place settings ticket waiting s v)
+    takes : (settings : Settings) (ticket : ℕ) (waiting : QueuedRequest R M) (s : Line R M) (v : View) → KeepsAll s.held (written place id v) (plain.takes_queued one several place settings ticket waiting s v)
     takes settings ticket waiting s v =
         let timeout = plain.timeout_by settings waiting.request in
-        chain s.held (written place id v) (plain.wakes timeout s v s.stage) (λ s v. Some (plain.prepares one several place ticket waiting.number waiting.request s v)) (wakes timeout s v s.stage)
+        chain s.held (written place id v) (plain.becomes_active_for timeout s v s.stage) (λ s v. Some (plain.prepares one several place ticket waiting.number waiting.request s v)) (wakes timeout s v s.stage)
         (λ s v. prepares ticket waiting.number waiting.request s v)
 
-    pumps : (settings : Settings) (queue : List (ℕ × Waiting R M)) (s : Line R M) (v : View) → KeepsAll s.held (written place id v) (plain.pumps one several place settings queue s v)
+    pumps : (settings : Settings) (queue : List (ℕ × QueuedRequest R M)) (s : Line R M) (v : View) → KeepsAll s.held (written place id v) (plain.pumps one several place settings queue s v)
     pumps settings [] s v = stays s v
     pumps settings (entry ∷ queue) s v = go (is_some s.writing) (λ s v. pumps settings queue s v)
       where
         go : (b : Bool) → ((s : Line R M) (v : View) → KeepsAll s.held (written place id v) (plain.pumps one several place settings queue s v))
-            → KeepsAll s.held (written place id v) (if b then Some (s, v) else option_and_then (λ x. plain.pumps one several place settings queue x.0 x.1) (plain.takes one several place settings entry.0 entry.1 (record s { queue = queue }) v))
+            → KeepsAll s.held (written place id v) (if b then Some (s, v) else option_and_then (λ x. plain.pumps one several place settings queue x.0 x.1) (plain.takes_queued one several place settings entry.0 entry.1 (record s { queue = queue }) v))
         go true ih = stays s v
-        go false ih = chain s.held (written place id v) (plain.takes one several place settings entry.0 entry.1 (record s { queue = queue }) v) (λ s v. plain.pumps one several place settings queue s v) (takes settings entry.0 entry.1 (record s { queue = queue }) v) ih
+        go false ih = chain s.held (written place id v) (plain.takes_queued one several place settings entry.0 entry.1 (record s { queue = queue }) v) (λ s v. plain.pumps one several place settings queue s v) (takes settings entry.0 entry.1 (record s { queue = queue }) v) ih
 
-    queues : (settings : Settings) (ticket : ℕ) (waiting : Waiting R M) (s : Line R M) (v : View) → KeepsAll s.held (written place id v) (plain.queues one several place settings ticket waiting s v)
+    queues : (settings : Settings) (ticket : ℕ) (waiting : QueuedRequest R M) (s : Line R M) (v : View) → KeepsAll s.held (written place id v) (plain.queues one several place settings ticket waiting s v)
     queues settings ticket waiting s v = go (has_ended s.stage)
       where
         go : (b : Bool) → KeepsAll s.held (written place id v) (if b then Some (s, answers ticket (Err errors.ConnectionClosed) v) else plain.pumps one several place settings (puts ticket waiting s.queue) (record s { queue = puts ticket waiting s.queue }) v)
@@ -255,24 +255,24 @@ module _ {R M : Type 0} (place id : ℕ) where
     again k x y t e = record { table = λ table. table_over k x y t table e; kept = λ f h. held_over id k x t h }
 
     goes_on : (message : List ℕ) (ticket : ℕ) (request : M) (state : XfrState) (y : Holder R M) (s : Line R M) (v : View) → entry_at (message_id message) s.held.held ≡ Some y → (ends : Bool)
-        → Passes (message_id message) s.held (plain.goes_on message ticket request state (record s { held = removed (message_id message) s.held }) v ends).0.held
+        → Passes (message_id message) s.held (plain.ends_or_holds_again message ticket request state (record s { held = removed (message_id message) s.held }) v ends).0.held
     goes_on message ticket request state y s v e true = freed (message_id message) s.held
     goes_on message ticket request state y s v e false = again (message_id message) (Transfers ticket request state) y s.held e
 
-    goes_on_outs : (message : List ℕ) (ticket : ℕ) (request : M) (state : XfrState) (s : Line R M) (v : View) (ends : Bool) → (plain.goes_on message ticket request state s v ends).1.outs ≡ v.outs
+    goes_on_outs : (message : List ℕ) (ticket : ℕ) (request : M) (state : XfrState) (s : Line R M) (v : View) (ends : Bool) → (plain.ends_or_holds_again message ticket request state s v ends).1.outs ≡ v.outs
     goes_on_outs message ticket request state s v true = refl
     goes_on_outs message ticket request state s v false = refl
 
     -- Once the id of a frame is free, what is given writes nothing, and frees no other.
     given_passes : (message : List ℕ) (s : Line R M) (v : View) (holder : Holder R M) → entry_at (message_id message) s.held.held ≡ Some holder
-        → Passes (message_id message) s.held (plain.given one several message (record s { held = removed (message_id message) s.held }) v holder).0.held
+        → Passes (message_id message) s.held (plain.delivers one several message (record s { held = removed (message_id message) s.held }) v holder).0.held
     given_passes message s v GivenUp e = freed (message_id message) s.held
     given_passes message s v (Waits ticket request) e = freed (message_id message) s.held
     given_passes message s v (Transfers ticket request state) e =
         let c = checked several request state message in
         goes_on message ticket request c.1 (Transfers ticket request state) s (answers ticket (part_given message c.2) v) e c.0
 
-    given_outs : (message : List ℕ) (s : Line R M) (v : View) (holder : Holder R M) → (plain.given one several message s v holder).1.outs ≡ v.outs
+    given_outs : (message : List ℕ) (s : Line R M) (v : View) (holder : Holder R M) → (plain.delivers one several message s v holder).1.outs ≡ v.outs
     given_outs message s v GivenUp = refl
     given_outs message s v (Waits ticket request) = refl
     given_outs message s v (Transfers ticket request state) =
@@ -293,17 +293,17 @@ module _ {R M : Type 0} (place id : ℕ) where
     calm_same : (s : Line R M) (v : View) → CalmAll s.held (written place id v) (Some (s, v))
     calm_same s v = record { table = λ t. t; quiet = refl; kept = λ e. refl }
 
-    calm_timed : (to : Stage) (s : Line R M) (v : View) (o : Option View) → ((w : View) → o ≡ Some w → w.outs ≡ v.outs) → CalmAll s.held (written place id v) (option_and_then (λ w. Some (record s { stage = to }, w)) o)
+    calm_timed : (to : LineStage) (s : Line R M) (v : View) (o : Option View) → ((w : View) → o ≡ Some w → w.outs ≡ v.outs) → CalmAll s.held (written place id v) (option_and_then (λ w. Some (record s { stage = to }, w)) o)
     calm_timed to s v None h = tt
     calm_timed to s v (Some w) h = record { table = λ t. t; quiet = ap (writes_of place id) (h w refl); kept = λ e. refl }
 
-    calm_becomes : (to : ℕ → Stage) (due : ℕ) (s : Line R M) (v : View) → CalmAll s.held (written place id v) (plain.becomes to due s v)
-    calm_becomes to due s v = calm_timed (to v.timers.next) s v (sets_timer due (plain.stops s.stage v)) (λ w e. set_outs due (plain.stops s.stage v) w e ∙ stop_outs s.stage v)
+    calm_becomes : (to : ℕ → LineStage) (due : ℕ) (s : Line R M) (v : View) → CalmAll s.held (written place id v) (plain.becomes to due s v)
+    calm_becomes to due s v = calm_timed (to v.timers.next) s v (sets_timer due (plain.drops_own_timer s.stage v)) (λ w e. set_outs due (plain.drops_own_timer s.stage v) w e ∙ stop_outs s.stage v)
 
-    calm_settles : (s : Line R M) (v : View) → CalmAll s.held (written place id v) (plain.settles place s v)
+    calm_settles : (s : Line R M) (v : View) → CalmAll s.held (written place id v) (plain.becomes_idle_if_unused place s v)
     calm_settles s v = go (plain.has_nothing s) (s.idle_time == 0)
       where
-        go : (b c : Bool) → CalmAll s.held (written place id v) (if b then (if c then plain.ends place errors.StreamReceiveError s v else plain.rests s v) else Some (s, v))
+        go : (b c : Bool) → CalmAll s.held (written place id v) (if b then (if c then plain.ends place errors.StreamReceiveError s v else plain.becomes_idle s v) else Some (s, v))
         go true true = calm_end errors.StreamReceiveError s v
         go true false = calm_becomes stage.Idle (v.now + s.idle_time) s v
         go false c = calm_same s v
@@ -318,14 +318,14 @@ module _ {R M : Type 0} (place id : ℕ) where
     calm_steps message s v None c = tt
     calm_steps message s v (Some x) c = quiet s v (Some message) x.0 x.1 c.table c.quiet (λ t h f e. ap (holds id) (c.kept e) ∙ h)
 
-    settles_given : (message : List ℕ) (s : Line R M) (v : View) (x : Line R M × View) → Passes (message_id message) s.held x.0.held → x.1.outs ≡ v.outs → StepsAll s v (Some message) (plain.settles place x.0 x.1)
-    settles_given message s v x p o = released message s v x.0.held (plain.settles place x.0 x.1) p
-        (subst (λ w. CalmAll x.0.held w (plain.settles place x.0 x.1)) (ap (writes_of place id) o) (calm_settles x.0 x.1))
+    settles_given : (message : List ℕ) (s : Line R M) (v : View) (x : Line R M × View) → Passes (message_id message) s.held x.0.held → x.1.outs ≡ v.outs → StepsAll s v (Some message) (plain.becomes_idle_if_unused place x.0 x.1)
+    settles_given message s v x p o = released message s v x.0.held (plain.becomes_idle_if_unused place x.0 x.1) p
+        (subst (λ w. CalmAll x.0.held w (plain.becomes_idle_if_unused place x.0 x.1)) (ap (writes_of place id) o) (calm_settles x.0 x.1))
 
     frees_id : (message : List ℕ) (s : Line R M) (v : View) (o : Option (Holder R M)) → entry_at (message_id message) s.held.held ≡ o → StepsAll s v (Some message) (plain.frees_id one several place message s v o)
     frees_id message s v None e = calm_steps message s v (Some (s, v)) (calm_same s v)
     frees_id message s v (Some holder) e =
-        settles_given message s v (plain.given one several message (record s { held = removed (message_id message) s.held }) v holder)
+        settles_given message s v (plain.delivers one several message (record s { held = removed (message_id message) s.held }) v holder)
         (given_passes message s v holder e) (given_outs message (record s { held = removed (message_id message) s.held }) v holder)
 
     -- after a calm step that has not ended
@@ -340,23 +340,23 @@ module _ {R M : Type 0} (place id : ℕ) where
           kept = λ t x f e. k.kept (subst (λ t. IsTable t) (sym h) t) (ap (holds id) h ∙ x) f e;
         }
 
-    timed_then : (message : List ℕ) (to : Stage) (s : Line R M) (v : View) (o : Option View) → ((w : View) → o ≡ Some w → w.outs ≡ v.outs)
+    timed_then : (message : List ℕ) (to : LineStage) (s : Line R M) (v : View) (o : Option View) → ((w : View) → o ≡ Some w → w.outs ≡ v.outs)
         → StepsAll s v (Some message) (option_and_then (λ (x : Line R M × View). plain.releases one several place message x.0 x.1) (option_and_then (λ w. Some (record s { stage = to }, w)) o))
     timed_then message to s v None h = tt
     timed_then message to s v (Some w) h =
         after_calm s v (Some message) (record s { stage = to }) w (plain.releases one several place message (record s { stage = to }) w) refl (h w refl)
         (frees_id message (record s { stage = to }) w (entry_at (message_id message) s.held.held) refl)
 
-    comes : (message : List ℕ) (s : Line R M) (v : View) → StepsAll s v (Some message) (plain.comes one several place message s v)
+    comes : (message : List ℕ) (s : Line R M) (v : View) → StepsAll s v (Some message) (plain.message_comes one several place message s v)
     comes message s v =
         after_calm s v (Some message) (record s { idle_time = _ }) v _ refl refl
-        (timed_then message (stage.Active v.timers.next v.now) (record s { idle_time = _ }) v (sets_timer (v.now + s.timeout + 1) (plain.stops s.stage v))
-        (λ w e. set_outs (v.now + s.timeout + 1) (plain.stops s.stage v) w e ∙ stop_outs s.stage v))
+        (timed_then message (stage.Active v.timers.next v.now) (record s { idle_time = _ }) v (sets_timer (v.now + s.timeout + 1) (plain.drops_own_timer s.stage v))
+        (λ w e. set_outs (v.now + s.timeout + 1) (plain.drops_own_timer s.stage v) w e ∙ stop_outs s.stage v))
 
     frame_comes : (frame : List ℕ) (s : Line R M) (v : View) → StepsAll s v (Some frame) (plain.frame_comes one several place frame s v)
     frame_comes frame s v = go (nat_le 12 (length frame))
       where
-        go : (b : Bool) → StepsAll s v (Some frame) (if b then plain.comes one several place frame s v else plain.ends place errors.ShortMessage s v)
+        go : (b : Bool) → StepsAll s v (Some frame) (if b then plain.message_comes one several place frame s v else plain.ends place errors.ShortMessage s v)
         go true = comes frame s v
         go false = ends errors.ShortMessage s v (Some frame)
 
@@ -377,7 +377,7 @@ module _ {R M : Type 0} (place id : ℕ) where
     unmoved : (s : Line R M) (v : View) (frame : Option (List ℕ)) → StepsAll s v frame (Some (s, v))
     unmoved s v frame = kept_steps s v frame (Some (s, v)) (stays s v)
 
-    fires : (timer : ℕ) (s : Line R M) (v : View) (at : Stage) → StepsAll s v None (plain.fires place timer s v at)
+    fires : (timer : ℕ) (s : Line R M) (v : View) (at : LineStage) → StepsAll s v None (plain.fires place timer s v at)
     fires timer s v (stage.Active own since) = go (timer == own)
       where
         go : (b : Bool) → StepsAll s v None (if b then plain.ends place errors.StreamReadTimeout s v else Some (s, v))
@@ -413,7 +413,7 @@ module _ {R M : Type 0} (one : Requests R) (several : Requests M) (id : ℕ) whe
   abbrev Moves : Stream R M → View → Option (List ℕ) → AfterAll R M → Type 0
   Moves s v frame after = IfSome after (λ x. Steps s.place id one several s.line v frame x.0.line x.1)
 
-  keeps : (s : Stream R M) (v : View) (octets : List ℕ) (frame : Option (List ℕ)) (after : After R M) → StepsAll s.place id one several s.line v frame after → Moves s v frame (plain.keeps s octets after)
+  keeps : (s : Stream R M) (v : View) (octets : List ℕ) (frame : Option (List ℕ)) (after : After R M) → StepsAll s.place id one several s.line v frame after → Moves s v frame (plain.with_line s octets after)
   keeps s v octets frame None k = tt
   keeps s v octets frame (Some x) k = k
 
@@ -423,7 +423,7 @@ module _ {R M : Type 0} (one : Requests R) (several : Requests M) (id : ℕ) whe
   said s v frame x true k = record { table = k.table; free = k.free; wrote = k.wrote; kept = k.kept }
   said s v frame x false k = k
 
-  says : (s : Stream R M) (v : View) (frame : Option (List ℕ)) (after : AfterAll R M) → Moves s v frame after → Moves s v frame (plain.says after)
+  says : (s : Stream R M) (v : View) (frame : Option (List ℕ)) (after : AfterAll R M) → Moves s v frame after → Moves s v frame (plain.says_if_more after)
   says s v frame None k = tt
   says s v frame (Some x) k = said s v frame x (has_frame x.0.octets) k
 

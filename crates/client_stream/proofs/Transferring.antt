@@ -21,9 +21,9 @@ use Rattle.client_stream.specs.Plain.{Line, After, message_id}
 use Rattle.client_stream.specs.Transfers.{parts_for, with_id, is_under, all_come, TransferLaw}
 use Rattle.client_stream.specs.declared.request.Holder.{Holder}
 use Rattle.client_stream.specs.declared.request.Holder.TheVariants.{Waits, Transfers, GivenUp}
-use Rattle.client_stream.specs.declared.request.Waiting.{Waiting}
-use Rattle.client_stream.specs.declared.stage.Stage.{Stage}
-use Rattle.client_stream.specs.declared.stage.Stage.TheVariants as stage
+use Rattle.client_stream.specs.declared.request.QueuedRequest.{QueuedRequest}
+use Rattle.client_stream.specs.declared.line.LineStage.{LineStage}
+use Rattle.client_stream.specs.declared.line.LineStage.TheVariants as stage
 use Rattle.client_stream.proofs.HeldIds.{IsTable, put_entry, freed_entry, freed_same, table_new, table_removed, table_over}
 
 -- A part that is put stands behind those of its ticket, and is none of another.
@@ -60,7 +60,7 @@ set_board due u w e = go (can_draw u.timers.next) refl
     go true h = let x : sets_timer due u ≡ Some (record u { timers = with_timer due u.timers }) = rw h refl in let is : w ≡ record u { timers = with_timer due u.timers } = cc in ap (λ w. w.board) is
     go false h = absurd (let x : sets_timer due u ≡ None = rw h refl in cc)
 
-stop_board : (at : Stage) (v : View) → (plain.stops at v).board ≡ v.board
+stop_board : (at : LineStage) (v : View) → (plain.drops_own_timer at v).board ≡ v.board
 stop_board stage.New v = refl
 stop_board (stage.Active timer since) v = refl
 stop_board (stage.Idle timer) v = refl
@@ -76,7 +76,7 @@ and_both true false h = absurd (cc)
 and_both false b h = absurd (cc)
 
 module _ {R M : Type 0} where
-  fails_none : (error : Error) (queue : List (ℕ × Waiting R M)) (held : List (ℕ × Holder R M)) (board : List Posted) → queue ≡ [] → held ≡ [] → plain.fails_queued queue (plain.fails_holders error (map (λ entry. entry.1) held) board) ≡ board
+  fails_none : (error : Error) (queue : List (ℕ × QueuedRequest R M)) (held : List (ℕ × Holder R M)) (board : List Posted) → queue ≡ [] → held ≡ [] → plain.fails_queued queue (plain.fails_holders error (map (λ entry. entry.1) held) board) ≡ board
   fails_none error queue held board q h = rw (q, h) refl
 
 module _ {R M : Type 0} (one : Requests R) (several : Requests M) (ticket : ℕ) (request : M) (base : List Part) where
@@ -102,12 +102,12 @@ module _ {R M : Type 0} (one : Requests R) (several : Requests M) (ticket : ℕ)
     parts = ap (parts_for ticket) b ∙ k.parts;
   }
 
-  timed : (id : ℕ) (t : Transfer) (to : Stage) (s : Line R M) (v : View) (o : Option View) → ((w : View) → o ≡ Some w → w.board ≡ v.board) → Tells id t s v → TellsAll id t (option_and_then (λ w. Some (record s { stage = to }, w)) o)
+  timed : (id : ℕ) (t : Transfer) (to : LineStage) (s : Line R M) (v : View) (o : Option View) → ((w : View) → o ≡ Some w → w.board ≡ v.board) → Tells id t s v → TellsAll id t (option_and_then (λ w. Some (record s { stage = to }, w)) o)
   timed id t to s v None h k = tt
   timed id t to s v (Some w) h k = still id t s v (record s { stage = to }) w refl (h w refl) k
 
-  becomes : (id : ℕ) (t : Transfer) (to : ℕ → Stage) (due : ℕ) (s : Line R M) (v : View) → Tells id t s v → TellsAll id t (plain.becomes to due s v)
-  becomes id t to due s v k = timed id t (to v.timers.next) s v (sets_timer due (plain.stops s.stage v)) (λ w e. set_board due (plain.stops s.stage v) w e ∙ stop_board s.stage v) k
+  becomes : (id : ℕ) (t : Transfer) (to : ℕ → LineStage) (due : ℕ) (s : Line R M) (v : View) → Tells id t s v → TellsAll id t (plain.becomes to due s v)
+  becomes id t to due s v k = timed id t (to v.timers.next) s v (sets_timer due (plain.drops_own_timer s.stage v)) (λ w e. set_board due (plain.drops_own_timer s.stage v) w e ∙ stop_board s.stage v) k
 
   ends : (id place : ℕ) (t : Transfer) (error : Error) (s : Line R M) (v : View) → s.queue ≡ [] → s.held.held ≡ [] → Tells id t s v → TellsAll id t (plain.ends place error s v)
   ends id place t error s v q h k = record {
@@ -117,10 +117,10 @@ module _ {R M : Type 0} (one : Requests R) (several : Requests M) (ticket : ℕ)
     parts = ap (parts_for ticket) (fails_none error s.queue s.held.held _ q h ∙ stop_board s.stage (asks (Close place) v)) ∙ k.parts;
   }
 
-  settles : (id place : ℕ) (t : Transfer) (s : Line R M) (v : View) → Tells id t s v → TellsAll id t (plain.settles place s v)
+  settles : (id place : ℕ) (t : Transfer) (s : Line R M) (v : View) → Tells id t s v → TellsAll id t (plain.becomes_idle_if_unused place s v)
   settles id place t s v k = go (plain.has_nothing s) refl (s.idle_time == 0)
     where
-      go : (b : Bool) → plain.has_nothing s ≡ b → (c : Bool) → TellsAll id t (if b then (if c then plain.ends place errors.StreamReceiveError s v else plain.rests s v) else Some (s, v))
+      go : (b : Bool) → plain.has_nothing s ≡ b → (c : Bool) → TellsAll id t (if b then (if c then plain.ends place errors.StreamReceiveError s v else plain.becomes_idle s v) else Some (s, v))
       go true e true =
           let both = and_both (length s.held.held == 0) (length s.queue == 0) e in
           ends id place t errors.StreamReceiveError s v (none_of s.queue both.1) (none_of s.held.held both.0) k
@@ -129,7 +129,7 @@ module _ {R M : Type 0} (one : Requests R) (several : Requests M) (ticket : ℕ)
 
   -- the transfer's own id
   own_goes_on : (message : List ℕ) (t : Transfer) (s : Line R M) (v : View) → entry_at (message_id message) s.held.held ≡ Some (Transfers ticket request t.state) → Tells (message_id message) t s v → (c : Checked)
-      → let x = plain.goes_on message ticket request c.1 (record s { held = removed (message_id message) s.held }) (answers ticket (part_given message c.2) v) c.0 in Tells (message_id message) (fold.goes_on t message c) x.0 x.1
+      → let x = plain.ends_or_holds_again message ticket request c.1 (record s { held = removed (message_id message) s.held }) (answers ticket (part_given message c.2) v) c.0 in Tells (message_id message) (fold.goes_on t message c) x.0 x.1
   own_goes_on message t s v e k (true, next, taken) = record {
     table = table_removed (message_id message) s.held k.table;
     own = freed_same (message_id message) s.held k.table;
@@ -190,7 +190,7 @@ module _ {R M : Type 0} (one : Requests R) (several : Requests M) (ticket : ℕ)
 
   other_goes_on : (id : ℕ) (message : List ℕ) (own : ℕ) (theirs : M) (next : XfrState) (taken : Bool) (t : Transfer) (s : Line R M) (v : View) (y : Holder R M) → (message_id message == id) ≡ false
       → entry_at (message_id message) s.held.held ≡ Some y → (own == ticket) ≡ false → Tells id t s v → (b : Bool)
-      → let x = plain.goes_on message own theirs next (record s { held = removed (message_id message) s.held }) (answers own (part_given message taken) v) b in Tells id t x.0 x.1
+      → let x = plain.ends_or_holds_again message own theirs next (record s { held = removed (message_id message) s.held }) (answers own (part_given message taken) v) b in Tells id t x.0 x.1
   other_goes_on id message own theirs next taken t s v y n e u k true =
       other_freed id (message_id message) t s v _ _ n refl (put_other ticket own (Ok None) (posted own (part_given message taken) v.board) u ∙ put_other ticket own (part_given message taken) v.board u) k
   other_goes_on id message own theirs next taken t s v y n e u k false =
@@ -198,7 +198,7 @@ module _ {R M : Type 0} (one : Requests R) (several : Requests M) (ticket : ℕ)
 
   other_given : (id : ℕ) (message : List ℕ) (t : Transfer) (s : Line R M) (v : View) (holder : Holder R M) → (message_id message == id) ≡ false → entry_at (message_id message) s.held.held ≡ Some holder
       → is_under ticket (Some holder) ≡ false → Tells id t s v
-      → let x = plain.given one several message (record s { held = removed (message_id message) s.held }) v holder in Tells id t x.0 x.1
+      → let x = plain.delivers one several message (record s { held = removed (message_id message) s.held }) v holder in Tells id t x.0 x.1
   other_given id message t s v GivenUp n e u k = other_freed id (message_id message) t s v _ _ n refl refl k
   other_given id message t s v (Waits own theirs) n e u k = other_freed id (message_id message) t s v _ _ n refl (put_other ticket own _ v.board u) k
   other_given id message t s v (Transfers own theirs state) n e u k =
@@ -208,7 +208,7 @@ module _ {R M : Type 0} (one : Requests R) (several : Requests M) (ticket : ℕ)
       → TellsAll id t (plain.frees_id one several place message s v o)
   other_comes id place message t s v n k None e = k
   other_comes id place message t s v n k (Some holder) e =
-      let x = plain.given one several message (record s { held = removed (message_id message) s.held }) v holder in
+      let x = plain.delivers one several message (record s { held = removed (message_id message) s.held }) v holder in
       settles id place t x.0 x.1 (other_given id message t s v holder n e (ap (is_under ticket) (sym e) ∙ k.alone (message_id message) n) k)
 
   own_comes : (place : ℕ) (message : List ℕ) (t : Transfer) (s : Line R M) (v : View) → Tells (message_id message) t s v → (b : Bool) → t.ended ≡ b
@@ -216,7 +216,7 @@ module _ {R M : Type 0} (one : Requests R) (several : Requests M) (ticket : ℕ)
   own_comes place message t s v k true e = k
   own_comes place message t s v k false e =
       let c = checked several request t.state message in
-      let x = plain.given one several message (record s { held = removed (message_id message) s.held }) v (Transfers ticket request t.state) in
+      let x = plain.delivers one several message (record s { held = removed (message_id message) s.held }) v (Transfers ticket request t.state) in
       let held : entry_at (message_id message) s.held.held ≡ Some (Transfers ticket request t.state) = k.own ∙ ap (λ b. if b then None else Some (Transfers ticket request t.state)) e in
       settles (message_id message) place (fold.goes_on t message c) x.0 x.1 (own_goes_on message t s v held k c)
 
@@ -228,23 +228,23 @@ module _ {R M : Type 0} (one : Requests R) (several : Requests M) (ticket : ℕ)
       subst (λ i. Tells i t s v → TellsAll i (brings several request t message) (plain.releases one several place message s v)) same
       (λ k. subst (λ o. TellsAll (message_id message) (brings several request t message) (plain.frees_id one several place message s v o)) (sym k.own) (own_comes place message t s v k t.ended refl)) k
 
-  timed_then : (id place : ℕ) (message : List ℕ) (to : Stage) (t : Transfer) (s : Line R M) (v : View) (o : Option View) → ((w : View) → o ≡ Some w → w.board ≡ v.board) → Tells id t s v
+  timed_then : (id place : ℕ) (message : List ℕ) (to : LineStage) (t : Transfer) (s : Line R M) (v : View) (o : Option View) → ((w : View) → o ≡ Some w → w.board ≡ v.board) → Tells id t s v
       → TellsAll id (if message_id message == id then brings several request t message else t)
       (option_and_then (λ (x : Line R M × View). plain.releases one several place message x.0 x.1) (option_and_then (λ w. Some (record s { stage = to }, w)) o))
   timed_then id place message to t s v None h k = tt
   timed_then id place message to t s v (Some w) h k = released id place message t (record s { stage = to }) w (still id t s v (record s { stage = to }) w refl (h w refl) k) (message_id message == id) refl
 
-  comes : (id place : ℕ) (message : List ℕ) (t : Transfer) (s : Line R M) (v : View) → Tells id t s v → TellsAll id (if message_id message == id then brings several request t message else t) (plain.comes one several place message s v)
+  comes : (id place : ℕ) (message : List ℕ) (t : Transfer) (s : Line R M) (v : View) → Tells id t s v → TellsAll id (if message_id message == id then brings several request t message else t) (plain.message_comes one several place message s v)
   comes id place message t s v k =
-      timed_then id place message (stage.Active v.timers.next v.now) t (record s { idle_time = _ }) v (sets_timer (v.now + s.timeout + 1) (plain.stops s.stage v))
-      (λ w e. set_board (v.now + s.timeout + 1) (plain.stops s.stage v) w e ∙ stop_board s.stage v) (still id t s v (record s { idle_time = _ }) v refl refl k)
+      timed_then id place message (stage.Active v.timers.next v.now) t (record s { idle_time = _ }) v (sets_timer (v.now + s.timeout + 1) (plain.drops_own_timer s.stage v))
+      (λ w e. set_board (v.now + s.timeout + 1) (plain.drops_own_timer s.stage v) w e ∙ stop_board s.stage v) (still id t s v (record s { idle_time = _ }) v refl refl k)
 
   abbrev Gets : ℕ → List (List ℕ) → Transfer → After R M → Type 0
   Gets id messages t after = IfSome after (λ x. parts_for ticket x.1.board ≡ base ++ (transferred several request t (with_id id messages)).parts)
 
   all : (id place : ℕ) (messages : List (List ℕ)) (t : Transfer) (s : Line R M) (v : View) → Tells id t s v → Gets id messages t (all_come one several place messages s v)
   all id place [] t s v k = k.parts
-  all id place (message ∷ messages) t s v k = go (message_id message == id) (plain.comes one several place message s v) (comes id place message t s v k) (λ t s v k. all id place messages t s v k)
+  all id place (message ∷ messages) t s v k = go (message_id message == id) (plain.message_comes one several place message s v) (comes id place message t s v k) (λ t s v k. all id place messages t s v k)
     where
       go : (b : Bool) (after : After R M) → TellsAll id (if b then brings several request t message else t) after → ((t : Transfer) (s : Line R M) (v : View) → Tells id t s v → Gets id messages t (all_come one several place messages s v))
           → IfSome (option_and_then (λ x. all_come one several place messages x.0 x.1) after) (λ x. parts_for ticket x.1.board ≡ base ++ (transferred several request t (if b then message ∷ with_id id messages else with_id id messages)).parts)

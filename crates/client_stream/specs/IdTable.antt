@@ -1,6 +1,8 @@
 -- The ids of a stream connection: a finite map from ids to items, and a mark above all of them.
 use Rattle.std.specs.Prelude.{◌≡◌, ℕ, ◌+◌, ◌*◌, ◌<◌, ◌==◌, ◌&&◌, nat_le, nat_lt, Bool, if◌then◌else◌, List, [], ◌∷◌, length, map, slice_get, Option, Some, None}
 use Rattle.client_request.specs.Numbered.{puts, frees, entry_at}
+use Rattle.client_stream.specs.declared.queries.InsertFault.{InsertFault}
+use Rattle.client_stream.specs.declared.queries.InsertFault.TheVariants.{Full, NoMemory}
 
 -- The items with their ids, in order of ids.
 pub record IdTable (T : Type 0) : Type 0 where
@@ -55,3 +57,8 @@ module _ {T : Type 0} where
   full_front [] = 0
   full_front (None ∷ slots) = 0
   full_front (Some item ∷ slots) = full_front slots + 1
+
+  -- the item that a refusal hands back
+  abbrev pub item_of : InsertFault T → T
+  item_of (Full item) = item
+  item_of (NoMemory item) = item

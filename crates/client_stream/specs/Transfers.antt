@@ -8,7 +8,7 @@ use Rattle.client_request.specs.declared.board.Posted.{Posted}
 use Rattle.client_transfer.specs.Transfers.{begun, transferred}
 use Rattle.client_transfer.specs.declared.state.XfrState.{XfrState}
 use Rattle.client_stream.specs.IdTable.{held_from}
-use Rattle.client_stream.specs.Plain.{Line, After, message_id, comes}
+use Rattle.client_stream.specs.Plain.{Line, After, message_id, message_comes}
 use Rattle.client_stream.specs.declared.request.Holder.{Holder}
 use Rattle.client_stream.specs.declared.request.Holder.TheVariants.{Waits, Transfers, GivenUp}
 
@@ -42,7 +42,7 @@ module _ {R M : Type 0} (one : Requests R) (several : Requests M) where
   -- Messages come, one by one.
   abbrev pub all_come : ℕ → List (List ℕ) → Line R M → View → After R M
   all_come place [] s v = Some (s, v)
-  all_come place (message ∷ messages) s v = option_and_then (λ x. all_come place messages x.0 x.1) (comes one several place message s v)
+  all_come place (message ∷ messages) s v = option_and_then (λ x. all_come place messages x.0 x.1) (message_comes one several place message s v)
 
   -- The parts that a transfer gets are the fold of what each message with its id gives.
   abbrev pub TransferLaw : Type 0

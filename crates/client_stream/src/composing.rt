@@ -59,7 +59,7 @@ pub(crate) fn add_keepalive<T: Compose>(had: &mut bool, request: &mut T) -> Resu
 }
 
 /// Gives a request its id and, where it is due, the option, and makes its frame, unless that is too long.
-pub(crate) fn ready<T: Compose>(
+pub(crate) fn prepare_frame<T: Compose>(
     alloc: Global,
     had: &mut bool,
     id: u16,

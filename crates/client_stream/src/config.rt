@@ -1,12 +1,12 @@
 //! The settings of a stream connection.
 
-ghost use Rattle.std.specs.Prelude.{◌≡◌, ℕ};
+ghost use Rattle.std.specs.Prelude.{◌≡◌, ℕ, Ok};
 ghost use Rattle.std.specs.Ordering.{nat_cmp};
 ghost use Rattle.client_request.specs.Limits.{limited};
-ghost use Rattle.client_stream.specs.Settings.{default_settings};
+ghost use Rattle.client_stream.specs.Settings.{Settings, default_settings};
 
 use client_request::DefMinMax;
-use dns_base::Duration;
+use dns_base::{Duration, NoMemory};
 use std::marker::Model;
 
 /// How long an active connection waits for the next frame.
@@ -57,6 +57,14 @@ impl Model for Config {
     } };
 }
 
+impl Default for Config {
+    ghost is_default = { λ c. c ≡ default_settings };
+
+    fn default() -> Config {
+        Config::new()
+    }
+}
+
 impl Config {
     /// The defaults: 19 seconds for a response, of a transfer too, and 10 seconds without a request.
     pub fn new() -> Config
@@ -67,6 +75,13 @@ impl Config {
             streaming_response_timeout: response_timeout_limits().default(),
             idle_timeout: idle_timeout_limits().default(),
         }
+    }
+
+    /// The same settings. It takes no memory.
+    pub fn try_clone(&self) -> Result<Config, NoMemory>
+        ensures { result ≡ Ok self.now }
+    {
+        Ok(*self)
     }
 
     /// How long an active connection waits for the next frame, of a transfer too: 1 millisecond to 600

@@ -1,8 +1,8 @@
 //! One connection to a server by stream, with the octets that come on it.
 
-ghost use Rattle.std.specs.Prelude.{◌≡◌, ◌==◌, true, false, length, Some, None, Err, IsOkAnd, OnOk, OnErr, IfOk, IfErr, IsErrOf, IsTrue};
-ghost use Rattle.client_request.specs.Cx.{view_of, heard, LendsTheSame};
-ghost use Rattle.client_request.specs.Timers.{IsWant};
+ghost use Rattle.std.specs.Prelude.{◌≡◌, ◌==◌, true, false, length, IsOkAnd, OnErr, IfOk};
+ghost use Rattle.client_request.specs.Calls.{Follows, Holds, AnswersFailed};
+ghost use Rattle.client_request.specs.Cx.{view_of, heard};
 ghost use Rattle.client_request.specs.Response.{response_of, IsRefusal};
 ghost use Rattle.client_stream.specs.Plain as plain;
 ghost use Rattle.client_stream.specs.declared.request.AnyRequest.TheVariants as any;
@@ -11,12 +11,12 @@ ghost use Rattle.client_stream.specs.Settings.{default_settings};
 use crate::config::Config;
 use crate::framer::Framer;
 use crate::hearing::hear_frame;
-use crate::line::{Line, end, fire, give_up};
-use crate::request::{AnyRequest, Request, RequestMulti};
+use crate::line::{Line, end_by_timer, end_with, give_up};
+use crate::request::{AnyRequest, RequestMulti};
 use crate::writing::{take_on, wrote};
 use client_request::{
-    ComposeRequest, ComposeRequestMulti, Cx, Error, Fault, GetResponse, GetResponseMulti,
-    SendRequest, SendRequestMulti, Signal, What, Words,
+    ComposeRequest, ComposeRequestMulti, Cx, Error, Fault, GetResponse, GetResponseMulti, Latch,
+    Pending, SendRequest, SendRequestMulti, Signal, What, Words,
 };
 use dns_base::NoMemory;
 use std::alloc::Global;
@@ -36,7 +36,7 @@ pub struct Connection<Req, ReqMulti> {
     line: Line<Req, ReqMulti>,
     /// The octets that no frame has taken.
     framer: Framer,
-    failed: bool,
+    failed: Latch,
 }
 
 impl<Req, ReqMulti> Model for Connection<Req, ReqMulti> {
@@ -89,7 +89,7 @@ impl<Req: Drop, ReqMulti: Drop> Connection<Req, ReqMulti> {
             config,
             line: Line::new(alloc, &config),
             framer: Framer::new(alloc),
-            failed: false,
+            failed: Latch::new(),
         })
     }
 
@@ -125,14 +125,14 @@ impl<Req: Drop, ReqMulti: Drop> Connection<Req, ReqMulti> {
     pub fn has_failed(&self) -> bool
         ensures { result ≡ self.now.failed }
     {
-        self.failed
+        self.failed.is_set()
     }
 
     /// Lets each later call answer `Failed`, for what holds it and could not go on.
     pub fn fail(&mut self)
         ensures { self.new ≡ record self.old { failed = true } }
     {
-        self.failed = true;
+        self.failed.set();
     }
 
     /// The octets of a connection that has ended are dropped.
@@ -152,33 +152,17 @@ impl<Req: ComposeRequest, ReqMulti: ComposeRequestMulti> Connection<Req, ReqMult
         &mut self,
         cx: &mut Cx<'_, W>,
         request: Req,
-    ) -> Result<Request, Error>
-        ensures lends { LendsTheSame cx.old cx.new }
-        ensures ok { OnOk result (plain.plain_send Req.requests ReqMulti.requests (any.Single request) self.old (view_of W.stream cx.old) ≡ Some (self.new, view_of W.stream cx.new)) }
+    ) -> Result<Pending, Error>
+        ensures holds { Holds W.stream cx.old cx.new result (plain.plain_send Req.requests ReqMulti.requests (any.Single request) self.old) self.new plain.has_failed self.old self.new }
         ensures response { IfOk result (λ r. r ≡ plain.asked cx.old.ticket) }
-        ensures numbers { IsErrOf result Error.NumbersUsed → plain.plain_send Req.requests ReqMulti.requests (any.Single request) self.old (view_of W.stream cx.old) ≡ None }
-        ensures keeps { OnOk result (self.new.failed ≡ self.old.failed) }
-        ensures refused { IfErr result IsRefusal }
         ensures err { OnErr result (self.new.failed ≡ true) }
-        ensures failed { self.old.failed ≡ true → (result ≡ Err Error.Failed) × (self.new ≡ self.old) × (view_of W.stream cx.new ≡ view_of W.stream cx.old) }
-        ensures failed_only { IsErrOf result Error.Failed → self.old.failed ≡ true }
+        ensures failed { self.old.failed ≡ true → AnswersFailed result (self.old, view_of W.stream cx.old) (self.new, view_of W.stream cx.new) }
     {
-        if self.failed {
-            return Err(Error::Failed);
-        }
-        match take_on(
-            &mut self.line,
-            self.place,
-            &self.config,
-            cx,
-            AnyRequest::Single(request),
-        ) {
-            Ok(ticket) => Ok(Request::of(ticket)),
-            Err(error) => {
-                self.failed = true;
-                Err(error)
-            }
-        }
+        self.failed.check()?;
+        let request = AnyRequest::Single(request);
+        let taken = take_on(&mut self.line, self.place, &self.config, cx, request);
+        let ticket = self.failed.keep(taken)?;
+        Ok(Pending::new(ticket))
     }
 
     /// Takes a transfer on, as `SendRequestMulti::send_request` does. Its results will stand on the board
@@ -190,41 +174,22 @@ impl<Req: ComposeRequest, ReqMulti: ComposeRequestMulti> Connection<Req, ReqMult
         cx: &mut Cx<'_, W>,
         request: ReqMulti,
     ) -> Result<RequestMulti, Error>
-        ensures lends { LendsTheSame cx.old cx.new }
-        ensures ok { OnOk result (plain.plain_send Req.requests ReqMulti.requests (any.Transfer request) self.old (view_of W.stream cx.old) ≡ Some (self.new, view_of W.stream cx.new)) }
+        ensures holds { Holds W.stream cx.old cx.new result (plain.plain_send Req.requests ReqMulti.requests (any.Transfer request) self.old) self.new plain.has_failed self.old self.new }
         ensures response { IfOk result (λ r. r ≡ plain.begun cx.old.ticket) }
-        ensures numbers { IsErrOf result Error.NumbersUsed → plain.plain_send Req.requests ReqMulti.requests (any.Transfer request) self.old (view_of W.stream cx.old) ≡ None }
-        ensures keeps { OnOk result (self.new.failed ≡ self.old.failed) }
-        ensures refused { IfErr result IsRefusal }
         ensures err { OnErr result (self.new.failed ≡ true) }
-        ensures failed { self.old.failed ≡ true → (result ≡ Err Error.Failed) × (self.new ≡ self.old) × (view_of W.stream cx.new ≡ view_of W.stream cx.old) }
-        ensures failed_only { IsErrOf result Error.Failed → self.old.failed ≡ true }
+        ensures failed { self.old.failed ≡ true → AnswersFailed result (self.old, view_of W.stream cx.old) (self.new, view_of W.stream cx.new) }
     {
-        if self.failed {
-            return Err(Error::Failed);
-        }
-        match take_on(
-            &mut self.line,
-            self.place,
-            &self.config,
-            cx,
-            AnyRequest::Transfer(request),
-        ) {
-            Ok(ticket) => Ok(RequestMulti::of(ticket)),
-            Err(error) => {
-                self.failed = true;
-                Err(error)
-            }
-        }
+        self.failed.check()?;
+        let request = AnyRequest::Transfer(request);
+        let taken = take_on(&mut self.line, self.place, &self.config, cx, request);
+        let ticket = self.failed.keep(taken)?;
+        Ok(RequestMulti::of(ticket))
     }
 
     /// Takes the first frame, if it is whole.
     fn take_frame<W: Words>(&mut self, cx: &mut Cx<'_, W>) -> Result<(), Error>
-        ensures lends { LendsTheSame cx.old cx.new }
-        ensures ok { OnOk result (plain.frame_taken Req.requests ReqMulti.requests self.old (view_of W.stream cx.old) ≡ Some (self.new, view_of W.stream cx.new)) }
-        ensures numbers { IsErrOf result Error.NumbersUsed → plain.frame_taken Req.requests ReqMulti.requests self.old (view_of W.stream cx.old) ≡ None }
+        ensures follows { Follows W.stream cx.old cx.new result (plain.frame_taken Req.requests ReqMulti.requests self.old) self.new }
         ensures keeps { self.new.failed ≡ self.old.failed }
-        ensures want { IfErr result IsWant }
     {
         let Some(frame) = self.framer.next_frame()? else {
             return Ok(());
@@ -235,12 +200,9 @@ impl<Req: ComposeRequest, ReqMulti: ComposeRequestMulti> Connection<Req, ReqMult
     }
 
     /// Takes the first frame, and says whether another whole one stands.
-    fn read<W: Words>(&mut self, cx: &mut Cx<'_, W>) -> Result<(), Error>
-        ensures lends { LendsTheSame cx.old cx.new }
-        ensures ok { OnOk result (plain.reads Req.requests ReqMulti.requests self.old (view_of W.stream cx.old) ≡ Some (self.new, view_of W.stream cx.new)) }
-        ensures numbers { IsErrOf result Error.NumbersUsed → plain.reads Req.requests ReqMulti.requests self.old (view_of W.stream cx.old) ≡ None }
+    fn read_frame<W: Words>(&mut self, cx: &mut Cx<'_, W>) -> Result<(), Error>
+        ensures follows { Follows W.stream cx.old cx.new result (plain.reads Req.requests ReqMulti.requests self.old) self.new }
         ensures keeps { self.new.failed ≡ self.old.failed }
-        ensures want { IfErr result IsWant }
     {
         self.take_frame(cx)?;
         if self.framer.has_frame() {
@@ -250,46 +212,35 @@ impl<Req: ComposeRequest, ReqMulti: ComposeRequestMulti> Connection<Req, ReqMult
     }
 
     /// Ends the connection.
-    fn close<W: Words>(&mut self, cx: &mut Cx<'_, W>, error: Error) -> Result<(), NoMemory>
-        ensures lends { LendsTheSame cx.old cx.new }
-        ensures ok { OnOk result (plain.closes error self.old (view_of W.stream cx.old) ≡ Some (self.new, view_of W.stream cx.new)) }
+    fn close<W: Words>(&mut self, cx: &mut Cx<'_, W>, error: Error) -> Result<(), Error>
+        ensures follows { Follows W.stream cx.old cx.new result (plain.closes error self.old) self.new }
         ensures keeps { self.new.failed ≡ self.old.failed }
     {
-        end(&mut self.line, self.place, cx, error)?;
+        end_with(&mut self.line, self.place, cx, error)?;
         self.drop_octets();
         Ok(())
     }
 
-    /// What an event at its own place does.
-    fn told<W: Words>(&mut self, cx: &mut Cx<'_, W>, what: &What) -> Result<(), Error>
-        ensures lends { LendsTheSame cx.old cx.new }
-        ensures ok { OnOk result (plain.tells Req.requests ReqMulti.requests what.now self.old (view_of W.stream cx.old) ≡ Some (self.new, view_of W.stream cx.new)) }
-        ensures numbers { IsErrOf result Error.NumbersUsed → plain.tells Req.requests ReqMulti.requests what.now self.old (view_of W.stream cx.old) ≡ None }
+    /// Hears an event at its own place.
+    fn hear_event<W: Words>(&mut self, cx: &mut Cx<'_, W>, what: &What) -> Result<(), Error>
+        ensures follows { Follows W.stream cx.old cx.new result (plain.tells Req.requests ReqMulti.requests what.now self.old) self.new }
         ensures keeps { self.new.failed ≡ self.old.failed }
-        ensures want { IfErr result IsWant }
     {
         match what {
             What::Bytes { octets, .. } => {
                 self.framer.feed(octets.as_slice())?;
-                self.read(cx)
+                self.read_frame(cx)
             }
             What::Wrote { count, .. } => {
                 wrote(&mut self.line, self.place, &self.config, cx, *count)?;
                 self.drop_octets();
                 Ok(())
             }
-            What::WriteFailed { fault, .. } => {
-                self.close(cx, Error::StreamWriteError(*fault))?;
-                Ok(())
-            }
-            What::ReadFailed { fault, .. } => {
-                self.close(cx, Error::StreamReadError(*fault))?;
-                Ok(())
-            }
+            What::WriteFailed { fault, .. } => self.close(cx, Error::StreamWriteError(*fault)),
+            What::ReadFailed { fault, .. } => self.close(cx, Error::StreamReadError(*fault)),
             What::Ended { .. } => {
                 let error = self.end_error();
-                self.close(cx, error)?;
-                Ok(())
+                self.close(cx, error)
             }
             _ => Ok(()),
         }
@@ -306,13 +257,10 @@ impl<Req: ComposeRequest, ReqMulti: ComposeRequestMulti> Connection<Req, ReqMult
         }
     }
 
-    /// What a signal does.
-    fn hear<W: Words>(&mut self, cx: &mut Cx<'_, W>, signal: Signal<'_>) -> Result<(), Error>
-        ensures lends { LendsTheSame cx.old cx.new }
-        ensures ok { OnOk result (plain.plain_step Req.requests ReqMulti.requests (heard signal.entry) self.old (view_of W.stream cx.old) ≡ Some (self.new, view_of W.stream cx.new)) }
-        ensures numbers { IsErrOf result Error.NumbersUsed → plain.plain_step Req.requests ReqMulti.requests (heard signal.entry) self.old (view_of W.stream cx.old) ≡ None }
+    /// Hears a signal, unless the connection has ended.
+    fn hear_signal<W: Words>(&mut self, cx: &mut Cx<'_, W>, signal: Signal<'_>) -> Result<(), Error>
+        ensures follows { Follows W.stream cx.old cx.new result (plain.plain_step Req.requests ReqMulti.requests (heard signal.entry) self.old) self.new }
         ensures keeps { self.new.failed ≡ self.old.failed }
-        ensures want { IfErr result IsWant }
     {
         if self.line.has_ended() {
             return Ok(());
@@ -320,20 +268,20 @@ impl<Req: ComposeRequest, ReqMulti: ComposeRequestMulti> Connection<Req, ReqMult
         match signal {
             Signal::Told(what) => {
                 if is_at(self.place, what) {
-                    self.told(cx, what)
+                    self.hear_event(cx, what)
                 } else {
                     Ok(())
                 }
             }
             Signal::More { place } => {
                 if self.place == place {
-                    self.read(cx)
+                    self.read_frame(cx)
                 } else {
                     Ok(())
                 }
             }
             Signal::Due(timer) => {
-                fire(&mut self.line, self.place, cx, timer.0)?;
+                end_by_timer(&mut self.line, self.place, cx, timer.0)?;
                 self.drop_octets();
                 Ok(())
             }
@@ -343,7 +291,7 @@ impl<Req: ComposeRequest, ReqMulti: ComposeRequestMulti> Connection<Req, ReqMult
 
 impl<Req: ComposeRequest, ReqMulti: ComposeRequestMulti> SendRequest<Req>
     for Connection<Req, ReqMulti> {
-    type Response = Request;
+    type Response = Pending;
 
     ghost has_failed = { λ c. c.failed };
 
@@ -355,25 +303,18 @@ impl<Req: ComposeRequest, ReqMulti: ComposeRequestMulti> SendRequest<Req>
         &mut self,
         cx: &mut Cx<'_, W>,
         request: Req,
-    ) -> Result<Request, Error> {
+    ) -> Result<Pending, Error> {
         self.get_request(cx, request)
     }
 
     fn step<W: Words>(&mut self, cx: &mut Cx<'_, W>, signal: Signal<'_>) -> Result<(), Error> {
-        if self.failed {
-            return Err(Error::Failed);
-        }
-        let result = self.hear(cx, signal);
-        if result.is_err() {
-            self.failed = true;
-        }
-        result
+        self.failed.check()?;
+        let heard = self.hear_signal(cx, signal);
+        self.failed.keep(heard)
     }
 
-    fn cancel<W: Words>(&mut self, cx: &mut Cx<'_, W>, response: Request) -> Result<(), Error> {
-        if self.failed {
-            return Err(Error::Failed);
-        }
+    fn cancel<W: Words>(&mut self, cx: &mut Cx<'_, W>, response: Pending) -> Result<(), Error> {
+        self.failed.check()?;
         give_up(&mut self.line, response.ticket());
         Ok(())
     }
@@ -406,9 +347,7 @@ impl<Req: ComposeRequest, ReqMulti: ComposeRequestMulti> SendRequestMulti<ReqMul
         cx: &mut Cx<'_, W>,
         response: RequestMulti,
     ) -> Result<(), Error> {
-        if self.failed {
-            return Err(Error::Failed);
-        }
+        self.failed.check()?;
         give_up(&mut self.line, response.ticket());
         Ok(())
     }

@@ -103,7 +103,7 @@ impl Framer {
         }
         let end = 2 + body_size(left);
         let frame = Octets::from_slice(self.alloc, &left[2..end])?;
-        self.take(end);
+        self.drop_front(end);
         Ok(Some(frame))
     }
 
@@ -115,8 +115,8 @@ impl Framer {
         left.len() - left_from(left) >= 2
     }
 
-    /// Takes octets from the front.
-    fn take(&mut self, count: usize)
+    /// Drops octets from the front.
+    fn drop_front(&mut self, count: usize)
         requires { count ≤ length self.old }
         ensures { self.new ≡ drop count self.old }
     {

@@ -1,14 +1,14 @@
 //! Frames that come, and who gets their messages.
 
-ghost use Rattle.std.specs.Prelude.{◌≡◌, ◌<◌, length, None, Some, OnOk, IsErrOf, IfErr};
-ghost use Rattle.client_request.specs.Cx.{view_of, LendsTheSame};
+ghost use Rattle.std.specs.Prelude.{◌≡◌, ◌<◌, length, None};
+ghost use Rattle.client_request.specs.Calls.{Follows};
 ghost use Rattle.client_request.specs.Numbered.{entry_at};
-ghost use Rattle.client_request.specs.Timers.{IsWant};
+ghost use Rattle.client_stream.specs.Calls.{Leaves};
 ghost use Rattle.client_stream.specs.declared.request.Holder.TheVariants as holder;
 ghost use Rattle.client_stream.specs.Plain as plain;
 
 use crate::keepalive::idle_time_told;
-use crate::line::{Line, activate, end, settle};
+use crate::line::{Line, become_active, become_idle_if_unused, end_with};
 use crate::request::Holder;
 use crate::transfer::part_of;
 use client_request::{ComposeRequest, ComposeRequestMulti, Cx, Error, Words};
@@ -27,8 +27,7 @@ fn deliver_part<Req: ComposeRequest, ReqMulti: ComposeRequestMulti, W: Words>(
     requires below { plain.message_id message < line.old.held.mark }
     requires free { entry_at (plain.message_id message) line.old.held.held ≡ None }
     requires room { length line.old.held.held < 32768 }
-    ensures lends { LendsTheSame cx.old cx.new }
-    ensures ok { OnOk result (plain.given Req.requests ReqMulti.requests message line.old (view_of W.stream cx.old) (holder.Transfers ticket request state) ≡ (line.new, view_of W.stream cx.new)) }
+    ensures leaves { Leaves W.stream cx.old cx.new result (λ v. plain.delivers Req.requests ReqMulti.requests message line.old v (holder.Transfers ticket request state)) line.new }
 {
     let id = message.header().id();
     let (ends, state, taken) = check_stream(&request, state, &message);
@@ -57,8 +56,7 @@ fn deliver<Req: ComposeRequest, ReqMulti: ComposeRequestMulti, W: Words>(
     requires below { plain.message_id message < line.old.held.mark }
     requires free { entry_at (plain.message_id message) line.old.held.held ≡ None }
     requires room { length line.old.held.held < 32768 }
-    ensures lends { LendsTheSame cx.old cx.new }
-    ensures ok { OnOk result (plain.given Req.requests ReqMulti.requests message line.old (view_of W.stream cx.old) holder ≡ (line.new, view_of W.stream cx.new)) }
+    ensures leaves { Leaves W.stream cx.old cx.new result (λ v. plain.delivers Req.requests ReqMulti.requests message line.old v holder) line.new }
 {
     match holder {
         Holder::GivenUp => Ok(()),
@@ -87,17 +85,14 @@ fn release<Req: ComposeRequest, ReqMulti: ComposeRequestMulti, W: Words>(
     cx: &mut Cx<'_, W>,
     message: Message,
 ) -> Result<(), Error>
-    ensures lends { LendsTheSame cx.old cx.new }
-    ensures ok { OnOk result (plain.releases Req.requests ReqMulti.requests place message line.old (view_of W.stream cx.old) ≡ Some (line.new, view_of W.stream cx.new)) }
-    ensures numbers { IsErrOf result Error.NumbersUsed → plain.releases Req.requests ReqMulti.requests place message line.old (view_of W.stream cx.old) ≡ None }
-    ensures want { IfErr result IsWant }
+    ensures follows { Follows W.stream cx.old cx.new result (plain.releases Req.requests ReqMulti.requests place message line.old) line.new }
 {
     let id = message.header().id();
     let Some(holder) = line.held.try_remove(id) else {
         return Ok(());
     };
     deliver(line, cx, message, holder)?;
-    settle(line, place, cx)
+    become_idle_if_unused(line, place, cx)
 }
 
 /// A message came: the connection is active, and who held the message's id gets it.
@@ -107,13 +102,10 @@ fn hear_message<Req: ComposeRequest, ReqMulti: ComposeRequestMulti, W: Words>(
     cx: &mut Cx<'_, W>,
     message: Message,
 ) -> Result<(), Error>
-    ensures lends { LendsTheSame cx.old cx.new }
-    ensures ok { OnOk result (plain.comes Req.requests ReqMulti.requests place message line.old (view_of W.stream cx.old) ≡ Some (line.new, view_of W.stream cx.new)) }
-    ensures numbers { IsErrOf result Error.NumbersUsed → plain.comes Req.requests ReqMulti.requests place message line.old (view_of W.stream cx.old) ≡ None }
-    ensures want { IfErr result IsWant }
+    ensures follows { Follows W.stream cx.old cx.new result (plain.message_comes Req.requests ReqMulti.requests place message line.old) line.new }
 {
     line.idle_time = idle_time_told(&message).unwrap_or(line.idle_time);
-    activate(line, cx)?;
+    become_active(line, cx)?;
     release(line, place, cx, message)
 }
 
@@ -124,16 +116,10 @@ pub(crate) fn hear_frame<Req: ComposeRequest, ReqMulti: ComposeRequestMulti, W: 
     cx: &mut Cx<'_, W>,
     frame: Octets,
 ) -> Result<(), Error>
-    ensures lends { LendsTheSame cx.old cx.new }
-    ensures ok { OnOk result (plain.frame_comes Req.requests ReqMulti.requests place frame line.old (view_of W.stream cx.old) ≡ Some (line.new, view_of W.stream cx.new)) }
-    ensures numbers { IsErrOf result Error.NumbersUsed → plain.frame_comes Req.requests ReqMulti.requests place frame line.old (view_of W.stream cx.old) ≡ None }
-    ensures want { IfErr result IsWant }
+    ensures follows { Follows W.stream cx.old cx.new result (plain.frame_comes Req.requests ReqMulti.requests place frame line.old) line.new }
 {
     match Message::from_octets(frame) {
         Ok(message) => hear_message(line, place, cx, message),
-        Err(_) => {
-            end(line, place, cx, Error::ShortMessage)?;
-            Ok(())
-        }
+        Err(_) => end_with(line, place, cx, Error::ShortMessage),
     }
 }

@@ -1,20 +1,30 @@
 //! A connection without the octets that come: who holds its ids, who waits, and where it is.
 
-ghost use Rattle.std.specs.Prelude.{◌≡◌, ◌+◌, ◌<◌, ℕ, length, [], Some, None, Ok, Err, IsSome, OnOk, IsErrOf, IfErr, IfOk};
+ghost use Rattle.std.specs.Prelude.{◌≡◌, ◌+◌, ◌<◌, ℕ, length, [], Some, None, Ok, Err, IsSome, OnOk, IfOk};
+ghost use Rattle.client_request.specs.Calls.{Follows, FollowsStep};
 ghost use Rattle.client_request.specs.Cx.{view_of, LendsTheSame};
 ghost use Rattle.client_request.specs.View.{sets_timer};
-ghost use Rattle.client_request.specs.Timers.{IsWant};
 ghost use Rattle.client_stream.specs.Plain as plain;
 
 use crate::config::Config;
 use crate::queries::Queries;
-use crate::request::{AnyRequest, Holder, Waiting};
-use crate::stage::Stage;
+use crate::request::{AnyRequest, Holder, QueuedRequest};
 use client_request::{Board, ComposeRequest, ComposeRequestMulti, Cx, Error, Out, TimerId, Words};
 use dns_base::{Duration, NoMemory, Octets};
 use number_table::NumberTable;
 use std::alloc::Global;
 use std::marker::Model;
+
+/// Where a connection is. It is new until a request or a frame came; active until nobody waits for a
+/// frame, with a timer that fires where none comes in time, counted from the moment of its first request
+/// or last frame, in microseconds; idle until its idle time has passed; ended for good.
+#[derive(Clone, Copy, Debug, PartialEq, Eq)]
+pub enum LineStage {
+    New,
+    Active { timer: u64, since: u64 },
+    Idle { timer: u64 },
+    Ended,
+}
 
 /// Who holds each id, the id of each request that waits for its answer, the requests that were not
 /// written yet, and where the connection is. Tickets rise, so the least that is queued came first.
@@ -23,10 +33,10 @@ pub struct Line<Req, ReqMulti> {
     pub(crate) alloc: Global,
     pub(crate) held: Queries<Holder<Req, ReqMulti>>,
     pub(crate) ids: NumberTable<u16>,
-    pub(crate) queue: NumberTable<Waiting<Req, ReqMulti>>,
+    pub(crate) queue: NumberTable<QueuedRequest<Req, ReqMulti>>,
     /// What is outstanding of the frame that is being written.
     pub(crate) writing: Option<Octets>,
-    pub(crate) stage: Stage,
+    pub(crate) stage: LineStage,
     /// How long it waits for a frame while it is active, by the request taken last.
     pub(crate) timeout: Duration,
     /// How long it stays open while nobody waits for a frame.
@@ -62,7 +72,7 @@ impl<Req: Drop, ReqMulti: Drop> Line<Req, ReqMulti> {
             ids: NumberTable::new(alloc),
             queue: NumberTable::new(alloc),
             writing: None,
-            stage: Stage::New,
+            stage: LineStage::New,
             timeout: config.response_timeout(),
             idle_time: config.idle_timeout(),
             had_keepalive: false,
@@ -74,8 +84,8 @@ impl<Req: Drop, ReqMulti: Drop> Line<Req, ReqMulti> {
         ensures { result ≡ plain.has_ended self.now.stage }
     {
         match self.stage {
-            Stage::Ended => true,
-            Stage::New | Stage::Active { .. } | Stage::Idle { .. } => false,
+            LineStage::Ended => true,
+            LineStage::New | LineStage::Active { .. } | LineStage::Idle { .. } => false,
         }
     }
 
@@ -84,8 +94,8 @@ impl<Req: Drop, ReqMulti: Drop> Line<Req, ReqMulti> {
         ensures { result ≡ plain.timer_at self.now.stage }
     {
         match self.stage {
-            Stage::Active { timer, .. } | Stage::Idle { timer } => Some(timer),
-            Stage::New | Stage::Ended => None,
+            LineStage::Active { timer, .. } | LineStage::Idle { timer } => Some(timer),
+            LineStage::New | LineStage::Ended => None,
         }
     }
 
@@ -126,7 +136,7 @@ fn fail_holders<Req: Drop, ReqMulti: Drop>(
 /// Gives an error to the requests that were not written, in order.
 fn fail_queued<Req: Drop, ReqMulti: Drop>(
     board: &mut Board,
-    queue: &mut NumberTable<Waiting<Req, ReqMulti>>,
+    queue: &mut NumberTable<QueuedRequest<Req, ReqMulti>>,
 ) -> Result<(), NoMemory>
     ensures ok { OnOk result (board.new ≡ plain.fails_queued queue.old board.old) }
     ensures empty { OnOk result (queue.new ≡ []) }
@@ -138,118 +148,103 @@ fn fail_queued<Req: Drop, ReqMulti: Drop>(
 }
 
 /// Drops the timer that is set at a stage.
-fn stop<W: Words>(cx: &mut Cx<'_, W>, stage: Stage)
+fn drop_own_timer<W: Words>(cx: &mut Cx<'_, W>, stage: LineStage)
     ensures lends { LendsTheSame cx.old cx.new }
-    ensures stopped { view_of W.stream cx.new ≡ plain.stops stage (view_of W.stream cx.old) }
+    ensures stopped { view_of W.stream cx.new ≡ plain.drops_own_timer stage (view_of W.stream cx.old) }
 {
     match stage {
-        Stage::Active { timer, .. } | Stage::Idle { timer } => cx.timers.cancel(TimerId(timer)),
-        Stage::New | Stage::Ended => {}
+        LineStage::Active { timer, .. } | LineStage::Idle { timer } => cx
+            .timers
+            .cancel(TimerId(timer)),
+        LineStage::New | LineStage::Ended => {}
     }
 }
 
 /// Ends the connection: those who hold an id get an error in order of ids, then the queued requests
 /// theirs.
-pub(crate) fn end<Req: ComposeRequest, ReqMulti: ComposeRequestMulti, W: Words>(
+pub(crate) fn end_with<Req: ComposeRequest, ReqMulti: ComposeRequestMulti, W: Words>(
     line: &mut Line<Req, ReqMulti>,
     place: u64,
     cx: &mut Cx<'_, W>,
     error: Error,
-) -> Result<(), NoMemory>
-    ensures lends { LendsTheSame cx.old cx.new }
-    ensures ok { OnOk result (plain.ends_with place error line.old (view_of W.stream cx.old) ≡ (line.new, view_of W.stream cx.new)) }
+) -> Result<(), Error>
+    ensures follows { Follows W.stream cx.old cx.new result (plain.ends place error line.old) line.new }
 {
     cx.outs.push(Out::Close { place })?;
-    stop(cx, line.stage);
+    drop_own_timer(cx, line.stage);
     let holders = line.held.drain()?;
     fail_holders(cx.board, &holders, error)?;
     fail_queued(cx.board, &mut line.queue)?;
     line.ids.clear();
     line.writing = None;
-    line.stage = Stage::Ended;
+    line.stage = LineStage::Ended;
     Ok(())
 }
 
 /// Sets the timer of a connection anew.
-fn restart<W: Words>(cx: &mut Cx<'_, W>, stage: Stage, due: u128) -> Result<u64, Error>
-    ensures lends { LendsTheSame cx.old cx.new }
-    ensures ok { OnOk result (sets_timer due (plain.stops stage (view_of W.stream cx.old)) ≡ Some (view_of W.stream cx.new)) }
+fn renew_timer<W: Words>(cx: &mut Cx<'_, W>, stage: LineStage, due: u128) -> Result<u64, Error>
+    ensures follows { FollowsStep cx.old cx.new result (sets_timer due (plain.drops_own_timer stage (view_of W.stream cx.old))) (view_of W.stream cx.new) }
     ensures timer { IfOk result (λ timer. timer ≡ (view_of W.stream cx.old).timers.next) }
-    ensures numbers { IsErrOf result Error.NumbersUsed → sets_timer due (plain.stops stage (view_of W.stream cx.old)) ≡ None }
-    ensures want { IfErr result IsWant }
 {
-    stop(cx, stage);
+    drop_own_timer(cx, stage);
     let timer = cx.timers.set(due)?;
     Ok(timer.0)
 }
 
 /// The connection is active, and ends one microsecond after the time for a frame has passed since a
 /// moment.
-fn wait_from<Req: ComposeRequest, ReqMulti: ComposeRequestMulti, W: Words>(
+fn await_frame_since<Req: ComposeRequest, ReqMulti: ComposeRequestMulti, W: Words>(
     line: &mut Line<Req, ReqMulti>,
     cx: &mut Cx<'_, W>,
     since: u64,
 ) -> Result<(), Error>
-    ensures lends { LendsTheSame cx.old cx.new }
-    ensures ok { OnOk result (plain.waits_from since line.old (view_of W.stream cx.old) ≡ Some (line.new, view_of W.stream cx.new)) }
-    ensures numbers { IsErrOf result Error.NumbersUsed → plain.waits_from since line.old (view_of W.stream cx.old) ≡ None }
-    ensures want { IfErr result IsWant }
+    ensures follows { Follows W.stream cx.old cx.new result (plain.awaits_frame_since since line.old) line.new }
 {
     let due = u128::from(since) + line.timeout.as_micros() + 1;
-    let timer = restart(cx, line.stage, due)?;
-    line.stage = Stage::Active { timer, since };
+    let timer = renew_timer(cx, line.stage, due)?;
+    line.stage = LineStage::Active { timer, since };
     Ok(())
 }
 
 /// The connection is active from now on.
-pub(crate) fn activate<Req: ComposeRequest, ReqMulti: ComposeRequestMulti, W: Words>(
+pub(crate) fn become_active<Req: ComposeRequest, ReqMulti: ComposeRequestMulti, W: Words>(
     line: &mut Line<Req, ReqMulti>,
     cx: &mut Cx<'_, W>,
 ) -> Result<(), Error>
-    ensures lends { LendsTheSame cx.old cx.new }
-    ensures ok { OnOk result (plain.activates line.old (view_of W.stream cx.old) ≡ Some (line.new, view_of W.stream cx.new)) }
-    ensures numbers { IsErrOf result Error.NumbersUsed → plain.activates line.old (view_of W.stream cx.old) ≡ None }
-    ensures want { IfErr result IsWant }
+    ensures follows { Follows W.stream cx.old cx.new result (plain.becomes_active line.old) line.new }
 {
     let now = cx.now.0;
-    wait_from(line, cx, now)
+    await_frame_since(line, cx, now)
 }
 
 /// The connection is idle from now on.
-fn rest<Req: ComposeRequest, ReqMulti: ComposeRequestMulti, W: Words>(
+fn become_idle<Req: ComposeRequest, ReqMulti: ComposeRequestMulti, W: Words>(
     line: &mut Line<Req, ReqMulti>,
     cx: &mut Cx<'_, W>,
 ) -> Result<(), Error>
-    ensures lends { LendsTheSame cx.old cx.new }
-    ensures ok { OnOk result (plain.rests line.old (view_of W.stream cx.old) ≡ Some (line.new, view_of W.stream cx.new)) }
-    ensures numbers { IsErrOf result Error.NumbersUsed → plain.rests line.old (view_of W.stream cx.old) ≡ None }
-    ensures want { IfErr result IsWant }
+    ensures follows { Follows W.stream cx.old cx.new result (plain.becomes_idle line.old) line.new }
 {
     let due = u128::from(cx.now.0) + line.idle_time.as_micros();
-    let timer = restart(cx, line.stage, due)?;
-    line.stage = Stage::Idle { timer };
+    let timer = renew_timer(cx, line.stage, due)?;
+    line.stage = LineStage::Idle { timer };
     Ok(())
 }
 
 /// Where nobody waits for a frame the connection is idle, or ends if it has no idle time.
-pub(crate) fn settle<Req: ComposeRequest, ReqMulti: ComposeRequestMulti, W: Words>(
+pub(crate) fn become_idle_if_unused<Req: ComposeRequest, ReqMulti: ComposeRequestMulti, W: Words>(
     line: &mut Line<Req, ReqMulti>,
     place: u64,
     cx: &mut Cx<'_, W>,
 ) -> Result<(), Error>
-    ensures lends { LendsTheSame cx.old cx.new }
-    ensures ok { OnOk result (plain.settles place line.old (view_of W.stream cx.old) ≡ Some (line.new, view_of W.stream cx.new)) }
-    ensures numbers { IsErrOf result Error.NumbersUsed → plain.settles place line.old (view_of W.stream cx.old) ≡ None }
-    ensures want { IfErr result IsWant }
+    ensures follows { Follows W.stream cx.old cx.new result (plain.becomes_idle_if_unused place line.old) line.new }
 {
     if !line.has_nothing() {
         return Ok(());
     }
     if line.idle_time.as_micros() == 0 {
-        end(line, place, cx, Error::StreamReceiveError)?;
-        return Ok(());
+        return end_with(line, place, cx, Error::StreamReceiveError);
     }
-    rest(line, cx)
+    become_idle(line, cx)
 }
 
 /// How long an active connection waits for a frame, by the request taken last.
@@ -272,59 +267,57 @@ fn retime<Req: ComposeRequest, ReqMulti: ComposeRequestMulti, W: Words>(
     timeout: Duration,
     since: u64,
 ) -> Result<(), Error>
-    ensures lends { LendsTheSame cx.old cx.new }
-    ensures ok { OnOk result (plain.retimes timeout since line.old (view_of W.stream cx.old) ≡ Some (line.new, view_of W.stream cx.new)) }
-    ensures numbers { IsErrOf result Error.NumbersUsed → plain.retimes timeout since line.old (view_of W.stream cx.old) ≡ None }
-    ensures want { IfErr result IsWant }
+    ensures follows { Follows W.stream cx.old cx.new result (plain.retimes timeout since line.old) line.new }
 {
     if timeout == line.timeout {
         return Ok(());
     }
     line.timeout = timeout;
-    wait_from(line, cx, since)
+    await_frame_since(line, cx, since)
 }
 
 /// A request is taken: the connection is active, from now on if it was not, and waits for a frame as
 /// long as the request says.
-pub(crate) fn wake<Req: ComposeRequest, ReqMulti: ComposeRequestMulti, W: Words>(
+pub(crate) fn become_active_for<Req: ComposeRequest, ReqMulti: ComposeRequestMulti, W: Words>(
     line: &mut Line<Req, ReqMulti>,
     cx: &mut Cx<'_, W>,
     timeout: Duration,
 ) -> Result<(), Error>
-    ensures lends { LendsTheSame cx.old cx.new }
-    ensures ok { OnOk result (plain.wakes timeout line.old (view_of W.stream cx.old) line.old.stage ≡ Some (line.new, view_of W.stream cx.new)) }
-    ensures numbers { IsErrOf result Error.NumbersUsed → plain.wakes timeout line.old (view_of W.stream cx.old) line.old.stage ≡ None }
-    ensures want { IfErr result IsWant }
+    ensures follows { Follows W.stream cx.old cx.new result (λ v. plain.becomes_active_for timeout line.old v line.old.stage) line.new }
 {
     match line.stage {
-        Stage::New | Stage::Idle { .. } => {
+        LineStage::New | LineStage::Idle { .. } => {
             line.timeout = timeout;
-            activate(line, cx)
+            become_active(line, cx)
         }
-        Stage::Active { since, .. } => retime(line, cx, timeout, since),
-        Stage::Ended => Ok(()),
+        LineStage::Active { since, .. } => retime(line, cx, timeout, since),
+        LineStage::Ended => Ok(()),
     }
 }
 
 /// A timer fired. Where it is the connection's own it ends: with an error where it was active, else
 /// nobody holds an id.
-pub(crate) fn fire<Req: ComposeRequest, ReqMulti: ComposeRequestMulti, W: Words>(
+pub(crate) fn end_by_timer<Req: ComposeRequest, ReqMulti: ComposeRequestMulti, W: Words>(
     line: &mut Line<Req, ReqMulti>,
     place: u64,
     cx: &mut Cx<'_, W>,
     fired: u64,
-) -> Result<(), NoMemory>
-    ensures lends { LendsTheSame cx.old cx.new }
-    ensures ok { OnOk result (plain.fires place fired line.old (view_of W.stream cx.old) line.old.stage ≡ Some (line.new, view_of W.stream cx.new)) }
+) -> Result<(), Error>
+    ensures follows { Follows W.stream cx.old cx.new result (λ v. plain.fires place fired line.old v line.old.stage) line.new }
 {
     match line.stage {
-        Stage::Active { timer, .. } if fired == timer => end(
+        LineStage::Active { timer, .. } if fired == timer => end_with(
             line,
             place,
             cx,
             Error::StreamReadTimeout,
         ),
-        Stage::Idle { timer } if fired == timer => end(line, place, cx, Error::StreamReceiveError),
+        LineStage::Idle { timer } if fired == timer => end_with(
+            line,
+            place,
+            cx,
+            Error::StreamReceiveError,
+        ),
         _ => Ok(()),
     }
 }

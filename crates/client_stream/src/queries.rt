@@ -3,8 +3,7 @@
 ghost use Rattle.std.specs.Prelude.{◌≡◌, ◌+◌, ◌↔◌, ◌==◌, ◌<◌, ◌≤◌, length, List, ℕ, Option, Some, None, Err, IsSome, IfOk, IfErr, OnOk, OnErr, OnSome, if◌then◌else◌, slice_set, slice_index_or, [], map};
 ghost use Rattle.std.specs.Vec.{vec_capacity};
 ghost use Rattle.client_request.specs.Numbered.{entry_at, puts};
-ghost use Rattle.client_stream.specs.IdTable.{no_ids, reuses, least_free, next_id, inserted, inserted_at, removed, items_of, AreSlotsOf, held_from, full_front};
-ghost use Rattle.client_stream.specs.InsertFault.{item_of};
+ghost use Rattle.client_stream.specs.IdTable.{no_ids, reuses, least_free, next_id, inserted, inserted_at, removed, items_of, item_of, AreSlotsOf, held_from, full_front};
 
 use dns_base::NoMemory;
 use std::alloc::Global;

@@ -1,16 +1,16 @@
 //! Requests that are taken and written.
 
-ghost use Rattle.std.specs.Prelude.{◌≡◌, None, Some, Ok, OnOk, IsErrOf, IfErr, IfOk};
-ghost use Rattle.client_request.specs.Cx.{view_of, LendsTheSame};
+ghost use Rattle.std.specs.Prelude.{◌≡◌, Some, Ok, IfOk};
+ghost use Rattle.client_request.specs.Calls.{Follows};
 ghost use Rattle.client_request.specs.View.{asks};
-ghost use Rattle.client_request.specs.Timers.{IsWant};
+ghost use Rattle.client_stream.specs.Calls.{Leaves};
 ghost use Rattle.client_stream.specs.declared.request.AnyRequest.TheVariants as any;
 ghost use Rattle.client_stream.specs.Plain as plain;
 
-use crate::composing::ready;
+use crate::composing::prepare_frame;
 use crate::config::Config;
-use crate::line::{Line, end, timeout_by, wake};
-use crate::request::{AnyRequest, Holder, Waiting};
+use crate::line::{Line, become_active_for, end_with, timeout_by};
+use crate::request::{AnyRequest, Holder, QueuedRequest};
 use crate::transfer::first_state;
 use client_request::{ComposeRequest, ComposeRequestMulti, Cx, Error, Fault, Out, Words};
 use client_transfer::XfrState;
@@ -18,7 +18,7 @@ use dns_base::{NoMemory, Octets};
 
 /// Writes a frame for who is to hold an id, or gives the result where there is none since the message is
 /// too long. The id is free again then.
-fn write<Req: ComposeRequest, ReqMulti: ComposeRequestMulti, W: Words>(
+fn write_frame<Req: ComposeRequest, ReqMulti: ComposeRequestMulti, W: Words>(
     line: &mut Line<Req, ReqMulti>,
     place: u64,
     cx: &mut Cx<'_, W>,
@@ -28,8 +28,7 @@ fn write<Req: ComposeRequest, ReqMulti: ComposeRequestMulti, W: Words>(
     holder: Holder<Req, ReqMulti>,
     frame: Option<Octets>,
 ) -> Result<(), NoMemory>
-    ensures lends { LendsTheSame cx.old cx.new }
-    ensures ok { OnOk result (plain.writes Req.requests ReqMulti.requests place ticket number id holder line.old (view_of W.stream cx.old) frame ≡ (line.new, view_of W.stream cx.new)) }
+    ensures leaves { Leaves W.stream cx.old cx.new result (λ v. plain.writes Req.requests ReqMulti.requests place ticket number id holder line.old v frame) line.new }
 {
     let Some(frame) = frame else {
         if line.held.insert(Holder::GivenUp).is_err() {
@@ -42,9 +41,7 @@ fn write<Req: ComposeRequest, ReqMulti: ComposeRequestMulti, W: Words>(
     if line.held.insert(holder).is_err() {
         return Err(NoMemory);
     }
-    if line.ids.insert(ticket, id).is_err() {
-        return Err(NoMemory);
-    }
+    line.ids.insert(ticket, id)?;
     cx.outs.push(Out::Write {
         place,
         request: number,
@@ -62,17 +59,16 @@ fn write_single<Req: ComposeRequest, ReqMulti: ComposeRequestMulti, W: Words>(
     number: u64,
     mut request: Req,
 ) -> Result<(), NoMemory>
-    ensures lends { LendsTheSame cx.old cx.new }
-    ensures ok { OnOk result (plain.prepares Req.requests ReqMulti.requests place ticket number (any.Single request) line.old (view_of W.stream cx.old) ≡ (line.new, view_of W.stream cx.new)) }
+    ensures leaves { Leaves W.stream cx.old cx.new result (plain.prepares Req.requests ReqMulti.requests place ticket number (any.Single request) line.old) line.new }
 {
     let Some(id) = line.held.next_id() else {
         return cx
             .board
             .put(ticket, Err(Error::StreamTooManyOutstandingQueries));
     };
-    let frame = ready(line.alloc, &mut line.had_keepalive, id, &mut request)?;
+    let frame = prepare_frame(line.alloc, &mut line.had_keepalive, id, &mut request)?;
     let holder = Holder::Waits { ticket, request };
-    write(line, place, cx, ticket, number, id, holder, frame)
+    write_frame(line, place, cx, ticket, number, id, holder, frame)
 }
 
 /// Writes a transfer, if there is an id for it.
@@ -85,25 +81,24 @@ fn write_transfer<Req: ComposeRequest, ReqMulti: ComposeRequestMulti, W: Words>(
     mut request: ReqMulti,
     state: XfrState,
 ) -> Result<(), NoMemory>
-    ensures lends { LendsTheSame cx.old cx.new }
-    ensures ok { OnOk result (plain.begins Req.requests ReqMulti.requests place ticket number request line.old (view_of W.stream cx.old) (Ok state) ≡ (line.new, view_of W.stream cx.new)) }
+    ensures leaves { Leaves W.stream cx.old cx.new result (λ v. plain.starts_transfer Req.requests ReqMulti.requests place ticket number request line.old v (Ok state)) line.new }
 {
     let Some(id) = line.held.next_id() else {
         return cx
             .board
             .put(ticket, Err(Error::StreamTooManyOutstandingQueries));
     };
-    let frame = ready(line.alloc, &mut line.had_keepalive, id, &mut request)?;
+    let frame = prepare_frame(line.alloc, &mut line.had_keepalive, id, &mut request)?;
     let holder = Holder::Transfers {
         ticket,
         request,
         state,
     };
-    write(line, place, cx, ticket, number, id, holder, frame)
+    write_frame(line, place, cx, ticket, number, id, holder, frame)
 }
 
 /// Begins a transfer, or gives the result where it asks for none.
-fn begin<Req: ComposeRequest, ReqMulti: ComposeRequestMulti, W: Words>(
+fn start_transfer<Req: ComposeRequest, ReqMulti: ComposeRequestMulti, W: Words>(
     line: &mut Line<Req, ReqMulti>,
     place: u64,
     cx: &mut Cx<'_, W>,
@@ -111,8 +106,7 @@ fn begin<Req: ComposeRequest, ReqMulti: ComposeRequestMulti, W: Words>(
     number: u64,
     request: ReqMulti,
 ) -> Result<(), NoMemory>
-    ensures lends { LendsTheSame cx.old cx.new }
-    ensures ok { OnOk result (plain.prepares Req.requests ReqMulti.requests place ticket number (any.Transfer request) line.old (view_of W.stream cx.old) ≡ (line.new, view_of W.stream cx.new)) }
+    ensures leaves { Leaves W.stream cx.old cx.new result (plain.prepares Req.requests ReqMulti.requests place ticket number (any.Transfer request) line.old) line.new }
 {
     match first_state(&request)? {
         Ok(state) => write_transfer(line, place, cx, ticket, number, request, state),
@@ -121,24 +115,21 @@ fn begin<Req: ComposeRequest, ReqMulti: ComposeRequestMulti, W: Words>(
 }
 
 /// A request is taken from the queue: it is written, if there is an id for it.
-fn take_next<Req: ComposeRequest, ReqMulti: ComposeRequestMulti, W: Words>(
+fn take_queued<Req: ComposeRequest, ReqMulti: ComposeRequestMulti, W: Words>(
     line: &mut Line<Req, ReqMulti>,
     place: u64,
     config: &Config,
     cx: &mut Cx<'_, W>,
     ticket: u64,
-    waiting: Waiting<Req, ReqMulti>,
+    waiting: QueuedRequest<Req, ReqMulti>,
 ) -> Result<(), Error>
-    ensures lends { LendsTheSame cx.old cx.new }
-    ensures ok { OnOk result (plain.takes Req.requests ReqMulti.requests place config.now ticket waiting line.old (view_of W.stream cx.old) ≡ Some (line.new, view_of W.stream cx.new)) }
-    ensures numbers { IsErrOf result Error.NumbersUsed → plain.takes Req.requests ReqMulti.requests place config.now ticket waiting line.old (view_of W.stream cx.old) ≡ None }
-    ensures want { IfErr result IsWant }
+    ensures follows { Follows W.stream cx.old cx.new result (plain.takes_queued Req.requests ReqMulti.requests place config.now ticket waiting line.old) line.new }
 {
-    wake(line, cx, timeout_by(config, &waiting.request))?;
-    let Waiting { number, request } = waiting;
+    become_active_for(line, cx, timeout_by(config, &waiting.request))?;
+    let QueuedRequest { number, request } = waiting;
     match request {
         AnyRequest::Single(request) => write_single(line, place, cx, ticket, number, request)?,
-        AnyRequest::Transfer(request) => begin(line, place, cx, ticket, number, request)?,
+        AnyRequest::Transfer(request) => start_transfer(line, place, cx, ticket, number, request)?,
     }
     Ok(())
 }
@@ -150,16 +141,13 @@ fn pump<Req: ComposeRequest, ReqMulti: ComposeRequestMulti, W: Words>(
     config: &Config,
     cx: &mut Cx<'_, W>,
 ) -> Result<(), Error>
-    ensures lends { LendsTheSame cx.old cx.new }
-    ensures ok { OnOk result (plain.pumps Req.requests ReqMulti.requests place config.now line.old.queue line.old (view_of W.stream cx.old) ≡ Some (line.new, view_of W.stream cx.new)) }
-    ensures numbers { IsErrOf result Error.NumbersUsed → plain.pumps Req.requests ReqMulti.requests place config.now line.old.queue line.old (view_of W.stream cx.old) ≡ None }
-    ensures want { IfErr result IsWant }
+    ensures follows { Follows W.stream cx.old cx.new result (plain.pumps Req.requests ReqMulti.requests place config.now line.old.queue line.old) line.new }
 {
     while line.writing.is_none() {
         let Some((ticket, waiting)) = line.queue.pop_first() else {
             return Ok(());
         };
-        take_next(line, place, config, cx, ticket, waiting)?;
+        take_queued(line, place, config, cx, ticket, waiting)?;
     }
     Ok(())
 }
@@ -172,28 +160,19 @@ pub(crate) fn take_on<Req: ComposeRequest, ReqMulti: ComposeRequestMulti, W: Wor
     cx: &mut Cx<'_, W>,
     request: AnyRequest<Req, ReqMulti>,
 ) -> Result<u64, Error>
-    ensures lends { LendsTheSame cx.old cx.new }
-    ensures ok { OnOk result (plain.takes_on Req.requests ReqMulti.requests place config.now request line.old (view_of W.stream cx.old) ≡ Some (line.new, view_of W.stream cx.new)) }
+    ensures follows { Follows W.stream cx.old cx.new result (plain.takes_on Req.requests ReqMulti.requests place config.now request line.old) line.new }
     ensures ticket { IfOk result (λ ticket. ticket ≡ cx.old.ticket) }
-    ensures numbers { IsErrOf result Error.NumbersUsed → plain.takes_on Req.requests ReqMulti.requests place config.now request line.old (view_of W.stream cx.old) ≡ None }
-    ensures want { IfErr result IsWant }
 {
-    let ticket = cx.ticket;
-    let Some(next) = ticket.checked_add(1) else {
-        return Err(Error::NumbersUsed);
-    };
-    let waiting = Waiting {
+    let ticket = cx.draw_ticket()?;
+    let waiting = QueuedRequest {
         number: cx.request,
         request,
     };
-    cx.ticket = next;
     if line.has_ended() {
         cx.board.put(ticket, Err(Error::ConnectionClosed))?;
         return Ok(ticket);
     }
-    if line.queue.insert(ticket, waiting).is_err() {
-        return Err(Error::NoMemory);
-    }
+    line.queue.insert(ticket, waiting)?;
     pump(line, place, config, cx)?;
     Ok(ticket)
 }
@@ -205,9 +184,7 @@ fn resume<Req: ComposeRequest, ReqMulti: ComposeRequestMulti, W: Words>(
     cx: &mut Cx<'_, W>,
     rest: Octets,
 ) -> Result<(), NoMemory>
-    ensures lends { LendsTheSame cx.old cx.new }
-    ensures line { OnOk result (line.new ≡ record line.old { writing = Some rest }) }
-    ensures view { OnOk result (view_of W.stream cx.new ≡ asks (Out.Resume place rest) (view_of W.stream cx.old)) }
+    ensures leaves { Leaves W.stream cx.old cx.new result (λ v. (record line.old { writing = Some rest }, asks (Out.Resume place rest) v)) line.new }
 {
     line.writing = Some(rest.try_clone()?);
     cx.outs.push(Out::Resume {
@@ -224,23 +201,19 @@ pub(crate) fn wrote<Req: ComposeRequest, ReqMulti: ComposeRequestMulti, W: Words
     cx: &mut Cx<'_, W>,
     count: u64,
 ) -> Result<(), Error>
-    ensures lends { LendsTheSame cx.old cx.new }
-    ensures ok { OnOk result (plain.wrote Req.requests ReqMulti.requests place config.now count line.old (view_of W.stream cx.old) line.old.writing ≡ Some (line.new, view_of W.stream cx.new)) }
-    ensures numbers { IsErrOf result Error.NumbersUsed → plain.wrote Req.requests ReqMulti.requests place config.now count line.old (view_of W.stream cx.old) line.old.writing ≡ None }
-    ensures want { IfErr result IsWant }
+    ensures follows { Follows W.stream cx.old cx.new result (λ v. plain.wrote Req.requests ReqMulti.requests place config.now count line.old v line.old.writing) line.new }
 {
     let Some(octets) = line.writing.take() else {
         return Ok(());
     };
     if count == 0 {
         let error = Error::StreamWriteError(Fault::NothingTaken);
-        end(line, place, cx, error)?;
-        return Ok(());
+        return end_with(line, place, cx, error);
     }
     if octets.as_slice().len() as u64 <= count {
         return pump(line, place, config, cx);
     }
-    let rest = Octets::from_slice(line.alloc, &octets.as_slice()[count as usize..])?;
+    let rest = octets.skipping(count as usize)?;
     resume(line, place, cx, rest)?;
     Ok(())
 }

@@ -14,8 +14,8 @@ use Rattle.client_stream.specs.Settings.{Settings}
 use Rattle.client_stream.specs.declared.request.AnyRequest.TheVariants.{Single}
 use Rattle.client_stream.specs.declared.request.Holder.{Holder}
 use Rattle.client_stream.specs.declared.request.Holder.TheVariants.{Waits, GivenUp}
-use Rattle.client_stream.specs.declared.request.Waiting.{Waiting}
-use Rattle.client_stream.specs.declared.stage.Stage.{Stage}
+use Rattle.client_stream.specs.declared.request.QueuedRequest.{QueuedRequest}
+use Rattle.client_stream.specs.declared.line.LineStage.{LineStage}
 use Rattle.headline.specs.Time.{response_timeout}
 use Rattle.headline.specs.machine.Streams.{Mode, Lined, Asker, Conn, Multi, moved, move, drop, with_at}
 use Rattle.client_ties.specs.PartTie.{Leads}
@@ -45,7 +45,7 @@ leads_as P Q None l g = tt
 leads_as P Q (Some y) l g = g y.0 y.1 l
 
 -- A line at one of its stages has not ended.
-pub is_open : (d : ℕ → Option ℕ) (idle : ℕ) (own : Stage) (mode : Mode) → StageFits d idle own mode → has_ended own ≡ false
+pub is_open : (d : ℕ → Option ℕ) (idle : ℕ) (own : LineStage) (mode : Mode) → StageFits d idle own mode → has_ended own ≡ false
 is_open d idle own mode (IsNew e m) = ap has_ended e
 is_open d idle own mode (IsActive timer since e m due) = ap has_ended e
 is_open d idle own mode (IsIdle timer since e m due) = ap has_ended e
@@ -54,7 +54,7 @@ module _ (server p : ℕ) (settings : Settings) (set : settings.response_timeout
   -- A request that is nowhere is queued, under the next ticket
 
   module _ (k : ℕ) (a : Asker) (is : m.asks k ≡ Some a) (away : IsAway p (m.asks k)) (new : names v.ticket ≡ None) (alone : (j : ℕ) → names j ≡ Some k → ⊥) (number : v.request ≡ k) (octets : IsOfOctets a.request) (heard : x.heard ≡ false) where
-    abbrev waiting : Waiting Request Request
+    abbrev waiting : QueuedRequest Request Request
     waiting = record { number = v.request; request = Single a.request }
 
     abbrev drawn : View
@@ -78,7 +78,7 @@ module _ (server p : ℕ) (settings : Settings) (set : settings.response_timeout
         order = line.fits.order;
         few = line.fits.few;
         ids = rises_below (λ (e : ℕ × ℕ). e.0) 0 v.ticket (v.ticket + 1) s.ids (up v.ticket) line.fits.ids;
-        queue = sorted_puts v.ticket waiting 0 (v.ticket + 1) s.queue (zero_le v.ticket) (over v.ticket) (rises_below (λ (e : ℕ × Waiting Request Request). e.0) 0 v.ticket (v.ticket + 1) s.queue (up v.ticket) line.fits.queue);
+        queue = sorted_puts v.ticket waiting 0 (v.ticket + 1) s.queue (zero_le v.ticket) (over v.ticket) (rises_below (λ (e : ℕ × QueuedRequest Request Request). e.0) 0 v.ticket (v.ticket + 1) s.queue (up v.ticket) line.fits.queue);
       };
     }
 
@@ -100,7 +100,7 @@ gone : (p : ℕ) → IsAway p None
 gone p = record { lined = λ a e g. (let z : None ≡ Some a = e in cc); holding = λ a d e g. (let z : None ≡ Some a = e in cc) }
 
 module _ (p : ℕ) (names : ℕ → Option ℕ) (m : Multi) (x : Conn) (s : SingleLine) (v : View) (line : IsLineAt p names s m x (dues v) v.ticket) (i k : ℕ) (named : names i ≡ Some k) where
-  from_queue : (w : Waiting Request Request) → entry_at i s.queue ≡ Some w → IsLineAt p names (record s { queue = frees i s.queue }) (drop k m) x (dues v) v.ticket
+  from_queue : (w : QueuedRequest Request Request) → entry_at i s.queue ≡ Some w → IsLineAt p names (record s { queue = frees i s.queue }) (drop k m) x (dues v) v.ticket
   from_queue w e = record {
     conn = line.conn;
     seated = subst (AreSeated p names)
@@ -155,7 +155,7 @@ module _ (p : ℕ) (names : ℕ → Option ℕ) (m : Multi) (x : Conn) (s : Sing
       none e = let z = sym (ap (entry_at id) e) ∙ at in cc
 
   -- whoever it was, it is no more
-  pub gives_up_so : ((w : Waiting Request Request) × (entry_at i s.queue ≡ Some w)) ⊎ ((entry_at i s.queue ≡ None) × (id : ℕ) × (entry_at i s.ids ≡ Some id)) → IsLineAt p names (gives_up i s) (drop k m) x (dues v) v.ticket
+  pub gives_up_so : ((w : QueuedRequest Request Request) × (entry_at i s.queue ≡ Some w)) ⊎ ((entry_at i s.queue ≡ None) × (id : ℕ) × (entry_at i s.ids ≡ Some id)) → IsLineAt p names (gives_up i s) (drop k m) x (dues v) v.ticket
   gives_up_so (inl e) = subst (λ o. IsLineAt p names (if is_some o then record s { queue = frees i s.queue } else gives_up_id i s (entry_at i s.ids)) (drop k m) x (dues v) v.ticket) (sym e.1) (from_queue e.0 e.1)
   gives_up_so (inr e) =
       let t = line.seated.by_ticket i e.1 e.2 in

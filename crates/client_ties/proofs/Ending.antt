@@ -10,12 +10,12 @@ use Rattle.client_request.specs.declared.board.Posted.{Posted}
 use Rattle.client_request.specs.declared.error.Error.{Error}
 use Rattle.client_request.specs.declared.error.Error.TheVariants as errors
 use Rattle.client_request.specs.declared.event.Out.TheVariants.{Close}
-use Rattle.client_stream.specs.Plain.{fails_holder, fails_holders, fails_queued, fails_all, stops, ends_with}
+use Rattle.client_stream.specs.Plain.{fails_holder, fails_holders, fails_queued, fails_all, drops_own_timer, ends_with}
 use Rattle.client_stream.specs.declared.request.Holder.{Holder}
 use Rattle.client_stream.specs.declared.request.Holder.TheVariants.{Waits, GivenUp}
-use Rattle.client_stream.specs.declared.request.Waiting.{Waiting}
-use Rattle.client_stream.specs.declared.stage.Stage.{Stage}
-use Rattle.client_stream.specs.declared.stage.Stage.TheVariants as at
+use Rattle.client_stream.specs.declared.request.QueuedRequest.{QueuedRequest}
+use Rattle.client_stream.specs.declared.line.LineStage.{LineStage}
+use Rattle.client_stream.specs.declared.line.LineStage.TheVariants as at
 use Rattle.headline.specs.Writes.{Written}
 use Rattle.headline.specs.machine.Streams.{Lined, Holding, Broken, Asker, Multi, moved, broken_at, every, end_at}
 use Rattle.client_ties.specs.Connections.{timer_of, dues, IsTimed, IsPostedTo, HasEnded}
@@ -82,7 +82,7 @@ module _ (p : ℕ) (names : ℕ → Option ℕ) (m : Multi) (x : Seats) (is_asks
       test n = grind (arith, nat_tests)
 
   -- who was there is broken
-  lined_breaks : (k : ℕ) (w : Waiting Request Request) → IsLined p k w x.asks → (a : Asker) × ((end_at p m).asks k ≡ Some a) × (a.phase ≡ Broken)
+  lined_breaks : (k : ℕ) (w : QueuedRequest Request Request) → IsLined p k w x.asks → (a : Asker) × ((end_at p m).asks k ≡ Some a) × (a.phase ≡ Broken)
   lined_breaks k w l = (
     moved l.ask Broken,
     ap (every (broken_at p)) (sym (ap (λ (f : ℕ → Option Asker). f k) is_asks) ∙ l.is) ∙ ap (λ ph. Some (moved l.ask ph)) (ap (broken_at p) l.phase ∙ ap (λ b. if b then Broken else Lined p) same_place),
@@ -141,10 +141,10 @@ module _ (p : ℕ) (names : ℕ → Option ℕ) (m : Multi) (x : Seats) (is_asks
   holders_fail error right [] a board = record { posts = []; put = sym (append-nil board); failing = tt; reached = λ i h. (let z = h.2 in cc) }
   holders_fail error right (e ∷ es) a board = holder_fails error right e es board (holder_is e.0 e.1 a.0 (seated.at_id e.0)) (holders_fail error right es a.1)
 
-  abbrev HasQueued : List (ℕ × Waiting Request Request) → ℕ → Type 0
-  HasQueued es i = (w : Waiting Request Request) × (entry_at i es ≡ Some w)
+  abbrev HasQueued : List (ℕ × QueuedRequest Request Request) → ℕ → Type 0
+  HasQueued es i = (w : QueuedRequest Request Request) × (entry_at i es ≡ Some w)
 
-  queued_fail : (es : List (ℕ × Waiting Request Request)) → AreEntries x.queue es → (board : List Posted) → Fails names (end_at p m).asks board (fails_queued es board) (HasQueued es)
+  queued_fail : (es : List (ℕ × QueuedRequest Request Request)) → AreEntries x.queue es → (board : List Posted) → Fails names (end_at p m).asks board (fails_queued es board) (HasQueued es)
   queued_fail [] a board = record { posts = []; put = sym (append-nil board); failing = tt; reached = λ i h. (let z = h.1 in cc) }
   queued_fail (e ∷ es) a board =
       let rest = queued_fail es a.1 (board ++ record { ticket = e.0; part = Err errors.StreamReceiveError } ∷ []) in
@@ -160,48 +160,48 @@ module _ (p : ℕ) (names : ℕ → Option ℕ) (m : Multi) (x : Seats) (is_asks
 -- The connection at p ends.
 module _ (p : ℕ) (names : ℕ → Option ℕ) (m : Multi) (written : ℕ → Option Written) (s : SingleLine) (v : View) (seated : AreSeated p names (seats_of s m.asks written)) (order : Sorted 0 s.held.mark s.held.held) (queue : Sorted 0 v.ticket s.queue) (fair : IsFair v) (error : Error) (right : error ≢ errors.WrongReplyForQuery) where
   -- the view once its timer is dropped
-  stopped : (own : Stage) → IsTimed own at.Ended v (stops own (asks (Close p) v))
+  stopped : (own : LineStage) → IsTimed own at.Ended v (drops_own_timer own (asks (Close p) v))
   stopped at.New = plain at.New
     where
-      plain : (own : Stage) → IsTimed own at.Ended v (asks (Close p) v)
+      plain : (own : LineStage) → IsTimed own at.Ended v (asks (Close p) v)
       plain own = timed_by own at.Ended v v (asks (Close p) v) refl refl refl refl refl (record { on = goes_nowhere v fair; owned = λ i e. absurd (cc); others = λ i due n e. e })
   stopped (at.Active timer since) = dropped timer (at.Active timer since) refl
     where
-      dropped : (timer : ℕ) (own : Stage) → timer_of own ≡ Some timer → IsTimed own at.Ended v (record (asks (Close p) v) { timers = cancelled timer v.timers })
+      dropped : (timer : ℕ) (own : LineStage) → timer_of own ≡ Some timer → IsTimed own at.Ended v (record (asks (Close p) v) { timers = cancelled timer v.timers })
       dropped timer own t = timed_by own at.Ended v (record v { timers = cancelled timer v.timers }) (record (asks (Close p) v) { timers = cancelled timer v.timers }) refl refl refl refl refl
           (record { on = goes_without v timer fair; owned = λ i e. absurd (cc); others = λ i due n e. dues_without v timer i fair ∙ (with_there timer None (dues v) i (λ same. n (t ∙ ap Some same)) ∙ e) })
   stopped (at.Idle timer) = dropped timer (at.Idle timer) refl
     where
-      dropped : (timer : ℕ) (own : Stage) → timer_of own ≡ Some timer → IsTimed own at.Ended v (record (asks (Close p) v) { timers = cancelled timer v.timers })
+      dropped : (timer : ℕ) (own : LineStage) → timer_of own ≡ Some timer → IsTimed own at.Ended v (record (asks (Close p) v) { timers = cancelled timer v.timers })
       dropped timer own t = timed_by own at.Ended v (record v { timers = cancelled timer v.timers }) (record (asks (Close p) v) { timers = cancelled timer v.timers }) refl refl refl refl refl
           (record { on = goes_without v timer fair; owned = λ i e. absurd (cc); others = λ i due n e. dues_without v timer i fair ∙ (with_there timer None (dues v) i (λ same. n (t ∙ ap Some same)) ∙ e) })
   stopped at.Ended = timed_by at.Ended at.Ended v v (asks (Close p) v) refl refl refl refl refl (record { on = goes_nowhere v fair; owned = λ i e. absurd (cc); others = λ i due n e. e })
 
-  board_of : (own : Stage) → (stops own (asks (Close p) v)).board ≡ v.board
+  board_of : (own : LineStage) → (drops_own_timer own (asks (Close p) v)).board ≡ v.board
   board_of at.New = refl
   board_of (at.Active timer since) = refl
   board_of (at.Idle timer) = refl
   board_of at.Ended = refl
 
-  outs_of : (own : Stage) → (stops own (asks (Close p) v)).outs ≡ v.outs ++ Close p ∷ []
+  outs_of : (own : LineStage) → (drops_own_timer own (asks (Close p) v)).outs ≡ v.outs ++ Close p ∷ []
   outs_of at.New = refl
   outs_of (at.Active timer since) = refl
   outs_of (at.Idle timer) = refl
   outs_of at.Ended = refl
 
-  more_of : (own : Stage) → (stops own (asks (Close p) v)).more ≡ v.more
+  more_of : (own : LineStage) → (drops_own_timer own (asks (Close p) v)).more ≡ v.more
   more_of at.New = refl
   more_of (at.Active timer since) = refl
   more_of (at.Idle timer) = refl
   more_of at.Ended = refl
 
-  ticket_of : (own : Stage) → (stops own (asks (Close p) v)).ticket ≡ v.ticket
+  ticket_of : (own : LineStage) → (drops_own_timer own (asks (Close p) v)).ticket ≡ v.ticket
   ticket_of at.New = refl
   ticket_of (at.Active timer since) = refl
   ticket_of (at.Idle timer) = refl
   ticket_of at.Ended = refl
 
-  place_of : (own : Stage) → (stops own (asks (Close p) v)).place ≡ v.place
+  place_of : (own : LineStage) → (drops_own_timer own (asks (Close p) v)).place ≡ v.place
   place_of at.New = refl
   place_of (at.Active timer since) = refl
   place_of (at.Idle timer) = refl
@@ -209,7 +209,7 @@ module _ (p : ℕ) (names : ℕ → Option ℕ) (m : Multi) (written : ℕ → O
 
   pub ends_so : HasEnded p names m s v (ends_with p error s v).1
   ends_so =
-      let u : View = stops s.stage (asks (Close p) v) in
+      let u : View = drops_own_timer s.stage (asks (Close p) v) in
       let h = holders_fail p names m (seats_of s m.asks written) refl seated error right s.held.held (all_entries 0 s.held.mark s.held.held order) u.board in
       let q = queued_fail p names m (seats_of s m.asks written) refl seated s.queue (all_entries 0 v.ticket s.queue queue) (fails_holders error (map (λ e. e.1) s.held.held) u.board) in
       record {

@@ -11,10 +11,10 @@ use Rattle.client_request.specs.declared.error.Error.{Error}
 use Rattle.client_request.specs.declared.error.Error.TheVariants as errors
 use Rattle.client_stream.specs.IdTable.{IdTable, removed}
 use Rattle.client_stream.specs.Keepalive.{idle_time_told}
-use Rattle.client_stream.specs.Plain.{message_id, ends_with, part_of, frees_id, releases, activates, settles, comes, frame_comes}
+use Rattle.client_stream.specs.Plain.{message_id, ends_with, part_of, frees_id, releases, becomes_active, becomes_idle_if_unused, message_comes, frame_comes}
 use Rattle.client_stream.specs.declared.request.Holder.{Holder}
 use Rattle.client_stream.specs.declared.request.Holder.TheVariants.{Waits, GivenUp}
-use Rattle.client_stream.specs.declared.stage.Stage.TheVariants as at
+use Rattle.client_stream.specs.declared.line.LineStage.TheVariants as at
 use Rattle.headline.specs.Frames.{is_bad}
 use Rattle.headline.specs.Messages.{Octets, answers as message_answers, id_in, keepalive_of}
 use Rattle.headline.specs.Timers.{told_idle}
@@ -131,7 +131,7 @@ module _ (p : ℕ) (names : ℕ → Option ℕ) (m : Multi) (x : Conn) (s : Sing
 
     -- it was given up
     late : entry_at (message_id f) s.held.held ≡ Some GivenUp → (y : Written) → entry_at id s.held.held ≡ Some GivenUp → x.ids id ≡ Some y → ((a : Asker) → m.asks y.request ≡ Some a → a.phase ≢ multi.Holding p id)
-        → Leads P (settles p (record now_active { held = freed }) w)
+        → Leads P (becomes_idle_if_unused p (record now_active { held = freed }) w)
     late there y here wr absent = settles_so p names m x s v line fair settled f good m Nothing (record now_active { held = freed }) w refl refl refl (λ k a e. e)
         (λ mode l. multi.IsLate x y mode line.conn good wr absent l)
         (λ next u asks board. GaveNothing refl (board ∙ r.alike.board) asks)
@@ -141,7 +141,7 @@ module _ (p : ℕ) (names : ℕ → Option ℕ) (m : Multi) (x : Conn) (s : Sing
 
     -- its result came
     result : (i k : ℕ) (q : Request) (y : Written) → entry_at (message_id f) s.held.held ≡ Some (Waits i q) → entry_at id s.held.held ≡ Some (Waits i q) → x.ids id ≡ Some y → y.request ≡ k → names i ≡ Some k → IsSent p id k q m.asks
-        → Leads P (settles p (record now_active { held = freed; ids = frees i s.ids }) (answers i (part_of for_one for_several f q) w))
+        → Leads P (becomes_idle_if_unused p (record now_active { held = freed; ids = frees i s.ids }) (answers i (part_of for_one for_several f q) w))
     result i k q y there here wr rq named sent = settles_so p names m x s v line fair settled f good (drop y.request m) (Gives y.request (result_of sent.ask.request id f)) (record now_active { held = freed; ids = frees i s.ids }) (answers i (part_of for_one for_several f q) w) refl refl refl
         (λ j a e. (was_there y.request m.asks j a e).1)
         (λ mode l. multi.IsResult x y mode sent.ask line.conn good wr (ap m.asks rq ∙ sent.is) sent.phase l)
@@ -172,14 +172,14 @@ module _ (p : ℕ) (names : ℕ → Option ℕ) (m : Multi) (x : Conn) (s : Sing
     released : Leads P (releases for_one for_several p f now_active w)
     released = at_holder (entry_at (message_id f) s.held.held) refl (ap (λ d. entry_at d s.held.held) (sym (same_id f))) (line.seated.at_id id)
 
-  heard : (good : is_bad f ≡ false) → Leads P (comes for_one for_several p f s v)
-  heard good = leads_on (λ t w. Leads P (releases for_one for_several p f t w)) P (λ t w. releases for_one for_several p f t w) (activates told v)
+  heard : (good : is_bad f ≡ false) → Leads P (message_comes for_one for_several p f s v)
+  heard good = leads_on (λ t w. Leads P (releases for_one for_several p f t w)) P (λ t w. releases for_one for_several p f t w) (becomes_active told v)
       (becomes_so (λ t w. Leads P (releases for_one for_several p f t w)) (λ timer. at.Active timer v.now) (v.now + s.timeout + 1) told v fair (omega arith) (λ w r. released good w r))
       (λ t u l. l)
 
   pub frame_so : Leads P (frame_comes for_one for_several p f s v)
   frame_so = by (nat_le 12 (length f)) refl
     where
-      by : (b : Bool) → nat_le 12 (length f) ≡ b → Leads P (if b then comes for_one for_several p f s v else Some (ends_with p errors.ShortMessage s v))
+      by : (b : Bool) → nat_le 12 (length f) ≡ b → Leads P (if b then message_comes for_one for_several p f s v else Some (ends_with p errors.ShortMessage s v))
       by true e = heard (not_bad f e)
       by false e = is_closed e

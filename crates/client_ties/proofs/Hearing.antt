@@ -9,11 +9,11 @@ use Rattle.client_request.specs.View.{View, asks}
 use Rattle.client_request.specs.declared.error.Error.TheVariants as errors
 use Rattle.client_request.specs.declared.event.Out.TheVariants.{Close}
 use Rattle.client_stream.specs.IdTable.{items_of}
-use Rattle.client_stream.specs.Plain.{message_id, has_nothing, settles, rests, stops, ends, ends_with, fails_holders, fails_queued}
+use Rattle.client_stream.specs.Plain.{message_id, has_nothing, becomes_idle_if_unused, becomes_idle, drops_own_timer, ends, ends_with, fails_holders, fails_queued}
 use Rattle.client_stream.specs.declared.request.Holder.{Holder}
-use Rattle.client_stream.specs.declared.request.Waiting.{Waiting}
-use Rattle.client_stream.specs.declared.stage.Stage.{Stage}
-use Rattle.client_stream.specs.declared.stage.Stage.TheVariants as at
+use Rattle.client_stream.specs.declared.request.QueuedRequest.{QueuedRequest}
+use Rattle.client_stream.specs.declared.line.LineStage.{LineStage}
+use Rattle.client_stream.specs.declared.line.LineStage.TheVariants as at
 use Rattle.headline.specs.Frames.{is_bad}
 use Rattle.headline.specs.Messages.{Octets, id_in, keepalive_of}
 use Rattle.headline.specs.Timers.{told_idle}
@@ -94,7 +94,7 @@ module _ (p : ℕ) (names : ℕ → Option ℕ) (m : Multi) (x : Conn) (s : Sing
     here mode = with_here p (Some (framed f mode x)) n.conns
 
     -- somebody is still waited for
-    someone : (es : List (ℕ × Holder Request Request)) → t.held.held ≡ es → (qs : List (ℕ × Waiting Request Request)) → t.queue ≡ qs → has_nothing t ≡ false → StaysActive m p (framed f (Active v.now) x)
+    someone : (es : List (ℕ × Holder Request Request)) → t.held.held ≡ es → (qs : List (ℕ × QueuedRequest Request Request)) → t.queue ≡ qs → has_nothing t ≡ false → StaysActive m p (framed f (Active v.now) x)
     someone (e ∷ es) is qs is_queue nothing = by (seated.at_id e.0)
       where
         at : entry_at e.0 t.held.held ≡ Some e.1
@@ -111,7 +111,7 @@ module _ (p : ℕ) (names : ℕ → Option ℕ) (m : Multi) (x : Conn) (s : Sing
         unwritten : WritingFits t.writing x.left → 0 < x.left
         unwritten (lines.IsWriting octets g h lt) = lt
         unwritten (lines.IsFree g h) = absurd (let a = sym is_queue ∙ (same_queue ∙ settled (sym same_writing ∙ g)) in cc)
-    someone [] is [] is_queue nothing = absurd (let a = sym (ap (λ (l : List (ℕ × Holder Request Request)). (length l == 0) && (length t.queue == 0)) is ∙ ap (λ (l : List (ℕ × Waiting Request Request)). (length l == 0)) is_queue) ∙ nothing in cc)
+    someone [] is [] is_queue nothing = absurd (let a = sym (ap (λ (l : List (ℕ × Holder Request Request)). (length l == 0) && (length t.queue == 0)) is ∙ ap (λ (l : List (ℕ × QueuedRequest Request Request)). (length l == 0)) is_queue) ∙ nothing in cc)
 
     goes_on : has_nothing t ≡ false → P t w
     goes_on nothing = record {
@@ -138,7 +138,7 @@ module _ (p : ℕ) (names : ℕ → Option ℕ) (m : Multi) (x : Conn) (s : Sing
     is_idle : t.held.held ≡ [] → LeavesMode m p (framed f (Idle v.now) x) v.now (Idle v.now)
     is_idle none = multi.Rests (nobody none)
 
-    rests_so : t.held.held ≡ [] → t.queue ≡ [] → (t.idle_time == 0) ≡ false → Leads P (rests t w)
+    rests_so : t.held.held ≡ [] → t.queue ≡ [] → (t.idle_time == 0) ≡ false → Leads P (becomes_idle t w)
     rests_so none queue idle_some = becomes_so P at.Idle (w.now + t.idle_time) t w timed.on.fair (later w.now t.idle_time idle_some) (λ u r. record {
       left = StaysOpen act (set_conn p (framed f (Idle v.now) x) n) (framed f (Idle v.now) x) (takes (Idle v.now) (is_idle none)) (gave (set_conn p (framed f (Idle v.now) x) n) u refl r.alike.board) (r.alike.outs ∙ outs)
           (record {
@@ -188,20 +188,20 @@ module _ (p : ℕ) (names : ℕ → Option ℕ) (m : Multi) (x : Conn) (s : Sing
         same : (n : ℕ) → (n == 0) ≡ true → n ≡ 0
         same n e = grind (arith, nat_tests)
 
-        stopped : (own : Stage) → (stops own (asks (Close p) w)).board ≡ w.board
+        stopped : (own : LineStage) → (drops_own_timer own (asks (Close p) w)).board ≡ w.board
         stopped at.New = refl
         stopped (at.Active timer since) = refl
         stopped (at.Idle timer) = refl
         stopped at.Ended = refl
 
         board : (ends_with p errors.StreamReceiveError t w).1.board ≡ w.board
-        board = ap (λ (q : List (ℕ × Waiting Request Request)). fails_queued q (fails_holders errors.StreamReceiveError (items_of t.held) (stops t.stage (asks (Close p) w)).board)) queue
-            ∙ (ap (λ (h : List (ℕ × Holder Request Request)). fails_holders errors.StreamReceiveError (map (λ e. e.1) h) (stops t.stage (asks (Close p) w)).board) none ∙ stopped t.stage)
+        board = ap (λ (q : List (ℕ × QueuedRequest Request Request)). fails_queued q (fails_holders errors.StreamReceiveError (items_of t.held) (drops_own_timer t.stage (asks (Close p) w)).board)) queue
+            ∙ (ap (λ (h : List (ℕ × Holder Request Request)). fails_holders errors.StreamReceiveError (map (λ e. e.1) h) (drops_own_timer t.stage (asks (Close p) w)).board) none ∙ stopped t.stage)
 
-    pub settles_so : Leads P (settles p t w)
+    pub settles_so : Leads P (becomes_idle_if_unused p t w)
     settles_so = by (has_nothing t) (t.idle_time == 0) refl refl
       where
-        by : (a b : Bool) → has_nothing t ≡ a → (t.idle_time == 0) ≡ b → Leads P (if a then (if b then ends p errors.StreamReceiveError t w else rests t w) else Some (t, w))
+        by : (a b : Bool) → has_nothing t ≡ a → (t.idle_time == 0) ≡ b → Leads P (if a then (if b then ends p errors.StreamReceiveError t w else becomes_idle t w) else Some (t, w))
         by false b g h = goes_on g
         by true true g h = (let z = none_held t g in closes_so z.0 z.1 h)
         by true false g h = (let z = none_held t g in rests_so z.0 z.1 h)

@@ -7,7 +7,7 @@ use Rattle.client_request.specs.Requests.{for_one, for_several}
 use Rattle.client_request.specs.View.{View, told, more_at}
 use Rattle.client_request.specs.declared.event.What.TheVariants.{Bytes}
 use Rattle.client_stream.specs.Frames.{has_frame, first_frame, behind_frame, body_size}
-use Rattle.client_stream.specs.Plain.{has_ended, octets_left, keeps, says_more, says as plain_says, takes_frame, reads, frame_comes, plain_step}
+use Rattle.client_stream.specs.Plain.{has_ended, octets_left, with_line, says_more, says_if_more as plain_says, takes_frame, reads, frame_comes, plain_step}
 use Rattle.headline.specs.Frames.{Reading, fed}
 use Rattle.headline.specs.Messages.{Octets}
 use Rattle.headline.specs.machine.Streams.{Conn, Multi, fed_by, set_conn}
@@ -56,7 +56,7 @@ says_ended fs u k e = ap (λ (o : List ℕ). if has_frame o then record u { more
 module _ (p : ℕ) (names : ℕ → Option ℕ) (m : Multi) (x : Conn) (l : Link Request) (v : View) (fair : IsFair v) where
   -- what the line leaves, with the octets behind the frame
   one_read : (f : Octets) (fs : List Octets) (place : l.place ≡ p) → Keeps (behind_frame l.octets) fs x.got → (o : Option (SingleLine × View)) → Leads (HasHeard p names m x l.line v f) o
-      → Leads (HasRead p names m x l v (f ∷ fs)) (plain_says (keeps l (behind_frame l.octets) o))
+      → Leads (HasRead p names m x l v (f ∷ fs)) (plain_says (with_line l (behind_frame l.octets) o))
   one_read f fs place kept None heard = tt
   one_read f fs place kept (Some y) heard = by (has_ended y.0.stage) refl
     where
@@ -84,7 +84,7 @@ module _ (p : ℕ) (names : ℕ → Option ℕ) (m : Multi) (x : Conn) (l : Link
       by None e = none_stands e fs refl
       by (Some f) e =
           let s = kept_is_read.some l.octets f fs x.got kept e in
-          subst (λ fs. Leads (HasRead p names m x l v fs) (plain_says (keeps l (behind_frame l.octets) (frame_comes for_one for_several l.place f l.line v)))) (sym s.1)
+          subst (λ fs. Leads (HasRead p names m x l v fs) (plain_says (with_line l (behind_frame l.octets) (frame_comes for_one for_several l.place f l.line v)))) (sym s.1)
           (one_read f s.0 place s.2 (frame_comes for_one for_several l.place f l.line v)
           (subst (λ q. Leads (HasHeard p names m x l.line v f) (frame_comes for_one for_several q f l.line v)) (sym place) (frame_so p names m x l.line v line fair settled f)))
 

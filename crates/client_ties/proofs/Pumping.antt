@@ -6,9 +6,9 @@ use Rattle.client_request.specs.Requests.{for_one, for_several}
 use Rattle.client_request.specs.View.{View}
 use Rattle.client_request.specs.declared.board.Posted.{Posted}
 use Rattle.client_request.specs.declared.event.Out.{Out}
-use Rattle.client_stream.specs.Plain.{takes, pumps}
+use Rattle.client_stream.specs.Plain.{takes_queued, pumps}
 use Rattle.client_stream.specs.Settings.{Settings}
-use Rattle.client_stream.specs.declared.request.Waiting.{Waiting}
+use Rattle.client_stream.specs.declared.request.QueuedRequest.{QueuedRequest}
 use Rattle.headline.specs.Time.{response_timeout}
 use Rattle.headline.specs.machine.Part.{Post}
 use Rattle.headline.specs.machine.Streams.{Conn, Multi}
@@ -97,17 +97,17 @@ module _ (server p : ℕ) (settings : Settings) (set : settings.response_timeout
   leads_as P Q None l g = tt
   leads_as P Q (Some y) l g = g y.0 y.1 l
 
-  pub pumps_so : (q : List (ℕ × Waiting Request Request)) (m : Multi) (x : Conn) (s : SingleLine) (v : View) → IsLineAt p names s m x (dues v) v.ticket → IsFair v → s.queue ≡ q → x.heard ≡ false → Pumps m x s v (pumps for_one for_several p settings q s v)
+  pub pumps_so : (q : List (ℕ × QueuedRequest Request Request)) (m : Multi) (x : Conn) (s : SingleLine) (v : View) → IsLineAt p names s m x (dues v) v.ticket → IsFair v → s.queue ≡ q → x.heard ≡ false → Pumps m x s v (pumps for_one for_several p settings q s v)
   pumps_so [] m x s v line fair queue heard = record { taken = taken_nothing server p names m x s v line fair; settled = λ e. queue }
   pumps_so (e ∷ q) m x s v line fair queue heard = by (is_some s.writing) refl (pumps_so q)
     where
       by : (b : Bool) → is_some s.writing ≡ b
           → ((m : Multi) (x : Conn) (s : SingleLine) (v : View) → IsLineAt p names s m x (dues v) v.ticket → IsFair v → s.queue ≡ q → x.heard ≡ false → Pumps m x s v (pumps for_one for_several p settings q s v))
-          → Pumps m x s v (if b then Some (s, v) else option_and_then (λ y. pumps for_one for_several p settings q y.0 y.1) (takes for_one for_several p settings e.0 e.1 (record s { queue = q }) v))
+          → Pumps m x s v (if b then Some (s, v) else option_and_then (λ y. pumps for_one for_several p settings q y.0 y.1) (takes_queued for_one for_several p settings e.0 e.1 (record s { queue = q }) v))
       by true f ih = record { taken = taken_nothing server p names m x s v line fair; settled = λ g. absurd (let z = sym (ap is_some g) ∙ f in cc) }
       by false f ih =
           let none = none_written s.writing x.left f line.fits.writing in
-          leads_on (TookOne server p names m x s v q) (HasPumped server p names m x s v) (λ t u. pumps for_one for_several p settings q t u) (takes for_one for_several p settings e.0 e.1 (record s { queue = q }) v)
+          leads_on (TookOne server p names m x s v q) (HasPumped server p names m x s v) (λ t u. pumps for_one for_several p settings q t u) (takes_queued for_one for_several p settings e.0 e.1 (record s { queue = q }) v)
           (takes_one server p settings set names m x s v e.0 e.1 q line fair queue none.0 none.1 heard)
           (λ t u took. leads_as (HasPumped server p names took.taken.made.state took.taken.conn t u) (HasPumped server p names m x s v) (pumps for_one for_several p settings q t u)
           (ih took.taken.made.state took.taken.conn t u took.taken.line took.taken.timed.on.fair took.queue (took.taken.heard ∙ heard))

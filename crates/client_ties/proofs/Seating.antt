@@ -5,7 +5,7 @@ use Rattle.client_request.specs.Request.{Request, is_answered}
 use Rattle.client_stream.specs.declared.request.AnyRequest.TheVariants.{Single}
 use Rattle.client_stream.specs.declared.request.Holder.{Holder}
 use Rattle.client_stream.specs.declared.request.Holder.TheVariants.{Waits, GivenUp}
-use Rattle.client_stream.specs.declared.request.Waiting.{Waiting}
+use Rattle.client_stream.specs.declared.request.QueuedRequest.{QueuedRequest}
 use Rattle.headline.specs.Messages.{Octets, answers}
 use Rattle.headline.specs.Writes.{Written}
 use Rattle.headline.specs.machine.Streams.{Lined, Holding, Asker, with_at}
@@ -25,17 +25,17 @@ module _ (p : ℕ) where
   sent_on : (id k j : ℕ) (w : Request) (v : Option Asker) (asks : ℕ → Option Asker) → (k ≡ j → ⊥) → IsSent p id j w asks → IsSent p id j w (with_at k v asks)
   sent_on id k j w v asks ne s = record { ask = s.ask; is = with_there k v asks j ne ∙ s.is; phase = s.phase; answered = s.answered }
 
-  lined_on : (k j : ℕ) (w : Waiting Request Request) (v : Option Asker) (asks : ℕ → Option Asker) → (k ≡ j → ⊥) → IsLined p j w asks → IsLined p j w (with_at k v asks)
+  lined_on : (k j : ℕ) (w : QueuedRequest Request Request) (v : Option Asker) (asks : ℕ → Option Asker) → (k ≡ j → ⊥) → IsLined p j w asks → IsLined p j w (with_at k v asks)
   lined_on k j w v asks ne l = record { number = l.number; ask = l.ask; is = with_there k v asks j ne ∙ l.is; phase = l.phase; request = l.request; octets = l.octets }
 
   -- one request is not at two seats
   away_or_sent : (id k j : ℕ) (w : Request) (asks : ℕ → Option Asker) → IsAway p (asks k) → IsSent p id j w asks → k ≡ j → ⊥
   away_or_sent id k j w asks away s e = away.holding s.ask id (ap asks e ∙ s.is) s.phase
 
-  away_or_lined : (k j : ℕ) (w : Waiting Request Request) (asks : ℕ → Option Asker) → IsAway p (asks k) → IsLined p j w asks → k ≡ j → ⊥
+  away_or_lined : (k j : ℕ) (w : QueuedRequest Request Request) (asks : ℕ → Option Asker) → IsAway p (asks k) → IsLined p j w asks → k ≡ j → ⊥
   away_or_lined k j w asks away l e = away.lined l.ask (ap asks e ∙ l.is) l.phase
 
-  lined_or_sent : (id k j : ℕ) (w : Waiting Request Request) (u : Request) (asks : ℕ → Option Asker) → IsLined p k w asks → IsSent p id j u asks → k ≡ j → ⊥
+  lined_or_sent : (id k j : ℕ) (w : QueuedRequest Request Request) (u : Request) (asks : ℕ → Option Asker) → IsLined p k w asks → IsSent p id j u asks → k ≡ j → ⊥
   lined_or_sent id k j w u asks l s e =
       let x : Some l.ask ≡ Some s.ask = sym l.is ∙ (ap asks e ∙ s.is) in
       let y : l.ask ≡ s.ask = cc in
@@ -65,7 +65,7 @@ module _ (p : ℕ) where
 
     -- A request is queued
 
-    pub lines_up : (x : Seats) (i k : ℕ) (w : Waiting Request Request) (b : Asker) → AreSeated p names x → IsAway p (x.asks k) → names i ≡ None → ((j : ℕ) → names j ≡ Some k → ⊥)
+    pub lines_up : (x : Seats) (i k : ℕ) (w : QueuedRequest Request Request) (b : Asker) → AreSeated p names x → IsAway p (x.asks k) → names i ≡ None → ((j : ℕ) → names j ≡ Some k → ⊥)
         → w.number ≡ k → w.request ≡ Single b.request → b.phase ≡ Lined p → IsOfOctets b.request
         → AreSeated p (with_at i (Some k) names) (record x { queue = with_at i (Some w) x.queue; asks = with_at k (Some b) x.asks })
     lines_up x i k w b seated away new alone number request phase octets = record {
@@ -92,7 +92,7 @@ module _ (p : ℕ) where
         unseen : (j l : ℕ) → names j ≡ Some l → i ≡ j → ⊥
         unseen j l e s = let f = ap names s in cc
 
-        here : (z : Waiting Request Request) → Some w ≡ Some z → IsLined p k z (with_at k (Some b) x.asks)
+        here : (z : QueuedRequest Request Request) → Some w ≡ Some z → IsLined p k z (with_at k (Some b) x.asks)
         here z e = subst (λ z. IsLined p k z (with_at k (Some b) x.asks)) (let y : w ≡ z = cc in y) (record { number = number; ask = b; is = with_here k (Some b) x.asks; phase = phase; request = request; octets = octets })
 
         at_id : (id : ℕ) → IdFits p names x id → IdFits p (with_at i (Some k) names) (record x { queue = with_at i (Some w) x.queue; asks = with_at k (Some b) x.asks }) id
@@ -105,7 +105,7 @@ module _ (p : ℕ) where
 
     -- A queued request leaves the place
 
-    pub leaves_queue : (x : Seats) (i k : ℕ) (w : Waiting Request Request) (v : Option Asker) → AreSeated p names x → x.queue i ≡ Some w → names i ≡ Some k → IsAway p v
+    pub leaves_queue : (x : Seats) (i k : ℕ) (w : QueuedRequest Request Request) (v : Option Asker) → AreSeated p names x → x.queue i ≡ Some w → names i ≡ Some k → IsAway p v
         → AreSeated p names (record x { queue = with_at i None x.queue; asks = with_at k v x.asks })
     leaves_queue x i k w v seated at named to = record {
       at_id = λ id. at_id id (seated.at_id id);
@@ -129,7 +129,7 @@ module _ (p : ℕ) where
 
     -- It is written under a free id
 
-    pub writes_there : (x : Seats) (i k id : ℕ) (w : Waiting Request Request) (u : Request) (b : Asker) (y : Written) → AreSeated p names x → x.queue i ≡ Some w → names i ≡ Some k → x.held id ≡ None
+    pub writes_there : (x : Seats) (i k id : ℕ) (w : QueuedRequest Request Request) (u : Request) (b : Asker) (y : Written) → AreSeated p names x → x.queue i ≡ Some w → names i ≡ Some k → x.held id ≡ None
         → b.phase ≡ Holding p id → y.request ≡ k → ((o : Octets) → is_answered o u ≡ answers b.request id o)
         → AreSeated p names (record {
           held = with_at id (Some (Waits i u)) x.held;
@@ -282,7 +282,7 @@ module _ (p : ℕ) where
       apart = λ j l k e f. (let s = was_there i names j k e in let t = was_there i names l k f in seated.apart j l k s.1 t.1);
     }
       where
-        unqueued : (j : ℕ) (w : Waiting Request Request) → x.queue j ≡ Some w → i ≡ j → ⊥
+        unqueued : (j : ℕ) (w : QueuedRequest Request Request) → x.queue j ≡ Some w → i ≡ j → ⊥
         unqueued j w e s = let f = ap x.queue s in cc
 
         with_id : (j id : ℕ) → x.ids j ≡ Some id → i ≡ j → ⊥

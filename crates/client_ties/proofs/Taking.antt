@@ -10,12 +10,12 @@ use Rattle.client_request.specs.declared.error.Error.{Error}
 use Rattle.client_request.specs.declared.error.Error.TheVariants as errors
 use Rattle.client_request.specs.declared.event.Out.TheVariants.{Write}
 use Rattle.client_stream.specs.IdTable.{IdTable, next_id, inserted, removed}
-use Rattle.client_stream.specs.Plain.{takes, prepares, wakes, timeout_by, numbers, writes, frame_of, readied, had_by}
+use Rattle.client_stream.specs.Plain.{takes_queued, prepares, becomes_active_for, timeout_by, takes_free_id, writes, frame_of, readied, had_by}
 use Rattle.client_stream.specs.Settings.{Settings}
 use Rattle.client_stream.specs.declared.request.AnyRequest.TheVariants.{Single}
 use Rattle.client_stream.specs.declared.request.Holder.{Holder}
 use Rattle.client_stream.specs.declared.request.Holder.TheVariants.{Waits, GivenUp}
-use Rattle.client_stream.specs.declared.request.Waiting.{Waiting}
+use Rattle.client_stream.specs.declared.request.QueuedRequest.{QueuedRequest}
 use Rattle.headline.specs.Time.{response_timeout, id_count, all_ids, count_below}
 use Rattle.headline.specs.Writes.{Written}
 use Rattle.headline.specs.machine.Streams as multi
@@ -40,7 +40,7 @@ use Rattle.client_ties.proofs.Tables.{rises_below, sorted_puts, sorted_frees, pu
 use Rattle.client_ties.proofs.Waking.{IsWoken, woken}
 
 -- One was taken, and the others are still queued.
-pub record TookOne (server p : ℕ) (names : ℕ → Option ℕ) (m : Multi) (x : Conn) (s : SingleLine) (v : View) (q : List (ℕ × Waiting Request Request)) (t : SingleLine) (w : View) : Type 0 where
+pub record TookOne (server p : ℕ) (names : ℕ → Option ℕ) (m : Multi) (x : Conn) (s : SingleLine) (v : View) (q : List (ℕ × QueuedRequest Request Request)) (t : SingleLine) (w : View) : Type 0 where
   pub taken : HasTaken server p names m x s v t w
   pub queue : t.queue ≡ q
 
@@ -64,7 +64,7 @@ so_many = refl
 empty : {A : Type 0} {xs : List A} → xs ≡ [] → length xs ≡ 32768 → ⊥
 empty e f = let g = ap length e in omega arith
 
-module _ (server p : ℕ) (settings : Settings) (set : settings.response_timeout ≡ response_timeout) (names : ℕ → Option ℕ) (m : Multi) (x : Conn) (s : SingleLine) (v : View) (i : ℕ) (w : Waiting Request Request) (q : List (ℕ × Waiting Request Request))
+module _ (server p : ℕ) (settings : Settings) (set : settings.response_timeout ≡ response_timeout) (names : ℕ → Option ℕ) (m : Multi) (x : Conn) (s : SingleLine) (v : View) (i : ℕ) (w : QueuedRequest Request Request) (q : List (ℕ × QueuedRequest Request Request))
     (line : IsLineAt p names s m x (dues v) v.ticket) (fair : IsFair v) (queue : s.queue ≡ (i, w) ∷ q) (unwritten : s.writing ≡ None) (left : x.left ≡ 0) (heard : x.heard ≡ false) where
   abbrev rest : SingleLine
   rest = record s { queue = q }
@@ -89,7 +89,7 @@ module _ (server p : ℕ) (settings : Settings) (set : settings.response_timeout
   at_front = ap (entry_at i) queue ∙ at_first i w q
 
   queue_path : table q ≡ with_at i None (table s.queue)
-  queue_path = behind_first i w 0 v.ticket q sorted_queue ∙ ap (λ (es : List (ℕ × Waiting Request Request)). with_at i None (λ j. entry_at j es)) (sym queue)
+  queue_path = behind_first i w 0 v.ticket q sorted_queue ∙ ap (λ (es : List (ℕ × QueuedRequest Request Request)). with_at i None (λ j. entry_at j es)) (sym queue)
 
   abbrev k : ℕ
   k = (line.seated.queued i w at_front).0
@@ -125,7 +125,7 @@ module _ (server p : ℕ) (settings : Settings) (set : settings.response_timeout
 
       by : (b : Bool) → (i == j) ≡ b → IsAt t j ⊎ (i ≡ j)
       by true f = inr (same true f refl)
-      by false f = inl (inl (e.0, ap (λ (f : ℕ → Option (Waiting Request Request)). f j) path ∙ (with_there i None (λ j. entry_at j s.queue) j (other false f refl) ∙ e.1)))
+      by false f = inl (inl (e.0, ap (λ (f : ℕ → Option (QueuedRequest Request Request)). f j) path ∙ (with_there i None (λ j. entry_at j s.queue) j (other false f refl) ∙ e.1)))
 
   module _ (t : SingleLine) (u : View) (wk : IsWoken rest x v t u) where
     -- The error of this one is posted.
@@ -148,7 +148,7 @@ module _ (server p : ℕ) (settings : Settings) (set : settings.response_timeout
           conn = conn;
           seated = subst (AreSeated p names)
               (same_seats (record (seats_of s m.asks x.ids) { queue = with_at i None (λ j. entry_at j s.queue); asks = with_at k (Some (moved a Broken)) m.asks }) (seats_of l n.asks y.ids)
-              (sym held_is) (ap (λ (es : List (ℕ × ℕ)). table es) (sym ids_is)) (sym queue_path ∙ ap (λ (es : List (ℕ × Waiting Request Request)). table es) (sym queue_is)) (sym asks) (sym ids_same))
+              (sym held_is) (ap (λ (es : List (ℕ × ℕ)). table es) (sym ids_is)) (sym queue_path ∙ ap (λ (es : List (ℕ × QueuedRequest Request Request)). table es) (sym queue_is)) (sym asks) (sym ids_same))
               (leaves_queue p names (seats_of s m.asks x.ids) i k w (Some (moved a Broken)) line.seated at_front named broken_away);
           fits = fits;
         };
@@ -159,7 +159,7 @@ module _ (server p : ℕ) (settings : Settings) (set : settings.response_timeout
         ticket = wk.alike.ticket;
         at_place = wk.alike.place;
         more = wk.alike.more;
-        seats = λ j at. elim (seats_so l (ap (λ (es : List (ℕ × Waiting Request Request)). table es) queue_is ∙ queue_path) ids_is j at) [ inl f ↦ inl f | inr f ↦ inr (inl f) ];
+        seats = λ j at. elim (seats_so l (ap (λ (es : List (ℕ × QueuedRequest Request Request)). table es) queue_is ∙ queue_path) ids_is j at) [ inl f ↦ inl f | inr f ↦ inr (inl f) ];
       };
     }
 
@@ -259,7 +259,7 @@ module _ (server p : ℕ) (settings : Settings) (set : settings.response_timeout
                 (same_seats after (seats_of (record t { had_keepalive = had; held = inserted (Waits i r) t.held; ids = puts i id t.ids; writing = Some octets }) n.asks y.ids)
                 (sym (puts_path id (Waits i r) t.held.held ∙ ap (λ (h : IdTable (Holder Request Request)). with_at id (Some (Waits i r)) (λ j. entry_at j h.held)) wk.held))
                 (sym (puts_path i id t.ids ∙ ap (λ (es : List (ℕ × ℕ)). with_at i (Some id) (λ j. entry_at j es)) wk.ids))
-                (sym queue_path ∙ ap (λ (es : List (ℕ × Waiting Request Request)). table es) (sym wk.queue)) refl refl)
+                (sym queue_path ∙ ap (λ (es : List (ℕ × QueuedRequest Request Request)). table es) (sym wk.queue)) refl refl)
                 (writes_there p names (seats_of s m.asks x.ids) i k id w r (moved a (Holding p id)) wr line.seated at_front named unheld_there refl refl (λ o. frames_carry.answered a.request id t.had_keepalive o next.small));
             fits = record {
               stage = wk.fits.stage;
@@ -327,7 +327,7 @@ module _ (server p : ℕ) (settings : Settings) (set : settings.response_timeout
           seats j at = inl (each_number (λ j. IsAt s j → IsAt (record t { had_keepalive = had; held = inserted (Waits i r) t.held; ids = puts i id t.ids; writing = Some octets }) j) i
               (λ at. inr (id, ap (λ (f : ℕ → Option ℕ). f i) (puts_path i id t.ids) ∙ with_here i (Some id) (λ j. entry_at j t.ids)))
               (λ j ne at. elim at [
-                | inl f ↦ inl (f.0, ap (λ (es : List (ℕ × Waiting Request Request)). entry_at j es) wk.queue ∙ (ap (λ (f : ℕ → Option (Waiting Request Request)). f j) queue_path ∙ (with_there i None (λ j. entry_at j s.queue) j ne ∙ f.1)))
+                | inl f ↦ inl (f.0, ap (λ (es : List (ℕ × QueuedRequest Request Request)). entry_at j es) wk.queue ∙ (ap (λ (f : ℕ → Option (QueuedRequest Request Request)). f j) queue_path ∙ (with_there i None (λ j. entry_at j s.queue) j ne ∙ f.1)))
                 | inr f ↦ inr (f.0, ap (λ (g : ℕ → Option ℕ). g j) (puts_path i id t.ids) ∙ (with_there i (Some id) (λ j. entry_at j t.ids) j ne ∙ (ap (λ (es : List (ℕ × ℕ)). entry_at j es) wk.ids ∙ f.1)))
               ])
               j at)
@@ -338,7 +338,7 @@ module _ (server p : ℕ) (settings : Settings) (set : settings.response_timeout
       composed (Some octets) e = is_written octets e
 
     prepared : (b : Bool) → (length t.held.held == 32768) ≡ b
-        → TookOne server p names m x s v q (numbers for_one for_several p for_one (λ r. Waits i r) i w.number a.request t u (if b then None else Some (next_id t.held))).0 (numbers for_one for_several p for_one (λ r. Waits i r) i w.number a.request t u (if b then None else Some (next_id t.held))).1
+        → TookOne server p names m x s v q (takes_free_id for_one for_several p for_one (λ r. Waits i r) i w.number a.request t u (if b then None else Some (next_id t.held))).0 (takes_free_id for_one for_several p for_one (λ r. Waits i r) i w.number a.request t u (if b then None else Some (next_id t.held))).1
     prepared true e = finds_none (same (length t.held.held) e)
       where
         same : (n : ℕ) → (n == 32768) ≡ true → n ≡ 32768
@@ -348,8 +348,8 @@ module _ (server p : ℕ) (settings : Settings) (set : settings.response_timeout
         fewer : (n : ℕ) → n ≤ 32768 → (n == 32768) ≡ false → n < 32768
         fewer n le e = grind (arith, nat_tests)
 
-  pub takes_one : Leads (TookOne server p names m x s v q) (takes for_one for_several p settings i w rest v)
-  takes_one = subst (λ rq. Leads (TookOne server p names m x s v q) (option_and_then (λ y. Some (prepares for_one for_several p i w.number rq y.0 y.1)) (wakes (timeout_by settings rq) rest v rest.stage))) (sym who.request)
-      (leads_then (IsWoken rest x v) (TookOne server p names m x s v q) (λ t u. prepares for_one for_several p i w.number (Single a.request) t u) (wakes settings.response_timeout rest v rest.stage)
+  pub takes_one : Leads (TookOne server p names m x s v q) (takes_queued for_one for_several p settings i w rest v)
+  takes_one = subst (λ rq. Leads (TookOne server p names m x s v q) (option_and_then (λ y. Some (prepares for_one for_several p i w.number rq y.0 y.1)) (becomes_active_for (timeout_by settings rq) rest v rest.stage))) (sym who.request)
+      (leads_then (IsWoken rest x v) (TookOne server p names m x s v q) (λ t u. prepares for_one for_several p i w.number (Single a.request) t u) (becomes_active_for settings.response_timeout rest v rest.stage)
       (woken settings.response_timeout set rest x v fair rest_fits)
       (λ t u wk. prepared t u wk (length t.held.held == 32768) refl))

@@ -9,7 +9,7 @@ use Rattle.client_request.specs.declared.error.Error.{Error}
 use Rattle.client_request.specs.declared.error.Error.TheVariants as errors
 use Rattle.client_request.specs.declared.event.Out.TheVariants.{Close}
 use Rattle.client_stream.specs.Plain.{fires, ends_with}
-use Rattle.client_stream.specs.declared.stage.Stage.{Stage}
+use Rattle.client_stream.specs.declared.line.LineStage.{LineStage}
 use Rattle.headline.specs.Time.{response_timeout}
 use Rattle.headline.specs.machine.Streams as multi
 use Rattle.headline.specs.machine.Streams.{Mode, Active, Idle, Lined, Asker, Conn, Multi, end_at, with_at, Puts, Moves}
@@ -72,7 +72,7 @@ module _ (server p : ℕ) (names : ℕ → Option ℕ) (m : Multi) (x : Conn) (s
   is_late : (since n : ℕ) → since + response_timeout + 1 ≤ n → since + response_timeout < n
   is_late since n le = omega arith
 
-  by_stage : StageFits (dues u) s.idle_time s.stage x.mode → (own : Stage) → s.stage ≡ own → Leads P (fires p timer s v own)
+  by_stage : StageFits (dues u) s.idle_time s.stage x.mode → (own : LineStage) → s.stage ≡ own → Leads P (fires p timer s v own)
   by_stage (IsNew e md) own is = subst (λ own. Leads P (fires p timer s v own)) (sym e ∙ is) (others (IsNew e md))
   by_stage (IsActive t since e md d) own is = subst (λ own. Leads P (fires p timer s v own)) (sym e ∙ is) (by (timer == t) refl)
     where

@@ -3,9 +3,9 @@ use Rattle.std.proofs.Common.{◌≡◌, ℕ, ◌+◌, ◌<◌, ◌≤◌, inr, 
 use Rattle.std.specs.Prelude.{if◌then◌else◌, ◌==◌}
 use Rattle.std.proofs.lemmas.Bool.Decides.{nat_tests}
 use Rattle.client_request.specs.View.{View}
-use Rattle.client_stream.specs.Plain.{waits_from, wakes}
-use Rattle.client_stream.specs.declared.stage.Stage.{Stage}
-use Rattle.client_stream.specs.declared.stage.Stage.TheVariants as at
+use Rattle.client_stream.specs.Plain.{awaits_frame_since, becomes_active_for}
+use Rattle.client_stream.specs.declared.line.LineStage.{LineStage}
+use Rattle.client_stream.specs.declared.line.LineStage.TheVariants as at
 use Rattle.headline.specs.Time.{response_timeout}
 use Rattle.headline.specs.machine.Streams.{Active, Conn, taking, taken_on}
 use Rattle.client_ties.specs.Sights.{IsFair}
@@ -56,10 +56,10 @@ module _ (wait : ℕ) (is_wait : wait ≡ response_timeout) (s : SingleLine) (x 
   lt : v.now < v.now + wait + 1
   lt = omega arith
 
-  fresh : taking x.mode v.now ≡ Active v.now → Leads (IsWoken s x v) (waits_from v.now (record s { timeout = wait }) v)
+  fresh : taking x.mode v.now ≡ Active v.now → Leads (IsWoken s x v) (awaits_frame_since v.now (record s { timeout = wait }) v)
   fresh mode = becomes_so (IsWoken s x v) (λ timer. at.Active timer v.now) (v.now + wait + 1) (record s { timeout = wait }) v fair lt (works mode)
 
-  same : (timer since : ℕ) → s.stage ≡ at.Active timer since → x.mode ≡ Active since → (b : Bool) → b ≡ true → Leads (IsWoken s x v) (if b then Some (s, v) else waits_from since (record s { timeout = wait }) v)
+  same : (timer since : ℕ) → s.stage ≡ at.Active timer since → x.mode ≡ Active since → (b : Bool) → b ≡ true → Leads (IsWoken s x v) (if b then Some (s, v) else awaits_frame_since since (record s { timeout = wait }) v)
   same timer since is mode false e = absurd (cc)
   same timer since is mode true e = record {
     held = refl;
@@ -92,7 +92,7 @@ module _ (wait : ℕ) (is_wait : wait ≡ response_timeout) (s : SingleLine) (x 
       test : (a b : ℕ) → a ≡ b → (a == b) ≡ true
       test a b e = grind (arith, nat_tests)
 
-  by_stage : (own : Stage) → s.stage ≡ own → StageFits (dues v) s.idle_time s.stage x.mode → Leads (IsWoken s x v) (wakes wait s v own)
+  by_stage : (own : LineStage) → s.stage ≡ own → StageFits (dues v) s.idle_time s.stage x.mode → Leads (IsWoken s x v) (becomes_active_for wait s v own)
   by_stage at.New is (IsNew e m) = fresh (ap (λ m. taking m v.now) m)
   by_stage at.New is (IsActive timer since e m d) = absurd (let z : at.New ≡ at.Active timer since = sym is ∙ e in cc)
   by_stage at.New is (IsIdle timer since e m d) = absurd (let z : at.New ≡ at.Idle timer = sym is ∙ e in cc)
@@ -106,5 +106,5 @@ module _ (wait : ℕ) (is_wait : wait ≡ response_timeout) (s : SingleLine) (x 
   by_stage at.Ended is (IsActive t u e m d) = absurd (let z : at.Ended ≡ at.Active t u = sym is ∙ e in cc)
   by_stage at.Ended is (IsIdle t u e m d) = absurd (let z : at.Ended ≡ at.Idle t = sym is ∙ e in cc)
 
-  pub woken : Leads (IsWoken s x v) (wakes wait s v s.stage)
+  pub woken : Leads (IsWoken s x v) (becomes_active_for wait s v s.stage)
   woken = by_stage s.stage refl fits.stage

@@ -14,9 +14,9 @@ use Rattle.client_request.specs.declared.event.What.TheVariants.{Wrote}
 use Rattle.client_stream.specs.Plain.{ends_with, ended, takes_on, frame_comes, wrote, gives_up, fires}
 use Rattle.client_stream.specs.Settings.{Settings}
 use Rattle.client_stream.specs.declared.request.AnyRequest.TheVariants.{Single}
-use Rattle.client_stream.specs.declared.request.Waiting.{Waiting}
-use Rattle.client_stream.specs.declared.stage.Stage.{Stage}
-use Rattle.client_stream.specs.declared.stage.Stage.TheVariants as at
+use Rattle.client_stream.specs.declared.request.QueuedRequest.{QueuedRequest}
+use Rattle.client_stream.specs.declared.line.LineStage.{LineStage}
+use Rattle.client_stream.specs.declared.line.LineStage.TheVariants as at
 use Rattle.headline.specs.Messages.{Octets}
 use Rattle.headline.specs.Time.{response_timeout}
 use Rattle.headline.specs.machine.Part.{Act}
@@ -30,7 +30,7 @@ use Rattle.client_ties.specs.Seats.{IsAway}
 use Rattle.client_ties.specs.Sights.{due_of, IsFair}
 
 -- the timer that is set at a stage
-abbrev pub timer_of : Stage → Option ℕ
+abbrev pub timer_of : LineStage → Option ℕ
 timer_of at.New = None
 timer_of (at.Active timer since) = Some timer
 timer_of (at.Idle timer) = Some timer
@@ -40,14 +40,14 @@ abbrev pub dues : View → ℕ → Option ℕ
 dues v i = due_of i v.timers.set
 
 -- The timer of a stage was dropped, and that of the next one is set.
-pub record IsTimed (own to : Stage) (v w : View) : Type 0 where
+pub record IsTimed (own to : LineStage) (v w : View) : Type 0 where
   pub on : GoesOn v w
   pub owned : (i : ℕ) → timer_of to ≡ Some i → (timer_of own ≡ Some i) ⊎ (v.timers.next ≤ i)
   pub others : (i due : ℕ) → (timer_of own ≡ Some i → ⊥) → dues v i ≡ Some due → dues w i ≡ Some due
 
 -- a ticket that a connection has
 abbrev pub IsAt : SingleLine → (i : ℕ) → Type 0
-IsAt s i = ((w : Waiting Request Request) × (entry_at i s.queue ≡ Some w)) ⊎ ((id : ℕ) × (entry_at i s.ids ≡ Some id))
+IsAt s i = ((w : QueuedRequest Request Request) × (entry_at i s.queue ≡ Some w)) ⊎ ((id : ℕ) × (entry_at i s.ids ≡ Some id))
 
 abbrev pub IsPostedTo : (i : ℕ) → List Posted → Type 0
 IsPostedTo i [] = ⊥
@@ -144,7 +144,7 @@ pub record LinesAreTied : Type 0 where
       → (count : ℕ) → Leads (HasWritten server p names m x s v count) (wrote for_one for_several p settings count s v s.writing)
   -- the request of a ticket is given up
   pub gives_up : (p : ℕ) (names : ℕ → Option ℕ) (m : Multi) (x : Conn) (s : SingleLine) (v : View) → IsLineAt p names s m x (dues v) v.ticket → (i k : ℕ) → names i ≡ Some k
-      → ((w : Waiting Request Request) × (entry_at i s.queue ≡ Some w)) ⊎ ((entry_at i s.queue ≡ None) × (id : ℕ) × (entry_at i s.ids ≡ Some id)) → IsLineAt p names (gives_up i s) (drop k m) x (dues v) v.ticket
+      → ((w : QueuedRequest Request Request) × (entry_at i s.queue ≡ Some w)) ⊎ ((entry_at i s.queue ≡ None) × (id : ℕ) × (entry_at i s.ids ≡ Some id)) → IsLineAt p names (gives_up i s) (drop k m) x (dues v) v.ticket
   -- a timer that is due fires, and is taken out before
   pub fires : (server p : ℕ) (names : ℕ → Option ℕ) (m : Multi) (x : Conn) (s : SingleLine) (v : View) → IsLineAt p names s m x (dues v) v.ticket → IsFair v → IsSettled s → (timer due : ℕ) → dues v timer ≡ Some due → due ≤ v.now
       → Leads (HasFired server p names m x s (record v { timers = cancelled timer v.timers })) (fires p timer s (record v { timers = cancelled timer v.timers }) s.stage)

@@ -4,8 +4,8 @@ use Rattle.client_request.specs.Numbered.{entry_at}
 use Rattle.client_request.specs.Request.{Request}
 use Rattle.client_stream.specs.IdTable.{IdTable}
 use Rattle.client_stream.specs.Plain.{Line}
-use Rattle.client_stream.specs.declared.stage.Stage.{Stage}
-use Rattle.client_stream.specs.declared.stage.Stage.TheVariants as stage
+use Rattle.client_stream.specs.declared.line.LineStage.{LineStage}
+use Rattle.client_stream.specs.declared.line.LineStage.TheVariants as stage
 use Rattle.headline.specs.Time.{response_timeout}
 use Rattle.headline.specs.Writes.{Written}
 use Rattle.headline.specs.machine.Streams.{Mode, New, Active, Idle, Asker, Conn, Multi}
@@ -30,7 +30,7 @@ abbrev pub seats_of : SingleLine → (ℕ → Option Asker) → (ℕ → Option 
 seats_of s asks written = record { held = λ id. entry_at id s.held.held; ids = λ i. entry_at i s.ids; queue = λ i. entry_at i s.queue; asks = asks; written = written }
 
 -- The mode, with the timer that is set for it.
-pub data StageFits (dues : ℕ → Option ℕ) (idle : ℕ) (at : Stage) (mode : Mode) : Type 0 where
+pub data StageFits (dues : ℕ → Option ℕ) (idle : ℕ) (at : LineStage) (mode : Mode) : Type 0 where
   IsNew : at ≡ stage.New → mode ≡ New → StageFits dues idle at mode
   IsActive : (timer since : ℕ) → at ≡ stage.Active timer since → mode ≡ Active since → dues timer ≡ Some (since + response_timeout + 1) → StageFits dues idle at mode
   IsIdle : (timer since : ℕ) → at ≡ stage.Idle timer → mode ≡ Idle since → dues timer ≡ Some (since + idle) → StageFits dues idle at mode

@@ -5,7 +5,7 @@ use Rattle.client_request.specs.Request.{Request, is_answered}
 use Rattle.client_stream.specs.declared.request.AnyRequest.TheVariants.{Single}
 use Rattle.client_stream.specs.declared.request.Holder.{Holder}
 use Rattle.client_stream.specs.declared.request.Holder.TheVariants.{Waits, GivenUp}
-use Rattle.client_stream.specs.declared.request.Waiting.{Waiting}
+use Rattle.client_stream.specs.declared.request.QueuedRequest.{QueuedRequest}
 use Rattle.headline.specs.Messages.{Octets, answers}
 use Rattle.headline.specs.Writes.{Written}
 use Rattle.headline.specs.machine.Streams.{Lined, Holding, Asker}
@@ -14,7 +14,7 @@ use Rattle.headline.specs.machine.Streams.{Lined, Holding, Asker}
 pub record Seats : Type 0 where
   pub held : ℕ → Option (Holder Request Request)
   pub ids : ℕ → Option ℕ
-  pub queue : ℕ → Option (Waiting Request Request)
+  pub queue : ℕ → Option (QueuedRequest Request Request)
   pub asks : ℕ → Option Asker
   pub written : ℕ → Option Written
 
@@ -31,7 +31,7 @@ pub record IsSent (p id k : ℕ) (w : Request) (asks : ℕ → Option Asker) : T
   pub answered : (octets : Octets) → is_answered octets w ≡ answers ask.request id octets
 
 -- request k is queued, as it was asked
-pub record IsLined (p k : ℕ) (w : Waiting Request Request) (asks : ℕ → Option Asker) : Type 0 where
+pub record IsLined (p k : ℕ) (w : QueuedRequest Request Request) (asks : ℕ → Option Asker) : Type 0 where
   pub number : w.number ≡ k
   pub ask : Asker
   pub is : asks k ≡ Some ask
@@ -49,7 +49,7 @@ pub data IdFits (p : ℕ) (names : ℕ → Option ℕ) (x : Seats) (id : ℕ) : 
 pub record AreSeated (p : ℕ) (names : ℕ → Option ℕ) (x : Seats) : Type 0 where
   pub at_id : (id : ℕ) → IdFits p names x id
   pub by_ticket : (i id : ℕ) → x.ids i ≡ Some id → (w : Request) × (x.held id ≡ Some (Waits i w))
-  pub queued : (i : ℕ) (w : Waiting Request Request) → x.queue i ≡ Some w → (k : ℕ) × (names i ≡ Some k) × IsLined p k w x.asks
-  pub lined : (k : ℕ) (a : Asker) → x.asks k ≡ Some a → a.phase ≡ Lined p → (i : ℕ) × (w : Waiting Request Request) × (names i ≡ Some k) × (x.queue i ≡ Some w)
+  pub queued : (i : ℕ) (w : QueuedRequest Request Request) → x.queue i ≡ Some w → (k : ℕ) × (names i ≡ Some k) × IsLined p k w x.asks
+  pub lined : (k : ℕ) (a : Asker) → x.asks k ≡ Some a → a.phase ≡ Lined p → (i : ℕ) × (w : QueuedRequest Request Request) × (names i ≡ Some k) × (x.queue i ≡ Some w)
   pub holding : (k : ℕ) (a : Asker) (id : ℕ) → x.asks k ≡ Some a → a.phase ≡ Holding p id → (i : ℕ) × (w : Request) × (names i ≡ Some k) × (x.held id ≡ Some (Waits i w))
   pub apart : (i j k : ℕ) → names i ≡ Some k → names j ≡ Some k → i ≡ j

@@ -13,8 +13,8 @@ use Rattle.client_multi.specs.declared.multi_stream.job.Job.{Job}
 use Rattle.client_multi.specs.declared.multi_stream.job.Stage.{Stage}
 use Rattle.client_multi.specs.declared.multi_stream.job.Stage.TheVariants.{Resting}
 use Rattle.client_stream.specs.Plain.{has_ended, timer_at}
-use Rattle.client_stream.specs.declared.stage.Stage.{Stage as LineStage}
-use Rattle.client_stream.specs.declared.stage.Stage.TheVariants as at
+use Rattle.client_stream.specs.declared.line.LineStage.{LineStage}
+use Rattle.client_stream.specs.declared.line.LineStage.TheVariants as at
 use Rattle.headline.specs.Messages.{Octets}
 use Rattle.headline.specs.machine.Part.{Act}
 use Rattle.headline.specs.machine.Streams.{Phase, Asker, Conn, Multi, moved}

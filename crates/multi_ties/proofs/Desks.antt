@@ -6,7 +6,7 @@ use mathlib.Core.Path.{fun_ext}
 use Rattle.client_request.specs.Numbered.{frees, entry_at}
 use Rattle.client_request.specs.Request.{Request}
 use Rattle.client_stream.specs.Plain.{Asked}
-use Rattle.client_stream.specs.declared.request.Waiting.{Waiting as Queued}
+use Rattle.client_stream.specs.declared.request.QueuedRequest.{QueuedRequest as Queued}
 use Rattle.client_multi.specs.Links.{Link}
 use Rattle.client_multi.specs.declared.multi_stream.job.Job.{Job}
 use Rattle.client_multi.specs.declared.multi_stream.job.Stage.TheVariants.{Held}

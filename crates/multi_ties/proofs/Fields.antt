@@ -9,7 +9,7 @@ use Rattle.client_request.specs.View.{View}
 use Rattle.client_request.specs.declared.event.Event.{Event}
 use Rattle.client_request.specs.declared.event.What.{What}
 use Rattle.client_request.specs.declared.event.What.TheVariants.{Ask, Opened, OpenFailed, SendFailed, ShortSend, Datagram, RecvFailed, Wrote, WriteFailed, Bytes, ReadFailed, Ended, Tick}
-use Rattle.client_stream.specs.declared.request.Waiting.{Waiting as Queued}
+use Rattle.client_stream.specs.declared.request.QueuedRequest.{QueuedRequest as Queued}
 use Rattle.client_multi.specs.Links.{Link}
 use Rattle.client_multi.specs.MultiStream.{started}
 use Rattle.client_multi.specs.Settings.{default_settings}

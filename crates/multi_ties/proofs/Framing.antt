@@ -10,8 +10,8 @@ use Rattle.client_request.specs.declared.error.Error.{Error}
 use Rattle.client_request.specs.declared.error.Error.TheVariants as errors
 use Rattle.client_request.specs.declared.event.Out.TheVariants.{Close}
 use Rattle.client_stream.specs.Plain.{Asked, has_ended, ended}
-use Rattle.client_stream.specs.declared.stage.Stage.{Stage as LineStage}
-use Rattle.client_stream.specs.declared.stage.Stage.TheVariants as at
+use Rattle.client_stream.specs.declared.line.LineStage.{LineStage}
+use Rattle.client_stream.specs.declared.line.LineStage.TheVariants as at
 use Rattle.client_multi.specs.Links.{Link, one_stream}
 use Rattle.client_multi.specs.MultiStream.{returns, taken, taken_back, with_connection, keeps, lent, collects, gets_at, gets_part, is_result}
 use Rattle.client_multi.specs.declared.multi_stream.job.Job.{Job}

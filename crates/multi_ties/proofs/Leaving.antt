@@ -7,7 +7,7 @@ use Rattle.client_request.specs.Requests.{for_one}
 use Rattle.client_request.specs.Timers.{cancelled}
 use Rattle.client_request.specs.View.{View}
 use Rattle.client_stream.specs.Plain.{Asked, gives_up, gives_up_id}
-use Rattle.client_stream.specs.declared.request.Waiting.{Waiting as Queued}
+use Rattle.client_stream.specs.declared.request.QueuedRequest.{QueuedRequest as Queued}
 use Rattle.client_multi.specs.Links.{Link, one_stream}
 use Rattle.client_multi.specs.MultiStream.{leaves, calls_at, calls, taken, with_connection, taken_back, lent}
 use Rattle.client_multi.specs.declared.multi_stream.job.Job.{Job}

@@ -10,9 +10,9 @@ use Rattle.client_request.specs.declared.error.Error.TheVariants as errors
 use Rattle.client_request.specs.declared.event.What.{What}
 use Rattle.client_request.specs.declared.event.What.TheVariants.{Ask, Opened, OpenFailed, SendFailed, ShortSend, Datagram, RecvFailed, Wrote, WriteFailed, Bytes, ReadFailed, Ended, Tick}
 use Rattle.client_stream.specs.Frames.{has_frame, body_size}
-use Rattle.client_stream.specs.Plain.{has_ended, ends_with, octets_left, timer_at, says, takes_frame, reads, fires as line_fires}
-use Rattle.client_stream.specs.declared.stage.Stage.{Stage}
-use Rattle.client_stream.specs.declared.stage.Stage.TheVariants as stage
+use Rattle.client_stream.specs.Plain.{has_ended, ends_with, octets_left, timer_at, says_if_more, takes_frame, reads, fires as line_fires}
+use Rattle.client_stream.specs.declared.line.LineStage.{LineStage}
+use Rattle.client_stream.specs.declared.line.LineStage.TheVariants as stage
 use Rattle.client_multi.specs.Links.{Link, one_stream}
 use Rattle.client_multi.specs.MultiStream.{After, with_tables, hears_at, calls, returns, taken, with_connection, keeps, lent, watched, unwatched, is_number, each, hands, opened, refused, backs_off, open_fails, is_open as plain_open, due_at}
 use Rattle.headline.specs.Frames.{Reading}
@@ -110,7 +110,7 @@ module _ (s : ℕ) (u : Streams) (x : Sight) (a : Served) (st : IsStream s u x a
     same_watches None w = refl
     same_watches (Some i) w = put_back i p 0 x.timer d.watches st.order.watches (w i refl)
 
-    timers_agree : (i : ℕ) (at : Stage) → timer_at at ≡ Some i → timer_of at ≡ Some i
+    timers_agree : (i : ℕ) (at : LineStage) → timer_at at ≡ Some i → timer_of at ≡ Some i
     timers_agree i stage.New e = e
     timers_agree i (stage.Active t since) e = e
     timers_agree i (stage.Idle t) e = e
@@ -131,7 +131,7 @@ module _ (s : ℕ) (u : Streams) (x : Sight) (a : Served) (st : IsStream s u x a
         ∙ ap (λ t. Some (t, v)) put)
 
     -- no timer of its own
-    line_still : (i q : ℕ) (v : View) (at : Stage) → (timer_of at ≡ Some i → ⊥) → line_fires q i l.line v at ≡ Some (l.line, v)
+    line_still : (i q : ℕ) (v : View) (at : LineStage) → (timer_of at ≡ Some i → ⊥) → line_fires q i l.line v at ≡ Some (l.line, v)
     line_still i q v stage.New free = refl
     line_still i q v stage.Ended free = refl
     line_still i q v (stage.Active own since) free = ap (λ b. if b then Some (ends_with q errors.StreamReadTimeout l.line v) else Some (l.line, v)) (differs i own (λ e. free (ap Some e)))
@@ -157,7 +157,7 @@ module _ (s : ℕ) (u : Streams) (x : Sight) (a : Served) (st : IsStream s u x a
         let no = no_frame l.octets (link.0).got (subst (λ fs. Keeps l.octets fs (link.0).got) none link.1.keeps) in
         ends_no v (if l.place == p then reads for_one for_several l v else Some (l, v))
         (ap (λ b. if b then reads for_one for_several l v else Some (l, v)) (itself p l.place link.1.place)
-        ∙ (ap (λ o. says (takes_frame for_one for_several l v o)) (ap (λ b. if b then Some (slice_range l.octets 2 (2 + body_size l.octets)) else None) no)
+        ∙ (ap (λ o. says_if_more (takes_frame for_one for_several l v o)) (ap (λ b. if b then Some (slice_range l.octets 2 (2 + body_size l.octets)) else None) no)
         ∙ ap (λ b. Some (l, if b then record v { more = true } else v)) no))
 
   -- a timer of others

@@ -1,17 +1,25 @@
 //! The settings of a stream connection.
 
 use client_stream::Config;
-use dns_base::Duration;
+use dns_base::{Duration, NoMemory};
 
 #[test]
 fn settings_have_their_defaults(rt: HostRuntime) {
-    let config = Config::new();
+    let config = Config::default();
     assert_eq!(rt; config.response_timeout(), Duration::from_secs(19));
     assert_eq!(rt;
         config.streaming_response_timeout(),
         Duration::from_secs(19)
     );
     assert_eq!(rt; config.idle_timeout(), Duration::from_secs(10));
+}
+
+#[test]
+fn settings_are_copied(rt: HostRuntime) -> Result<(), NoMemory> {
+    let mut config = Config::new();
+    config.set_idle_timeout(Duration::ZERO);
+    assert_eq!(rt; config.try_clone()?.idle_timeout(), Duration::ZERO);
+    Ok(())
 }
 
 /// What is set, and what is kept, in microseconds.

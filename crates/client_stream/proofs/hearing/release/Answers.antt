@@ -6,16 +6,21 @@ use Rattle.client_stream.specs.Plain as plain
 use Rattle.client_stream.proofs.Taking.{releases}
 use Rattle.client_stream.proofs.hearing.release.Goals as goal
 
-pub returns-clause-ok : goal.returns-clause-ok
-returns-clause-ok g c =
+pub returns-clause-follows : goal.returns-clause-follows
+returns-clause-follows g c =
     let id : c.id-id.result ≡ plain.message_id c.args.message = c.id-id.ensures ∙ ap id_of c.header.ensures in
+    let given = c.in_ok-deliver.ensures.leaves in
+    let last = c.become_idle_if_unused.ensures.follows in
     let step = releases g.Req.Compose.requests g.ReqMulti.Compose.requests c.args.place c.args.message c.args.line.now _ (view_of g.W.Words.stream c.args.cx.now) _ _ c.in-Some.holder _
-    c.line.view_is id c.in-Some.ensures.item c.in-Some.ensures.removed c.in_ok-deliver.ensures.ok in
-    subst (λ after. OnOk c.settle.result (after ≡ Some (c.settle.new.line, view_of g.W.Words.stream c.settle.new.cx))) (sym step) c.settle.ensures.ok
-
-pub returns-clause-numbers : goal.returns-clause-numbers
-returns-clause-numbers g c =
-    let id : c.id-id.result ≡ plain.message_id c.args.message = c.id-id.ensures ∙ ap id_of c.header.ensures in
-    let step = releases g.Req.Compose.requests g.ReqMulti.Compose.requests c.args.place c.args.message c.args.line.now _ (view_of g.W.Words.stream c.args.cx.now) _ _ c.in-Some.holder _
-    c.line.view_is id c.in-Some.ensures.item c.in-Some.ensures.removed c.in_ok-deliver.ensures.ok in
-    λ e. step ∙ c.settle.ensures.numbers e
+    c.line.view_is id c.in-Some.ensures.item c.in-Some.ensures.removed given.ok in
+    record {
+      lends = record {
+        words = last.lends.words ∙ given.lends.words;
+        outs = last.lends.outs ∙ given.lends.outs;
+        board = last.lends.board ∙ given.lends.board;
+        timers = last.lends.timers ∙ given.lends.timers;
+      };
+      ok = subst (λ after. OnOk c.become_idle_if_unused.result (after ≡ Some (c.become_idle_if_unused.new.line, view_of g.W.Words.stream c.become_idle_if_unused.new.cx))) (sym step) last.ok;
+      numbers = λ e. step ∙ last.numbers e;
+      want = last.want;
+    }
