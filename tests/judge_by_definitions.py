@@ -73,13 +73,13 @@ class Reference:
             self.script.read_script(script, False, stage), rows, stage > 16, stage >= FIRST_WITH_CACHE)
 
     def judges_without_case(self, script, trace, stage):
-        """The same, where a view may spell its names in another case (RFC 4343)."""
-        exact = self.auditing.same_message
-        self.auditing.same_message = lambda a, b, by_type, exact_case=False: exact(a, b, by_type)
+        """The same, where a view may spell its question's name in another case (RFC 4343)."""
+        exact = self.auditing.same_view
+        self.auditing.same_view = lambda a, b: self.auditing.same_message(a, b, True)
         try:
             return self.judges(script, trace, stage)
         finally:
-            self.auditing.same_message = exact
+            self.auditing.same_view = exact
 
 
 def clear_of_tails(trace):
@@ -114,7 +114,7 @@ def known_difference(theirs, judged, without_tails, without_case):
         return "a client without a cache need not give a message without validity"
     if without_tails() is None:
         return "the reference refuses octets behind the last record"
-    return "the reference wants the names of a view in the very case" if without_case() is None else None
+    return "the reference wants the name of a view's question in the very case" if without_case() is None else None
 
 
 def compare(reference, seed, profile, stage, events, mutates):
