@@ -82,6 +82,8 @@ impl fmt::Display for QueryError {
     }
 }
 
+impl std::error::Error for QueryError {}
+
 impl CopyRecordsError {
     fn text(self) -> &'static str
         ensures { result.now ≡ copy_error_text self }
@@ -102,6 +104,8 @@ impl fmt::Display for CopyRecordsError {
         f.write_str(self.text())
     }
 }
+
+impl std::error::Error for CopyRecordsError {}
 
 impl Error {
     fn plain_text(self) -> &'static str
@@ -147,3 +151,5 @@ impl fmt::Display for Error {
         }
     }
 }
+
+impl std::error::Error for Error {}

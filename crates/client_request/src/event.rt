@@ -14,7 +14,7 @@ pub struct Moment(pub u64);
 ///
 /// Whoever holds the client tells it. A place is a socket, by the number that the client gave it when it
 /// had it opened; an event for a place that is closed changes nothing.
-#[derive(Drop)]
+#[derive(Debug, Drop)]
 pub enum What {
     /// A request is asked. The client numbers requests from 0, in the order in which they are asked.
     Ask { request: RequestMessage },
@@ -45,7 +45,7 @@ pub enum What {
 }
 
 /// What happened, and when.
-#[derive(Drop)]
+#[derive(Debug, Drop)]
 pub struct Event {
     /// In microseconds. A moment before that of an earlier event counts as that one.
     pub moment: Moment,
@@ -67,7 +67,7 @@ pub enum Via {
 /// Whoever holds the client does it, in order, and tells by events what came of it. Places are numbered
 /// from 0 in the order in which they are to be opened, servers from 0 as the configuration lists them,
 /// and requests from 0 in the order in which they were asked.
-#[derive(Drop)]
+#[derive(Debug, Drop)]
 pub enum Out {
     /// A request goes to a server. Nothing is to be done.
     Start {
@@ -116,7 +116,7 @@ pub enum Out {
 }
 
 /// An event and what was put out for it.
-#[derive(Drop)]
+#[derive(Debug, Drop)]
 pub struct Row {
     /// The event, as it was told.
     pub event: Event,
@@ -125,7 +125,7 @@ pub struct Row {
 }
 
 /// What a client was told and what it put out, row by row.
-#[derive(Drop)]
+#[derive(Debug, Drop)]
 pub struct Trace {
     /// A row for each event, in order.
     pub rows: Rows,

@@ -57,3 +57,5 @@ impl fmt::Display for Fault {
         f.write_str(self.text())
     }
 }
+
+impl std::error::Error for Fault {}

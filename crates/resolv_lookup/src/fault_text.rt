@@ -4,6 +4,7 @@ ghost use Rattle.std.specs.Prelude.{Some};
 ghost use Rattle.resolv_lookup.specs.FaultText.{host_text, query_text, service_text};
 
 use crate::fault::{HostFault, QueryFault, SrvError};
+use std::error::Error;
 use std::fmt;
 
 impl fmt::Display for QueryFault {
@@ -16,6 +17,8 @@ impl fmt::Display for QueryFault {
         }
     }
 }
+
+impl Error for QueryFault {}
 
 impl fmt::Display for HostFault {
     ghost output = { λ fault. Some (host_text fault) };
@@ -30,6 +33,8 @@ impl fmt::Display for HostFault {
     }
 }
 
+impl Error for HostFault {}
+
 impl fmt::Display for SrvError {
     ghost output = { λ error. Some (service_text error) };
 
@@ -42,3 +47,5 @@ impl fmt::Display for SrvError {
         }
     }
 }
+
+impl Error for SrvError {}
