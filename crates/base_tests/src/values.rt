@@ -44,6 +44,37 @@ fn an_address_is_read(rt: HostRuntime) {
     assert_eq!(rt; IpAddr::from_text("192.0.2"), Err(ParseError));
 }
 
+/// Texts of types, each with the type and what it prints.
+const TYPES: [(&str, Rtype, &str); 4] = [
+    ("aaaa", Rtype::AAAA, "AAAA"),
+    ("TYPE43", Rtype::DS, "DS"),
+    ("type0", Rtype(0), "TYPE0"),
+    ("TYPE65535", Rtype(65535), "TYPE65535"),
+];
+
+fn type_prints(alloc: Global, rtype: &Rtype, text: &str) -> Result<bool, AllocError> {
+    Ok(rtype.to_string(alloc)?.as_str() == text)
+}
+
+#[test]
+fn types_are_read_and_printed(rt: HostRuntime) -> Result<(), Fail> {
+    number_name_laws();
+    for (text, rtype, printed) in &TYPES {
+        assert!(rt; Rtype::from_text(text) == Ok(*rtype), "{text}");
+        assert!(rt; type_prints(rt.alloc(), rtype, printed)?, "{printed}");
+    }
+    assert_eq!(rt; Rtype::from_text("TYPE65536"), Err(ParseError));
+    Ok(())
+}
+
+#[test]
+fn classes_and_codes_are_read(rt: HostRuntime) {
+    assert_eq!(rt; Class::from_text("ch"), Ok(Class::CH));
+    assert_eq!(rt; Opcode::from_text("OPCODE16"), Err(ParseError));
+    assert_eq!(rt; Rcode::from_text("nxdomain"), Ok(Rcode::NXDOMAIN));
+    assert_eq!(rt; OptRcode::from_text("RCODE23"), Ok(OptRcode::BADCOOKIE));
+}
+
 #[test]
 fn durations_count_microseconds(rt: HostRuntime) {
     assert_eq!(rt; Duration::ZERO.as_micros(), 0);
@@ -69,5 +100,6 @@ fn octets_are_cut(rt: HostRuntime) -> Result<(), Fail> {
     let whole = one_to_three(rt.alloc())?;
     assert!(rt; whole.as_slice().len() == 3);
     assert_eq!(rt; whole.truncated(2)?.as_slice(), [1, 2].as_slice());
+    assert_eq!(rt; whole.skipping(2)?.as_slice(), [3].as_slice());
     Ok(())
 }
