@@ -1,5 +1,5 @@
 -- Names, compressed label by label.
-use Rattle.std.proofs.Common.{◌≡◌, ℕ, ◌+◌, ◌<◌, ◌≤◌, List, [], ◌∷◌, ◌++◌, length, take, drop, get_or, refl, ap, sym, ◌∙◌, arith, Bool, true, false, length-append, append_assoc, append-nil, drop-cons, add-one}
+use Rattle.std.proofs.Common.{◌≡◌, ℕ, ◌+◌, ◌<◌, ◌≤◌, List, [], ◌∷◌, ◌++◌, length, take, drop, get_or, refl, ap, sym, subst, ◌∙◌, arith, Bool, true, false, length-append, append_assoc, append-nil, drop-cons, add-one}
 use Rattle.std.proofs.lemmas.List.{take-append-le, take_at, length-take, take-take}
 use Rattle.std.specs.Prelude.{Option, Some, None, Result, Ok, Err, OnOk, nat_lt, if◌then◌else◌}
 use Rattle.dns_names.specs.Name.{Labels}
@@ -64,6 +64,9 @@ begins_on a b c h g =
 
 pub continues_itself : (a : Compressed) → Continues a a
 continues_itself a = record { octets = begins_itself a.octets; places = begins_itself a.places }
+
+pub continues_same : (a b : Compressed) → b ≡ a → Continues a b
+continues_same a b same = subst (Continues a) (sym same) (continues_itself a)
 
 pub continues_on : (a b c : Compressed) → Continues a b → Continues b c → Continues a c
 continues_on a b c h g = record { octets = begins_on a.octets b.octets c.octets h.octets g.octets; places = begins_on a.places b.places c.places h.places g.places }

@@ -16,7 +16,7 @@ use dns_values::{Class, NoMemory, Rtype, Ttl};
 
 impl Compressor {
     /// Appends a question.
-    #[tactic(auto, using(crate::proofs::Compressing::continues_on), unfolding(crate::specs::Compression::with_question))]
+    #[tactic(auto, using(crate::proofs::Compressing::continues_on, crate::proofs::Compressing::continues_same), unfolding(crate::specs::Compression::with_question))]
     pub(crate) fn put_question(
         &mut self,
         name: &ParsedName<'_>,
@@ -121,7 +121,7 @@ impl Compressor {
     }
 
     /// Appends a record.
-    #[tactic(auto, using(crate::proofs::Compressing::continues_on), unfolding(crate::specs::Compression::with_record))]
+    #[tactic(auto, using(crate::proofs::Compressing::continues_on, crate::proofs::Compressing::continues_same), unfolding(crate::specs::Compression::with_record))]
     pub(crate) fn put_record(
         &mut self,
         owner: &ParsedName<'_>,
