@@ -2,7 +2,7 @@
 
 ghost use Rattle.std.specs.Prelude.{◌≡◌, None};
 ghost use Rattle.client_request.specs.Words.{rest_of};
-ghost use Rattle.client_edge.specs.RandWords.{words_of, words-told};
+ghost use Rattle.client_edge.specs.RandWords.{words_of, words-fit, words-told};
 
 use client_request::Words;
 use rand::Rng;
@@ -52,4 +52,6 @@ impl<R: Rng + Drop> Words for RandWords<R> {
     }
 
     ghost told = { λ w. words-told (R.stream w) };
+
+    ghost words_fit = { λ w. words-fit (R.stream w) };
 }

@@ -9,3 +9,4 @@ pub mod TimerTable
 pub mod TimerTop
 pub mod TimerKept
 pub mod Verdicts
+pub mod WordLists

@@ -1,6 +1,6 @@
 //! Words from a list.
 
-ghost use Rattle.std.specs.Prelude.{◌≡◌, Some, None, drop};
+ghost use Rattle.std.specs.Prelude.{◌≡◌, ◌<◌, ◌^◌, ℕ, Some, None, slice_index};
 ghost use Rattle.client_request.specs.Words.{listed, listed-told};
 
 use crate::lists::WordList;
@@ -15,26 +15,34 @@ pub struct ListWords {
 }
 
 impl Model for ListWords {
-    ghost use Rattle.std.specs.Prelude.{List, ℕ, drop};
+    ghost use Rattle.client_request.specs.Words.{WordsLeft, words_from};
 
-    ghost Value = { List ℕ };
+    ghost Value = { WordsLeft };
 
-    ghost view = { λ w. drop w.next w.words };
+    ghost view = { λ w. words_from w.next w.words };
+}
+
+/// Each word has 64 bits, and so has the 0 past their end.
+fn words_fit(words: &[u64])
+    ensures { (k : ℕ) → slice_index words.now k < 2 ^ 64 }
+{
+    let _words = words;
 }
 
 impl ListWords {
     /// The words of this list, from its first on.
     pub fn new(words: WordList) -> ListWords
-        ensures { result ≡ words }
+        ensures { result.items ≡ words }
     {
+        words_fit(words.as_slice());
         ListWords { words, next: 0 }
     }
 }
 
 impl Words for ListWords {
-    ghost stream = { λ w. listed w };
+    ghost stream = { λ w. listed w.items };
 
-    ghost left = { λ w. Some w };
+    ghost left = { λ w. Some w.items };
 
     ghost given = { λ _. None };
 
@@ -50,4 +58,6 @@ impl Words for ListWords {
     }
 
     ghost told = { listed-told };
+
+    ghost words_fit = { λ w. w.fit };
 }

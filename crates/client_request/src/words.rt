@@ -1,6 +1,6 @@
 //! Random words, one after another.
 
-ghost use Rattle.std.specs.Prelude.{◌≡◌, ℕ, ◌+◌, List, Option, Some, drop, option_map, slice_index, ◌++◌, ◌∷◌, []};
+ghost use Rattle.std.specs.Prelude.{◌≡◌, ℕ, ◌+◌, ◌^◌, ◌<◌, List, Option, Some, drop, option_map, slice_index, ◌++◌, ◌∷◌, []};
 ghost use Rattle.client_request.specs.Words.{rest_of, IsGivenOn};
 
 use crate::lists::WordList;
@@ -25,4 +25,7 @@ pub trait Words {
 
     /// The list that is left is what comes, with 0 past its end.
     ghost told: { (w : Self) (ws : List ℕ) → left w ≡ Some ws → (k : ℕ) → stream w k ≡ slice_index ws k };
+
+    /// Each word has 64 bits, whether it was drawn or not.
+    ghost words_fit: { (w : Self) (k : ℕ) → stream w k < 2 ^ 64 };
 }
