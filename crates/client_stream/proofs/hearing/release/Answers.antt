@@ -6,8 +6,8 @@ use Rattle.client_stream.specs.Plain as plain
 use Rattle.client_stream.proofs.Taking.{releases}
 use Rattle.client_stream.proofs.hearing.release.Goals as goal
 
-pub returns-clause-follows : goal.returns-clause-follows
-returns-clause-follows g c =
+pub returns : goal.returns
+returns g c =
     let id : c.id-id.result ≡ plain.message_id c.args.message = c.id-id.ensures ∙ ap id_of c.header.ensures in
     let given = c.in_ok-deliver.ensures.leaves in
     let last = c.become_idle_if_unused.ensures.follows in
