@@ -14,13 +14,15 @@ returns g c =
     let step = releases g.Req.Compose.requests g.ReqMulti.Compose.requests c.args.place c.args.message c.args.line.now _ (view_of g.W.Words.stream c.args.cx.now) _ _ c.in-Some.holder _
     c.line.view_is id c.in-Some.ensures.item c.in-Some.ensures.removed given.ok in
     record {
-      lends = record {
-        words = last.lends.words ∙ given.lends.words;
-        outs = last.lends.outs ∙ given.lends.outs;
-        board = last.lends.board ∙ given.lends.board;
-        timers = last.lends.timers ∙ given.lends.timers;
+      follows = record {
+        lends = record {
+          words = last.lends.words ∙ given.lends.words;
+          outs = last.lends.outs ∙ given.lends.outs;
+          board = last.lends.board ∙ given.lends.board;
+          timers = last.lends.timers ∙ given.lends.timers;
+        };
+        ok = subst (λ after. OnOk c.become_idle_if_unused.result (after ≡ Some (c.become_idle_if_unused.new.line, view_of g.W.Words.stream c.become_idle_if_unused.new.cx))) (sym step) last.ok;
+        numbers = λ e. step ∙ last.numbers e;
+        want = last.want;
       };
-      ok = subst (λ after. OnOk c.become_idle_if_unused.result (after ≡ Some (c.become_idle_if_unused.new.line, view_of g.W.Words.stream c.become_idle_if_unused.new.cx))) (sym step) last.ok;
-      numbers = λ e. step ∙ last.numbers e;
-      want = last.want;
     }
