@@ -16,16 +16,18 @@ stays : {R M : Type 0} (one : Requests R) (several : Requests M) (place : ℕ) (
 stays one several place settings [] s v h = refl
 stays one several place settings (entry ∷ queue) s v h = rw h refl
 
-pub returns-clause-follows : goal.returns-clause-follows
-returns-clause-follows g c =
+pub returns : goal.returns
+returns g c =
     let there : is_some c.loop-line.line.writing ≡ true = ap (λ s. is_some s.writing) (sym c.line.view_is) ∙ c.is_none.ensures ∙ ap not c.loop-line-test.false in
     record {
-      lends = c.loop-line.invariant.lends;
-      ok = (
-          sym c.loop-line.invariant.same
-          ∙ stays g.Req.Compose.requests g.ReqMulti.Compose.requests c.args.place c.args.config.now c.loop-line.line.queue c.loop-line.line (view_of g.W.Words.stream c.loop-line.cx) there);
-      numbers = λ e. absurd e;
-      want = tt;
+      follows = record {
+        lends = c.loop-line.invariant.lends;
+        ok = (
+            sym c.loop-line.invariant.same
+            ∙ stays g.Req.Compose.requests g.ReqMulti.Compose.requests c.args.place c.args.config.now c.loop-line.line.queue c.loop-line.line (view_of g.W.Words.stream c.loop-line.cx) there);
+        numbers = λ e. absurd (cc);
+        want = tt;
+      };
     }
 
 pub loop-line-preserved : goal.loop-line-preserved
