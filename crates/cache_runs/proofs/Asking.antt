@@ -10,8 +10,8 @@ use Rattle.dns_base.specs.Message.{question_at, sole_question}
 use Rattle.dns_base.specs.Numbers.{u16_at}
 use Rattle.client_request.specs.Request.{Request, is_dnssec_ok}
 use Rattle.client_request.specs.Carries.{IsOfOctets}
-use Rattle.headline.specs.Messages.{Octets}
-use Rattle.headline.specs.Keys.{Key, key_of, is_cacheable, question_of, question_or, spelled_name}
+use Rattle.right_trace.specs.Messages.{Octets}
+use Rattle.right_trace.specs.Keys.{Key, key_of, is_cacheable, question_of, question_or, spelled_name}
 use Rattle.client_views.specs.Key.{key_in, asked_key}
 use Rattle.client_views.specs.Laws.{kept_key}
 use Rattle.client_views.proofs.KeyLaws.{keys_are_of_requests}

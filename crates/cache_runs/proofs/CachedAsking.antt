@@ -12,12 +12,12 @@ use Rattle.client_request.specs.declared.board.Posted.{Posted as OnBoard}
 use Rattle.client_request.specs.declared.error.Error.TheVariants.{NoTransportAvailable}
 use Rattle.client_request.specs.declared.event.What.TheVariants.{Ask}
 use Rattle.client_request.proofs.Carrying.{composed_says}
-use Rattle.headline.specs.Keys.{is_cacheable}
-use Rattle.headline.specs.Parts.{IsIn}
+use Rattle.right_trace.specs.Keys.{is_cacheable}
+use Rattle.right_trace.specs.Parts.{IsIn}
 use Rattle.headline.specs.machine.Client.{Waiting, Leaving, Entry, Answers, Takes_on, Derives, newcomer, answer, take_on, unmade, outcome_of, validity_of, Nowhere}
 use Rattle.headline.specs.machine.Cache.{Op, after_ops}
 use Rattle.headline.specs.machine.Exact.{Value, ServedBy, Looks, Looked, LeftAlone, OwnServes}
-use Rattle.headline.specs.machine.Streams.{with_at}
+use Rattle.right_trace.specs.Updates.{with_at}
 use Rattle.client_ties.specs.ClientTie as client
 use Rattle.client_ties.specs.ClientTie.{LeadsBeside, WereTried}
 use Rattle.client_ties.specs.Chains.{Gives, part_of}

@@ -6,7 +6,7 @@ use Rattle.client_request.specs.View.{View, told, more_at, due_timer}
 use Rattle.client_request.specs.declared.board.Posted.{Posted}
 use Rattle.client_request.specs.declared.event.What.{What}
 use Rattle.headline.specs.machine.Client.{Waiting}
-use Rattle.headline.specs.machine.Streams.{with_at}
+use Rattle.right_trace.specs.Updates.{with_at}
 use Rattle.client_ties.specs.ClientTie as client
 use Rattle.client_ties.specs.ClientTie.{IsWithout}
 use Rattle.client_ties.specs.PartTie.{Phase, Untold, Told, MayLeave, place_in}

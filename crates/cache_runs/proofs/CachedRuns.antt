@@ -2,10 +2,10 @@
 use Rattle.std.proofs.Common.{◌≡◌, ℕ, true, List, [], map, sym, subst}
 use Rattle.client_request.specs.Composed.{composed}
 use Rattle.client_request.specs.declared.event.Row.{Row}
-use Rattle.headline.specs.Hit.{AllHit}
-use Rattle.headline.specs.Settings.{Settings}
-use Rattle.headline.specs.Timely.{AllAskedInOctets}
-use Rattle.headline.specs.Trace.{Conf}
+use Rattle.right_trace.specs.Hit.{AllHit}
+use Rattle.right_trace.specs.Settings.{Settings}
+use Rattle.right_trace.specs.Timely.{AllAskedInOctets}
+use Rattle.right_trace.specs.Trace.{Conf}
 use Rattle.headline.specs.machine.Client.{Made, Moves, Rests, Goes, IsRun, Ends, Goes_on, row_begins, begun}
 use Rattle.headline.specs.machine.Exact.{AllCached, RunCached}
 use Rattle.headline.specs.machine.Part.{ServerPart}

@@ -4,7 +4,8 @@ use Rattle.client_request.specs.declared.event.Event.{Event}
 use Rattle.client_request.specs.Numbered.{entry_at}
 use Rattle.client_request.specs.Composed.{composed}
 use Rattle.headline.specs.machine.Client.{Waiting, begun, row_begins, store}
-use Rattle.client_ties.specs.ClientTie.{IsClientTie, IsInOctets}
+use Rattle.client_ties.specs.ClientTie.{IsClientTie}
+use Rattle.right_trace.specs.InOctets.{IsInOctets}
 use Rattle.client_ties.specs.PartTie.{Phase, Untold, Told, MayEnd}
 use Rattle.client_ties.specs.Sights.{Sight}
 use Rattle.client_cache.specs.Plain.{Cached, Job}

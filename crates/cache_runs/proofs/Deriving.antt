@@ -8,13 +8,13 @@ use Rattle.client_request.specs.Request.{Request}
 use Rattle.client_request.specs.declared.error.Error.{Error}
 use Rattle.client_request.specs.declared.error.Error.TheVariants as errors
 use Rattle.client_settings.specs.Settings.{CacheSettings}
-use Rattle.headline.specs.Trace.{Conf}
-use Rattle.headline.specs.Messages.{Octets}
-use Rattle.headline.specs.Settings.{Settings}
-use Rattle.headline.specs.Keys.{FlagClass, Do, Ad, Plain, Key, KeysCover, key_of, flags_cover, is_do, is_signing}
-use Rattle.headline.specs.Parts.{Header, flags_in, known_parts}
-use Rattle.headline.specs.Validity.{validity_of_parts, validity_of_message}
-use Rattle.headline.specs.Views.{viewed_header, leaves_out, viewed}
+use Rattle.right_trace.specs.Trace.{Conf}
+use Rattle.right_trace.specs.Messages.{Octets}
+use Rattle.right_trace.specs.Settings.{Settings}
+use Rattle.right_trace.specs.Keys.{FlagClass, Do, Ad, Plain, Key, KeysCover, key_of, flags_cover, is_do, is_signing}
+use Rattle.right_trace.specs.Parts.{Header, flags_in, known_parts}
+use Rattle.right_trace.specs.Validity.{validity_of_parts, validity_of_message}
+use Rattle.right_trace.specs.Views.{viewed_header, leaves_out, viewed}
 use Rattle.headline.specs.machine.Served.{served}
 use Rattle.headline.specs.machine.Client as machine
 use Rattle.client_views.specs.Validity.{with_cache, cached_by, or_unread}

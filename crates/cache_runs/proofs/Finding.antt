@@ -5,14 +5,14 @@ use Rattle.dns_names.proofs.Heads.{none_some}
 use Rattle.client_request.specs.Request.{Request, is_dnssec_ok}
 use Rattle.client_request.specs.declared.error.Error.{Error}
 use Rattle.client_settings.specs.Settings.{CacheSettings, seconds}
-use Rattle.headline.specs.Trace.{Conf}
-use Rattle.headline.specs.Messages.{Octets}
-use Rattle.headline.specs.Settings.{Settings}
-use Rattle.headline.specs.Keys.{FlagClass, Do, Ad, Plain, Key, KeysCover, KeyCovers, key_of, flags_cover, is_do, is_signing}
-use Rattle.headline.specs.Parts.{IsIn}
+use Rattle.right_trace.specs.Trace.{Conf}
+use Rattle.right_trace.specs.Messages.{Octets}
+use Rattle.right_trace.specs.Settings.{Settings}
+use Rattle.right_trace.specs.Keys.{FlagClass, Do, Ad, Plain, Key, KeysCover, KeyCovers, key_of, flags_cover, is_do, is_signing}
+use Rattle.right_trace.specs.Parts.{IsIn}
 use Rattle.headline.specs.machine.Client as machine
 use Rattle.headline.specs.machine.Client.{AtOnce, Refused, Unread}
-use Rattle.headline.proofs.client.Valid.{valid_is_read}
+use Rattle.right_trace.proofs.Valid.{valid_is_read}
 use Rattle.client_views.specs.declared.key.AdDo.{AdDo}
 use Rattle.client_views.specs.declared.key.AdDo.TheVariants as classes
 use Rattle.client_views.specs.Key.{flag_class}

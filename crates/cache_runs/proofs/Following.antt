@@ -2,8 +2,8 @@
 use Rattle.std.proofs.Common.{◌≡◌, ℕ, ◌⊎◌, inl, inr, List, [], ◌++◌, Option, Some, refl, sym, ap, subst, ◌∙◌, append_assoc, append-nil}
 use Rattle.client_request.specs.Composed.{composed}
 use Rattle.client_request.specs.declared.event.Out.{Out}
-use Rattle.headline.specs.Settings.{Settings}
-use Rattle.headline.specs.Trace.{Conf}
+use Rattle.right_trace.specs.Settings.{Settings}
+use Rattle.right_trace.specs.Trace.{Conf}
 use Rattle.headline.specs.machine.Part.{ServerPart}
 use Rattle.headline.specs.machine.Client.{Waiting, Upper, Made, Move, Server_moves, Hands_on, Gives_up, Drops, Keeps_back, Delivers, Concludes, Times_out, Replies, Forgets, Derives, Answers, Takes_on}
 use Rattle.client_ties.specs.ClientTie.{Beside, LeadsBeside, WereTried}

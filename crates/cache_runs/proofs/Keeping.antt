@@ -7,12 +7,12 @@ use Rattle.dns_base.specs.Header.{with_aa}
 use Rattle.dns_base.specs.Message.{header_of}
 use Rattle.client_request.specs.Request.{Request}
 use Rattle.client_settings.specs.Settings.{CacheSettings}
-use Rattle.headline.specs.Messages.{Octets}
-use Rattle.headline.specs.Settings.{Settings}
-use Rattle.headline.specs.Keys.{FlagClass, Do, Ad, Plain, Key, key_of, is_cacheable}
-use Rattle.headline.specs.Parts.{flags_in}
-use Rattle.headline.specs.Validity.{validity_of_message}
-use Rattle.headline.specs.Views.{viewed_header}
+use Rattle.right_trace.specs.Messages.{Octets}
+use Rattle.right_trace.specs.Settings.{Settings}
+use Rattle.right_trace.specs.Keys.{FlagClass, Do, Ad, Plain, Key, key_of, is_cacheable}
+use Rattle.right_trace.specs.Parts.{flags_in}
+use Rattle.right_trace.specs.Validity.{validity_of_message}
+use Rattle.right_trace.specs.Views.{viewed_header}
 use Rattle.headline.specs.machine.Client as machine
 use Rattle.headline.specs.machine.Exact.{Value}
 use Rattle.client_views.specs.Validity.{with_cache, cached_by, kept_for, or_unread}

@@ -1,3 +1,4 @@
+pub mod LookUps
 pub mod Tables
 pub mod Listing
 pub mod Octets

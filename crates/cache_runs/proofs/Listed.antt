@@ -8,13 +8,13 @@ use Rattle.lru.specs.LruCache.{lru_cache, promoted, put_entries}
 use Rattle.client_request.specs.Request.{Request, is_dnssec_ok}
 use Rattle.client_request.specs.declared.error.Error.{Error}
 use Rattle.client_settings.specs.Settings.{CacheSettings, seconds}
-use Rattle.headline.specs.Messages.{Octets}
-use Rattle.headline.specs.Settings.{Settings}
-use Rattle.headline.specs.Keys.{FlagClass, Do, Ad, Plain, Key, key_of, spelled_name, is_cacheable, question_or}
+use Rattle.right_trace.specs.Messages.{Octets}
+use Rattle.right_trace.specs.Settings.{Settings}
+use Rattle.right_trace.specs.Keys.{FlagClass, Do, Ad, Plain, Key, key_of, spelled_name, is_cacheable, question_or}
 use Rattle.dns_base.specs.Message.{sole_question}
-use Rattle.headline.specs.Trace.{Conf}
-use Rattle.headline.specs.Validity.{validity_of_parts}
-use Rattle.headline.specs.Views.{viewed}
+use Rattle.right_trace.specs.Trace.{Conf}
+use Rattle.right_trace.specs.Validity.{validity_of_parts}
+use Rattle.right_trace.specs.Views.{viewed}
 use Rattle.headline.specs.machine.Cache.{Op, Uses, Stores, AskDoes, Misses, Takes, TakesFlags, TakesRd, TakesBoth, First, NoneThere, tried, in_block, after_ops}
 use Rattle.headline.specs.machine.Client as machine
 use Rattle.headline.specs.machine.Exact.{Value, Serves, ServedBy, Viewing, NotReading}
@@ -24,7 +24,7 @@ use Rattle.client_views.specs.Key.{same_key, same_is_equal, flag_class, key_in}
 use Rattle.client_views.specs.Validity.{with_cache}
 use Rattle.client_views.proofs.KeyLaws.{keys_are_of_requests}
 use Rattle.client_cache.specs.Keeping.{Stored, Entry, Table, Asked, Outcome, asked_in, entry_under, with_flags, flags, if_kept, or_else, first_above_ad, first_from_ad, first_of_class, first_class, same_class, is_own, shown, serves, gives_own, takes_own, takes_other, takes, uses, looks_up}
-use Rattle.client_cache.proofs.Asking.{look_ups_are_askings}
+use Rattle.cache_runs.proofs.LookUps.{look_ups_are_askings}
 use Rattle.cache_runs.specs.Laws.{ListsAs, LookUpsAreListed, RequestsAreListed, found_asking, found_for}
 use Rattle.cache_runs.specs.Listing.{Agree, AreAlike, StandsFor}
 use Rattle.cache_runs.specs.Standing.{KeepsMessage, KeepsResult, Message, Fault, StandsForStored, IsAskedBy}

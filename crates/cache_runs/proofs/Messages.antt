@@ -15,9 +15,9 @@ use Rattle.dns_base.specs.Draft.{Draft, fresh, with_header, finished, pushed_que
 use Rattle.client_request.specs.declared.error.CopyRecordsError.{CopyRecordsError}
 use Rattle.client_request.specs.declared.error.CopyRecordsError.TheVariants.{Parse, Push}
 use Rattle.client_request.specs.Composed.{Copied, ◌>>◌, unless, adds, each, section_items, message_of}
-use Rattle.headline.specs.Messages.{Octets}
-use Rattle.headline.specs.Keys.{FlagClass, is_plain, is_signing}
-use Rattle.headline.specs.Views.{with_name}
+use Rattle.right_trace.specs.Messages.{Octets}
+use Rattle.right_trace.specs.Keys.{FlagClass, is_plain, is_signing}
+use Rattle.right_trace.specs.Views.{with_name}
 use Rattle.client_views.specs.Viewing.{header_between, written_then, asks_under, carries_data, carries, carries_found, carries_section, carries_all, carried, view_octets}
 use Rattle.client_views.proofs.Carrying.{Each, section_good}
 use Rattle.cache_runs.specs.Standing.{IsMessage}

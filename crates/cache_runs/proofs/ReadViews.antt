@@ -4,13 +4,13 @@ use Rattle.std.specs.Prelude.{if◌then◌else◌, not, map, ◌*◌, min}
 use Rattle.dns_names.specs.Name.{Labels}
 use Rattle.dns_base.specs.Data.{Data}
 use Rattle.dns_base.specs.Message.{Asked}
-use Rattle.headline.specs.Messages.{Octets}
-use Rattle.headline.specs.Settings.{Settings}
-use Rattle.headline.specs.Keys.{Key, is_signing}
-use Rattle.headline.specs.Parts.{Item, Parts, read_parts, known_parts}
-use Rattle.headline.specs.Validity.{second, has_item, least, without_opt, good_limit, limit, validity_of_parts}
-use Rattle.headline.specs.Views.{leaves_out, lessened, mostly_lessened, without_signing, viewed}
-use Rattle.headline.proofs.client.Said.{known_is_read}
+use Rattle.right_trace.specs.Messages.{Octets}
+use Rattle.right_trace.specs.Settings.{Settings}
+use Rattle.right_trace.specs.Keys.{Key, is_signing}
+use Rattle.right_trace.specs.Parts.{Item, Parts, read_parts, known_parts}
+use Rattle.right_trace.specs.Validity.{second, has_item, least, without_opt, good_limit, limit, validity_of_parts}
+use Rattle.right_trace.specs.Views.{leaves_out, lessened, mostly_lessened, without_signing, viewed}
+use Rattle.right_trace.proofs.Said.{known_is_read}
 
 -- a record without its owner and its data
 abbrev bare : {C : Type 0} → Item C → Item (Unit {0})

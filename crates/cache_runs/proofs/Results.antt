@@ -6,15 +6,15 @@ use Rattle.client_request.specs.Request.{Request}
 use Rattle.client_request.specs.declared.error.Error.{Error}
 use Rattle.client_request.specs.declared.event.Event.{Event}
 use Rattle.client_request.specs.declared.event.Out.{Out}
-use Rattle.headline.specs.Trace.{Conf}
-use Rattle.headline.specs.Messages.{Octets}
-use Rattle.headline.specs.Parts.{IsIn}
-use Rattle.headline.specs.Settings.{Settings}
-use Rattle.headline.specs.Keys.{is_cacheable}
+use Rattle.right_trace.specs.Trace.{Conf}
+use Rattle.right_trace.specs.Messages.{Octets}
+use Rattle.right_trace.specs.Parts.{IsIn}
+use Rattle.right_trace.specs.Settings.{Settings}
+use Rattle.right_trace.specs.Keys.{is_cacheable}
 use Rattle.headline.specs.machine.Part.{Post, Act, ServerPart, IsPosted}
 use Rattle.headline.specs.machine.Client.{Posted, Given, Waiting, Leaving, Upper, Made, with_held, tag, moved, handing, hand, keeping, first_message, first_result, or_else, best, validity_of, outcome_of, IsOutcome, Caches, Passes, leave, newcomer, take_on, Move, Server_moves, Hands_on, Gives_up, Drops, Keeps_back, Delivers, Concludes, Times_out, Replies, Forgets, Derives, Answers, Takes_on, row_begins, begun}
 use Rattle.headline.proofs.client.Lists.{in_either, in_here, in_more, in_tagged}
-use Rattle.client_ties.specs.ClientTie.{IsInOctets}
+use Rattle.right_trace.specs.InOctets.{IsInOctets}
 use Rattle.cache_runs.specs.Standing.{IsResult}
 use Rattle.client_ties.specs.Leading.{IsBelow, Leads, Arrives, Then}
 use Rattle.cache_runs.specs.Results.{AllResults, GivesMessages, Sanely, LeavesWithResult, WentOn}

@@ -7,18 +7,19 @@ use Rattle.std.proofs.lemmas.List.{get_or-reverse, get_or_past, length-reverse}
 use Rattle.client_request.specs.Request.{Request}
 use Rattle.client_request.specs.declared.error.Error.{Error}
 use Rattle.client_request.specs.declared.event.What.{What}
-use Rattle.headline.specs.Frames.{Reading, Length, LengthAfter, Body, Fed, settled, fed_one, fed, is_bad}
-use Rattle.headline.specs.Messages.{Octets, answers, truncated, id_in}
-use Rattle.headline.specs.Trace.{Conf}
+use Rattle.right_trace.specs.Frames.{Reading, Length, LengthAfter, Body, Fed, settled, fed_one, fed, is_bad}
+use Rattle.right_trace.specs.Messages.{Octets, answers, truncated, id_in}
+use Rattle.right_trace.specs.Trace.{Conf}
 use Rattle.headline.specs.machine.Part.{Act}
 use Rattle.headline.specs.machine.Dgrams.{Stage, Tryer, Dgrams, stage_of}
-use Rattle.headline.specs.machine.Streams.{Conn, Multi, with_at, result_of, TakesFrame, unheard, begin_row}
+use Rattle.headline.specs.machine.Streams.{Conn, Multi, result_of, TakesFrame, unheard, begin_row}
+use Rattle.right_trace.specs.Updates.{with_at}
 use Rattle.headline.specs.machine.Served.{Served, served, posts_of, Settles, AsItIs, WithResult, Acts, ByDgram, ByStream, FallsBack, TellsDgrams, TellsStreams, Reads, TakesOne, ClosesFirst, Starts, IsHanded, Cancels, IsGivenUp}
 use Rattle.headline.specs.machine.Server as server
 use Rattle.headline.specs.machine.Streams as multi
 use Rattle.headline.specs.machine.Dgrams as dgrams
 use Rattle.client_request.specs.declared.error.Error.TheVariants as errors
-use Rattle.client_ties.specs.ClientTie.{AreOctets, IsInOctets}
+use Rattle.right_trace.specs.InOctets.{AreOctets, IsInOctets}
 use Rattle.cache_runs.specs.Standing.{IsMessage, IsResult}
 use Rattle.cache_runs.specs.Results.{AllResults, GivesMessages, IsReadInOctets, SaneServed}
 

@@ -13,13 +13,13 @@ use Rattle.client_request.specs.Composed.{Copied, ◌>>◌, message_of, error_of
 use Rattle.client_request.specs.declared.error.Error.{Error}
 use Rattle.client_request.specs.declared.error.Error.TheVariants as errors
 use Rattle.client_settings.specs.Settings.{seconds}
-use Rattle.headline.specs.Trace.{Conf}
-use Rattle.headline.specs.Messages.{Octets}
-use Rattle.headline.specs.Settings.{Settings}
-use Rattle.headline.specs.Keys.{Key, KeysCover, KeyCovers, key_of, spelled_name}
-use Rattle.headline.specs.Parts.{IsIn, Parts, flags_in, known_parts, lowered_parts, Says}
-use Rattle.headline.specs.Validity.{second, validity_of_parts}
-use Rattle.headline.specs.Views.{viewed_header, with_name, leaves_out, viewed, view_of}
+use Rattle.right_trace.specs.Trace.{Conf}
+use Rattle.right_trace.specs.Messages.{Octets}
+use Rattle.right_trace.specs.Settings.{Settings}
+use Rattle.right_trace.specs.Keys.{Key, KeysCover, KeyCovers, key_of, spelled_name}
+use Rattle.right_trace.specs.Parts.{IsIn, Parts, flags_in, known_parts, lowered_parts, Says}
+use Rattle.right_trace.specs.Validity.{second, validity_of_parts}
+use Rattle.right_trace.specs.Views.{viewed_header, with_name, leaves_out, viewed, view_of}
 use Rattle.headline.specs.machine.Client as machine
 use Rattle.headline.specs.machine.Client.{AtOnce, Viewed, Unread, Repeated}
 use Rattle.client_views.specs.Viewing.{carries_all, carried, view_octets, IsViewable}

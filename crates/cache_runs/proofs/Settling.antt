@@ -8,12 +8,12 @@ use Rattle.client_request.specs.Numbered.{entry_at, frees}
 use Rattle.client_request.specs.Request.{Request}
 use Rattle.client_request.specs.View.{View, answers}
 use Rattle.client_request.specs.declared.board.Posted.{Posted}
-use Rattle.headline.specs.Keys.{Key, is_cacheable}
-use Rattle.headline.specs.Settings.{Settings}
+use Rattle.right_trace.specs.Keys.{Key, is_cacheable}
+use Rattle.right_trace.specs.Settings.{Settings}
 use Rattle.headline.specs.machine.Client.{Waiting, Leaving, Entry, outcome, outcome_of, store}
 use Rattle.headline.specs.machine.Client as machine
 use Rattle.headline.specs.machine.Part.{Post}
-use Rattle.headline.specs.machine.Streams.{with_at}
+use Rattle.right_trace.specs.Updates.{with_at}
 use Rattle.client_ties.specs.Chains.{Gives, part_of}
 use Rattle.client_ties.specs.ClientTie.{reply_of}
 use Rattle.client_ties.specs.WholeTie.{Gave, leaving_of, post_of}

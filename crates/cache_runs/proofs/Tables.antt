@@ -5,8 +5,8 @@ use Rattle.std.specs.List.{AllByRecursion}
 use Rattle.std.specs.Option.{option_map_or}
 use Rattle.std.specs.Map.{lookup, lookup_entry, remove_entry}
 use Rattle.lru.specs.LruCache.{promoted, put_entries}
-use Rattle.headline.specs.Keys.{Key}
-use Rattle.headline.specs.Settings.{Settings}
+use Rattle.right_trace.specs.Keys.{Key}
+use Rattle.right_trace.specs.Settings.{Settings}
 use Rattle.headline.specs.machine.Client as machine
 use Rattle.client_views.specs.Key.{same_key, same_is_equal}
 use Rattle.client_cache.specs.Keeping.{Entry, Table, uses, stores}

@@ -7,15 +7,15 @@ use Rattle.dns_names.proofs.Heads.{none_some}
 use Rattle.dns_base.specs.Data.{Data}
 use Rattle.dns_base.specs.Header.{rcode_of}
 use Rattle.dns_base.specs.Message.{header_of}
-use Rattle.headline.specs.Messages.{Octets}
-use Rattle.headline.specs.Settings.{Settings}
-use Rattle.headline.specs.Keys.{FlagClass, Do, Ad, Plain, Key, KeysCover, flags_cover, is_do, is_signing}
-use Rattle.headline.specs.Parts.{Header, Item, Parts, flags_in, read_parts, known_parts, lowered_parts, Says}
-use Rattle.headline.specs.Validity.{second, least, without_opt, limit, validity_of_parts, validity_of_message}
-use Rattle.headline.specs.Views.{viewed_header, with_name, leaves_out, lessened, mostly_lessened, without_signing, viewed}
-use Rattle.headline.proofs.client.Deriving.{viewed_twice}
-use Rattle.headline.proofs.client.Said.{known_validity}
-use Rattle.headline.proofs.client.Valid.{own_view_valid, valid_is_read}
+use Rattle.right_trace.specs.Messages.{Octets}
+use Rattle.right_trace.specs.Settings.{Settings}
+use Rattle.right_trace.specs.Keys.{FlagClass, Do, Ad, Plain, Key, KeysCover, flags_cover, is_do, is_signing}
+use Rattle.right_trace.specs.Parts.{Header, Item, Parts, flags_in, read_parts, known_parts, lowered_parts, Says}
+use Rattle.right_trace.specs.Validity.{second, least, without_opt, limit, validity_of_parts, validity_of_message}
+use Rattle.right_trace.specs.Views.{viewed_header, with_name, leaves_out, lessened, mostly_lessened, without_signing, viewed}
+use Rattle.right_trace.proofs.Deriving.{viewed_twice}
+use Rattle.right_trace.proofs.Said.{known_validity}
+use Rattle.right_trace.proofs.Valid.{own_view_valid, valid_is_read}
 use Rattle.client_views.specs.Viewing.{header_between, under_header}
 use Rattle.client_views.proofs.Headers.{header_long}
 use Rattle.client_views.proofs.Saying.{what_is_known}

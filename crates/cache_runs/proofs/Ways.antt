@@ -6,7 +6,7 @@ use Rattle.client_request.specs.Composed.{composed}
 use Rattle.client_request.specs.Request.{Request, is_dnssec_ok}
 use Rattle.client_request.proofs.Carrying.{composed_says}
 use Rattle.dns_base.specs.Message.{sole_question}
-use Rattle.headline.specs.Keys.{Key, question_or}
+use Rattle.right_trace.specs.Keys.{Key, question_or}
 use Rattle.client_views.specs.Laws.{kept_key}
 use Rattle.client_views.specs.Key.{key_in}
 use Rattle.client_views.proofs.KeyLaws.{keys_are_of_requests}

@@ -8,9 +8,9 @@ use Rattle.client_request.specs.Requests.{for_one}
 use Rattle.client_request.specs.View.{View, Transport, answers, draws_ticket}
 use Rattle.client_request.specs.declared.error.Error.TheVariants.{NoTransportAvailable}
 use Rattle.client_settings.specs.Settings.{CacheSettings, seconds}
-use Rattle.headline.specs.Keys.{Key}
-use Rattle.headline.specs.Settings.{Settings}
-use Rattle.headline.specs.Trace.{Conf}
+use Rattle.right_trace.specs.Keys.{Key}
+use Rattle.right_trace.specs.Settings.{Settings}
+use Rattle.right_trace.specs.Trace.{Conf}
 use Rattle.headline.specs.machine.Part.{ServerPart}
 use Rattle.headline.specs.machine.Client.{Waiting, Leaving, Entry, Upper, store}
 use Rattle.headline.specs.machine.Exact.{Value}

@@ -4,10 +4,10 @@ use Rattle.std.specs.Map.{lookup}
 use Rattle.client_request.specs.Request.{Request, is_dnssec_ok}
 use Rattle.client_request.specs.Carries.{SaysRequest, IsOfOctets}
 use Rattle.client_settings.specs.Settings.{CacheSettings, seconds}
-use Rattle.headline.specs.Trace.{Conf}
-use Rattle.headline.specs.Messages.{Octets}
-use Rattle.headline.specs.Settings.{Settings}
-use Rattle.headline.specs.Keys.{Key, key_of, is_cacheable}
+use Rattle.right_trace.specs.Trace.{Conf}
+use Rattle.right_trace.specs.Messages.{Octets}
+use Rattle.right_trace.specs.Settings.{Settings}
+use Rattle.right_trace.specs.Keys.{Key, key_of, is_cacheable}
 use Rattle.headline.specs.machine.Cache.{Op, AskDoes, after_ops}
 use Rattle.headline.specs.machine.Served.{served}
 use Rattle.headline.specs.machine.Client as machine

@@ -1,3 +1,4 @@
+pub mod LookUps
 pub mod Standing
 pub mod Listing
 pub mod Laws

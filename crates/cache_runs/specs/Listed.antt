@@ -4,10 +4,9 @@ use Rattle.std.proofs.Common.{sym, subst}
 use Rattle.lru.specs.LruCache.{lru_cache, put_entries}
 use Rattle.client_request.specs.Composed.{composed}
 use Rattle.client_request.specs.declared.event.Row.{Row}
-use Rattle.headline.specs.Hit.{AllHit}
-use Rattle.headline.specs.Keys.{key_of}
-use Rattle.headline.specs.Theorem.{TellsKeys}
-use Rattle.headline.specs.Timely.{AllAskedInOctets}
+use Rattle.right_trace.specs.Hit.{AllHit}
+use Rattle.right_trace.specs.Keys.{key_of, TellsKeys}
+use Rattle.right_trace.specs.Timely.{AllAskedInOctets}
 use Rattle.headline.specs.machine.Client.{Made, Move, Server_moves, Hands_on, Gives_up, Drops, Keeps_back, Delivers, Concludes, Times_out, Replies, Forgets, Derives, Answers, Takes_on, IsRun, begun}
 use Rattle.headline.specs.machine.Exact as exact
 use Rattle.headline.specs.machine.Exact.{value_of, RunCached}

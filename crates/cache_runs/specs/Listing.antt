@@ -4,8 +4,8 @@
 --   the table:  what stands for it ──► under the same key, at the same place
 use Rattle.std.specs.Prelude.{◌≡◌, ℕ, if◌then◌else◌, List, [], ◌∷◌}
 use Rattle.lru.specs.LruCache.{lru_cache, put_entries}
-use Rattle.headline.specs.Settings.{Settings}
-use Rattle.headline.specs.Keys.{Key, key_of}
+use Rattle.right_trace.specs.Settings.{Settings}
+use Rattle.right_trace.specs.Keys.{Key, key_of}
 use Rattle.headline.specs.machine.Client as machine
 use Rattle.headline.specs.machine.Exact.{Value, value_of}
 use Rattle.client_views.specs.Key.{same_key}

@@ -4,16 +4,16 @@ use Rattle.std.specs.List.{AllByRecursion}
 use Rattle.client_request.specs.Request.{Request}
 use Rattle.client_request.specs.declared.error.Error.{Error}
 use Rattle.client_request.specs.declared.event.Event.{Event}
-use Rattle.headline.specs.Trace.{Conf}
-use Rattle.headline.specs.Messages.{Octets}
-use Rattle.headline.specs.Frames.{Reading, Length, LengthAfter, Body}
-use Rattle.headline.specs.Parts.{IsIn}
+use Rattle.right_trace.specs.Trace.{Conf}
+use Rattle.right_trace.specs.Messages.{Octets}
+use Rattle.right_trace.specs.Frames.{Reading, Length, LengthAfter, Body}
+use Rattle.right_trace.specs.Parts.{IsIn}
 use Rattle.headline.specs.machine.Part.{Post, Act, ServerPart}
 use Rattle.headline.specs.machine.Dgrams.{Tryer, Ending}
 use Rattle.headline.specs.machine.Streams.{Conn}
 use Rattle.headline.specs.machine.Served.{Served}
 use Rattle.headline.specs.machine.Client.{Posted, Given, Waiting, Leaving, Upper}
-use Rattle.client_ties.specs.ClientTie.{AreOctets, IsInOctets}
+use Rattle.right_trace.specs.InOctets.{AreOctets, IsInOctets}
 use Rattle.cache_runs.specs.Standing.{IsResult}
 
 -- each is an error or a message

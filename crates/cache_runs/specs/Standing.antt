@@ -9,12 +9,12 @@ use Rattle.dns_base.specs.Data.{Data}
 use Rattle.dns_base.specs.Message.{header_of}
 use Rattle.client_request.specs.Request.{Request}
 use Rattle.client_request.specs.declared.error.Error.{Error}
-use Rattle.headline.specs.Messages.{Octets}
-use Rattle.headline.specs.Settings.{Settings}
-use Rattle.headline.specs.Keys.{Key, KeysCover, key_of, spelled_name, is_cacheable}
-use Rattle.headline.specs.Parts.{IsIn, Parts, flags_in, known_parts, Says}
-use Rattle.headline.specs.Validity.{validity_of_message, validity_of_parts}
-use Rattle.headline.specs.Views.{viewed_header, leaves_out, viewed}
+use Rattle.right_trace.specs.Messages.{Octets}
+use Rattle.right_trace.specs.Settings.{Settings}
+use Rattle.right_trace.specs.Keys.{Key, KeysCover, key_of, spelled_name, is_cacheable}
+use Rattle.right_trace.specs.Parts.{IsIn, Parts, flags_in, known_parts, Says}
+use Rattle.right_trace.specs.Validity.{validity_of_message, validity_of_parts}
+use Rattle.right_trace.specs.Views.{viewed_header, leaves_out, viewed}
 use Rattle.headline.specs.machine.Client as machine
 use Rattle.client_cache.specs.Keeping.{Stored, Entry, Table, Asked, Outcome}
 

@@ -1,5 +1,6 @@
 //! What a cache does, in moves of the machine of `headline`.
 
+ghost use Rattle.cache_runs.specs.LookUps.{LookUpsAreAskings};
 ghost use Rattle.cache_runs.specs.Laws.{AskedAreOfRequests, DerivingIsMoving, LookUpsAreAnswers, LookUpsAreListed, RequestsAreAnswered, RequestsAreListed, ResultsAreGiven, StandingLaws, WhatIsKeptIsStored};
 ghost use Rattle.cache_runs.specs.Listed.{KeysAreTold};
 
@@ -55,4 +56,9 @@ pub fn results_are_given()
 /// The test of keys tells equal ones.
 pub fn keys_are_told()
     ensures { KeysAreTold }
+{}
+
+/// Looking up uses and stores what an asking does that is hit or missed in the machine of `headline`.
+pub fn look_ups_are_askings()
+    ensures { LookUpsAreAskings }
 {}

@@ -1,7 +1,7 @@
 -- Requests that are due stay aside of a server while another one changes.
 use Rattle.std.proofs.Common.{◌≡◌, ℕ, ◌≤◌, inl, inr, Option, Some, None, refl, ap, subst, ◌∙◌}
 use Rattle.client_request.specs.View.{View}
-use Rattle.headline.specs.machine.Streams.{with_at}
+use Rattle.right_trace.specs.Updates.{with_at}
 use Rattle.client_ties.specs.Sights.{due_of}
 use Rattle.client_ties.proofs.Keys.{with_there, is_or_was}
 use Rattle.choice_runs.specs.Choosing.{Choosing}

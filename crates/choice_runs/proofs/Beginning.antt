@@ -10,10 +10,10 @@ use Rattle.client_choice.specs.Choice.{Choice, arms, begun, begun_at, begins, pa
 use Rattle.client_choice.specs.Servers.{Server, owner, for_request, starts_at}
 use Rattle.client_choice.specs.declared.job.ListedServer.{ListedServer}
 use Rattle.client_choice.specs.declared.servers.Reply.{Reply}
-use Rattle.headline.specs.Messages.{Octets}
+use Rattle.right_trace.specs.Messages.{Octets}
 use Rattle.headline.specs.machine.Client.{Posted, hand, with_up, tag}
 use Rattle.headline.specs.machine.Part.{Post}
-use Rattle.headline.specs.machine.Streams.{with_at}
+use Rattle.right_trace.specs.Updates.{with_at}
 use Rattle.client_ties.specs.Chains.{part_of}
 use Rattle.client_ties.specs.Lines.{Sorted}
 use Rattle.client_ties.specs.PartTie.{Phase, Leads as IfLeft}

@@ -8,7 +8,7 @@ use Rattle.client_request.specs.View.{View}
 use Rattle.client_request.specs.declared.event.Out.{Out}
 use Rattle.client_choice.specs.Choice.{Choice, drops, drops_job, drops_each, unset, stopped, unarmed, disarmed}
 use Rattle.headline.specs.machine.Client.{Waiting}
-use Rattle.headline.specs.machine.Streams.{with_at}
+use Rattle.right_trace.specs.Updates.{with_at}
 use Rattle.client_ties.specs.Lines.{Sorted}
 use Rattle.client_ties.specs.PartTie.{Phase, Leads as IfLeft}
 use Rattle.client_ties.specs.Sights.{sight}

@@ -1,7 +1,7 @@
 -- What agrees of the requests stays so while one of them changes, or ends.
 use Rattle.std.proofs.Common.{◌≡◌, ℕ, ◌<◌, ◌⊎◌, inl, inr, [], length, Option, Some, None, refl, sym, ap, subst, ◌∙◌}
 use Rattle.headline.specs.machine.Client.{Waiting}
-use Rattle.headline.specs.machine.Streams.{with_at}
+use Rattle.right_trace.specs.Updates.{with_at}
 use Rattle.client_ties.proofs.Keys.{each_number, with_here, with_there, was_there}
 use Rattle.choice_runs.specs.Choosing.{Choosing}
 use Rattle.choice_runs.specs.Requests.{Work, Begun, Desk, Waits, IsKept, IsOwed, IsNamed, AreKept}

@@ -8,7 +8,7 @@ use Rattle.client_request.specs.Timers.{cancelled}
 use Rattle.client_request.specs.View.{View}
 use Rattle.client_choice.specs.Choice.{Choice, stopped, unarmed, disarmed, judges_each}
 use Rattle.client_choice.specs.Servers.{Server, owner, owner_at, judges, judges_found, judged}
-use Rattle.headline.specs.machine.Streams.{with_at}
+use Rattle.right_trace.specs.Updates.{with_at}
 use Rattle.client_ties.specs.Lines.{Sorted}
 use Rattle.client_ties.specs.PartTie.{Phase, GoesOn}
 use Rattle.client_ties.specs.Sights.{sight, due_of, IsFair}

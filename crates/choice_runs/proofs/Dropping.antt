@@ -9,10 +9,10 @@ use Rattle.client_request.specs.declared.event.Out.{Out}
 use Rattle.client_request.specs.declared.board.Posted.{Posted}
 use Rattle.client_choice.specs.Choice.{Choice, drops_each, drops_response}
 use Rattle.client_choice.specs.Servers.{Server, owner, owner_at, drops_at}
-use Rattle.headline.specs.Parts.{IsIn}
+use Rattle.right_trace.specs.Parts.{IsIn}
 use Rattle.headline.specs.machine.Client.{Waiting, with_up, tag}
 use Rattle.headline.specs.machine.Part.{Post}
-use Rattle.headline.specs.machine.Streams.{with_at}
+use Rattle.right_trace.specs.Updates.{with_at}
 use Rattle.client_ties.specs.Chains.{Gives}
 use Rattle.client_ties.specs.Lines.{Sorted}
 use Rattle.client_ties.specs.PartTie.{Phase, Untold, Told, Passed, IsOpen, GoesOn, Leads as IfLeft}

@@ -8,10 +8,10 @@ use Rattle.client_request.specs.Request.{Request}
 use Rattle.client_request.specs.View.{View, answers}
 use Rattle.client_request.specs.declared.event.Out.{Out}
 use Rattle.client_choice.specs.Choice.{Choice, ends, gives_up, judged, drops_each, stopped, unarmed, disarmed}
-use Rattle.headline.specs.Parts.{IsIn}
-use Rattle.headline.specs.Validity.{waits_for_others}
+use Rattle.right_trace.specs.Parts.{IsIn}
+use Rattle.right_trace.specs.Validity.{waits_for_others}
 use Rattle.headline.specs.machine.Client.{Posted, Move, Caches, Delivers, leave, unmade}
-use Rattle.headline.specs.machine.Streams.{with_at}
+use Rattle.right_trace.specs.Updates.{with_at}
 use Rattle.client_ties.specs.Chains.{part_of}
 use Rattle.client_ties.specs.PartTie.{Phase, Leads as IfLeft}
 use Rattle.client_ties.specs.WholeTie.{Gave, leaving_of}

@@ -8,9 +8,9 @@ use Rattle.client_request.specs.Timers.{cancelled}
 use Rattle.client_request.specs.View.{View}
 use Rattle.client_choice.specs.Choice.{Choice, due, due_at, fires, runs, disarmed, unarmed, stopped}
 use Rattle.client_choice.specs.declared.job.ListedServer.{ListedServer}
-use Rattle.headline.specs.Parts.{IsIn}
+use Rattle.right_trace.specs.Parts.{IsIn}
 use Rattle.headline.specs.machine.Client.{Posted}
-use Rattle.headline.specs.machine.Streams.{with_at}
+use Rattle.right_trace.specs.Updates.{with_at}
 use Rattle.client_ties.specs.Lines.{Sorted}
 use Rattle.client_ties.specs.PartTie.{Phase, Leads as IfLeft}
 use Rattle.client_ties.proofs.Keys.{with_here, with_there, with_same}

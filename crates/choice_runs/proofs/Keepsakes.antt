@@ -4,7 +4,7 @@ use Rattle.std.specs.Prelude.{option_map}
 use Rattle.client_request.specs.Board.{Part}
 use Rattle.client_request.specs.declared.error.Error.{Error}
 use Rattle.client_choice.specs.Choice.{is_better}
-use Rattle.headline.specs.Messages.{Octets}
+use Rattle.right_trace.specs.Messages.{Octets}
 use Rattle.headline.specs.machine.Client.{Given, first_message, first_result, or_else, best}
 use Rattle.client_ties.specs.Chains.{part_of}
 

@@ -5,10 +5,10 @@ use Rattle.client_request.specs.Request.{Request}
 use Rattle.client_request.specs.declared.error.Error.{Error}
 use Rattle.client_choice.specs.Choice as choice
 use Rattle.client_settings.specs.Settings.{RedundantSettings}
-use Rattle.headline.specs.Keys.{is_cacheable}
-use Rattle.headline.specs.Messages.{Octets}
-use Rattle.headline.specs.Settings.{Settings}
-use Rattle.headline.specs.Validity.{is_deferred, waits_for_others}
+use Rattle.right_trace.specs.Keys.{is_cacheable}
+use Rattle.right_trace.specs.Messages.{Octets}
+use Rattle.right_trace.specs.Settings.{Settings}
+use Rattle.right_trace.specs.Validity.{is_deferred, waits_for_others}
 use Rattle.headline.specs.machine.Client.{outcome, outcome_of, validity_of}
 use Rattle.client_ties.specs.Chains.{part_of}
 use Rattle.choice_runs.specs.Choosing.{SameDeferring}

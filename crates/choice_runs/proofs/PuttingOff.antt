@@ -5,9 +5,9 @@ use Rattle.client_request.specs.Composed.{composed}
 use Rattle.client_request.specs.Request.{Request}
 use Rattle.client_request.specs.View.{View}
 use Rattle.client_choice.specs.Choice.{Choice, ChoiceJob, put_off, is_better}
-use Rattle.headline.specs.Validity.{waits_for_others}
+use Rattle.right_trace.specs.Validity.{waits_for_others}
 use Rattle.headline.specs.machine.Client.{Waiting, Posted, Given, Keeps_back, keeping, unmade, with_held}
-use Rattle.headline.specs.machine.Streams.{with_at}
+use Rattle.right_trace.specs.Updates.{with_at}
 use Rattle.client_ties.specs.Chains.{part_of}
 use Rattle.client_ties.specs.PartTie.{Phase}
 use Rattle.client_ties.proofs.Keys.{each_number, with_here, with_there, is_or_was}

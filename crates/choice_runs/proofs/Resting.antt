@@ -10,10 +10,10 @@ use Rattle.client_request.specs.Request.{Request}
 use Rattle.client_request.specs.View.{View, answers}
 use Rattle.client_request.specs.declared.error.Error.{Error}
 use Rattle.client_choice.specs.Choice.{Choice, rests, keeps, gives, is_over, all_gave}
-use Rattle.headline.specs.Messages.{Octets}
-use Rattle.headline.specs.Parts.{IsIn}
+use Rattle.right_trace.specs.Messages.{Octets}
+use Rattle.right_trace.specs.Parts.{IsIn}
 use Rattle.headline.specs.machine.Client.{NoneOf, Caches, Concludes, leave, unmade, best}
-use Rattle.headline.specs.machine.Streams.{with_at}
+use Rattle.right_trace.specs.Updates.{with_at}
 use Rattle.client_ties.specs.Chains.{part_of}
 use Rattle.client_ties.specs.Lines.{Sorted}
 use Rattle.client_ties.specs.PartTie.{Phase, Leads as IfLeft}

@@ -7,10 +7,10 @@ use Rattle.client_request.specs.Request.{Request}
 use Rattle.client_request.specs.View.{View}
 use Rattle.client_choice.specs.Choice.{Choice, runs, goes_on, begins, ends, put_off, is_deferred, is_better, disarmed, unarmed, stopped, keeps}
 use Rattle.client_choice.specs.declared.job.ListedServer.{ListedServer}
-use Rattle.headline.specs.Parts.{IsIn}
-use Rattle.headline.specs.Validity.{waits_for_others}
+use Rattle.right_trace.specs.Parts.{IsIn}
+use Rattle.right_trace.specs.Validity.{waits_for_others}
 use Rattle.headline.specs.machine.Client.{Posted, NoneOf}
-use Rattle.headline.specs.machine.Streams.{with_at}
+use Rattle.right_trace.specs.Updates.{with_at}
 use Rattle.client_ties.specs.Chains.{part_of}
 use Rattle.client_ties.specs.Lines.{Sorted}
 use Rattle.client_ties.specs.PartTie.{Phase, Leads as IfLeft}

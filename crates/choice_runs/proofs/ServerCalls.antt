@@ -17,7 +17,7 @@ use Rattle.client_choice.specs.declared.servers.Reply.{Reply}
 use Rattle.client_choice.specs.declared.servers.Reply.TheVariants.{Later, Now}
 use Rattle.headline.specs.machine.Part.{Act, Post}
 use Rattle.headline.specs.machine.Client.{Waiting, hand, with_up}
-use Rattle.headline.specs.machine.Streams.{with_at}
+use Rattle.right_trace.specs.Updates.{with_at}
 use Rattle.client_ties.specs.Chains.{Chain, Begins, Gives}
 use Rattle.client_ties.specs.PartTie.{Phase, Untold, Told, Passed, IsOpen, MayLeave, Leaves, Tells, Leads as IfLeft, place_in}
 use Rattle.client_ties.specs.Sharing.{HasOneMore}

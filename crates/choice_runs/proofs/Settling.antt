@@ -10,12 +10,12 @@ use Rattle.client_request.specs.declared.error.Error.{Error}
 use Rattle.client_choice.specs.Choice.{Choice, settled, silenced, gets, puts_off, put_off, is_deferred, is_better, is_last, ends, runs, rests, disarmed, unarmed, stopped}
 use Rattle.client_choice.specs.Servers.{Server, owner}
 use Rattle.client_choice.specs.declared.job.ListedServer.{ListedServer}
-use Rattle.headline.specs.Parts.{IsIn}
+use Rattle.right_trace.specs.Parts.{IsIn}
 use Rattle.headline.specs.machine.Client.{Posted, with_up, tag}
-use Rattle.headline.specs.Messages.{Octets}
-use Rattle.headline.specs.Validity.{waits_for_others}
+use Rattle.right_trace.specs.Messages.{Octets}
+use Rattle.right_trace.specs.Validity.{waits_for_others}
 use Rattle.headline.specs.machine.Part.{Post}
-use Rattle.headline.specs.machine.Streams.{with_at}
+use Rattle.right_trace.specs.Updates.{with_at}
 use Rattle.client_ties.specs.Chains.{part_of, Gives}
 use Rattle.client_ties.specs.Lines.{Sorted}
 use Rattle.client_ties.specs.PartTie.{Phase, Leads as IfLeft}

@@ -8,14 +8,14 @@ use Rattle.client_request.specs.declared.event.Out.TheVariants.{Start}
 use Rattle.client_request.specs.declared.event.Via.TheVariants.{Dgram}
 use Rattle.client_request.specs.declared.event.What.{What}
 use Rattle.client_request.specs.declared.event.What.TheVariants.{Ask, Opened, OpenFailed, SendFailed, ShortSend, Datagram, RecvFailed, Wrote, WriteFailed, Bytes, ReadFailed, Ended, Tick}
-use Rattle.headline.specs.Trace.{Conf}
+use Rattle.right_trace.specs.Trace.{Conf}
 use Rattle.headline.specs.machine.Part.{Act}
 use Rattle.client_ties.specs.Chains.{Chain, Stays, Begins, Calls}
 use Rattle.client_ties.specs.Sights.{IsFair}
 use Rattle.client_ties.specs.PartTie.{Phase, Untold, Told, Leads, Leaves, MayLeave}
 use Rattle.client_ties.specs.Sharing.{OpensNext, IsShared, HasOneMore}
 use Rattle.client_ties.specs.Silent.{silent_part, closed_at_once}
-use Rattle.headline.specs.machine.Streams.{with_at}
+use Rattle.right_trace.specs.Updates.{with_at}
 use Rattle.std.proofs.lemmas.Bool.Decides.{nat_tests}
 use Rattle.client_ties.proofs.GoingOn.{nothing_done, goes_without}
 use Rattle.choice_runs.specs.Choosing.{Choosing, IsStarting}

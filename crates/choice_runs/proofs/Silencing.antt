@@ -4,7 +4,7 @@ use Rattle.std.proofs.lemmas.Bool.Decides.{nat_tests}
 use Rattle.std.specs.List.{position_or_len}
 use Rattle.client_choice.specs.Choice.{silenced, silenced_at, silenced_found}
 use Rattle.client_choice.specs.declared.job.Started.{Started}
-use Rattle.headline.specs.Parts.{IsIn}
+use Rattle.right_trace.specs.Parts.{IsIn}
 use Rattle.choice_runs.specs.Requests.{AreApart}
 use Rattle.choice_runs.proofs.AtServer.{none_is}
 

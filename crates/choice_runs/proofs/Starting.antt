@@ -9,7 +9,7 @@ use Rattle.client_request.specs.View.{View, sets_timer}
 use Rattle.client_choice.specs.Choice.{Choice, arms}
 use Rattle.client_choice.specs.Servers.{Server}
 use Rattle.client_choice.specs.declared.job.ListedServer.{ListedServer}
-use Rattle.headline.specs.machine.Streams.{with_at}
+use Rattle.right_trace.specs.Updates.{with_at}
 use Rattle.client_ties.specs.Lines.{Sorted}
 use Rattle.client_ties.specs.PartTie.{Phase, Leads as IfLeft}
 use Rattle.client_ties.specs.Sights.{sight, due_of}

@@ -12,7 +12,7 @@ use Rattle.client_choice.specs.Choice.{Choice, takes_on, drops}
 use Rattle.client_choice.specs.Redundant.{with_choice, transport, takes, takes_listed, by_estimate, probe, asks_for_probe, probed_place, with_probe, Asked}
 use Rattle.client_choice.specs.Servers.{Server}
 use Rattle.client_choice.specs.declared.job.ListedServer.{ListedServer}
-use Rattle.headline.specs.machine.Streams.{with_at}
+use Rattle.right_trace.specs.Updates.{with_at}
 use Rattle.client_ties.specs.PartTie.{Untold, IsOpen, Leads}
 use Rattle.client_ties.specs.Sights.{sight, IsFair}
 use Rattle.client_ties.specs.WholeTie.{HasTakenOn, HasLeft}

@@ -7,7 +7,7 @@ use Rattle.client_request.specs.View.{View}
 use Rattle.client_request.specs.declared.event.Event.{Event}
 use Rattle.client_choice.specs.Choice.{Choice}
 use Rattle.client_choice.specs.declared.job.Started.{Started}
-use Rattle.headline.specs.Parts.{IsIn}
+use Rattle.right_trace.specs.Parts.{IsIn}
 use Rattle.headline.specs.machine.Client.{Waiting, row_begins}
 use Rattle.client_ties.specs.PartTie.{Phase, Untold, Told, Passed, MayEnd}
 use Rattle.client_ties.specs.Sights.{Sight, sight, IsEarly}

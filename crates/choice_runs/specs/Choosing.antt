@@ -5,8 +5,8 @@ use Rattle.client_request.specs.View.{View, Heard, Transport, asks}
 use Rattle.client_request.specs.declared.event.Out.TheVariants.{Start}
 use Rattle.client_request.specs.declared.event.Via.{Via}
 use Rattle.client_settings.specs.Settings.{RedundantSettings}
-use Rattle.headline.specs.Settings.{Settings}
-use Rattle.headline.specs.Trace.{Conf}
+use Rattle.right_trace.specs.Settings.{Settings}
+use Rattle.right_trace.specs.Trace.{Conf}
 use Rattle.headline.specs.machine.Part.{ServerPart}
 use Rattle.client_ties.specs.PartTie.{Phase, IsTie}
 use Rattle.client_ties.specs.Sharing.{OpensNext, IsShared}

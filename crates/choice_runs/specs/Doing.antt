@@ -12,10 +12,10 @@ use Rattle.client_choice.specs.Choice.{Choice, takes_on, drops, due, runs, settl
 use Rattle.client_choice.specs.Redundant.{by_estimate, with_probe}
 use Rattle.client_choice.specs.Servers.{Server}
 use Rattle.client_choice.specs.declared.job.ListedServer.{ListedServer}
-use Rattle.headline.specs.Parts.{IsIn}
+use Rattle.right_trace.specs.Parts.{IsIn}
 use Rattle.headline.specs.machine.Client.{Posted, tag, with_up}
 use Rattle.headline.specs.machine.Part.{Post}
-use Rattle.headline.specs.machine.Streams.{with_at}
+use Rattle.right_trace.specs.Updates.{with_at}
 use Rattle.client_ties.specs.Chains.{part_of, Gives}
 use Rattle.client_ties.specs.Lines.{Sorted}
 use Rattle.client_ties.specs.PartTie.{Phase, Untold, Told, Passed, MayLeave, IsOpen, Leads, place_in}

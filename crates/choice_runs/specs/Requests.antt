@@ -10,7 +10,7 @@ use Rattle.client_choice.specs.Servers.{Server, owner}
 use Rattle.client_choice.specs.declared.job.ListedServer.{ListedServer}
 use Rattle.client_choice.specs.declared.job.Started.{Started}
 use Rattle.client_request.specs.declared.event.Out.{Out}
-use Rattle.headline.specs.Parts.{IsIn}
+use Rattle.right_trace.specs.Parts.{IsIn}
 use Rattle.headline.specs.machine.Client.{Waiting, best}
 use Rattle.client_ties.specs.Chains.{part_of}
 use Rattle.client_ties.specs.Leading.{Leads}

@@ -8,10 +8,10 @@ use Rattle.client_request.specs.declared.error.Error.{Error}
 use Rattle.client_choice.specs.Servers.{Server}
 use Rattle.client_choice.specs.declared.servers.Reply.{Reply}
 use Rattle.client_choice.specs.declared.servers.Reply.TheVariants.{Later, Now}
-use Rattle.headline.specs.Messages.{Octets}
+use Rattle.right_trace.specs.Messages.{Octets}
 use Rattle.headline.specs.machine.Part.{Act, Post}
 use Rattle.headline.specs.machine.Client.{Upper, Waiting, hand, with_up}
-use Rattle.headline.specs.machine.Streams.{with_at}
+use Rattle.right_trace.specs.Updates.{with_at}
 use Rattle.client_ties.specs.Chains.{Gives, part_of}
 use Rattle.client_ties.specs.Leading.{Leads, IsMoved}
 use Rattle.client_ties.specs.PartTie.{Phase, Told, Leaves, GoesOn}

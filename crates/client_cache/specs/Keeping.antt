@@ -11,7 +11,7 @@ use Rattle.dns_base.specs.Message.{header_of, sole_question}
 use Rattle.client_request.specs.declared.error.Error.{Error}
 use Rattle.client_settings.specs.Settings.{CacheSettings}
 use Rattle.lru.specs.LruCache.{LruCache, lru_cache, promoted, put_entries}
-use Rattle.headline.specs.Keys.{FlagClass, Do, Ad, Plain, Key, is_do, is_signing, question_or}
+use Rattle.right_trace.specs.Keys.{FlagClass, Do, Ad, Plain, Key, is_do, is_signing, question_or}
 use Rattle.client_views.specs.declared.key.AdDo.{AdDo}
 use Rattle.client_views.specs.declared.key.AdDo.TheVariants as classes
 use Rattle.client_views.specs.Key.{flag_class, key_in, same_key}

@@ -11,7 +11,7 @@ use Rattle.client_request.specs.View.{View, Heard, Transport, answers, draws_tic
 use Rattle.client_request.specs.declared.board.Posted.{Posted}
 use Rattle.client_settings.specs.Settings.{CacheSettings}
 use Rattle.lru.specs.LruCache.{lru_cache}
-use Rattle.headline.specs.Keys.{Key}
+use Rattle.right_trace.specs.Keys.{Key}
 use Rattle.client_cache.specs.declared.steps.Way.{Way}
 use Rattle.client_cache.specs.declared.steps.Way.TheVariants.{Given, Asks}
 use Rattle.client_cache.specs.Keeping.{Outcome, Table, Asked, Found, asked_in, looks_up, keeps}

@@ -1,7 +1,7 @@
 //! What is kept of a result, and what a request is given of it.
 
 ghost use Rattle.std.specs.Prelude.{◌≡◌, IfOk, Ok};
-ghost use Rattle.headline.specs.Keys as keys;
+ghost use Rattle.right_trace.specs.Keys as keys;
 ghost use Rattle.client_views.specs.Key.{flag_class};
 ghost use Rattle.client_cache.specs.Keeping as plain;
 

@@ -4,7 +4,7 @@ ghost use Rattle.std.specs.Prelude.{◌≡◌, OnOk, IfOk, [], Some, Ok, Err};
 ghost use Rattle.client_request.specs.Calls.{Holds};
 ghost use Rattle.client_request.specs.Cx.{view_of, heard};
 ghost use Rattle.dns_base.specs.Message.{sole_question};
-ghost use Rattle.headline.specs.Keys.{question_or};
+ghost use Rattle.right_trace.specs.Keys.{question_or};
 ghost use Rattle.client_views.specs.Key.{key_in};
 ghost use Rattle.client_cache.specs.Keeping as keeping;
 ghost use Rattle.client_cache.specs.Plain as plain;

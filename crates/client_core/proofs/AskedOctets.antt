@@ -2,7 +2,7 @@
 use Rattle.std.proofs.Common.{◌≡◌, ℕ, ◌+◌, ◌<◌, ◌≤◌, List, [], ◌∷◌, ◌++◌, length, take, get_or, subst, sym}
 use Rattle.std.proofs.lemmas.List.{take_all, take_more}
 use Rattle.client_request.specs.declared.event.Event.{Event}
-use Rattle.headline.specs.Timely.{IsAskedInOctets, AllAskedInOctets}
+use Rattle.right_trace.specs.Timely.{IsAskedInOctets, AllAskedInOctets}
 
 one_more : (es : List Event) (e : Event) → AllAskedInOctets es → IsAskedInOctets e.what → AllAskedInOctets (es ++ e ∷ [])
 one_more [] e all one = (one, tt)

@@ -2,7 +2,7 @@
 use Rattle.std.proofs.Common.{◌≡◌, ℕ, ◌+◌, ◌<◌, ◌≤◌, List, [], ◌∷◌, ◌++◌, length, take, get_or, subst, sym}
 use Rattle.std.proofs.lemmas.List.{take_all, take_more}
 use Rattle.client_request.specs.declared.event.Event.{Event}
-use Rattle.client_ties.specs.ClientTie.{IsInOctets, AllInOctets}
+use Rattle.right_trace.specs.InOctets.{IsInOctets, AllInOctets}
 
 one_more : (es : List Event) (e : Event) → AllInOctets es → IsInOctets e.what → AllInOctets (es ++ e ∷ [])
 one_more [] e all one = (one, tt)

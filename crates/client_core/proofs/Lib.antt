@@ -2,5 +2,4 @@ pub mod AskedOctets
 pub mod ComingOctets
 pub mod Replaying
 pub mod Resting
-pub mod Rightness
 pub mod Serving

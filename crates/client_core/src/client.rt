@@ -1,35 +1,22 @@
-//! The client: one step for each event, and the replay of a list of events.
+//! The client: one step for each event.
 
-ghost use Rattle.std.specs.Prelude.{◌≡◌, if◌then◌else◌, true, false, Some, None, Ok, Err, OnOk, OnErr, IfOk, IfErr, IsErrOf, IsOkAnd, [], length, map, option_map};
+ghost use Rattle.std.specs.Prelude.{◌≡◌, if◌then◌else◌, true, false, Some, None, Ok, Err, OnOk, OnErr, IfOk, IfErr, IsErrOf, option_map};
 ghost use Rattle.client_request.specs.Calls.{Steps, NumbersRunOut, AnswersFailed};
 ghost use Rattle.client_request.specs.Cx.{LendsTheSame};
 ghost use Rattle.client_request.specs.Response.{IsRefusal};
-ghost use Rattle.client_request.specs.Timers.{IsWant, due_now, next_due};
+ghost use Rattle.client_request.specs.Timers.{due_now, next_due};
 ghost use Rattle.client_steps.specs.Client as plain;
 ghost use Rattle.client_steps.specs.Machines.{client_in};
-ghost use Rattle.client_cutting.specs.Cuts.{MayBeCut};
-ghost use Rattle.client_runs.specs.Above.{AreWords};
-ghost use Rattle.client_steps.specs.Headline.{conf_of, settings_of};
 ghost use Rattle.client_steps.specs.Upstream as upstream;
-ghost use Rattle.client_steps.specs.Whole.{machine, started, with_one_more, plain_step, plain_trace, client_with};
+ghost use Rattle.client_steps.specs.Whole.{machine, started, with_one_more, plain_step, client_with};
 ghost use Rattle.client_cache.specs.Plain as caching;
 ghost use Rattle.client_choice.specs.Redundant as choosing;
-ghost use Rattle.client_cache.specs.Plain.{room_of};
-ghost use Rattle.client_request.specs.Composed.{composed};
-ghost use Rattle.headline.specs.Hit.{AllHit};
-ghost use Rattle.headline.specs.Right.{Right};
-ghost use Rattle.headline.specs.Timely.{Timely};
 
-use crate::octets::{all_asked_in_octets, all_in_octets};
 use crate::servers::{Layers, add_server, servers_of};
 use crate::{cache, redundant};
 use client_cache::Request;
 use client_choice::redundant as choice;
-use client_cutting::every_plain_trace_may_be_cut;
-use client_request::{
-    Board, Cx, Error, Event, Moment, Outs, RequestMessage, Row, Rows, Timers, Trace, Words,
-};
-use client_runs::{every_plain_trace_hits, every_plain_trace_is_right};
+use client_request::{Board, Cx, Error, Event, Moment, Outs, Row, Timers, Words};
 use client_steps::{Asked, take_in};
 use dns_base::Duration;
 use resolv_conf::{ResolvConf, ServerConf};
@@ -250,45 +237,5 @@ impl Client {
     {
         let (due, _) = self.timers.next_due()?;
         Some(due)
-    }
-
-    /// The trace of a client that is told these events and draws these words: a row for each event, in
-    /// order. `NoMemory`, or `NumbersUsed` where a number would pass the greatest `u64`.
-    ///
-    /// The trace is right and timely whatever the events are, as long as each word that comes has 64 bits; and what is kept is
-    /// given: a request with the key of a message that is kept is answered from the cache in its own row, few enough requests
-    /// and replies later. Where the octets that one event brings to a stream come in several, one behind another at one moment,
-    /// the same is put out in the same order, and the same client is left.
-    pub fn replay<W: Words>(
-        alloc: Global,
-        conf: &ResolvConf,
-        redundant: redundant::Config,
-        cache: cache::Config,
-        words: &mut W,
-        events: &[Event],
-    ) -> Result<Trace, Error>
-        ensures plain { IfOk result (λ t. plain_trace redundant cache conf.now (W.stream words.old) events.now ≡ Some t.rows) }
-        ensures events { IfOk result (λ t. map (λ row. row.event) t.rows ≡ events.now) }
-        ensures right { IfOk result (λ t. AreWords (W.stream words.old) → Right (conf_of conf.now) (settings_of redundant cache) t.rows) }
-        ensures timely { IfOk result (λ t. AreWords (W.stream words.old) → Timely (conf_of conf.now) t.rows) }
-        ensures hits { IfOk result (λ t. AreWords (W.stream words.old) → AllHit (conf_of conf.now) (settings_of redundant cache) composed (room_of cache) [] t.rows) }
-        ensures cut { IfOk result (λ t. AreWords (W.stream words.old) → MayBeCut redundant cache conf.now (W.stream words.old) events.now t.rows) }
-        ensures numbers { IsErrOf result Error.NumbersUsed → plain_trace redundant cache conf.now (W.stream words.old) events.now ≡ None }
-        ensures refused { IfErr result IsWant }
-    {
-        cache.max_validity_is_limited();
-        let mut client = Client::new(alloc, conf, redundant, cache)?;
-        let mut rows = Rows::new(alloc);
-        for event in events {
-            let event = event.try_clone(alloc)?;
-            let row = client.step(words, event)?;
-            rows.push(row)?;
-        }
-        all_asked_in_octets(events);
-        all_in_octets(events);
-        every_plain_trace_is_right();
-        every_plain_trace_hits();
-        every_plain_trace_may_be_cut();
-        Ok(Trace { rows })
     }
 }

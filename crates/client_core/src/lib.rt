@@ -13,7 +13,6 @@ mod servers;
 
 pub use client::Client;
 pub use client_request::{Event, Moment, Out, Row, Rows, Trace, Via, What};
-pub use client_runs::{every_plain_trace_hits, every_plain_trace_is_right, plain_traces_are_runs};
 pub use client_settings::{cache, redundant};
 pub use client_steps::{Asked, Handed, Upstream, Waiting};
 pub use clock::{Clock, ListClock};

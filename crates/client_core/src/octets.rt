@@ -1,7 +1,7 @@
 //! Requests and what comes are made of octets, whatever they are.
 
-ghost use Rattle.client_ties.specs.ClientTie.{AreOctets, IsInOctets, AllInOctets};
-ghost use Rattle.headline.specs.Timely.{IsAskedInOctets, AllAskedInOctets};
+ghost use Rattle.right_trace.specs.InOctets.{AreOctets, IsInOctets, AllInOctets};
+ghost use Rattle.right_trace.specs.Timely.{IsAskedInOctets, AllAskedInOctets};
 
 use client_request::{Event, What};
 

@@ -11,7 +11,7 @@ use Rattle.client_cache.specs.Plain as caching
 use Rattle.client_cache.specs.Plain.{Cached, Kept, Job, Reading, Response, onto, gives, gives_part, settles_for, settles, settles_all, settled, settled_after, with_parts, with_table, with_upstream, way_for, goes, hands_on, drops_job, drops_below, response_below, send, takes, hears, ticked, response_of}
 use Rattle.client_cache.specs.declared.steps.Way.{Way}
 use Rattle.client_cache.specs.declared.steps.Way.TheVariants.{Given, Asks}
-use Rattle.headline.specs.Keys.{Key}
+use Rattle.right_trace.specs.Keys.{Key}
 use Rattle.client_cutting.specs.Pieces.{like, IsReady, Both, Neither, Each, Stays, MayClose, Takes, IsCuttable, CancelsQuietly}
 use Rattle.client_cutting.specs.Choices.{cached_octets, longer_cached, IsFitCached}
 use Rattle.client_cutting.proofs.Boards.{KeepsBoard, keeps_map, keeps_left}

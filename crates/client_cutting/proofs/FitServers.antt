@@ -4,7 +4,7 @@ use Rattle.client_request.specs.Request.{Request}
 use Rattle.client_multi.specs.DgramStream.{DgramStream}
 use Rattle.client_steps.specs.declared.upstream.Upstream.{Upstream}
 use Rattle.client_steps.specs.declared.upstream.Upstream.TheVariants as server
-use Rattle.headline.specs.Trace.{Use, ByDatagrams, ByStreams}
+use Rattle.right_trace.specs.Trace.{Use, ByDatagrams, ByStreams}
 use Rattle.headline.specs.machine.Dgrams.{no_datagram}
 use Rattle.headline.specs.machine.Served.{Served}
 use Rattle.client_ties.specs.PartTie.{Phase, MayEnd}

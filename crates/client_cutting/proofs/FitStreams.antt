@@ -8,8 +8,8 @@ use Rattle.client_stream.specs.Plain.{has_ended, timer_at}
 use Rattle.client_stream.specs.declared.line.LineStage.{LineStage}
 use Rattle.client_stream.specs.declared.line.LineStage.TheVariants as stage
 use Rattle.client_multi.specs.Links.{Link}
-use Rattle.headline.specs.Frames.{Reading}
-use Rattle.headline.specs.Messages.{Octets}
+use Rattle.right_trace.specs.Frames.{Reading}
+use Rattle.right_trace.specs.Messages.{Octets}
 use Rattle.headline.specs.machine.Served.{Served}
 use Rattle.headline.specs.machine.Streams.{Conn, Multi, Mode}
 use Rattle.client_ties.specs.Connections.{timer_of}

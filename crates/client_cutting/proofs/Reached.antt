@@ -9,10 +9,10 @@ use Rattle.client_request.specs.declared.event.What.TheVariants.{Tick}
 use Rattle.client_settings.specs.Settings.{CacheSettings, RedundantSettings}
 use Rattle.client_cache.specs.Plain as caching
 use Rattle.client_choice.specs.Redundant as choice
-use Rattle.headline.specs.Orderly.{use_at}
-use Rattle.headline.specs.Timely.{AllAskedInOctets}
+use Rattle.right_trace.specs.Orderly.{use_at}
+use Rattle.right_trace.specs.Timely.{AllAskedInOctets}
 use Rattle.headline.specs.machine.Client.{begun}
-use Rattle.client_ties.specs.ClientTie.{AllInOctets}
+use Rattle.right_trace.specs.InOctets.{AllInOctets}
 use Rattle.client_ties.specs.PartTie.{Phase, Told, MayEnd}
 use Rattle.client_ties.specs.Sights.{sight}
 use Rattle.choice_runs.specs.Choosing.{Choosing}

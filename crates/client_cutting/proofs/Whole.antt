@@ -11,8 +11,8 @@ use Rattle.client_runs.specs.Ties.{AreHandedIn}
 use Rattle.client_settings.specs.Settings.{CacheSettings, RedundantSettings}
 use Rattle.client_steps.specs.Upstream as upstream
 use Rattle.client_steps.specs.Whole.{Layer, Response, Client, choice, reading, machine, client_with, started}
-use Rattle.client_ties.specs.ClientTie.{AllInOctets}
-use Rattle.headline.specs.Timely.{AllAskedInOctets}
+use Rattle.right_trace.specs.InOctets.{AllInOctets}
+use Rattle.right_trace.specs.Timely.{AllAskedInOctets}
 use Rattle.resolv_conf.specs.declared.conf.ResolvConf.{ResolvConf}
 use Rattle.client_cutting.specs.Cuts.{all_told, PiecesDoTheSame}
 use Rattle.client_cutting.specs.Choices.{choice_octets, longer_choice, IsFitChoice}

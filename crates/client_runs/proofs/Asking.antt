@@ -10,9 +10,9 @@ use Rattle.client_request.specs.View.{View, sets_timer}
 use Rattle.client_request.specs.declared.event.Out.{Out}
 use Rattle.client_request.specs.declared.event.What.{What}
 use Rattle.client_request.specs.declared.event.What.TheVariants.{Ask, Tick}
-use Rattle.headline.specs.Requests.{is_ask}
+use Rattle.right_trace.specs.Requests.{is_ask}
 use Rattle.headline.specs.machine.Client.{Waiting as Held, take_on, newcomer}
-use Rattle.headline.specs.machine.Streams.{with_at}
+use Rattle.right_trace.specs.Updates.{with_at}
 use Rattle.client_ties.specs.ClientTie.{LeadsBeside, HasAsked, reply_of}
 use Rattle.client_ties.specs.PartTie.{Phase, Untold, MayEnd, Leads as IfLeft}
 use Rattle.client_ties.specs.Sights.{sight, due_of, IsFair}

@@ -2,8 +2,8 @@
 use Rattle.std.proofs.Common.{◌≡◌, ℕ, zero, suc, List, [], ◌∷◌, map, Some, None, refl}
 use Rattle.client_multi.specs.MultiStream.{started}
 use Rattle.client_multi.specs.Settings.{default_settings}
-use Rattle.headline.specs.Orderly.{use_at}
-use Rattle.headline.specs.Trace.{Conf, Use, ByDatagrams, ByStreams}
+use Rattle.right_trace.specs.Orderly.{use_at}
+use Rattle.right_trace.specs.Trace.{Conf, Use, ByDatagrams, ByStreams}
 use Rattle.dgram_ties.specs.Fallback.{AreStreams}
 use Rattle.dgram_ties.proofs.FallbackShared.{fallback_is_shared}
 use Rattle.dgram_ties.proofs.FallbackTied.{fallback_is_tied}

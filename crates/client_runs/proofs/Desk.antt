@@ -2,7 +2,7 @@
 use Rattle.std.proofs.Common.{◌≡◌, ℕ, suc, ◌+◌, ◌<◌, ◌⊎◌, inl, inr, Option, Some, None, refl, sym, ap, subst, ◌∙◌, arith}
 use Rattle.client_steps.specs.declared.asked.Waiting.{Waiting}
 use Rattle.headline.specs.machine.Client.{Waiting as Held}
-use Rattle.headline.specs.machine.Streams.{with_at}
+use Rattle.right_trace.specs.Updates.{with_at}
 use Rattle.client_ties.specs.ClientTie.{WereTried}
 use Rattle.std.proofs.lemmas.Bool.Decides.{nat_tests}
 

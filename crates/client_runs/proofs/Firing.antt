@@ -10,7 +10,7 @@ use Rattle.client_request.specs.declared.error.Error.TheVariants.{TimedOut}
 use Rattle.client_request.specs.declared.event.Out.TheVariants.{Reply}
 use Rattle.client_request.specs.declared.event.What.{What}
 use Rattle.headline.specs.machine.Client.{Leaving, Waiting as Held, Move, Times_out, Replies, leave, store, unmade}
-use Rattle.headline.specs.machine.Streams.{with_at}
+use Rattle.right_trace.specs.Updates.{with_at}
 use Rattle.client_ties.specs.ClientTie.{LeadsBeside, Then, Leaves, LeavesQuietly, reply_of}
 use Rattle.client_ties.specs.PartTie.{Phase, Untold, Told, Passed as IsPassed, Leads as IfLeft}
 use Rattle.client_ties.specs.Sights.{sight, due_of, IsFair}

@@ -8,10 +8,10 @@ use Rattle.client_request.specs.declared.error.Error.{Error}
 use Rattle.client_request.specs.declared.event.Out.{Out}
 use Rattle.client_request.specs.declared.event.Out.TheVariants.{Reply}
 use Rattle.client_request.specs.declared.event.What.{What}
-use Rattle.headline.specs.Messages.{Octets}
+use Rattle.right_trace.specs.Messages.{Octets}
 use Rattle.headline.specs.machine.Part.{Post}
 use Rattle.headline.specs.machine.Client.{Leaving, Replies, store}
-use Rattle.headline.specs.machine.Streams.{with_at}
+use Rattle.right_trace.specs.Updates.{with_at}
 use Rattle.client_ties.specs.Chains.{Gives, part_of}
 use Rattle.client_ties.specs.ClientTie.{LeadsBeside, Arrives, reply_of}
 use Rattle.client_ties.specs.PartTie.{Phase}

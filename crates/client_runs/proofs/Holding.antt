@@ -6,7 +6,7 @@ use Rattle.client_request.specs.Timers.{TimerList, cancelled, without_timer}
 use Rattle.client_request.specs.View.{View, drops_timer}
 use Rattle.client_request.specs.declared.event.What.{What}
 use Rattle.headline.specs.machine.Client.{Leaving, Upper}
-use Rattle.headline.specs.machine.Streams.{with_at}
+use Rattle.right_trace.specs.Updates.{with_at}
 use Rattle.client_ties.specs.ClientTie.{WereTried}
 use Rattle.client_ties.specs.PartTie.{Phase}
 use Rattle.client_ties.specs.Sights.{sight, due_of, IsFair}

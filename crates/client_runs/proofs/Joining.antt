@@ -12,8 +12,8 @@ use Rattle.client_multi.specs.DgramStream.{DgramStream}
 use Rattle.client_multi.specs.Fallback as fallback
 use Rattle.client_multi.specs.MultiStream as multi_stream
 use Rattle.client_multi.specs.Settings as stream_settings
-use Rattle.headline.specs.Orderly.{use_at}
-use Rattle.headline.specs.Trace.{Conf, Use, ByDatagrams, ByStreams}
+use Rattle.right_trace.specs.Orderly.{use_at}
+use Rattle.right_trace.specs.Trace.{Conf, Use, ByDatagrams, ByStreams}
 use Rattle.headline.specs.machine.Served.{Served, served}
 use Rattle.client_ties.specs.PartTie.{Phase, IsTie}
 use Rattle.client_ties.specs.Places.{has_place}

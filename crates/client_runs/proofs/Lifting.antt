@@ -10,9 +10,9 @@ use Rattle.client_request.specs.View.{View, Heard, Transport, told, more_at, due
 use Rattle.client_request.specs.declared.event.Out.TheVariants.{Start}
 use Rattle.client_request.specs.declared.event.Via.{Via}
 use Rattle.client_request.specs.declared.event.What.{What}
-use Rattle.headline.specs.Trace.{Conf}
+use Rattle.right_trace.specs.Trace.{Conf}
 use Rattle.headline.specs.machine.Part.{Act, ServerPart}
-use Rattle.headline.specs.machine.Streams.{with_at}
+use Rattle.right_trace.specs.Updates.{with_at}
 use Rattle.client_ties.specs.Chains.{Chain, Begins, Gives}
 use Rattle.client_ties.specs.PartTie.{Phase, Untold, Told, Passed, MayLeave, IsOpen, Leads, Leaves, Tells, IsTie}
 use Rattle.client_ties.specs.Sharing.{IsShared}

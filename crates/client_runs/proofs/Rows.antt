@@ -8,10 +8,11 @@ use Rattle.client_request.specs.declared.event.Out.{Out}
 use Rattle.client_request.specs.declared.event.Row.{Row}
 use Rattle.client_request.specs.declared.event.What.{What}
 use Rattle.client_request.specs.declared.event.What.TheVariants.{Ask, Opened, OpenFailed, SendFailed, ShortSend, Datagram, RecvFailed, Wrote, WriteFailed, Bytes, ReadFailed, Ended, Tick}
-use Rattle.headline.specs.Requests.{is_ask}
-use Rattle.headline.specs.Timely.{IsAskedInOctets, AllAskedInOctets}
+use Rattle.right_trace.specs.Requests.{is_ask}
+use Rattle.right_trace.specs.Timely.{IsAskedInOctets, AllAskedInOctets}
 use Rattle.headline.specs.machine.Client.{IsDone, IsStep, IsRun, Ends, Goes_on, row_begins, begun}
-use Rattle.client_ties.specs.ClientTie.{Arrives, IsInOctets, AllInOctets, AllBeside, RunBeside}
+use Rattle.client_ties.specs.ClientTie.{Arrives, AllBeside, RunBeside}
+use Rattle.right_trace.specs.InOctets.{IsInOctets, AllInOctets}
 use Rattle.client_ties.specs.PartTie.{Phase, Untold, Told, MayEnd, MayLeave}
 use Rattle.client_ties.specs.Sights.{sight, IsEarly}
 use Rattle.client_runs.specs.Above.{Tying, begins_with, AreWords, ClientsAboveTiesRun}

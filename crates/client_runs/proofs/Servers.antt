@@ -4,8 +4,8 @@ use Rattle.client_request.specs.Request.{Request}
 use Rattle.client_settings.specs.Settings.{CacheSettings, RedundantSettings}
 use Rattle.client_choice.specs.Redundant.{started}
 use Rattle.client_choice.specs.Servers.{Server, added}
-use Rattle.headline.specs.Orderly.{use_at}
-use Rattle.headline.specs.Trace.{Conf, Use}
+use Rattle.right_trace.specs.Orderly.{use_at}
+use Rattle.right_trace.specs.Trace.{Conf, Use}
 use Rattle.choice_runs.specs.Whole.{servers_from, with_all}
 use Rattle.client_steps.specs.Headline.{use_of}
 use Rattle.client_steps.specs.Whole.{Servers, asks_by_streams, upstream_at, with_servers}

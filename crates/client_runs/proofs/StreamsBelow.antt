@@ -3,9 +3,9 @@ use Rattle.std.proofs.Common.{◌≡◌, ℕ, inl, false, true, List, [], Some, 
 use Rattle.client_request.specs.declared.event.What.{What}
 use Rattle.client_multi.specs.MultiStream.{started}
 use Rattle.client_multi.specs.Settings.{default_settings}
-use Rattle.headline.specs.Messages.{Octets}
-use Rattle.headline.specs.Orderly.{use_at}
-use Rattle.headline.specs.Trace.{Conf, ByStreams}
+use Rattle.right_trace.specs.Messages.{Octets}
+use Rattle.right_trace.specs.Orderly.{use_at}
+use Rattle.right_trace.specs.Trace.{Conf, ByStreams}
 use Rattle.headline.specs.machine.Served.{Served, has_taken_it}
 use Rattle.client_ties.specs.PartTie.{Phase, Untold, Told, Passed}
 use Rattle.client_ties.specs.Sights.{Sight, sight, NoneDue}

@@ -8,8 +8,8 @@ use Rattle.client_settings.specs.Settings.{CacheSettings, RedundantSettings, sec
 use Rattle.client_cache.specs.Plain as caching
 use Rattle.client_cache.specs.Plain.{Cached, Response}
 use Rattle.client_choice.specs.Redundant as choice
-use Rattle.headline.specs.Timely.{AllAskedInOctets}
-use Rattle.headline.specs.Trace.{Conf}
+use Rattle.right_trace.specs.Timely.{AllAskedInOctets}
+use Rattle.right_trace.specs.Trace.{Conf}
 use Rattle.headline.specs.machine.Client.{begun, IsRun}
 use Rattle.headline.specs.machine.Served.{served}
 use Rattle.headline.proofs.Composing.{composed_composes}

@@ -5,12 +5,13 @@ use Rattle.client_request.specs.Request.{Request}
 use Rattle.client_request.specs.View.{Transport}
 use Rattle.client_request.specs.declared.event.Event.{Event}
 use Rattle.client_request.specs.declared.event.Row.{Row}
-use Rattle.headline.specs.Settings.{Settings}
-use Rattle.headline.specs.Timely.{AllAskedInOctets}
-use Rattle.headline.specs.Trace.{Conf}
+use Rattle.right_trace.specs.Settings.{Settings}
+use Rattle.right_trace.specs.Timely.{AllAskedInOctets}
+use Rattle.right_trace.specs.Trace.{Conf}
 use Rattle.headline.specs.machine.Client.{Upper, begun, IsRun}
 use Rattle.headline.specs.machine.Part.{ServerPart}
-use Rattle.client_ties.specs.ClientTie.{Beside, RunBeside, AllInOctets, IsClientTie}
+use Rattle.client_ties.specs.ClientTie.{Beside, RunBeside, IsClientTie}
+use Rattle.right_trace.specs.InOctets.{AllInOctets}
 use Rattle.client_ties.specs.PartTie.{Phase}
 use Rattle.client_ties.specs.Sights.{Sight}
 use Rattle.client_steps.specs.Client.{Client, nothing_asked, plain_rows}

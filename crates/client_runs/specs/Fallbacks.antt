@@ -11,8 +11,8 @@ use Rattle.client_ties.specs.Places.{has_place}
 use Rattle.client_ties.specs.Sharing.{IsShared}
 use Rattle.client_ties.specs.Sights.{Sight}
 use Rattle.dgram_ties.specs.Fallback.{IsFallback, names_in, OwnsEither}
-use Rattle.headline.specs.Orderly.{use_at}
-use Rattle.headline.specs.Trace.{Conf, ByDatagrams}
+use Rattle.right_trace.specs.Orderly.{use_at}
+use Rattle.right_trace.specs.Trace.{Conf, ByDatagrams}
 use Rattle.headline.specs.machine.Served.{Served, served}
 use Rattle.multi_ties.specs.Tied.{TiedAs, names_of, owns}
 

@@ -4,13 +4,13 @@ use Rattle.client_request.specs.Composed.{composed}
 use Rattle.client_request.specs.declared.event.Event.{Event}
 use Rattle.client_request.specs.declared.event.Row.{Row}
 use Rattle.client_settings.specs.Settings.{CacheSettings, RedundantSettings, seconds}
-use Rattle.headline.specs.Timely.{AllAskedInOctets, Timely}
+use Rattle.right_trace.specs.Timely.{AllAskedInOctets, Timely}
 use Rattle.client_cache.specs.Plain.{room_of}
-use Rattle.headline.specs.Hit.{AllHit}
-use Rattle.headline.specs.Right.{Right}
+use Rattle.right_trace.specs.Hit.{AllHit}
+use Rattle.right_trace.specs.Right.{Right}
 use Rattle.headline.specs.machine.Client.{begun, IsRun}
 use Rattle.headline.specs.machine.Served.{served}
-use Rattle.client_ties.specs.ClientTie.{AllInOctets}
+use Rattle.right_trace.specs.InOctets.{AllInOctets}
 use Rattle.client_runs.specs.Above.{AreWords}
 use Rattle.client_steps.specs.Headline.{conf_of, settings_of}
 use Rattle.client_steps.specs.Whole.{plain_trace}

@@ -3,7 +3,7 @@ use Rattle.std.proofs.Common.{◌≡◌, ℕ, suc, ◌<◌, ◌≤◌, Bool, tru
 use Rattle.std.proofs.lemmas.Bool.Decides.{nat_tests}
 use Rattle.std.specs.Ordering.{match_ordering}
 use mathlib.Core.Path.{fun_ext}
-use Rattle.headline.specs.machine.Single.{with_at}
+use Rattle.right_trace.specs.Updates.{with_at}
 use Rattle.client_request.specs.Numbered.{puts, frees, entry_at}
 
 -- keys that rise, from lo on and below hi

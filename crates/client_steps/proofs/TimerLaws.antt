@@ -4,7 +4,7 @@ use Rattle.std.proofs.lemmas.Bool.Decides.{nat_tests}
 use Rattle.std.specs.List.{position_or_len, remove, fold}
 use Rattle.client_request.specs.Timers.{is_before, earlier, removed_at, without_timer, if_due, due_now}
 use Rattle.client_request.specs.declared.timers.Timer.{Timer}
-use Rattle.headline.specs.machine.Single.{with_at}
+use Rattle.right_trace.specs.Updates.{with_at}
 use Rattle.client_steps.proofs.Tables.{Rising, rises_from}
 
 -- when the timer of this number is due

@@ -2,8 +2,8 @@
 use Rattle.std.specs.Prelude.{Bool, true, false, map}
 use Rattle.client_settings.specs.Settings.{RedundantSettings, CacheSettings}
 use Rattle.client_steps.specs.Whole.{asks_by_streams}
-use Rattle.headline.specs.Settings.{Settings}
-use Rattle.headline.specs.Trace.{Conf, Use, ByDatagrams, ByStreams}
+use Rattle.right_trace.specs.Settings.{Settings}
+use Rattle.right_trace.specs.Trace.{Conf, Use, ByDatagrams, ByStreams}
 use Rattle.resolv_conf.specs.declared.conf.ResolvConf.{ResolvConf}
 
 abbrev pub use_of : (by_streams : Bool) → Use

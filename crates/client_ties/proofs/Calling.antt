@@ -16,8 +16,9 @@ use Rattle.client_stream.specs.declared.request.Holder.{Holder}
 use Rattle.client_stream.specs.declared.request.Holder.TheVariants.{Waits, GivenUp}
 use Rattle.client_stream.specs.declared.request.QueuedRequest.{QueuedRequest}
 use Rattle.client_stream.specs.declared.line.LineStage.{LineStage}
-use Rattle.headline.specs.Time.{response_timeout}
-use Rattle.headline.specs.machine.Streams.{Mode, Lined, Asker, Conn, Multi, moved, move, drop, with_at}
+use Rattle.right_trace.specs.Time.{response_timeout}
+use Rattle.headline.specs.machine.Streams.{Mode, Lined, Asker, Conn, Multi, moved, move, drop}
+use Rattle.right_trace.specs.Updates.{with_at}
 use Rattle.client_ties.specs.PartTie.{Leads}
 use Rattle.client_ties.specs.Seats.{IsAway, AreSeated}
 use Rattle.client_ties.specs.Connections.{dues, HasPumped, lined_up}

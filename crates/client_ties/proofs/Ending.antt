@@ -16,7 +16,7 @@ use Rattle.client_stream.specs.declared.request.Holder.TheVariants.{Waits, Given
 use Rattle.client_stream.specs.declared.request.QueuedRequest.{QueuedRequest}
 use Rattle.client_stream.specs.declared.line.LineStage.{LineStage}
 use Rattle.client_stream.specs.declared.line.LineStage.TheVariants as at
-use Rattle.headline.specs.Writes.{Written}
+use Rattle.right_trace.specs.Writes.{Written}
 use Rattle.headline.specs.machine.Streams.{Lined, Holding, Broken, Asker, Multi, moved, broken_at, every, end_at}
 use Rattle.client_ties.specs.Connections.{timer_of, dues, IsTimed, IsPostedTo, HasEnded}
 use Rattle.client_ties.specs.Lines.{SingleLine, Sorted, seats_of}

@@ -4,7 +4,7 @@ use Rattle.std.specs.Prelude.{reverse, slice_range, if◌then◌else◌, nat_le,
 use Rattle.std.proofs.lemmas.Bool.Decides.{nat_tests}
 use Rattle.std.proofs.lemmas.List.{reverse-append, take-append-drop, length-take-le}
 use Rattle.client_stream.specs.Frames.{body_size, has_frame, first_frame, behind_frame}
-use Rattle.headline.specs.Frames.{Reading, Length, LengthAfter, Body, Fed, settled, fed_one, fed_on, fed}
+use Rattle.right_trace.specs.Frames.{Reading, Length, LengthAfter, Body, Fed, settled, fed_one, fed_on, fed}
 use Rattle.client_ties.specs.Reading.{KeptIsRead}
 
 -- one piece behind another

@@ -15,12 +15,13 @@ use Rattle.client_stream.specs.Plain.{message_id, ends_with, part_of, frees_id, 
 use Rattle.client_stream.specs.declared.request.Holder.{Holder}
 use Rattle.client_stream.specs.declared.request.Holder.TheVariants.{Waits, GivenUp}
 use Rattle.client_stream.specs.declared.line.LineStage.TheVariants as at
-use Rattle.headline.specs.Frames.{is_bad}
-use Rattle.headline.specs.Messages.{Octets, answers as message_answers, id_in, keepalive_of}
-use Rattle.headline.specs.Timers.{told_idle}
-use Rattle.headline.specs.Writes.{Written}
+use Rattle.right_trace.specs.Frames.{is_bad}
+use Rattle.right_trace.specs.Messages.{Octets, answers as message_answers, id_in, keepalive_of}
+use Rattle.right_trace.specs.Timers.{told_idle}
+use Rattle.right_trace.specs.Writes.{Written}
 use Rattle.headline.specs.machine.Streams as multi
-use Rattle.headline.specs.machine.Streams.{Mode, Active, Asker, Conn, Multi, drop, set_conn, end_at, framed, result_of, with_at, Gives, Nothing, LeavesMode, TakesFrame}
+use Rattle.headline.specs.machine.Streams.{Mode, Active, Asker, Conn, Multi, drop, set_conn, end_at, framed, result_of, Gives, Nothing, LeavesMode, TakesFrame}
+use Rattle.right_trace.specs.Updates.{with_at}
 use Rattle.client_ties.specs.Chains as chains
 use Rattle.client_ties.specs.PartTie.{Leads}
 use Rattle.client_ties.specs.Seats.{IsAway, IsSent, IdFits, IsFree, IsHeld, WasGivenUp, AreSeated}

@@ -22,7 +22,7 @@ use Rattle.client_request.specs.Requests.{for_one}
 use Rattle.client_request.proofs.Carrying.{composed_says}
 use Rattle.client_request.specs.declared.error.Error.{Error}
 use Rattle.client_stream.specs.Plain.{framed, if_short, frame_of, readied}
-use Rattle.headline.specs.Messages.{CarriesInFrame, answers, is_valid, base_is_read, passes_count, has_too_many, fits, size_of}
+use Rattle.right_trace.specs.Messages.{CarriesInFrame, answers, is_valid, base_is_read, passes_count, has_too_many, fits, size_of}
 use Rattle.headline.proofs.Carried.{said_id}
 use Rattle.headline.proofs.Composing.{composed_composes}
 use Rattle.client_ties.specs.Framed.{FramesCarry}

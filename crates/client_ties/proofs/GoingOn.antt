@@ -2,9 +2,9 @@
 use Rattle.std.proofs.Common.{◌≡◌, ℕ, ◌+◌, ◌<◌, ◌≤◌, ◌⊎◌, inl, inr, [], Option, Some, None, refl, sym, subst, ◌∙◌, arith, le_refl, le_trans, append-nil}
 use Rattle.client_request.specs.Timers.{cancelled, with_timer}
 use Rattle.client_request.specs.View.{View}
-use Rattle.headline.specs.Trace.{Conf}
+use Rattle.right_trace.specs.Trace.{Conf}
 use Rattle.headline.specs.machine.Part.{ServerPart}
-use Rattle.headline.specs.machine.Streams.{with_at}
+use Rattle.right_trace.specs.Updates.{with_at}
 use Rattle.client_ties.specs.Sights.{Sight, sight, due_of, IsFair}
 use Rattle.client_ties.specs.Chains.{still, Chain, Stays}
 use Rattle.client_ties.specs.PartTie.{Phase, GoesOn, Leaves}

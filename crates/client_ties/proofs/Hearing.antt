@@ -14,11 +14,12 @@ use Rattle.client_stream.specs.declared.request.Holder.{Holder}
 use Rattle.client_stream.specs.declared.request.QueuedRequest.{QueuedRequest}
 use Rattle.client_stream.specs.declared.line.LineStage.{LineStage}
 use Rattle.client_stream.specs.declared.line.LineStage.TheVariants as at
-use Rattle.headline.specs.Frames.{is_bad}
-use Rattle.headline.specs.Messages.{Octets, id_in, keepalive_of}
-use Rattle.headline.specs.Timers.{told_idle}
+use Rattle.right_trace.specs.Frames.{is_bad}
+use Rattle.right_trace.specs.Messages.{Octets, id_in, keepalive_of}
+use Rattle.right_trace.specs.Timers.{told_idle}
 use Rattle.headline.specs.machine.Streams as multi
-use Rattle.headline.specs.machine.Streams.{Mode, Active, Idle, Lined, Holding, Asker, Conn, Multi, drop, set_conn, end_at, framed, result_of, with_at, Puts, Gives, Nothing, StaysActive, SomeIdHeld, SomeoneLined, LeavesMode, TakesFrame}
+use Rattle.headline.specs.machine.Streams.{Mode, Active, Idle, Lined, Holding, Asker, Conn, Multi, drop, set_conn, end_at, framed, result_of, Puts, Gives, Nothing, StaysActive, SomeIdHeld, SomeoneLined, LeavesMode, TakesFrame}
+use Rattle.right_trace.specs.Updates.{with_at}
 use Rattle.client_ties.specs.PartTie.{Leads}
 use Rattle.client_ties.specs.Seats.{IdFits, IsFree, IsHeld, WasGivenUp, AreSeated}
 use Rattle.client_ties.specs.Connections.{dues, IsTimed, HasEnded, Gave, StaysOpen, ClosesBehind, HasHeard}

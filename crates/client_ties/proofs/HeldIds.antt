@@ -4,7 +4,7 @@ use Rattle.std.specs.Prelude.{if◌then◌else◌, nat_le, nat_lt, ◌&&◌, ◌
 use Rattle.std.proofs.lemmas.Bool.Decides.{nat_tests}
 use Rattle.client_request.specs.Numbered.{puts, entry_at}
 use Rattle.client_stream.specs.IdTable.{IdTable, free_from, least_free, reuses, next_id, inserted}
-use Rattle.headline.specs.Time.{count_below}
+use Rattle.right_trace.specs.Time.{count_below}
 use Rattle.headline.proofs.server.Counts.{count_change}
 use Rattle.client_ties.specs.Lines.{Sorted, IsInOrder}
 use Rattle.client_ties.proofs.Tables.{absent_below, absent_above, sorted_puts, rises_below}

@@ -1,7 +1,7 @@
 -- Functions of numbers with one entry changed.
 use Rattle.std.proofs.Common.{◌≡◌, ℕ, ◌⊎◌, Bool, true, false, ◌==◌, Option, Some, None, refl, subst, arith}
 use Rattle.std.proofs.lemmas.Bool.Decides.{nat_tests}
-use Rattle.headline.specs.machine.Streams.{with_at}
+use Rattle.right_trace.specs.Updates.{with_at}
 
 module _ {V : Type 0} where
   pub with_here : (k : ℕ) (v : Option V) (f : ℕ → Option V) → with_at k v f k ≡ v

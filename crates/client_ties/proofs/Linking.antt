@@ -8,8 +8,8 @@ use Rattle.client_request.specs.View.{View, told, more_at}
 use Rattle.client_request.specs.declared.event.What.TheVariants.{Bytes}
 use Rattle.client_stream.specs.Frames.{has_frame, first_frame, behind_frame, body_size}
 use Rattle.client_stream.specs.Plain.{has_ended, octets_left, with_line, says_more, says_if_more as plain_says, takes_frame, reads, frame_comes, plain_step}
-use Rattle.headline.specs.Frames.{Reading, fed}
-use Rattle.headline.specs.Messages.{Octets}
+use Rattle.right_trace.specs.Frames.{Reading, fed}
+use Rattle.right_trace.specs.Messages.{Octets}
 use Rattle.headline.specs.machine.Streams.{Conn, Multi, fed_by, set_conn}
 use Rattle.client_multi.specs.Links.{Link}
 use Rattle.client_ties.specs.Connections.{dues, HasHeard, IsSettled}

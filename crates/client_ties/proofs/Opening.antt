@@ -4,15 +4,16 @@ use Rattle.std.proofs.lemmas.Bool.Decides.{nat_tests}
 use Rattle.client_request.specs.Request.{Request}
 use Rattle.client_request.specs.declared.error.Error.TheVariants as errors
 use Rattle.client_request.specs.declared.event.What.{What}
-use Rattle.headline.specs.Messages.{Octets}
-use Rattle.headline.specs.Trace.{Conf}
+use Rattle.right_trace.specs.Messages.{Octets}
+use Rattle.right_trace.specs.Trace.{Conf}
 use Rattle.headline.specs.machine.Part.{Act, ServerPart}
 use Rattle.headline.specs.machine.Dgrams as dgrams
 use Rattle.headline.specs.machine.Dgrams.{Dgrams, Tries}
 use Rattle.headline.specs.machine.Server as server
 use Rattle.headline.specs.machine.Server.{Server}
 use Rattle.headline.specs.machine.Streams as multi
-use Rattle.headline.specs.machine.Streams.{Conn, Multi, Moves, Takes, TakesFrame, with_at, set_conn, end_at, unheard}
+use Rattle.headline.specs.machine.Streams.{Conn, Multi, Moves, Takes, TakesFrame, set_conn, end_at, unheard}
+use Rattle.right_trace.specs.Updates.{with_at}
 use Rattle.headline.specs.machine.Served.{Served, served, Acts, Starts, Cancels, Settles, place_after, does, has_moved}
 use Rattle.headline.specs.machine.Served as part
 use Rattle.client_ties.specs.Chains.{Chain, Stays, Goes, Begins, Calls, then_act}

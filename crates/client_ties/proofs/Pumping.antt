@@ -9,7 +9,7 @@ use Rattle.client_request.specs.declared.event.Out.{Out}
 use Rattle.client_stream.specs.Plain.{takes_queued, pumps}
 use Rattle.client_stream.specs.Settings.{Settings}
 use Rattle.client_stream.specs.declared.request.QueuedRequest.{QueuedRequest}
-use Rattle.headline.specs.Time.{response_timeout}
+use Rattle.right_trace.specs.Time.{response_timeout}
 use Rattle.headline.specs.machine.Part.{Post}
 use Rattle.headline.specs.machine.Streams.{Conn, Multi}
 use Rattle.client_ties.specs.Chains.{still, then_act}

@@ -3,7 +3,8 @@ use Rattle.std.proofs.Common.{◌≡◌, ℕ, List, [], ◌∷◌, ◌++◌, Opt
 use Rattle.client_request.specs.declared.board.Posted.{Posted}
 use Rattle.headline.specs.machine.Part.{Act}
 use Rattle.headline.specs.machine.Streams as multi
-use Rattle.headline.specs.machine.Streams.{Phase, Lined, Holding, Broken, Asker, Multi, Moves, moved, with_at}
+use Rattle.headline.specs.machine.Streams.{Phase, Lined, Holding, Broken, Asker, Multi, Moves, moved}
+use Rattle.right_trace.specs.Updates.{with_at}
 use Rattle.headline.specs.machine.Served.{place_after}
 use Rattle.client_ties.specs.Chains.{still, then_act}
 use Rattle.client_ties.specs.Seats.{IsAway}

@@ -6,9 +6,10 @@ use Rattle.client_stream.specs.declared.request.AnyRequest.TheVariants.{Single}
 use Rattle.client_stream.specs.declared.request.Holder.{Holder}
 use Rattle.client_stream.specs.declared.request.Holder.TheVariants.{Waits, GivenUp}
 use Rattle.client_stream.specs.declared.request.QueuedRequest.{QueuedRequest}
-use Rattle.headline.specs.Messages.{Octets, answers}
-use Rattle.headline.specs.Writes.{Written}
-use Rattle.headline.specs.machine.Streams.{Lined, Holding, Asker, with_at}
+use Rattle.right_trace.specs.Messages.{Octets, answers}
+use Rattle.right_trace.specs.Writes.{Written}
+use Rattle.headline.specs.machine.Streams.{Lined, Holding, Asker}
+use Rattle.right_trace.specs.Updates.{with_at}
 use Rattle.client_ties.specs.Seats.{Seats, IsAway, IsSent, IsLined, IdFits, IsFree, IsHeld, WasGivenUp, AreSeated}
 use Rattle.client_ties.proofs.Keys.{with_here, with_there, was_there, is_or_was, each_number}
 

@@ -15,7 +15,7 @@ use Rattle.client_ties.specs.PartTie.{Phase, Untold, Told, Leads, Leaves, MayLea
 use Rattle.client_ties.specs.Sharing.{HasOneMore}
 use Rattle.client_ties.specs.Silent.{silent_part, closed_at_once, SilenceIsTied, SilenceOpensNext, SilenceIsShared}
 use Rattle.headline.specs.machine.Part.{Act}
-use Rattle.headline.specs.machine.Streams.{with_at}
+use Rattle.right_trace.specs.Updates.{with_at}
 use Rattle.std.proofs.lemmas.Bool.Decides.{nat_tests}
 use Rattle.client_ties.proofs.GoingOn.{nothing_done, goes_without}
 

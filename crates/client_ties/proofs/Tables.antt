@@ -3,7 +3,7 @@ use Rattle.std.proofs.Common.{ap₂, subst, ◌≡◌, ℕ, suc, ◌<◌, ◌≤
 use Rattle.std.proofs.lemmas.Bool.Decides.{nat_tests}
 use Rattle.std.specs.Ordering.{match_ordering}
 use mathlib.Core.Path.{fun_ext}
-use Rattle.headline.specs.machine.Streams.{with_at}
+use Rattle.right_trace.specs.Updates.{with_at}
 use Rattle.client_request.specs.Numbered.{puts, frees, entry_at}
 use Rattle.client_ties.specs.Lines.{Sorted}
 use Rattle.client_ties.specs.Sights.{Rising}

@@ -16,10 +16,11 @@ use Rattle.client_stream.specs.declared.request.AnyRequest.TheVariants.{Single}
 use Rattle.client_stream.specs.declared.request.Holder.{Holder}
 use Rattle.client_stream.specs.declared.request.Holder.TheVariants.{Waits, GivenUp}
 use Rattle.client_stream.specs.declared.request.QueuedRequest.{QueuedRequest}
-use Rattle.headline.specs.Time.{response_timeout, id_count, all_ids, count_below}
-use Rattle.headline.specs.Writes.{Written}
+use Rattle.right_trace.specs.Time.{response_timeout, id_count, all_ids, count_below}
+use Rattle.right_trace.specs.Writes.{Written}
 use Rattle.headline.specs.machine.Streams as multi
-use Rattle.headline.specs.machine.Streams.{Mode, New, Active, Idle, Phase, Lined, Holding, Broken, Asker, Conn, Multi, Moves, IsFull, moved, move, set_conn, taking, taken_on, written_on, with_at, Puts, Nothing}
+use Rattle.headline.specs.machine.Streams.{Mode, New, Active, Idle, Phase, Lined, Holding, Broken, Asker, Conn, Multi, Moves, IsFull, moved, move, set_conn, taking, taken_on, written_on, Puts, Nothing}
+use Rattle.right_trace.specs.Updates.{with_at}
 use Rattle.client_ties.specs.Chains.{still, then_act}
 use Rattle.client_ties.specs.PartTie.{Leads}
 use Rattle.client_ties.specs.Runs.{made_by}

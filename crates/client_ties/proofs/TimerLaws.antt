@@ -4,7 +4,7 @@ use Rattle.std.proofs.lemmas.Bool.Decides.{nat_tests}
 use Rattle.std.specs.List.{position_or_len, remove}
 use Rattle.client_request.specs.Timers.{removed_at, without_timer}
 use Rattle.client_request.specs.declared.timers.Timer.{Timer}
-use Rattle.headline.specs.machine.Streams.{with_at}
+use Rattle.right_trace.specs.Updates.{with_at}
 use Rattle.client_ties.specs.Sights.{due_of, Rising}
 use Rattle.client_ties.proofs.Tables.{rises_from}
 

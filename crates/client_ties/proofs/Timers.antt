@@ -10,9 +10,10 @@ use Rattle.client_request.specs.declared.error.Error.TheVariants as errors
 use Rattle.client_request.specs.declared.event.Out.TheVariants.{Close}
 use Rattle.client_stream.specs.Plain.{fires, ends_with}
 use Rattle.client_stream.specs.declared.line.LineStage.{LineStage}
-use Rattle.headline.specs.Time.{response_timeout}
+use Rattle.right_trace.specs.Time.{response_timeout}
 use Rattle.headline.specs.machine.Streams as multi
-use Rattle.headline.specs.machine.Streams.{Mode, Active, Idle, Lined, Asker, Conn, Multi, end_at, with_at, Puts, Moves}
+use Rattle.headline.specs.machine.Streams.{Mode, Active, Idle, Lined, Asker, Conn, Multi, end_at, Puts, Moves}
+use Rattle.right_trace.specs.Updates.{with_at}
 use Rattle.client_ties.specs.PartTie.{Leads}
 use Rattle.client_ties.specs.Connections.{dues, HasFired, IsOthers, EndsByTimer}
 use Rattle.client_ties.specs.Lines.{SingleLine, StageFits, IsNew, IsActive, IsIdle, WritingFits, LineFits, IsLineAt}

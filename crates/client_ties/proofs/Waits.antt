@@ -7,9 +7,9 @@ use Rattle.std.proofs.Math.Nat.{div-lt_iff_lt-mul, mul-lt-mul_of_pos_right}
 use Rattle.dns_base.specs.OptRecord.{OptFields, opt_of}
 use Rattle.client_stream.specs.Keepalive.{told_by, told_after, idle_time_told}
 use Rattle.client_multi.specs.Retry.{retry_bound}
-use Rattle.headline.specs.Messages.{keepalive_option, keepalive_in, keepalive_of}
-use Rattle.headline.specs.Time.{back_off}
-use Rattle.headline.specs.Timers.{told_idle}
+use Rattle.right_trace.specs.Messages.{keepalive_option, keepalive_in, keepalive_of}
+use Rattle.right_trace.specs.Time.{back_off}
+use Rattle.right_trace.specs.Timers.{told_idle}
 use Rattle.client_ties.specs.Reading.{IdleIsTold, BackOffIsShort}
 
 -- tenths of a second in microseconds

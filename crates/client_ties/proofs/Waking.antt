@@ -6,7 +6,7 @@ use Rattle.client_request.specs.View.{View}
 use Rattle.client_stream.specs.Plain.{awaits_frame_since, becomes_active_for}
 use Rattle.client_stream.specs.declared.line.LineStage.{LineStage}
 use Rattle.client_stream.specs.declared.line.LineStage.TheVariants as at
-use Rattle.headline.specs.Time.{response_timeout}
+use Rattle.right_trace.specs.Time.{response_timeout}
 use Rattle.headline.specs.machine.Streams.{Active, Conn, taking, taken_on}
 use Rattle.client_ties.specs.Sights.{IsFair}
 use Rattle.client_ties.specs.PartTie.{Leads}

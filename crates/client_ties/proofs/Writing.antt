@@ -10,9 +10,10 @@ use Rattle.client_request.specs.declared.event.What.TheVariants.{Wrote}
 use Rattle.client_request.specs.declared.event.Out.TheVariants.{Resume, Close}
 use Rattle.client_stream.specs.Plain.{pumps, wrote, wrote_of, ends_with}
 use Rattle.client_stream.specs.Settings.{Settings}
-use Rattle.headline.specs.Time.{response_timeout}
+use Rattle.right_trace.specs.Time.{response_timeout}
 use Rattle.headline.specs.machine.Streams as multi
-use Rattle.headline.specs.machine.Streams.{Conn, Multi, set_conn, end_at, wrote_on, heard_on, with_at, Puts, Nothing, Takes}
+use Rattle.headline.specs.machine.Streams.{Conn, Multi, set_conn, end_at, wrote_on, heard_on, Puts, Nothing, Takes}
+use Rattle.right_trace.specs.Updates.{with_at}
 use Rattle.client_ties.specs.PartTie.{Leads}
 use Rattle.client_ties.specs.Connections.{dues, HasPumped, HasWritten, IsHeard, WritesOn, HasRoom, FailsWriting}
 use Rattle.client_ties.specs.Lines.{SingleLine, seats_of, WritingFits, LineFits, IsLineAt}

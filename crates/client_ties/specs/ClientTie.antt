@@ -1,5 +1,5 @@
 -- What a plain transport owes to be all that a client has below it, its cache too: it takes each asking as the client's machine does, and whatever a call leaves of it is reached by moves of that machine, which put out and give the same.
-use Rattle.std.specs.Prelude.{◌≡◌, ℕ, suc, ◌<◌, ◌≤◌, ◌⊎◌, max, true, false, is_some, nat_lt, List, [], ◌∷◌, ◌++◌, length, map, Option, Some, None, slice_index}
+use Rattle.std.specs.Prelude.{◌≡◌, ℕ, suc, ◌<◌, ◌≤◌, ◌⊎◌, max, true, false, is_some, nat_lt, List, [], ◌∷◌, ◌++◌, length, map, Option, Some, None}
 use Rattle.client_request.specs.Carries.{IsOfOctets}
 use Rattle.client_request.specs.Composed.{composed}
 use Rattle.client_request.specs.Request.{Request}
@@ -10,32 +10,20 @@ use Rattle.client_request.specs.declared.event.Event.{Event}
 use Rattle.client_request.specs.declared.event.Out.{Out}
 use Rattle.client_request.specs.declared.event.Row.{Row}
 use Rattle.client_request.specs.declared.event.What.{What}
-use Rattle.client_request.specs.declared.event.What.TheVariants.{Ask, Datagram, Bytes}
-use Rattle.headline.specs.Settings.{Settings}
-use Rattle.headline.specs.Trace.{Conf}
+use Rattle.client_request.specs.declared.event.What.TheVariants.{Ask}
+use Rattle.right_trace.specs.Settings.{Settings}
+use Rattle.right_trace.specs.Trace.{Conf}
 use Rattle.headline.specs.machine.Part.{Post, ServerPart}
-use Rattle.headline.specs.Keys.{Key, KeysCover}
-use Rattle.headline.specs.Parts.{IsIn}
+use Rattle.right_trace.specs.Keys.{Key, KeysCover}
+use Rattle.right_trace.specs.Parts.{IsIn}
 use Rattle.headline.specs.machine.Client.{Waiting, Leaving, Entry, Upper, Made, Move, Replies, Derives, Moves, Rests, Goes, IsRun, Ends, Goes_on, store, take_on, row_begins, begun}
-use Rattle.headline.specs.machine.Streams.{with_at}
+use Rattle.right_trace.specs.Updates.{with_at}
 use Rattle.client_ties.specs.Chains.{Gives}
 use Rattle.client_ties.specs.Leading.{IsBelow}
 use Rattle.client_ties.specs.PartTie.{Phase, Untold, Told, MayEnd, MayLeave, Leads, place_in}
 use Rattle.client_ties.specs.Sights.{Sight, sight, due_of, IsFair, IsEarly}
 use Rattle.client_ties.specs.WholeTie.{Follows}
-
--- what comes in an event is octets
-abbrev pub AreOctets : List ℕ → Type 0
-AreOctets o = (i : ℕ) → slice_index o i < 256
-
-abbrev pub IsInOctets : What → Type 0
-IsInOctets (Datagram p o) = AreOctets o
-IsInOctets (Bytes p o) = AreOctets o
-IsInOctets _ = Unit {0}
-
-abbrev pub AllInOctets : List Event → Type 0
-AllInOctets [] = Unit {0}
-AllInOctets (e ∷ es) = IsInOctets e.what × AllInOctets es
+use Rattle.right_trace.specs.InOctets.{IsInOctets}
 
 -- Something that is kept beside the machine, and what each move may make of it. Only askings and stored replies change it.
 pub record Beside {c : Conf} (st : Settings) (P : ServerPart c) : Type 1 where

@@ -17,11 +17,12 @@ use Rattle.client_stream.specs.declared.request.AnyRequest.TheVariants.{Single}
 use Rattle.client_stream.specs.declared.request.QueuedRequest.{QueuedRequest}
 use Rattle.client_stream.specs.declared.line.LineStage.{LineStage}
 use Rattle.client_stream.specs.declared.line.LineStage.TheVariants as at
-use Rattle.headline.specs.Messages.{Octets}
-use Rattle.headline.specs.Time.{response_timeout}
+use Rattle.right_trace.specs.Messages.{Octets}
+use Rattle.right_trace.specs.Time.{response_timeout}
 use Rattle.headline.specs.machine.Part.{Act}
 use Rattle.headline.specs.machine.Streams as multi
-use Rattle.headline.specs.machine.Streams.{Idle, Lined, Holding, Asker, Conn, Multi, moved, move, drop, set_conn, end_at, wrote_on, heard_on, with_at, Puts, Gives, Nothing, Moves, Takes, TakesFrame}
+use Rattle.headline.specs.machine.Streams.{Idle, Lined, Holding, Asker, Conn, Multi, moved, move, drop, set_conn, end_at, wrote_on, heard_on, Puts, Gives, Nothing, Moves, Takes, TakesFrame}
+use Rattle.right_trace.specs.Updates.{with_at}
 use Rattle.client_ties.specs.Chains.{part_of}
 use Rattle.client_ties.specs.Lines.{SingleLine, IsLineAt}
 use Rattle.client_ties.specs.PartTie.{GoesOn, Leads}

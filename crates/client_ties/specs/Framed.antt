@@ -4,7 +4,7 @@ use Rattle.client_request.specs.Carries.{IsOfOctets}
 use Rattle.client_request.specs.Request.{Request, is_answered}
 use Rattle.client_request.specs.Requests.{for_one}
 use Rattle.client_stream.specs.Plain.{frame_of, readied}
-use Rattle.headline.specs.Messages.{CarriesInFrame, answers, is_valid}
+use Rattle.right_trace.specs.Messages.{CarriesInFrame, answers, is_valid}
 
 -- A request as it is written under an id: its frame carries it, what answers it answers what was asked under that id, and none is made only where it is not valid.
 pub record FramesCarry : Type 0 where

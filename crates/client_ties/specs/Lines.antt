@@ -6,8 +6,8 @@ use Rattle.client_stream.specs.IdTable.{IdTable}
 use Rattle.client_stream.specs.Plain.{Line}
 use Rattle.client_stream.specs.declared.line.LineStage.{LineStage}
 use Rattle.client_stream.specs.declared.line.LineStage.TheVariants as stage
-use Rattle.headline.specs.Time.{response_timeout}
-use Rattle.headline.specs.Writes.{Written}
+use Rattle.right_trace.specs.Time.{response_timeout}
+use Rattle.right_trace.specs.Writes.{Written}
 use Rattle.headline.specs.machine.Streams.{Mode, New, Active, Idle, Asker, Conn, Multi}
 use Rattle.client_ties.specs.Sights.{Rising}
 use Rattle.client_ties.specs.Seats.{Seats, AreSeated}

@@ -5,9 +5,9 @@ use Rattle.client_request.specs.Requests.{for_one, for_several}
 use Rattle.client_request.specs.View.{View, told, more_at}
 use Rattle.client_request.specs.declared.event.What.TheVariants.{Bytes}
 use Rattle.client_stream.specs.Plain.{has_ended, plain_step}
-use Rattle.headline.specs.Frames.{fed}
-use Rattle.headline.specs.Messages.{Octets}
-use Rattle.headline.specs.Time.{response_timeout}
+use Rattle.right_trace.specs.Frames.{fed}
+use Rattle.right_trace.specs.Messages.{Octets}
+use Rattle.right_trace.specs.Time.{response_timeout}
 use Rattle.headline.specs.machine.Streams.{Conn, Multi, fed_by, set_conn}
 use Rattle.client_multi.specs.Links.{Link}
 use Rattle.client_ties.specs.Connections.{dues, HasHeard, IsSettled}

@@ -10,9 +10,9 @@ use Rattle.client_request.specs.declared.event.Out.TheVariants.{Start}
 use Rattle.client_request.specs.declared.event.Via.{Via}
 use Rattle.client_request.specs.declared.event.What.{What}
 use Rattle.client_request.specs.declared.event.What.TheVariants.{Ask, Opened, OpenFailed, SendFailed, ShortSend, Datagram, RecvFailed, Wrote, WriteFailed, Bytes, ReadFailed, Ended, Tick}
-use Rattle.headline.specs.Trace.{Conf}
+use Rattle.right_trace.specs.Trace.{Conf}
 use Rattle.headline.specs.machine.Part.{Act, ServerPart}
-use Rattle.headline.specs.machine.Streams.{with_at}
+use Rattle.right_trace.specs.Updates.{with_at}
 use Rattle.client_ties.specs.Sights.{Sight, sight, due_of, IsFair, NoneDue}
 use Rattle.client_ties.specs.Chains.{Chain, Begins, Gives}
 

@@ -1,6 +1,6 @@
 -- Which places a server's part has: those of its datagrams, its connections, and the one that opens.
 use Rattle.std.specs.Prelude.{ℕ, ◌==◌, ◌||◌, Bool, false, Option, Some, None, is_some}
-use Rattle.headline.specs.Trace.{Conf}
+use Rattle.right_trace.specs.Trace.{Conf}
 use Rattle.headline.specs.machine.Served.{Served, served}
 use Rattle.client_ties.specs.Sharing.{OpensNext}
 

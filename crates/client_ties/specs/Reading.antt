@@ -4,10 +4,10 @@ use Rattle.std.specs.Option.{unwrap_or}
 use Rattle.client_stream.specs.Frames.{first_frame, behind_frame}
 use Rattle.client_stream.specs.Keepalive.{idle_time_told}
 use Rattle.client_multi.specs.Retry.{retry_time}
-use Rattle.headline.specs.Frames.{Reading, Length, fed}
-use Rattle.headline.specs.Messages.{keepalive_of}
-use Rattle.headline.specs.Time.{back_off}
-use Rattle.headline.specs.Timers.{told_idle}
+use Rattle.right_trace.specs.Frames.{Reading, Length, fed}
+use Rattle.right_trace.specs.Messages.{keepalive_of}
+use Rattle.right_trace.specs.Time.{back_off}
+use Rattle.right_trace.specs.Timers.{told_idle}
 
 -- The octets that are kept, of which so many frames stand whole, leave this to be read.
 abbrev pub Keeps : (octets : List ℕ) → (frames : List (List ℕ)) → Reading → Type 0

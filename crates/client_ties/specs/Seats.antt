@@ -6,8 +6,8 @@ use Rattle.client_stream.specs.declared.request.AnyRequest.TheVariants.{Single}
 use Rattle.client_stream.specs.declared.request.Holder.{Holder}
 use Rattle.client_stream.specs.declared.request.Holder.TheVariants.{Waits, GivenUp}
 use Rattle.client_stream.specs.declared.request.QueuedRequest.{QueuedRequest}
-use Rattle.headline.specs.Messages.{Octets, answers}
-use Rattle.headline.specs.Writes.{Written}
+use Rattle.right_trace.specs.Messages.{Octets, answers}
+use Rattle.right_trace.specs.Writes.{Written}
 use Rattle.headline.specs.machine.Streams.{Lined, Holding, Asker}
 
 -- The tables of a connection at p as functions: who holds each id, the id and the queued request of each ticket. `asks` and `written` are the machine's: the requests by number, and what was written under each id.

@@ -7,7 +7,7 @@ use Rattle.client_request.specs.View.{View, Transport, told, more_at, due_timer}
 use Rattle.client_request.specs.declared.board.Posted.{Posted}
 use Rattle.client_request.specs.declared.event.Event.{Event}
 use Rattle.client_request.specs.declared.event.What.{What}
-use Rattle.headline.specs.Trace.{Conf}
+use Rattle.right_trace.specs.Trace.{Conf}
 use Rattle.headline.specs.machine.Part.{Act, ServerPart}
 use Rattle.client_ties.specs.PartTie.{Phase, Untold, Passed, IsOpen, place_in}
 use Rattle.client_ties.specs.Sights.{Sight, sight, IsFair, NoneDue}

@@ -5,7 +5,7 @@ use Rattle.client_request.specs.View.{Transport, answers, draws_ticket}
 use Rattle.client_request.specs.declared.error.Error.TheVariants.{ConnectionClosed}
 use Rattle.client_request.specs.declared.event.Out.TheVariants.{Start}
 use Rattle.client_request.specs.declared.event.Via.TheVariants.{Dgram}
-use Rattle.headline.specs.Trace.{Conf}
+use Rattle.right_trace.specs.Trace.{Conf}
 use Rattle.headline.specs.machine.Part.{Act, ServerPart}
 use Rattle.client_ties.specs.PartTie.{IsTie}
 use Rattle.client_ties.specs.Sharing.{OpensNext, IsShared}

@@ -19,8 +19,8 @@ use Rattle.client_core.specs.declared.deed.Deed.{Deed}
 use Rattle.client_core.specs.declared.deed.Deed.TheVariants.{Polled}
 use Rattle.client_core.proofs.Replaying.{row_event}
 use Rattle.dns_values.specs.Source.{one_more}
-use Rattle.client_ties.specs.ClientTie.{AllInOctets, IsInOctets}
-use Rattle.headline.specs.Timely.{AllAskedInOctets, IsAskedInOctets}
+use Rattle.right_trace.specs.InOctets.{AllInOctets, IsInOctets}
+use Rattle.right_trace.specs.Timely.{AllAskedInOctets, IsAskedInOctets}
 use Rattle.client_turns.specs.Asking.{Asked, Begun, IsAnswered, Scene, StopsForNumbers, client_of, rows_of}
 use Rattle.client_turns.specs.Replies.{first_reply, or_later, reply_in}
 use Rattle.client_turns.specs.Turns.{AreGivenOn, IsOfPoll, IsTurn, Leads, RoseBy, StopsAt, Turn, acts_on, after_deeds, deeds_of, events_of, happened, moments_of}

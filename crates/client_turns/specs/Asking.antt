@@ -11,8 +11,8 @@ use Rattle.client_steps.specs.Whole.{Client, Whole, machine, client_with}
 use Rattle.client_core.specs.declared.deed.Deed.{Deed}
 use Rattle.client_turns.specs.Replies.{EndsWith, first_reply}
 use Rattle.client_turns.specs.Turns.{Turn, IsOfPoll, RoseBy, AreGivenOn, Leads, acts_on, after_deeds, deeds_of, events_of, moments_of}
-use Rattle.client_ties.specs.ClientTie.{AllInOctets}
-use Rattle.headline.specs.Timely.{AllAskedInOctets}
+use Rattle.right_trace.specs.InOctets.{AllInOctets}
+use Rattle.right_trace.specs.Timely.{AllAskedInOctets}
 
 -- the row in which the request was asked, and those of the turns
 abbrev pub rows_of : Row → List Turn → List Row

@@ -7,7 +7,7 @@ use Rattle.client_request.specs.declared.event.Out.{Out}
 use Rattle.client_request.specs.declared.event.Row.{Row}
 use Rattle.client_request.specs.declared.event.What.{What}
 use Rattle.client_request.specs.declared.event.What.TheVariants.{Ask, Tick}
-use Rattle.client_ties.specs.ClientTie.{IsInOctets}
+use Rattle.right_trace.specs.InOctets.{IsInOctets}
 use Rattle.client_steps.specs.Client.{plain_rows}
 use Rattle.client_steps.specs.Whole.{Client, Whole, machine, plain_step}
 use Rattle.client_core.specs.declared.deed.Deed.{Deed}

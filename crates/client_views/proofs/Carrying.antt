@@ -22,10 +22,10 @@ use Rattle.dns_base.proofs.Steps.{draft_steps}
 use Rattle.client_request.specs.declared.error.CopyRecordsError.TheVariants.{Parse}
 use Rattle.client_request.specs.Composed.{Copied, ◌>>◌, asks, adds, unless, each, section_items, content_of, written_from}
 use Rattle.client_request.proofs.Writable.{AreOctets, question_askable, record_writable}
-use Rattle.headline.specs.Messages.{Octets}
-use Rattle.headline.specs.Keys.{is_signing}
-use Rattle.headline.specs.Views.{with_name}
-use Rattle.headline.proofs.Copying.{number_small, room_left}
+use Rattle.right_trace.specs.Messages.{Octets}
+use Rattle.right_trace.specs.Keys.{is_signing}
+use Rattle.right_trace.specs.Views.{with_name}
+use Rattle.right_trace.proofs.Copying.{number_small, room_left}
 use Rattle.client_views.specs.Viewing.{ttl_then, written_then, asks_under, carries_data, carries, carries_found, carries_section, carries_all}
 use Rattle.client_views.proofs.DataBack.{Lies, record_lies, Comes}
 

@@ -9,7 +9,7 @@ use Rattle.dns_base.specs.Data.{Data, A, Aaaa, One, Minfo, Mx, StartOfAuthority,
 use Rattle.dns_base.specs.Message.{Entry, Known, record_at}
 use Rattle.dns_base.specs.Knowing.{lowered_data}
 use Rattle.dns_base.specs.DataReading.{DataReadsAs}
-use Rattle.headline.specs.Messages.{Octets}
+use Rattle.right_trace.specs.Messages.{Octets}
 use Rattle.client_views.proofs.WhatIsMet.{some_inside}
 
 -- the octets of data that is kept as such

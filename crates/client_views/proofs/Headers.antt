@@ -4,9 +4,9 @@ use Rattle.std.specs.Prelude.{bit_and, not}
 use Rattle.std.proofs.lemmas.Nat.{and_assoc, and_shr}
 use Rattle.std.specs.Int.Bits.{and_zero_r}
 use Rattle.dns_base.specs.Header.{with_aa, with_ad, with_rd}
-use Rattle.headline.specs.Keys.{FlagClass, Key, is_plain}
-use Rattle.headline.specs.Parts.{Header, flags_in}
-use Rattle.headline.specs.Views.{viewed_header}
+use Rattle.right_trace.specs.Keys.{FlagClass, Key, is_plain}
+use Rattle.right_trace.specs.Parts.{Header, flags_in}
+use Rattle.right_trace.specs.Views.{viewed_header}
 use Rattle.client_views.specs.Viewing.{without_ad, without_rd, header_between}
 
 -- bits that a mask keeps, and bits that it clears

@@ -7,15 +7,15 @@ use Rattle.dns_base.specs.Header.{with_aa, rcode_of}
 use Rattle.dns_base.specs.Data.{Data}
 use Rattle.dns_base.specs.Message.{header_of}
 use Rattle.client_request.specs.declared.error.Error.{Error}
-use Rattle.headline.specs.Messages.{Octets}
-use Rattle.headline.specs.Settings.{Settings}
-use Rattle.headline.specs.Keys.{FlagClass, Do, Ad, Plain, Key, KeysCover}
-use Rattle.headline.specs.Parts.{Header, Parts, flags_in, known_parts, lowered_parts, Says}
-use Rattle.headline.specs.Validity.{least, without_opt, limit, validity_of_parts, validity_of_message}
-use Rattle.headline.specs.Views.{viewed_header, with_name, leaves_out, lessened, mostly_lessened, without_signing, viewed}
-use Rattle.headline.proofs.client.Asked.{keys_refl, keys_trans}
-use Rattle.headline.proofs.client.Deriving.{viewed_twice}
-use Rattle.headline.proofs.client.Valid.{own_view_valid}
+use Rattle.right_trace.specs.Messages.{Octets}
+use Rattle.right_trace.specs.Settings.{Settings}
+use Rattle.right_trace.specs.Keys.{FlagClass, Do, Ad, Plain, Key, KeysCover}
+use Rattle.right_trace.specs.Parts.{Header, Parts, flags_in, known_parts, lowered_parts, Says}
+use Rattle.right_trace.specs.Validity.{least, without_opt, limit, validity_of_parts, validity_of_message}
+use Rattle.right_trace.specs.Views.{viewed_header, with_name, leaves_out, lessened, mostly_lessened, without_signing, viewed}
+use Rattle.right_trace.proofs.Asked.{keys_refl, keys_trans}
+use Rattle.right_trace.proofs.Deriving.{viewed_twice}
+use Rattle.right_trace.proofs.Valid.{own_view_valid}
 use Rattle.client_views.specs.Viewing.{IsBetween, header_between, drops_signing, view_octets, under_header, SaysEntries}
 use Rattle.client_views.specs.Kept.{Kept, first_kept, kept_under, derived, Makes, Keeps, KeepsOn, SaysFirst, SaysUnder}
 use Rattle.client_views.proofs.Headers.{header_viewed, header_long}

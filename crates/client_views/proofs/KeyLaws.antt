@@ -15,9 +15,8 @@ use Rattle.dns_base.proofs.Readings.{reading_laws}
 use Rattle.client_request.specs.Request.{Request, is_dnssec_ok}
 use Rattle.client_request.specs.Carries.{SaysRequest, IsOfOctets, contents_of, records_of}
 use Rattle.client_request.proofs.SoleQuestion.{only, sole_is}
-use Rattle.headline.specs.Messages.{Octets, base_is_read}
-use Rattle.headline.specs.Keys.{key_of, is_cacheable, question_of, question_or}
-use Rattle.headline.specs.Theorem.{TellsKeys}
+use Rattle.right_trace.specs.Messages.{Octets, base_is_read}
+use Rattle.right_trace.specs.Keys.{key_of, is_cacheable, question_of, question_or, TellsKeys}
 use Rattle.client_views.specs.Key.{key_in, asked_key, class_in, same_key, same_is_equal, same_key_laws}
 use Rattle.client_views.specs.Laws.{kept_key, KeysAreOfRequests}
 

@@ -26,10 +26,10 @@ use Rattle.client_request.specs.declared.error.CopyRecordsError.TheVariants.{Par
 use Rattle.client_request.specs.declared.error.Error.TheVariants as errors
 use Rattle.client_request.specs.declared.error.Error.{Error}
 use Rattle.client_request.specs.Composing.{IsComposed}
-use Rattle.headline.specs.Messages.{Octets}
-use Rattle.headline.specs.Keys.{FlagClass, Key, is_signing}
-use Rattle.headline.specs.Parts.{Header, Item, Parts, typed, flags_in, known_parts, lowered_item, lowered_parts, Says}
-use Rattle.headline.specs.Views.{viewed_header, with_name, leaves_out, lessened, mostly_lessened, without_signing, viewed}
+use Rattle.right_trace.specs.Messages.{Octets}
+use Rattle.right_trace.specs.Keys.{FlagClass, Key, is_signing}
+use Rattle.right_trace.specs.Parts.{Header, Item, Parts, typed, flags_in, known_parts, lowered_item, lowered_parts, Says}
+use Rattle.right_trace.specs.Views.{viewed_header, with_name, leaves_out, lessened, mostly_lessened, without_signing, viewed}
 use Rattle.client_views.specs.Viewing.{ttl_then, carries_all, carried, view_octets, header_between, drops_signing, under_header, IsViewable, SaysEntries, SaysView, IsRefusedView}
 use Rattle.client_views.proofs.Headers.{header_viewed}
 use Rattle.client_views.proofs.WhatIsMet.{some_inside, header_is}

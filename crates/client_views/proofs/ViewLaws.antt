@@ -7,14 +7,14 @@ use Rattle.dns_base.specs.Data.{Data}
 use Rattle.dns_base.specs.Message.{Asked, Reading, reads}
 use Rattle.dns_base.specs.Knowing.{lowered_asked}
 use Rattle.dns_base.specs.OptRecord.{opt_rcode}
-use Rattle.headline.specs.Messages.{Octets, truncated}
-use Rattle.headline.specs.Settings.{Settings}
-use Rattle.headline.specs.Keys.{FlagClass, Do, Ad, Plain, Key, KeysCover, flags_cover, is_do, is_signing}
-use Rattle.headline.specs.Parts.{Header, Item, Parts, raw, flags_in, read_parts, known_parts, lowered_item, lowered_parts, Says}
-use Rattle.headline.specs.Validity.{second, has_item, least, without_opt, good_limit, limit, validity_of_parts, validity_read, validity_of_message}
-use Rattle.headline.specs.Views.{viewed_header, with_name, leaves_out, lessened, mostly_lessened, without_signing, viewed}
-use Rattle.headline.proofs.client.Deriving.{viewed_twice}
-use Rattle.headline.proofs.client.Said.{known_validity}
+use Rattle.right_trace.specs.Messages.{Octets, truncated}
+use Rattle.right_trace.specs.Settings.{Settings}
+use Rattle.right_trace.specs.Keys.{FlagClass, Do, Ad, Plain, Key, KeysCover, flags_cover, is_do, is_signing}
+use Rattle.right_trace.specs.Parts.{Header, Item, Parts, raw, flags_in, read_parts, known_parts, lowered_item, lowered_parts, Says}
+use Rattle.right_trace.specs.Validity.{second, has_item, least, without_opt, good_limit, limit, validity_of_parts, validity_read, validity_of_message}
+use Rattle.right_trace.specs.Views.{viewed_header, with_name, leaves_out, lessened, mostly_lessened, without_signing, viewed}
+use Rattle.right_trace.proofs.Deriving.{viewed_twice}
+use Rattle.right_trace.proofs.Said.{known_validity}
 use Rattle.client_views.specs.Viewing.{header_between, under_header}
 use Rattle.client_views.proofs.Headers.{header_viewed}
 use Rattle.client_views.proofs.WhatIsMet.{some_inside, header_tc}

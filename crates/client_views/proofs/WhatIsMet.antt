@@ -17,9 +17,9 @@ use Rattle.dns_base.specs.ReadingLaws.{ItemsAre}
 use Rattle.dns_base.proofs.Lists.{items_are_list}
 use Rattle.dns_base.proofs.Readings.{reading_laws}
 use Rattle.client_settings.specs.Settings.{CacheSettings, seconds}
-use Rattle.headline.specs.Messages.{Octets, truncated}
-use Rattle.headline.specs.Parts.{Item, Parts, raw, flags_in, read_parts}
-use Rattle.headline.specs.Validity.{second, has_item, least, without_opt, good_limit, limit, validity_read, validity_of_message}
+use Rattle.right_trace.specs.Messages.{Octets, truncated}
+use Rattle.right_trace.specs.Parts.{Item, Parts, raw, flags_in, read_parts}
+use Rattle.right_trace.specs.Validity.{second, has_item, least, without_opt, good_limit, limit, validity_read, validity_of_message}
 use Rattle.client_views.specs.Validity.{cached_by, meets, section_meets, limit_asked, limit_met, least_with, least_met, least_in, least_of, validity_met}
 
 pub some_inside : {A B : Type 0} → (f : A → B) (o : Option A) (y : B) → option_map f o ≡ Some y → (x : A) × (o ≡ Some x) × (f x ≡ y)

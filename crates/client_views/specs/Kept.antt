@@ -6,10 +6,10 @@ use Rattle.dns_base.specs.Data.{Data}
 use Rattle.dns_base.specs.Message.{header_of}
 use Rattle.client_request.specs.declared.error.Error.{Error}
 use Rattle.client_request.specs.declared.error.Error.TheVariants as errors
-use Rattle.headline.specs.Messages.{Octets}
-use Rattle.headline.specs.Keys.{FlagClass, Key, KeysCover}
-use Rattle.headline.specs.Parts.{Parts, flags_in, known_parts, lowered_parts, Says}
-use Rattle.headline.specs.Views.{viewed_header, viewed}
+use Rattle.right_trace.specs.Messages.{Octets}
+use Rattle.right_trace.specs.Keys.{FlagClass, Key, KeysCover}
+use Rattle.right_trace.specs.Parts.{Parts, flags_in, known_parts, lowered_parts, Says}
+use Rattle.right_trace.specs.Views.{viewed_header, viewed}
 use Rattle.client_views.specs.Viewing.{IsBetween, header_between, drops_signing, view_octets, under_header, SaysEntries}
 
 pub record Kept : Type 0 where

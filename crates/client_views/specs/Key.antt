@@ -11,8 +11,8 @@ use Rattle.dns_names.specs.Name.{Labels, lowered}
 use Rattle.dns_names.specs.NameHash.{labels_hash}
 use Rattle.dns_base.specs.Header.{ad_of, cd_of, rd_of, opcode_of}
 use Rattle.dns_base.specs.Message.{Asked, sole_question}
-use Rattle.headline.specs.Keys.{FlagClass, Do, Ad, Plain, Key}
-use Rattle.headline.specs.Messages.{Octets}
+use Rattle.right_trace.specs.Keys.{FlagClass, Do, Ad, Plain, Key}
+use Rattle.right_trace.specs.Messages.{Octets}
 use Rattle.client_views.specs.declared.key.AdDo.{AdDo}
 use Rattle.client_views.specs.declared.key.AdDo.TheVariants as classes
 

@@ -4,12 +4,12 @@ use Rattle.dns_names.specs.Name.{Labels}
 use Rattle.dns_base.specs.Data.{Data}
 use Rattle.client_request.specs.Request.{Request, is_dnssec_ok}
 use Rattle.client_request.specs.Carries.{SaysRequest, IsOfOctets}
-use Rattle.headline.specs.Messages.{Octets, base_is_read}
-use Rattle.headline.specs.Keys.{Key, KeysCover, key_of, is_cacheable}
-use Rattle.headline.specs.Settings.{Settings}
-use Rattle.headline.specs.Parts.{Header, Parts, flags_in, known_parts, Says}
-use Rattle.headline.specs.Validity.{validity_of_parts, validity_of_message}
-use Rattle.headline.specs.Views.{viewed_header, leaves_out, viewed}
+use Rattle.right_trace.specs.Messages.{Octets, base_is_read}
+use Rattle.right_trace.specs.Keys.{Key, KeysCover, key_of, is_cacheable}
+use Rattle.right_trace.specs.Settings.{Settings}
+use Rattle.right_trace.specs.Parts.{Header, Parts, flags_in, known_parts, Says}
+use Rattle.right_trace.specs.Validity.{validity_of_parts, validity_of_message}
+use Rattle.right_trace.specs.Views.{viewed_header, leaves_out, viewed}
 use Rattle.client_views.specs.Key.{key_in}
 use Rattle.client_views.specs.Viewing.{header_between, under_header}
 use Rattle.client_views.specs.Kept.{Kept, Keeps}

@@ -9,9 +9,9 @@ use Rattle.dns_base.specs.OptRecord.{opt_rcode}
 use Rattle.client_request.specs.declared.error.Error.{Error}
 use Rattle.client_request.specs.declared.error.Error.TheVariants.{MessageParseError}
 use Rattle.client_settings.specs.Settings.{CacheSettings, seconds}
-use Rattle.headline.specs.Messages.{Octets}
-use Rattle.headline.specs.Settings.{Settings}
-use Rattle.headline.specs.Validity.{validity_of_message}
+use Rattle.right_trace.specs.Messages.{Octets}
+use Rattle.right_trace.specs.Settings.{Settings}
+use Rattle.right_trace.specs.Validity.{validity_of_message}
 
 -- the settings of a client with this cache
 abbrev pub with_cache : CacheSettings → Settings → Settings

@@ -13,10 +13,10 @@ use Rattle.client_request.specs.declared.error.Error.{Error}
 use Rattle.client_request.specs.declared.error.Error.TheVariants as errors
 use Rattle.client_request.specs.declared.error.CopyRecordsError.TheVariants.{Parse}
 use Rattle.client_request.specs.Composed.{Copied, ◌>>◌, asks, adds, each, section_items, message_of}
-use Rattle.headline.specs.Keys.{FlagClass, Key, is_do, is_plain, is_signing}
-use Rattle.headline.specs.Messages.{Octets}
-use Rattle.headline.specs.Parts.{Parts, flags_in, known_parts, Says}
-use Rattle.headline.specs.Views.{with_name, viewed}
+use Rattle.right_trace.specs.Keys.{FlagClass, Key, is_do, is_plain, is_signing}
+use Rattle.right_trace.specs.Messages.{Octets}
+use Rattle.right_trace.specs.Parts.{Parts, flags_in, known_parts, Says}
+use Rattle.right_trace.specs.Views.{with_name, viewed}
 
 -- AA is clear; so is AD where only the first asked for it, and RD where that is so of recursion
 abbrev pub without_ad : Bool → List ℕ → List ℕ

@@ -3,7 +3,7 @@
 ghost use Rattle.std.specs.Prelude.{◌≡◌, ◌≤◌, ℕ, length, false, Some, None, IsTrue, MatchResult, min};
 ghost use Rattle.dns_base.specs.Message.{first_question};
 ghost use Rattle.client_request.specs.Composed.{section_items};
-ghost use Rattle.headline.specs.Validity.{validity_of_message};
+ghost use Rattle.right_trace.specs.Validity.{validity_of_message};
 ghost use Rattle.client_views.specs.Validity as spec;
 
 use client_request::Error;

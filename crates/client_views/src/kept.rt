@@ -3,10 +3,10 @@
 ghost use Rattle.std.specs.Prelude.{◌≡◌, ℕ, IfOk, IfErr, Some};
 ghost use Rattle.dns_base.specs.Data.{Data};
 ghost use Rattle.client_request.specs.Composing.{IsComposed};
-ghost use Rattle.headline.specs.Keys as keys;
-ghost use Rattle.headline.specs.Parts.{Parts, Says, known_parts};
-ghost use Rattle.headline.specs.Views.{viewed};
-ghost use Rattle.headline.specs.Validity.{validity_of_message};
+ghost use Rattle.right_trace.specs.Keys as keys;
+ghost use Rattle.right_trace.specs.Parts.{Parts, Says, known_parts};
+ghost use Rattle.right_trace.specs.Views.{viewed};
+ghost use Rattle.right_trace.specs.Validity.{validity_of_message};
 ghost use Rattle.client_views.specs.Key.{flag_class};
 ghost use Rattle.client_views.specs.Validity.{cached_by, or_unread};
 ghost use Rattle.client_views.specs.Viewing.{IsBetween, IsRefusedView, drops_signing, view_octets};

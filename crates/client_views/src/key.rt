@@ -2,7 +2,7 @@
 
 ghost use Rattle.std.specs.Prelude.{◌≡◌, IfOk};
 ghost use Rattle.dns_names.specs.Name.{lowered};
-ghost use Rattle.headline.specs.Keys as keys;
+ghost use Rattle.right_trace.specs.Keys as keys;
 ghost use Rattle.client_views.specs.Key.{flag_class, class_in, class_number, key_asking, key_in, same_key, same_key_laws, same_key_partly, key_hash, same_key_hash};
 
 use dns_base::{Class, Header, Message, Name, NoMemory, Opcode, Question, Rtype, ToName};

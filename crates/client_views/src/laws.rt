@@ -1,6 +1,6 @@
 //! What holds of keys, and of views.
 
-ghost use Rattle.headline.specs.Theorem.{TellsKeys};
+ghost use Rattle.right_trace.specs.Keys.{TellsKeys};
 ghost use Rattle.client_views.specs.Key.{same_key};
 ghost use Rattle.client_views.specs.Laws.{KeysAreOfRequests, ViewLaws};
 

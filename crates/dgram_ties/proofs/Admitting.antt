@@ -9,7 +9,7 @@ use Rattle.client_stream.specs.Plain as stream
 use Rattle.client_multi.specs.Fallback.{Tables, lower_of, admits, without, without_job}
 use Rattle.client_multi.specs.declared.dgram_stream.job.Job.{Job}
 use Rattle.client_multi.specs.declared.dgram_stream.job.Job.TheVariants.{Dgram, Stream}
-use Rattle.headline.specs.machine.Streams.{with_at}
+use Rattle.right_trace.specs.Updates.{with_at}
 use Rattle.headline.specs.machine.Dgrams.{Tryer, Dgrams}
 use Rattle.client_ties.proofs.Keys.{with_here, with_there, was_there, is_or_was}
 use Rattle.client_ties.proofs.Tables.{at_frees, at_puts, sorted_frees, sorted_puts, rises_below}

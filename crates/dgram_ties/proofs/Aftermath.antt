@@ -10,7 +10,7 @@ use Rattle.client_dgram.specs.Plain.{Tables, gives_on}
 use Rattle.std.specs.Prelude.{option_map, ◌^◌}
 use Rattle.client_dgram.specs.declared.job.Job.{Job}
 use Rattle.headline.specs.machine.Part.{Act, Post}
-use Rattle.headline.specs.machine.Streams.{with_at}
+use Rattle.right_trace.specs.Updates.{with_at}
 use Rattle.headline.specs.machine.Streams as multi
 use Rattle.headline.specs.machine.Dgrams.{Dgrams, try_at}
 use Rattle.headline.specs.machine.Dgrams as dgrams

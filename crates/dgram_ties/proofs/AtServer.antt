@@ -2,7 +2,7 @@
 use Rattle.std.proofs.Common.{◌≡◌, ℕ, false, [], ◌∷◌, Some, refl, sym, subst, append-nil, append_assoc}
 use Rattle.client_request.specs.declared.event.Out.TheVariants.{Start, Close}
 use Rattle.client_request.specs.declared.event.Via.TheVariants.{Stream}
-use Rattle.headline.specs.Trace.{Conf, ByDatagrams}
+use Rattle.right_trace.specs.Trace.{Conf, ByDatagrams}
 use Rattle.headline.specs.machine.Part.{Act}
 use Rattle.headline.specs.machine.Streams as multi
 use Rattle.headline.specs.machine.Streams.{IsForeign}

@@ -8,7 +8,7 @@ use Rattle.client_dgram.specs.Settings as dgram_settings
 use Rattle.client_stream.specs.Plain as stream
 use Rattle.client_multi.specs.Fallback.{Parts, onto, with_tables, collects, gives_rest, with_parts}
 use Rattle.client_multi.specs.declared.dgram_stream.job.Job.{Job}
-use Rattle.headline.specs.Trace.{Conf}
+use Rattle.right_trace.specs.Trace.{Conf}
 use Rattle.headline.specs.machine.Part.{Act}
 use Rattle.headline.specs.machine.Dgrams.{Tryer, Dgrams, no_datagram}
 use Rattle.headline.specs.machine.Served.{Served, served}

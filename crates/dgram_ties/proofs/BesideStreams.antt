@@ -10,9 +10,9 @@ use Rattle.client_dgram.specs.Settings as dgram_settings
 use Rattle.client_stream.specs.Plain as stream
 use Rattle.client_multi.specs.Fallback.{Parts, onto, gives_all, gives_rest, settles_stream, with_parts}
 use Rattle.client_multi.specs.declared.dgram_stream.job.Job.{Job}
-use Rattle.headline.specs.Trace.{Conf}
+use Rattle.right_trace.specs.Trace.{Conf}
 use Rattle.headline.specs.machine.Part.{Act, Post}
-use Rattle.headline.specs.machine.Streams.{with_at}
+use Rattle.right_trace.specs.Updates.{with_at}
 use Rattle.headline.specs.machine.Dgrams.{Dgrams, no_datagram}
 use Rattle.headline.specs.machine.Served.{Served, served}
 use Rattle.client_ties.specs.Chains.{Gives}

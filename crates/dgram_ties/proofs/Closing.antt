@@ -11,11 +11,11 @@ use Rattle.client_request.specs.declared.event.Out.TheVariants.{Close}
 use Rattle.client_dgram.specs.Plain.{Tables, leaves, closes, finishes, gives_on}
 use Rattle.client_dgram.specs.declared.job.Job.{Job}
 use Rattle.client_dgram.specs.declared.job.Stage.TheVariants as at
-use Rattle.headline.specs.Messages.{Octets, under}
-use Rattle.headline.specs.Time.{read_timeout}
+use Rattle.right_trace.specs.Messages.{Octets, under}
+use Rattle.right_trace.specs.Time.{read_timeout}
 use Rattle.headline.specs.machine.Part.{Act}
 use Rattle.headline.specs.machine.Streams as multi
-use Rattle.headline.specs.machine.Streams.{with_at}
+use Rattle.right_trace.specs.Updates.{with_at}
 use Rattle.headline.specs.machine.Dgrams.{Stage, Trying, Sent, Ending, Tryer, Dgrams, staged, leave, forget, Meets}
 use Rattle.client_ties.specs.Chains.{then_act, part_of, Gives}
 use Rattle.client_ties.specs.Sights.{sight, due_of, IsFair}

@@ -8,10 +8,10 @@ use Rattle.client_request.specs.View.{View}
 use Rattle.client_dgram.specs.Plain.{Tables}
 use Rattle.client_dgram.specs.declared.job.Job.{Job}
 use Rattle.client_dgram.specs.declared.job.Stage.TheVariants as at
-use Rattle.headline.specs.Messages.{under}
-use Rattle.headline.specs.Time.{read_timeout}
+use Rattle.right_trace.specs.Messages.{under}
+use Rattle.right_trace.specs.Time.{read_timeout}
 use Rattle.headline.specs.machine.Dgrams.{Trying, Sent, Tryer, Dgrams, staged}
-use Rattle.headline.specs.machine.Streams.{with_at}
+use Rattle.right_trace.specs.Updates.{with_at}
 use Rattle.client_ties.specs.Sights.{sight, due_of, IsFair}
 use Rattle.dgram_ties.specs.Slots.{place_in, timer_in, Slots, slots_of, IsJobOf, AtOpening, AtSent, AreAlike, AreSlots}
 use Rattle.dgram_ties.proofs.Changing.{alike_as}

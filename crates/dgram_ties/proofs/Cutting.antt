@@ -11,9 +11,9 @@ use Rattle.client_request.specs.declared.event.Out.TheVariants.{OpenDgram, Close
 use Rattle.client_dgram.specs.Plain.{Tables, leaves, closes, finishes, gives_on}
 use Rattle.client_dgram.specs.declared.job.Job.{Job}
 use Rattle.client_dgram.specs.declared.job.Stage.TheVariants as at
-use Rattle.headline.specs.Messages.{Octets, truncated}
+use Rattle.right_trace.specs.Messages.{Octets, truncated}
 use Rattle.headline.specs.machine.Streams as multi
-use Rattle.headline.specs.machine.Streams.{with_at}
+use Rattle.right_trace.specs.Updates.{with_at}
 use Rattle.headline.specs.machine.Dgrams as dgrams
 use Rattle.headline.specs.machine.Dgrams.{Trying, Ending, Cut, Tryer, Dgrams, staged, leave, forget, try_at, Meets}
 use Rattle.headline.specs.machine.Served.{IsSettled}

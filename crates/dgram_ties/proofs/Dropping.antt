@@ -11,7 +11,7 @@ use Rattle.client_dgram.specs.declared.job.Job.{Job}
 use Rattle.client_dgram.specs.declared.job.Stage.{Stage}
 use Rattle.client_dgram.specs.declared.job.Stage.TheVariants as at
 use Rattle.headline.specs.machine.Streams as multi
-use Rattle.headline.specs.machine.Streams.{with_at}
+use Rattle.right_trace.specs.Updates.{with_at}
 use Rattle.headline.specs.machine.Dgrams.{Ending, Dgrams, leave, forget}
 use Rattle.client_ties.specs.Chains.{still}
 use Rattle.client_ties.specs.Sights.{sight, IsFair}

@@ -10,8 +10,8 @@ use Rattle.client_dgram.specs.Settings as dgram_settings
 use Rattle.client_stream.specs.Plain as stream
 use Rattle.client_multi.specs.Fallback as fallback
 use Rattle.client_multi.specs.Fallback.{onto, with_parts, hears_stream}
-use Rattle.headline.specs.Orderly.{use_at}
-use Rattle.headline.specs.Trace.{Conf, ByDatagrams}
+use Rattle.right_trace.specs.Orderly.{use_at}
+use Rattle.right_trace.specs.Trace.{Conf, ByDatagrams}
 use Rattle.headline.specs.machine.Served.{Served, served}
 use Rattle.client_ties.specs.PartTie.{Phase, Untold, Leads, IsTie}
 use Rattle.client_ties.specs.Sights.{Sight, sight, IsFair, NoneDue}

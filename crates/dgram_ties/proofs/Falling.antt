@@ -12,7 +12,7 @@ use Rattle.client_dgram.specs.Settings as dgram_settings
 use Rattle.client_stream.specs.Plain as stream
 use Rattle.client_multi.specs.Fallback as fallback
 use Rattle.client_multi.specs.declared.dgram_stream.job.Job.{Job}
-use Rattle.headline.specs.Trace.{Conf}
+use Rattle.right_trace.specs.Trace.{Conf}
 use Rattle.headline.specs.machine.Dgrams.{Dgrams, no_datagram, IsIgnored}
 use Rattle.headline.specs.machine.Served.{Served, unserved, holds, row_begun, RestsNow}
 use Rattle.client_ties.specs.PartTie.{Phase, Untold, Told, Passed, IsNobodys, MayEnd, WasTold}

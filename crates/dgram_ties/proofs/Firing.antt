@@ -13,10 +13,10 @@ use Rattle.client_dgram.specs.Plain.{Tables, leaves, tries_at, gives_on, again, 
 use Rattle.client_dgram.specs.declared.job.Job.{Job}
 use Rattle.client_dgram.specs.declared.job.Stage.{Stage}
 use Rattle.client_dgram.specs.declared.job.Stage.TheVariants as at
-use Rattle.headline.specs.Messages.{Octets}
-use Rattle.headline.specs.Time.{read_timeout}
+use Rattle.right_trace.specs.Messages.{Octets}
+use Rattle.right_trace.specs.Time.{read_timeout}
 use Rattle.headline.specs.machine.Streams as multi
-use Rattle.headline.specs.machine.Streams.{with_at}
+use Rattle.right_trace.specs.Updates.{with_at}
 use Rattle.headline.specs.machine.Dgrams as dgrams
 use Rattle.headline.specs.machine.Dgrams.{Queued, Trying, Ending, Tryer, Dgrams, staged, leave, forget, try_at}
 use Rattle.client_ties.specs.Chains.{still, then_act}

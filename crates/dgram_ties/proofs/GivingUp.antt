@@ -12,9 +12,9 @@ use Rattle.client_multi.specs.Fallback.{Tables, onto, with_tables, without, with
 use Rattle.client_multi.specs.declared.dgram_stream.job.Job.{Job}
 use Rattle.client_multi.specs.declared.dgram_stream.job.Job.TheVariants.{Dgram, Stream}
 use Rattle.client_request.specs.declared.event.What.{What}
-use Rattle.headline.specs.Trace.{Conf}
+use Rattle.right_trace.specs.Trace.{Conf}
 use Rattle.headline.specs.machine.Part.{Act}
-use Rattle.headline.specs.machine.Streams.{with_at}
+use Rattle.right_trace.specs.Updates.{with_at}
 use Rattle.headline.specs.machine.Server as server
 use Rattle.headline.specs.machine.Served as machine
 use Rattle.headline.specs.machine.Dgrams.{Tryer, Dgrams, no_datagram}

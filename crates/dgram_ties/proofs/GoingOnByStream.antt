@@ -18,11 +18,12 @@ use Rattle.client_multi.specs.Fallback as fallback
 use Rattle.client_multi.specs.Fallback.{Tables, is_truncated, onto, with_tables, admits, without_at, waiting_at, settles_at, settles_whole, settles, settles_all, follows, follows_at, gives_rest, with_parts, hears_stream}
 use Rattle.client_multi.specs.declared.dgram_stream.job.Job.{Job}
 use Rattle.client_multi.specs.declared.dgram_stream.job.Job.TheVariants.{Dgram, Stream}
-use Rattle.headline.specs.Messages.{Octets, truncated}
-use Rattle.headline.specs.Trace.{Conf}
+use Rattle.right_trace.specs.Messages.{Octets, truncated}
+use Rattle.right_trace.specs.Trace.{Conf}
 use Rattle.headline.specs.machine.Part.{Act}
 use Rattle.headline.specs.machine.Streams as multi
-use Rattle.headline.specs.machine.Streams.{IsForeign, with_at}
+use Rattle.headline.specs.machine.Streams.{IsForeign}
+use Rattle.right_trace.specs.Updates.{with_at}
 use Rattle.headline.specs.machine.Dgrams.{Cut, Tryer, Dgrams, no_datagram, staged, leave, forget}
 use Rattle.headline.specs.machine.Served as machine
 use Rattle.headline.specs.machine.Served.{Served, served, holds, has_taken_it, Starts}

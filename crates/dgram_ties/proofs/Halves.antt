@@ -4,8 +4,8 @@ use Rattle.client_request.specs.Request.{Request}
 use Rattle.client_request.specs.declared.event.What.{What}
 use Rattle.client_request.specs.declared.event.Out.TheVariants.{Start}
 use Rattle.client_request.specs.declared.event.Via.TheVariants.{Stream}
-use Rattle.headline.specs.Orderly.{use_at}
-use Rattle.headline.specs.Trace.{Use, Conf, ByDatagrams, ByStreams}
+use Rattle.right_trace.specs.Orderly.{use_at}
+use Rattle.right_trace.specs.Trace.{Use, Conf, ByDatagrams, ByStreams}
 use Rattle.headline.specs.machine.Part.{Act}
 use Rattle.headline.specs.machine.Streams as multi
 use Rattle.headline.specs.machine.Streams.{Multi, IsForeign}
@@ -18,6 +18,7 @@ use Rattle.headline.specs.machine.Served.{Served, served, Settles, IsInTime, Act
 use Rattle.client_ties.specs.Chains.{Chain, Stays, Goes}
 use Rattle.dgram_ties.specs.AtServer.{with_dgrams, DgramsRest}
 use Rattle.dgram_ties.specs.Halves.{IsByStreams, beside, AreInTime, StreamsMove}
+use Rattle.right_trace.specs.Updates.{with_at}
 
 -- nobody is held where nothing was asked of datagrams
 pub nobody : (d : Dgrams) (k : ℕ) (a : Tryer) → d ≡ no_datagram → d.held k ≡ Some a → ⊥
@@ -74,7 +75,7 @@ handed b s place k r u d a _ used none held cut same (machine.IsHanded how x v i
   where
     by : (how : Use) (x : multi.Act) (v : Server) → use_at s b.servers ≡ Some how → server.IsHanded how s u.clock k r u.server x v → IsByStreams (machine.has_moved v u) × Acts s place (with_dgrams d u) (beside (forget k d) (machine.does (machine.has_moved v u) place x))
     by how _ _ is (server.ToDgrams way free) = absurd (let z : Some ByDatagrams ≡ Some ByStreams = sym (is ∙ ap Some way) ∙ used in cc)
-    by how _ _ is (server.ToStreams way free) = (none, subst (λ r. Acts s place (with_dgrams d u) (beside (forget k d) (machine.does (machine.has_moved (record u.server { by_stream = record u.server.by_stream { asks = multi.with_at k (Some (record { request = r; since = u.clock; phase = multi.Free })) u.server.by_stream.asks } }) u) place (multi.Puts (Start k s Stream))))) same (machine.FallsBack k a held cut))
+    by how _ _ is (server.ToStreams way free) = (none, subst (λ r. Acts s place (with_dgrams d u) (beside (forget k d) (machine.does (machine.has_moved (record u.server { by_stream = record u.server.by_stream { asks = with_at k (Some (record { request = r; since = u.clock; phase = multi.Free })) u.server.by_stream.asks } }) u) place (multi.Puts (Start k s Stream))))) same (machine.FallsBack k a held cut))
 
 cancels : (s place k : ℕ) (u : Served) (d : Dgrams) (e : Act Served) → IsByStreams u → d.held k ≡ None → Cancels s place k u e → IsByStreams e.state × Cancels s place k (with_dgrams d u) (beside d e)
 cancels s place k u d _ none free (machine.IsGivenUp x v it) = by x v it

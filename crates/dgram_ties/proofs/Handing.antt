@@ -10,7 +10,7 @@ use Rattle.client_multi.specs.Fallback.{Tables, lower_of, waiting_at, waiting_be
 use Rattle.client_multi.specs.declared.dgram_stream.job.Job.{Job}
 use Rattle.client_multi.specs.declared.dgram_stream.job.Job.TheVariants.{Dgram, Stream}
 use Rattle.headline.specs.machine.Part.{Post}
-use Rattle.headline.specs.machine.Streams.{with_at}
+use Rattle.right_trace.specs.Updates.{with_at}
 use Rattle.headline.specs.machine.Dgrams.{Dgrams}
 use Rattle.client_ties.specs.Chains.{Gives}
 use Rattle.client_ties.proofs.Keys.{with_here, with_there, was_there}

@@ -14,10 +14,10 @@ use Rattle.client_multi.specs.Fallback as fallback
 use Rattle.client_multi.specs.Fallback.{Tables, onto, with_tables, admits, with_parts, settles_dgram}
 use Rattle.client_multi.specs.declared.dgram_stream.job.Job.{Job}
 use Rattle.client_multi.specs.declared.dgram_stream.job.Job.TheVariants.{Dgram}
-use Rattle.headline.specs.Orderly.{use_at}
-use Rattle.headline.specs.Trace.{Conf, ByDatagrams}
+use Rattle.right_trace.specs.Orderly.{use_at}
+use Rattle.right_trace.specs.Trace.{Conf, ByDatagrams}
 use Rattle.headline.specs.machine.Part.{Act}
-use Rattle.headline.specs.machine.Streams.{with_at}
+use Rattle.right_trace.specs.Updates.{with_at}
 use Rattle.headline.specs.machine.Dgrams.{Queued, Ending, Tryer, Dgrams, no_datagram}
 use Rattle.headline.specs.machine.Served.{Served, served, holds, Starts}
 use Rattle.client_ties.specs.Chains.{Chain, Begins, Calls}

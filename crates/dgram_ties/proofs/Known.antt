@@ -5,7 +5,7 @@ use Rattle.client_request.specs.Numbered.{entry_at}
 use Rattle.client_request.specs.Request.{Request}
 use Rattle.client_dgram.specs.Plain.{Tables}
 use Rattle.client_dgram.specs.declared.job.Job.{Job}
-use Rattle.headline.specs.Time.{read_timeout}
+use Rattle.right_trace.specs.Time.{read_timeout}
 use Rattle.headline.specs.machine.Dgrams.{Queued, Sent, Ending, Cut, Tryer, Dgrams}
 use Rattle.headline.specs.machine.Dgrams as machine
 use Rattle.client_ties.specs.Sights.{Sight}

@@ -5,10 +5,10 @@ use Rattle.client_request.specs.declared.error.Error.{Error}
 use Rattle.client_request.specs.declared.error.Error.TheVariants as errors
 use Rattle.client_request.specs.declared.event.What.{What}
 use Rattle.client_request.specs.declared.event.What.TheVariants.{Ask, Opened, OpenFailed, SendFailed, ShortSend, Datagram, RecvFailed, Wrote, WriteFailed, Bytes, ReadFailed, Ended, Tick}
-use Rattle.headline.specs.Messages.{Octets}
+use Rattle.right_trace.specs.Messages.{Octets}
 use Rattle.headline.specs.machine.Part.{Act}
 use Rattle.headline.specs.machine.Streams as multi
-use Rattle.headline.specs.machine.Streams.{with_at}
+use Rattle.right_trace.specs.Updates.{with_at}
 use Rattle.headline.specs.machine.Dgrams as dgrams
 use Rattle.headline.specs.machine.Dgrams.{Queued, Trying, Sent, Ending, Stage, Tryer, Dgrams, staged, leave, forget, Tries, IsIgnored}
 use Rattle.client_ties.specs.PartTie.{place_in}

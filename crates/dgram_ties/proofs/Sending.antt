@@ -14,12 +14,12 @@ use Rattle.client_dgram.specs.Plain.{Tables, sent_at, sends_composed}
 use Rattle.client_dgram.specs.Settings.{default_settings}
 use Rattle.client_dgram.specs.declared.job.Job.{Job}
 use Rattle.client_dgram.specs.declared.job.Stage.TheVariants as at
-use Rattle.headline.specs.Messages.{Octets, under}
-use Rattle.headline.specs.Time.{read_timeout}
+use Rattle.right_trace.specs.Messages.{Octets, under}
+use Rattle.right_trace.specs.Time.{read_timeout}
 use Rattle.headline.proofs.Carried.{carried_by}
 use Rattle.headline.proofs.Composing.{composed_composes}
 use Rattle.headline.specs.machine.Streams as multi
-use Rattle.headline.specs.machine.Streams.{with_at}
+use Rattle.right_trace.specs.Updates.{with_at}
 use Rattle.headline.specs.machine.Dgrams as dgrams
 use Rattle.headline.specs.machine.Dgrams.{Sent, Tryer, Dgrams, send_at}
 use Rattle.client_ties.specs.Chains.{still}

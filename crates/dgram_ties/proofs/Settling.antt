@@ -10,7 +10,7 @@ use Rattle.client_dgram.specs.Plain as dgram
 use Rattle.client_stream.specs.Plain as stream
 use Rattle.client_multi.specs.Fallback.{Tables, Parts, is_truncated, onto, with_tables, without_at, waiting_at, settles_at, settles_whole, settles, settles_all}
 use Rattle.headline.specs.machine.Part.{Post}
-use Rattle.headline.specs.machine.Streams.{with_at}
+use Rattle.right_trace.specs.Updates.{with_at}
 use Rattle.headline.specs.machine.Dgrams.{Dgrams}
 use Rattle.client_ties.specs.Chains.{part_of, Gives}
 use Rattle.dgram_ties.specs.Waiting.{AreWaiting, number_in, numbers_of, ticket_at}

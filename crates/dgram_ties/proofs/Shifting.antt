@@ -5,7 +5,7 @@ use Rattle.client_request.specs.Request.{Request}
 use Rattle.client_dgram.specs.declared.job.Job.{Job}
 use Rattle.client_dgram.specs.declared.job.Stage.TheVariants as at
 use Rattle.headline.specs.machine.Dgrams.{Queued, Tryer, Dgrams, forget}
-use Rattle.headline.specs.machine.Streams.{with_at}
+use Rattle.right_trace.specs.Updates.{with_at}
 use Rattle.dgram_ties.specs.Slots.{IsIn, place_in, timer_in, Slots, IsJobOf, StageFits, AtQueue, AtOpening, AtSent, AreAlike}
 use Rattle.dgram_ties.proofs.Changing.{Around, falls_out, comes_in}
 use Rattle.client_ties.proofs.Keys.{with_here, with_there, was_there, is_or_was}

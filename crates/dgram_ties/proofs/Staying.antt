@@ -4,11 +4,12 @@ use Rattle.std.specs.Prelude.{Err}
 use Rattle.client_request.specs.declared.error.Error.TheVariants as errors
 use Rattle.client_request.specs.declared.event.What.{What}
 use Rattle.client_request.specs.declared.event.Out.TheVariants.{Start, OpenDgram, OpenStream, Send, Write, Resume, Close, Reply}
-use Rattle.headline.specs.Messages.{Octets}
-use Rattle.headline.specs.Trace.{Conf}
+use Rattle.right_trace.specs.Messages.{Octets}
+use Rattle.right_trace.specs.Trace.{Conf}
 use Rattle.headline.specs.machine.Part.{Act}
 use Rattle.headline.specs.machine.Streams as multi
-use Rattle.headline.specs.machine.Streams.{Multi, with_at}
+use Rattle.headline.specs.machine.Streams.{Multi}
+use Rattle.right_trace.specs.Updates.{with_at}
 use Rattle.headline.specs.machine.Dgrams as dgrams
 use Rattle.headline.specs.machine.Dgrams.{Tryer, Dgrams, staged, leave, forget, Tries, Meets}
 use Rattle.headline.specs.machine.Served as machine

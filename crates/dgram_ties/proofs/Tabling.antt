@@ -12,15 +12,13 @@ use Rattle.client_dgram.specs.Plain.{Tables, leaves}
 use Rattle.client_dgram.specs.declared.job.Job.{Job}
 use Rattle.client_dgram.specs.declared.job.Stage.TheVariants as at
 use Rattle.headline.specs.machine.Dgrams.{Queued, Tryer, Dgrams, forget}
-use Rattle.headline.specs.machine.Streams.{with_at}
-use Rattle.client_ties.specs.Sights.{sight, due_of, IsFair}
+use Rattle.right_trace.specs.Updates.{with_at}
+use Rattle.client_ties.specs.Sights.{sight, due_of, IsFair, Rising}
 use Rattle.dgram_ties.specs.Slots.{IsIn, place_in, timer_in, Slots, slots_of, IsJobOf, AreAlike, AreSlots}
 use Rattle.client_ties.proofs.Keys.{with_there, was_there}
-use Rattle.client_ties.specs.Sights.{Rising}
-use Rattle.dgram_ties.proofs.Queueing.{in_from}
+use Rattle.dgram_ties.proofs.Queueing.{in_from, goes_last, rises_last, in_last, still_in, last_in, rises_removed, was_in, stays_in}
 use Rattle.client_ties.proofs.Tables.{rises_from, rises_below, absent_above, sorted_puts, sorted_frees, fewer_by_frees, puts_path, frees_path}
 use Rattle.client_ties.proofs.TimerLaws.{due_without, due_set}
-use Rattle.dgram_ties.proofs.Queueing.{goes_last, rises_last, in_last, still_in, last_in, rises_removed, was_in, stays_in}
 use Rattle.dgram_ties.proofs.Shifting.{off_place, off_queue, at_queue, gone, waits, leaves_place, leaves_queue, joins_queue}
 
 pub same_slots : (x y : Slots) → x.jobs ≡ y.jobs → x.places ≡ y.places → x.timers ≡ y.timers → x.queue ≡ y.queue → x.used ≡ y.used → x.live ≡ y.live → x ≡ y

@@ -9,7 +9,7 @@ use Rattle.client_dgram.specs.Plain as dgram
 use Rattle.client_stream.specs.Plain as stream
 use Rattle.client_multi.specs.Fallback as fallback
 use Rattle.client_multi.specs.Fallback.{onto, with_parts, settles_stream}
-use Rattle.headline.specs.Trace.{Conf}
+use Rattle.right_trace.specs.Trace.{Conf}
 use Rattle.headline.specs.machine.Dgrams.{Dgrams, no_datagram, IsIgnored}
 use Rattle.headline.specs.machine.Served.{Served, served}
 use Rattle.client_ties.specs.Chains.{Chain}

@@ -23,7 +23,7 @@ use Rattle.client_dgram.specs.Settings.{default_settings}
 use Rattle.client_dgram.specs.declared.job.Job.{Job}
 use Rattle.client_dgram.specs.declared.job.Stage.{Stage}
 use Rattle.client_dgram.specs.declared.job.Stage.TheVariants as at
-use Rattle.headline.specs.Messages.{Octets, under, answers, truncated}
+use Rattle.right_trace.specs.Messages.{Octets, under, answers, truncated}
 use Rattle.headline.specs.machine.Streams as multi
 use Rattle.headline.specs.machine.Dgrams as dgrams
 use Rattle.headline.specs.machine.Dgrams.{Trying, Sent, Ending, Cut, Tryer, Dgrams, leave, stage_of, Meets, TriesAt, SentAt, IsIgnored}

@@ -9,7 +9,7 @@ use Rattle.client_request.specs.declared.event.What.{What}
 use Rattle.client_dgram.specs.Plain as dgram
 use Rattle.client_stream.specs.Plain as stream
 use Rattle.client_multi.specs.Fallback.{onto, with_parts, hears_stream}
-use Rattle.headline.specs.Trace.{Conf}
+use Rattle.right_trace.specs.Trace.{Conf}
 use Rattle.headline.specs.machine.Part.{Act}
 use Rattle.headline.specs.machine.Streams as multi
 use Rattle.headline.specs.machine.Streams.{Multi, IsForeign}

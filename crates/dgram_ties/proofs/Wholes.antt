@@ -4,10 +4,10 @@ use Rattle.std.specs.Prelude.{Result, Ok, Err, take, if◌then◌else◌}
 use Rattle.client_request.specs.declared.error.Error.{Error}
 use Rattle.client_request.specs.declared.event.What.{What}
 use Rattle.client_multi.specs.Fallback.{is_truncated}
-use Rattle.headline.specs.Messages.{Octets, truncated}
+use Rattle.right_trace.specs.Messages.{Octets, truncated}
 use Rattle.headline.specs.machine.Part.{Act, Post}
 use Rattle.headline.specs.machine.Streams as multi
-use Rattle.headline.specs.machine.Streams.{with_at}
+use Rattle.right_trace.specs.Updates.{with_at}
 use Rattle.headline.specs.machine.Served.{IsSettled, posts_of}
 use Rattle.headline.specs.machine.Dgrams as dgrams
 use Rattle.headline.specs.machine.Dgrams.{Ending, Cut, Stage, Tryer, Dgrams, stage_of, forget, Tries, Meets}

@@ -5,10 +5,10 @@ use Rattle.client_request.specs.declared.event.Out.TheVariants.{Start, Close}
 use Rattle.client_request.specs.declared.event.Via.TheVariants.{Dgram, Stream}
 use Rattle.client_request.specs.Request.{Request}
 use Rattle.client_dgram.specs.Plain.{Tables}
-use Rattle.headline.specs.Messages.{Octets}
-use Rattle.headline.specs.Orderly.{use_at}
-use Rattle.headline.specs.Time.{read_timeout}
-use Rattle.headline.specs.Trace.{Conf, ByDatagrams}
+use Rattle.right_trace.specs.Messages.{Octets}
+use Rattle.right_trace.specs.Orderly.{use_at}
+use Rattle.right_trace.specs.Time.{read_timeout}
+use Rattle.right_trace.specs.Trace.{Conf, ByDatagrams}
 use Rattle.headline.specs.machine.Part.{Act}
 use Rattle.headline.specs.machine.Streams as multi
 use Rattle.headline.specs.machine.Streams.{IsForeign}

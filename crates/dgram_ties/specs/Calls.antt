@@ -11,11 +11,11 @@ use Rattle.client_request.specs.declared.event.Out.TheVariants.{Close}
 use Rattle.client_request.specs.declared.event.What.{What}
 use Rattle.client_dgram.specs.Plain.{Tables, late, takes, drops, tells}
 use Rattle.client_dgram.specs.Settings.{default_settings}
-use Rattle.headline.specs.Messages.{Octets, truncated}
+use Rattle.right_trace.specs.Messages.{Octets, truncated}
 use Rattle.headline.specs.machine.Part.{Act}
 use Rattle.headline.specs.machine.Served.{IsSettled}
 use Rattle.headline.specs.machine.Streams as multi
-use Rattle.headline.specs.machine.Streams.{with_at}
+use Rattle.right_trace.specs.Updates.{with_at}
 use Rattle.headline.specs.machine.Dgrams.{Queued, Trying, Sent, Ending, Cut, Tryer, Dgrams, staged, leave, forget, Meets, IsIgnored}
 use Rattle.client_request.specs.declared.error.Error.TheVariants as errors
 use Rattle.client_ties.specs.Chains.{then_act, Gives}

@@ -10,8 +10,8 @@ use Rattle.client_dgram.specs.Plain as dgram
 use Rattle.client_dgram.specs.Settings as dgram_settings
 use Rattle.client_stream.specs.Plain as stream
 use Rattle.client_multi.specs.Fallback.{Fallback}
-use Rattle.headline.specs.Orderly.{use_at}
-use Rattle.headline.specs.Trace.{Conf, ByStreams}
+use Rattle.right_trace.specs.Orderly.{use_at}
+use Rattle.right_trace.specs.Trace.{Conf, ByStreams}
 use Rattle.headline.specs.machine.Dgrams.{no_datagram, IsIgnored}
 use Rattle.headline.specs.machine.Served.{Served, served, holds, has_taken_it}
 use Rattle.headline.specs.machine.Streams.{IsForeign}

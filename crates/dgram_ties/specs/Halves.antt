@@ -1,9 +1,9 @@
 -- The two halves of a server that falls back to streams: what it does by streams alone it does beside any datagrams.
 use Rattle.std.specs.Prelude.{◌≡◌, ℕ, ◌+◌, ◌<◌, Some, None}
 use Rattle.client_request.specs.Request.{Request}
-use Rattle.headline.specs.Orderly.{use_at}
-use Rattle.headline.specs.Time.{read_timeout}
-use Rattle.headline.specs.Trace.{Conf, ByStreams}
+use Rattle.right_trace.specs.Orderly.{use_at}
+use Rattle.right_trace.specs.Time.{read_timeout}
+use Rattle.right_trace.specs.Trace.{Conf, ByStreams}
 use Rattle.headline.specs.machine.Part.{Act}
 use Rattle.headline.specs.machine.Dgrams.{Sent, Cut, Tryer, Dgrams, no_datagram, forget, IsIgnored}
 use Rattle.headline.specs.machine.Served.{Served, served, Acts, Starts, Cancels, RestsNow}

@@ -7,8 +7,8 @@ use Rattle.client_dgram.specs.Plain.{Tables, fresh}
 use Rattle.client_dgram.specs.declared.job.Job.{Job}
 use Rattle.client_dgram.specs.declared.job.Stage.{Stage}
 use Rattle.client_dgram.specs.declared.job.Stage.TheVariants as at
-use Rattle.headline.specs.Messages.{under}
-use Rattle.headline.specs.Time.{read_timeout}
+use Rattle.right_trace.specs.Messages.{under}
+use Rattle.right_trace.specs.Time.{read_timeout}
 use Rattle.headline.specs.machine.Dgrams.{Queued, Trying, Sent, Tryer, Dgrams, no_datagram}
 use Rattle.client_ties.specs.Sights.{Sight, Rising}
 

@@ -1,7 +1,7 @@
 -- What stays through moves: what was asked, and which place opens.
 use Rattle.std.specs.Prelude.{◌≡◌, ℕ, ◌≤◌, ◌⊎◌, Some}
 use Rattle.client_request.specs.declared.event.What.{What}
-use Rattle.headline.specs.Trace.{Conf}
+use Rattle.right_trace.specs.Trace.{Conf}
 use Rattle.headline.specs.machine.Part.{Act}
 use Rattle.headline.specs.machine.Streams as multi
 use Rattle.headline.specs.machine.Dgrams.{Tryer, Dgrams, Meets}

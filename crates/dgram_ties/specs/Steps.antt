@@ -1,7 +1,7 @@
 -- Moves of a server by datagrams, one after another, each with the result that it gives at once.
 use Rattle.std.specs.Prelude.{◌≡◌, ℕ, [], ◌∷◌, Some, Result}
 use Rattle.client_request.specs.declared.error.Error.{Error}
-use Rattle.headline.specs.Messages.{Octets}
+use Rattle.right_trace.specs.Messages.{Octets}
 use Rattle.headline.specs.machine.Part.{Act}
 use Rattle.headline.specs.machine.Streams as multi
 use Rattle.headline.specs.machine.Dgrams.{Ending, Tryer, Dgrams, forget, Tries}

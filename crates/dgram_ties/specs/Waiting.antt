@@ -9,7 +9,7 @@ use Rattle.client_multi.specs.Fallback.{Tables, lower_of, admits, without, gives
 use Rattle.client_multi.specs.declared.dgram_stream.job.Job.{Job}
 use Rattle.client_multi.specs.declared.dgram_stream.job.Job.TheVariants.{Dgram, Stream}
 use Rattle.headline.specs.machine.Part.{Post}
-use Rattle.headline.specs.machine.Streams.{with_at}
+use Rattle.right_trace.specs.Updates.{with_at}
 use Rattle.headline.specs.machine.Dgrams.{Tryer, Dgrams}
 use Rattle.client_ties.specs.Chains.{Gives}
 use Rattle.client_ties.specs.Lines.{Sorted}

@@ -8,9 +8,9 @@ use Rattle.client_request.specs.declared.event.Row.{Row}
 use Rattle.client_cache.specs.Plain.{room_of}
 use Rattle.client_settings.specs.Settings.{default_cache, default_redundant}
 use Rattle.client_steps.specs.Headline.{conf_of, settings_of}
-use Rattle.headline.specs.Hit.{AllHit}
-use Rattle.headline.specs.Right.{Right}
-use Rattle.headline.specs.Timely.{Timely}
+use Rattle.right_trace.specs.Hit.{AllHit}
+use Rattle.right_trace.specs.Right.{Right}
+use Rattle.right_trace.specs.Timely.{Timely}
 use Rattle.dns_script.specs.Generated.{generated, generated_conf}
 use Rattle.dns_script.specs.Reading.{number_of}
 use Rattle.dns_script.specs.Summary.{summary_text_of}

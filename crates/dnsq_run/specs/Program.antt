@@ -10,9 +10,9 @@ use Rattle.client_steps.specs.Headline.{conf_of, settings_of}
 use Rattle.client_steps.specs.Whole.{plain_trace}
 use Rattle.client_cache.specs.Plain.{room_of}
 use Rattle.client_request.specs.Composed.{composed}
-use Rattle.headline.specs.Hit.{AllHit}
-use Rattle.headline.specs.Right.{Right}
-use Rattle.headline.specs.Timely.{Timely}
+use Rattle.right_trace.specs.Hit.{AllHit}
+use Rattle.right_trace.specs.Right.{Right}
+use Rattle.right_trace.specs.Timely.{Timely}
 use Rattle.dns_script.specs.ScriptReading.{IsScript, RefusesLine}
 use Rattle.dns_script.specs.TraceText.{trace_text_of}
 use Rattle.dns_script.specs.declared.script.Script.{Script}

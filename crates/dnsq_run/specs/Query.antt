@@ -17,8 +17,8 @@ use Rattle.client_core.specs.declared.deed.Deed.TheVariants.{Learned}
 use Rattle.client_turns.specs.Asking.{IsAnswered, Scene, rows_of, scene}
 use Rattle.client_turns.specs.Turns.{AreGivenOn, after_deeds, events_of}
 use Rattle.dns_script.specs.Lines.{line, out_words}
-use Rattle.headline.specs.Right.{Right}
-use Rattle.headline.specs.Timely.{Timely}
+use Rattle.right_trace.specs.Right.{Right}
+use Rattle.right_trace.specs.Timely.{Timely}
 use Rattle.resolv_conf.specs.declared.conf.ResolvConf.{ResolvConf}
 use Rattle.resolv_conf.specs.declared.server.ServerConf.{ServerConf}
 use Rattle.dns_values.specs.Sink.{with_octets}

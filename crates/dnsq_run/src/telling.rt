@@ -10,10 +10,8 @@ use crate::ending::Ending;
 use crate::lines::says;
 use crate::short_words::words_are_short;
 use crate::statuses::{NO_MEMORY, NUMBERS_USED};
-use client_core::{
-    Client, all_asked_in_octets, all_in_octets, cache, every_plain_trace_hits,
-    every_plain_trace_is_right, redundant,
-};
+use client_core::{Client, all_asked_in_octets, all_in_octets, cache, redundant};
+use client_replay::{every_plain_trace_hits, every_plain_trace_is_right};
 use client_request::{Error, Events, ListWords, Words};
 use dns_base::NoMemory;
 use dns_script::{Lanes, Script, begin_trace, end_trace, push_row};

@@ -19,8 +19,8 @@ use Rattle.client_request.specs.Carries.{Carries, SaysRequest, IsOfOctets, conte
 use Rattle.client_request.specs.declared.error.Error.{Error}
 use Rattle.client_request.specs.declared.event.Via.TheVariants.{Dgram}
 use Rattle.client_request.proofs.Writable.{AreOctets}
-use Rattle.headline.specs.Messages.{Octets, id_in, CarriesBy, under, base_is_read, passes_count, has_too_many, IsComposingFault}
-use Rattle.headline.proofs.Copying.{number_small}
+use Rattle.right_trace.specs.Messages.{Octets, id_in, CarriesBy, under, base_is_read, passes_count, has_too_many, IsComposingFault}
+use Rattle.right_trace.proofs.Copying.{number_small}
 
 -- what is read of octets has their first four as its header, and their counts
 read_parts : (octets : List ℕ) (reading : Reading) → reads octets ≡ Some reading → (reading.header ≡ header_of octets) × (reading.counts ≡ counts_of octets)

@@ -22,8 +22,8 @@ use Rattle.client_request.specs.Composed.{Copied, ◌>>◌, copies_section, adds
 use Rattle.client_request.specs.Carries.{sent_from, records_of, opt_records, contents_of}
 use Rattle.client_request.proofs.Writable.{AreOctets}
 use Rattle.client_request.proofs.Carrying.{composed_carries}
-use Rattle.headline.specs.Messages.{base_is_read, passes_count, has_too_many, under, IsComposingFault, Composes}
-use Rattle.headline.proofs.Copying.{Asks, asking, Sends, copying_section, count_sent, number_small, room_left, full_refused}
+use Rattle.right_trace.specs.Messages.{base_is_read, passes_count, has_too_many, under, IsComposingFault, Composes}
+use Rattle.right_trace.proofs.Copying.{Asks, asking, Sends, copying_section, count_sent, number_small, room_left, full_refused}
 
 -- A base is not read if a section of it is not.
 

@@ -2,9 +2,9 @@
 use Rattle.std.proofs.Common.{◌≡◌, ℕ, zero, suc, ◌+◌, ◌<◌, Bool, true, false, ◌&&◌, inl, inr, List, [], ◌∷◌, length, refl, ap, sym, subst, ◌∙◌, arith, ◌==◌}
 use Rattle.std.specs.Prelude.{◌*◌, slice_index}
 use Rattle.std.proofs.lemmas.Bool.{cases_lt, eqb-true}
-use Rattle.headline.specs.Time.{one_if}
-use Rattle.headline.specs.Messages.{Octets}
-use Rattle.headline.specs.Parts.{Header, flags_in}
+use Rattle.right_trace.specs.Time.{one_if}
+use Rattle.right_trace.specs.Messages.{Octets}
+use Rattle.right_trace.specs.Parts.{Header, flags_in}
 
 -- the third octet and the fourth, of the parts
 abbrev third_of : Header → ℕ

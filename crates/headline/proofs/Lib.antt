@@ -1,4 +1,3 @@
-pub mod Copying
 pub mod Carried
 pub mod Composing
 pub mod HeaderBits

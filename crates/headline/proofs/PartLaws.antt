@@ -9,16 +9,16 @@ use Rattle.client_request.specs.declared.event.What.TheVariants.{Tick, Opened}
 use Rattle.client_request.specs.declared.event.Via.{Via}
 use Rattle.client_request.specs.declared.event.Via.TheVariants.{Stream}
 use Rattle.client_request.specs.declared.event.Out.TheVariants.{Reply}
-use Rattle.headline.specs.Trace.{History, Conf, Came, Put, put_all}
-use Rattle.headline.specs.Messages.{Octets, is_valid}
-use Rattle.headline.specs.Requests.{Asking, asking, replied, waits, handed}
-use Rattle.headline.specs.Places.{site, reach, live, demand, place_of}
-use Rattle.headline.specs.Exchanges.{Comes, Matches}
-use Rattle.headline.specs.Busy.{IsBusy}
-use Rattle.headline.specs.Owed.{IsOwed}
-use Rattle.headline.specs.Coming.{CameFor, IsExcused}
-use Rattle.headline.specs.Causes.{ServerCause}
-use Rattle.headline.specs.Right.{ServerOutsRight}
+use Rattle.right_trace.specs.Trace.{History, Conf, Came, Put, put_all}
+use Rattle.right_trace.specs.Messages.{Octets, is_valid}
+use Rattle.right_trace.specs.Requests.{Asking, asking, replied, waits, handed}
+use Rattle.right_trace.specs.Places.{site, reach, live, demand, place_of}
+use Rattle.right_trace.specs.Exchanges.{Comes, Matches}
+use Rattle.right_trace.specs.Busy.{IsBusy}
+use Rattle.right_trace.specs.Owed.{IsOwed}
+use Rattle.right_trace.specs.Coming.{CameFor, IsExcused}
+use Rattle.right_trace.specs.Causes.{ServerCause}
+use Rattle.right_trace.specs.Right.{ServerOutsRight}
 use Rattle.headline.specs.machine.Part.{Post, Act, IsPosted, ServerPart}
 use Rattle.client_request.specs.declared.error.Error.TheVariants as errors
 use Rattle.client_request.specs.declared.error.QueryError.TheVariants as query

@@ -3,7 +3,6 @@ pub mod Later
 pub mod Lists
 pub mod Serving
 pub mod Moving
-pub mod Asked
 pub mod Taking
 pub mod Outcomes
 pub mod Replying
@@ -12,11 +11,7 @@ pub mod Steps
 pub mod Promptness
 pub mod Faults
 pub mod Runs
-pub mod Deriving
 pub mod Hit
-pub mod Valid
 pub mod Unhanded
 pub mod Hitting
 pub mod Idle
-pub mod Said
-pub mod Lessening

@@ -6,14 +6,14 @@ use Rattle.client_request.specs.declared.event.Event.{Event}
 use Rattle.client_request.specs.declared.event.What.{What}
 use Rattle.client_request.specs.declared.event.What.TheVariants.{Datagram}
 use Rattle.client_request.specs.declared.event.Row.{Row}
-use Rattle.headline.specs.Trace.{Conf, Use, ByDatagrams}
-use Rattle.headline.specs.Messages.{Octets, Composes, truncated}
-use Rattle.headline.specs.Settings.{Settings, defers_nothing}
-use Rattle.headline.specs.Orderly.{use_at}
-use Rattle.headline.specs.Keys.{Key}
-use Rattle.headline.specs.Right.{Right}
-use Rattle.headline.specs.Timely.{AllAskedInOctets, Timely}
-use Rattle.headline.specs.Hit.{AllHit}
+use Rattle.right_trace.specs.Trace.{Conf, Use, ByDatagrams}
+use Rattle.right_trace.specs.Messages.{Octets, Composes, truncated}
+use Rattle.right_trace.specs.Settings.{Settings, defers_nothing}
+use Rattle.right_trace.specs.Orderly.{use_at}
+use Rattle.right_trace.specs.Keys.{Key, TellsKeys}
+use Rattle.right_trace.specs.Right.{Right}
+use Rattle.right_trace.specs.Timely.{AllAskedInOctets, Timely}
+use Rattle.right_trace.specs.Hit.{AllHit}
 use Rattle.headline.specs.machine.Served.{served}
 use Rattle.headline.specs.machine.Client.{begun, IsRun}
 use Rattle.headline.specs.machine.Exact.{RunCached}
@@ -23,13 +23,6 @@ use Rattle.headline.specs.machine.Single as single
 abbrev pub EveryRunIsRight : Type 0
 EveryRunIsRight = (c : Conf) (s : Settings) (compose : Request → Result Octets Error) (rows : List Row)
     → Composes compose → AllAskedInOctets (map (λ row. row.event) rows) → IsRun c s compose (served c) (begun c s compose (served c)) rows → Right c s rows × Timely c rows
-
--- a test that tells equal keys
-pub record TellsKeys (eq : Key → Key → Bool) : Type 0 where
-  pub itself : (k : Key) → eq k k ≡ true
-  pub back : (a b : Key) → eq a b ≡ true → eq b a ≡ true
-  pub on : (a b d : Key) → eq a b ≡ true → eq b d ≡ true → eq a d ≡ true
-  pub equal : (a b : Key) → eq a b ≡ true → a ≡ b
 
 -- In every run whose cache is exact, an asking with the key of a message that is kept, few enough askings and replies later, is answered in its own row.
 abbrev pub EveryCachedRunHits : Type 0

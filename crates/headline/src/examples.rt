@@ -1,10 +1,10 @@
 //! What the definitions compute on worked traces.
 
 ghost use Rattle.headline.specs.examples.Cache.{asked_again, WorkedCache};
-ghost use Rattle.headline.specs.Right.{Right};
-ghost use Rattle.headline.specs.Timely.{Timely};
+ghost use Rattle.right_trace.specs.Right.{Right};
+ghost use Rattle.right_trace.specs.Timely.{Timely};
 ghost use Rattle.headline.specs.examples.Dgrams.{WorkedDatagrams};
-ghost use Rattle.headline.specs.Settings.{first_settings};
+ghost use Rattle.right_trace.specs.Settings.{first_settings};
 ghost use Rattle.headline.specs.examples.Rows.{by_datagrams, deferring, two_servers};
 ghost use Rattle.headline.specs.examples.Hits.{WorkedHit};
 ghost use Rattle.headline.specs.examples.Runs.{IsARun};

@@ -15,7 +15,7 @@ use Rattle.client_multi.specs.declared.multi_stream.job.Stage.TheVariants.{Resti
 use Rattle.client_stream.specs.Plain.{has_ended, timer_at}
 use Rattle.client_stream.specs.declared.line.LineStage.{LineStage}
 use Rattle.client_stream.specs.declared.line.LineStage.TheVariants as at
-use Rattle.headline.specs.Messages.{Octets}
+use Rattle.right_trace.specs.Messages.{Octets}
 use Rattle.headline.specs.machine.Part.{Act}
 use Rattle.headline.specs.machine.Streams.{Phase, Asker, Conn, Multi, moved}
 use Rattle.client_ties.specs.Connections.{timer_of, dues, IsTimed, IsPostedTo}

@@ -13,7 +13,7 @@ use Rattle.client_multi.specs.MultiStream.{collects, collects_one, gets_at, gets
 use Rattle.client_multi.specs.declared.multi_stream.job.Job.{Job}
 use Rattle.client_multi.specs.declared.multi_stream.job.Stage.{Stage}
 use Rattle.client_multi.specs.declared.multi_stream.job.Stage.TheVariants.{Waiting, Resting, Held}
-use Rattle.headline.specs.Messages.{Octets}
+use Rattle.right_trace.specs.Messages.{Octets}
 use Rattle.headline.specs.machine.Streams.{Phase, Free, Broken, Asker, Multi}
 use Rattle.client_ties.specs.Connections.{dues}
 use Rattle.client_ties.specs.PartTie.{Leads}

@@ -9,9 +9,9 @@ use Rattle.client_request.specs.declared.event.What.TheVariants.{Bytes, Tick}
 use Rattle.client_stream.specs.Plain.{plain_step}
 use Rattle.client_multi.specs.Links.{Link, one_stream}
 use Rattle.client_multi.specs.MultiStream.{hears_at, calls, returns, taken, lent}
-use Rattle.headline.specs.Frames.{fed}
-use Rattle.headline.specs.Messages.{Octets}
-use Rattle.headline.specs.Trace.{Conf}
+use Rattle.right_trace.specs.Frames.{fed}
+use Rattle.right_trace.specs.Messages.{Octets}
+use Rattle.right_trace.specs.Trace.{Conf}
 use Rattle.headline.specs.machine.Served.{Served, Reads, served, reads_at, frames_left, does}
 use Rattle.headline.specs.machine.Streams.{Conn, Multi, Nothing, set_conn, fed_by}
 use Rattle.client_ties.specs.Chains.{Chain, Goes, still, then_act}

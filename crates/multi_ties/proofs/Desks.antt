@@ -10,8 +10,9 @@ use Rattle.client_stream.specs.declared.request.QueuedRequest.{QueuedRequest as 
 use Rattle.client_multi.specs.Links.{Link}
 use Rattle.client_multi.specs.declared.multi_stream.job.Job.{Job}
 use Rattle.client_multi.specs.declared.multi_stream.job.Stage.TheVariants.{Held}
-use Rattle.headline.specs.Messages.{Octets}
-use Rattle.headline.specs.machine.Streams.{Phase, Free, Expecting, Lined, Holding, Broken, BackingOff, Asker, Conn, Multi, with_at}
+use Rattle.right_trace.specs.Messages.{Octets}
+use Rattle.headline.specs.machine.Streams.{Phase, Free, Expecting, Lined, Holding, Broken, BackingOff, Asker, Conn, Multi}
+use Rattle.right_trace.specs.Updates.{with_at}
 use Rattle.client_ties.specs.Connections.{timer_of}
 use Rattle.client_ties.specs.Lines.{SingleLine, Sorted, seats_of, StageFits, IsNew, IsActive, IsIdle, IsLineAt}
 use Rattle.client_ties.specs.Octets.{IsLinkAt}

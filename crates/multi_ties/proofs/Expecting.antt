@@ -12,7 +12,7 @@ use Rattle.client_request.specs.Requests.{for_one}
 use Rattle.client_multi.specs.Links.{Link, one_stream}
 use Rattle.client_multi.specs.MultiStream.{waits, opens, goes_on, backs_off}
 use Rattle.client_multi.specs.declared.multi_stream.job.Job.{Job}
-use Rattle.headline.specs.Messages.{Octets}
+use Rattle.right_trace.specs.Messages.{Octets}
 use Rattle.headline.specs.machine.Streams.{Phase, Free, Expecting, Asker, Conn, Multi, Nothing, Puts, Expects, Opens, IsFull, moved, move}
 use Rattle.client_ties.specs.Connections.{dues, IsPostedTo}
 use Rattle.client_ties.specs.PartTie.{Leads}

@@ -15,8 +15,8 @@ use Rattle.client_multi.specs.MultiStream.{started}
 use Rattle.client_multi.specs.Settings.{default_settings}
 use Rattle.client_multi.specs.declared.multi_stream.job.Job.{Job}
 use Rattle.client_multi.specs.declared.multi_stream.job.Stage.{Stage}
-use Rattle.headline.specs.Messages.{Octets}
-use Rattle.headline.specs.Time.{response_timeout, stream_timeout}
+use Rattle.right_trace.specs.Messages.{Octets}
+use Rattle.right_trace.specs.Time.{response_timeout, stream_timeout}
 use Rattle.headline.specs.machine.Dgrams.{Dgrams, Tryer, IsIgnored, no_datagram}
 use Rattle.headline.specs.machine.Served.{Served, RestsNow, unserved, row_begun, holds}
 use Rattle.headline.specs.machine.Server.{Rests}

@@ -16,8 +16,8 @@ use Rattle.client_multi.specs.MultiStream.{due, due_at, with_job, fires, times_o
 use Rattle.client_multi.specs.declared.multi_stream.job.Job.{Job}
 use Rattle.client_multi.specs.declared.multi_stream.job.Stage.{Stage}
 use Rattle.client_multi.specs.declared.multi_stream.job.Stage.TheVariants.{Waiting, Resting, Held}
-use Rattle.headline.specs.Messages.{Octets}
-use Rattle.headline.specs.Time.{stream_timeout}
+use Rattle.right_trace.specs.Messages.{Octets}
+use Rattle.right_trace.specs.Time.{stream_timeout}
 use Rattle.headline.specs.machine.Streams as multi
 use Rattle.headline.specs.machine.Streams.{Phase, Free, BackingOff, Conn, Multi, Nothing, Puts, Gives as GivesIt, GoesOn as GoesOnNow, TimesOut, moved, move, drop, end_at}
 use Rattle.client_ties.specs.Chains.{still, then_act}

@@ -16,12 +16,13 @@ use Rattle.client_multi.specs.Links.{Link, one_stream}
 use Rattle.client_multi.specs.MultiStream.{returns, taken, taken_back, with_connection, keeps, lent, collects, gets_at, gets_part, is_result}
 use Rattle.client_multi.specs.declared.multi_stream.job.Job.{Job}
 use Rattle.client_multi.specs.declared.multi_stream.job.Stage.TheVariants.{Waiting, Resting, Held}
-use Rattle.headline.specs.Messages.{Octets, id_in, answers as is_answer}
-use Rattle.headline.specs.Time.{response_timeout, stream_timeout}
+use Rattle.right_trace.specs.Messages.{Octets, id_in, answers as is_answer}
+use Rattle.right_trace.specs.Time.{response_timeout, stream_timeout}
 use Rattle.headline.specs.machine.Part.{Act}
 use Rattle.headline.specs.machine.Served.{place_after, outs_of, posts_of}
 use Rattle.headline.specs.machine.Streams as multi
-use Rattle.headline.specs.machine.Streams.{Phase, Lined, Holding, Idle, Asker, Conn, Multi, Nothing, Puts, Gives as GivesIt, RestsTooLong, TakesFrame, IsBad, IsUnknown, IsLate, IsResult, IsDropped, end_at, every, broken_at, with_at, drop}
+use Rattle.headline.specs.machine.Streams.{Phase, Lined, Holding, Idle, Asker, Conn, Multi, Nothing, Puts, Gives as GivesIt, RestsTooLong, TakesFrame, IsBad, IsUnknown, IsLate, IsResult, IsDropped, end_at, every, broken_at, drop}
+use Rattle.right_trace.specs.Updates.{with_at}
 use Rattle.client_ties.specs.Chains.{Gives, still, part_of}
 use Rattle.client_ties.specs.Connections.{timer_of, dues, IsTimed, HasEnded, Gave, GaveNothing, GaveResult, FrameLeft, StaysOpen, ClosesAsBad, ClosesBehind, HasHeard}
 use Rattle.client_ties.specs.Lines.{IsLineAt}

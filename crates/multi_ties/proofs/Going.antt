@@ -8,7 +8,7 @@ use Rattle.client_request.specs.declared.event.Out.{Out}
 use Rattle.client_multi.specs.MultiStream.{at_ticket, each, with_job}
 use Rattle.client_multi.specs.declared.multi_stream.job.Job.{Job}
 use Rattle.client_multi.specs.declared.multi_stream.job.Stage.TheVariants.{Waiting}
-use Rattle.headline.specs.Messages.{Octets}
+use Rattle.right_trace.specs.Messages.{Octets}
 use Rattle.headline.specs.machine.Part.{Act, Post}
 use Rattle.headline.specs.machine.Streams.{Phase, Multi}
 use Rattle.client_ties.specs.Chains.{still, then_act}

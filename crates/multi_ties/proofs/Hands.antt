@@ -8,8 +8,9 @@ use Rattle.client_multi.specs.Links.{Link}
 use Rattle.client_multi.specs.declared.multi_stream.job.Job.{Job}
 use Rattle.client_multi.specs.declared.multi_stream.job.Stage.TheVariants.{Waiting, Resting, Held}
 use Rattle.client_stream.specs.declared.line.LineStage.{LineStage}
-use Rattle.headline.specs.Messages.{Octets}
-use Rattle.headline.specs.machine.Streams.{Phase, Free, Expecting, Broken, Mode, Asker, Multi, with_at}
+use Rattle.right_trace.specs.Messages.{Octets}
+use Rattle.headline.specs.machine.Streams.{Phase, Free, Expecting, Broken, Mode, Asker, Multi}
+use Rattle.right_trace.specs.Updates.{with_at}
 use Rattle.client_ties.specs.Connections.{timer_of, dues}
 use Rattle.client_ties.specs.Lines.{StageFits as LineStageFits, IsNew, IsActive, IsIdle}
 use Rattle.client_ties.specs.Seats.{IsAway}

@@ -14,9 +14,9 @@ use Rattle.client_stream.specs.Settings.{Settings as StreamSettings}
 use Rattle.client_multi.specs.Links.{Link, one_stream}
 use Rattle.client_multi.specs.MultiStream.{tells, returns, taken, lent}
 use Rattle.client_multi.specs.Settings.{Settings, default_settings}
-use Rattle.headline.specs.Messages.{Octets}
-use Rattle.headline.specs.Time.{response_timeout, stream_timeout}
-use Rattle.headline.specs.Trace.{Conf}
+use Rattle.right_trace.specs.Messages.{Octets}
+use Rattle.right_trace.specs.Time.{response_timeout, stream_timeout}
+use Rattle.right_trace.specs.Trace.{Conf}
 use Rattle.headline.specs.machine.Dgrams.{no_datagram}
 use Rattle.headline.specs.machine.Part.{Act, Post}
 use Rattle.headline.specs.machine.Served.{Served, IsInTime, TellsStreams, TakesOne, served, has_taken_it, frames_left, does, place_after, outs_of, posts_of}

@@ -12,8 +12,9 @@ use Rattle.client_multi.specs.Links.{Link, one_stream}
 use Rattle.client_multi.specs.MultiStream.{hands, hands_at, holds, with_room, without_found, taken, returns, lent}
 use Rattle.client_multi.specs.declared.multi_stream.job.Job.{Job}
 use Rattle.client_multi.specs.declared.multi_stream.job.Stage.TheVariants.{Held}
-use Rattle.headline.specs.Messages.{Octets}
-use Rattle.headline.specs.machine.Streams.{Phase, Free, Lined, Asker, Conn, Multi, Nothing, Joins, IsFull, moved, move, with_at}
+use Rattle.right_trace.specs.Messages.{Octets}
+use Rattle.headline.specs.machine.Streams.{Phase, Free, Lined, Asker, Conn, Multi, Nothing, Joins, IsFull, moved, move}
+use Rattle.right_trace.specs.Updates.{with_at}
 use Rattle.client_ties.specs.Chains.{then_act}
 use Rattle.client_ties.specs.Connections.{dues, HasPumped, lined_up}
 use Rattle.client_ties.specs.Lines.{SingleLine, IsLineAt}

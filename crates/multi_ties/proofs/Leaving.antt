@@ -13,9 +13,10 @@ use Rattle.client_multi.specs.MultiStream.{leaves, calls_at, calls, taken, with_
 use Rattle.client_multi.specs.declared.multi_stream.job.Job.{Job}
 use Rattle.client_multi.specs.declared.multi_stream.job.Stage.{Stage}
 use Rattle.client_multi.specs.declared.multi_stream.job.Stage.TheVariants.{Waiting, Resting, Held}
-use Rattle.headline.specs.Messages.{Octets}
+use Rattle.right_trace.specs.Messages.{Octets}
 use Rattle.headline.specs.machine.Part.{Act}
-use Rattle.headline.specs.machine.Streams.{Phase, Expecting, BackingOff, Conn, Multi, drop, with_at}
+use Rattle.headline.specs.machine.Streams.{Phase, Expecting, BackingOff, Conn, Multi, drop}
+use Rattle.right_trace.specs.Updates.{with_at}
 use Rattle.client_ties.specs.Chains.{still}
 use Rattle.client_ties.specs.Connections.{timer_of, dues, IsTimed, IsAt, IsSettled}
 use Rattle.client_ties.specs.Lines.{SingleLine, Sorted, IsLineAt}

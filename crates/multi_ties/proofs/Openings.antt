@@ -9,9 +9,9 @@ use Rattle.client_stream.specs.Settings.{default_settings as default_stream}
 use Rattle.client_multi.specs.Links.{Link, one_stream}
 use Rattle.client_multi.specs.MultiStream.{opened, refused, each, hands, backs_off}
 use Rattle.client_multi.specs.Retry.{retry_time}
-use Rattle.headline.specs.Frames.{Length}
-use Rattle.headline.specs.Messages.{Octets}
-use Rattle.headline.specs.Time.{response_timeout, idle_timeout, back_off}
+use Rattle.right_trace.specs.Frames.{Length}
+use Rattle.right_trace.specs.Messages.{Octets}
+use Rattle.right_trace.specs.Time.{response_timeout, idle_timeout, back_off}
 use Rattle.headline.specs.machine.Streams.{Free, Broken, Asker, Conn, Multi, new_conn, open_at, not_opened}
 use Rattle.client_ties.specs.Connections.{timer_of, dues}
 use Rattle.client_ties.specs.Lines.{IsNew, IsFree as IsUnwritten}

@@ -7,11 +7,11 @@ use Rattle.client_request.specs.declared.event.Out.TheVariants.{Start}
 use Rattle.client_request.specs.declared.event.Via.TheVariants.{Stream}
 use Rattle.client_request.specs.declared.event.What.{What}
 use Rattle.client_stream.specs.Plain.{Asked}
-use Rattle.headline.specs.Orderly.{use_at}
-use Rattle.headline.specs.Trace.{Conf, ByStreams}
+use Rattle.right_trace.specs.Orderly.{use_at}
+use Rattle.right_trace.specs.Trace.{Conf, ByStreams}
 use Rattle.headline.specs.machine.Part.{Act}
 use Rattle.headline.specs.machine.Served.{Served, Starts, Cancels, served, holds}
-use Rattle.headline.specs.machine.Streams.{with_at}
+use Rattle.right_trace.specs.Updates.{with_at}
 use Rattle.client_ties.specs.Chains.{Chain, Begins}
 use Rattle.client_ties.specs.PartTie.{Phase, Untold, Told, Passed, IsOpen, place_in, Leads, Leaves}
 use Rattle.client_ties.specs.Places.{has_place}

@@ -6,7 +6,7 @@ use Rattle.client_multi.specs.Links.{Link}
 use Rattle.client_multi.specs.declared.multi_stream.job.Job.{Job}
 use Rattle.client_multi.specs.declared.multi_stream.job.Stage.{Stage}
 use Rattle.client_multi.specs.declared.multi_stream.job.Stage.TheVariants.{Held}
-use Rattle.headline.specs.Messages.{Octets}
+use Rattle.right_trace.specs.Messages.{Octets}
 use Rattle.headline.specs.machine.Streams.{Phase, Broken, Asker, Multi, moved}
 use Rattle.client_ties.specs.Connections.{timer_of, IsPostedTo}
 use Rattle.client_ties.specs.Octets.{IsLinkAt}

@@ -12,8 +12,8 @@ use Rattle.client_multi.specs.MultiStream.{backs_off, rests, once_more}
 use Rattle.client_multi.specs.Retry.{retry_time}
 use Rattle.client_multi.specs.declared.multi_stream.job.Job.{Job}
 use Rattle.client_multi.specs.declared.multi_stream.job.Stage.TheVariants.{Resting}
-use Rattle.headline.specs.Messages.{Octets}
-use Rattle.headline.specs.Time.{back_off}
+use Rattle.right_trace.specs.Messages.{Octets}
+use Rattle.right_trace.specs.Time.{back_off}
 use Rattle.headline.specs.machine.Streams.{Phase, Free, Broken, BackingOff, Asker, Multi, Nothing, Moves, Meets, BacksOff, moved, move}
 use Rattle.client_ties.specs.Connections.{timer_of, dues, IsPostedTo}
 use Rattle.client_ties.specs.PartTie.{Leads, GoesOn}

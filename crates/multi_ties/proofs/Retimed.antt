@@ -4,7 +4,7 @@ use Rattle.client_request.specs.Request.{Request}
 use Rattle.client_multi.specs.Links.{Link}
 use Rattle.client_multi.specs.declared.multi_stream.job.Job.{Job}
 use Rattle.client_multi.specs.declared.multi_stream.job.Stage.{Stage}
-use Rattle.headline.specs.Messages.{Octets}
+use Rattle.right_trace.specs.Messages.{Octets}
 use Rattle.headline.specs.machine.Streams.{Phase, Multi}
 use Rattle.client_ties.specs.Connections.{timer_of}
 use Rattle.client_ties.specs.Sights.{Sight}

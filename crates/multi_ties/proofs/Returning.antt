@@ -7,7 +7,7 @@ use Rattle.client_request.specs.declared.board.Posted.{Posted}
 use Rattle.client_request.specs.declared.event.Out.{Out}
 use Rattle.client_multi.specs.Links.{Link, one_stream}
 use Rattle.client_multi.specs.MultiStream.{taken, with_connection, taken_back, returns, collects}
-use Rattle.headline.specs.Messages.{Octets}
+use Rattle.right_trace.specs.Messages.{Octets}
 use Rattle.headline.specs.machine.Part.{Act}
 use Rattle.headline.specs.machine.Streams.{Multi}
 use Rattle.client_ties.specs.Connections.{timer_of, dues}

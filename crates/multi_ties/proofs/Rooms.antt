@@ -8,7 +8,7 @@ use Rattle.client_request.specs.Requests.{for_one}
 use Rattle.client_stream.specs.declared.request.Holder.{Holder}
 use Rattle.client_multi.specs.Links.{Link, one_stream}
 use Rattle.client_multi.specs.MultiStream.{newest, with_room}
-use Rattle.headline.specs.Time.{id_count, all_ids, count_below}
+use Rattle.right_trace.specs.Time.{id_count, all_ids, count_below}
 use Rattle.headline.proofs.server.Counts.{count_same}
 use Rattle.headline.specs.machine.Streams.{Conn, Multi, IsFull}
 use Rattle.client_ties.specs.Lines.{SingleLine, seats_of, IsLineAt}

@@ -12,10 +12,11 @@ use Rattle.client_multi.specs.MultiStream.{takes, hands}
 use Rattle.client_multi.specs.Settings.{default_settings}
 use Rattle.client_multi.specs.declared.multi_stream.job.Job.{Job}
 use Rattle.client_multi.specs.declared.multi_stream.job.Stage.TheVariants.{Waiting}
-use Rattle.headline.specs.Messages.{Octets}
-use Rattle.headline.specs.Time.{stream_timeout}
+use Rattle.right_trace.specs.Messages.{Octets}
+use Rattle.right_trace.specs.Time.{stream_timeout}
 use Rattle.headline.specs.machine.Part.{Act}
-use Rattle.headline.specs.machine.Streams.{Free, Asker, Multi, with_at}
+use Rattle.headline.specs.machine.Streams.{Free, Asker, Multi}
+use Rattle.right_trace.specs.Updates.{with_at}
 use Rattle.client_ties.specs.Connections.{timer_of, dues}
 use Rattle.client_ties.specs.PartTie.{Leads, GoesOn}
 use Rattle.client_ties.specs.Runs.{Runs}

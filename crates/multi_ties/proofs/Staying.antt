@@ -15,8 +15,8 @@ use Rattle.client_stream.specs.declared.line.LineStage.{LineStage}
 use Rattle.client_stream.specs.declared.line.LineStage.TheVariants as stage
 use Rattle.client_multi.specs.Links.{Link, one_stream}
 use Rattle.client_multi.specs.MultiStream.{After, with_tables, hears_at, calls, returns, taken, with_connection, keeps, lent, watched, unwatched, is_number, each, hands, opened, refused, backs_off, open_fails, is_open as plain_open, due_at}
-use Rattle.headline.specs.Frames.{Reading}
-use Rattle.headline.specs.Messages.{Octets}
+use Rattle.right_trace.specs.Frames.{Reading}
+use Rattle.right_trace.specs.Messages.{Octets}
 use Rattle.headline.specs.machine.Served.{Served}
 use Rattle.headline.specs.machine.Streams.{Conn, Multi, IsForeign}
 use Rattle.client_ties.specs.Connections.{timer_of}

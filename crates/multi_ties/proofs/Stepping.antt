@@ -10,7 +10,7 @@ use Rattle.client_request.specs.declared.event.Out.{Out}
 use Rattle.client_stream.specs.Plain.{has_ended, ended}
 use Rattle.client_multi.specs.Links.{Link, one_stream}
 use Rattle.client_multi.specs.MultiStream.{taken, returns, lent}
-use Rattle.headline.specs.Messages.{Octets}
+use Rattle.right_trace.specs.Messages.{Octets}
 use Rattle.headline.specs.machine.Part.{Act}
 use Rattle.headline.specs.machine.Streams.{Phase, Free, Expecting, Lined, Holding, Broken, BackingOff, Asker, Conn, Multi, every, broken_at, end_at, moved}
 use Rattle.client_ties.specs.Connections.{timer_of, dues, IsAt, HasEnded, HasPumped, IsTimed}

@@ -13,8 +13,8 @@ use Rattle.client_multi.specs.MultiStream.{with_tables, with_job, drops_job, lea
 use Rattle.client_multi.specs.declared.multi_stream.job.Job.{Job}
 use Rattle.client_multi.specs.declared.multi_stream.job.Stage.{Stage}
 use Rattle.client_multi.specs.declared.multi_stream.job.Stage.TheVariants.{Waiting, Resting, Held}
-use Rattle.headline.specs.Messages.{Octets}
-use Rattle.headline.specs.Trace.{Conf}
+use Rattle.right_trace.specs.Messages.{Octets}
+use Rattle.right_trace.specs.Trace.{Conf}
 use Rattle.headline.specs.machine.Served.{Served, holds}
 use Rattle.client_ties.specs.Connections.{timer_of}
 use Rattle.client_ties.specs.PartTie.{Phase, Untold, Told, Passed, IsOpen, Leads, place_in}

@@ -3,7 +3,7 @@ use Rattle.std.proofs.Common.{◌≡◌, ℕ, false, refl}
 use Rattle.client_request.specs.View.{View, told}
 use Rattle.client_request.specs.declared.event.What.{What}
 use Rattle.client_request.specs.declared.event.What.TheVariants.{Ask, Opened, OpenFailed, SendFailed, ShortSend, Datagram, RecvFailed, Wrote, WriteFailed, Bytes, ReadFailed, Ended, Tick}
-use Rattle.headline.specs.Trace.{Conf}
+use Rattle.right_trace.specs.Trace.{Conf}
 use Rattle.headline.specs.machine.Served.{Served, served}
 use Rattle.client_ties.specs.Chains.{Chain}
 use Rattle.client_ties.specs.PartTie.{Leads, Tells, MayLeave}

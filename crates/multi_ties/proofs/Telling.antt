@@ -20,11 +20,12 @@ use Rattle.client_stream.specs.Settings.{default_settings as default_stream}
 use Rattle.client_multi.specs.Links.{Link, one_stream}
 use Rattle.client_multi.specs.MultiStream.{tells, hears_at, calls, returns, taken, lent, is_number, each, hands, opened, refused, backs_off, open_fails, is_open as plain_open}
 use Rattle.client_multi.specs.Settings.{default_settings}
-use Rattle.headline.specs.Messages.{Octets}
-use Rattle.headline.specs.Places.{is_told}
+use Rattle.right_trace.specs.Messages.{Octets}
+use Rattle.right_trace.specs.Places.{is_told}
 use Rattle.headline.specs.machine.Served.{place_after, outs_of, posts_of}
 use Rattle.headline.specs.machine.Streams as multi
-use Rattle.headline.specs.machine.Streams.{Phase, Asker, Conn, Multi, Nothing, Puts, Takes, ItOpens, ItDoesNotOpen, ItFails, IsForeign, set_conn, wrote_on, heard_on, end_at, open_at, not_opened, with_at}
+use Rattle.headline.specs.machine.Streams.{Phase, Asker, Conn, Multi, Nothing, Puts, Takes, ItOpens, ItDoesNotOpen, ItFails, IsForeign, set_conn, wrote_on, heard_on, end_at, open_at, not_opened}
+use Rattle.right_trace.specs.Updates.{with_at}
 use Rattle.client_ties.specs.Chains.{still}
 use Rattle.client_ties.specs.Connections.{dues, IsTimed, HasWritten, IsHeard, WritesOn, HasRoom, FailsWriting}
 use Rattle.client_ties.specs.Lines.{SingleLine, IsLineAt}

@@ -14,8 +14,8 @@ use Rattle.client_multi.specs.Links.{one_stream}
 use Rattle.client_multi.specs.MultiStream.{due, drops, with_job, drops_job, takes}
 use Rattle.client_multi.specs.Settings.{Settings, default_settings}
 use Rattle.client_multi.specs.declared.multi_stream.job.Job.{Job}
-use Rattle.headline.specs.Orderly.{use_at}
-use Rattle.headline.specs.Trace.{Conf, ByStreams}
+use Rattle.right_trace.specs.Orderly.{use_at}
+use Rattle.right_trace.specs.Trace.{Conf, ByStreams}
 use Rattle.headline.specs.machine.Dgrams.{Tryer}
 use Rattle.headline.specs.machine.Served.{Served, Starts, Cancels, IsHanded, IsGivenUp, served, does, holds}
 use Rattle.headline.specs.machine.Server as server
@@ -26,7 +26,7 @@ use Rattle.client_ties.specs.PartTie.{Untold, Leads, Leaves, GoesOn}
 use Rattle.client_ties.specs.Sights.{sight, IsFair, due_of}
 use Rattle.client_ties.proofs.GoingOn.{goes_then, goes_without, dues_without, none_next}
 use Rattle.client_ties.proofs.Keys.{with_there}
-use Rattle.headline.specs.machine.Streams.{with_at}
+use Rattle.right_trace.specs.Updates.{with_at}
 use Rattle.multi_ties.specs.Servers.{Desk, Server, desk_of, numbers, nothing_under_way, Owns, Stands}
 use Rattle.multi_ties.specs.Tied.{Streams, by_streams, IsStream, IsUntold, AreEarly, TiedAs, frames_at, names_of, owns}
 use Rattle.multi_ties.proofs.Desks.{number_of}

@@ -11,8 +11,8 @@ use Rattle.client_multi.specs.MultiStream.{Tables}
 use Rattle.client_multi.specs.declared.multi_stream.job.Job.{Job}
 use Rattle.client_multi.specs.declared.multi_stream.job.Stage.{Stage}
 use Rattle.client_multi.specs.declared.multi_stream.job.Stage.TheVariants.{Waiting, Resting, Held}
-use Rattle.headline.specs.Messages.{Octets}
-use Rattle.headline.specs.Time.{stream_timeout}
+use Rattle.right_trace.specs.Messages.{Octets}
+use Rattle.right_trace.specs.Time.{stream_timeout}
 use Rattle.headline.specs.machine.Streams.{Phase, Free, Expecting, Lined, Holding, Broken, BackingOff, Asker, Conn, Multi}
 use Rattle.client_ties.specs.Connections.{timer_of, IsPostedTo, dues}
 use Rattle.client_ties.specs.Lines.{Sorted}

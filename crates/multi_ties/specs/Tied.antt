@@ -9,9 +9,9 @@ use Rattle.client_stream.specs.Plain.{Asked}
 use Rattle.client_multi.specs.Links.{Link, one_stream}
 use Rattle.client_multi.specs.MultiStream.{MultiStream, started, transport}
 use Rattle.client_multi.specs.Settings.{default_settings}
-use Rattle.headline.specs.Messages.{Octets}
-use Rattle.headline.specs.Orderly.{use_at}
-use Rattle.headline.specs.Trace.{Conf, ByStreams}
+use Rattle.right_trace.specs.Messages.{Octets}
+use Rattle.right_trace.specs.Orderly.{use_at}
+use Rattle.right_trace.specs.Trace.{Conf, ByStreams}
 use Rattle.headline.specs.machine.Dgrams.{no_datagram}
 use Rattle.headline.specs.machine.Served.{Served, served}
 use Rattle.headline.specs.machine.Streams.{IsForeign}

@@ -10,27 +10,27 @@ use Rattle.client_request.specs.declared.event.Event.{Event}
 use Rattle.client_request.specs.declared.event.What.{What}
 use Rattle.client_request.specs.declared.event.What.TheVariants.{Ask, Tick}
 use Rattle.client_request.specs.declared.event.Via.TheVariants.{Dgram, Stream}
-use Rattle.headline.specs.Trace.{History, Conf, Came}
-use Rattle.headline.specs.Time.{now, newest, one_if, count_below, row_before}
-use Rattle.headline.specs.Messages.{Octets}
-use Rattle.headline.specs.Requests.{asks, Asking, asking, asking_of, is_ask, replied, waits, started}
-use Rattle.headline.specs.Places.{is_at, live, demand, stand, is_live, reach}
-use Rattle.headline.specs.Timely.{IsAskedInOctets, InTime}
-use Rattle.headline.specs.Right.{WaitingIsBusy}
-use Rattle.headline.specs.Settings.{Settings, defers_nothing}
-use Rattle.headline.specs.Validity.{waits_for_others, is_deferred}
-use Rattle.headline.specs.Coming.{IsExcused, CameFor, SomeCame, CameFirst, FirstHere, FirstEarlier}
-use Rattle.headline.specs.Errors.{HereOrEarlier, Here, Earlier}
-use Rattle.headline.specs.Orderly.{PlacesAreMet}
+use Rattle.right_trace.specs.Trace.{History, Conf, Came}
+use Rattle.right_trace.specs.Time.{now, newest, one_if, count_below, row_before}
+use Rattle.right_trace.specs.Messages.{Octets}
+use Rattle.right_trace.specs.Requests.{asks, Asking, asking, asking_of, is_ask, replied, waits, started}
+use Rattle.right_trace.specs.Places.{is_at, live, demand, stand, is_live, reach}
+use Rattle.right_trace.specs.Timely.{IsAskedInOctets, InTime}
+use Rattle.right_trace.specs.Right.{WaitingIsBusy}
+use Rattle.right_trace.specs.Settings.{Settings, defers_nothing}
+use Rattle.right_trace.specs.Validity.{waits_for_others, is_deferred}
+use Rattle.right_trace.specs.Coming.{IsExcused, CameFor, SomeCame, CameFirst, FirstHere, FirstEarlier}
+use Rattle.right_trace.specs.Errors.{HereOrEarlier, Here, Earlier}
+use Rattle.right_trace.specs.Orderly.{PlacesAreMet}
 use Rattle.headline.specs.machine.Client.{Waiting, Upper, first_message, IsDone, row_begins, begun}
-use Rattle.headline.specs.Parts.{IsIn}
+use Rattle.right_trace.specs.Parts.{IsIn}
 use Rattle.headline.proofs.client.Kept.{AllDiffer, WasReply, Pending, IsTold, IsExpected, IsPosted, IsKeptBack, IsPassedOver, Kept}
 use Rattle.client_request.specs.declared.event.Via.{Via}
-use Rattle.headline.specs.Exchanges.{Matches}
-use Rattle.headline.specs.Owed.{IsOwed}
+use Rattle.right_trace.specs.Exchanges.{Matches}
+use Rattle.right_trace.specs.Owed.{IsOwed}
 use Rattle.headline.proofs.client.Lists.{no_message, decide}
 use Rattle.headline.proofs.client.Serving.{clash, has_some}
-use Rattle.headline.proofs.client.Asked.{asking_other, asking_came}
+use Rattle.right_trace.proofs.Asked.{asking_other, asking_came}
 
 nothing_in : {A : Type 0} (x : A) (xs : List A) → xs ≡ [] → IsIn x xs → ⊥
 nothing_in x xs e j = subst (IsIn x) e j

@@ -11,19 +11,19 @@ use Rattle.client_request.specs.declared.event.What.{What}
 use Rattle.client_request.specs.declared.event.What.TheVariants.{Ask, Opened, OpenFailed, SendFailed, ShortSend, Datagram, RecvFailed, Wrote, WriteFailed, Bytes, ReadFailed, Ended, Tick}
 use Rattle.client_request.specs.declared.event.Out.{Out}
 use Rattle.client_request.specs.declared.event.Out.TheVariants.{Start, OpenDgram, OpenStream, Send, Write, Resume, Close, Reply}
-use Rattle.headline.specs.Trace.{History, Conf, Put, put_all}
-use Rattle.headline.specs.Time.{one_if}
-use Rattle.headline.specs.Messages.{Octets, Composes}
-use Rattle.headline.specs.Requests.{is_ask, replied}
-use Rattle.headline.specs.Places.{Site, site, place_of}
-use Rattle.headline.specs.Right.{fault_of, faults, ServerOutsRight}
-use Rattle.headline.specs.Settings.{Settings, defers_nothing}
-use Rattle.headline.specs.Keys.{is_cacheable}
+use Rattle.right_trace.specs.Trace.{History, Conf, Put, put_all}
+use Rattle.right_trace.specs.Time.{one_if}
+use Rattle.right_trace.specs.Messages.{Octets, Composes}
+use Rattle.right_trace.specs.Requests.{is_ask, replied}
+use Rattle.right_trace.specs.Places.{Site, site, place_of}
+use Rattle.right_trace.specs.Right.{fault_of, faults, ServerOutsRight}
+use Rattle.right_trace.specs.Settings.{Settings, defers_nothing}
+use Rattle.right_trace.specs.Keys.{is_cacheable}
 use Rattle.headline.specs.machine.Part.{Post, Act}
 use Rattle.headline.specs.machine.Client.{Posted, Leaving, Upper, Made, with_up, tag, moved, hand, store, take_on, leave, outcome, outcome_of, validity_of, IsOutcome, Caches, Passes, Move, Server_moves, Hands_on, Gives_up, Drops, Keeps_back, Delivers, Concludes, Times_out, Replies, Forgets, Derives, Answers, Takes_on, Moves, Rests, Goes}
 use Rattle.headline.proofs.client.Kept.{Kept}
 use Rattle.headline.proofs.client.Later.{site_all}
-use Rattle.headline.proofs.client.Asked.{here_is_ask}
+use Rattle.right_trace.proofs.Asked.{here_is_ask}
 use Rattle.headline.proofs.client.Beginning.{waits_not}
 use Rattle.headline.proofs.client.Outcomes.{best_given}
 use Rattle.headline.proofs.client.Serving.{clash}

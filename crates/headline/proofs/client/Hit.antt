@@ -4,7 +4,7 @@ use Rattle.std.specs.Prelude.{if◌then◌else◌, map}
 use Rattle.std.specs.Option.{option_map_or}
 use Rattle.std.specs.Map.{lookup, lookup_entry, remove_entry}
 use Rattle.lru.specs.LruCache.{lru_cache, promoted, put_entries}
-use Rattle.headline.specs.Keys.{FlagClass, Key}
+use Rattle.right_trace.specs.Keys.{FlagClass, Key}
 use Rattle.headline.specs.machine.Cache.{with_more, in_block, block, tried, Op, Uses, Stores, is_there, First, NoneThere, AskDoes, Misses, Takes, TakesFlags, TakesRd, TakesBoth, after_ops, Between, Ended, Asked, Replied, RepliedUnstored}
 use Rattle.headline.proofs.client.Lists.{decide}
 use Rattle.headline.proofs.client.Serving.{clash}

@@ -1,5 +1,5 @@
 -- A run with its cache hits.
-use Rattle.headline.specs.Parts.{known_parts, Says, IsIn}
+use Rattle.right_trace.specs.Parts.{known_parts, Says, IsIn}
 use Rattle.headline.proofs.PartLaws.{machine_of, Part}
 use Rattle.std.proofs.Common.{◌≡◌, ℕ, suc, ◌+◌, ◌*◌, ◌<◌, ◌≤◌, ◌≢◌, Bool, true, false, ◌⊎◌, inl, inr, Option, Some, None, List, [], ◌∷◌, ◌++◌, refl, arith, sym, ◌∙◌, ap, ap₂, subst, subst₂, ◌==◌, ◌&&◌, ◌||◌}
 use Rattle.std.specs.Prelude.{Result, Ok, Err, if◌then◌else◌, not, map}
@@ -14,36 +14,35 @@ use Rattle.client_request.specs.declared.event.What.{What}
 use Rattle.client_request.specs.declared.event.What.TheVariants.{Ask, Opened, OpenFailed, SendFailed, ShortSend, Datagram, RecvFailed, Wrote, WriteFailed, Bytes, ReadFailed, Ended as Ev_ended, Tick}
 use Rattle.client_request.specs.declared.event.Out.{Out}
 use Rattle.client_request.specs.declared.event.Out.TheVariants.{Start, OpenDgram, OpenStream, Send, Write, Resume, Close, Reply}
-use Rattle.headline.specs.Trace.{History, Conf, Item, Came, Put, put_all, after}
-use Rattle.headline.specs.Time.{now, newest, one_if, row_before, Ever, OfRow}
-use Rattle.headline.specs.Messages.{Octets, Composes}
-use Rattle.headline.specs.Requests.{asks, Asking, asking, is_ask, is_asked_here, is_reply, replied, handed}
-use Rattle.headline.specs.Right.{Among, OutRight, OutsRight, ServerOutRight, ServerOutsRight}
-use Rattle.headline.specs.Timely.{IsAskedInOctets, AllAskedInOctets}
+use Rattle.right_trace.specs.Trace.{History, Conf, Item, Came, Put, put_all, after}
+use Rattle.right_trace.specs.Time.{now, newest, one_if, row_before, Ever, OfRow}
+use Rattle.right_trace.specs.Messages.{Octets, Composes}
+use Rattle.right_trace.specs.Requests.{asks, Asking, asking, is_ask, is_asked_here, is_reply, replied, handed}
+use Rattle.right_trace.specs.Right.{Among, OutRight, OutsRight, ServerOutRight, ServerOutsRight}
+use Rattle.right_trace.specs.Timely.{IsAskedInOctets, AllAskedInOctets}
 use Rattle.client_request.specs.declared.event.Row.{Row}
-use Rattle.headline.specs.Settings.{Settings}
-use Rattle.headline.specs.Keys.{Key, key_of, is_cacheable, spelled_name}
-use Rattle.headline.specs.Validity.{validity_of_message, validity_of_parts}
-use Rattle.headline.specs.Views.{viewed, view_of, view_validity}
+use Rattle.right_trace.specs.Settings.{Settings}
+use Rattle.right_trace.specs.Keys.{Key, key_of, is_cacheable, spelled_name, TellsKeys}
+use Rattle.right_trace.specs.Validity.{validity_of_message, validity_of_parts}
+use Rattle.right_trace.specs.Views.{viewed, view_of, view_validity}
 use Rattle.headline.proofs.client.Unhanded.{moves_untried}
-use Rattle.headline.specs.Coming.{CameFor}
-use Rattle.headline.specs.Replies.{IsFresh, InThisRow, Deferred, IsFreshReply}
-use Rattle.headline.specs.Theorem.{TellsKeys}
+use Rattle.right_trace.specs.Coming.{CameFor}
+use Rattle.right_trace.specs.Replies.{IsFresh, InThisRow, Deferred, IsFreshReply}
 use Rattle.headline.specs.machine.Cache.{Op, AskDoes, after_ops, Between, Ended, Asked, Replied, RepliedUnstored}
-use Rattle.headline.specs.Hit.{asks_since, replies_since, is_some_reply, other_replies, IsViewOf, OutIsView, AllAreViews, IsHit, Views, CantRead, Hits, AllHit}
+use Rattle.right_trace.specs.Hit.{asks_since, replies_since, is_some_reply, other_replies, IsViewOf, OutIsView, AllAreViews, IsHit, Views, CantRead, Hits, AllHit}
 use Rattle.headline.specs.machine.Exact.{Value, value_of, RunCached, Serves, ServedBy, Viewing, NotReading, Looks, Looked, LeftAlone, Cached, AllCached}
 use Rattle.headline.specs.machine.Client.{unmade, Leaving, Upper, Made, Move, Server_moves, Hands_on, Gives_up, Drops, Keeps_back, Delivers, Concludes, Times_out, Replies, Forgets, Derives, Answers, Takes_on, Moves, Rests, Goes, IsDone, IsStep, IsRun, Ends, Goes_on, row_begins, begun, answer}
 use Rattle.headline.proofs.client.Kept.{Kept, MayStore, LeavingFits}
 use Rattle.headline.proofs.client.Later.{put_more, now_all, asking_all, ever_all}
 use Rattle.headline.proofs.client.Lists.{decide, in_left, in_right, in_here, in_but}
 use Rattle.headline.proofs.client.Serving.{clash}
-use Rattle.headline.proofs.client.Asked.{asking_below, asking_other, asking_came, here_asks, here_is_ask, earlier_known}
+use Rattle.right_trace.proofs.Asked.{asking_below, asking_other, asking_came, here_asks, here_is_ask, earlier_known}
 use Rattle.headline.proofs.client.Moving.{acts_right_here, starts_right_here, cancels_right_here}
 use Rattle.headline.proofs.client.Steps.{move_does, moves_do}
 use Rattle.headline.proofs.client.Beginning.{begun_kept, begun_done, row_kept}
 use Rattle.headline.proofs.client.Outcomes.{at_once}
 use Rattle.headline.proofs.client.Hit.{hit}
-use Rattle.headline.proofs.client.Valid.{own_view_valid, valid_is_read}
+use Rattle.right_trace.proofs.Valid.{own_view_valid, valid_is_read}
 use Rattle.client_request.specs.declared.error.Error.TheVariants as errors
 
 -- a message that came can't be of a request asked in this row

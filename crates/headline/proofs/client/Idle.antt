@@ -4,10 +4,10 @@ use Rattle.std.specs.Prelude.{not}
 use Rattle.std.proofs.lemmas.Bool.Decides.{nat_tests}
 use Rattle.client_request.specs.declared.event.Via.{Via}
 use Rattle.client_request.specs.declared.event.Via.TheVariants.{Dgram, Stream}
-use Rattle.headline.specs.Trace.{History, Conf}
-use Rattle.headline.specs.Time.{count_below, one_if}
-use Rattle.headline.specs.Requests.{asks, waits, started}
-use Rattle.headline.specs.Places.{site, is_site, is_at, stand, is_live, live, demand, reach}
+use Rattle.right_trace.specs.Trace.{History, Conf}
+use Rattle.right_trace.specs.Time.{count_below, one_if}
+use Rattle.right_trace.specs.Requests.{asks, waits, started}
+use Rattle.right_trace.specs.Places.{site, is_site, is_at, stand, is_live, live, demand, reach}
 use Rattle.headline.proofs.PartLaws.{Part}
 use Rattle.headline.proofs.client.Serving.{clash}
 

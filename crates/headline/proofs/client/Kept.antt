@@ -8,23 +8,23 @@ use Rattle.client_request.specs.declared.event.What.{What}
 use Rattle.client_request.specs.declared.event.What.TheVariants.{Ask}
 use Rattle.client_request.specs.declared.event.Via.{Via}
 use Rattle.client_request.specs.declared.event.Via.TheVariants.{Dgram}
-use Rattle.headline.specs.Trace.{History, Conf}
-use Rattle.headline.specs.Time.{now, newest, one_if, row_before, Ever, EarlierRow, OfRow}
-use Rattle.headline.specs.Messages.{Octets}
-use Rattle.headline.specs.Requests.{asks, Asking, asking, is_ask, is_asked_here, replied, waits, started, handed}
-use Rattle.headline.specs.Places.{is_at, reach}
-use Rattle.headline.specs.Exchanges.{Matches}
-use Rattle.headline.specs.Settings.{Settings}
-use Rattle.headline.specs.Keys.{KeysCover, key_of, is_cacheable}
-use Rattle.headline.specs.Validity.{validity_of_message, is_deferred, waits_for_others}
-use Rattle.headline.specs.Owed.{IsOwed}
-use Rattle.headline.specs.Coming.{IsExcused, SomeCame, CameFirst}
-use Rattle.headline.specs.Replies.{IsFresh, IsFreshReply}
-use Rattle.headline.specs.Errors.{HereOrEarlier, DirectCause, IsErrorReply, is_deadline, is_of_server}
-use Rattle.headline.specs.Right.{ReplyRight}
+use Rattle.right_trace.specs.Trace.{History, Conf}
+use Rattle.right_trace.specs.Time.{now, newest, one_if, row_before, Ever, EarlierRow, OfRow}
+use Rattle.right_trace.specs.Messages.{Octets}
+use Rattle.right_trace.specs.Requests.{asks, Asking, asking, is_ask, is_asked_here, replied, waits, started, handed}
+use Rattle.right_trace.specs.Places.{is_at, reach}
+use Rattle.right_trace.specs.Exchanges.{Matches}
+use Rattle.right_trace.specs.Settings.{Settings}
+use Rattle.right_trace.specs.Keys.{KeysCover, key_of, is_cacheable}
+use Rattle.right_trace.specs.Validity.{validity_of_message, is_deferred, waits_for_others}
+use Rattle.right_trace.specs.Owed.{IsOwed}
+use Rattle.right_trace.specs.Coming.{IsExcused, SomeCame, CameFirst}
+use Rattle.right_trace.specs.Replies.{IsFresh, IsFreshReply}
+use Rattle.right_trace.specs.Errors.{HereOrEarlier, DirectCause, IsErrorReply, is_deadline, is_of_server}
+use Rattle.right_trace.specs.Right.{ReplyRight}
 use Rattle.headline.proofs.PartLaws.{PostRight, Part}
 use Rattle.headline.specs.machine.Client.{Posted, Given, Waiting, Leaving, Entry, Upper, first_message}
-use Rattle.headline.specs.Parts.{IsIn}
+use Rattle.right_trace.specs.Parts.{IsIn}
 
 -- a reply with this result is given only when every server is done with the request
 abbrev pub needs_all : Settings → Result Octets Error → Bool

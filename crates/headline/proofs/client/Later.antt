@@ -10,22 +10,22 @@ use Rattle.client_request.specs.declared.event.Out.{Out}
 use Rattle.client_request.specs.declared.event.Out.TheVariants.{Start, OpenDgram, OpenStream, Send, Write, Resume, Close, Reply}
 use Rattle.client_request.specs.declared.event.Via.{Via}
 use Rattle.client_request.specs.declared.event.Via.TheVariants.{Dgram, Stream}
-use Rattle.headline.specs.Trace.{History, Conf, Put, put_all}
-use Rattle.headline.specs.Time.{now, newest, stream_timeout, row_before, Ever, EarlierRow, OfRow}
-use Rattle.headline.specs.Messages.{Octets}
-use Rattle.headline.specs.Requests.{asks, asking, is_asked_here, replied, is_reply, start, started, is_start}
-use Rattle.headline.specs.Places.{Site, site, is_at, is_site, stand, Gone, is_close, closed_here}
-use Rattle.headline.specs.Exchanges.{octets_for, is_before, waited_for, IsAmong, Comes, Matches}
-use Rattle.headline.specs.Writes.{Written, is_write, written_by, waiting_with}
-use Rattle.headline.specs.Causes.{sends, last_try, is_send_to, ServerCause, NotOpened, NotSent, SentShort, NotReceived, NoAnswer, WrongReply, StreamSilence, NotRead, NotComposed}
-use Rattle.headline.specs.Settings.{Settings}
-use Rattle.headline.specs.Validity.{is_deferred}
-use Rattle.headline.specs.Owed.{AllAreDone}
+use Rattle.right_trace.specs.Trace.{History, Conf, Put, put_all}
+use Rattle.right_trace.specs.Time.{now, newest, stream_timeout, row_before, Ever, EarlierRow, OfRow}
+use Rattle.right_trace.specs.Messages.{Octets}
+use Rattle.right_trace.specs.Requests.{asks, asking, is_asked_here, replied, is_reply, start, started, is_start}
+use Rattle.right_trace.specs.Places.{Site, site, is_at, is_site, stand, Gone, is_close, closed_here}
+use Rattle.right_trace.specs.Exchanges.{octets_for, is_before, waited_for, IsAmong, Comes, Matches}
+use Rattle.right_trace.specs.Writes.{Written, is_write, written_by, waiting_with}
+use Rattle.right_trace.specs.Causes.{sends, last_try, is_send_to, ServerCause, NotOpened, NotSent, SentShort, NotReceived, NoAnswer, WrongReply, StreamSilence, NotRead, NotComposed}
+use Rattle.right_trace.specs.Settings.{Settings}
+use Rattle.right_trace.specs.Validity.{is_deferred}
+use Rattle.right_trace.specs.Owed.{AllAreDone}
 use Rattle.headline.proofs.server.Coming.{kind_on}
-use Rattle.headline.specs.Coming.{CameFor, IsExcused, SomeCame, CameFirst, FirstHere, FirstEarlier, NoneCame}
-use Rattle.headline.specs.Replies.{IsFresh, InThisRow, Deferred, IsFreshReply, CoversLater, Supplies, IsView, Fresh, View}
-use Rattle.headline.specs.Errors.{HereOrEarlier, Here, Earlier, CameWithoutValidity, CantBeViewed, DirectCause, Deadline, NoServer, ByServer, NoValidity, ViewNotKnown, IsErrorReply, IsKeptError, Own, Kept}
-use Rattle.headline.specs.Right.{ReplyRight, ServerOutRight, ServerOutsRight}
+use Rattle.right_trace.specs.Coming.{CameFor, IsExcused, SomeCame, CameFirst, FirstHere, FirstEarlier, NoneCame}
+use Rattle.right_trace.specs.Replies.{IsFresh, InThisRow, Deferred, IsFreshReply, CoversLater, Supplies, IsView, Fresh, View}
+use Rattle.right_trace.specs.Errors.{HereOrEarlier, Here, Earlier, CameWithoutValidity, CantBeViewed, DirectCause, Deadline, NoServer, ByServer, NoValidity, ViewNotKnown, IsErrorReply, IsKeptError, Own, Kept}
+use Rattle.right_trace.specs.Right.{ReplyRight, ServerOutRight, ServerOutsRight}
 use Rattle.headline.proofs.PartLaws.{PostRight, Later}
 use Rattle.headline.proofs.client.Kept.{needs_all}
 

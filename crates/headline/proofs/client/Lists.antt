@@ -3,9 +3,9 @@ use Rattle.std.proofs.Common.{◌≡◌, ℕ, Bool, true, false, ◌⊎◌, inl,
 use Rattle.std.specs.Prelude.{map, Option, Some, None, Result, Ok, Err}
 use Rattle.headline.specs.machine.Part.{Post, IsPosted}
 use Rattle.headline.specs.machine.Client.{Posted, Given, Leaving, tag, best, first_message, first_result, or_else}
-use Rattle.headline.specs.Parts.{IsIn}
+use Rattle.right_trace.specs.Parts.{IsIn}
 use Rattle.client_request.specs.declared.error.Error.{Error}
-use Rattle.headline.specs.Messages.{Octets}
+use Rattle.right_trace.specs.Messages.{Octets}
 use Rattle.headline.proofs.client.Kept.{Leaves, AllDiffer}
 
 pub decide : (b : Bool) → (b ≡ true) ⊎ (b ≡ false)

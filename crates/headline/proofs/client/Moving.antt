@@ -8,13 +8,13 @@ use Rattle.client_request.specs.declared.event.Out.{Out}
 use Rattle.client_request.specs.declared.event.Out.TheVariants.{Start, OpenDgram, OpenStream, Send, Write, Resume, Close, Reply}
 use Rattle.client_request.specs.declared.event.Via.{Via}
 use Rattle.client_request.specs.declared.event.Via.TheVariants.{Dgram, Stream}
-use Rattle.headline.specs.Trace.{History, Conf, Use, ByDatagrams, ByStreams, Put, put_all}
-use Rattle.headline.specs.Time.{now}
-use Rattle.headline.specs.Requests.{replied, is_reply, start, started, is_start, same_via, handed}
-use Rattle.headline.specs.Places.{Site, site, is_site, opens_as}
-use Rattle.headline.specs.Orderly.{use_at, MayStart, FirstDatagram, FirstStream, AfterCutAnswer}
-use Rattle.headline.specs.Settings.{Settings}
-use Rattle.headline.specs.Right.{OutRight, ServerOutRight, ServerOutsRight, OutsRight}
+use Rattle.right_trace.specs.Trace.{History, Conf, Use, ByDatagrams, ByStreams, Put, put_all}
+use Rattle.right_trace.specs.Time.{now}
+use Rattle.right_trace.specs.Requests.{replied, is_reply, start, started, is_start, same_via, handed}
+use Rattle.right_trace.specs.Places.{Site, site, is_site, opens_as}
+use Rattle.right_trace.specs.Orderly.{use_at, MayStart, FirstDatagram, FirstStream, AfterCutAnswer}
+use Rattle.right_trace.specs.Settings.{Settings}
+use Rattle.right_trace.specs.Right.{OutRight, ServerOutRight, ServerOutsRight, OutsRight}
 use Rattle.headline.specs.machine.Part.{Post, Act, IsPosted}
 use Rattle.headline.proofs.PartLaws.{Later, Part, none_more, this_one, or_this}
 use Rattle.headline.specs.machine.Client.{Waiting, Upper, with_held, moved, hand, handing}

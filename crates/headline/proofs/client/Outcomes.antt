@@ -7,25 +7,25 @@ use Rattle.client_request.specs.Request.{Request}
 use Rattle.client_request.specs.declared.error.Error.{Error}
 use Rattle.client_request.specs.declared.event.What.{What}
 use Rattle.client_request.specs.declared.event.What.TheVariants.{Ask}
-use Rattle.headline.specs.Trace.{History, Conf, Came, Put}
-use Rattle.headline.specs.Time.{newest, row_before, EarlierRow, OfRow}
-use Rattle.headline.specs.Messages.{Octets, Composes}
-use Rattle.headline.specs.Requests.{Asking, asking, is_asked_here, handed}
-use Rattle.headline.specs.Settings.{Settings}
-use Rattle.headline.specs.Keys.{KeyCovers, key_of, is_cacheable}
-use Rattle.headline.specs.Validity.{validity_of_message, is_above, is_deferred, waits_for_others}
-use Rattle.headline.specs.Owed.{IsOwed, AllAreDone}
-use Rattle.headline.specs.Coming.{IsExcused, CameFor, CameFirst, NoneCame}
-use Rattle.headline.specs.Replies.{IsFresh, InThisRow, Deferred, Supplies, Fresh, View}
-use Rattle.headline.specs.Causes.{ServerCause, NotOpened, NotSent, SentShort, NotReceived, NoAnswer, WrongReply, StreamSilence, NotRead, NotComposed}
-use Rattle.headline.specs.Errors.{HereOrEarlier, Here, Earlier, CameWithoutValidity, InTime, Derived, DirectCause, NoServer, ByServer, NoValidity, ViewNotKnown, is_deadline, is_of_server, HasCause, Own, Kept as KeptError}
-use Rattle.headline.specs.Right.{ReplyRight}
+use Rattle.right_trace.specs.Trace.{History, Conf, Came, Put}
+use Rattle.right_trace.specs.Time.{newest, row_before, EarlierRow, OfRow}
+use Rattle.right_trace.specs.Messages.{Octets, Composes}
+use Rattle.right_trace.specs.Requests.{Asking, asking, is_asked_here, handed}
+use Rattle.right_trace.specs.Settings.{Settings}
+use Rattle.right_trace.specs.Keys.{KeyCovers, key_of, is_cacheable}
+use Rattle.right_trace.specs.Validity.{validity_of_message, is_above, is_deferred, waits_for_others}
+use Rattle.right_trace.specs.Owed.{IsOwed, AllAreDone}
+use Rattle.right_trace.specs.Coming.{IsExcused, CameFor, CameFirst, NoneCame}
+use Rattle.right_trace.specs.Replies.{IsFresh, InThisRow, Deferred, Supplies, Fresh, View}
+use Rattle.right_trace.specs.Causes.{ServerCause, NotOpened, NotSent, SentShort, NotReceived, NoAnswer, WrongReply, StreamSilence, NotRead, NotComposed}
+use Rattle.right_trace.specs.Errors.{HereOrEarlier, Here, Earlier, CameWithoutValidity, InTime, Derived, DirectCause, NoServer, ByServer, NoValidity, ViewNotKnown, is_deadline, is_of_server, HasCause, Own, Kept as KeptError}
+use Rattle.right_trace.specs.Right.{ReplyRight}
 use Rattle.headline.specs.machine.Client.{Given, Waiting, Leaving, Entry, Upper, best, first_message, first_result, or_else, outcome, outcome_of, IsOutcome, Caches, Passes, AtOnce, Refused, Viewed, Unread, Repeated, Nowhere, NoneOf}
-use Rattle.headline.specs.Parts.{IsIn}
+use Rattle.right_trace.specs.Parts.{IsIn}
 use Rattle.headline.proofs.client.Kept.{needs_all, MayStore, WasReply, IsTold, IsExpected, IsPosted, IsKeptBack, IsPassedOver, Kept}
 use Rattle.headline.proofs.client.Lists.{best_message, best_error, no_message}
 use Rattle.headline.proofs.client.Serving.{clash}
-use Rattle.headline.proofs.client.Asked.{earlier_asked, do_back, serves}
+use Rattle.right_trace.proofs.Asked.{earlier_asked, do_back, serves}
 use Rattle.client_request.specs.declared.error.Error.TheVariants as errors
 
 -- an error that a server gives is not that of the deadline

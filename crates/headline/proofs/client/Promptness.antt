@@ -14,22 +14,22 @@ use Rattle.client_request.specs.declared.event.Out.{Out}
 use Rattle.client_request.specs.declared.event.Out.TheVariants.{Start, OpenDgram, OpenStream, Send, Write, Resume, Close, Reply}
 use Rattle.client_request.specs.declared.event.Via.{Via}
 use Rattle.client_request.specs.declared.event.Via.TheVariants.{Dgram, Stream}
-use Rattle.headline.specs.Trace.{History, Conf, Came, Put, put_all}
-use Rattle.headline.specs.Time.{now, read_timeout, stream_timeout, row_before}
-use Rattle.headline.specs.Messages.{Octets, Composes, answers}
-use Rattle.headline.specs.Requests.{Asking, asking, replied}
-use Rattle.headline.specs.Places.{Site, site, stand, is_alive, is_of_kind}
-use Rattle.headline.specs.Frames.{is_alive_stream, reading, fed, came}
-use Rattle.headline.specs.Exchanges.{Comes, Matches, first_of}
-use Rattle.headline.specs.Causes.{sends, last_try, is_send_to, try_of, Try, TriesAreUp, ServerCause, NotOpened, NotSent, SentShort, NotReceived, NoAnswer, WrongReply, StreamSilence, NotRead, NotComposed}
-use Rattle.headline.specs.Right.{Among, IsOverdue, PastDeadline, PastTries, PastStream}
-use Rattle.headline.specs.Settings.{Settings}
-use Rattle.headline.specs.Keys.{is_cacheable}
-use Rattle.headline.specs.Validity.{validity_of_message, is_deferred, is_final, waits_for_others}
-use Rattle.headline.specs.Coming.{CameFor, IsExcused}
+use Rattle.right_trace.specs.Trace.{History, Conf, Came, Put, put_all}
+use Rattle.right_trace.specs.Time.{now, read_timeout, stream_timeout, row_before}
+use Rattle.right_trace.specs.Messages.{Octets, Composes, answers}
+use Rattle.right_trace.specs.Requests.{Asking, asking, replied}
+use Rattle.right_trace.specs.Places.{Site, site, stand, is_alive, is_of_kind}
+use Rattle.right_trace.specs.Frames.{is_alive_stream, reading, fed, came}
+use Rattle.right_trace.specs.Exchanges.{Comes, Matches, first_of}
+use Rattle.right_trace.specs.Causes.{sends, last_try, is_send_to, try_of, Try, TriesAreUp, ServerCause, NotOpened, NotSent, SentShort, NotReceived, NoAnswer, WrongReply, StreamSilence, NotRead, NotComposed}
+use Rattle.right_trace.specs.Right.{Among, IsOverdue, PastDeadline, PastTries, PastStream}
+use Rattle.right_trace.specs.Settings.{Settings}
+use Rattle.right_trace.specs.Keys.{is_cacheable}
+use Rattle.right_trace.specs.Validity.{validity_of_message, is_deferred, is_final, waits_for_others}
+use Rattle.right_trace.specs.Coming.{CameFor, IsExcused}
 use Rattle.headline.specs.machine.Part.{Act}
 use Rattle.headline.specs.machine.Client.{Posted, Given, Waiting, Leaving, Upper, Made, with_up, with_held, moved, handing, keeping, leave, newcomer, validity_of, outcome, outcome_of, IsOutcome, Caches, Passes, Move, Server_moves, Hands_on, Gives_up, Drops, Keeps_back, Delivers, Concludes, Times_out, Replies, Forgets, Derives, Answers, Takes_on, Moves, Rests, Goes, IsDone, row_begins, NoneOf, hand}
-use Rattle.headline.specs.Parts.{IsIn}
+use Rattle.right_trace.specs.Parts.{IsIn}
 use Rattle.headline.proofs.client.Kept.{IsTold, IsExpected, IsPosted as OnBoard, IsKeptBack, IsPassedOver, Kept}
 use Rattle.headline.proofs.client.Later.{now_all, put_more, excused_on, matches_reply, comes_all}
 use Rattle.headline.proofs.client.Lists.{decide, in_left, in_right, in_here, in_but}

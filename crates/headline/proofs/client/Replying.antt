@@ -8,26 +8,26 @@ use Rattle.client_request.specs.declared.event.What.{What}
 use Rattle.client_request.specs.declared.event.Out.TheVariants.{Reply}
 use Rattle.client_request.specs.declared.event.Via.{Via}
 use Rattle.client_request.specs.declared.event.Via.TheVariants.{Dgram, Stream}
-use Rattle.headline.specs.Trace.{History, Conf, Put}
-use Rattle.headline.specs.Time.{now, row_before}
-use Rattle.headline.specs.Messages.{Octets}
-use Rattle.headline.specs.Requests.{replied, waits}
-use Rattle.headline.specs.Frames.{came_here}
-use Rattle.headline.specs.Exchanges.{waited_for, IsAmong}
-use Rattle.headline.specs.Settings.{Settings}
-use Rattle.headline.specs.Owed.{IsOwed, AllAreDone}
-use Rattle.headline.specs.Replies.{IsFresh}
-use Rattle.headline.specs.Errors.{DirectCause}
-use Rattle.headline.specs.Right.{OutsRight}
+use Rattle.right_trace.specs.Trace.{History, Conf, Put}
+use Rattle.right_trace.specs.Time.{now, row_before}
+use Rattle.right_trace.specs.Messages.{Octets}
+use Rattle.right_trace.specs.Requests.{replied, waits}
+use Rattle.right_trace.specs.Frames.{came_here}
+use Rattle.right_trace.specs.Exchanges.{waited_for, IsAmong}
+use Rattle.right_trace.specs.Settings.{Settings}
+use Rattle.right_trace.specs.Owed.{IsOwed, AllAreDone}
+use Rattle.right_trace.specs.Replies.{IsFresh}
+use Rattle.right_trace.specs.Errors.{DirectCause}
+use Rattle.right_trace.specs.Right.{OutsRight}
 use Rattle.headline.proofs.PartLaws.{Part}
 use Rattle.headline.specs.machine.Client.{Waiting, Leaving, Entry, Upper, entry_of, store}
-use Rattle.headline.specs.Parts.{IsIn}
+use Rattle.right_trace.specs.Parts.{IsIn}
 use Rattle.headline.proofs.client.Kept.{Leaves, AllDiffer, MayStore, WasReply, EntryFits, LeavingFits, IsTold, IsExpected, IsPosted, IsKeptBack, IsPassedOver, Kept}
 use Rattle.headline.proofs.client.Later.{Carried, carried_put, six_reply, post_on, fresh_stays, direct_on, given_on, none_on, first_on, matches_reply, excused_on, reply_on}
 use Rattle.headline.proofs.client.Lists.{in_more, in_but, in_here, differ_but}
 use Rattle.headline.proofs.client.Serving.{clash}
-use Rattle.headline.specs.Keys.{key_of}
-use Rattle.headline.proofs.client.Asked.{keys_refl}
+use Rattle.right_trace.specs.Keys.{key_of}
+use Rattle.right_trace.proofs.Asked.{keys_refl}
 
 -- a reply adds nothing that is owed
 owed_before : (c : Conf) (i k j : ℕ) (v : Result Octets Error) (past : History) (w : What) (h : History) → IsOwed c i k past w (Put (Reply j v) ∷ h) → IsOwed c i k past w h

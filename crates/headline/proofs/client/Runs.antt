@@ -8,11 +8,11 @@ use Rattle.client_request.specs.declared.event.What.{What}
 use Rattle.client_request.specs.declared.event.What.TheVariants.{Tick}
 use Rattle.client_request.specs.declared.event.Out.{Out}
 use Rattle.client_request.specs.declared.event.Row.{Row}
-use Rattle.headline.specs.Trace.{History, Conf, Came, put_all, after}
-use Rattle.headline.specs.Messages.{Octets, Composes}
-use Rattle.headline.specs.Timely.{AllAskedInOctets, IsAskedInOctets, TimelyAfter, Timely}
-use Rattle.headline.specs.Settings.{Settings}
-use Rattle.headline.specs.Right.{RowRight, RightAfter, Right}
+use Rattle.right_trace.specs.Trace.{History, Conf, Came, put_all, after}
+use Rattle.right_trace.specs.Messages.{Octets, Composes}
+use Rattle.right_trace.specs.Timely.{AllAskedInOctets, IsAskedInOctets, TimelyAfter, Timely}
+use Rattle.right_trace.specs.Settings.{Settings}
+use Rattle.right_trace.specs.Right.{RowRight, RightAfter, Right}
 use Rattle.headline.specs.machine.Client.{Upper, Made, IsDone, IsStep, IsRun, Ends, Goes_on, row_begins, begun}
 use Rattle.headline.proofs.client.Kept.{Kept}
 use Rattle.headline.proofs.client.Beginning.{begun_kept, begun_done, busy_here, places_here, in_time_here, row_kept}

@@ -7,21 +7,21 @@ use Rattle.client_request.specs.Request.{Request}
 use Rattle.client_request.specs.Carries.{IsOfOctets}
 use Rattle.client_request.specs.declared.error.Error.{Error}
 use Rattle.client_request.specs.declared.event.What.{What}
-use Rattle.headline.specs.Trace.{History, Conf, put_all}
-use Rattle.headline.specs.Messages.{Octets}
-use Rattle.headline.specs.Requests.{asking, replied, waits, handed}
-use Rattle.headline.specs.Exchanges.{Matches}
+use Rattle.right_trace.specs.Trace.{History, Conf, put_all}
+use Rattle.right_trace.specs.Messages.{Octets}
+use Rattle.right_trace.specs.Requests.{asking, replied, waits, handed}
+use Rattle.right_trace.specs.Exchanges.{Matches}
 use Rattle.client_request.specs.declared.event.Via.{Via}
-use Rattle.headline.specs.Settings.{Settings}
-use Rattle.headline.specs.Time.{OfRow}
-use Rattle.headline.specs.Owed.{IsOwed}
-use Rattle.headline.specs.Replies.{IsFreshReply}
-use Rattle.headline.specs.Coming.{SomeCame, NoneCame}
-use Rattle.headline.specs.Errors.{IsErrorReply}
+use Rattle.right_trace.specs.Settings.{Settings}
+use Rattle.right_trace.specs.Time.{OfRow}
+use Rattle.right_trace.specs.Owed.{IsOwed}
+use Rattle.right_trace.specs.Replies.{IsFreshReply}
+use Rattle.right_trace.specs.Coming.{SomeCame, NoneCame}
+use Rattle.right_trace.specs.Errors.{IsErrorReply}
 use Rattle.headline.specs.machine.Part.{Post, Act, IsPosted}
 use Rattle.headline.proofs.PartLaws.{PostRight, Keeps, Goes, Late, Part}
 use Rattle.headline.specs.machine.Client.{Posted, Given, Waiting, Leaving, Entry, Upper, with_up, first_message, tag, moved}
-use Rattle.headline.specs.Parts.{IsIn}
+use Rattle.right_trace.specs.Parts.{IsIn}
 use Rattle.headline.proofs.client.Kept.{RequestFits, IsOnBoard, HasGiven, MayStore, WasReply, EntryFits, ToCome, Nothing, HeldFits, PostFits, GivenFits, LeavingFits, IsFirstOf, IsTold, IsExpected, IsPosted as OnBoard, IsKeptBack, IsPassedOver, Kept}
 use Rattle.headline.proofs.client.Later.{Carried, post_on, asked_on, fresh_stays, direct_on, given_on, first_on, excused_on, reply_on}
 use Rattle.headline.proofs.client.Lists.{decide, in_left, in_right, in_either, in_tagged, tagged_in}

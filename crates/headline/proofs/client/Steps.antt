@@ -8,16 +8,16 @@ use Rattle.client_request.specs.declared.error.Error.{Error}
 use Rattle.client_request.specs.declared.event.What.{What}
 use Rattle.client_request.specs.declared.event.Out.{Out}
 use Rattle.client_request.specs.declared.event.Out.TheVariants.{Reply}
-use Rattle.headline.specs.Trace.{History, Conf, Put, put_all, after}
-use Rattle.headline.specs.Messages.{Octets, Composes}
-use Rattle.headline.specs.Requests.{replied, is_asked_here}
-use Rattle.headline.specs.Settings.{Settings}
-use Rattle.headline.specs.Keys.{key_of}
-use Rattle.headline.specs.Validity.{waits_for_others}
-use Rattle.headline.specs.Errors.{HereOrEarlier, Deadline, Own}
-use Rattle.headline.specs.Right.{OutsRight, ReplyRight}
+use Rattle.right_trace.specs.Trace.{History, Conf, Put, put_all, after}
+use Rattle.right_trace.specs.Messages.{Octets, Composes}
+use Rattle.right_trace.specs.Requests.{replied, is_asked_here}
+use Rattle.right_trace.specs.Settings.{Settings}
+use Rattle.right_trace.specs.Keys.{key_of}
+use Rattle.right_trace.specs.Validity.{waits_for_others}
+use Rattle.right_trace.specs.Errors.{HereOrEarlier, Deadline, Own}
+use Rattle.right_trace.specs.Right.{OutsRight, ReplyRight}
 use Rattle.headline.specs.machine.Client.{Given, Waiting, Leaving, Upper, Made, unmade, with_held, keeping, leave, answer, take_on, Move, Server_moves, Hands_on, Gives_up, Drops, Keeps_back, Delivers, Concludes, Times_out, Replies, Forgets, Derives, Answers, Takes_on, Moves, Rests, Goes, IsDone}
-use Rattle.headline.specs.Parts.{IsIn}
+use Rattle.right_trace.specs.Parts.{IsIn}
 use Rattle.headline.proofs.client.Kept.{needs_all, Leaves, MayStore, EntryFits, Kept}
 use Rattle.headline.proofs.client.Later.{later_all, put_more}
 use Rattle.headline.proofs.client.Lists.{in_right, in_here, in_more, in_but, leaves_left}
@@ -26,7 +26,7 @@ use Rattle.headline.proofs.client.Moving.{outs_right, acts_right_here, acts_kept
 use Rattle.headline.proofs.client.Taking.{stored_kept, board_kept, back_kept, leave_kept, answer_kept, take_kept}
 use Rattle.headline.proofs.client.Outcomes.{OutcomeFits, delivered_so, concluded_so, outcome_needs_so, best_given, all_done, best_is, at_once}
 use Rattle.headline.proofs.client.Replying.{reply_right, reply_kept}
-use Rattle.headline.proofs.client.Asked.{keys_trans}
+use Rattle.right_trace.proofs.Asked.{keys_trans}
 use Rattle.client_request.specs.declared.error.Error.TheVariants as errors
 
 pub right_more : (c : Conf) (s : Settings) (past : History) (w : What) (end : History) (xs ys : List Out) (h : History) → OutsRight c s past w end h xs → OutsRight c s past w end (put_all xs h) ys → OutsRight c s past w end h (xs ++ ys)

@@ -7,20 +7,20 @@ use Rattle.client_request.specs.Request.{Request}
 use Rattle.client_request.specs.Carries.{IsOfOctets}
 use Rattle.client_request.specs.declared.event.What.{What}
 use Rattle.client_request.specs.declared.event.What.TheVariants.{Ask}
-use Rattle.headline.specs.Trace.{History, Conf}
-use Rattle.headline.specs.Time.{one_if, EarlierRow, OfRow}
-use Rattle.headline.specs.Messages.{Octets}
-use Rattle.headline.specs.Requests.{asks, Asking, asking, is_ask, is_asked_here, replied, waits, handed}
-use Rattle.headline.specs.Settings.{Settings}
-use Rattle.headline.specs.Keys.{is_cacheable}
-use Rattle.headline.specs.Validity.{validity_of_message, waits_for_others}
-use Rattle.headline.specs.Errors.{Here}
-use Rattle.headline.specs.Coming.{SomeCame, FirstHere}
-use Rattle.headline.proofs.client.Asked.{asking_below, here_asks, earlier_known}
-use Rattle.headline.specs.Right.{ReplyRight}
+use Rattle.right_trace.specs.Trace.{History, Conf}
+use Rattle.right_trace.specs.Time.{one_if, EarlierRow, OfRow}
+use Rattle.right_trace.specs.Messages.{Octets}
+use Rattle.right_trace.specs.Requests.{asks, Asking, asking, is_ask, is_asked_here, replied, waits, handed}
+use Rattle.right_trace.specs.Settings.{Settings}
+use Rattle.right_trace.specs.Keys.{is_cacheable}
+use Rattle.right_trace.specs.Validity.{validity_of_message, waits_for_others}
+use Rattle.right_trace.specs.Errors.{Here}
+use Rattle.right_trace.specs.Coming.{SomeCame, FirstHere}
+use Rattle.right_trace.proofs.Asked.{asking_below, here_asks, earlier_known}
+use Rattle.right_trace.specs.Right.{ReplyRight}
 use Rattle.headline.proofs.PartLaws.{PostRight, Part}
 use Rattle.headline.specs.machine.Client.{Posted, Given, Waiting, Leaving, Entry, Upper, with_held, keeping, leave, answer, newcomer, take_on}
-use Rattle.headline.specs.Parts.{IsIn}
+use Rattle.right_trace.specs.Parts.{IsIn}
 use Rattle.headline.proofs.client.Kept.{needs_all, RequestFits, Leaves, IsOnBoard, HasGiven, MayStore, EntryFits, GivenFits, LeavingFits, IsFirstOf, IsTold, IsExpected, IsPosted, IsKeptBack, IsPassedOver, Kept}
 use Rattle.headline.proofs.client.Lists.{decide, in_left, in_either, in_more, in_but, leaves_left, leaves_last, differ_last, first_none, first_last}
 use Rattle.headline.proofs.client.Serving.{clash}

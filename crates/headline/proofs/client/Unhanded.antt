@@ -6,10 +6,10 @@ use Rattle.std.proofs.lemmas.Bool.Decides.{nat_tests}
 use Rattle.client_request.specs.Request.{Request}
 use Rattle.client_request.specs.declared.error.Error.{Error}
 use Rattle.client_request.specs.declared.event.What.{What}
-use Rattle.headline.specs.Trace.{History, Conf, put_all}
-use Rattle.headline.specs.Messages.{Octets, Composes}
-use Rattle.headline.specs.Settings.{Settings}
-use Rattle.headline.specs.Requests.{handed}
+use Rattle.right_trace.specs.Trace.{History, Conf, put_all}
+use Rattle.right_trace.specs.Messages.{Octets, Composes}
+use Rattle.right_trace.specs.Settings.{Settings}
+use Rattle.right_trace.specs.Requests.{handed}
 use Rattle.headline.specs.machine.Client.{Waiting, Upper, Made, with_held, Move, Server_moves, Hands_on, Gives_up, Drops, Keeps_back, Delivers, Concludes, Times_out, Replies, Forgets, Derives, Answers, Takes_on, Moves, Rests, Goes}
 use Rattle.headline.proofs.client.Kept.{Kept}
 use Rattle.headline.proofs.client.Later.{put_more}

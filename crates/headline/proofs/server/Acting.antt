@@ -5,10 +5,11 @@ use Rattle.client_request.specs.Request.{Request}
 use Rattle.client_request.specs.declared.error.Error.{Error}
 use Rattle.client_request.specs.declared.event.What.{What}
 use Rattle.client_request.specs.declared.event.Via.TheVariants.{Dgram}
-use Rattle.headline.specs.Trace.{History, Conf}
-use Rattle.headline.specs.Messages.{Octets, answers, id_in}
-use Rattle.headline.specs.Places.{place_of}
-use Rattle.headline.specs.machine.Streams.{Act, Puts, Gives, Nothing, Asker, Conn, Multi, with_at, Moves, TakesFrame, result_of}
+use Rattle.right_trace.specs.Trace.{History, Conf}
+use Rattle.right_trace.specs.Messages.{Octets, answers, id_in}
+use Rattle.right_trace.specs.Places.{place_of}
+use Rattle.headline.specs.machine.Streams.{Act, Puts, Gives, Nothing, Asker, Conn, Multi, Moves, TakesFrame, result_of}
+use Rattle.right_trace.specs.Updates.{with_at}
 use Rattle.headline.specs.machine.Dgrams.{Stage, Queued, Trying, Sent, Ending, Cut, Tryer, Dgrams, Tries, Meets, IsIgnored}
 use Rattle.headline.specs.machine.Served.{Served, IsSettled, holds, posts_of, Acts, Settles, AsItIs, WithResult}
 use Rattle.headline.specs.machine.Part.{Post, Act as Step}

@@ -7,15 +7,15 @@ use Rattle.client_request.specs.Request.{Request}
 use Rattle.client_request.specs.declared.event.Event.{Event}
 use Rattle.client_request.specs.declared.event.What.{What}
 use Rattle.client_request.specs.declared.event.What.TheVariants.{Ask, Opened, OpenFailed, SendFailed, ShortSend, Datagram, RecvFailed, Wrote, WriteFailed, Bytes, ReadFailed, Ended, Tick}
-use Rattle.headline.specs.Trace.{History, Came, Put}
-use Rattle.headline.specs.Time.{now, response_timeout}
-use Rattle.headline.specs.Messages.{Octets, CarriesInFrame}
-use Rattle.headline.specs.Requests.{Asking, asking, asks, is_ask}
-use Rattle.headline.specs.Places.{site, Stand, Unused, Opening, Alive, Gone, opened, failed, on_event, stand, is_live, is_alive}
-use Rattle.headline.specs.Frames.{Reading, fed, reading, read_on, is_alive_stream, came, came_here, brings}
-use Rattle.headline.specs.Writes.{Written, waiting_with, waiting, writing, taken_by, is_unwritten}
-use Rattle.headline.specs.Timers.{is_opened, quiet_with, quiet, idle_with, MayBeQuiet, HeldForLong, EndsLoose, InvalidRequest, ReadTimerIsDue}
-use Rattle.headline.specs.Busy.{OpeningFailed}
+use Rattle.right_trace.specs.Trace.{History, Came, Put}
+use Rattle.right_trace.specs.Time.{now, response_timeout}
+use Rattle.right_trace.specs.Messages.{Octets, CarriesInFrame}
+use Rattle.right_trace.specs.Requests.{Asking, asking, asks, is_ask}
+use Rattle.right_trace.specs.Places.{site, Stand, Unused, Opening, Alive, Gone, opened, failed, on_event, stand, is_live, is_alive}
+use Rattle.right_trace.specs.Frames.{Reading, fed, reading, read_on, is_alive_stream, came, came_here, brings}
+use Rattle.right_trace.specs.Writes.{Written, waiting_with, waiting, writing, taken_by, is_unwritten}
+use Rattle.right_trace.specs.Timers.{is_opened, quiet_with, quiet, idle_with, MayBeQuiet, HeldForLong, EndsLoose, InvalidRequest, ReadTimerIsDue}
+use Rattle.right_trace.specs.Busy.{OpeningFailed}
 use Rattle.headline.specs.machine.Streams.{Phase, Free, Expecting, Lined, Holding, Broken, BackingOff, Asker, Mode, New, Active, Idle, Conn, Multi, unheard, begin_row}
 use Rattle.headline.proofs.server.Kept.{stream_site, PhaseFits, listed, Reason, HoldsSince, EndsSo, HasInvalid, ModeFits, LeftFits, octets_at, brings_to, IsBlank, ConnFits, OpeningFits, Kept}
 use Rattle.headline.proofs.server.Ending.{at_is}

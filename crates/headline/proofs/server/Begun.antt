@@ -10,22 +10,22 @@ use Rattle.client_request.specs.Request.{Request}
 use Rattle.client_request.specs.declared.event.Via.{Via}
 use Rattle.client_request.specs.declared.event.What.TheVariants.{Tick, Bytes, Datagram}
 use Rattle.client_request.specs.declared.event.Via.TheVariants.{Dgram, Stream}
-use Rattle.headline.specs.Trace.{History, Conf, Came}
-use Rattle.headline.specs.Time.{now, read_timeout, stream_timeout}
-use Rattle.headline.specs.Messages.{Octets, answers, truncated, CarriesBy}
-use Rattle.headline.specs.Requests.{Asking, asking, start, started, handed}
-use Rattle.headline.specs.Places.{site, is_at, is_of_kind, Opening, Alive, stand, is_alive, is_live}
-use Rattle.headline.specs.Frames.{came, came_here, brings, first_with, fed, reading, is_alive_stream}
-use Rattle.headline.specs.Writes.{Written, IsWritten, waiting_with, waiting}
-use Rattle.headline.specs.Exchanges.{octets_for, IsAmong, is_before, unanswered, has_answer, waited_for, first_of, Comes, Matches}
-use Rattle.headline.specs.Causes.{Heard}
+use Rattle.right_trace.specs.Trace.{History, Conf, Came}
+use Rattle.right_trace.specs.Time.{now, read_timeout, stream_timeout}
+use Rattle.right_trace.specs.Messages.{Octets, answers, truncated, CarriesBy}
+use Rattle.right_trace.specs.Requests.{Asking, asking, start, started, handed}
+use Rattle.right_trace.specs.Places.{site, is_at, is_of_kind, Opening, Alive, stand, is_alive, is_live}
+use Rattle.right_trace.specs.Frames.{came, came_here, brings, first_with, fed, reading, is_alive_stream}
+use Rattle.right_trace.specs.Writes.{Written, IsWritten, waiting_with, waiting}
+use Rattle.right_trace.specs.Exchanges.{octets_for, IsAmong, is_before, unanswered, has_answer, waited_for, first_of, Comes, Matches}
+use Rattle.right_trace.specs.Causes.{Heard}
 use Rattle.headline.specs.machine.Streams.{Asker, Conn, IsForeign, unheard}
 use Rattle.headline.specs.machine.Dgrams.{no_datagram, IsIgnored, Stage, Queued, Trying, Sent, Ending, Cut, Tryer}
 use Rattle.headline.specs.machine.Served.{Served, unserved, row_begun, RestsNow, holds}
 use Rattle.headline.proofs.server.Expecting.{Expects, ByDatagram, ByOctets, InFrames}
 use Rattle.headline.proofs.server.Kept.{stream_site, listed, ConnFits}
 use Rattle.headline.proofs.server.Ending.{at_is}
-use Rattle.headline.specs.Owed.{IsOwed}
+use Rattle.right_trace.specs.Owed.{IsOwed}
 use Rattle.headline.proofs.client.Promptness.{Brings, ADatagram, SomeOctets, came_when}
 use Rattle.headline.proofs.server.DgramMoves.{dgram_at}
 use Rattle.headline.proofs.server.DgramKept.{dgram_site, placed, TryingFits, SentFits, StageFits, KeptD}

@@ -8,20 +8,21 @@ use Rattle.client_request.specs.declared.event.What.{What}
 use Rattle.client_request.specs.declared.event.Out.TheVariants.{Close}
 use Rattle.client_request.specs.declared.event.Via.{Via}
 use Rattle.client_request.specs.declared.event.Via.TheVariants.{Dgram, Stream}
-use Rattle.headline.specs.Trace.{History, Conf, Put, put_all}
-use Rattle.headline.specs.Time.{now}
-use Rattle.headline.specs.Messages.{Octets}
-use Rattle.headline.specs.Requests.{replied, started}
-use Rattle.headline.specs.Places.{Stand, Unused, Opening, Alive, Gone, closed, stand, is_live}
-use Rattle.headline.specs.Frames.{came_here}
-use Rattle.headline.specs.Exchanges.{waited_for, IsAmong, Comes}
-use Rattle.headline.specs.Orderly.{OfDgram, MayCloseDgram, ItsReply, ReplyBeforeItsSend, RepliedHere}
-use Rattle.headline.specs.machine.Streams.{Asker, with_at}
+use Rattle.right_trace.specs.Trace.{History, Conf, Put, put_all}
+use Rattle.right_trace.specs.Time.{now}
+use Rattle.right_trace.specs.Messages.{Octets}
+use Rattle.right_trace.specs.Requests.{replied, started}
+use Rattle.right_trace.specs.Places.{Stand, Unused, Opening, Alive, Gone, closed, stand, is_live}
+use Rattle.right_trace.specs.Frames.{came_here}
+use Rattle.right_trace.specs.Exchanges.{waited_for, IsAmong, Comes}
+use Rattle.right_trace.specs.Orderly.{OfDgram, MayCloseDgram, ItsReply, ReplyBeforeItsSend, RepliedHere}
+use Rattle.headline.specs.machine.Streams.{Asker}
+use Rattle.right_trace.specs.Updates.{with_at}
 use Rattle.headline.specs.machine.Dgrams.{Stage, Trying, Sent, Tryer}
 use Rattle.headline.specs.machine.Served.{Served, holds, Cancels, IsGivenUp}
 use Rattle.headline.proofs.server.Expecting.{Expects, ByDatagram, ByOctets, InFrames}
-use Rattle.headline.specs.Owed.{IsOwed}
-use Rattle.headline.specs.Right.{WasLive, ServerOutsRight}
+use Rattle.right_trace.specs.Owed.{IsOwed}
+use Rattle.right_trace.specs.Right.{WasLive, ServerOutsRight}
 use Rattle.headline.specs.machine.Part.{Act}
 use Rattle.headline.proofs.PartLaws.{Late, Goes}
 use Rattle.headline.proofs.server.DgramKept.{dgram_site, placed, TryingFits, SentFits, StageFits}

@@ -10,16 +10,16 @@ use Rattle.client_request.specs.declared.event.Out.{Out}
 use Rattle.client_request.specs.declared.event.Out.TheVariants.{Start, OpenDgram, OpenStream, Send, Write, Resume, Close, Reply}
 use Rattle.client_request.specs.declared.event.Via.{Via}
 use Rattle.client_request.specs.declared.event.Via.TheVariants.{Dgram, Stream}
-use Rattle.headline.specs.Trace.{History, Conf, Came, Put, put_all}
-use Rattle.headline.specs.Time.{now, newest, row_before, stream_timeout}
-use Rattle.headline.specs.Messages.{Octets, answers, id_in}
-use Rattle.headline.specs.Requests.{asking, is_ask, replied, start}
-use Rattle.headline.specs.Places.{Site, site, site_on, is_of_kind, Stand, Unused, Opening, Alive, Gone, stand, is_alive}
-use Rattle.headline.specs.Frames.{came, is_alive_stream, is_bad, brings, first_with}
-use Rattle.headline.specs.Writes.{Written, IsWritten, waiting_with}
-use Rattle.headline.specs.Exchanges.{octets_for, is_before, IsAmong, Comes}
-use Rattle.headline.specs.Coming.{CameFor}
-use Rattle.headline.specs.Causes.{ServerCause, WrongReply}
+use Rattle.right_trace.specs.Trace.{History, Conf, Came, Put, put_all}
+use Rattle.right_trace.specs.Time.{now, newest, row_before, stream_timeout}
+use Rattle.right_trace.specs.Messages.{Octets, answers, id_in}
+use Rattle.right_trace.specs.Requests.{asking, is_ask, replied, start}
+use Rattle.right_trace.specs.Places.{Site, site, site_on, is_of_kind, Stand, Unused, Opening, Alive, Gone, stand, is_alive}
+use Rattle.right_trace.specs.Frames.{came, is_alive_stream, is_bad, brings, first_with}
+use Rattle.right_trace.specs.Writes.{Written, IsWritten, waiting_with}
+use Rattle.right_trace.specs.Exchanges.{octets_for, is_before, IsAmong, Comes}
+use Rattle.right_trace.specs.Coming.{CameFor}
+use Rattle.right_trace.specs.Causes.{ServerCause, WrongReply}
 use Rattle.headline.specs.machine.Streams.{Asker, Conn, Multi}
 use Rattle.headline.proofs.server.Kept.{stream_site, listed, ConnFits, Kept}
 use Rattle.headline.proofs.server.FrameLaws.{waits_none, waits_before, first_is}

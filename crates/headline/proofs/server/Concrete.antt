@@ -7,13 +7,13 @@ use Rattle.client_request.specs.declared.event.Out.{Out}
 use Rattle.client_request.specs.declared.event.Out.TheVariants.{Reply}
 use Rattle.client_request.specs.declared.event.Via.{Via}
 use Rattle.client_request.specs.declared.event.Via.TheVariants.{Dgram, Stream}
-use Rattle.headline.specs.Trace.{History, Conf, Came, Put, put_all}
-use Rattle.headline.specs.Requests.{asking, replied, handed}
-use Rattle.headline.specs.Exchanges.{waited_for, IsAmong, Comes}
-use Rattle.headline.specs.Owed.{IsOwed}
-use Rattle.headline.specs.Places.{reach}
+use Rattle.right_trace.specs.Trace.{History, Conf, Came, Put, put_all}
+use Rattle.right_trace.specs.Requests.{asking, replied, handed}
+use Rattle.right_trace.specs.Exchanges.{waited_for, IsAmong, Comes}
+use Rattle.right_trace.specs.Owed.{IsOwed}
+use Rattle.right_trace.specs.Places.{reach}
 use Rattle.headline.specs.machine.Streams.{Gives, Moves}
-use Rattle.headline.specs.Right.{ServerOutsRight}
+use Rattle.right_trace.specs.Right.{ServerOutsRight}
 use Rattle.headline.proofs.server.Handing.{or_left}
 use Rattle.headline.specs.machine.Dgrams.{Tryer}
 use Rattle.headline.specs.machine.Served.{Served, outs_of, frames_left, unserved, holds, row_begun, Acts, Starts, Cancels, RestsNow}
@@ -23,7 +23,7 @@ use Rattle.headline.proofs.PartLaws.{Keeps, none_more, this_one, Part}
 use Rattle.std.specs.Prelude.{List, Result}
 use Rattle.client_request.specs.Request.{Request}
 use Rattle.client_request.specs.declared.error.Error.{Error}
-use Rattle.headline.specs.Messages.{Octets}
+use Rattle.right_trace.specs.Messages.{Octets}
 use Rattle.headline.proofs.client.Runs.{run_right}
 use Rattle.headline.proofs.client.Hitting.{cached_run_hits}
 use Rattle.headline.specs.Theorem.{EveryRunIsRight, EveryCachedRunHits}

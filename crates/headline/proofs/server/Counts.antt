@@ -1,7 +1,7 @@
 -- Counts of the numbers that pass a test, where the test changes at one number.
 use Rattle.std.proofs.Common.{◌≡◌, ℕ, zero, suc, ◌+◌, ◌<◌, ◌≤◌, Bool, true, false, ◌≢◌, ◌⊎◌, inl, inr, refl, arith}
 use Rattle.std.proofs.lemmas.Bool.{cases_eq}
-use Rattle.headline.specs.Time.{count_below, one_if}
+use Rattle.right_trace.specs.Time.{count_below, one_if}
 
 pub count_same : (f g : ℕ → Bool) (n : ℕ) → ((q : ℕ) → q < n → f q ≡ g q) → count_below f n ≡ count_below g n
 count_same f g zero same = refl

@@ -5,15 +5,15 @@ use Rattle.client_request.specs.Request.{Request}
 use Rattle.client_request.specs.declared.event.What.{What}
 use Rattle.client_request.specs.declared.event.What.TheVariants.{OpenFailed, Tick}
 use Rattle.client_request.specs.declared.event.Via.TheVariants.{Dgram, Stream}
-use Rattle.headline.specs.Trace.{History, Conf}
-use Rattle.headline.specs.Time.{read_timeout, now, one_if, count_below}
-use Rattle.headline.specs.Messages.{Octets, CarriesBy}
-use Rattle.headline.specs.Requests.{asks, asking, replied, started}
-use Rattle.headline.specs.Places.{Site, site, is_at, Stand, Unused, Opening, Alive, Gone, on_event, stand, stand_untold, is_live, reach, live}
-use Rattle.headline.specs.Frames.{came}
-use Rattle.headline.specs.Exchanges.{has_answer, unanswered, IsAmong}
-use Rattle.headline.specs.Causes.{sends, last_try, named, IsOneOf}
-use Rattle.headline.specs.Orderly.{sending, CutAnswerCame}
+use Rattle.right_trace.specs.Trace.{History, Conf}
+use Rattle.right_trace.specs.Time.{read_timeout, now, one_if, count_below}
+use Rattle.right_trace.specs.Messages.{Octets, CarriesBy}
+use Rattle.right_trace.specs.Requests.{asks, asking, replied, started}
+use Rattle.right_trace.specs.Places.{Site, site, is_at, Stand, Unused, Opening, Alive, Gone, on_event, stand, stand_untold, is_live, reach, live}
+use Rattle.right_trace.specs.Frames.{came}
+use Rattle.right_trace.specs.Exchanges.{has_answer, unanswered, IsAmong}
+use Rattle.right_trace.specs.Causes.{sends, last_try, named, IsOneOf}
+use Rattle.right_trace.specs.Orderly.{sending, CutAnswerCame}
 use Rattle.headline.proofs.PartLaws.{PostRight}
 use Rattle.headline.specs.machine.Dgrams.{Stage, Queued, Trying, Sent, Ending, Cut, Tryer, Dgrams}
 use Rattle.client_request.specs.declared.error.Error.TheVariants as errors

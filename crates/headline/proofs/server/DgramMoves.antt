@@ -10,20 +10,20 @@ use Rattle.client_request.specs.declared.fault.Fault.{Fault}
 use Rattle.client_request.specs.declared.event.Out.{Out}
 use Rattle.client_request.specs.declared.event.Out.TheVariants.{Start}
 use Rattle.client_request.specs.declared.event.Via.TheVariants.{Dgram, Stream}
-use Rattle.headline.specs.Trace.{History, Conf, Put}
-use Rattle.headline.specs.Time.{count_below, one_if}
-use Rattle.headline.specs.Requests.{asking, asks, started}
-use Rattle.headline.specs.Places.{site, is_at, Opening, Alive, Gone, on_event, stand, is_live, reach, live}
-use Rattle.headline.specs.Causes.{Named, last_try, named, IsOneOf}
+use Rattle.right_trace.specs.Trace.{History, Conf, Put}
+use Rattle.right_trace.specs.Time.{count_below, one_if}
+use Rattle.right_trace.specs.Requests.{asking, asks, started}
+use Rattle.right_trace.specs.Places.{site, is_at, Opening, Alive, Gone, on_event, stand, is_live, reach, live}
+use Rattle.right_trace.specs.Causes.{Named, last_try, named, IsOneOf}
 use Rattle.headline.specs.machine.Dgrams.{Stage, Queued, Trying, Sent, Ending, Cut, Tryer, Dgrams, forget}
-use Rattle.headline.specs.machine.Streams.{with_at}
+use Rattle.right_trace.specs.Updates.{with_at}
 use Rattle.headline.proofs.server.DgramKept.{dgram_site, placed, has_place, StageFits, TryerFits, is_ended, lost, KeptD}
 use Rattle.headline.proofs.server.DgramPuts.{reaches, IsApart, dgram_same, tryer_put, tryer_put_by, new_put}
 use Rattle.headline.proofs.server.Puts.{reach_put}
 use Rattle.headline.proofs.server.Counts.{count_same}
 use Rattle.headline.proofs.server.Views.{each_at, each_other, at_here, at_there}
 use Rattle.headline.proofs.server.Beginning.{asked_below}
-use Rattle.headline.specs.Causes
+use Rattle.right_trace.specs.Causes
 
 -- what is known of a live place
 

@@ -9,12 +9,12 @@ use Rattle.client_request.specs.declared.fault.Fault.{Fault}
 use Rattle.client_request.specs.declared.event.Out.{Out}
 use Rattle.client_request.specs.declared.event.Out.TheVariants.{OpenDgram, Close}
 use Rattle.client_request.specs.declared.event.Via.TheVariants.{Dgram}
-use Rattle.headline.specs.Trace.{History, Conf, Put}
-use Rattle.headline.specs.Time.{newest, count_below, one_if}
-use Rattle.headline.specs.Requests.{asks}
-use Rattle.headline.specs.Places.{site, is_at, Opening, Alive, Gone, on_event, stand, is_live, reach, live}
+use Rattle.right_trace.specs.Trace.{History, Conf, Put}
+use Rattle.right_trace.specs.Time.{newest, count_below, one_if}
+use Rattle.right_trace.specs.Requests.{asks}
+use Rattle.right_trace.specs.Places.{site, is_at, Opening, Alive, Gone, on_event, stand, is_live, reach, live}
 use Rattle.headline.specs.machine.Dgrams.{Stage, Queued, Trying, Tryer, Dgrams, staged, try_at, leave}
-use Rattle.headline.specs.machine.Streams.{with_at}
+use Rattle.right_trace.specs.Updates.{with_at}
 use Rattle.headline.proofs.server.DgramKept.{dgram_site, owing, placed, has_place, StageFits, TryerFits, HasOwner, is_ended, lost, KeptD}
 use Rattle.headline.proofs.server.DgramPuts.{reaches, dgram_same, tryer_put, new_put}
 use Rattle.headline.proofs.server.Untold.{was_unused}

@@ -8,15 +8,15 @@ use Rattle.client_request.specs.declared.event.Out.{Out}
 use Rattle.client_request.specs.declared.event.Out.TheVariants.{Start, OpenDgram, OpenStream, Send, Write, Resume, Close, Reply}
 use Rattle.client_request.specs.declared.event.Via.{Via}
 use Rattle.client_request.specs.declared.event.Via.TheVariants.{Dgram, Stream}
-use Rattle.headline.specs.Trace.{History, Conf, Put}
-use Rattle.headline.specs.Time.{now, newest}
-use Rattle.headline.specs.Messages.{Octets}
-use Rattle.headline.specs.Requests.{same_via, start, started, is_start}
-use Rattle.headline.specs.Places.{Site, site, site_on, is_site, is_at, Gone, on_out, stand, stand_untold}
-use Rattle.headline.specs.Writes.{Written, is_write, written_by, waiting_with}
-use Rattle.headline.specs.Exchanges.{octets_for, is_before, waited_for, unanswered, IsAmong, Comes}
-use Rattle.headline.specs.Causes.{sends, last_try, named, WasOpening, ServerCause, NotOpened, NotSent, SentShort, NotReceived, NoAnswer, WrongReply, StreamSilence, NotRead, NotComposed}
-use Rattle.headline.specs.Orderly.{sending, CutAnswerCame}
+use Rattle.right_trace.specs.Trace.{History, Conf, Put}
+use Rattle.right_trace.specs.Time.{now, newest}
+use Rattle.right_trace.specs.Messages.{Octets}
+use Rattle.right_trace.specs.Requests.{same_via, start, started, is_start}
+use Rattle.right_trace.specs.Places.{Site, site, site_on, is_site, is_at, Gone, on_out, stand, stand_untold}
+use Rattle.right_trace.specs.Writes.{Written, is_write, written_by, waiting_with}
+use Rattle.right_trace.specs.Exchanges.{octets_for, is_before, waited_for, unanswered, IsAmong, Comes}
+use Rattle.right_trace.specs.Causes.{sends, last_try, named, WasOpening, ServerCause, NotOpened, NotSent, SentShort, NotReceived, NoAnswer, WrongReply, StreamSilence, NotRead, NotComposed}
+use Rattle.right_trace.specs.Orderly.{sending, CutAnswerCame}
 use Rattle.headline.proofs.PartLaws.{PostRight}
 use Rattle.headline.specs.machine.Dgrams.{Stage, Queued, Trying, Sent, Ending, Cut, Tryer, Dgrams}
 use Rattle.headline.proofs.server.DgramKept.{placed, StageFits, TryerFits, IsNew}

@@ -9,15 +9,16 @@ use Rattle.client_request.specs.declared.event.What.TheVariants.{Bytes, Tick}
 use Rattle.client_request.specs.declared.event.Out.{Out}
 use Rattle.client_request.specs.declared.event.Out.TheVariants.{Send, Close}
 use Rattle.client_request.specs.declared.event.Via.TheVariants.{Dgram, Stream}
-use Rattle.headline.specs.Trace.{History, Conf, ByDatagrams, Put, put_all}
-use Rattle.headline.specs.Time.{now}
-use Rattle.headline.specs.Messages.{Octets}
-use Rattle.headline.specs.Requests.{start, replied, handed}
-use Rattle.headline.specs.Places.{site, is_told, Opening, on_event, reach}
-use Rattle.headline.specs.Frames.{came}
-use Rattle.headline.specs.Causes.{Heard, sends}
-use Rattle.headline.specs.Orderly.{use_at}
-use Rattle.headline.specs.machine.Streams.{Act, Puts, Asker, Conn, IsForeign, with_at}
+use Rattle.right_trace.specs.Trace.{History, Conf, ByDatagrams, Put, put_all}
+use Rattle.right_trace.specs.Time.{now}
+use Rattle.right_trace.specs.Messages.{Octets}
+use Rattle.right_trace.specs.Requests.{start, replied, handed}
+use Rattle.right_trace.specs.Places.{site, is_told, Opening, on_event, reach}
+use Rattle.right_trace.specs.Frames.{came}
+use Rattle.right_trace.specs.Causes.{Heard, sends}
+use Rattle.right_trace.specs.Orderly.{use_at}
+use Rattle.headline.specs.machine.Streams.{Act, Puts, Asker, Conn, IsForeign}
+use Rattle.right_trace.specs.Updates.{with_at}
 use Rattle.headline.specs.machine.Dgrams.{Meets, Stage, Ending, Cut, Tryer, Dgrams, leave, forget}
 use Rattle.headline.specs.machine.Served.{Served, IsSettled, IsInTime, Settles, AsItIs, WithResult, has_taken_it, outs_of, place_after}
 use Rattle.headline.specs.machine.Part.{Act as Step}

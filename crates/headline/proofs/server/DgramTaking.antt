@@ -11,16 +11,16 @@ use Rattle.client_request.specs.declared.event.What.TheVariants.{Ask, Opened, Op
 use Rattle.client_request.specs.declared.fault.Fault.{Fault}
 use Rattle.client_request.specs.declared.event.Out.TheVariants.{Send}
 use Rattle.client_request.specs.declared.event.Via.TheVariants.{Dgram}
-use Rattle.headline.specs.Trace.{History, Conf, Came, Put}
+use Rattle.right_trace.specs.Trace.{History, Conf, Came, Put}
 use Rattle.headline.specs.machine.Dgrams.{IsIgnored, Stage, Queued, Trying, Sent, Ending, Cut, Tryer, Dgrams, staged, send_at, leave}
-use Rattle.headline.specs.Time.{now, row_before, count_below, one_if, read_timeout}
-use Rattle.headline.specs.Messages.{Octets, CarriesBy, answers}
-use Rattle.headline.specs.Requests.{asking, is_ask, asks, started}
-use Rattle.headline.specs.Places.{Site, site, is_of_kind, is_alive, is_at, Stand, Unused, Opening, Alive, Gone, opened, failed, on_event, stand, is_live, reach, live}
-use Rattle.headline.specs.Frames.{is_alive_stream, fed, reading, came}
-use Rattle.headline.specs.Exchanges.{has_answer, is_send, unanswered, IsAmong}
-use Rattle.headline.specs.Causes.{Named, named, IsOneOf}
-use Rattle.headline.specs.machine.Streams.{with_at}
+use Rattle.right_trace.specs.Time.{now, row_before, count_below, one_if, read_timeout}
+use Rattle.right_trace.specs.Messages.{Octets, CarriesBy, answers}
+use Rattle.right_trace.specs.Requests.{asking, is_ask, asks, started}
+use Rattle.right_trace.specs.Places.{Site, site, is_of_kind, is_alive, is_at, Stand, Unused, Opening, Alive, Gone, opened, failed, on_event, stand, is_live, reach, live}
+use Rattle.right_trace.specs.Frames.{is_alive_stream, fed, reading, came}
+use Rattle.right_trace.specs.Exchanges.{has_answer, is_send, unanswered, IsAmong}
+use Rattle.right_trace.specs.Causes.{Named, named, IsOneOf}
+use Rattle.right_trace.specs.Updates.{with_at}
 use Rattle.headline.proofs.server.DgramKept.{dgram_site, owing, placed, has_place, TryingFits, SentFits, StageFits, TryerFits, HasOwner, is_ended, lost, KeptD}
 use Rattle.headline.proofs.server.DgramPuts.{reaches, tryer_put, new_put}
 use Rattle.headline.proofs.server.DgramMoves.{place_below, held_below, one_owner, dgram_at, is_live_at}

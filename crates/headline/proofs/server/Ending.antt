@@ -7,16 +7,17 @@ use Rattle.client_request.specs.Request.{Request}
 use Rattle.client_request.specs.declared.event.What.{What}
 use Rattle.client_request.specs.declared.event.Out.TheVariants.{Close}
 use Rattle.client_request.specs.declared.event.Via.TheVariants.{Stream}
-use Rattle.headline.specs.Trace.{History, Conf, Put}
-use Rattle.headline.specs.Time.{now, newest, response_timeout}
-use Rattle.headline.specs.Messages.{Octets}
-use Rattle.headline.specs.Places.{site, is_at, Alive, stand, is_live, is_told, reach}
-use Rattle.headline.specs.Frames.{came_here, has_bad, is_bad}
-use Rattle.headline.specs.Writes.{Written}
-use Rattle.headline.specs.Timers.{ReadTimerIsDue, IdleTimerIsDue}
-use Rattle.headline.specs.Busy.{ConnectionEnded, EndsBadly, ByFault, IdleAmidWriting}
-use Rattle.headline.specs.Orderly.{MayClose, OfStream, MayCloseStream}
-use Rattle.headline.specs.machine.Streams.{Phase, Free, Expecting, Lined, Holding, Broken, BackingOff, Asker, Active, Idle, Conn, Multi, with_at, moved, every, broken_at, end_at}
+use Rattle.right_trace.specs.Trace.{History, Conf, Put}
+use Rattle.right_trace.specs.Time.{now, newest, response_timeout}
+use Rattle.right_trace.specs.Messages.{Octets}
+use Rattle.right_trace.specs.Places.{site, is_at, Alive, stand, is_live, is_told, reach}
+use Rattle.right_trace.specs.Frames.{came_here, has_bad, is_bad}
+use Rattle.right_trace.specs.Writes.{Written}
+use Rattle.right_trace.specs.Timers.{ReadTimerIsDue, IdleTimerIsDue}
+use Rattle.right_trace.specs.Busy.{ConnectionEnded, EndsBadly, ByFault, IdleAmidWriting}
+use Rattle.right_trace.specs.Orderly.{MayClose, OfStream, MayCloseStream}
+use Rattle.headline.specs.machine.Streams.{Phase, Free, Expecting, Lined, Holding, Broken, BackingOff, Asker, Active, Idle, Conn, Multi, moved, every, broken_at, end_at}
+use Rattle.right_trace.specs.Updates.{with_at}
 use Rattle.headline.proofs.server.Kept.{stream_site, Broke, HoldsId, PhaseFits, AskFits, listed, ModeFits, ConnFits, Kept}
 use Rattle.headline.proofs.server.Views.{each_other, at_there, same_conn}
 use Rattle.headline.proofs.server.FrameLaws.{bad_among}

@@ -8,15 +8,15 @@ use Rattle.client_request.specs.Request.{Request}
 use Rattle.client_request.specs.declared.event.What.{What}
 use Rattle.client_request.specs.declared.event.What.TheVariants.{Tick}
 use Rattle.client_request.specs.declared.event.Via.TheVariants.{Dgram, Stream}
-use Rattle.headline.specs.Trace.{History, Conf}
-use Rattle.headline.specs.Time.{now, back_off}
-use Rattle.headline.specs.Messages.{is_valid}
-use Rattle.headline.specs.Requests.{Asking, asking, asks, replied, waits, start, started, handed}
-use Rattle.headline.specs.Places.{live, demand}
-use Rattle.headline.specs.Frames.{came_here}
-use Rattle.headline.specs.Writes.{waiting_with}
-use Rattle.headline.specs.Exchanges.{is_before}
-use Rattle.headline.specs.Busy.{HappenedWithin, IsBusyAt, IsBusy, Exchanging, PlaceIsOpening, PlacesAreTaken, StreamIsOpening, StreamIsWriting, BackingOff}
+use Rattle.right_trace.specs.Trace.{History, Conf}
+use Rattle.right_trace.specs.Time.{now, back_off}
+use Rattle.right_trace.specs.Messages.{is_valid}
+use Rattle.right_trace.specs.Requests.{Asking, asking, asks, replied, waits, start, started, handed}
+use Rattle.right_trace.specs.Places.{live, demand}
+use Rattle.right_trace.specs.Frames.{came_here}
+use Rattle.right_trace.specs.Writes.{waiting_with}
+use Rattle.right_trace.specs.Exchanges.{is_before}
+use Rattle.right_trace.specs.Busy.{HappenedWithin, IsBusyAt, IsBusy, Exchanging, PlaceIsOpening, PlacesAreTaken, StreamIsOpening, StreamIsWriting, BackingOff}
 use Rattle.headline.specs.machine.Streams.{Asker, Conn}
 use Rattle.headline.specs.machine.Dgrams.{Stage, Queued, Trying, Sent, Ending, Cut, Tryer}
 use Rattle.headline.specs.machine.Served.{Served, holds, RestsNow}

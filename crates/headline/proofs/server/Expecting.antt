@@ -1,9 +1,9 @@
 -- What one server's part expects of the row's event.
 use Rattle.std.specs.Prelude.{◌≡◌, ℕ, ◌+◌, ◌<◌, ◌≤◌, true, false, Some, length, take}
 use Rattle.client_request.specs.declared.event.What.TheVariants.{Bytes, Datagram}
-use Rattle.headline.specs.Time.{read_timeout, stream_timeout}
-use Rattle.headline.specs.Messages.{Octets, answers, truncated}
-use Rattle.headline.specs.Frames.{fed, first_with}
+use Rattle.right_trace.specs.Time.{read_timeout, stream_timeout}
+use Rattle.right_trace.specs.Messages.{Octets, answers, truncated}
+use Rattle.right_trace.specs.Frames.{fed, first_with}
 use Rattle.headline.specs.machine.Streams.{Asker, Conn}
 use Rattle.headline.specs.machine.Dgrams.{Tryer}
 use Rattle.headline.specs.machine.Served.{Served}

@@ -5,13 +5,14 @@ use Rattle.std.proofs.lemmas.Bool.Decides.{nat_tests}
 use Rattle.client_request.specs.declared.event.What.{What}
 use Rattle.client_request.specs.declared.event.Out.TheVariants.{Start}
 use Rattle.client_request.specs.declared.event.Via.TheVariants.{Stream}
-use Rattle.headline.specs.Trace.{History, Conf, Put}
-use Rattle.headline.specs.Time.{now}
-use Rattle.headline.specs.Requests.{start, started, is_start, replied, handed}
-use Rattle.headline.specs.Places.{reach}
-use Rattle.headline.specs.Orderly.{AfterCutAnswer}
-use Rattle.headline.specs.Right.{ServerOutsRight}
-use Rattle.headline.specs.machine.Streams.{Puts, Asker, with_at}
+use Rattle.right_trace.specs.Trace.{History, Conf, Put}
+use Rattle.right_trace.specs.Time.{now}
+use Rattle.right_trace.specs.Requests.{start, started, is_start, replied, handed}
+use Rattle.right_trace.specs.Places.{reach}
+use Rattle.right_trace.specs.Orderly.{AfterCutAnswer}
+use Rattle.right_trace.specs.Right.{ServerOutsRight}
+use Rattle.headline.specs.machine.Streams.{Puts, Asker}
+use Rattle.right_trace.specs.Updates.{with_at}
 use Rattle.headline.specs.machine.Dgrams.{Cut, Tryer, forget}
 use Rattle.headline.specs.machine.Served.{Served, has_moved, does}
 use Rattle.headline.proofs.PartLaws.{Keeps, none_more, this_one}

@@ -6,16 +6,16 @@ use Rattle.std.proofs.lemmas.Bool.Decides.{nat_tests}
 use Rattle.client_request.specs.declared.event.What.{What}
 use Rattle.client_request.specs.declared.event.What.TheVariants.{Ask, Opened, OpenFailed, SendFailed, ShortSend, Datagram, RecvFailed, Wrote, WriteFailed, Bytes, ReadFailed, Ended, Tick}
 use Rattle.client_request.specs.declared.event.Via.TheVariants.{Stream}
-use Rattle.headline.specs.Trace.{History, Conf, ByDatagrams}
-use Rattle.headline.specs.Time.{now, row_before, EarlierRow}
-use Rattle.headline.specs.Messages.{Octets}
-use Rattle.headline.specs.Requests.{started, handed}
-use Rattle.headline.specs.Places.{Site, site, is_at, Opening, is_alive, on_event, stand, reach}
-use Rattle.headline.specs.Frames.{came}
-use Rattle.headline.specs.Writes.{waiting_with}
-use Rattle.headline.specs.Exchanges.{octets_for, IsAmong}
-use Rattle.headline.specs.Causes.{sends, Heard}
-use Rattle.headline.specs.Orderly.{use_at}
+use Rattle.right_trace.specs.Trace.{History, Conf, ByDatagrams}
+use Rattle.right_trace.specs.Time.{now, row_before, EarlierRow}
+use Rattle.right_trace.specs.Messages.{Octets}
+use Rattle.right_trace.specs.Requests.{started, handed}
+use Rattle.right_trace.specs.Places.{Site, site, is_at, Opening, is_alive, on_event, stand, reach}
+use Rattle.right_trace.specs.Frames.{came}
+use Rattle.right_trace.specs.Writes.{waiting_with}
+use Rattle.right_trace.specs.Exchanges.{octets_for, IsAmong}
+use Rattle.right_trace.specs.Causes.{sends, Heard}
+use Rattle.right_trace.specs.Orderly.{use_at}
 use Rattle.headline.specs.machine.Streams.{Asker, Conn, IsForeign}
 use Rattle.headline.specs.machine.Dgrams.{Tryer, IsIgnored}
 use Rattle.headline.specs.machine.Served.{Served, IsSettled, RestsNow}

@@ -3,11 +3,11 @@ use Rattle.std.proofs.Common.{◌≡◌, ℕ, Bool, true, false, not, ◌||◌, 
 use Rattle.std.specs.Prelude.{if◌then◌else◌}
 use Rattle.std.proofs.lemmas.Bool.{or_right}
 use Rattle.std.proofs.lemmas.Bool.Decides.{nat_tests}
-use Rattle.headline.specs.Trace.{History, Came, Put}
-use Rattle.headline.specs.Messages.{Octets, id_in, keepalive_of}
-use Rattle.headline.specs.Frames.{came_here, is_bad, has_bad, has_id, brings, first_with, last_of, but_last}
-use Rattle.headline.specs.Writes.{Written, waiting_with, is_any, IsWritten, is_unwritten}
-use Rattle.headline.specs.Timers.{told_idle, last_keepalive, idle_with, ends_loose_with}
+use Rattle.right_trace.specs.Trace.{History, Came, Put}
+use Rattle.right_trace.specs.Messages.{Octets, id_in, keepalive_of}
+use Rattle.right_trace.specs.Frames.{came_here, is_bad, has_bad, has_id, brings, first_with, last_of, but_last}
+use Rattle.right_trace.specs.Writes.{Written, waiting_with, is_any, IsWritten, is_unwritten}
+use Rattle.right_trace.specs.Timers.{told_idle, last_keepalive, idle_with, ends_loose_with}
 
 pub brings_more : (id : ℕ) (ms : List Octets) (f : Octets) → brings id (ms ++ f ∷ []) ≡ (brings id ms || has_id id f)
 brings_more id [] f = grind arith

@@ -6,13 +6,14 @@ use Rattle.std.proofs.lemmas.Bool.Decides.{nat_tests}
 use Rattle.client_request.specs.Request.{Request}
 use Rattle.client_request.specs.declared.event.What.{What}
 use Rattle.client_request.specs.declared.event.What.TheVariants.{Tick}
-use Rattle.headline.specs.Trace.{History}
-use Rattle.headline.specs.Time.{now, response_timeout}
-use Rattle.headline.specs.Messages.{Octets, id_in, keepalive_of}
-use Rattle.headline.specs.Frames.{is_bad, has_id}
-use Rattle.headline.specs.Writes.{Written, waiting_with, is_unwritten}
-use Rattle.headline.specs.Timers.{told_idle}
-use Rattle.headline.specs.machine.Streams.{Phase, Free, Expecting, Lined, Holding, Broken, BackingOff, Asker, Mode, Active, Conn, Multi, with_at, framed, SomeIdHeld, SomeoneLined, LeavesMode, Stays, Rests}
+use Rattle.right_trace.specs.Trace.{History}
+use Rattle.right_trace.specs.Time.{now, response_timeout}
+use Rattle.right_trace.specs.Messages.{Octets, id_in, keepalive_of}
+use Rattle.right_trace.specs.Frames.{is_bad, has_id}
+use Rattle.right_trace.specs.Writes.{Written, waiting_with, is_unwritten}
+use Rattle.right_trace.specs.Timers.{told_idle}
+use Rattle.headline.specs.machine.Streams.{Phase, Free, Expecting, Lined, Holding, Broken, BackingOff, Asker, Mode, Active, Conn, Multi, framed, SomeIdHeld, SomeoneLined, LeavesMode, Stays, Rests}
+use Rattle.right_trace.specs.Updates.{with_at}
 use Rattle.headline.proofs.server.Kept.{HoldsId, PhaseFits, listed, HoldsSince, EndsSo, ModeFits, LeftFits, ConnFits, Kept}
 use Rattle.headline.proofs.server.Views.{each_at, at_there, quiet_by_now}
 use Rattle.headline.proofs.server.FrameLaws.{bad_more, waits_more, waits_freed, idle_more, ends_unwritten, ends_unknown}

@@ -5,17 +5,18 @@ use Rattle.client_request.specs.declared.event.What.{What}
 use Rattle.client_request.specs.declared.event.What.TheVariants.{Tick}
 use Rattle.client_request.specs.declared.event.Out.TheVariants.{Close}
 use Rattle.client_request.specs.declared.event.Via.TheVariants.{Stream}
-use Rattle.headline.specs.Trace.{History, Conf, Put}
-use Rattle.headline.specs.Time.{now}
-use Rattle.headline.specs.Messages.{Octets, id_in}
-use Rattle.headline.specs.Places.{reach}
-use Rattle.headline.specs.Frames.{has_bad}
-use Rattle.headline.specs.Writes.{Written}
-use Rattle.headline.specs.Orderly.{BadFrame, IdleTimer}
-use Rattle.headline.specs.Busy.{ByBadFrame}
-use Rattle.headline.specs.machine.Streams.{Act, Puts, Gives, Nothing, Asker, Conn, Multi, with_at, Mode, Active, framed, LeavesMode, Stays, Rests, TakesFrame}
+use Rattle.right_trace.specs.Trace.{History, Conf, Put}
+use Rattle.right_trace.specs.Time.{now}
+use Rattle.right_trace.specs.Messages.{Octets, id_in}
+use Rattle.right_trace.specs.Places.{reach}
+use Rattle.right_trace.specs.Frames.{has_bad}
+use Rattle.right_trace.specs.Writes.{Written}
+use Rattle.right_trace.specs.Orderly.{BadFrame, IdleTimer}
+use Rattle.right_trace.specs.Busy.{ByBadFrame}
+use Rattle.headline.specs.machine.Streams.{Act, Puts, Gives, Nothing, Asker, Conn, Multi, Mode, Active, framed, LeavesMode, Stays, Rests, TakesFrame}
+use Rattle.right_trace.specs.Updates.{with_at}
 use Rattle.headline.specs.machine.Served.{Served, does, frames_left, outs_of}
-use Rattle.headline.specs.Right.{ServerOutsRight}
+use Rattle.right_trace.specs.Right.{ServerOutsRight}
 use Rattle.headline.proofs.PartLaws.{Keeps, none_more}
 use Rattle.headline.proofs.server.Kept.{ConnFits, Kept}
 use Rattle.headline.proofs.server.Views.{each_other, at_here, at_there}

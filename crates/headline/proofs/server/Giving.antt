@@ -9,15 +9,16 @@ use Rattle.client_request.specs.declared.event.What.TheVariants.{Bytes, Tick}
 use Rattle.client_request.specs.declared.event.Out.TheVariants.{Close}
 use Rattle.client_request.specs.declared.event.Via.TheVariants.{Stream}
 use Rattle.client_request.specs.Request.{Request}
-use Rattle.headline.specs.Trace.{History, Conf, Came, Put, put_all}
-use Rattle.headline.specs.Time.{now, row_before, EarlierRow, stream_timeout}
-use Rattle.headline.specs.Messages.{Octets, answers, id_in, truncated, IsComposingFault}
-use Rattle.headline.specs.Requests.{is_start, start, replied}
-use Rattle.headline.specs.Places.{reach}
-use Rattle.headline.specs.Frames.{came}
-use Rattle.headline.specs.Exchanges.{Comes}
-use Rattle.headline.specs.Causes.{Heard, StreamSilence}
-use Rattle.headline.specs.machine.Streams.{Act, Puts, Gives, Nothing, Phase, Asker, Conn, Multi, with_at, Moves, Takes, TakesFrame, result_of}
+use Rattle.right_trace.specs.Trace.{History, Conf, Came, Put, put_all}
+use Rattle.right_trace.specs.Time.{now, row_before, EarlierRow, stream_timeout}
+use Rattle.right_trace.specs.Messages.{Octets, answers, id_in, truncated, IsComposingFault}
+use Rattle.right_trace.specs.Requests.{is_start, start, replied}
+use Rattle.right_trace.specs.Places.{reach}
+use Rattle.right_trace.specs.Frames.{came}
+use Rattle.right_trace.specs.Exchanges.{Comes}
+use Rattle.right_trace.specs.Causes.{Heard, StreamSilence}
+use Rattle.headline.specs.machine.Streams.{Act, Puts, Gives, Nothing, Phase, Asker, Conn, Multi, Moves, Takes, TakesFrame, result_of}
+use Rattle.right_trace.specs.Updates.{with_at}
 use Rattle.headline.specs.machine.Dgrams.{Stage, Queued, Trying, Sent, Ending, Cut, Tryer, Dgrams, Tries, Meets, stage_of}
 use Rattle.headline.specs.machine.Served.{Served, IsSettled, IsInTime, holds, outs_of, posts_of, has_moved, does, Acts, Settles, AsItIs, WithResult}
 use Rattle.headline.specs.machine.Part.{Post, Act as Step, IsPosted}

@@ -8,18 +8,19 @@ use Rattle.client_request.specs.declared.event.What.{What}
 use Rattle.client_request.specs.declared.event.What.TheVariants.{Datagram, Bytes}
 use Rattle.client_request.specs.declared.event.Out.TheVariants.{Start, OpenStream, Write, Close}
 use Rattle.client_request.specs.declared.event.Via.TheVariants.{Stream}
-use Rattle.headline.specs.Trace.{History, Conf, Put, put_all}
-use Rattle.headline.specs.Time.{now, read_timeout, response_timeout, stream_timeout}
-use Rattle.headline.specs.Messages.{Octets, answers, truncated, id_in}
-use Rattle.headline.specs.Places.{site, is_of_kind, is_told, reach}
-use Rattle.headline.specs.Writes.{Written}
-use Rattle.headline.specs.Frames.{is_bad, first_with, fed}
-use Rattle.headline.specs.Timers.{ReadTimerIsDue}
-use Rattle.headline.specs.machine.Streams.{Act, Puts, Gives, Nothing, Phase, Asker, Conn, Multi, with_at, Moves, Takes, TakesFrame, result_of}
+use Rattle.right_trace.specs.Trace.{History, Conf, Put, put_all}
+use Rattle.right_trace.specs.Time.{now, read_timeout, response_timeout, stream_timeout}
+use Rattle.right_trace.specs.Messages.{Octets, answers, truncated, id_in}
+use Rattle.right_trace.specs.Places.{site, is_of_kind, is_told, reach}
+use Rattle.right_trace.specs.Writes.{Written}
+use Rattle.right_trace.specs.Frames.{is_bad, first_with, fed}
+use Rattle.right_trace.specs.Timers.{ReadTimerIsDue}
+use Rattle.headline.specs.machine.Streams.{Act, Puts, Gives, Nothing, Phase, Asker, Conn, Multi, Moves, Takes, TakesFrame, result_of}
+use Rattle.right_trace.specs.Updates.{with_at}
 use Rattle.headline.specs.machine.Dgrams.{Stage, Queued, Trying, Sent, Ending, Cut, Tryer, Dgrams, Tries, Meets, stage_of}
 use Rattle.headline.specs.machine.Served.{Served, holds, outs_of, posts_of, has_moved, does, Acts, Settles, AsItIs, WithResult}
 use Rattle.headline.proofs.server.Expecting.{Expects, ByDatagram, ByOctets, InFrames}
-use Rattle.headline.specs.Coming.{IsExcused}
+use Rattle.right_trace.specs.Coming.{IsExcused}
 use Rattle.headline.specs.machine.Part.{Act as Step, IsPosted}
 use Rattle.headline.proofs.PartLaws.{Goes}
 use Rattle.headline.proofs.server.Kept.{HoldsId, PhaseFits, IdleFits, ModeFits}

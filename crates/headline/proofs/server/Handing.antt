@@ -8,22 +8,23 @@ use Rattle.client_request.specs.declared.event.What.{What}
 use Rattle.client_request.specs.declared.event.Out.TheVariants.{Start}
 use Rattle.client_request.specs.declared.event.Via.{Via}
 use Rattle.client_request.specs.declared.event.Via.TheVariants.{Dgram, Stream}
-use Rattle.headline.specs.Trace.{History, Conf, Put, put_all}
-use Rattle.headline.specs.Time.{now}
-use Rattle.headline.specs.Messages.{Octets}
-use Rattle.headline.specs.Requests.{asking, same_via, is_start, start, started, handed}
-use Rattle.headline.specs.Places.{site, reach}
-use Rattle.headline.specs.Frames.{came_here}
-use Rattle.headline.specs.Writes.{waiting_with}
-use Rattle.headline.specs.Exchanges.{octets_for, is_before, waited_for, IsAmong, Comes}
-use Rattle.headline.specs.Orderly.{use_at, FirstDatagram, FirstStream}
-use Rattle.headline.specs.machine.Streams.{Act, Puts, Asker, Multi, with_at}
+use Rattle.right_trace.specs.Trace.{History, Conf, Put, put_all}
+use Rattle.right_trace.specs.Time.{now}
+use Rattle.right_trace.specs.Messages.{Octets}
+use Rattle.right_trace.specs.Requests.{asking, same_via, is_start, start, started, handed}
+use Rattle.right_trace.specs.Places.{site, reach}
+use Rattle.right_trace.specs.Frames.{came_here}
+use Rattle.right_trace.specs.Writes.{waiting_with}
+use Rattle.right_trace.specs.Exchanges.{octets_for, is_before, waited_for, IsAmong, Comes}
+use Rattle.right_trace.specs.Orderly.{use_at, FirstDatagram, FirstStream}
+use Rattle.headline.specs.machine.Streams.{Act, Puts, Asker, Multi}
+use Rattle.right_trace.specs.Updates.{with_at}
 use Rattle.headline.specs.machine.Dgrams.{Queued, Ending, Tryer}
 use Rattle.headline.specs.machine.Server.{Server}
 use Rattle.headline.specs.machine.Served.{Served, holds, has_moved, does, Starts, IsHanded}
 use Rattle.headline.proofs.server.Expecting.{Expects, ByDatagram, ByOctets, InFrames}
-use Rattle.headline.specs.Owed.{IsOwed}
-use Rattle.headline.specs.Right.{ServerOutsRight}
+use Rattle.right_trace.specs.Owed.{IsOwed}
+use Rattle.right_trace.specs.Right.{ServerOutsRight}
 use Rattle.headline.specs.machine.Part.{Act as Step, IsPosted}
 use Rattle.headline.proofs.PartLaws.{Keeps, Gives, Tells, Late, Goes, this_one, or_this}
 use Rattle.headline.proofs.server.Kept.{Kept}

@@ -6,20 +6,20 @@ use Rattle.client_request.specs.declared.event.Event.{Event}
 use Rattle.client_request.specs.declared.event.Out.{Out}
 use Rattle.client_request.specs.declared.event.Out.TheVariants.{Start, Close}
 use Rattle.client_request.specs.declared.event.Via.TheVariants.{Dgram, Stream}
-use Rattle.headline.specs.Trace.{History, Conf, Came, Put, put_all}
-use Rattle.headline.specs.Time.{now, newest}
-use Rattle.headline.specs.Messages.{Octets}
-use Rattle.headline.specs.Requests.{start, started, asking, handed}
-use Rattle.headline.specs.Places.{site, closed_here, is_close, reach}
-use Rattle.headline.specs.Frames.{first_with}
-use Rattle.headline.specs.Writes.{waiting_with}
-use Rattle.headline.specs.Timers.{ReadTimerIsDue}
-use Rattle.headline.specs.Exchanges.{octets_for, is_before, Comes}
-use Rattle.headline.specs.Causes.{Heard}
+use Rattle.right_trace.specs.Trace.{History, Conf, Came, Put, put_all}
+use Rattle.right_trace.specs.Time.{now, newest}
+use Rattle.right_trace.specs.Messages.{Octets}
+use Rattle.right_trace.specs.Requests.{start, started, asking, handed}
+use Rattle.right_trace.specs.Places.{site, closed_here, is_close, reach}
+use Rattle.right_trace.specs.Frames.{first_with}
+use Rattle.right_trace.specs.Writes.{waiting_with}
+use Rattle.right_trace.specs.Timers.{ReadTimerIsDue}
+use Rattle.right_trace.specs.Exchanges.{octets_for, is_before, Comes}
+use Rattle.right_trace.specs.Causes.{Heard}
 use Rattle.headline.specs.machine.Streams.{Asker, IsForeign}
 use Rattle.headline.specs.machine.Dgrams.{Tryer}
 use Rattle.headline.specs.machine.Served.{Served, holds, row_begun, Acts, RestsNow}
-use Rattle.headline.specs.Coming.{IsExcused}
+use Rattle.right_trace.specs.Coming.{IsExcused}
 use Rattle.headline.specs.machine.Part.{Act as Step}
 use Rattle.headline.proofs.server.Kept.{stream_site}
 use Rattle.headline.proofs.server.Coming.{site_past, kind_all}

@@ -7,12 +7,13 @@ use Rattle.client_request.specs.declared.event.What.{What}
 use Rattle.client_request.specs.declared.event.Out.{Out}
 use Rattle.client_request.specs.declared.event.Out.TheVariants.{OpenStream, Close}
 use Rattle.client_request.specs.declared.event.Via.TheVariants.{Dgram, Stream}
-use Rattle.headline.specs.Trace.{History, Conf, ByDatagrams, Put}
-use Rattle.headline.specs.Messages.{Octets}
-use Rattle.headline.specs.Requests.{start}
-use Rattle.headline.specs.Places.{Site, site, is_site, is_of_kind, reach}
-use Rattle.headline.specs.Orderly.{use_at}
-use Rattle.headline.specs.machine.Streams.{Act, Asker, Conn, Multi, with_at}
+use Rattle.right_trace.specs.Trace.{History, Conf, ByDatagrams, Put}
+use Rattle.right_trace.specs.Messages.{Octets}
+use Rattle.right_trace.specs.Requests.{start}
+use Rattle.right_trace.specs.Places.{Site, site, is_site, is_of_kind, reach}
+use Rattle.right_trace.specs.Orderly.{use_at}
+use Rattle.headline.specs.machine.Streams.{Act, Asker, Conn, Multi}
+use Rattle.right_trace.specs.Updates.{with_at}
 use Rattle.headline.specs.machine.Dgrams.{Stage, Queued, Trying, Sent, Ending, Cut, Tryer, Dgrams, leave, forget}
 use Rattle.headline.specs.machine.Server.{Server}
 use Rattle.headline.specs.machine.Served.{Served, IsSettled, has_moved, does, Cancels, IsGivenUp}

@@ -6,15 +6,15 @@ use Rattle.client_request.specs.declared.event.What.{What}
 use Rattle.client_request.specs.declared.event.What.TheVariants.{OpenFailed, Bytes}
 use Rattle.client_request.specs.declared.fault.Fault.{Fault}
 use Rattle.client_request.specs.declared.event.Via.TheVariants.{Stream}
-use Rattle.headline.specs.Trace.{History}
-use Rattle.headline.specs.Time.{now, newest, row_before, Ever, response_timeout, idle_timeout, back_off}
-use Rattle.headline.specs.Messages.{Octets, CarriesInFrame, is_valid}
-use Rattle.headline.specs.Requests.{Asking, asking, start, started}
-use Rattle.headline.specs.Places.{Site, site, is_at, Unused, Opening, Alive, on_event, stand, is_live, reach}
-use Rattle.headline.specs.Frames.{Length, fed, reading, came, came_here, has_bad}
-use Rattle.headline.specs.Writes.{Written, waiting_with, writing, taken_by, taken_first, is_unwritten}
-use Rattle.headline.specs.Timers.{quiet_with, idle_with, ends_loose_with, ReadTimerIsDue}
-use Rattle.headline.specs.Busy.{HappenedWithin}
+use Rattle.right_trace.specs.Trace.{History}
+use Rattle.right_trace.specs.Time.{now, newest, row_before, Ever, response_timeout, idle_timeout, back_off}
+use Rattle.right_trace.specs.Messages.{Octets, CarriesInFrame, is_valid}
+use Rattle.right_trace.specs.Requests.{Asking, asking, start, started}
+use Rattle.right_trace.specs.Places.{Site, site, is_at, Unused, Opening, Alive, on_event, stand, is_live, reach}
+use Rattle.right_trace.specs.Frames.{Length, fed, reading, came, came_here, has_bad}
+use Rattle.right_trace.specs.Writes.{Written, waiting_with, writing, taken_by, taken_first, is_unwritten}
+use Rattle.right_trace.specs.Timers.{quiet_with, idle_with, ends_loose_with, ReadTimerIsDue}
+use Rattle.right_trace.specs.Busy.{HappenedWithin}
 use Rattle.headline.specs.machine.Streams.{Phase, Free, Expecting, Lined, Holding, Broken, BackingOff, Asker, Mode, New, Active, Idle, Conn, Multi}
 
 -- `past` is what happened before the row, `w` its event, `pend` the same until it is taken, and then `Tick`. At a place, `fr` are the row's frames that were taken, `more` those that are still to be taken.

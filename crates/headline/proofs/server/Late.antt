@@ -10,15 +10,16 @@ use Rattle.client_request.specs.declared.event.Out.{Out}
 use Rattle.client_request.specs.declared.event.Out.TheVariants.{Start, OpenDgram, OpenStream, Send, Write, Resume, Close, Reply}
 use Rattle.client_request.specs.declared.event.Via.{Via}
 use Rattle.client_request.specs.declared.event.Via.TheVariants.{Dgram, Stream}
-use Rattle.headline.specs.Trace.{History, Conf, Put, put_all}
-use Rattle.headline.specs.Time.{now, stream_timeout}
-use Rattle.headline.specs.Messages.{Octets, answers}
-use Rattle.headline.specs.Requests.{Asking, asking, is_ask, start, started}
-use Rattle.headline.specs.Places.{Site, site}
-use Rattle.headline.specs.Frames.{came, fed, first_with}
-use Rattle.headline.specs.Writes.{waiting_with}
-use Rattle.headline.specs.Exchanges.{octets_for, is_before, waited_for, IsAmong, Comes}
-use Rattle.headline.specs.machine.Streams.{Act, Puts, Gives, Nothing, Asker, Conn, Multi, with_at, Moves, TakesFrame}
+use Rattle.right_trace.specs.Trace.{History, Conf, Put, put_all}
+use Rattle.right_trace.specs.Time.{now, stream_timeout}
+use Rattle.right_trace.specs.Messages.{Octets, answers}
+use Rattle.right_trace.specs.Requests.{Asking, asking, is_ask, start, started}
+use Rattle.right_trace.specs.Places.{Site, site}
+use Rattle.right_trace.specs.Frames.{came, fed, first_with}
+use Rattle.right_trace.specs.Writes.{waiting_with}
+use Rattle.right_trace.specs.Exchanges.{octets_for, is_before, waited_for, IsAmong, Comes}
+use Rattle.headline.specs.machine.Streams.{Act, Puts, Gives, Nothing, Asker, Conn, Multi, Moves, TakesFrame}
+use Rattle.right_trace.specs.Updates.{with_at}
 use Rattle.headline.specs.machine.Dgrams.{Stage, Queued, Trying, Sent, Ending, Cut, Tryer, Dgrams, Tries, Meets}
 use Rattle.headline.specs.machine.Served.{Served, holds, has_moved, does, outs_of, Acts, Settles, AsItIs, WithResult}
 use Rattle.headline.proofs.server.Expecting.{Expects}

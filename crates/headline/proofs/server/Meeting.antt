@@ -9,19 +9,19 @@ use Rattle.client_request.specs.declared.event.What.TheVariants.{Opened, OpenFai
 use Rattle.client_request.specs.declared.event.Out.{Out}
 use Rattle.client_request.specs.declared.event.Out.TheVariants.{Send, Close}
 use Rattle.client_request.specs.declared.event.Via.TheVariants.{Dgram}
-use Rattle.headline.specs.Trace.{History, Conf, Put, put_all}
-use Rattle.headline.specs.Time.{now, read_timeout}
-use Rattle.headline.specs.Messages.{Octets, answers, truncated, is_valid, base_is_read, passes_count, fits, IsComposingFault}
-use Rattle.headline.specs.Requests.{asking, replied}
-use Rattle.headline.specs.Places.{is_site, Gone, Alive, stand, is_live}
-use Rattle.headline.specs.Frames.{came}
-use Rattle.headline.specs.Exchanges.{Comes}
-use Rattle.headline.specs.Causes.{WasOpening, FailedAt, ServerCause, NotOpened, NotSent, SentShort, NotReceived, NotRead, NotComposed}
-use Rattle.headline.specs.Orderly.{OfDgram, ItsFault, ItsAnswer, InvalidBeforeItsSend}
+use Rattle.right_trace.specs.Trace.{History, Conf, Put, put_all}
+use Rattle.right_trace.specs.Time.{now, read_timeout}
+use Rattle.right_trace.specs.Messages.{Octets, answers, truncated, is_valid, base_is_read, passes_count, fits, IsComposingFault}
+use Rattle.right_trace.specs.Requests.{asking, replied}
+use Rattle.right_trace.specs.Places.{is_site, Gone, Alive, stand, is_live}
+use Rattle.right_trace.specs.Frames.{came}
+use Rattle.right_trace.specs.Exchanges.{Comes}
+use Rattle.right_trace.specs.Causes.{WasOpening, FailedAt, ServerCause, NotOpened, NotSent, SentShort, NotReceived, NotRead, NotComposed}
+use Rattle.right_trace.specs.Orderly.{OfDgram, ItsFault, ItsAnswer, InvalidBeforeItsSend}
 use Rattle.headline.specs.machine.Streams.{Act, Multi, IsForeign}
 use Rattle.headline.specs.machine.Dgrams.{IsIgnored, Meets, stage_of, Stage, Trying, Sent, Ending, Cut, Tryer, Dgrams, leave}
 use Rattle.headline.specs.machine.Served.{outs_of}
-use Rattle.headline.specs.Right.{ServerOutsRight}
+use Rattle.right_trace.specs.Right.{ServerOutsRight}
 use Rattle.headline.proofs.server.Kept.{Kept}
 use Rattle.headline.proofs.server.DgramKept.{dgram_site, owing, placed, TryingFits, Old, SentFits, StageFits, KeptD}
 use Rattle.headline.proofs.server.Views.{at_here}

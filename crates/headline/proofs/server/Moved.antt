@@ -9,15 +9,15 @@ use Rattle.client_request.specs.declared.event.Out.{Out}
 use Rattle.client_request.specs.declared.event.Out.TheVariants.{Start, OpenDgram, OpenStream, Send, Write, Resume, Close, Reply}
 use Rattle.client_request.specs.declared.event.Via.{Via}
 use Rattle.client_request.specs.declared.event.Via.TheVariants.{Dgram, Stream}
-use Rattle.headline.specs.Trace.{History, Conf, ByDatagrams, Came, Put, put_all}
-use Rattle.headline.specs.Time.{now, EarlierRow}
-use Rattle.headline.specs.Messages.{Octets}
-use Rattle.headline.specs.Requests.{start, started, is_start, same_via, handed}
-use Rattle.headline.specs.Places.{Site, site, is_site, is_at, opens_as, reach}
-use Rattle.headline.specs.Writes.{waiting_with}
-use Rattle.headline.specs.Exchanges.{octets_for, is_before, IsAmong}
-use Rattle.headline.specs.Causes.{is_send_to, try_of, sends, last_try, Heard}
-use Rattle.headline.specs.Orderly.{use_at}
+use Rattle.right_trace.specs.Trace.{History, Conf, ByDatagrams, Came, Put, put_all}
+use Rattle.right_trace.specs.Time.{now, EarlierRow}
+use Rattle.right_trace.specs.Messages.{Octets}
+use Rattle.right_trace.specs.Requests.{start, started, is_start, same_via, handed}
+use Rattle.right_trace.specs.Places.{Site, site, is_site, is_at, opens_as, reach}
+use Rattle.right_trace.specs.Writes.{waiting_with}
+use Rattle.right_trace.specs.Exchanges.{octets_for, is_before, IsAmong}
+use Rattle.right_trace.specs.Causes.{is_send_to, try_of, sends, last_try, Heard}
+use Rattle.right_trace.specs.Orderly.{use_at}
 use Rattle.headline.specs.machine.Streams.{Asker, Conn}
 use Rattle.headline.specs.machine.Dgrams.{Stage, Queued, Trying, Sent, Ending, Cut, Tryer}
 use Rattle.headline.specs.machine.Server.{Server}

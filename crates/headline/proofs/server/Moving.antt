@@ -6,17 +6,18 @@ use Rattle.std.proofs.lemmas.Bool.Decides.{nat_tests}
 use Rattle.client_request.specs.declared.event.What.{What}
 use Rattle.client_request.specs.declared.event.Out.TheVariants.{OpenStream, Write, Close}
 use Rattle.client_request.specs.declared.event.Via.TheVariants.{Stream}
-use Rattle.headline.specs.Trace.{History, Conf, Put, put_all}
-use Rattle.headline.specs.Time.{now}
-use Rattle.headline.specs.Messages.{Octets, CarriesInFrame}
-use Rattle.headline.specs.Requests.{replied, start, started, handed}
-use Rattle.headline.specs.Places.{site, is_site, is_at, opens_as, reach}
-use Rattle.headline.specs.Writes.{Written, IsWritten, waiting_with}
-use Rattle.headline.specs.Exchanges.{octets_for, IsAmong}
-use Rattle.headline.specs.Orderly.{MayWrite, ReadTimer, IdleTimer}
-use Rattle.headline.specs.Right.{ServerOutsRight}
-use Rattle.headline.specs.Busy.{ByReadTimer}
-use Rattle.headline.specs.machine.Streams.{Act, Puts, Gives, Nothing, Asker, Conn, Multi, with_at, Moves}
+use Rattle.right_trace.specs.Trace.{History, Conf, Put, put_all}
+use Rattle.right_trace.specs.Time.{now}
+use Rattle.right_trace.specs.Messages.{Octets, CarriesInFrame}
+use Rattle.right_trace.specs.Requests.{replied, start, started, handed}
+use Rattle.right_trace.specs.Places.{site, is_site, is_at, opens_as, reach}
+use Rattle.right_trace.specs.Writes.{Written, IsWritten, waiting_with}
+use Rattle.right_trace.specs.Exchanges.{octets_for, IsAmong}
+use Rattle.right_trace.specs.Orderly.{MayWrite, ReadTimer, IdleTimer}
+use Rattle.right_trace.specs.Right.{ServerOutsRight}
+use Rattle.right_trace.specs.Busy.{ByReadTimer}
+use Rattle.headline.specs.machine.Streams.{Act, Puts, Gives, Nothing, Asker, Conn, Multi, Moves}
+use Rattle.right_trace.specs.Updates.{with_at}
 use Rattle.headline.specs.machine.Served.{Served, has_moved, does, outs_of, place_after}
 use Rattle.headline.proofs.PartLaws.{Keeps, none_more}
 use Rattle.headline.proofs.server.Kept.{listed, ConnFits, Kept}

@@ -7,15 +7,16 @@ use Rattle.client_request.specs.declared.event.What.{What}
 use Rattle.client_request.specs.declared.event.Out.{Out}
 use Rattle.client_request.specs.declared.event.Out.TheVariants.{Start, OpenStream}
 use Rattle.client_request.specs.declared.event.Via.TheVariants.{Stream}
-use Rattle.headline.specs.Trace.{History, Put}
-use Rattle.headline.specs.Time.{now, newest, id_count}
-use Rattle.headline.specs.Messages.{Octets}
-use Rattle.headline.specs.Requests.{asking, start, started}
-use Rattle.headline.specs.Places.{site, is_at, Unused, Opening, Alive, on_event, stand, is_live, reach}
-use Rattle.headline.specs.Writes.{Written, held_with}
-use Rattle.headline.specs.Orderly.{MayOpenStream}
-use Rattle.headline.specs.Busy.{OpeningFailedAtOnce}
-use Rattle.headline.specs.machine.Streams.{Phase, Free, Expecting, Lined, Holding, Broken, BackingOff, Asker, Conn, Multi, with_at, moved, move, IsFull}
+use Rattle.right_trace.specs.Trace.{History, Put}
+use Rattle.right_trace.specs.Time.{now, newest, id_count}
+use Rattle.right_trace.specs.Messages.{Octets}
+use Rattle.right_trace.specs.Requests.{asking, start, started}
+use Rattle.right_trace.specs.Places.{site, is_at, Unused, Opening, Alive, on_event, stand, is_live, reach}
+use Rattle.right_trace.specs.Writes.{Written, held_with}
+use Rattle.right_trace.specs.Orderly.{MayOpenStream}
+use Rattle.right_trace.specs.Busy.{OpeningFailedAtOnce}
+use Rattle.headline.specs.machine.Streams.{Phase, Free, Expecting, Lined, Holding, Broken, BackingOff, Asker, Conn, Multi, moved, move, IsFull}
+use Rattle.right_trace.specs.Updates.{with_at}
 use Rattle.headline.proofs.server.Kept.{stream_site, PhaseFits, AskFits, OpeningFits, Kept}
 use Rattle.headline.proofs.server.Views.{each_at, at_there, same_conn}
 use Rattle.headline.proofs.server.Puts.{touches, put_same, phase_put, ask_put, opening_put, to_come_put, row_put}

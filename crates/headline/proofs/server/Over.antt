@@ -6,18 +6,18 @@ use Rattle.client_request.specs.declared.event.What.{What}
 use Rattle.client_request.specs.declared.event.What.TheVariants.{Tick}
 use Rattle.client_request.specs.declared.event.Via.{Via}
 use Rattle.client_request.specs.declared.event.Via.TheVariants.{Dgram, Stream}
-use Rattle.headline.specs.Trace.{History, Conf, put_all}
-use Rattle.headline.specs.Time.{now, stream_timeout}
-use Rattle.headline.specs.Messages.{Octets, id_in}
-use Rattle.headline.specs.Requests.{start}
-use Rattle.headline.specs.Places.{reach}
-use Rattle.headline.specs.Frames.{came_here, is_bad, brings}
-use Rattle.headline.specs.Writes.{waiting_with}
-use Rattle.headline.specs.Exchanges.{octets_for, is_before, waited_for, IsAmong}
+use Rattle.right_trace.specs.Trace.{History, Conf, put_all}
+use Rattle.right_trace.specs.Time.{now, stream_timeout}
+use Rattle.right_trace.specs.Messages.{Octets, id_in}
+use Rattle.right_trace.specs.Requests.{start}
+use Rattle.right_trace.specs.Places.{reach}
+use Rattle.right_trace.specs.Frames.{came_here, is_bad, brings}
+use Rattle.right_trace.specs.Writes.{waiting_with}
+use Rattle.right_trace.specs.Exchanges.{octets_for, is_before, waited_for, IsAmong}
 use Rattle.headline.specs.machine.Streams.{Act, Puts, Gives, Nothing, Asker, Conn, Multi, Holding, Moves, TakesFrame}
 use Rattle.headline.specs.machine.Dgrams.{Ending, Tryer, Dgrams, Tries}
 use Rattle.headline.specs.machine.Served.{Served, outs_of, posts_of, Acts, Settles, AsItIs, WithResult}
-use Rattle.headline.specs.Owed.{IsOwed}
+use Rattle.right_trace.specs.Owed.{IsOwed}
 use Rattle.headline.specs.machine.Part.{Post, Act as Step, IsPosted}
 use Rattle.headline.proofs.server.Kept.{listed, Kept}
 use Rattle.headline.proofs.server.FrameLaws.{waits_none, waits_same}

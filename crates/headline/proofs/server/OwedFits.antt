@@ -4,15 +4,15 @@ use Rattle.client_request.specs.Request.{Request}
 use Rattle.client_request.specs.declared.event.What.{What}
 use Rattle.client_request.specs.declared.event.Via.{Via}
 use Rattle.client_request.specs.declared.event.Via.TheVariants.{Stream}
-use Rattle.headline.specs.Trace.{History, Conf}
-use Rattle.headline.specs.Time.{now}
-use Rattle.headline.specs.Frames.{came}
-use Rattle.headline.specs.Exchanges.{has_answer}
+use Rattle.right_trace.specs.Trace.{History, Conf}
+use Rattle.right_trace.specs.Time.{now}
+use Rattle.right_trace.specs.Frames.{came}
+use Rattle.right_trace.specs.Exchanges.{has_answer}
 use Rattle.headline.specs.machine.Streams.{Phase, Free, Expecting, Lined, Holding, Broken, BackingOff, Asker}
 use Rattle.headline.specs.machine.Dgrams.{Stage, Sent, Tryer}
 use Rattle.headline.specs.machine.Server.{Server}
-use Rattle.headline.specs.Requests.{handed}
-use Rattle.headline.specs.Owed.{IsOwed}
+use Rattle.right_trace.specs.Requests.{handed}
+use Rattle.right_trace.specs.Owed.{IsOwed}
 
 -- by datagram: at the place where it was sent, and the event is no answer
 abbrev pub StageOwed : (w : What) (past : History) → Request → (p : ℕ) → Stage → Type 0

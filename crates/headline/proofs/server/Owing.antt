@@ -8,18 +8,19 @@ use Rattle.client_request.specs.declared.event.What.TheVariants.{SendFailed, Sho
 use Rattle.client_request.specs.declared.event.Out.TheVariants.{Start, OpenDgram, OpenStream, Send, Write, Resume, Close}
 use Rattle.client_request.specs.declared.event.Via.{Via}
 use Rattle.client_request.specs.declared.event.Via.TheVariants.{Dgram, Stream}
-use Rattle.headline.specs.Trace.{History, Conf, Put, put_all}
-use Rattle.headline.specs.Time.{now, read_timeout}
-use Rattle.headline.specs.Messages.{Octets, answers}
-use Rattle.headline.specs.Requests.{start, started, handed}
-use Rattle.headline.specs.Places.{Stand, Unused, Opening, Alive, Gone, closed, stand, is_told, reach}
-use Rattle.headline.specs.Frames.{came, came_here}
-use Rattle.headline.specs.Exchanges.{has_answer, is_before, unanswered, waited_for, IsAmong}
-use Rattle.headline.specs.machine.Streams.{Act, Puts, Gives, Nothing, Phase, Free, Expecting, Lined, Holding, Broken, BackingOff, Asker, Conn, Multi, with_at, Moves, Takes, TakesFrame}
+use Rattle.right_trace.specs.Trace.{History, Conf, Put, put_all}
+use Rattle.right_trace.specs.Time.{now, read_timeout}
+use Rattle.right_trace.specs.Messages.{Octets, answers}
+use Rattle.right_trace.specs.Requests.{start, started, handed}
+use Rattle.right_trace.specs.Places.{Stand, Unused, Opening, Alive, Gone, closed, stand, is_told, reach}
+use Rattle.right_trace.specs.Frames.{came, came_here}
+use Rattle.right_trace.specs.Exchanges.{has_answer, is_before, unanswered, waited_for, IsAmong}
+use Rattle.headline.specs.machine.Streams.{Act, Puts, Gives, Nothing, Phase, Free, Expecting, Lined, Holding, Broken, BackingOff, Asker, Conn, Multi, Moves, Takes, TakesFrame}
+use Rattle.right_trace.specs.Updates.{with_at}
 use Rattle.headline.specs.machine.Dgrams.{Stage, Queued, Trying, Sent, Ending, Cut, Tryer, Dgrams, Tries, Meets, stage_of}
 use Rattle.headline.specs.machine.Server.{Server}
 use Rattle.headline.specs.machine.Served.{Served, holds, outs_of, Acts, Settles, AsItIs, WithResult}
-use Rattle.headline.specs.Owed.{IsOwed}
+use Rattle.right_trace.specs.Owed.{IsOwed}
 use Rattle.headline.specs.machine.Part.{Act as Step}
 use Rattle.headline.proofs.PartLaws.{this_one}
 use Rattle.headline.proofs.server.DgramKept.{Old, SentFits, StageFits}

@@ -7,11 +7,11 @@ use Rattle.client_request.specs.declared.event.What.{What}
 use Rattle.client_request.specs.declared.event.Out.{Out}
 use Rattle.client_request.specs.declared.event.Out.TheVariants.{Start, OpenDgram, OpenStream, Send, Write, Resume, Close, Reply}
 use Rattle.client_request.specs.declared.event.Via.TheVariants.{Stream}
-use Rattle.headline.specs.Trace.{History, Put}
-use Rattle.headline.specs.Time.{now}
-use Rattle.headline.specs.Messages.{Octets}
-use Rattle.headline.specs.Requests.{start, started, is_start}
-use Rattle.headline.specs.Places.{is_at, stand, is_live, reach}
+use Rattle.right_trace.specs.Trace.{History, Put}
+use Rattle.right_trace.specs.Time.{now}
+use Rattle.right_trace.specs.Messages.{Octets}
+use Rattle.right_trace.specs.Requests.{start, started, is_start}
+use Rattle.right_trace.specs.Places.{is_at, stand, is_live, reach}
 use Rattle.headline.specs.machine.Streams.{Phase, Free, Expecting, Lined, Holding, Broken, BackingOff, Asker, Conn, Multi}
 use Rattle.headline.proofs.server.Kept.{PhaseFits, AskFits, OpeningFits, IsBlank, IsToCome, RowFits, Kept}
 use Rattle.headline.proofs.server.Views.{SameConn, same_conn}

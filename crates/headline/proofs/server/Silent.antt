@@ -6,16 +6,17 @@ use Rattle.std.proofs.lemmas.Bool.Decides.{nat_tests}
 use Rattle.client_request.specs.Request.{Request}
 use Rattle.client_request.specs.declared.event.What.{What}
 use Rattle.client_request.specs.declared.event.Via.TheVariants.{Stream}
-use Rattle.headline.specs.Trace.{History}
-use Rattle.headline.specs.Time.{now, Ever, response_timeout, back_off, id_count, all_ids}
-use Rattle.headline.specs.Messages.{Octets, is_valid}
-use Rattle.headline.specs.Requests.{started}
-use Rattle.headline.specs.Places.{site}
-use Rattle.headline.specs.Writes.{Written, waiting_with, is_any, held_with}
-use Rattle.headline.specs.Frames.{brings}
-use Rattle.headline.specs.Timers.{ReadTimerIsDue}
-use Rattle.headline.specs.Busy.{HappenedWithin, IdsAreUsed}
-use Rattle.headline.specs.machine.Streams.{Phase, Holding, Broken, BackingOff, Asker, Mode, New, Active, Idle, Conn, Multi, with_at, moved, move, drop, set_conn, taking, taken_on, IsFull}
+use Rattle.right_trace.specs.Trace.{History}
+use Rattle.right_trace.specs.Time.{now, Ever, response_timeout, back_off, id_count, all_ids}
+use Rattle.right_trace.specs.Messages.{Octets, is_valid}
+use Rattle.right_trace.specs.Requests.{started}
+use Rattle.right_trace.specs.Places.{site}
+use Rattle.right_trace.specs.Writes.{Written, waiting_with, is_any, held_with}
+use Rattle.right_trace.specs.Frames.{brings}
+use Rattle.right_trace.specs.Timers.{ReadTimerIsDue}
+use Rattle.right_trace.specs.Busy.{HappenedWithin, IdsAreUsed}
+use Rattle.headline.specs.machine.Streams.{Phase, Holding, Broken, BackingOff, Asker, Mode, New, Active, Idle, Conn, Multi, moved, move, drop, set_conn, taking, taken_on, IsFull}
+use Rattle.right_trace.specs.Updates.{with_at}
 use Rattle.headline.proofs.server.Kept.{stream_site, Broke, PhaseFits, AskFits, listed, Reason, HoldsSince, EndsSo, HasInvalid, ModeFits, ConnFits, Kept}
 use Rattle.headline.proofs.server.Counts.{count_same, count_more}
 use Rattle.headline.proofs.server.FrameLaws.{waits_none, waits_same}

@@ -9,18 +9,18 @@ use Rattle.client_request.specs.declared.event.Out.{Out}
 use Rattle.client_request.specs.declared.event.Out.TheVariants.{Start, OpenDgram, OpenStream, Send, Write, Resume, Close, Reply}
 use Rattle.client_request.specs.declared.event.Via.{Via}
 use Rattle.client_request.specs.declared.event.Via.TheVariants.{Dgram, Stream}
-use Rattle.headline.specs.Trace.{History, Conf, Put, put_all}
-use Rattle.headline.specs.Time.{now, read_timeout}
-use Rattle.headline.specs.Messages.{Octets}
-use Rattle.headline.specs.Requests.{is_start, start, started}
-use Rattle.headline.specs.Places.{Site, site, reach}
-use Rattle.headline.specs.Writes.{waiting_with}
-use Rattle.headline.specs.Frames.{came_here, brings}
-use Rattle.headline.specs.Exchanges.{octets_for, is_before, is_send, unanswered, waited_for, IsAmong}
+use Rattle.right_trace.specs.Trace.{History, Conf, Put, put_all}
+use Rattle.right_trace.specs.Time.{now, read_timeout}
+use Rattle.right_trace.specs.Messages.{Octets}
+use Rattle.right_trace.specs.Requests.{is_start, start, started}
+use Rattle.right_trace.specs.Places.{Site, site, reach}
+use Rattle.right_trace.specs.Writes.{waiting_with}
+use Rattle.right_trace.specs.Frames.{came_here, brings}
+use Rattle.right_trace.specs.Exchanges.{octets_for, is_before, is_send, unanswered, waited_for, IsAmong}
 use Rattle.headline.specs.machine.Streams.{Act, Puts, Gives, Nothing, Asker, Multi, Moves, Takes, TakesFrame}
 use Rattle.headline.specs.machine.Dgrams.{Tryer, Dgrams, Tries, Meets}
 use Rattle.headline.specs.machine.Served.{Served, holds, outs_of, Acts, Settles, AsItIs, WithResult}
-use Rattle.headline.specs.Owed.{IsOwed}
+use Rattle.right_trace.specs.Owed.{IsOwed}
 use Rattle.headline.specs.machine.Part.{Act as Step}
 use Rattle.headline.proofs.server.Kept.{stream_site}
 use Rattle.headline.proofs.server.DgramKept.{dgram_site}

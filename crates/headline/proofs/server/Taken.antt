@@ -6,18 +6,18 @@ use Rattle.client_request.specs.declared.event.What.TheVariants.{Opened, OpenFai
 use Rattle.client_request.specs.declared.event.Out.{Out}
 use Rattle.client_request.specs.declared.event.Out.TheVariants.{Resume, Close}
 use Rattle.client_request.specs.declared.event.Via.TheVariants.{Stream}
-use Rattle.headline.specs.Trace.{History, Conf, Put, put_all}
-use Rattle.headline.specs.Time.{now}
-use Rattle.headline.specs.Messages.{Octets}
-use Rattle.headline.specs.Requests.{replied, handed}
-use Rattle.headline.specs.Places.{is_told, Opening, on_event, reach}
-use Rattle.headline.specs.Frames.{came, fed}
-use Rattle.headline.specs.Causes.{Heard}
-use Rattle.headline.specs.Orderly.{StreamFault}
+use Rattle.right_trace.specs.Trace.{History, Conf, Put, put_all}
+use Rattle.right_trace.specs.Time.{now}
+use Rattle.right_trace.specs.Messages.{Octets}
+use Rattle.right_trace.specs.Requests.{replied, handed}
+use Rattle.right_trace.specs.Places.{is_told, Opening, on_event, reach}
+use Rattle.right_trace.specs.Frames.{came, fed}
+use Rattle.right_trace.specs.Causes.{Heard}
+use Rattle.right_trace.specs.Orderly.{StreamFault}
 use Rattle.headline.specs.machine.Streams.{Act, Puts, Gives, Nothing, Asker, Conn, Multi, Takes}
 use Rattle.headline.specs.machine.Dgrams.{Dgrams, IsIgnored}
 use Rattle.headline.specs.machine.Served.{Served, does, has_taken_it, reads_at, outs_of, place_after}
-use Rattle.headline.specs.Right.{ServerOutsRight}
+use Rattle.right_trace.specs.Right.{ServerOutsRight}
 use Rattle.headline.proofs.PartLaws.{Keeps, none_more}
 use Rattle.headline.proofs.server.Kept.{Kept}
 use Rattle.headline.proofs.server.DgramKept.{KeptD}

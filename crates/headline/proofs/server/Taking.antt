@@ -7,15 +7,16 @@ use Rattle.client_request.specs.declared.fault.Fault.{Fault}
 use Rattle.client_request.specs.declared.event.What.{What}
 use Rattle.client_request.specs.declared.event.What.TheVariants.{Ask, Opened, OpenFailed, SendFailed, ShortSend, Datagram, RecvFailed, Wrote, WriteFailed, Bytes, ReadFailed, Ended, Tick}
 use Rattle.client_request.specs.declared.event.Via.TheVariants.{Stream}
-use Rattle.headline.specs.Trace.{History}
-use Rattle.headline.specs.Time.{now, response_timeout, back_off}
-use Rattle.headline.specs.Messages.{Octets}
-use Rattle.headline.specs.Places.{is_at, Opening, Gone, on_event, stand, is_live, is_told}
-use Rattle.headline.specs.Writes.{Written, taken_by}
-use Rattle.headline.specs.Frames.{fed, reading}
-use Rattle.headline.specs.Timers.{ReadTimerIsDue}
-use Rattle.headline.specs.Busy.{HappenedWithin}
-use Rattle.headline.specs.machine.Streams.{Phase, Free, Expecting, Lined, Holding, Broken, BackingOff, Asker, Mode, New, Active, Idle, Conn, Multi, new_conn, with_at, every, expected, open_at, not_opened, set_conn, wrote_on, heard_on, fed_by, IsForeign}
+use Rattle.right_trace.specs.Trace.{History}
+use Rattle.right_trace.specs.Time.{now, response_timeout, back_off}
+use Rattle.right_trace.specs.Messages.{Octets}
+use Rattle.right_trace.specs.Places.{is_at, Opening, Gone, on_event, stand, is_live, is_told}
+use Rattle.right_trace.specs.Writes.{Written, taken_by}
+use Rattle.right_trace.specs.Frames.{fed, reading}
+use Rattle.right_trace.specs.Timers.{ReadTimerIsDue}
+use Rattle.right_trace.specs.Busy.{HappenedWithin}
+use Rattle.headline.specs.machine.Streams.{Phase, Free, Expecting, Lined, Holding, Broken, BackingOff, Asker, Mode, New, Active, Idle, Conn, Multi, new_conn, every, expected, open_at, not_opened, set_conn, wrote_on, heard_on, fed_by, IsForeign}
+use Rattle.right_trace.specs.Updates.{with_at}
 use Rattle.headline.proofs.server.Kept.{Broke, PhaseFits, AskFits, listed, Reason, HoldsSince, EndsSo, HasInvalid, ModeFits, LeftFits, octets_at, brings_to, ConnFits, OpeningFits, Kept}
 use Rattle.headline.proofs.server.Views.{each_at, at_there, ever_more}
 use Rattle.headline.proofs.server.Ending.{every_some}

@@ -8,18 +8,19 @@ use Rattle.client_request.specs.declared.event.What.{What}
 use Rattle.client_request.specs.declared.event.Out.{Out}
 use Rattle.client_request.specs.declared.event.Out.TheVariants.{OpenDgram, Close}
 use Rattle.client_request.specs.declared.event.Via.TheVariants.{Dgram, Stream}
-use Rattle.headline.specs.Trace.{History, Conf, ByDatagrams, Put, put_all}
-use Rattle.headline.specs.Time.{now, read_timeout}
+use Rattle.right_trace.specs.Trace.{History, Conf, ByDatagrams, Put, put_all}
+use Rattle.right_trace.specs.Time.{now, read_timeout}
 use Rattle.client_request.specs.Request.{Request}
-use Rattle.headline.specs.Messages.{Octets}
-use Rattle.headline.specs.Requests.{replied, handed}
-use Rattle.headline.specs.Places.{Site, site, is_site, is_at, is_live, stand, opens_as, reach}
-use Rattle.headline.specs.Causes.{NoAnswer}
-use Rattle.headline.specs.Orderly.{use_at, OfDgram, ItsTimeout}
-use Rattle.headline.specs.machine.Streams.{Act, Multi, with_at}
+use Rattle.right_trace.specs.Messages.{Octets}
+use Rattle.right_trace.specs.Requests.{replied, handed}
+use Rattle.right_trace.specs.Places.{Site, site, is_site, is_at, is_live, stand, opens_as, reach}
+use Rattle.right_trace.specs.Causes.{NoAnswer}
+use Rattle.right_trace.specs.Orderly.{use_at, OfDgram, ItsTimeout}
+use Rattle.headline.specs.machine.Streams.{Act, Multi}
+use Rattle.right_trace.specs.Updates.{with_at}
 use Rattle.headline.specs.machine.Dgrams.{Stage, Queued, Trying, Sent, Ending, Cut, Tryer, Dgrams, Tries, leave, forget}
 use Rattle.headline.specs.machine.Served.{Served, has_moved, outs_of, place_after, Settles, AsItIs, WithResult}
-use Rattle.headline.specs.Right.{ServerOutsRight}
+use Rattle.right_trace.specs.Right.{ServerOutsRight}
 use Rattle.headline.specs.machine.Part.{Act as Step}
 use Rattle.headline.proofs.PartLaws.{Keeps, none_more}
 use Rattle.headline.proofs.server.Kept.{Kept}

@@ -1,9 +1,9 @@
 -- A message that came by stream for a request that is held, and is not taken yet.
 use Rattle.std.proofs.Common.{◌≡◌, ℕ, ◌+◌, ◌<◌, true, false, Some, sym, subst, ap, ◌∙◌}
 use Rattle.client_request.specs.declared.event.What.TheVariants.{Bytes}
-use Rattle.headline.specs.Time.{stream_timeout}
-use Rattle.headline.specs.Messages.{Octets, answers}
-use Rattle.headline.specs.Frames.{Reading, fed, first_with}
+use Rattle.right_trace.specs.Time.{stream_timeout}
+use Rattle.right_trace.specs.Messages.{Octets, answers}
+use Rattle.right_trace.specs.Frames.{Reading, fed, first_with}
 use Rattle.headline.specs.machine.Streams.{Asker, Conn}
 use Rattle.headline.specs.machine.Served.{Served}
 use Rattle.headline.proofs.server.Expecting.{Expects, ByOctets, InFrames}

@@ -5,10 +5,10 @@ use Rattle.client_request.specs.declared.event.What.{What}
 use Rattle.client_request.specs.declared.event.What.TheVariants.{Ask, Opened, OpenFailed, SendFailed, ShortSend, Datagram, RecvFailed, Wrote, WriteFailed, Bytes, ReadFailed, Ended, Tick}
 use Rattle.client_request.specs.declared.event.Out.{Out}
 use Rattle.client_request.specs.declared.event.Out.TheVariants.{Start, OpenDgram, OpenStream, Send, Write, Resume, Close, Reply}
-use Rattle.headline.specs.Trace.{History, Came, Put}
-use Rattle.headline.specs.Time.{newest}
-use Rattle.headline.specs.Places.{Stand, Unused, Opening, Alive, Gone, opened, failed, closed, on_event, begun, on_out, stand, stand_untold, is_live}
-use Rattle.headline.specs.Right.{WasLive}
+use Rattle.right_trace.specs.Trace.{History, Came, Put}
+use Rattle.right_trace.specs.Time.{newest}
+use Rattle.right_trace.specs.Places.{Stand, Unused, Opening, Alive, Gone, opened, failed, closed, on_event, begun, on_out, stand, stand_untold, is_live}
+use Rattle.right_trace.specs.Right.{WasLive}
 
 -- the event told of a place that was opening, or nothing of it
 pub data Beside : (told untold : Stand) → Type 0 where

@@ -4,16 +4,17 @@ use Rattle.std.specs.Prelude.{nat_lt}
 use Rattle.std.proofs.lemmas.Bool.Decides.{nat_tests}
 use Rattle.client_request.specs.declared.event.What.{What}
 use Rattle.client_request.specs.declared.event.Via.TheVariants.{Stream}
-use Rattle.headline.specs.Trace.{History, Came, Put}
-use Rattle.headline.specs.Time.{now, Ever}
-use Rattle.headline.specs.Messages.{Octets}
-use Rattle.headline.specs.Requests.{asking, started}
-use Rattle.headline.specs.Places.{site, stand}
-use Rattle.headline.specs.Frames.{reading, came_here}
-use Rattle.headline.specs.Writes.{waiting_with, writing, is_unwritten}
-use Rattle.headline.specs.Timers.{quiet_with, idle_with, ended_loose, ends_loose_with}
-use Rattle.headline.specs.Busy.{HappenedWithin}
-use Rattle.headline.specs.machine.Streams.{Mode, New, Active, Idle, Conn, with_at}
+use Rattle.right_trace.specs.Trace.{History, Came, Put}
+use Rattle.right_trace.specs.Time.{now, Ever}
+use Rattle.right_trace.specs.Messages.{Octets}
+use Rattle.right_trace.specs.Requests.{asking, started}
+use Rattle.right_trace.specs.Places.{site, stand}
+use Rattle.right_trace.specs.Frames.{reading, came_here}
+use Rattle.right_trace.specs.Writes.{waiting_with, writing, is_unwritten}
+use Rattle.right_trace.specs.Timers.{quiet_with, idle_with, ended_loose, ends_loose_with}
+use Rattle.right_trace.specs.Busy.{HappenedWithin}
+use Rattle.headline.specs.machine.Streams.{Mode, New, Active, Idle, Conn}
+use Rattle.right_trace.specs.Updates.{with_at}
 use Rattle.headline.proofs.server.Kept.{Broke, Reason, HoldsSince, EndsSo, HasInvalid, ModeFits, ConnFits}
 
 -- Maps with one entry changed

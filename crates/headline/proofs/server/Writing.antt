@@ -8,13 +8,14 @@ use Rattle.client_request.specs.declared.event.What.{What}
 use Rattle.client_request.specs.declared.event.Out.{Out}
 use Rattle.client_request.specs.declared.event.Out.TheVariants.{Write}
 use Rattle.client_request.specs.declared.event.Via.TheVariants.{Stream}
-use Rattle.headline.specs.Trace.{History, Put}
-use Rattle.headline.specs.Time.{now, response_timeout}
-use Rattle.headline.specs.Messages.{Octets, CarriesInFrame}
-use Rattle.headline.specs.Requests.{Asking, asking, started}
-use Rattle.headline.specs.Writes.{Written, waiting_with, writing, taken_by, taken_first}
-use Rattle.headline.specs.Timers.{ReadTimerIsDue}
-use Rattle.headline.specs.machine.Streams.{Phase, Free, Expecting, Lined, Holding, Broken, BackingOff, Asker, Mode, New, Active, Idle, Conn, Multi, with_at, moved, move, set_conn, taking, written_on}
+use Rattle.right_trace.specs.Trace.{History, Put}
+use Rattle.right_trace.specs.Time.{now, response_timeout}
+use Rattle.right_trace.specs.Messages.{Octets, CarriesInFrame}
+use Rattle.right_trace.specs.Requests.{Asking, asking, started}
+use Rattle.right_trace.specs.Writes.{Written, waiting_with, writing, taken_by, taken_first}
+use Rattle.right_trace.specs.Timers.{ReadTimerIsDue}
+use Rattle.headline.specs.machine.Streams.{Phase, Free, Expecting, Lined, Holding, Broken, BackingOff, Asker, Mode, New, Active, Idle, Conn, Multi, moved, move, set_conn, taking, written_on}
+use Rattle.right_trace.specs.Updates.{with_at}
 use Rattle.headline.proofs.server.Kept.{HoldsId, PhaseFits, AskFits, listed, Reason, HoldsSince, EndsSo, HasInvalid, ModeFits, LeftFits, ConnFits, Kept}
 use Rattle.headline.proofs.server.Views.{each_at, at_here, at_there, same_conn, quiet_by_now}
 use Rattle.headline.proofs.server.Puts.{touches, put_same, phase_put, ask_put, opening_put, to_come_put, row_put}

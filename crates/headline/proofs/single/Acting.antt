@@ -8,13 +8,13 @@ use Rattle.client_request.specs.declared.error.Error.{Error}
 use Rattle.client_request.specs.declared.event.What.{What}
 use Rattle.client_request.specs.declared.event.Out.{Out}
 use Rattle.client_request.specs.declared.event.Out.TheVariants.{OpenDgram, Close, Reply}
-use Rattle.headline.specs.Trace.{Conf}
-use Rattle.headline.specs.Time.{read_timeout}
-use Rattle.headline.specs.Messages.{Octets}
-use Rattle.headline.specs.Settings.{Settings, defers_nothing}
-use Rattle.headline.specs.Keys.{is_cacheable}
-use Rattle.headline.specs.Parts.{IsIn}
-use Rattle.headline.specs.Validity.{validity_of_message, waits_for_others}
+use Rattle.right_trace.specs.Trace.{Conf}
+use Rattle.right_trace.specs.Time.{read_timeout}
+use Rattle.right_trace.specs.Messages.{Octets}
+use Rattle.right_trace.specs.Settings.{Settings, defers_nothing}
+use Rattle.right_trace.specs.Keys.{is_cacheable}
+use Rattle.right_trace.specs.Parts.{IsIn}
+use Rattle.right_trace.specs.Validity.{validity_of_message, waits_for_others}
 use Rattle.headline.specs.machine.Part.{Act}
 use Rattle.headline.specs.machine.Streams.{Puts, Nothing}
 use Rattle.headline.specs.machine.Dgrams.{Dgrams, Tryer}
@@ -23,7 +23,8 @@ use Rattle.headline.specs.machine.Client.{Waiting, Leaving, Upper, Server_moves,
 use Rattle.headline.specs.machine.Dgrams as dgrams
 use Rattle.headline.specs.machine.Served as served_by
 use Rattle.headline.specs.machine.Server as server
-use Rattle.headline.specs.machine.Single.{Stage, Queued, Loose, Trying, Sent, Held, State, Done, staged, with_at, loosen, try, forget, lose, put_back, give_held, give_to, give, settle, finish, retry, expire, act_at, act, Pick, IsDue, Quiet, Fires, Rests, Fires_one}
+use Rattle.headline.specs.machine.Single.{Stage, Queued, Loose, Trying, Sent, Held, State, Done, staged, loosen, try, forget, lose, put_back, give_held, give_to, give, settle, finish, retry, expire, act_at, act, Pick, IsDue, Quiet, Fires, Rests, Fires_one}
+use Rattle.right_trace.specs.Updates.{with_at}
 use Rattle.headline.proofs.client.Beginning.{waits_not}
 use Rattle.headline.proofs.single.Standing.{placed, Standing, here, there, stands_so, gives_on, leaves_queue}
 use Rattle.headline.proofs.single.Standing as standing

@@ -8,10 +8,10 @@ use Rattle.client_request.specs.declared.error.Error.{Error}
 use Rattle.client_request.specs.declared.event.What.{What}
 use Rattle.client_request.specs.declared.event.Out.{Out}
 use Rattle.client_request.specs.declared.event.Out.TheVariants.{OpenDgram, Reply}
-use Rattle.headline.specs.Trace.{Conf}
-use Rattle.headline.specs.Messages.{Octets}
-use Rattle.headline.specs.Settings.{Settings}
-use Rattle.headline.specs.Parts.{IsIn}
+use Rattle.right_trace.specs.Trace.{Conf}
+use Rattle.right_trace.specs.Messages.{Octets}
+use Rattle.right_trace.specs.Settings.{Settings}
+use Rattle.right_trace.specs.Parts.{IsIn}
 use Rattle.headline.specs.machine.Streams.{Multi, Puts}
 use Rattle.headline.specs.machine.Dgrams.{Dgrams, Tryer}
 use Rattle.headline.specs.machine.Served.{Served, served, has_moved, does, IsSettled, AsItIs}

@@ -10,13 +10,13 @@ use Rattle.client_request.specs.declared.event.What.{What}
 use Rattle.client_request.specs.declared.event.What.TheVariants.{Ask, Opened, OpenFailed, SendFailed, ShortSend, Datagram, RecvFailed, Wrote, WriteFailed, Bytes, ReadFailed, Ended, Tick}
 use Rattle.client_request.specs.declared.event.Out.TheVariants.{Start, OpenDgram, Send, Close, Reply}
 use Rattle.client_request.specs.declared.event.Via.TheVariants.{Dgram}
-use Rattle.headline.specs.Trace.{Conf, Use, ByDatagrams}
-use Rattle.headline.specs.Time.{read_timeout}
-use Rattle.headline.specs.Messages.{Octets, Composes, answers, truncated, under}
-use Rattle.headline.specs.Requests.{is_ask}
-use Rattle.headline.specs.Settings.{Settings, defers_nothing}
-use Rattle.headline.specs.Orderly.{use_at}
-use Rattle.headline.specs.Timely.{IsAskedInOctets}
+use Rattle.right_trace.specs.Trace.{Conf, Use, ByDatagrams}
+use Rattle.right_trace.specs.Time.{read_timeout}
+use Rattle.right_trace.specs.Messages.{Octets, Composes, answers, truncated, under}
+use Rattle.right_trace.specs.Requests.{is_ask}
+use Rattle.right_trace.specs.Settings.{Settings, defers_nothing}
+use Rattle.right_trace.specs.Orderly.{use_at}
+use Rattle.right_trace.specs.Timely.{IsAskedInOctets}
 use Rattle.headline.specs.Theorem.{IsUncut}
 use Rattle.headline.specs.machine.Streams.{Multi, Puts, Nothing, IsForeign}
 use Rattle.headline.specs.machine.Dgrams.{Dgrams, Tryer, TriesAt, SentAt, IsIgnored}
@@ -26,7 +26,8 @@ use Rattle.headline.specs.machine.Streams as multi
 use Rattle.headline.specs.machine.Dgrams as dgrams
 use Rattle.headline.specs.machine.Server as server
 use Rattle.headline.specs.machine.Client as upper
-use Rattle.headline.specs.machine.Single.{Stage, Queued, Loose, Trying, Sent, Held, State, Done, staged, with_at, nothing, loosen, try, settle, finish, Quiet, with_held, with_owner, dispatched, dispatch, send_composed, failed_at, broken_at, message_at, newcomer, admit, line_up, settle_in, enter, refuse, refusal_of, enter_or_refuse, opened_at, content}
+use Rattle.headline.specs.machine.Single.{Stage, Queued, Loose, Trying, Sent, Held, State, Done, staged, nothing, loosen, try, settle, finish, Quiet, with_held, with_owner, dispatched, dispatch, send_composed, failed_at, broken_at, message_at, newcomer, admit, line_up, settle_in, enter, refuse, refusal_of, enter_or_refuse, opened_at, content}
+use Rattle.right_trace.specs.Updates.{with_at}
 use Rattle.headline.proofs.Carried.{carried_by}
 use Rattle.headline.proofs.single.Standing.{placed, Standing, here, there, stands_so, gives_on}
 use Rattle.headline.proofs.single.Standing as standing

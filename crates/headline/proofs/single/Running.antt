@@ -9,13 +9,13 @@ use Rattle.client_request.specs.declared.event.What.{What}
 use Rattle.client_request.specs.declared.event.What.TheVariants.{Ask, Opened, OpenFailed, SendFailed, ShortSend, Datagram, RecvFailed, Wrote, WriteFailed, Bytes, ReadFailed, Ended, Tick}
 use Rattle.client_request.specs.declared.event.Out.{Out}
 use Rattle.client_request.specs.declared.event.Row.{Row}
-use Rattle.headline.specs.Trace.{Conf, Use, ByDatagrams}
-use Rattle.headline.specs.Time.{read_timeout}
-use Rattle.headline.specs.Messages.{Octets, Composes}
-use Rattle.headline.specs.Requests.{is_ask}
-use Rattle.headline.specs.Settings.{Settings, defers_nothing}
-use Rattle.headline.specs.Orderly.{use_at}
-use Rattle.headline.specs.Timely.{IsAskedInOctets, AllAskedInOctets}
+use Rattle.right_trace.specs.Trace.{Conf, Use, ByDatagrams}
+use Rattle.right_trace.specs.Time.{read_timeout}
+use Rattle.right_trace.specs.Messages.{Octets, Composes}
+use Rattle.right_trace.specs.Requests.{is_ask}
+use Rattle.right_trace.specs.Settings.{Settings, defers_nothing}
+use Rattle.right_trace.specs.Orderly.{use_at}
+use Rattle.right_trace.specs.Timely.{IsAskedInOctets, AllAskedInOctets}
 use Rattle.headline.specs.Theorem.{IsUncut, NoneIsTruncated, RunsOfOneServerAreRuns, EveryRunOfOneServerIsRight}
 use Rattle.headline.specs.machine.Streams.{Multi, unheard, begin_row}
 use Rattle.headline.specs.machine.Dgrams.{Dgrams, Tryer, IsIgnored}

@@ -5,8 +5,9 @@ use Rattle.std.proofs.lemmas.Bool.Decides.{nat_tests}
 use Rattle.std.proofs.lemmas.Bool.{cases_eq}
 use Rattle.client_request.specs.Request.{Request}
 use Rattle.client_request.specs.Carries.{IsOfOctets}
-use Rattle.headline.specs.Parts.{IsIn}
-use Rattle.headline.specs.machine.Single.{Stage, Queued, Loose, Trying, Sent, Held, State, with_at, staged, loosen, try, forget, lose, put_back, give_held, give_to, give, remove, line_up, admit, newcomer, dispatch, dispatched}
+use Rattle.right_trace.specs.Parts.{IsIn}
+use Rattle.headline.specs.machine.Single.{Stage, Queued, Loose, Trying, Sent, Held, State, staged, loosen, try, forget, lose, put_back, give_held, give_to, give, remove, line_up, admit, newcomer, dispatch, dispatched}
+use Rattle.right_trace.specs.Updates.{with_at}
 
 abbrev pub placed : Stage → Option ℕ
 placed (Trying p) = Some p

@@ -14,22 +14,22 @@ use Rattle.client_request.specs.declared.fault.Fault.TheVariants.{Refused}
 use Rattle.client_request.specs.declared.event.What.TheVariants.{OpenFailed, Datagram}
 use Rattle.client_request.specs.declared.event.Out.TheVariants.{Close}
 use Rattle.client_request.specs.declared.event.Via.TheVariants.{Dgram, Stream}
-use Rattle.headline.specs.Trace.{History, Came, Put}
-use Rattle.headline.specs.Time.{read_timeout}
-use Rattle.headline.specs.Messages.{Octets, CarriesBy, id_in, answers, truncated, base_is_read, passes_count, fits, is_valid}
-use Rattle.headline.specs.Keys.{Do, Ad, Plain, Covers, question_of, key_of, is_cacheable}
-use Rattle.headline.specs.Parts.{Parts, Says, read_parts, known_parts, lowered_parts}
-use Rattle.headline.specs.Validity.{second, validity_of_message, is_deferred}
-use Rattle.headline.specs.Views.{view_of, view_validity}
-use Rattle.headline.specs.Coming.{CameFor}
-use Rattle.headline.specs.Replies.{IsFreshReply, InThisRow}
-use Rattle.headline.specs.Causes.{NotOpened}
-use Rattle.headline.specs.Errors.{Here, ByServer, NoServer, Own, Kept}
+use Rattle.right_trace.specs.Trace.{History, Came, Put}
+use Rattle.right_trace.specs.Time.{read_timeout}
+use Rattle.right_trace.specs.Messages.{Octets, CarriesBy, id_in, answers, truncated, base_is_read, passes_count, fits, is_valid}
+use Rattle.right_trace.specs.Keys.{Do, Ad, Plain, Covers, question_of, key_of, is_cacheable}
+use Rattle.right_trace.specs.Parts.{Parts, Says, read_parts, known_parts, lowered_parts}
+use Rattle.right_trace.specs.Validity.{second, validity_of_message, is_deferred}
+use Rattle.right_trace.specs.Views.{view_of, view_validity}
+use Rattle.right_trace.specs.Coming.{CameFor}
+use Rattle.right_trace.specs.Replies.{IsFreshReply, InThisRow}
+use Rattle.right_trace.specs.Causes.{NotOpened}
+use Rattle.right_trace.specs.Errors.{Here, ByServer, NoServer, Own, Kept}
 use Rattle.headline.specs.examples.Messages.{plain_request, ad_request, cd_request, do_request, as_datagram, as_frame, answer, signed_answer, unsigned_answer}
-use Rattle.headline.specs.Settings.{first_settings}
+use Rattle.right_trace.specs.Settings.{first_settings}
 use Rattle.headline.specs.examples.Rows.{so_far, by_datagrams}
 use Rattle.headline.specs.examples.Cache.{asked_again, refused_twice, WorkedCache}
-use Rattle.headline.proofs.client.Asked.{covers_refl}
+use Rattle.right_trace.proofs.Asked.{covers_refl}
 
 -- the requests as they are sent
 pub carried : CarriesBy Dgram (as_datagram 18 52) plain_request 4660

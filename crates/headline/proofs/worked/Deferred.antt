@@ -19,16 +19,17 @@ use Rattle.client_request.specs.declared.event.Row.{Row}
 use Rattle.client_request.specs.declared.event.Via.TheVariants.{Dgram}
 use Rattle.client_request.specs.declared.event.What.{What}
 use Rattle.client_request.specs.declared.event.What.TheVariants.{Ask, Opened, OpenFailed, Datagram}
-use Rattle.headline.specs.Trace.{ByDatagrams}
-use Rattle.headline.specs.Time.{read_timeout}
-use Rattle.headline.specs.Messages.{Octets, CarriesBy, base_is_read, answers, truncated}
-use Rattle.headline.specs.Requests.{is_ask}
-use Rattle.headline.specs.Right.{Right}
-use Rattle.headline.specs.Timely.{Timely}
-use Rattle.headline.specs.Validity.{second, validity_of_message, waits_for_others}
-use Rattle.headline.specs.Keys.{key_of, question_of, is_cacheable}
-use Rattle.headline.specs.Parts.{read_parts}
-use Rattle.headline.specs.machine.Streams.{Act, Puts, Nothing, Multi, with_at, IsForeign}
+use Rattle.right_trace.specs.Trace.{ByDatagrams}
+use Rattle.right_trace.specs.Time.{read_timeout}
+use Rattle.right_trace.specs.Messages.{Octets, CarriesBy, base_is_read, answers, truncated}
+use Rattle.right_trace.specs.Requests.{is_ask}
+use Rattle.right_trace.specs.Right.{Right}
+use Rattle.right_trace.specs.Timely.{Timely}
+use Rattle.right_trace.specs.Validity.{second, validity_of_message, waits_for_others}
+use Rattle.right_trace.specs.Keys.{key_of, question_of, is_cacheable}
+use Rattle.right_trace.specs.Parts.{read_parts}
+use Rattle.headline.specs.machine.Streams.{Act, Puts, Nothing, Multi, IsForeign}
+use Rattle.right_trace.specs.Updates.{with_at}
 use Rattle.headline.specs.machine.Dgrams as dgrams
 use Rattle.headline.specs.machine.Dgrams.{Tryer, Dgrams, IsIgnored}
 use Rattle.headline.specs.machine.Part.{ServerPart, Act as Step}

@@ -12,11 +12,11 @@ use Rattle.client_request.specs.declared.event.What.{What}
 use Rattle.client_request.specs.declared.event.What.TheVariants.{RecvFailed}
 use Rattle.client_request.specs.declared.event.Via.TheVariants.{Dgram}
 use Rattle.client_request.specs.declared.fault.Fault.{Fault}
-use Rattle.headline.specs.Time.{read_timeout}
-use Rattle.headline.specs.Messages.{id_in, answers, base_is_read, passes_count, fits, is_valid}
-use Rattle.headline.specs.Requests.{started}
-use Rattle.headline.specs.Places.{is_at}
-use Rattle.headline.specs.Causes.{named, IsOneOf, FailedAt}
+use Rattle.right_trace.specs.Time.{read_timeout}
+use Rattle.right_trace.specs.Messages.{id_in, answers, base_is_read, passes_count, fits, is_valid}
+use Rattle.right_trace.specs.Requests.{started}
+use Rattle.right_trace.specs.Places.{is_at}
+use Rattle.right_trace.specs.Causes.{named, IsOneOf, FailedAt}
 use Rattle.headline.specs.examples.Messages.{plain_request, as_datagram}
 use Rattle.headline.specs.examples.Dgrams.{opened_example, example_history, elsewhere_example, WorkedDatagrams}
 use Rattle.headline.proofs.worked.Cache.{carried}

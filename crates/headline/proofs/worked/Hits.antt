@@ -2,8 +2,8 @@
 use Rattle.std.proofs.Common.{◌≡◌, ℕ, ◌<◌, ◌+◌, true, false, inl, inr, [], refl, arith}
 use Rattle.std.specs.Prelude.{◌*◌}
 use Rattle.client_request.specs.Composed.{composed}
-use Rattle.headline.specs.Settings.{first_settings}
-use Rattle.headline.specs.Hit.{Views, AllHit, asks_since, replies_since}
+use Rattle.right_trace.specs.Settings.{first_settings}
+use Rattle.right_trace.specs.Hit.{Views, AllHit, asks_since, replies_since}
 use Rattle.headline.specs.examples.Messages.{plain_request, answer}
 use Rattle.headline.specs.examples.Rows.{by_datagrams}
 use Rattle.headline.specs.examples.Hits.{before_it, its_row, missed, WorkedHit}

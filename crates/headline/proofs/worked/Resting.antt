@@ -6,17 +6,18 @@ use Rattle.client_request.specs.declared.event.What.TheVariants.{Ask, Opened, Da
 use Rattle.std.proofs.lemmas.Bool.{cases_eq}
 use Rattle.client_request.specs.Request.{Request}
 use Rattle.client_request.specs.declared.error.Error.{Error}
-use Rattle.headline.specs.Time.{read_timeout, response_timeout, stream_timeout}
-use Rattle.headline.specs.Messages.{Octets}
-use Rattle.headline.specs.Requests.{is_ask}
+use Rattle.right_trace.specs.Time.{read_timeout, response_timeout, stream_timeout}
+use Rattle.right_trace.specs.Messages.{Octets}
+use Rattle.right_trace.specs.Requests.{is_ask}
 use Rattle.headline.specs.machine.Streams as multi
-use Rattle.headline.specs.machine.Streams.{Phase, Asker, Mode, Conn, Multi, with_at, IsForeign}
+use Rattle.headline.specs.machine.Streams.{Phase, Asker, Mode, Conn, Multi, IsForeign}
+use Rattle.right_trace.specs.Updates.{with_at}
 use Rattle.headline.specs.machine.Dgrams as dgrams
 use Rattle.headline.specs.machine.Dgrams.{Stage, Tryer, Dgrams, IsIgnored}
 use Rattle.headline.specs.machine.Server.{Server, Rests}
 use Rattle.headline.specs.machine.Served.{Served, holds, served, IsInTime, RestsNow}
 use Rattle.headline.specs.machine.Client.{Waiting, with_held, Upper, Made, Moves, IsDone, IsRun, Goes_on, row_begins}
-use Rattle.headline.specs.Settings.{first_settings}
+use Rattle.right_trace.specs.Settings.{first_settings}
 use Rattle.headline.specs.examples.Rows.{by_datagrams}
 use Rattle.client_request.specs.declared.event.Row.{Row}
 use Rattle.headline.proofs.server.Views.{at_here, at_there}

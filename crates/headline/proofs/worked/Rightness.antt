@@ -10,11 +10,11 @@ use Rattle.dns_base.specs.Sections.{counts_spelling}
 use Rattle.dns_base.specs.Message.{question_at, record_at, list_at, items_at, questions_of, answer_of, authority_of, additional_of, answer_items, authority_items, additional_items, first_question}
 use Rattle.client_request.specs.Carries.{IsOfOctets}
 use Rattle.client_request.specs.Composed.{appended, composed}
-use Rattle.headline.specs.Messages.{Octets}
-use Rattle.headline.specs.Right.{Right}
-use Rattle.headline.specs.Timely.{Timely}
+use Rattle.right_trace.specs.Messages.{Octets}
+use Rattle.right_trace.specs.Right.{Right}
+use Rattle.right_trace.specs.Timely.{Timely}
 use Rattle.headline.specs.examples.Messages.{plain_request}
-use Rattle.headline.specs.Settings.{first_settings}
+use Rattle.right_trace.specs.Settings.{first_settings}
 use Rattle.headline.specs.examples.Rows.{by_datagrams}
 use Rattle.headline.specs.examples.Streams.{cut_goes_on}
 use Rattle.headline.specs.examples.Cache.{asked_again}

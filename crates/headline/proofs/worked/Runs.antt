@@ -3,15 +3,15 @@ use Rattle.std.proofs.Common.{◌≡◌, ◌≢◌, ℕ, ◌+◌, ◌<◌, ◌�
 use Rattle.std.specs.Prelude.{Result, Ok, Err, if◌then◌else◌}
 use Rattle.client_request.specs.Request.{Request}
 use Rattle.client_request.specs.declared.error.Error.{Error}
-use Rattle.headline.specs.Time.{read_timeout, response_timeout, stream_timeout, idle_timeout}
-use Rattle.headline.specs.Messages.{Octets, CarriesBy, CarriesInFrame, base_is_read, answers, truncated, id_in, keepalive_of}
-use Rattle.headline.specs.Frames.{Length, fed, is_bad}
-use Rattle.headline.specs.Timers.{told_idle}
-use Rattle.headline.specs.Writes.{Written}
-use Rattle.headline.specs.Validity.{second, validity_of_message, is_deferred, waits_for_others}
-use Rattle.headline.specs.Keys.{KeyCovers, key_of, question_of, is_cacheable}
-use Rattle.headline.specs.Parts.{Parts, Says, read_parts, known_parts}
-use Rattle.headline.specs.Views.{view_of, view_validity, IsValidView}
+use Rattle.right_trace.specs.Time.{read_timeout, response_timeout, stream_timeout, idle_timeout}
+use Rattle.right_trace.specs.Messages.{Octets, CarriesBy, CarriesInFrame, base_is_read, answers, truncated, id_in, keepalive_of}
+use Rattle.right_trace.specs.Frames.{Length, fed, is_bad}
+use Rattle.right_trace.specs.Timers.{told_idle}
+use Rattle.right_trace.specs.Writes.{Written}
+use Rattle.right_trace.specs.Validity.{second, validity_of_message, is_deferred, waits_for_others}
+use Rattle.right_trace.specs.Keys.{KeyCovers, key_of, question_of, is_cacheable}
+use Rattle.right_trace.specs.Parts.{Parts, Says, read_parts, known_parts}
+use Rattle.right_trace.specs.Views.{view_of, view_validity, IsValidView}
 use Rattle.dns_base.specs.Data.{Data, data_at, data_spelling}
 use Rattle.dns_names.specs.Name.{name_at, walk, head_at}
 use Rattle.dns_base.specs.Message.{question_at, record_at, list_at, items_at, questions_of, answer_of, authority_of, additional_of, answer_items, authority_items, additional_items, first_question, sole_question, reads}
@@ -22,12 +22,13 @@ use Rattle.client_request.specs.Carries.{contents_of}
 use Rattle.client_request.specs.declared.error.Error.TheVariants as errors
 use Rattle.client_request.specs.declared.event.Row.{Row}
 use Rattle.client_request.specs.declared.event.Out.{Out}
-use Rattle.headline.specs.Trace.{ByDatagrams}
+use Rattle.right_trace.specs.Trace.{ByDatagrams}
 use Rattle.headline.specs.machine.Streams as multi
 use Rattle.headline.specs.machine.Dgrams as dgrams
 use Rattle.headline.specs.machine.Dgrams.{Tryer, Dgrams}
 use Rattle.headline.specs.machine.Part.{ServerPart, Act as Step}
-use Rattle.headline.specs.machine.Streams.{Act, Puts, Gives, Nothing, Asker, Conn, Multi, with_at}
+use Rattle.headline.specs.machine.Streams.{Act, Puts, Gives, Nothing, Asker, Conn, Multi}
+use Rattle.right_trace.specs.Updates.{with_at}
 use Rattle.client_request.specs.declared.event.What.{What}
 use Rattle.client_request.specs.declared.event.Event.{Event}
 use Rattle.headline.specs.machine.Server as server
@@ -36,14 +37,14 @@ use Rattle.headline.specs.machine.Served as served
 use Rattle.headline.specs.machine.Served.{Served, RestsNow, served, does, has_moved, has_taken_it, AsItIs, WithResult}
 use Rattle.headline.specs.machine.Client.{Caches, Waiting, Leaving, Entry, entry_of, answer as answer_at_once, Viewed, outcome, leave, store, unmade, Upper, Move, moved, hand, handing, newcomer, take_on, row_begins, Moves, Goes, Rests, Takes_on, Hands_on, Server_moves, Delivers, Replies, Answers, IsRun, Ends, begun}
 use Rattle.headline.specs.examples.Messages.{plain_request, as_datagram, as_frame, frame, cut_answer, answer}
-use Rattle.headline.specs.Settings.{first_settings}
+use Rattle.right_trace.specs.Settings.{first_settings}
 use Rattle.headline.specs.examples.Rows.{at, by_datagrams}
 use Rattle.client_request.specs.declared.event.What.TheVariants.{Ask, Opened, Datagram, Wrote, Bytes}
 use Rattle.client_request.specs.declared.event.Out.TheVariants.{Start, OpenDgram, OpenStream, Send, Write, Close, Reply}
 use Rattle.client_request.specs.declared.event.Via.TheVariants.{Dgram, Stream}
 use Rattle.headline.specs.examples.Streams.{cut_goes_on}
 use Rattle.headline.specs.examples.Cache.{asked_again}
-use Rattle.headline.proofs.client.Asked.{keys_refl}
+use Rattle.right_trace.proofs.Asked.{keys_refl}
 use Rattle.headline.specs.examples.Runs.{IsARun}
 use Rattle.headline.proofs.worked.Resting.{only, nobody, away, gone, away_held, gone_held, away_every, away_unheard, not_held, not_octets, wrote_plain, below, at_most, StageSettled, trying_settled, cut_settled, sent_settled, StageInTime, in_time_by, tick_foreign, ask_foreign, datagram_foreign, opens_nothing, nobody_tries, nobody_sent, StageRests, PhaseRests, ModeRests, rests_by, done_with, done_with_none, next}
 use Rattle.headline.proofs.worked.Cache.{carried, carried_in_frame, answers_it, whole_answer, cacheable, computed, viewable_30, viewable_100}

@@ -10,17 +10,17 @@ use Rattle.client_request.specs.Carries.{contents_of}
 use Rattle.client_request.specs.declared.fault.Fault.TheVariants.{Refused}
 use Rattle.client_request.specs.declared.event.What.TheVariants.{Ask, Opened, OpenFailed, Datagram, Tick}
 use Rattle.client_request.specs.declared.event.Via.TheVariants.{Dgram}
-use Rattle.headline.specs.Trace.{History, Came}
-use Rattle.headline.specs.Time.{read_timeout, EarlierRow, OfRow}
-use Rattle.headline.specs.Messages.{CarriesBy, id_in, answers, truncated}
-use Rattle.headline.specs.Requests.{handed}
-use Rattle.headline.specs.Places.{stand, Alive, is_told}
-use Rattle.headline.specs.Validity.{is_deferred}
-use Rattle.headline.specs.Coming.{CameFor, SomeCame, FirstEarlier}
-use Rattle.headline.specs.Replies.{Deferred, OkIsRight, Fresh}
-use Rattle.headline.specs.Orderly.{OfDgram, ReplyBeforeItsSend}
+use Rattle.right_trace.specs.Trace.{History, Came}
+use Rattle.right_trace.specs.Time.{read_timeout, EarlierRow, OfRow}
+use Rattle.right_trace.specs.Messages.{CarriesBy, id_in, answers, truncated}
+use Rattle.right_trace.specs.Requests.{handed}
+use Rattle.right_trace.specs.Places.{stand, Alive, is_told}
+use Rattle.right_trace.specs.Validity.{is_deferred}
+use Rattle.right_trace.specs.Coming.{CameFor, SomeCame, FirstEarlier}
+use Rattle.right_trace.specs.Replies.{Deferred, OkIsRight, Fresh}
+use Rattle.right_trace.specs.Orderly.{OfDgram, ReplyBeforeItsSend}
 use Rattle.headline.specs.examples.Messages.{plain_request, as_datagram, failing}
-use Rattle.headline.specs.Settings.{first_settings}
+use Rattle.right_trace.specs.Settings.{first_settings}
 use Rattle.headline.specs.examples.Rows.{so_far, two_servers, deferring}
 use Rattle.headline.specs.examples.Servers.{failing_server, WorkedServers}
 use Rattle.headline.proofs.client.Promptness.{none_first}

@@ -1,7 +1,7 @@
 -- A slot is given on before the request whose answer was cut goes on by stream.
 use Rattle.std.proofs.Common.{◌≡◌, ℕ, Some, None, refl, take, ap}
 use Rattle.std.specs.Prelude.{Result, if◌then◌else◌}
-use Rattle.headline.specs.Time.{read_timeout}
+use Rattle.right_trace.specs.Time.{read_timeout}
 use Rattle.client_request.specs.declared.event.Out.TheVariants.{Start, OpenDgram, Close}
 use Rattle.client_request.specs.declared.event.Via.TheVariants.{Stream}
 use Rattle.headline.specs.machine.Streams.{Puts, no_connection}
@@ -16,10 +16,11 @@ use Rattle.headline.specs.examples.Slots.{sent_first, queued_behind, all_slots_t
 use Rattle.headline.proofs.worked.Resting.{nobody, below, at_most, StageSettled, StageInTime, cut_settled, in_time_by, datagram_foreign}
 use Rattle.headline.proofs.server.Views.{each_at}
 use Rattle.headline.proofs.worked.Runs.{cut_is}
+use Rattle.right_trace.specs.Updates.{with_at}
 
 -- what holds of both requests holds of each that is held
-both : (P : Tryer → Type 0) (x y : Tryer) → P x → P y → (k : ℕ) (a : Tryer) → multi.with_at 0 (Some x) (multi.with_at 1 (Some y) (λ k. None)) k ≡ Some a → P a
-both P x y p q = each_at (λ k a. P a) 0 x (multi.with_at 1 (Some y) (λ k. None)) p (λ k a ne. each_at (λ k a. P a) 1 y (λ k. None) q (λ k a ne e. absurd (cc)) k a)
+both : (P : Tryer → Type 0) (x y : Tryer) → P x → P y → (k : ℕ) (a : Tryer) → with_at 0 (Some x) (with_at 1 (Some y) (λ k. None)) k ≡ Some a → P a
+both P x y p q = each_at (λ k a. P a) 0 x (with_at 1 (Some y) (λ k. None)) p (λ k a ne. each_at (λ k a. P a) 1 y (λ k. None) q (λ k a ne e. absurd (cc)) k a)
 
 abbrev cut : Tryer
 cut = dgrams.staged sent_first (dgrams.stage_of (take 2000 (cut_answer 18 52)))
@@ -55,5 +56,5 @@ slot_is_given_on = record {
   outs = refl;
 }
   where
-    settled : (k : ℕ) (x : Tryer) → StageSettled x.stage → (j : ℕ) (a : Tryer) → multi.with_at 0 (Some x) d0.held j ≡ Some a → StageSettled a.stage
+    settled : (k : ℕ) (x : Tryer) → StageSettled x.stage → (j : ℕ) (a : Tryer) → with_at 0 (Some x) d0.held j ≡ Some a → StageSettled a.stage
     settled k x s = each_at (λ j (a : Tryer). StageSettled a.stage) 0 x d0.held s (λ j a ne e. both (λ a. StageSettled a.stage) sent_first queued_behind (λ x e. cc) (λ x e. cc) j a e)

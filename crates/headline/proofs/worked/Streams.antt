@@ -7,10 +7,10 @@ use Rattle.dns_base.specs.Message.{question_at, record_at, list_at, items_at, qu
 use Rattle.dns_base.specs.OptRecord.{opt_of}
 use Rattle.dns_base.specs.Answering.{is_answer}
 use Rattle.client_request.specs.Carries.{contents_of}
-use Rattle.headline.specs.Time.{read_timeout, stream_timeout, idle_timeout, back_off}
-use Rattle.headline.specs.Messages.{answers, truncated, id_in, keepalive_of}
-use Rattle.headline.specs.Frames.{is_bad}
-use Rattle.headline.specs.Busy.{BackingOff, ConnectionEnded, ByBadFrame, OpeningFailed}
+use Rattle.right_trace.specs.Time.{read_timeout, stream_timeout, idle_timeout, back_off}
+use Rattle.right_trace.specs.Messages.{answers, truncated, id_in, keepalive_of}
+use Rattle.right_trace.specs.Frames.{is_bad}
+use Rattle.right_trace.specs.Busy.{BackingOff, ConnectionEnded, ByBadFrame, OpeningFailed}
 use Rattle.headline.specs.examples.Streams.{WorkedStreams}
 
 pub worked : WorkedStreams

@@ -13,19 +13,19 @@ use Rattle.client_request.specs.declared.error.QueryError.TheVariants as query
 use Rattle.client_request.specs.declared.fault.Fault.TheVariants.{Refused}
 use Rattle.client_request.specs.declared.event.What.TheVariants.{Ask, OpenFailed, SendFailed, ShortSend, RecvFailed, Datagram}
 use Rattle.client_request.specs.declared.event.Out.TheVariants.{Close, Reply}
-use Rattle.headline.specs.Trace.{History, Conf, Item, Came, Put}
-use Rattle.headline.specs.Time.{now, newest, row_before, Ever}
-use Rattle.headline.specs.Messages.{Octets, base_is_read}
-use Rattle.headline.specs.Requests.{asking}
-use Rattle.headline.specs.Settings.{Settings, first_settings}
-use Rattle.headline.specs.Keys.{Covers, key_of, question_of}
-use Rattle.headline.specs.Parts.{Item as Entry, Parts, Says, known_parts, lowered_parts}
-use Rattle.headline.specs.Validity.{second}
-use Rattle.headline.specs.Views.{view_of, view_validity}
-use Rattle.headline.specs.Replies.{InThisRow, Deferred, OkIsRight, Fresh, View, IsView, IsFreshReply}
-use Rattle.headline.specs.Causes.{ServerCause, NotOpened, NotSent, SentShort, NotReceived, NoAnswer, WrongReply, StreamSilence, NotRead, NotComposed}
-use Rattle.headline.specs.Errors.{DirectCause, Deadline, NoServer, ByServer, NoValidity, ViewNotKnown, Here, Earlier, IsErrorReply, HasCause, Own, Kept}
-use Rattle.headline.specs.Right.{Right}
+use Rattle.right_trace.specs.Trace.{History, Conf, Item, Came, Put}
+use Rattle.right_trace.specs.Time.{now, newest, row_before, Ever}
+use Rattle.right_trace.specs.Messages.{Octets, base_is_read}
+use Rattle.right_trace.specs.Requests.{asking}
+use Rattle.right_trace.specs.Settings.{Settings, first_settings}
+use Rattle.right_trace.specs.Keys.{Covers, key_of, question_of}
+use Rattle.right_trace.specs.Parts.{Item as Entry, Parts, Says, known_parts, lowered_parts}
+use Rattle.right_trace.specs.Validity.{second}
+use Rattle.right_trace.specs.Views.{view_of, view_validity}
+use Rattle.right_trace.specs.Replies.{InThisRow, Deferred, OkIsRight, Fresh, View, IsView, IsFreshReply}
+use Rattle.right_trace.specs.Causes.{ServerCause, NotOpened, NotSent, SentShort, NotReceived, NoAnswer, WrongReply, StreamSilence, NotRead, NotComposed}
+use Rattle.right_trace.specs.Errors.{DirectCause, Deadline, NoServer, ByServer, NoValidity, ViewNotKnown, Here, Earlier, IsErrorReply, HasCause, Own, Kept}
+use Rattle.right_trace.specs.Right.{Right}
 use Rattle.headline.specs.examples.Messages.{plain_request, ad_request, answer, answer_with_z, failing}
 use Rattle.headline.specs.examples.Rows.{so_far, two_servers, deferring}
 use Rattle.headline.specs.examples.Cache.{asked_again, refused_twice}

@@ -11,23 +11,23 @@ use Rattle.client_request.specs.declared.event.What.TheVariants.{Ask, Opened, Da
 use Rattle.client_request.specs.declared.event.Out.TheVariants.{Start, OpenDgram, Send, Close}
 use Rattle.client_request.specs.declared.event.Via.{Via}
 use Rattle.client_request.specs.declared.event.Via.TheVariants.{Dgram, Stream}
-use Rattle.headline.specs.Trace.{History, Conf, Came, Put}
-use Rattle.headline.specs.Time.{read_timeout, one_if, EarlierRow, OfRow}
-use Rattle.headline.specs.Messages.{Octets, CarriesBy, answers, truncated, is_valid}
-use Rattle.headline.specs.Requests.{Asking, replied}
-use Rattle.headline.specs.Places.{Stand, site, stand, Alive, Opening, is_at}
-use Rattle.headline.specs.Frames.{came}
-use Rattle.headline.specs.Exchanges.{unanswered, IsAmong, IsOpen, Matches}
-use Rattle.headline.specs.Settings.{Settings}
-use Rattle.headline.specs.Validity.{is_final}
-use Rattle.headline.specs.Coming.{CameFor, IsExcused}
-use Rattle.headline.specs.Replies.{InThisRow, Deferred, OkIsRight, Fresh, View}
-use Rattle.headline.specs.Causes.{sends, ServerCause, NotOpened, NotSent, SentShort, NotReceived, NoAnswer, WrongReply, StreamSilence, NotRead, NotComposed}
-use Rattle.headline.specs.Errors.{Deadline, NoServer, ByServer, NoValidity, ViewNotKnown, Here, Earlier, HasCause, Own, Kept}
-use Rattle.headline.specs.Orderly.{Sending, MayCloseDgram, ItsFault, ItsAnswer, ItsTimeout, ItsReply, ReplyBeforeItsSend, InvalidBeforeItsSend, MayClose, OfDgram, OfStream}
-use Rattle.headline.specs.Busy.{IsBusy, Exchanging, PlaceIsOpening, PlacesAreTaken, StreamIsOpening, StreamIsWriting, BackingOff}
-use Rattle.headline.specs.Right.{Right, OutRight, IsOverdue, PastDeadline, PastTries, PastStream}
-use Rattle.headline.specs.Timely.{Timely}
+use Rattle.right_trace.specs.Trace.{History, Conf, Came, Put}
+use Rattle.right_trace.specs.Time.{read_timeout, one_if, EarlierRow, OfRow}
+use Rattle.right_trace.specs.Messages.{Octets, CarriesBy, answers, truncated, is_valid}
+use Rattle.right_trace.specs.Requests.{Asking, replied}
+use Rattle.right_trace.specs.Places.{Stand, site, stand, Alive, Opening, is_at}
+use Rattle.right_trace.specs.Frames.{came}
+use Rattle.right_trace.specs.Exchanges.{unanswered, IsAmong, IsOpen, Matches}
+use Rattle.right_trace.specs.Settings.{Settings}
+use Rattle.right_trace.specs.Validity.{is_final}
+use Rattle.right_trace.specs.Coming.{CameFor, IsExcused}
+use Rattle.right_trace.specs.Replies.{InThisRow, Deferred, OkIsRight, Fresh, View}
+use Rattle.right_trace.specs.Causes.{sends, ServerCause, NotOpened, NotSent, SentShort, NotReceived, NoAnswer, WrongReply, StreamSilence, NotRead, NotComposed}
+use Rattle.right_trace.specs.Errors.{Deadline, NoServer, ByServer, NoValidity, ViewNotKnown, Here, Earlier, HasCause, Own, Kept}
+use Rattle.right_trace.specs.Orderly.{Sending, MayCloseDgram, ItsFault, ItsAnswer, ItsTimeout, ItsReply, ReplyBeforeItsSend, InvalidBeforeItsSend, MayClose, OfDgram, OfStream}
+use Rattle.right_trace.specs.Busy.{IsBusy, Exchanging, PlaceIsOpening, PlacesAreTaken, StreamIsOpening, StreamIsWriting, BackingOff}
+use Rattle.right_trace.specs.Right.{Right, OutRight, IsOverdue, PastDeadline, PastTries, PastStream}
+use Rattle.right_trace.specs.Timely.{Timely}
 use Rattle.headline.specs.examples.Wrong.{replied_twice, nothing_sent, taken, taken_when_closed, timed_out_early, passed_over, still_waiting, closed_for_nothing, sent_too_soon, sent_nowhere, sent_at_once}
 use Rattle.headline.proofs.client.Promptness.{none_first}
 

@@ -3,12 +3,12 @@ use Rattle.std.proofs.Common.{◌≡◌, ℕ, true, false, Option, Some, None}
 use Rattle.client_request.specs.Request.{Request}
 use Rattle.client_request.specs.declared.event.What.{What}
 use Rattle.client_request.specs.declared.event.Out.TheVariants.{OpenDgram, OpenStream}
-use Rattle.headline.specs.Trace.{History, Conf}
-use Rattle.headline.specs.Messages.{Octets}
-use Rattle.headline.specs.Requests.{Asking}
-use Rattle.headline.specs.Places.{Site, site}
-use Rattle.headline.specs.Settings.{Settings}
-use Rattle.headline.specs.Right.{Right, OutRight}
+use Rattle.right_trace.specs.Trace.{History, Conf}
+use Rattle.right_trace.specs.Messages.{Octets}
+use Rattle.right_trace.specs.Requests.{Asking}
+use Rattle.right_trace.specs.Places.{Site, site}
+use Rattle.right_trace.specs.Settings.{Settings}
+use Rattle.right_trace.specs.Right.{Right, OutRight}
 use Rattle.headline.specs.examples.Wrong.{opened_twice, closed_twice, closed_again, closed_unopened, started_unasked}
 
 -- a number that some out opened, whatever happened to it since

@@ -10,16 +10,16 @@ use Rattle.client_request.specs.declared.event.What.{What}
 use Rattle.client_request.specs.declared.event.What.TheVariants.{Ask, Opened, RecvFailed, Tick}
 use Rattle.client_request.specs.declared.event.Out.TheVariants.{Start, OpenDgram, Close}
 use Rattle.client_request.specs.declared.event.Via.TheVariants.{Dgram}
-use Rattle.headline.specs.Trace.{History, Conf, Came, Put}
-use Rattle.headline.specs.Time.{EarlierRow, OfRow}
-use Rattle.headline.specs.Messages.{Octets}
-use Rattle.headline.specs.Requests.{replied, started}
-use Rattle.headline.specs.Places.{Site, stand, Alive}
-use Rattle.headline.specs.Settings.{Settings}
-use Rattle.headline.specs.Causes.{named, IsOneOf, FailedAt, ServerCause, NotReceived}
-use Rattle.headline.specs.Errors.{ByServer, Here, Earlier, HasCause, Own, Kept}
-use Rattle.headline.specs.Orderly.{MaySend, MayWrite}
-use Rattle.headline.specs.Right.{Right}
+use Rattle.right_trace.specs.Trace.{History, Conf, Came, Put}
+use Rattle.right_trace.specs.Time.{EarlierRow, OfRow}
+use Rattle.right_trace.specs.Messages.{Octets}
+use Rattle.right_trace.specs.Requests.{replied, started}
+use Rattle.right_trace.specs.Places.{Site, stand, Alive}
+use Rattle.right_trace.specs.Settings.{Settings}
+use Rattle.right_trace.specs.Causes.{named, IsOneOf, FailedAt, ServerCause, NotReceived}
+use Rattle.right_trace.specs.Errors.{ByServer, Here, Earlier, HasCause, Own, Kept}
+use Rattle.right_trace.specs.Orderly.{MaySend, MayWrite}
+use Rattle.right_trace.specs.Right.{Right}
 use Rattle.headline.specs.examples.Wrong.{sent_elsewhere, blamed_unsent, blamed_when_closed}
 use Rattle.headline.proofs.Carried.{two_octets, said_id}
 use Rattle.headline.proofs.wrong.Dgrams.{asked_history, opened_history, sent_history}

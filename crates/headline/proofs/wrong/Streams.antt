@@ -14,22 +14,22 @@ use Rattle.client_request.specs.declared.event.What.TheVariants.{Ask, Opened, Op
 use Rattle.client_request.specs.declared.event.Out.TheVariants.{Start, OpenStream, Write, Close}
 use Rattle.client_request.specs.declared.event.Via.{Via}
 use Rattle.client_request.specs.declared.event.Via.TheVariants.{Dgram, Stream}
-use Rattle.headline.specs.Trace.{History, Conf, Came, Put}
-use Rattle.headline.specs.Time.{now, newest, stream_timeout, response_timeout, id_count, all_ids, count_below, one_if, EarlierRow, OfRow}
-use Rattle.headline.specs.Messages.{Octets, CarriesInFrame, answers, id_in, is_valid}
-use Rattle.headline.specs.Requests.{Asking, start}
-use Rattle.headline.specs.Frames.{Length, fed, is_bad, first_with, came}
-use Rattle.headline.specs.Writes.{Written, is_any, waiting_with, held_with}
-use Rattle.headline.specs.Exchanges.{octets_for, is_before, IsAmong, IsOpen, Matches}
-use Rattle.headline.specs.Settings.{Settings}
-use Rattle.headline.specs.Validity.{is_final}
-use Rattle.headline.specs.Coming.{CameFor, IsExcused}
-use Rattle.headline.specs.Replies.{InThisRow, Deferred, OkIsRight, Fresh, View}
-use Rattle.headline.specs.Causes.{ServerCause, NotOpened, NotSent, SentShort, NotReceived, NoAnswer, WrongReply, StreamSilence, NotRead, NotComposed}
-use Rattle.headline.specs.Errors.{Deadline, NoServer, ByServer, NoValidity, ViewNotKnown, Here, Earlier, HasCause, Own, Kept}
-use Rattle.headline.specs.Orderly.{MayCloseStream, StreamFault, BadFrame, ReadTimer, IdleTimer, MayClose, OfDgram, OfStream}
-use Rattle.headline.specs.Busy.{IsBusy, BreaksOff, OpeningFailed, OpeningFailedAtOnce, IdsAreUsed, ConnectionEnded, Exchanging, PlaceIsOpening, PlacesAreTaken, StreamIsOpening, StreamIsWriting, BackingOff}
-use Rattle.headline.specs.Right.{Right, IsOverdue, PastDeadline, PastTries, PastStream}
+use Rattle.right_trace.specs.Trace.{History, Conf, Came, Put}
+use Rattle.right_trace.specs.Time.{now, newest, stream_timeout, response_timeout, id_count, all_ids, count_below, one_if, EarlierRow, OfRow}
+use Rattle.right_trace.specs.Messages.{Octets, CarriesInFrame, answers, id_in, is_valid}
+use Rattle.right_trace.specs.Requests.{Asking, start}
+use Rattle.right_trace.specs.Frames.{Length, fed, is_bad, first_with, came}
+use Rattle.right_trace.specs.Writes.{Written, is_any, waiting_with, held_with}
+use Rattle.right_trace.specs.Exchanges.{octets_for, is_before, IsAmong, IsOpen, Matches}
+use Rattle.right_trace.specs.Settings.{Settings}
+use Rattle.right_trace.specs.Validity.{is_final}
+use Rattle.right_trace.specs.Coming.{CameFor, IsExcused}
+use Rattle.right_trace.specs.Replies.{InThisRow, Deferred, OkIsRight, Fresh, View}
+use Rattle.right_trace.specs.Causes.{ServerCause, NotOpened, NotSent, SentShort, NotReceived, NoAnswer, WrongReply, StreamSilence, NotRead, NotComposed}
+use Rattle.right_trace.specs.Errors.{Deadline, NoServer, ByServer, NoValidity, ViewNotKnown, Here, Earlier, HasCause, Own, Kept}
+use Rattle.right_trace.specs.Orderly.{MayCloseStream, StreamFault, BadFrame, ReadTimer, IdleTimer, MayClose, OfDgram, OfStream}
+use Rattle.right_trace.specs.Busy.{IsBusy, BreaksOff, OpeningFailed, OpeningFailedAtOnce, IdsAreUsed, ConnectionEnded, Exchanging, PlaceIsOpening, PlacesAreTaken, StreamIsOpening, StreamIsWriting, BackingOff}
+use Rattle.right_trace.specs.Right.{Right, IsOverdue, PastDeadline, PastTries, PastStream}
 use Rattle.headline.specs.examples.Wrong.{written, frame_taken, taken_unwritten, frame_passed_over, nothing_written, stream_closed_for_nothing, wrong_without_frame, second_while_opening, second_while_open}
 use Rattle.headline.proofs.client.Promptness.{none_first}
 use Rattle.headline.proofs.wrong.Dgrams.{same_asked}

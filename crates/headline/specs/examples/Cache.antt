@@ -7,18 +7,17 @@ use Rattle.client_request.specs.declared.fault.Fault.TheVariants.{Refused}
 use Rattle.client_request.specs.declared.event.What.TheVariants.{Ask, Opened, OpenFailed, Datagram}
 use Rattle.client_request.specs.declared.event.Out.TheVariants.{Start, OpenDgram, Send, Close, Reply}
 use Rattle.client_request.specs.declared.event.Row.{Row}
-use Rattle.client_request.specs.declared.event.Via.TheVariants.{Dgram}
-use Rattle.headline.specs.Messages.{CarriesBy, answers, is_valid}
-use Rattle.client_request.specs.declared.event.Via.TheVariants.{Stream}
-use Rattle.headline.specs.Keys.{Do, Ad, Plain, Covers, key_of, is_cacheable}
-use Rattle.headline.specs.Parts.{known_parts, lowered_parts}
-use Rattle.headline.specs.Validity.{validity_of_message}
-use Rattle.headline.specs.Views.{view_of, view_validity}
-use Rattle.headline.specs.Replies.{IsView}
-use Rattle.headline.specs.Errors.{HasCause}
-use Rattle.headline.specs.Trace.{Conf, Came}
+use Rattle.client_request.specs.declared.event.Via.TheVariants.{Dgram, Stream}
+use Rattle.right_trace.specs.Messages.{CarriesBy, answers, is_valid}
+use Rattle.right_trace.specs.Keys.{Do, Ad, Plain, Covers, key_of, is_cacheable}
+use Rattle.right_trace.specs.Parts.{known_parts, lowered_parts}
+use Rattle.right_trace.specs.Validity.{validity_of_message}
+use Rattle.right_trace.specs.Views.{view_of, view_validity}
+use Rattle.right_trace.specs.Replies.{IsView}
+use Rattle.right_trace.specs.Errors.{HasCause}
+use Rattle.right_trace.specs.Trace.{Conf, Came}
 use Rattle.headline.specs.examples.Messages.{plain_request, ad_request, cd_request, do_request, as_datagram, as_frame, answer, signed_answer, unsigned_answer}
-use Rattle.headline.specs.Settings.{first_settings}
+use Rattle.right_trace.specs.Settings.{first_settings}
 use Rattle.headline.specs.examples.Rows.{at, so_far, by_datagrams}
 
 -- a request has its answer, of 100 seconds; it is asked again after 30 and after 100 seconds, and then, too late, after 101

@@ -6,16 +6,16 @@ use Rattle.client_request.specs.declared.fault.Fault.TheVariants.{Refused}
 use Rattle.client_request.specs.declared.event.What.TheVariants.{Ask, Opened, OpenFailed, Datagram, RecvFailed}
 use Rattle.client_request.specs.declared.event.Out.TheVariants.{Start, OpenDgram, Send, Close}
 use Rattle.client_request.specs.declared.event.Via.TheVariants.{Dgram}
-use Rattle.headline.specs.Trace.{History, Came, Put}
-use Rattle.headline.specs.Time.{now}
-use Rattle.headline.specs.Messages.{Octets, CarriesBy, answers, is_valid}
-use Rattle.headline.specs.Requests.{waits}
-use Rattle.headline.specs.Places.{site, stand, Alive, live, demand}
-use Rattle.headline.specs.Frames.{came}
-use Rattle.headline.specs.Exchanges.{unanswered}
-use Rattle.headline.specs.Causes.{sends, FailedAt}
-use Rattle.headline.specs.Orderly.{MaySend}
-use Rattle.headline.specs.Right.{WasLive}
+use Rattle.right_trace.specs.Trace.{History, Came, Put}
+use Rattle.right_trace.specs.Time.{now}
+use Rattle.right_trace.specs.Messages.{Octets, CarriesBy, answers, is_valid}
+use Rattle.right_trace.specs.Requests.{waits}
+use Rattle.right_trace.specs.Places.{site, stand, Alive, live, demand}
+use Rattle.right_trace.specs.Frames.{came}
+use Rattle.right_trace.specs.Exchanges.{unanswered}
+use Rattle.right_trace.specs.Causes.{sends, FailedAt}
+use Rattle.right_trace.specs.Orderly.{MaySend}
+use Rattle.right_trace.specs.Right.{WasLive}
 use Rattle.headline.specs.examples.Messages.{plain_request, as_datagram, address, answer}
 
 -- What happened: it is asked, its place opens at 10 microseconds, and it is sent.

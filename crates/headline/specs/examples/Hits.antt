@@ -5,15 +5,15 @@ use Rattle.client_request.specs.declared.event.What.TheVariants.{Ask}
 use Rattle.client_request.specs.declared.event.Out.TheVariants.{Start, OpenDgram, Reply}
 use Rattle.client_request.specs.declared.event.Row.{Row}
 use Rattle.client_request.specs.declared.event.Via.TheVariants.{Dgram}
-use Rattle.headline.specs.Trace.{History, Came, after}
-use Rattle.headline.specs.Time.{now, Ever}
-use Rattle.headline.specs.Messages.{Octets}
-use Rattle.headline.specs.Requests.{asking, handed}
-use Rattle.headline.specs.Settings.{first_settings}
-use Rattle.headline.specs.Keys.{is_cacheable}
-use Rattle.headline.specs.Validity.{validity_of_message}
-use Rattle.headline.specs.Replies.{IsFreshReply}
-use Rattle.headline.specs.Hit.{asks_since, replies_since, other_replies, AllAreViews, IsHit}
+use Rattle.right_trace.specs.Trace.{History, Came, after}
+use Rattle.right_trace.specs.Time.{now, Ever}
+use Rattle.right_trace.specs.Messages.{Octets}
+use Rattle.right_trace.specs.Requests.{asking, handed}
+use Rattle.right_trace.specs.Settings.{first_settings}
+use Rattle.right_trace.specs.Keys.{is_cacheable}
+use Rattle.right_trace.specs.Validity.{validity_of_message}
+use Rattle.right_trace.specs.Replies.{IsFreshReply}
+use Rattle.right_trace.specs.Hit.{asks_since, replies_since, other_replies, AllAreViews, IsHit}
 use Rattle.headline.specs.examples.Messages.{plain_request, answer}
 use Rattle.headline.specs.examples.Rows.{at, so_far, by_datagrams}
 use Rattle.headline.specs.examples.Cache.{asked_again}

@@ -1,7 +1,7 @@
 -- Worked requests and messages: the addresses of example.com are asked.
 use Rattle.std.specs.Prelude.{ℕ, [], ◌∷◌, ◌++◌, length, Some, None}
 use Rattle.client_request.specs.Request.{Request}
-use Rattle.headline.specs.Messages.{Octets}
+use Rattle.right_trace.specs.Messages.{Octets}
 
 -- the question: example.com, of this type, class IN
 abbrev pub question : (rtype : ℕ) → Octets

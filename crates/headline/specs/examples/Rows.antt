@@ -3,8 +3,8 @@ use Rattle.std.specs.Prelude.{ℕ, true, List, [], ◌∷◌, take}
 use Rattle.client_request.specs.declared.event.What.{What}
 use Rattle.client_request.specs.declared.event.Out.{Out}
 use Rattle.client_request.specs.declared.event.Row.{Row}
-use Rattle.headline.specs.Trace.{History, Conf, ByDatagrams, ByStreams, after}
-use Rattle.headline.specs.Settings.{Settings, first_settings}
+use Rattle.right_trace.specs.Trace.{History, Conf, ByDatagrams, ByStreams, after}
+use Rattle.right_trace.specs.Settings.{Settings, first_settings}
 
 -- a row: at a moment something happens, and this is put out
 abbrev pub at : ℕ → What → List Out → Row

@@ -3,11 +3,11 @@ use Rattle.std.specs.Prelude.{◌≡◌, List, Result, Ok}
 use Rattle.client_request.specs.Request.{Request}
 use Rattle.client_request.specs.declared.error.Error.{Error}
 use Rattle.client_request.specs.declared.event.Row.{Row}
-use Rattle.headline.specs.Messages.{Octets}
+use Rattle.right_trace.specs.Messages.{Octets}
 use Rattle.headline.specs.machine.Served.{served}
 use Rattle.headline.specs.machine.Client.{begun, IsRun}
 use Rattle.headline.specs.examples.Messages.{plain_request}
-use Rattle.headline.specs.Settings.{first_settings}
+use Rattle.right_trace.specs.Settings.{first_settings}
 use Rattle.headline.specs.examples.Rows.{by_datagrams}
 
 -- however requests are composed, if the plain one is

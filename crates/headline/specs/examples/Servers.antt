@@ -5,14 +5,14 @@ use Rattle.client_request.specs.declared.event.What.TheVariants.{Ask, Opened, Op
 use Rattle.client_request.specs.declared.event.Out.TheVariants.{Start, OpenDgram, Send, Close, Reply}
 use Rattle.client_request.specs.declared.event.Row.{Row}
 use Rattle.client_request.specs.declared.event.Via.TheVariants.{Dgram}
-use Rattle.headline.specs.Trace.{Put, Came}
-use Rattle.headline.specs.Requests.{handed}
-use Rattle.headline.specs.Places.{live, demand}
-use Rattle.headline.specs.Validity.{is_deferred}
-use Rattle.headline.specs.Replies.{OkIsRight}
-use Rattle.headline.specs.Orderly.{MayClose}
+use Rattle.right_trace.specs.Trace.{Put, Came}
+use Rattle.right_trace.specs.Requests.{handed}
+use Rattle.right_trace.specs.Places.{live, demand}
+use Rattle.right_trace.specs.Validity.{is_deferred}
+use Rattle.right_trace.specs.Replies.{OkIsRight}
+use Rattle.right_trace.specs.Orderly.{MayClose}
 use Rattle.headline.specs.examples.Messages.{plain_request, as_datagram, answer, failing}
-use Rattle.headline.specs.Settings.{first_settings}
+use Rattle.right_trace.specs.Settings.{first_settings}
 use Rattle.headline.specs.examples.Rows.{at, so_far, two_servers, deferring}
 
 -- the server that was tried first is slow; the other one answers, and both places are closed

@@ -3,7 +3,8 @@ use Rattle.std.specs.Prelude.{◌≡◌, false, Some, None, [], ◌∷◌, ◌++
 use Rattle.client_request.specs.declared.event.What.TheVariants.{Datagram}
 use Rattle.client_request.specs.declared.event.Out.TheVariants.{Start, OpenDgram, Close}
 use Rattle.client_request.specs.declared.event.Via.TheVariants.{Stream}
-use Rattle.headline.specs.machine.Streams.{with_at, no_connection}
+use Rattle.right_trace.specs.Updates.{with_at}
+use Rattle.headline.specs.machine.Streams.{no_connection}
 use Rattle.headline.specs.machine.Dgrams.{Queued, Sent, Tryer}
 use Rattle.headline.specs.machine.Served.{Served, Acts}
 use Rattle.headline.specs.machine.Part.{Act}

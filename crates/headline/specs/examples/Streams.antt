@@ -6,15 +6,15 @@ use Rattle.client_request.specs.declared.event.What.TheVariants.{Ask, Opened, Op
 use Rattle.client_request.specs.declared.event.Out.TheVariants.{Start, OpenDgram, OpenStream, Send, Write, Resume, Close, Reply}
 use Rattle.client_request.specs.declared.event.Row.{Row}
 use Rattle.client_request.specs.declared.event.Via.TheVariants.{Dgram, Stream}
-use Rattle.headline.specs.Time.{idle_timeout}
-use Rattle.headline.specs.Messages.{answers, truncated, keepalive_of}
-use Rattle.headline.specs.Requests.{start}
-use Rattle.headline.specs.Places.{site, stand, Opening, Gone, live, demand}
-use Rattle.headline.specs.Frames.{came, first_with, has_bad}
-use Rattle.headline.specs.Writes.{waiting, waiting_with, writing, is_unwritten}
-use Rattle.headline.specs.Timers.{quiet, idle, idle_with, ends_loose}
-use Rattle.headline.specs.Exchanges.{waited_for}
-use Rattle.headline.specs.Busy.{IsBusyAt}
+use Rattle.right_trace.specs.Time.{idle_timeout}
+use Rattle.right_trace.specs.Messages.{answers, truncated, keepalive_of}
+use Rattle.right_trace.specs.Requests.{start}
+use Rattle.right_trace.specs.Places.{site, stand, Opening, Gone, live, demand}
+use Rattle.right_trace.specs.Frames.{came, first_with, has_bad}
+use Rattle.right_trace.specs.Writes.{waiting, waiting_with, writing, is_unwritten}
+use Rattle.right_trace.specs.Timers.{quiet, idle, idle_with, ends_loose}
+use Rattle.right_trace.specs.Exchanges.{waited_for}
+use Rattle.right_trace.specs.Busy.{IsBusyAt}
 use Rattle.headline.specs.examples.Messages.{plain_request, aaaa_request, as_datagram, frame, as_frame, as_second_frame, last_eleven, answer, cut_answer, empty_answer, second_answer, other_answer, closing_answer, no_header}
 use Rattle.headline.specs.examples.Rows.{at, so_far, by_streams}
 

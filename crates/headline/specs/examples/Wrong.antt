@@ -11,11 +11,11 @@ use Rattle.client_request.specs.declared.event.Out.{Out}
 use Rattle.client_request.specs.declared.event.Out.TheVariants.{Start, OpenDgram, OpenStream, Send, Write, Close, Reply}
 use Rattle.client_request.specs.declared.event.Row.{Row}
 use Rattle.client_request.specs.declared.event.Via.TheVariants.{Dgram, Stream}
-use Rattle.headline.specs.Trace.{Conf}
-use Rattle.headline.specs.Messages.{Octets, CarriesBy, CarriesInFrame, answers, truncated}
-use Rattle.headline.specs.Frames.{Length, fed, first_with}
-use Rattle.headline.specs.Settings.{Settings}
-use Rattle.headline.specs.Validity.{is_final}
+use Rattle.right_trace.specs.Trace.{Conf}
+use Rattle.right_trace.specs.Messages.{Octets, CarriesBy, CarriesInFrame, answers, truncated}
+use Rattle.right_trace.specs.Frames.{Length, fed, first_with}
+use Rattle.right_trace.specs.Settings.{Settings}
+use Rattle.right_trace.specs.Validity.{is_final}
 use Rattle.headline.specs.examples.Messages.{plain_request, as_datagram, failing}
 use Rattle.headline.specs.examples.Rows.{at}
 use Rattle.headline.specs.examples.Cache.{asked_again, refused_twice}

@@ -2,7 +2,7 @@
 use Rattle.std.specs.Prelude.{◌≡◌, ℕ, ◌+◌, Bool, true, false, ◌||◌, ◌⊎◌, if◌then◌else◌, is_some, List, [], ◌∷◌, ◌++◌, map}
 use Rattle.std.specs.Map.{lookup}
 use Rattle.lru.specs.LruCache.{lru_cache, promoted, put_entries}
-use Rattle.headline.specs.Keys.{FlagClass, Do, Ad, Key, is_do, is_plain, is_signing}
+use Rattle.right_trace.specs.Keys.{FlagClass, Do, Ad, Key, is_do, is_plain, is_signing}
 
 -- The keys that are tried for one, in order: its own flags, then those that have more; and where RD is clear, all of them again with RD set.
 

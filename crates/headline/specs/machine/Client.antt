@@ -9,14 +9,14 @@ use Rattle.client_request.specs.declared.event.What.TheVariants.{Ask, Tick}
 use Rattle.client_request.specs.declared.event.Out.{Out}
 use Rattle.client_request.specs.declared.event.Out.TheVariants.{Reply}
 use Rattle.client_request.specs.declared.event.Row.{Row}
-use Rattle.headline.specs.Trace.{Conf}
-use Rattle.headline.specs.Messages.{Octets}
-use Rattle.headline.specs.Requests.{is_ask}
-use Rattle.headline.specs.Settings.{Settings}
-use Rattle.headline.specs.Keys.{Key, KeysCover, KeyCovers, key_of, is_cacheable, is_do}
-use Rattle.headline.specs.Parts.{IsIn, Parts, read_parts, known_parts, Says}
-use Rattle.headline.specs.Validity.{validity_of_message, waits_for_others}
-use Rattle.headline.specs.Views.{view_of, view_validity, IsValidView}
+use Rattle.right_trace.specs.Trace.{Conf}
+use Rattle.right_trace.specs.Messages.{Octets}
+use Rattle.right_trace.specs.Requests.{is_ask}
+use Rattle.right_trace.specs.Settings.{Settings}
+use Rattle.right_trace.specs.Keys.{Key, KeysCover, KeyCovers, key_of, is_cacheable, is_do}
+use Rattle.right_trace.specs.Parts.{IsIn, Parts, read_parts, known_parts, Says}
+use Rattle.right_trace.specs.Validity.{validity_of_message, waits_for_others}
+use Rattle.right_trace.specs.Views.{view_of, view_validity, IsValidView}
 use Rattle.headline.specs.machine.Part.{Post, Act, ServerPart}
 use Rattle.client_request.specs.declared.error.Error.TheVariants as errors
 

@@ -7,9 +7,10 @@ use Rattle.client_request.specs.declared.event.What.{What}
 use Rattle.client_request.specs.declared.event.What.TheVariants.{Opened, OpenFailed, SendFailed, ShortSend, Datagram, RecvFailed}
 use Rattle.client_request.specs.declared.event.Out.TheVariants.{OpenDgram, Send, Close}
 use Rattle.client_request.specs.declared.event.Via.TheVariants.{Dgram}
-use Rattle.headline.specs.Time.{read_timeout}
-use Rattle.headline.specs.Messages.{Octets, CarriesBy, answers, truncated, IsComposingFault}
-use Rattle.headline.specs.machine.Streams.{Act, Puts, Gives, Nothing, with_at}
+use Rattle.right_trace.specs.Time.{read_timeout}
+use Rattle.right_trace.specs.Messages.{Octets, CarriesBy, answers, truncated, IsComposingFault}
+use Rattle.headline.specs.machine.Streams.{Act, Puts, Gives, Nothing}
+use Rattle.right_trace.specs.Updates.{with_at}
 use Rattle.client_request.specs.declared.error.Error.TheVariants as errors
 use Rattle.client_request.specs.declared.error.QueryError.TheVariants as query
 use Rattle.client_request.specs.declared.fault.Fault.TheVariants as fault

@@ -6,12 +6,12 @@ use Rattle.dns_base.specs.Data.{Data}
 use Rattle.client_request.specs.Request.{Request}
 use Rattle.client_request.specs.declared.error.Error.{Error}
 use Rattle.client_request.specs.declared.event.Row.{Row}
-use Rattle.headline.specs.Trace.{Conf}
-use Rattle.headline.specs.Messages.{Octets}
-use Rattle.headline.specs.Settings.{Settings}
-use Rattle.headline.specs.Keys.{Key, key_of, is_cacheable}
-use Rattle.headline.specs.Parts.{Parts, read_parts, known_parts, Says}
-use Rattle.headline.specs.Views.{view_of, view_validity}
+use Rattle.right_trace.specs.Trace.{Conf}
+use Rattle.right_trace.specs.Messages.{Octets}
+use Rattle.right_trace.specs.Settings.{Settings}
+use Rattle.right_trace.specs.Keys.{Key, key_of, is_cacheable}
+use Rattle.right_trace.specs.Parts.{Parts, read_parts, known_parts, Says}
+use Rattle.right_trace.specs.Views.{view_of, view_validity}
 use Rattle.headline.specs.machine.Part.{ServerPart}
 use Rattle.headline.specs.machine.Client.{Leaving, Upper, Made, Move, Server_moves, Hands_on, Gives_up, Drops, Keeps_back, Delivers, Concludes, Times_out, Replies, Forgets, Derives, Answers, Takes_on, Moves, Rests, Goes, IsRun, Ends, Goes_on, row_begins}
 use Rattle.headline.specs.machine.Cache.{Op, AskDoes, after_ops}

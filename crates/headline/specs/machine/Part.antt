@@ -4,8 +4,8 @@ use Rattle.client_request.specs.Request.{Request}
 use Rattle.client_request.specs.declared.error.Error.{Error}
 use Rattle.client_request.specs.declared.event.Event.{Event}
 use Rattle.client_request.specs.declared.event.Out.{Out}
-use Rattle.headline.specs.Trace.{Conf}
-use Rattle.headline.specs.Messages.{Octets}
+use Rattle.right_trace.specs.Trace.{Conf}
+use Rattle.right_trace.specs.Messages.{Octets}
 
 -- a result that a server gives for a request
 pub record Post : Type 0 where

@@ -8,12 +8,13 @@ use Rattle.client_request.specs.declared.event.What.TheVariants.{Bytes, Tick}
 use Rattle.client_request.specs.declared.event.Out.{Out}
 use Rattle.client_request.specs.declared.event.Out.TheVariants.{OpenDgram, OpenStream, Start, Close}
 use Rattle.client_request.specs.declared.event.Via.TheVariants.{Stream}
-use Rattle.headline.specs.Time.{read_timeout, stream_timeout}
-use Rattle.headline.specs.Messages.{Octets}
-use Rattle.headline.specs.Trace.{Use, Conf}
-use Rattle.headline.specs.Frames.{fed}
-use Rattle.headline.specs.Orderly.{use_at}
-use Rattle.headline.specs.machine.Streams.{Puts, Gives, Nothing, Asker, Conn, Multi, with_at, end_at, begin_row, fed_by, set_conn, IsForeign, TakesFrame}
+use Rattle.right_trace.specs.Time.{read_timeout, stream_timeout}
+use Rattle.right_trace.specs.Messages.{Octets}
+use Rattle.right_trace.specs.Trace.{Use, Conf}
+use Rattle.right_trace.specs.Frames.{fed}
+use Rattle.right_trace.specs.Orderly.{use_at}
+use Rattle.headline.specs.machine.Streams.{Puts, Gives, Nothing, Asker, Conn, Multi, end_at, begin_row, fed_by, set_conn, IsForeign, TakesFrame}
+use Rattle.right_trace.specs.Updates.{with_at}
 use Rattle.headline.specs.machine.Dgrams.{Tryer, Dgrams, IsIgnored, forget}
 use Rattle.headline.specs.machine.Server.{Server, no_request}
 use Rattle.headline.specs.machine.Part.{Post, Act, ServerPart}

@@ -5,10 +5,11 @@ use Rattle.client_request.specs.declared.error.Error.{Error}
 use Rattle.client_request.specs.declared.event.What.{What}
 use Rattle.client_request.specs.declared.event.Out.TheVariants.{Start, Close}
 use Rattle.client_request.specs.declared.event.Via.TheVariants.{Dgram, Stream}
-use Rattle.headline.specs.Time.{read_timeout, response_timeout, stream_timeout}
-use Rattle.headline.specs.Messages.{Octets}
-use Rattle.headline.specs.Trace.{Use, ByDatagrams, ByStreams}
-use Rattle.headline.specs.machine.Streams.{Act, Puts, Nothing, Asker, Active, Idle, Conn, Multi, with_at, drop, no_connection, Moves, Takes, IsForeign}
+use Rattle.right_trace.specs.Time.{read_timeout, response_timeout, stream_timeout}
+use Rattle.right_trace.specs.Messages.{Octets}
+use Rattle.right_trace.specs.Trace.{Use, ByDatagrams, ByStreams}
+use Rattle.headline.specs.machine.Streams.{Act, Puts, Nothing, Asker, Active, Idle, Conn, Multi, drop, no_connection, Moves, Takes, IsForeign}
+use Rattle.right_trace.specs.Updates.{with_at}
 use Rattle.headline.specs.machine.Dgrams.{Tryer, Dgrams, no_datagram, leave, forget, Tries, Meets, IsIgnored}
 use Rattle.client_request.specs.declared.error.Error.TheVariants as errors
 use Rattle.headline.specs.machine.Streams as multi

@@ -11,8 +11,9 @@ use Rattle.client_request.specs.declared.event.Out.{Out}
 use Rattle.client_request.specs.declared.event.Out.TheVariants.{Start, OpenDgram, Send, Close, Reply}
 use Rattle.client_request.specs.declared.event.Row.{Row}
 use Rattle.client_request.specs.declared.event.Via.TheVariants.{Dgram}
-use Rattle.headline.specs.Time.{read_timeout}
-use Rattle.headline.specs.Messages.{Octets, answers, under}
+use Rattle.right_trace.specs.Time.{read_timeout}
+use Rattle.right_trace.specs.Messages.{Octets, answers, under}
+use Rattle.right_trace.specs.Updates.{with_at}
 
 -- Where a request is: it waits for a slot, is between two places, waits for its place to open, or was sent.
 pub data Stage : Type 0 where
@@ -51,10 +52,6 @@ nothing s = record { state = s; outs = [] }
 
 abbrev pub then_do : Done → (State → Done) → Done
 then_do d f = record { state = (f d.state).state; outs = d.outs ++ (f d.state).outs }
-
--- a function with another value at k
-abbrev pub with_at : {V : Type 0} → ℕ → Option V → (ℕ → Option V) → ℕ → Option V
-with_at k v f j = if k == j then v else f j
 
 abbrev pub staged : Held → Stage → Held
 staged a stage = record { request = a.request; moment = a.moment; tries = a.tries; stage = stage }

@@ -7,13 +7,14 @@ use Rattle.client_request.specs.declared.event.What.{What}
 use Rattle.client_request.specs.declared.event.What.TheVariants.{Opened, OpenFailed, SendFailed, ShortSend, RecvFailed, Wrote, Bytes}
 use Rattle.client_request.specs.declared.event.Out.{Out}
 use Rattle.client_request.specs.declared.event.Out.TheVariants.{OpenStream, Write, Resume, Close}
-use Rattle.headline.specs.Time.{response_timeout, idle_timeout, stream_timeout, back_off, id_count, all_ids, count_below}
-use Rattle.headline.specs.Messages.{Octets, CarriesInFrame, answers, is_valid, id_in, keepalive_of}
-use Rattle.headline.specs.Places.{is_told}
-use Rattle.headline.specs.Frames.{Reading, Length, fed, is_bad}
-use Rattle.headline.specs.Writes.{Written}
-use Rattle.headline.specs.Timers.{told_idle}
+use Rattle.right_trace.specs.Time.{response_timeout, idle_timeout, stream_timeout, back_off, id_count, all_ids, count_below}
+use Rattle.right_trace.specs.Messages.{Octets, CarriesInFrame, answers, is_valid, id_in, keepalive_of}
+use Rattle.right_trace.specs.Places.{is_told}
+use Rattle.right_trace.specs.Frames.{Reading, Length, fed, is_bad}
+use Rattle.right_trace.specs.Writes.{Written}
+use Rattle.right_trace.specs.Timers.{told_idle}
 use Rattle.client_request.specs.declared.error.Error.TheVariants as errors
+use Rattle.right_trace.specs.Updates.{with_at}
 
 -- Where a request is: it is to be handed on, waits for the place that opens, is queued at a connection, was written there under an id, is to back off, or backs off until a moment.
 pub data Phase : Type 0 where
@@ -63,10 +64,6 @@ pub data Act : Type 0 where
   Puts : Out → Act
   Gives : (k : ℕ) → Result Octets Error → Act
   Nothing : Act
-
--- a function with another value at k
-abbrev pub with_at : {V : Type 0} → ℕ → Option V → (ℕ → Option V) → ℕ → Option V
-with_at k v f j = if k == j then v else f j
 
 abbrev pub moved : Asker → Phase → Asker
 moved a phase = record { request = a.request; since = a.since; phase = phase }

@@ -1,5 +1,5 @@
 use Rattle.std.proofs.Common.{take}
-use Rattle.headline.specs.Timely.{AllAskedInOctets}
+use Rattle.right_trace.specs.Timely.{AllAskedInOctets}
 use Rattle.client_core.proofs.octets.all_asked_in_octets.Given as goal
 
 abbrev pub invariant-loop-event : goal.invariant-loop-event

@@ -1,5 +1,5 @@
 use Rattle.std.proofs.Common.{take}
-use Rattle.client_ties.specs.ClientTie.{AllInOctets}
+use Rattle.right_trace.specs.InOctets.{AllInOctets}
 use Rattle.client_core.proofs.octets.all_in_octets.Given as goal
 
 abbrev pub invariant-loop-event : goal.invariant-loop-event

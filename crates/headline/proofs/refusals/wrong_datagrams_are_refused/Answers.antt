@@ -1,6 +1,6 @@
 -- Each trace lacks what it owes at one point.
 use Rattle.std.specs.Prelude.{[]}
-use Rattle.headline.specs.Settings.{first_settings}
+use Rattle.right_trace.specs.Settings.{first_settings}
 use Rattle.headline.proofs.wrong.Dgrams as wrong
 use Rattle.headline.proofs.wrong.Sends as sends
 use Rattle.headline.proofs.refusals.wrong_datagrams_are_refused.Goals as goal

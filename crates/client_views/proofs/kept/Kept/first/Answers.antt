@@ -1,5 +1,5 @@
 use Rattle.std.proofs.Common.{ap, false, ◌∙◌}
-use Rattle.headline.specs.Keys.{Do}
+use Rattle.right_trace.specs.Keys.{Do}
 use Rattle.client_views.specs.Viewing.{header_between}
 use Rattle.client_views.proofs.KeptLaws.{keeps_as_came}
 use Rattle.client_views.proofs.kept.Kept.first.Goals as goal

@@ -1,0 +1,15 @@
+//! The replay of a list of events, whose trace is right: here the client, which stands on code alone, meets the mathematics
+//! of its runs.
+//!
+//! ```text
+//! use client_core::Client;
+//! use client_replay::Replay;
+//!
+//! let trace = Client::replay(alloc, &conf, redundant, cache, &mut words, events)?;
+//! ```
+#![tactic(auto)]
+
+mod replaying;
+
+pub use client_runs::{every_plain_trace_hits, every_plain_trace_is_right, plain_traces_are_runs};
+pub use replaying::Replay;

@@ -1,5 +1,0 @@
-use Rattle.headline.proofs.client.Asked.{covers_refl, covers_trans, apart_by_cd}
-use Rattle.headline.proofs.laws.covering_is_an_order.Goals as goal
-
-pub returns : goal.returns
-returns c = record { itself = covers_refl; on = covers_trans; never_across_cd = apart_by_cd }

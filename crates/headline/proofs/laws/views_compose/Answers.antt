@@ -1,5 +1,0 @@
-use Rattle.headline.proofs.client.Deriving.{views_compose, validity_composes}
-use Rattle.headline.proofs.laws.views_compose.Goals as goal
-
-pub returns : goal.returns
-returns c = record { view = λ q m r age x a b. views_compose q m r age x a b; validity = λ s q m r x a b. validity_composes s q m r x a b }
