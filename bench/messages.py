@@ -2,8 +2,8 @@
 
 usage: python3 bench/messages.py PROGRAM [PEER]
 
-PROGRAM is the built dns_read. 100 messages of 65535 octets with 4000 records are read and printed, and 100 of
-half the octets with half the records; the least of five runs of each and their ratio are told. Then `dns_read time`
+PROGRAM is the built tool_messages. 100 messages of 65535 octets with 4000 records are read and printed, and 100 of
+half the octets with half the records; the least of five runs of each and their ratio are told. Then `tool_messages time`
 reads an answer of 45 octets and writes it again, in turn with libknot (where a C compiler and libknot's headers are
 there: the few lines of C below are built in a temporary folder) and with PEER, a program whose first line of output
 tells as `N ns each` how long another library takes for the same. The least times of five rounds and their ratios are

@@ -2,7 +2,7 @@
 
 usage: python3 bench/streams.py PROGRAM
 
-PROGRAM is the built stream_read. Each measure is taken at a size and at twice that size, in turn, five times; the
+PROGRAM is the built tool_streams. Each measure is taken at a size and at twice that size, in turn, five times; the
 least time of each counts, and the ratio is told:
 
 - so many requests are in flight, and are answered in reverse order (in rounds that ask as many in all);

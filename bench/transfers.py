@@ -2,7 +2,7 @@
 
 usage: python3 bench/transfers.py PROGRAM
 
-PROGRAM is the built stream_read. A zone of 10,000 and one of 100,000 records comes in frames of about 16 KB, each
+PROGRAM is the built tool_streams. A zone of 10,000 and one of 100,000 records comes in frames of about 16 KB, each
 record of 16 octets, so often that as many records come of each. Each is taken five times, in turn; the least time of
 each counts, and the time of a record and the ratio are told.
 """

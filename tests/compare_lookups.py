@@ -1,10 +1,10 @@
 #!/usr/bin/env python3
-"""Compares `lookup_read` with another client's lookups, on random and mangled answers.
+"""Compares `tool_lookups` with another client's lookups, on random and mangled answers.
 
     python3 tests/compare_lookups.py REFERENCE_FOLDER PROGRAM [COUNT [SEED]]
 
 REFERENCE_FOLDER has the package `plain` with the modules `wire` and `lookup`; without it nothing is compared, and that is
-said. PROGRAM is the built `lookup_read`, and COUNT the number of lookups, 1000 if it is left out. Prints the first lookup that
+said. PROGRAM is the built `tool_lookups`, and COUNT the number of lookups, 1000 if it is left out. Prints the first lookup that
 differs, or how many were the same, and how many of them found something.
 """
 
@@ -178,7 +178,7 @@ def srv_lines(lookup, wire, machine, words, digits):
 
 
 def expected(lookup, wire, machine, line):
-    """What lookup_read prints for a line, by the reference."""
+    """What tool_lookups prints for a line, by the reference."""
     kind, *parts = line.split(" ")
     if kind == "addr":
         return addr_lines(lookup, wire, *parts)

@@ -1,10 +1,10 @@
 #!/usr/bin/env python3
-"""Compares `dns_read` with another reader of messages, on random and mangled messages.
+"""Compares `tool_messages` with another reader of messages, on random and mangled messages.
 
     python3 tests/compare_messages.py REFERENCE_FOLDER PROGRAM [COUNT [SEED]]
 
 REFERENCE_FOLDER has the package `plain` with the module `wire`; without it nothing is compared, and that is
-said. PROGRAM is the built `dns_read`, and COUNT the number of messages, 2000 if it is left out. Prints the first
+said. PROGRAM is the built `tool_messages`, and COUNT the number of messages, 2000 if it is left out. Prints the first
 message that differs, or how many were the same.
 """
 
@@ -18,7 +18,7 @@ TYPES = [1, 2, 3, 4, 5, 6, 7, 8, 9, 12, 14, 15, 16, 28, 33, 39, 41, 46, 99]
 
 
 def expected(wire, line):
-    """What dns_read prints for a line, by the reference."""
+    """What tool_messages prints for a line, by the reference."""
     if len(line) % 2 or any(c not in "0123456789abcdef" for c in line) or len(line) < 24:
         return ["refused"]
     message = wire.Message(bytes.fromhex(line))

@@ -3,7 +3,7 @@
     python3 tests/compare_streams.py REFERENCE_FOLDER PROGRAM [COUNT [SEED]]
 
 REFERENCE_FOLDER has the package `plain`; without it nothing is compared, and that is said. PROGRAM is the built
-`stream_read`, and COUNT the number of walks, 2000 if it is left out. A walk asks, also for transfers, writes, cuts
+`tool_streams`, and COUNT the number of walks, 2000 if it is left out. A walk asks, also for transfers, writes, cuts
 frames into pieces, answers rightly and wrongly, tells faults, gives requests up and lets time pass. Outs, results in
 order, timers with their numbers, and whether the connection is closed are compared after each line.
 """

@@ -3,7 +3,7 @@
     python3 tests/compare_texts.py FOLDER PROGRAM TRACE.. [-- COUNT]
 
 FOLDER has the other client, as a Python package `plain` with a module `script`. PROGRAM is the built
-`trace_read`, and each TRACE a file with the text of a trace. Each front of each trace is compared, and
+`tool_traces`, and each TRACE a file with the text of a trace. Each front of each trace is compared, and
 COUNT texts (20000 if it is left out) with one octet changed, left out or put in; the events of each
 trace are compared as a script.
 """

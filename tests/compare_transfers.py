@@ -5,9 +5,9 @@
     python3 tests/compare_transfers.py REFERENCE_FOLDER expect < LINES
 
 REFERENCE_FOLDER has the package `plain`; without it nothing is compared, and that is said. PROGRAM is the built
-`transfer_read`, and COUNT the number of transfers, 3000 if it is left out: SOAs of few serials and other records in few or
+`tool_transfers`, and COUNT the number of transfers, 3000 if it is left out: SOAs of few serials and other records in few or
 many messages, with and without a question, some of them mangled or refused. Prints the first transfer that
-differs, or how many messages were the same. `expect` prints what the reference says of lines as `transfer_read` reads them.
+differs, or how many messages were the same. `expect` prints what the reference says of lines as `tool_transfers` reads them.
 """
 
 import random
@@ -44,7 +44,7 @@ def cut(wire, octets, size):
 
 
 def expected(wire, xfr, request, lines):
-    """What transfer_read prints for each line, by the reference."""
+    """What tool_transfers prints for each line, by the reference."""
     asked, state, last, out = None, None, b"", []
     for line in lines:
         word, _, rest = line.rpartition(" ")

@@ -6,7 +6,7 @@
 # All but `dgram` are runs of `dnsq replay`: on the script crates/dnsq/stdin; on one that asks 101 times where 100 may be at
 # work and then opens one place in vain; and on examples/NAME.script, where a truncated datagram goes on by a stream, where
 # two requests share a stream, and where streams fail and others are opened. Status 6 and no output are wanted, and status 0
-# and the trace of that example past the last allocation. `dgram` is the test of dgram_tests that runs three requests over
+# and the trace of that example past the last allocation. `dgram` is the test of test_dgram that runs three requests over
 # two slots: it passes where the want of memory was told and each later call answers `Failed`; that other tests of the crate
 # then fail is of no account.
 # Each number builds anew, in half a minute or more. JOBS of them (2) run at a time.
@@ -48,7 +48,7 @@ case $what in
     flood) run=replay && flood > "$work/script" && cd dnsq ;;
     fallback | use_vc | back_off)
         run=replay && cp "../examples/$what.script" "$work/script" && cp "../examples/$what.trace" "$work/trace" && cd dnsq ;;
-    dgram) run=dgram && cd dgram_tests ;;
+    dgram) run=dgram && cd test_dgram ;;
     *) false ;;
 esac && [ $# -gt 1 ] || { echo "usage: bash tests/fail_alloc.sh example|flood|fallback|use_vc|back_off|dgram N.." >&2; exit 2; }
 shift

@@ -1,9 +1,9 @@
-"""Makes the tables of scripts that the program replay_tables replays in the gate, and what it must write for them.
+"""Makes the tables of scripts that the program tool_replays replays in the gate, and what it must write for them.
 
 usage: python3 tests/replay_tables.py REFERENCE_FOLDER [--check]
 
 REFERENCE_FOLDER holds the package `plain`, a reference client: what is to be written comes from it alone. The tables are
-written into crates/replay_tables/stdin and stdout; with --check they are compared with what stands there.
+written into crates/tool_replays/stdin and stdout; with --check they are compared with what stands there.
 
 Three worked scripts are taken: one question by a datagram; one whose answer is truncated, so that it goes on by a stream; and
 two questions that share a stream. Of each there is a script for each fault, at each place and before each event, and at the
@@ -18,7 +18,7 @@ import sys
 from pathlib import Path
 
 ROOT = Path(__file__).resolve().parent.parent
-TABLES = ROOT / "crates" / "replay_tables"
+TABLES = ROOT / "crates" / "tool_replays"
 
 NAME = "076578616d706c6503636f6d00"
 ASK = "ask 000001000001000000000000%s00010001 00000100 -" % NAME

@@ -12,11 +12,11 @@ use Rattle.client_request.specs.declared.error.Error.{Error}
 use Rattle.client_settings.specs.Settings.{CacheSettings}
 use Rattle.lru.specs.LruCache.{LruCache, lru_cache, promoted, put_entries}
 use Rattle.right_trace.specs.Keys.{FlagClass, Do, Ad, Plain, Key, is_do, is_signing, question_or}
-use Rattle.client_views.specs.declared.key.AdDo.{AdDo}
-use Rattle.client_views.specs.declared.key.AdDo.TheVariants as classes
-use Rattle.client_views.specs.Key.{flag_class, key_in, same_key}
-use Rattle.client_views.specs.Validity.{kept_for}
-use Rattle.client_views.specs.Viewing.{header_between, drops_signing, view_octets}
+use Rattle.cache_rules.specs.declared.key.AdDo.{AdDo}
+use Rattle.cache_rules.specs.declared.key.AdDo.TheVariants as classes
+use Rattle.cache_rules.specs.Key.{flag_class, key_in, same_key}
+use Rattle.cache_rules.specs.Validity.{kept_for}
+use Rattle.cache_rules.specs.Viewing.{header_between, drops_signing, view_octets}
 use Rattle.client_cache.specs.declared.table.Flags.{Flags}
 
 -- a message, or why there is none

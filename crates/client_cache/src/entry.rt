@@ -2,12 +2,12 @@
 
 ghost use Rattle.std.specs.Prelude.{◌≡◌, IfOk, Ok};
 ghost use Rattle.right_trace.specs.Keys as keys;
-ghost use Rattle.client_views.specs.Key.{flag_class};
+ghost use Rattle.cache_rules.specs.Key.{flag_class};
 ghost use Rattle.client_cache.specs.Keeping as plain;
 
+use cache_rules::{AdDo, Key, derived_header, validity, view_under};
 use client_request::Error;
 use client_settings::cache::Config;
-use client_views::{AdDo, Key, derived_header, validity, view_under};
 use dns_base::{Duration, Header, Message, Name, NoMemory};
 use std::alloc::Global;
 use std::marker::Model;

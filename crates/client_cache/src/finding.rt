@@ -1,14 +1,14 @@
 //! Which entry serves a request.
 
 ghost use Rattle.std.specs.Prelude.{◌≡◌, IfOk, OnOk, Ok, Some, option_map};
-ghost use Rattle.client_views.specs.Key.{flag_class};
+ghost use Rattle.cache_rules.specs.Key.{flag_class};
 ghost use Rattle.client_cache.specs.Keeping as plain;
 
 use crate::entry::{Answer, Asked, Entry, is_same_class};
 use crate::table::{Flags, Table, holds, set_flags, store};
+use cache_rules::{AdDo, Key, is_signing};
 use client_request::Error;
 use client_settings::cache::Config;
-use client_views::{AdDo, Key, is_signing};
 use dns_base::NoMemory;
 use std::alloc::Global;
 

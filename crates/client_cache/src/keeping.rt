@@ -5,9 +5,9 @@ ghost use Rattle.client_cache.specs.Keeping as plain;
 
 use crate::entry::{Entry, kept_of};
 use crate::table::{Table, store};
+use cache_rules::{Key, validity};
 use client_request::Error;
 use client_settings::cache::Config;
-use client_views::{Key, validity};
 use dns_base::{Duration, Message, NoMemory};
 
 /// Keeps a result that came for a request, for so long.

@@ -12,6 +12,6 @@ mod settling;
 mod steps;
 mod table;
 
+pub use cache_rules::{AdDo, Key, validity, view};
 pub use client_settings::cache::Config;
-pub use client_views::{AdDo, Key, validity, view};
 pub use connection::{Connection, Request};

@@ -6,9 +6,9 @@ ghost use Rattle.client_cache.specs.Plain as plain;
 
 use crate::keeping::keep;
 use crate::table::{Table, new_table};
+use cache_rules::Key;
 use client_request::{Board, Cx, Error, Posted, Words};
 use client_settings::cache::Config;
-use client_views::Key;
 use dns_base::{Message, NoMemory};
 use number_table::NumberTable;
 use std::alloc::Global;

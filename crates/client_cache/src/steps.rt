@@ -5,7 +5,7 @@ ghost use Rattle.client_request.specs.Calls.{Holds};
 ghost use Rattle.client_request.specs.Cx.{view_of, heard};
 ghost use Rattle.dns_base.specs.Message.{sole_question};
 ghost use Rattle.right_trace.specs.Keys.{question_or};
-ghost use Rattle.client_views.specs.Key.{key_in};
+ghost use Rattle.cache_rules.specs.Key.{key_in};
 ghost use Rattle.client_cache.specs.Keeping as keeping;
 ghost use Rattle.client_cache.specs.Plain as plain;
 ghost use Rattle.client_cache.specs.Plain.{read};
@@ -15,12 +15,12 @@ use crate::entry::Asked;
 use crate::finding::{first_kept, take};
 use crate::settling::{Job, Kept, part_of, settle_all};
 use crate::table::{Flags, Table};
+use cache_rules::Key;
 use client_request::{
     Board, ComposeRequest, Cx, Error, GetResponse, SendRequest, Signal, Words, cancel_below,
     send_below, step_below,
 };
 use client_settings::cache::Config;
-use client_views::Key;
 use dns_base::{Message, Name, NoMemory, ToName};
 use std::alloc::Global;
 

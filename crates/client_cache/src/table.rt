@@ -5,13 +5,13 @@ ghost use Rattle.std.specs.Hash as fed;
 ghost use Rattle.std.specs.Hash.DefaultHasher as sip;
 ghost use Rattle.std.specs.NonZero.{non_zero_usize_get};
 ghost use Rattle.lru.specs.LruCache.{lru_cache};
-ghost use Rattle.client_views.specs.Key.{flag_class};
+ghost use Rattle.cache_rules.specs.Key.{flag_class};
 ghost use Rattle.client_cache.specs.Keeping as plain;
 ghost use Rattle.client_cache.specs.Plain as machine;
 
 use crate::entry::Entry;
+use cache_rules::{AdDo, Key};
 use client_settings::cache::Config;
-use client_views::{AdDo, Key};
 use dns_base::NoMemory;
 use lru::LruCache;
 use std::alloc::Global;

@@ -5,8 +5,8 @@ use Rattle.std.specs.Prelude.{option_map}
 use Rattle.client_request.specs.declared.event.Event.{Event}
 use Rattle.client_request.specs.declared.event.Row.{Row}
 use Rattle.client_steps.specs.Client.{plain_rows}
-use Rattle.client_cutting.specs.Cuts.{EveryPlainTraceMayBeCut, MayBeCut}
-use Rattle.client_runs.specs.Ties.{AreHandedIn, EveryPlainTraceHits, EveryPlainTraceIsRight}
+use Rattle.proof_cutting.specs.Cuts.{EveryPlainTraceMayBeCut, MayBeCut}
+use Rattle.proof_client.specs.Ties.{AreHandedIn, EveryPlainTraceHits, EveryPlainTraceIsRight}
 use Rattle.client_settings.specs.Settings.{CacheSettings, RedundantSettings}
 use Rattle.client_steps.specs.Headline.{conf_of, settings_of}
 use Rattle.client_steps.specs.Whole.{Client, machine, plain_trace}

@@ -11,5 +11,5 @@
 
 mod replaying;
 
-pub use client_runs::{every_plain_trace_hits, every_plain_trace_is_right, plain_traces_are_runs};
+pub use proof_client::{every_plain_trace_hits, every_plain_trace_is_right, plain_traces_are_runs};
 pub use replaying::Replay;

@@ -2,8 +2,8 @@
 
 ghost use Rattle.std.specs.Prelude.{◌≡◌, Some, None, Ok, IfOk, IfErr, IsErrOf, [], map};
 ghost use Rattle.client_request.specs.Timers.{IsWant};
-ghost use Rattle.client_cutting.specs.Cuts.{MayBeCut};
-ghost use Rattle.client_runs.specs.Above.{AreWords};
+ghost use Rattle.proof_cutting.specs.Cuts.{MayBeCut};
+ghost use Rattle.proof_client.specs.Above.{AreWords};
 ghost use Rattle.client_steps.specs.Headline.{conf_of, settings_of};
 ghost use Rattle.client_steps.specs.Whole.{plain_trace};
 ghost use Rattle.client_cache.specs.Plain.{room_of};
@@ -13,9 +13,9 @@ ghost use Rattle.right_trace.specs.Right.{Right};
 ghost use Rattle.right_trace.specs.Timely.{Timely};
 
 use client_core::{Client, all_asked_in_octets, all_in_octets, cache, redundant};
-use client_cutting::every_plain_trace_may_be_cut;
 use client_request::{Error, Event, Rows, Trace, Words};
-use client_runs::{every_plain_trace_hits, every_plain_trace_is_right};
+use proof_client::{every_plain_trace_hits, every_plain_trace_is_right};
+use proof_cutting::every_plain_trace_may_be_cut;
 use resolv_conf::ResolvConf;
 use std::alloc::Global;
 

@@ -9,14 +9,14 @@ use Rattle.client_request.specs.Request.{Request}
 use Rattle.client_request.specs.declared.error.Error.{Error}
 use Rattle.client_request.specs.declared.event.Out.TheVariants.{Reply}
 use Rattle.client_request.specs.declared.event.What.TheVariants.{Ask}
-use Rattle.client_runs.specs.Ties.{EveryPlainTraceIsRight}
+use Rattle.proof_client.specs.Ties.{EveryPlainTraceIsRight}
 use Rattle.client_settings.specs.Settings.{default_cache, default_redundant, seconds}
 use Rattle.client_steps.specs.Whole.{Whole, started}
 use Rattle.client_core.specs.declared.deed.Deed.{Deed}
 use Rattle.client_core.specs.declared.deed.Deed.TheVariants.{Learned}
-use Rattle.client_turns.specs.Asking.{IsAnswered, Scene, StopsForNumbers, rows_of, scene}
-use Rattle.client_turns.specs.Turns.{after_deeds, events_of}
-use Rattle.client_turns.proofs.Deeds.{append_nil}
+use Rattle.client_loop.specs.Asking.{IsAnswered, Scene, StopsForNumbers, rows_of, scene}
+use Rattle.client_loop.specs.Turns.{after_deeds, events_of}
+use Rattle.client_loop.proofs.Deeds.{append_nil}
 use Rattle.dns_script.specs.Lines.{line, out_line, out_words}
 use Rattle.dns_script.specs.TraceText.{first_line, last_line, trace_text_of}
 use Rattle.resolv_conf.specs.declared.conf.ResolvConf.{ResolvConf}

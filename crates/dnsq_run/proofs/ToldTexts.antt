@@ -9,7 +9,7 @@ use Rattle.client_steps.specs.Headline.{conf_of, settings_of}
 use Rattle.client_cache.specs.Plain.{room_of}
 use Rattle.client_request.specs.Composed.{composed}
 use Rattle.client_request.specs.Words.{listed}
-use Rattle.client_runs.specs.Ties.{AreHandedIn, EveryPlainTraceHits, EveryPlainTraceIsRight}
+use Rattle.proof_client.specs.Ties.{AreHandedIn, EveryPlainTraceHits, EveryPlainTraceIsRight}
 use Rattle.dns_script.specs.TraceText.{first_line, last_line, row_text, trace_text_of}
 use Rattle.dns_script.specs.declared.script.Script.{Script}
 use Rattle.dnsq_run.specs.Program.{IsTold, first_lane, rows_of}

@@ -8,14 +8,14 @@ use Rattle.client_request.specs.declared.event.Event.{Event}
 use Rattle.client_request.specs.declared.event.Out.TheVariants.{Reply}
 use Rattle.client_request.specs.declared.event.Row.{Row}
 use Rattle.client_request.specs.declared.event.What.TheVariants.{Ask, Tick}
-use Rattle.client_runs.specs.Above.{AreWords}
+use Rattle.proof_client.specs.Above.{AreWords}
 use Rattle.client_settings.specs.Settings.{default_cache, default_redundant}
 use Rattle.client_steps.specs.Headline.{conf_of, settings_of}
 use Rattle.client_steps.specs.Whole.{Whole, plain_trace, started}
 use Rattle.client_core.specs.declared.deed.Deed.{Deed}
 use Rattle.client_core.specs.declared.deed.Deed.TheVariants.{Learned}
-use Rattle.client_turns.specs.Asking.{IsAnswered, Scene, rows_of, scene}
-use Rattle.client_turns.specs.Turns.{AreGivenOn, after_deeds, events_of}
+use Rattle.client_loop.specs.Asking.{IsAnswered, Scene, rows_of, scene}
+use Rattle.client_loop.specs.Turns.{AreGivenOn, after_deeds, events_of}
 use Rattle.dns_script.specs.Lines.{line, out_words}
 use Rattle.right_trace.specs.Right.{Right}
 use Rattle.right_trace.specs.Timely.{Timely}

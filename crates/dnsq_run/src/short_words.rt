@@ -1,7 +1,7 @@
 //! Words have 64 bits, whichever come.
 
 ghost use Rattle.client_request.specs.Words.{listed};
-ghost use Rattle.client_runs.specs.Above.{AreWords};
+ghost use Rattle.proof_client.specs.Above.{AreWords};
 
 /// Each word of a list has 64 bits, and so has the 0 that comes past its end.
 pub fn words_are_short(words: &[u64])

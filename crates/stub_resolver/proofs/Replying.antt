@@ -5,7 +5,7 @@ use Rattle.client_request.specs.Request.{Request, is_misformed, recorded_from}
 use Rattle.client_request.specs.Response.{IsRefusal}
 use Rattle.client_request.specs.declared.error.Error.{Error}
 use Rattle.client_request.specs.declared.error.Error.TheVariants as errors
-use Rattle.client_turns.specs.Asking.{Scene, StopsForNumbers}
+use Rattle.client_loop.specs.Asking.{Scene, StopsForNumbers}
 use Rattle.resolv_lookup.specs.Asked.{Got}
 use Rattle.resolv_lookup.specs.declared.fault.QueryFault.TheVariants.{Client}
 use Rattle.stub_resolver.specs.Queries.{Answers, Gets, Replies, Reply, Stops, at_second, got_of, is_formerr, replied, starved, stopped, twice}

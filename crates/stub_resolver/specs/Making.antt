@@ -4,7 +4,7 @@ use Rattle.client_settings.specs.Settings.{default_cache, default_redundant}
 use Rattle.client_steps.specs.Whole.{Whole, started}
 use Rattle.client_core.specs.declared.deed.Deed.{Deed}
 use Rattle.client_core.specs.declared.deed.Deed.TheVariants.{Learned}
-use Rattle.client_turns.specs.Turns.{after_deeds}
+use Rattle.client_loop.specs.Turns.{after_deeds}
 use Rattle.resolv_conf.specs.Files.{IsDefaultOf, system_file}
 use Rattle.resolv_conf.specs.declared.conf.ResolvConf.{ResolvConf}
 use Rattle.stub_resolver.specs.Stub.{Stub}

@@ -6,7 +6,7 @@ use Rattle.dns_base.specs.Header.{rcode_of}
 use Rattle.client_request.specs.Request.{Request, is_misformed, recorded_from}
 use Rattle.client_request.specs.declared.error.Error.{Error}
 use Rattle.client_request.specs.declared.error.Error.TheVariants as errors
-use Rattle.client_turns.specs.Asking.{IsAnswered, Scene, StopsForNumbers}
+use Rattle.client_loop.specs.Asking.{IsAnswered, Scene, StopsForNumbers}
 use Rattle.resolv_lookup.specs.Asked.{Asks, Got}
 use Rattle.resolv_lookup.specs.ListAnswers.{faults_after}
 use Rattle.resolv_lookup.specs.Services.{Fits, LooksUpSrv, Outcome}

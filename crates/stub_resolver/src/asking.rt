@@ -2,12 +2,12 @@
 
 ghost use Rattle.std.specs.Prelude.{◌≡◌, false, true, OnOk, IfOk, IfErr, IsErrOf};
 ghost use Rattle.client_request.specs.Response.{IsRefusal};
-ghost use Rattle.client_turns.specs.Asking.{StopsForNumbers, between};
+ghost use Rattle.client_loop.specs.Asking.{StopsForNumbers, between};
 ghost use Rattle.stub_resolver.specs.Queries.{Answers, IsGot, Replies, Stops, got_of, is_formerr, is_want};
 
 use client_core::{Client, Clock, Edge};
+use client_loop::ask;
 use client_request::{Compose, Error, RequestMessage, Words};
-use client_turns::ask;
 use dns_base::{Message, Rcode};
 use resolv_lookup::{Answer, QueryFault};
 use std::alloc::Global;

@@ -1,9 +1,9 @@
 use Rattle.std.proofs.Common.{List, map, ap, ◌∙◌}
 use Rattle.client_core.specs.declared.deed.Deed.TheVariants.{Learned}
-use Rattle.client_turns.specs.Turns.{after_deeds}
+use Rattle.client_loop.specs.Turns.{after_deeds}
 use Rattle.client_settings.specs.Settings.{default_redundant}
 use Rattle.client_steps.specs.Whole.{started}
-use Rattle.client_turns.proofs.Turning.{same_error}
+use Rattle.client_loop.proofs.Turning.{same_error}
 use Rattle.resolv_conf.specs.declared.server.ServerConf.{ServerConf}
 use Rattle.dnsq_run.specs.Query.{world}
 use Rattle.dnsq_run.proofs.Queries.{replied, stopped}

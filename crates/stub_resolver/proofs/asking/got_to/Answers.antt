@@ -1,5 +1,5 @@
 use Rattle.std.proofs.Common.{◌≡◌, sym, ◌∙◌, false, true}
-use Rattle.client_turns.specs.Asking.{scene}
+use Rattle.client_loop.specs.Asking.{scene}
 use Rattle.stub_resolver.proofs.Replying.{gets_refusal, gets_reply}
 use Rattle.stub_resolver.proofs.asking.got_to.Goals as goal
 

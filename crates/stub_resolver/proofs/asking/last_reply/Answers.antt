@@ -1,5 +1,5 @@
 use Rattle.std.proofs.Common.{sym, ◌∙◌}
-use Rattle.client_turns.specs.Asking.{scene}
+use Rattle.client_loop.specs.Asking.{scene}
 use Rattle.stub_resolver.proofs.Replying.{asked_again, stops_again}
 use Rattle.stub_resolver.proofs.asking.last_reply.Goals as goal
 

@@ -1,7 +1,7 @@
 use Rattle.std.proofs.Common.{subst}
 use Rattle.stub_resolver.specs.Queries.{Gets}
 use Rattle.stub_resolver.specs.Stub.{Stub, seen}
-use Rattle.client_turns.specs.Asking.{scene}
+use Rattle.client_loop.specs.Asking.{scene}
 use Rattle.stub_resolver.proofs.stub.StubResolver.ask.Goals as goal
 
 pub returns-then-is_err-clause-gets : goal.returns-then-is_err-clause-gets

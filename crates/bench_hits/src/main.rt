@@ -1,0 +1,60 @@
+//! Asks a client what its cache keeps. A tool for measures.
+//!
+//! `bench_hits N M` lets a client keep the answers of N names, asks M times for one of them, and prints how many of these
+//! were answered at once. There is no socket: the client is stepped by hand, and what it sends is answered here. So the
+//! times of two runs that differ in M alone tell what it takes to ask for what is kept.
+#![tactic(auto)]
+
+mod asker;
+mod fault;
+mod messages;
+
+use asker::Asker;
+use fault::HitFault;
+use std::env;
+
+/// The next of numbers that look random in their upper half: a linear congruential generator modulo 2^64 (Knuth).
+fn following(number: u64) -> u64 {
+    number
+        .wrapping_mul(6_364_136_223_846_793_005)
+        .wrapping_add(1_442_695_040_888_963_407)
+}
+
+/// How many of so many requests are answered at once, each for any one of so many names.
+fn count_hits(asker: &mut Asker, names: u32, requests: u32) -> Result<u32, HitFault> {
+    let mut hits: u32 = 0;
+    let mut drawn: u64 = 0;
+    for _ in 0..requests {
+        drawn = following(drawn);
+        let name = (drawn >> 32) % u64::from(names.max(1));
+        if asker.is_answered(name as u32)? {
+            hits = hits.saturating_add(1);
+        }
+    }
+    Ok(hits)
+}
+
+/// The number that the next word is.
+fn number(words: &mut env::Args) -> Result<u32, HitFault> {
+    let Some(word) = words.next() else {
+        return Err(HitFault::Usage);
+    };
+    match word.as_str().parse::<u32>() {
+        Ok(number) => Ok(number),
+        Err(_) => Err(HitFault::Usage),
+    }
+}
+
+fn main(rt: HostRuntime) -> Result<(), HitFault> {
+    let mut words = env::args(&rt)?;
+    let _name = words.next();
+    let names = number(&mut words)?;
+    let requests = number(&mut words)?;
+    let mut asker = Asker::new(rt.alloc())?;
+    for name in 0..names {
+        asker.learn(name)?;
+    }
+    let hits = count_hits(&mut asker, names, requests)?;
+    println!(rt; "{hits}")?;
+    Ok(())
+}

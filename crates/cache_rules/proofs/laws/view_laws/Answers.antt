@@ -1,0 +1,5 @@
+use Rattle.cache_rules.proofs.KeptLaws.{view_laws}
+use Rattle.cache_rules.proofs.laws.view_laws.Goals as goal
+
+pub returns : goal.returns
+returns c = view_laws

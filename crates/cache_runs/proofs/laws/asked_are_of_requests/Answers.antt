@@ -1,5 +1,0 @@
-use Rattle.cache_runs.proofs.Asking.{asked_are_of_requests}
-use Rattle.cache_runs.proofs.laws.asked_are_of_requests.Goals as goal
-
-pub returns : goal.returns
-returns c = asked_are_of_requests

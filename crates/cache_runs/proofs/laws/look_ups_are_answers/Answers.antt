@@ -1,5 +1,0 @@
-use Rattle.cache_runs.proofs.Finding.{look_ups_are_answers}
-use Rattle.cache_runs.proofs.laws.look_ups_are_answers.Goals as goal
-
-pub returns : goal.returns
-returns c = look_ups_are_answers

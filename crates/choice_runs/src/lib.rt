@@ -1,6 +1,0 @@
-//! What holds of a choice among servers that are tied to parts of `headline`'s machine.
-#![tactic(auto)]
-
-mod laws;
-
-pub use laws::{silent_choices_are_whole, silent_choices_move, silent_choices_refuse};

@@ -1,0 +1,8 @@
+use Rattle.client_steps.specs.Whole.{client_with}
+use Rattle.client_loop.proofs.Turning.{turned}
+use Rattle.client_loop.proofs.turns.turn.Goals as goal
+
+pub returns-clause-turn : goal.returns-clause-turn
+returns-clause-turn g c =
+    turned c.args.client.now (g.W.Words.stream c.args.words.now) (client_with (g.W.Words.stream c.take.new.words) c.take.new.client)
+    (record { moment = c.now.result; what = c.happened.result }) c.in_ok-polled.polled _ _ _ c.take.result c.in_octets.ensures c.happened.ensures c.in_ok-polled.ensures.deeds c.take.ensures.row c.take.ensures.deeds

@@ -1,4 +1,0 @@
-use Rattle.client_turns.proofs.asking.ask.Goals as goal
-
-pub returns-clause-answered : goal.returns-clause-answered
-returns-clause-answered g c = c.ask_within.ensures.answered

@@ -1,5 +1,0 @@
-use Rattle.client_views.proofs.KeyLaws.{keys_are_of_requests}
-use Rattle.client_views.proofs.laws.keys_are_of_requests.Goals as goal
-
-pub returns : goal.returns
-returns c = keys_are_of_requests

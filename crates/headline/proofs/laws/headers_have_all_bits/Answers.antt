@@ -1,5 +1,0 @@
-use Rattle.headline.proofs.HeaderBits.{same_bits}
-use Rattle.headline.proofs.laws.headers_have_all_bits.Goals as goal
-
-pub returns : goal.returns
-returns c = same_bits

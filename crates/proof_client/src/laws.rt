@@ -1,0 +1,37 @@
+//! What holds of clients above tied transports.
+
+ghost use Rattle.proof_client.specs.Fallbacks.{FallbacksAreShared, FallbacksAreTied};
+ghost use Rattle.proof_client.specs.Ties.{EveryPlainTraceHits, EveryPlainTraceIsRight, EveryPlainTraceRuns, PlainTracesKeepTheirEvents};
+
+/// The transport of each server that is asked by datagrams, and by stream where an answer was cut, is tied to its part.
+#[tactic(auto, using(crate::proofs::Datagrams::fallbacks_are_tied))]
+pub fn fallbacks_are_tied()
+    ensures { FallbacksAreTied }
+{}
+
+/// So it may be one of several: it leaves alone what is none of its own.
+#[tactic(auto, using(crate::proofs::Datagrams::fallbacks_are_shared))]
+pub fn fallbacks_are_shared()
+    ensures { FallbacksAreShared }
+{}
+
+/// Every plain trace has a row for each event, and is a run of the client of small moves.
+#[tactic(auto, using(crate::proofs::Traces::plain_traces_run, crate::proofs::Traces::plain_traces_keep_events))]
+pub fn plain_traces_are_runs()
+    ensures runs { EveryPlainTraceRuns }
+    ensures events { PlainTracesKeepTheirEvents }
+{}
+
+/// The headline: each reply is a message that came for its request on an exchange open for it, or the valid view of one
+/// that an earlier request got so, or an error with its cause; who waits is busy; what comes and matches is the reply at
+/// once.
+pub fn every_plain_trace_is_right()
+    ensures { EveryPlainTraceIsRight }
+{}
+
+/// What is kept is given: a request for the same is answered from the cache at once, as long as it is valid and few enough
+/// requests and replies came since.
+#[tactic(auto, using(crate::proofs::Traces::every_plain_trace_hits))]
+pub fn every_plain_trace_hits()
+    ensures { EveryPlainTraceHits }
+{}

@@ -1,0 +1,14 @@
+-- Each call of a datagram connection leaves what moves of the machine leave.
+use Rattle.proof_dgram.specs.Calls.{CallsAreMoves}
+use Rattle.proof_dgram.proofs.Firing.{fires_does}
+use Rattle.proof_dgram.proofs.TakingOn.{sends_does}
+use Rattle.proof_dgram.proofs.Dropping.{cancels_does}
+use Rattle.proof_dgram.proofs.Telling.{tells_does}
+
+pub calls_are_moves : CallsAreMoves
+calls_are_moves = record {
+  fires = λ server s d v i due f fair set late. fires_does server s d v i due f fair set late;
+  sends = λ server s d v r f fair octets unheld. sends_does server s d v r f fair octets unheld;
+  cancels = cancels_does;
+  tells = λ server s d v what f fair. tells_does server s d v f fair what;
+}

@@ -1,0 +1,532 @@
+-- A run with its cache hits.
+use Rattle.right_trace.specs.Parts.{known_parts, Says, IsIn}
+use Rattle.proof_right.proofs.PartLaws.{machine_of, Part}
+use Rattle.std.proofs.Common.{◌≡◌, ℕ, suc, ◌+◌, ◌*◌, ◌<◌, ◌≤◌, ◌≢◌, Bool, true, false, ◌⊎◌, inl, inr, Option, Some, None, List, [], ◌∷◌, ◌++◌, refl, arith, sym, ◌∙◌, ap, ap₂, subst, subst₂, ◌==◌, ◌&&◌, ◌||◌}
+use Rattle.std.specs.Prelude.{Result, Ok, Err, if◌then◌else◌, not, map}
+use Rattle.std.specs.Map.{lookup}
+use Rattle.std.proofs.lemmas.Bool.{cases_lt, or_right}
+use Rattle.std.proofs.lemmas.Bool.Decides.{nat_tests}
+use Rattle.lru.specs.LruCache.{lru_cache, put_entries}
+use Rattle.client_request.specs.Request.{Request}
+use Rattle.client_request.specs.declared.error.Error.{Error}
+use Rattle.client_request.specs.declared.event.Event.{Event}
+use Rattle.client_request.specs.declared.event.What.{What}
+use Rattle.client_request.specs.declared.event.What.TheVariants.{Ask, Opened, OpenFailed, SendFailed, ShortSend, Datagram, RecvFailed, Wrote, WriteFailed, Bytes, ReadFailed, Ended as Ev_ended, Tick}
+use Rattle.client_request.specs.declared.event.Out.{Out}
+use Rattle.client_request.specs.declared.event.Out.TheVariants.{Start, OpenDgram, OpenStream, Send, Write, Resume, Close, Reply}
+use Rattle.right_trace.specs.Trace.{History, Conf, Item, Came, Put, put_all, after}
+use Rattle.right_trace.specs.Time.{now, newest, one_if, row_before, Ever, OfRow}
+use Rattle.right_trace.specs.Messages.{Octets, Composes}
+use Rattle.right_trace.specs.Requests.{asks, Asking, asking, is_ask, is_asked_here, is_reply, replied, handed}
+use Rattle.right_trace.specs.Right.{Among, OutRight, OutsRight, ServerOutRight, ServerOutsRight}
+use Rattle.right_trace.specs.Timely.{IsAskedInOctets, AllAskedInOctets}
+use Rattle.client_request.specs.declared.event.Row.{Row}
+use Rattle.right_trace.specs.Settings.{Settings}
+use Rattle.right_trace.specs.Keys.{Key, key_of, is_cacheable, spelled_name, TellsKeys}
+use Rattle.right_trace.specs.Validity.{validity_of_message, validity_of_parts}
+use Rattle.right_trace.specs.Views.{viewed, view_of, view_validity}
+use Rattle.proof_right.proofs.client.Unhanded.{moves_untried}
+use Rattle.right_trace.specs.Coming.{CameFor}
+use Rattle.right_trace.specs.Replies.{IsFresh, InThisRow, Deferred, IsFreshReply}
+use Rattle.proof_right.specs.machine.Cache.{Op, AskDoes, after_ops, Between, Ended, Asked, Replied, RepliedUnstored}
+use Rattle.right_trace.specs.Hit.{asks_since, replies_since, is_some_reply, other_replies, IsViewOf, OutIsView, AllAreViews, IsHit, Views, CantRead, Hits, AllHit}
+use Rattle.proof_right.specs.machine.Exact.{Value, value_of, RunCached, Serves, ServedBy, Viewing, NotReading, Looks, Looked, LeftAlone, Cached, AllCached}
+use Rattle.proof_right.specs.machine.Client.{unmade, Leaving, Upper, Made, Move, Server_moves, Hands_on, Gives_up, Drops, Keeps_back, Delivers, Concludes, Times_out, Replies, Forgets, Derives, Answers, Takes_on, Moves, Rests, Goes, IsDone, IsStep, IsRun, Ends, Goes_on, row_begins, begun, answer}
+use Rattle.proof_right.proofs.client.Kept.{Kept, MayStore, LeavingFits}
+use Rattle.proof_right.proofs.client.Later.{put_more, now_all, asking_all, ever_all}
+use Rattle.proof_right.proofs.client.Lists.{decide, in_left, in_right, in_here, in_but}
+use Rattle.proof_right.proofs.client.Serving.{clash}
+use Rattle.right_trace.proofs.Asked.{asking_below, asking_other, asking_came, here_asks, here_is_ask, earlier_known}
+use Rattle.proof_right.proofs.client.Moving.{acts_right_here, starts_right_here, cancels_right_here}
+use Rattle.proof_right.proofs.client.Steps.{move_does, moves_do}
+use Rattle.proof_right.proofs.client.Beginning.{begun_kept, begun_done, row_kept}
+use Rattle.proof_right.proofs.client.Outcomes.{at_once}
+use Rattle.proof_right.proofs.client.Hit.{hit}
+use Rattle.right_trace.proofs.Valid.{own_view_valid, valid_is_read}
+use Rattle.client_request.specs.declared.error.Error.TheVariants as errors
+
+-- a message that came can't be of a request asked in this row
+fresh_not_here : (c : Conf) (s : Settings) (k : ℕ) (m : Octets) (past : History) (w : What) (h : History) → IsFresh c s k m past w h → row_before h ≡ past → is_asked_here k h ≡ true → ⊥
+fresh_not_here c s k m past w h f row here = go f
+  where
+    last : asks past ≡ k
+    last = subst (λ g. asks g ≡ k) row (here_asks k h here)
+
+    never : (a : Asking) → asking k past ≡ Some a → ⊥
+    never a e = (let lt = asking_below k a past e in let n = last in omega arith)
+
+    go : IsFresh c s k m past w h → ⊥
+    go (InThisRow x) = (let a = x.matches.comes.is_open.stands.asked in never (record { request = x.request; moment = a.0 }) a.1)
+    go (Deferred d x) = (let a = earlier_known (OfRow (CameFor c k m)) k h (λ e q. (record { request = q.request; moment = q.matches.comes.is_open.stands.asked.0 }, q.matches.comes.is_open.stands.asked.1)) x in never (a.0) (subst (λ g. asking k g ≡ Some (a.0)) row a.1))
+
+ever_replied : (c : Conf) (s : Settings) (j n : ℕ) (m : Octets) (h : History) → Ever (IsFreshReply c s j m n) h → replied j h ≡ true
+ever_replied c s j n m [] x = absurd x
+ever_replied c s j n m (Came e ∷ h) (inl x) = (let z : Path History (Came e ∷ h) (Put (Reply j (Ok m)) ∷ x.before) = x.put in absurd (cc))
+ever_replied c s j n m (Came e ∷ h) (inr x) = ever_replied c s j n m h x
+ever_replied c s j n m (Put o ∷ h) (inl x) = here (is_reply j o) (ap (is_reply j) (same x.put) ∙ own)
+  where
+    same : Path History (Put o ∷ h) (Put (Reply j (Ok m)) ∷ x.before) → o ≡ Reply j (Ok m)
+    same q = (let z : Put o ≡ Put (Reply j (Ok m)) = cc in cc)
+
+    own : (j == j) ≡ true
+    own = grind (arith, nat_tests)
+
+    here : (b : Bool) → b ≡ true → (b || replied j h) ≡ true
+    here true e = refl
+    here false e = absurd (cc)
+ever_replied c s j n m (Put o ∷ h) (inr x) = or_right (is_reply j o) (replied j h) (ever_replied c s j n m h x)
+
+-- an out that is no reply
+abbrev NoReply : Out → Type 0
+NoReply o = ((j : ℕ) → is_reply j o ≡ false) × (is_some_reply o ≡ false)
+
+no_reply : (c : Conf) (past : History) (w : What) (h end : History) (o : Out) → ServerOutRight c past w h end o → NoReply o
+no_reply c past w h end (Start k i v) r = (λ j. refl, refl)
+no_reply c past w h end (OpenDgram q i) r = (λ j. refl, refl)
+no_reply c past w h end (OpenStream q i) r = (λ j. refl, refl)
+no_reply c past w h end (Send p k id o) r = (λ j. refl, refl)
+no_reply c past w h end (Write p k id o) r = (λ j. refl, refl)
+no_reply c past w h end (Resume p o) r = (λ j. refl, refl)
+no_reply c past w h end (Close p) r = (λ j. refl, refl)
+no_reply c past w h end (Reply k x) r = absurd r
+
+same_ask : (r q : Request) (t u : ℕ) → Path (Option Asking) (Some (record { request = r; moment = t })) (Some (record { request = q; moment = u })) → r ≡ q
+same_ask r q t u e = (let z : record { request = r; moment = t } ≡ record { request = q; moment = u } = cc in ap (λ (x : Asking). x.request) z)
+
+others_more : (k : ℕ) (xs ys : List Out) → other_replies k (xs ++ ys) ≡ other_replies k xs + other_replies k ys
+others_more k [] ys = omega arith
+others_more k (x ∷ xs) ys = (let i = others_more k xs ys in omega arith)
+
+among_left : (o : Out) (xs ys : List Out) → Among o xs → Among o (xs ++ ys)
+among_left o [] ys i = absurd i
+among_left o (x ∷ xs) ys i = elim i [ inl e ↦ inl e | inr i ↦ inr (among_left o xs ys i) ]
+
+among_right : (o : Out) (xs ys : List Out) → Among o ys → Among o (xs ++ ys)
+among_right o [] ys i = i
+among_right o (x ∷ xs) ys i = inr (among_right o xs ys i)
+
+module _ (eq : Key → Key → Bool) (cap : ℕ) where
+  snoc_ask : (k own : Key) (a b : ℕ) (es fs : List (Key × Value)) (os : List (Op Value)) → Between eq cap k a b es fs → AskDoes eq own fs os → Between eq cap k (a + 1) b es (after_ops eq cap os fs)
+  snoc_ask k own _ _ _ _ os (Ended es) does = Asked own os 0 0 es (after_ops eq cap os es) does (Ended (after_ops eq cap os es))
+  snoc_ask k own _ _ _ _ os (Asked o' os' n m es fs d rest) does = Asked o' os' (n + 1) m es (after_ops eq cap os fs) d (snoc_ask k own n m (after_ops eq cap os' es) fs os rest does)
+  snoc_ask k own _ _ _ _ os (Replied j v n m es fs ne rest) does = Replied j v (n + 1) m es (after_ops eq cap os fs) ne (snoc_ask k own n m (put_entries eq (lru_cache es cap) j v) fs os rest does)
+  snoc_ask k own _ _ _ _ os (RepliedUnstored n m es fs rest) does = RepliedUnstored (n + 1) m es (after_ops eq cap os fs) (snoc_ask k own n m es fs os rest does)
+
+  snoc_store : (k j : Key) (v : Value) (a b : ℕ) (es fs : List (Key × Value)) → Between eq cap k a b es fs → eq k j ≡ false → Between eq cap k a (b + 1) es (put_entries eq (lru_cache fs cap) j v)
+  snoc_store k j v _ _ _ _ (Ended es) ne = Replied j v 0 0 es (put_entries eq (lru_cache es cap) j v) ne (Ended (put_entries eq (lru_cache es cap) j v))
+  snoc_store k j v _ _ _ _ (Asked o' os' n m es fs d rest) ne = Asked o' os' n (m + 1) es (put_entries eq (lru_cache fs cap) j v) d (snoc_store k j v n m (after_ops eq cap os' es) fs rest ne)
+  snoc_store k j v _ _ _ _ (Replied i u n m es fs d rest) ne = Replied i u n (m + 1) es (put_entries eq (lru_cache fs cap) j v) d (snoc_store k j v n m (put_entries eq (lru_cache es cap) i u) fs rest ne)
+  snoc_store k j v _ _ _ _ (RepliedUnstored n m es fs rest) ne = RepliedUnstored n (m + 1) es (put_entries eq (lru_cache fs cap) j v) (snoc_store k j v n m es fs rest ne)
+
+module _ (c : Conf) (s : Settings) (compose : Request → Result Octets Error) (composes : Composes compose) (P : Part c) (eq : Key → Key → Bool) (cap : ℕ)
+    (eq_refl : (k : Key) → eq k k ≡ true) (eq_sym : (a b : Key) → eq a b ≡ true → eq b a ≡ true) (eq_trans : (a b d : Key) → eq a b ≡ true → eq b d ≡ true → eq a d ≡ true) (eq_same : (a b : Key) → eq a b ≡ true → a ≡ b) where
+  abbrev Cache : Type 0
+  Cache = List (Key × Value)
+
+  abbrev value : Request → (j : ℕ) → Octets → (moment : ℕ) → Value
+  value q j m n = record { first = q; number = j; result = Ok m; moment = n }
+
+  -- the cache since a fresh reply was stored, with the counts of what came between
+  pub record Kept_since (q : Request) (j : ℕ) (m : Octets) (moment pend : ℕ) (es : List (Key × Value)) (h : History) : Type 0 where
+    pub entries : List (Key × Value)
+    pub a : ℕ
+    pub b : ℕ
+    pub between : Between eq cap (key_of q) a b (put_entries eq (lru_cache entries cap) (key_of q) (value q j m moment)) es
+    pub few_asks : a + pend ≤ asks_since j h
+    pub few_replies : b ≤ replies_since j h
+
+  -- so it is of each fresh reply that is kept, while each reply with its key is a view of it
+  abbrev pub HitFits : (pend : ℕ) → List (Key × Value) → History → Type 0
+  HitFits pend es h = (q : Request) (j t : ℕ) (m : Octets) (moment n but : ℕ) → asking j h ≡ Some (record { request = q; moment = t }) → Ever (IsFreshReply c s j m moment) h → validity_of_message s m ≡ Some n → 0 < n → is_cacheable q ≡ true → replied but h ≡ false → AllAreViews q m j moment but h
+      → Kept_since q j m moment pend es h
+
+  -- an out of a server
+  fits_put : (pend : ℕ) (es : Cache) (o : Out) (h : History) → NoReply o → HitFits pend es h → HitFits pend es (Put o ∷ h)
+  fits_put pend es o h none f q j t m moment n but ask ever val pos ca un views =
+      let old : Ever (IsFreshReply c s j m moment) h = elim ever [ inl x ↦ absurd (clash (is_reply j o) (ap (is_reply j) (same x.before x.put) ∙ own) (none.0 j)) | inr y ↦ y ] in
+      let r = ever_replied c s j moment m h old in
+      let un' : replied but h ≡ false = not_or (is_reply but o) (replied but h) un in
+      let v : AllAreViews q m j moment but h = elim views [ inl x ↦ absurd (clash (is_reply j o) x (none.0 j)) | inr y ↦ y.1 ] in
+      let k = f q j t m moment n but ask old val pos ca un' v in
+      record {
+        entries = k.entries;
+        a = k.a;
+        b = k.b;
+        between = k.between;
+        few_asks = subst (λ z. k.a + pend ≤ z) (sym (ap (λ b. if b then one_if (is_ask (newest h)) else asks_since j h) (none.0 j))) k.few_asks;
+        few_replies = subst (λ z. k.b ≤ z) (sym (ap (λ b. if b then 0 else (if replied j h then one_if (is_some_reply o) + replies_since j h else 0)) (none.0 j) ∙ (ap (λ b. if b then one_if (is_some_reply o) + replies_since j h else 0) r ∙ ap (λ b. one_if b + replies_since j h) none.1))) (let z = k.few_replies in omega arith);
+      }
+    where
+      same : (before : History) → Path History (Put o ∷ h) (Put (Reply j (Ok m)) ∷ before) → o ≡ Reply j (Ok m)
+      same before q = (let z : Put o ≡ Put (Reply j (Ok m)) = cc in cc)
+
+      own : (j == j) ≡ true
+      own = grind (arith, nat_tests)
+
+      not_or : (a b : Bool) → (a || b) ≡ false → b ≡ false
+      not_or true b e = absurd (cc)
+      not_or false b e = e
+
+  fits_outs : (pend : ℕ) (es : Cache) (past : History) (w : What) (end : History) (xs : List Out) (h : History) → ServerOutsRight c past w end h xs → HitFits pend es h → HitFits pend es (put_all xs h)
+  fits_outs pend es past w end [] h r f = f
+  fits_outs pend es past w end (x ∷ xs) h r f = fits_outs pend es past w end xs (Put x ∷ h) r.1 (fits_put pend es x h (no_reply c past w h end x r.0) f)
+
+  -- a row begins
+  pub fits_came : (es : Cache) (e : Event) (h : History) → ((j : ℕ) → replied j h ≡ true → j < asks h) → HitFits 0 es h → HitFits (one_if (is_ask e.what)) es (Came e ∷ h)
+  fits_came es e h asked f q j t m moment n but ask ever val pos ca un views =
+      let old : Ever (IsFreshReply c s j m moment) h = elim ever [ inl x ↦ absurd (let z : Path History (Came e ∷ h) (Put (Reply j (Ok m)) ∷ x.before) = x.put in cc) | inr y ↦ y ] in
+      let r = ever_replied c s j moment m h old in
+      let lt = asked j r in
+      let ask' : asking j h ≡ Some (record { request = q; moment = t }) = sym (asking_other j e h (λ x. (omega arith))) ∙ ask in
+      let k = f q j t m moment n but ask' old val pos ca un views in
+      record {
+        entries = k.entries;
+        a = k.a;
+        b = k.b;
+        between = k.between;
+        few_asks = subst (λ z. k.a + one_if (is_ask e.what) ≤ z) (sym (ap (λ b. if b then one_if (is_ask e.what) + asks_since j h else 0) r)) (let z = k.few_asks in omega arith);
+        few_replies = subst (λ z. k.b ≤ z) (sym (ap (λ b. if b then replies_since j h else 0) r)) k.few_replies;
+      }
+
+  -- an asking looks
+  fits_looks : (r : Request) (es fs : Cache) (h : History) → Looks c s compose (machine_of P) eq cap r es fs → HitFits 1 es h → HitFits 0 fs h
+  fits_looks r es fs h (Looked os does is) f q j t m moment n but ask ever val pos ca un views =
+      let k = f q j t m moment n but ask ever val pos ca un views in
+      record { entries = k.entries; a = k.a + 1; b = k.b; between = subst (λ z. Between eq cap (key_of q) (k.a + 1) k.b (put_entries eq (lru_cache k.entries cap) (key_of q) (value q j m moment)) z) (sym is) (snoc_ask eq cap (key_of q) (key_of r) k.a k.b (put_entries eq (lru_cache k.entries cap) (key_of q) (value q j m moment)) es os k.between does); few_asks = (let z = k.few_asks in omega arith); few_replies = k.few_replies }
+  fits_looks r es fs h (LeftAlone is) f q j t m moment n but ask ever val pos ca un views =
+      let k = f q j t m moment n but ask ever val pos ca un views in
+      record { entries = k.entries; a = k.a; b = k.b; between = subst (λ z. Between eq cap (key_of q) k.a k.b (put_entries eq (lru_cache k.entries cap) (key_of q) (value q j m moment)) z) (sym is) k.between; few_asks = (let z = k.few_asks in omega arith); few_replies = k.few_replies }
+
+  module _ (past : History) (w : What) (x : Upper P.State) (h : History) (kept : Kept c s P past w x h) where
+    -- a reply is put
+    fits_reply : (first last : List Leaving) (y : Leaving) → x.leaving ≡ first ++ y ∷ last → (es fs : Cache) → fs ≡ (if y.is_stored then put_entries eq (lru_cache es cap) (key_of y.asked) (value_of x.now y) else es)
+        → HitFits (one_if (is_ask x.pending)) es h → HitFits (one_if (is_ask x.pending)) fs (Put (Reply y.request y.result) ∷ h)
+    fits_reply first last y is es fs cached f q j t m moment n but ask ever val pos ca un views = elim ever [ inl z ↦ new z | inr z ↦ old z ]
+      where
+        fit : LeavingFits c s P past w x.held x.ups x.asked y h
+        fit = kept.leaves y (subst (IsIn y) (sym is) (in_here y first last))
+
+        no_ask : is_asked_here y.request h ≡ true → (u : Octets) → IsFresh c s y.request u past w h → ⊥
+        no_ask here u fr = fresh_not_here c s y.request u past w h fr kept.row here
+
+        pend_few : (p : What) → x.pending ≡ p → one_if (is_ask p) ≤ one_if (is_ask (newest h))
+        pend_few (Ask r) e = (let z : is_ask (newest h) ≡ true = here_is_ask x.asked h ((kept.pending r e).here) in subst (λ b. 1 ≤ one_if b) (sym z) (omega arith))
+        pend_few (Opened p) e = omega arith
+        pend_few (OpenFailed p g) e = omega arith
+        pend_few (SendFailed p g) e = omega arith
+        pend_few (ShortSend p) e = omega arith
+        pend_few (Datagram p o) e = omega arith
+        pend_few (RecvFailed p g) e = omega arith
+        pend_few (Wrote p z) e = omega arith
+        pend_few (WriteFailed p g) e = omega arith
+        pend_few (Bytes p o) e = omega arith
+        pend_few (ReadFailed p g) e = omega arith
+        pend_few (Ev_ended p) e = omega arith
+        pend_few Tick e = omega arith
+
+        new : IsFreshReply c s j m moment (Put (Reply y.request y.result) ∷ h) → Kept_since q j m moment (one_if (is_ask x.pending)) fs (Put (Reply y.request y.result) ∷ h)
+        new z =
+            let heads : Put (Reply y.request y.result) ≡ Put (Reply j (Ok m)) = head (Put (Reply y.request y.result)) (Put (Reply j (Ok m))) h z.before z.put in
+            let o : Reply y.request y.result ≡ Reply j (Ok m) = cc in
+            let k : y.request ≡ j = cc in
+            let res : y.result ≡ Ok m = cc in
+            let tails : h ≡ z.before = tail (Put (Reply y.request y.result)) (Put (Reply j (Ok m))) h z.before z.put in
+            let same : y.asked ≡ q = same_ask y.asked q (fit.asked.0) t (sym fit.asked.1 ∙ (ap (λ k. asking k h) k ∙ ask)) in
+            let at : x.now ≡ moment = kept.clock ∙ z.at in
+            let fr : IsFresh c s y.request m past w h = subst (λ k. IsFresh c s k m past w h) (sym k) (subst (λ w. IsFresh c s j m past w h) kept.newest (subst (λ g. IsFresh c s j m g (newest h) h) kept.row (subst (λ g. IsFresh c s j m (row_before g) (newest g) g) (sym tails) z.fresh))) in
+            stored_now k res same at fr y.is_stored refl
+          where
+            head : (a b : Item) (g k : History) → Path History (a ∷ g) (b ∷ k) → a ≡ b
+            head a b g k e = cc
+
+            tail : (a b : Item) (g k : History) → Path History (a ∷ g) (b ∷ k) → g ≡ k
+            tail a b g k e = cc
+
+            stored_now : y.request ≡ j → y.result ≡ Ok m → y.asked ≡ q → x.now ≡ moment → IsFresh c s y.request m past w h → (b : Bool) → y.is_stored ≡ b → Kept_since q j m moment (one_if (is_ask x.pending)) fs (Put (Reply y.request y.result) ∷ h)
+            stored_now k res same at fr false e = absurd (no_ask (fit.unstored e m res (subst (λ q. is_cacheable q ≡ true) (sym same) ca) n val pos) m fr)
+            stored_now k res same at fr true e =
+                let v : value_of x.now y ≡ value q j m moment = cc in
+                let kk : key_of y.asked ≡ key_of q = ap key_of same in
+                let fs_is : fs ≡ put_entries eq (lru_cache es cap) (key_of q) (value q j m moment) = cached ∙ (ap (λ b. if b then put_entries eq (lru_cache es cap) (key_of y.asked) (value_of x.now y) else es) e ∙ ap₂ (λ k v. put_entries eq (lru_cache es cap) k v) kk v) in
+                let own : is_reply j (Reply y.request y.result) ≡ true = (let z : (y.request == j) ≡ true = grind (arith, nat_tests) in z) in
+                record {
+                  entries = es;
+                  a = 0;
+                  b = 0;
+                  between = subst (λ z. Between eq cap (key_of q) 0 0 (put_entries eq (lru_cache es cap) (key_of q) (value q j m moment)) z) (sym fs_is) (Ended (put_entries eq (lru_cache es cap) (key_of q) (value q j m moment)));
+                  few_asks = subst (λ z. 0 + one_if (is_ask x.pending) ≤ z) (sym (ap (λ b. if b then one_if (is_ask (newest h)) else asks_since j h) own)) (let z = pend_few x.pending refl in omega arith);
+                  few_replies = omega arith;
+                }
+
+        old : Ever (IsFreshReply c s j m moment) h → Kept_since q j m moment (one_if (is_ask x.pending)) fs (Put (Reply y.request y.result) ∷ h)
+        old z =
+            let r = ever_replied c s j moment m h z in
+            let ne : y.request ≢ j = λ k. clash (replied j h) r (subst (λ k. replied k h ≡ false) k fit.unreplied) in
+            let not_j : is_reply j (Reply y.request y.result) ≡ false = (let z : (y.request == j) ≡ false = grind (arith, nat_tests) in z) in
+            let parts : (is_reply but (Reply y.request y.result) ≡ false) × (replied but h ≡ false) = both (y.request == but) (replied but h) un in
+            let v : ((is_reply but (Reply y.request y.result) ≡ true) ⊎ OutIsView q m moment h (Reply y.request y.result)) × AllAreViews q m j moment but h = elim views [ inl x ↦ absurd (clash (is_reply j (Reply y.request y.result)) x not_j) | inr p ↦ p ] in
+            let k = f q j t m moment n but ask z val pos ca parts.1 v.1 in
+            let asks_same : asks_since j (Put (Reply y.request y.result) ∷ h) ≡ asks_since j h = ap (λ b. if b then one_if (is_ask (newest h)) else asks_since j h) not_j in
+            let more : replies_since j (Put (Reply y.request y.result) ∷ h) ≡ 1 + replies_since j h = ap (λ b. if b then 0 else (if replied j h then 1 + replies_since j h else 0)) not_j ∙ ap (λ b. if b then 1 + replies_since j h else 0) r in
+            let fewer : k.b + 1 ≤ replies_since j (Put (Reply y.request y.result) ∷ h) = (let z = k.few_replies in omega arith) in
+            let is_view : OutIsView q m moment h (Reply y.request y.result) = elim v.0 [ inl e ↦ absurd (clash (y.request == but) e parts.0) | inr o ↦ o ] in
+            record { entries = k.entries; a = k.a; b = k.b + 1; between = go k.entries k.a k.b k.between is_view y.is_stored refl; few_asks = subst (λ z. k.a + one_if (is_ask x.pending) ≤ z) (sym asks_same) k.few_asks; few_replies = fewer }
+          where
+            both : (a b : Bool) → (a || b) ≡ false → (a ≡ false) × (b ≡ false)
+            both true b e = absurd (cc)
+            both false b e = (refl, e)
+
+            apart : OutIsView q m moment h (Reply y.request y.result) → y.is_stored ≡ true → eq (key_of q) (key_of y.asked) ≡ false
+            apart view e = elim (decide (eq (key_of q) (key_of y.asked))) [ inl same ↦ absurd (no_view y.result refl (sym (eq_same (key_of q) (key_of y.asked) same)) (fit.stores e) view) | inr n ↦ n ]
+              where
+                no_view : (u : Result Octets Error) → y.result ≡ u → key_of y.asked ≡ key_of q → (is_cacheable y.asked ≡ true) × MayStore c s y.request past w h u → IsViewOf q m moment h y.request u → ⊥
+                no_view (Ok o) e k st view = (let v = view y.asked (fit.asked.0) fit.asked.1 st.0 k in no_ask v.0 o st.1.0)
+                no_view (Err o) e k st view = view y.asked (fit.asked.0) fit.asked.1 st.0 k
+
+            go : (entries : Cache) (a b : ℕ) → Between eq cap (key_of q) a b (put_entries eq (lru_cache entries cap) (key_of q) (value q j m moment)) es → OutIsView q m moment h (Reply y.request y.result) → (z : Bool) → y.is_stored ≡ z → Between eq cap (key_of q) a (b + 1) (put_entries eq (lru_cache entries cap) (key_of q) (value q j m moment)) fs
+            go entries a b bt view true e = subst (λ z. Between eq cap (key_of q) a (b + 1) (put_entries eq (lru_cache entries cap) (key_of q) (value q j m moment)) z) (sym (cached ∙ ap (λ b. if b then put_entries eq (lru_cache es cap) (key_of y.asked) (value_of x.now y) else es) e)) (snoc_store eq cap (key_of q) (key_of y.asked) (value_of x.now y) a b (put_entries eq (lru_cache entries cap) (key_of q) (value q j m moment)) es bt (apart view e))
+            go entries a b bt view false e = subst (λ z. Between eq cap (key_of q) a (b + 1) (put_entries eq (lru_cache entries cap) (key_of q) (value q j m moment)) z) (sym (cached ∙ ap (λ b. if b then put_entries eq (lru_cache es cap) (key_of y.asked) (value_of x.now y) else es) e)) (RepliedUnstored a b (put_entries eq (lru_cache entries cap) (key_of q) (value q j m moment)) es bt)
+
+    -- one move
+    move_fits : (d : Made P.State) (move : Move c s compose (machine_of P) x d) (es fs : Cache) → Cached c s compose (machine_of P) eq cap x d move es fs → HitFits (one_if (is_ask x.pending)) es h → HitFits (one_if (is_ask d.state.pending)) fs (put_all d.outs h)
+    move_fits _ (Server_moves i d lt act) es fs is f = subst (λ z. HitFits (one_if (is_ask x.pending)) z (put_all d.outs h)) (sym is) (fits_outs (one_if (is_ask x.pending)) es past w (put_all d.outs h) d.outs h (acts_right_here c s P past w x h kept i lt d act (put_all d.outs h) (λ k e. e)) f)
+    move_fits _ (Hands_on i k a d lt held untried st) es fs is f = subst (λ z. HitFits (one_if (is_ask x.pending)) z (put_all d.outs h)) (sym is) (fits_outs (one_if (is_ask x.pending)) es past w (put_all d.outs h) d.outs h (starts_right_here c s P past w x h kept i lt k a held untried d st (put_all d.outs h) (λ k e. e)) f)
+    move_fits _ (Gives_up i k d lt held holds can) es fs is f =
+        let end : History = Put (Reply k (Err errors.TimedOut)) ∷ put_all d.outs h in
+        subst (λ z. HitFits (one_if (is_ask x.pending)) z (put_all d.outs h)) (sym is) (fits_outs (one_if (is_ask x.pending)) es past w end d.outs h (cancels_right_here c s P past w x h kept i lt k held holds d can end (λ j e. or_right (k == j) (replied j (put_all d.outs h)) e) (replied_now k (put_all d.outs h))) f)
+      where
+        replied_now : (k : ℕ) (g : History) → replied k (Put (Reply k (Err errors.TimedOut)) ∷ g) ≡ true
+        replied_now k g = grind (arith, nat_tests)
+    move_fits _ (Drops before after y is held) es fs e f = subst (λ z. HitFits (one_if (is_ask x.pending)) z h) (sym e) f
+    move_fits _ (Keeps_back before after y a is held waits) es fs e f = subst (λ z. HitFits (one_if (is_ask x.pending)) z h) (sym e) f
+    move_fits _ (Delivers before after y a l is held waits out) es fs e f = subst (λ z. HitFits (one_if (is_ask x.pending)) z h) (sym e) f
+    move_fits _ (Concludes k a y l held tried free none is out) es fs e f = subst (λ z. HitFits (one_if (is_ask x.pending)) z h) (sym e) f
+    move_fits _ (Times_out k a held late) es fs e f = subst (λ z. HitFits (one_if (is_ask x.pending)) z h) (sym e) f
+    move_fits _ (Replies before after y is) es fs e f = fits_reply before after y is es fs e f
+    move_fits _ (Forgets before after z is) es fs e f = subst (λ z. HitFits (one_if (is_ask x.pending)) z h) (sym e) f
+    move_fits _ (Derives z k j covers) es fs e f = subst (λ z. HitFits (one_if (is_ask x.pending)) z h) (sym e) f
+    move_fits _ (Answers r y pend at) es fs e f = fits_looks r es fs h e.0 (subst (λ p. HitFits (one_if (is_ask p)) es h) pend f)
+    move_fits _ (Takes_on r o pend composed lt) es fs e f = fits_looks r es fs h e.0 (subst (λ p. HitFits (one_if (is_ask p)) es h) pend f)
+
+  -- what leaves is put
+  leaving_put : (y : Leaving) (x : Upper P.State) (d : Made P.State) → IsIn y x.leaving → Moves c s compose (machine_of P) x d → Among (Reply y.request y.result) d.outs
+  leaving_put y _ _ i (Rests x done) = absurd (subst (IsIn y) done.leaving i)
+  leaving_put y _ _ i (Goes x d e move more) = elim (still y x d i move) [ inl j ↦ among_right (Reply y.request y.result) d.outs e.outs (leaving_put y d.state e j more) | inr a ↦ among_left (Reply y.request y.result) d.outs e.outs a ]
+    where
+      still : (y : Leaving) (x : Upper P.State) (d : Made P.State) → IsIn y x.leaving → Move c s compose (machine_of P) x d → IsIn y d.state.leaving ⊎ Among (Reply y.request y.result) d.outs
+      still y x _ i (Server_moves j d lt act) = inl i
+      still y x _ i (Hands_on j k a d lt held untried st) = inl i
+      still y x _ i (Gives_up j k d lt held holds can) = inl i
+      still y x _ i (Drops before after z is held) = inl i
+      still y x _ i (Keeps_back before after z a is held waits) = inl i
+      still y x _ i (Delivers before after z a l is held waits out) = inl (in_left y x.leaving (l ∷ []) i)
+      still y x _ i (Concludes k a z l held tried free none is out) = inl (in_left y x.leaving (l ∷ []) i)
+      still y x _ i (Times_out k a held late) = inl (in_left y x.leaving (record { request = k; asked = a.request; result = Err errors.TimedOut; is_stored = false } ∷ []) i)
+      still y x _ i (Replies before after z is) = elim (in_but y z before after (subst (IsIn y) is i)) [ inl same ↦ inr (inl (ap (λ (v : Leaving). Reply v.request v.result) same)) | inr l ↦ inl l ]
+      still y x _ i (Forgets before after z is) = inl i
+      still y x _ i (Derives z k j co) = inl i
+      still y x _ i (Answers r z pend at) = inl (in_left y x.leaving (z ∷ []) i)
+      still y x _ i (Takes_on r o pend composed lt) = inl i
+
+  moves_fit : (past : History) (w : What) (x : Upper P.State) (h : History) (d : Made P.State) (moves : Moves c s compose (machine_of P) x d) (es fs : Cache) → Kept c s P past w x h → AllCached c s compose (machine_of P) eq cap x d moves es fs → HitFits (one_if (is_ask x.pending)) es h → HitFits 0 fs (put_all d.outs h)
+  moves_fit past w _ h _ (Rests x done) es fs kept is f = subst (λ z. HitFits 0 z h) (sym is) (subst (λ b. HitFits (one_if b) es h) done.taken f)
+  moves_fit past w _ h _ (Goes x d e move more) es fs kept cached f =
+      let a = move_does c s compose composes P past w x h kept d move in
+      let g = move_fits past w x h kept d move es (cached.0) cached.1 f in
+      subst (λ z. HitFits 0 fs z) (sym (put_more d.outs e.outs h)) (moves_fit past w d.state (put_all d.outs h) e more (cached.0) fs a.leaves cached.2 g)
+
+  -- views stay views when the row is looked at earlier
+  views_back : (past : History) (w : What) (end : History) (q : Request) (m : Octets) (j n but : ℕ) (xs : List Out) (h : History) → OutsRight c s past w end h xs → replied j h ≡ true → AllAreViews q m j n but (put_all xs h) → AllAreViews q m j n but h
+  views_back past w end q m j n but [] h r rep v = v
+  views_back past w end q m j n but (o ∷ os) h r rep v = go o r.0 (views_back past w end q m j n but os (Put o ∷ h) r.1 (or_right (is_reply j o) (replied j h) rep) v)
+    where
+      go : (o : Out) → OutRight c s past w h end o → AllAreViews q m j n but (Put o ∷ h) → AllAreViews q m j n but h
+      go o r (inr p) = p.1
+      go (Reply k x) r (inl e) = absurd (clash (replied j h) rep (subst (λ k. replied k h ≡ false) (is_j k e) r.0.none))
+        where
+          is_j : (k : ℕ) → (k == j) ≡ true → k ≡ j
+          is_j k e = grind (arith, nat_tests)
+      go (Start k i z) r (inl e) = absurd (cc)
+      go (OpenDgram p i) r (inl e) = absurd (cc)
+      go (OpenStream p i) r (inl e) = absurd (cc)
+      go (Send p k i z) r (inl e) = absurd (cc)
+      go (Write p k i z) r (inl e) = absurd (cc)
+      go (Resume p z) r (inl e) = absurd (cc)
+      go (Close p) r (inl e) = absurd (cc)
+
+  -- what outs add to the counts
+  record Counts (j k : ℕ) (h h' : History) (outs : List Out) : Type 0 where
+    pub is_replied : replied j h' ≡ true
+    pub asks : asks_since j h' ≡ asks_since j h
+    pub replies : replies_since j h' ≤ replies_since j h + other_replies k outs
+
+  counts_none : (j k : ℕ) (h : History) → replied j h ≡ true → Counts j k h h []
+  counts_none j k h r = record { is_replied = r; asks = refl; replies = omega arith }
+
+  counts_silent : (j k : ℕ) (past : History) (w : What) (end : History) (xs : List Out) (h : History) → ServerOutsRight c past w end h xs → replied j h ≡ true → Counts j k h (put_all xs h) xs
+  counts_silent j k past w end [] h r rep = counts_none j k h rep
+  counts_silent j k past w end (x ∷ xs) h r rep =
+      let none = no_reply c past w h end x r.0 in
+      let i = counts_silent j k past w end xs (Put x ∷ h) r.1 (or_right (is_reply j x) (replied j h) rep) in
+      let a : asks_since j (Put x ∷ h) ≡ asks_since j h = ap (λ b. if b then one_if (is_ask (newest h)) else asks_since j h) (none.0 j) in
+      let b : replies_since j (Put x ∷ h) ≡ 0 + replies_since j h = ap (λ b. if b then 0 else (if replied j h then one_if (is_some_reply x) + replies_since j h else 0)) (none.0 j) ∙ (ap (λ b. if b then one_if (is_some_reply x) + replies_since j h else 0) rep ∙ ap (λ b. one_if b + replies_since j h) none.1) in
+      let z = i.replies in
+      record { is_replied = i.is_replied; asks = i.asks ∙ a; replies = omega arith }
+
+  counts_reply : (j k l : ℕ) (v : Result Octets Error) (h : History) → replied j h ≡ true → l ≢ j → l ≢ k → Counts j k h (Put (Reply l v) ∷ h) (Reply l v ∷ [])
+  counts_reply j k l v h rep nj nk =
+      let ej : (l == j) ≡ false = grind (arith, nat_tests) in
+      let ek : (l == k) ≡ false = grind (arith, nat_tests) in
+      let b : replies_since j (Put (Reply l v) ∷ h) ≡ 1 + replies_since j h = ap (λ b. if b then 0 else (if replied j h then 1 + replies_since j h else 0)) ej ∙ ap (λ b. if b then 1 + replies_since j h else 0) rep in
+      let o : other_replies k (Reply l v ∷ []) ≡ 1 = ap (λ b. one_if (true && not b) + 0) ek in
+      record { is_replied = or_right (l == j) (replied j h) rep; asks = ap (λ b. if b then one_if (is_ask (newest h)) else asks_since j h) ej; replies = omega arith }
+
+  hit_more : (q r : Request) (m : Octets) (age k : ℕ) (xs ys : List Out) → IsHit q r m age k ys → IsHit q r m age k (xs ++ ys)
+  hit_more q r m age k xs ys (Views x y a b i) = Views x y a b (among_right (Reply k (Ok y)) xs ys i)
+  hit_more q r m age k xs ys (CantRead a i) = CantRead a (among_right (Reply k (Err errors.MessageParseError)) xs ys i)
+
+  module _ (past : History) (w : What) (q r : Request) (j t moment n age k : ℕ) (m o : Octets) (val : validity_of_message s m ≡ Some n) (pos : 0 < n) (ca_q : is_cacheable q ≡ true) (ca_r : is_cacheable r ≡ true) (keys : key_of r ≡ key_of q) (composed : compose r ≡ Ok o) (le : age ≤ n)
+      (few few_r : ℕ) (room : 3 * few + few_r < cap) where
+    abbrev v : Value
+    v = value q j m moment
+
+    -- the entry under the own key serves
+    own_serves : (now : ℕ) → moment + age ≡ now → Serves s v r now
+    own_serves now is =
+        let p = valid_is_read s m n val pos in
+        let same : view_validity s q r (p.0) ≡ n = ap (λ k. validity_of_parts s (viewed k (key_of r) (spelled_name r) 0 (p.0))) (sym keys) ∙ (own_view_valid s (key_of r) (spelled_name r) (p.0) ∙ p.2) in
+        record { message = m; is = refl; parts = p.0; read = p.1; age = age; is_age = is; in_time = subst (λ z. age ≤ z) (sym same) le }
+
+    served_hit : (now : ℕ) (outs : List Out) → moment + age ≡ now → (u : Result Octets Error) → ServedBy v r now u → Among (Reply k u) outs → IsHit q r m age k outs
+    served_hit now outs is _ (Viewing m' y x age' e known is' says) i =
+        let mm : m ≡ m' = cc in
+        let aa : age' ≡ age = same_age age' is' in
+        Views x y (subst (λ z. known_parts z ≡ Some x) (sym mm) known) (subst (λ z. Says y (view_of q r z x)) aa says) i
+      where
+        same_age : (a : ℕ) → moment + a ≡ now → a ≡ age
+        same_age a e = omega arith
+    served_hit now outs is _ (NotReading m' e unknown) i = (let mm : m ≡ m' = cc in CantRead (subst (λ z. known_parts z ≡ None) (sym mm) unknown) i)
+
+    -- what an asking's own key finds
+    finds : (x : Upper P.State) (h : History) (es : Cache) → HitFits (one_if (is_ask x.pending)) es h → x.pending ≡ Ask r → asking j h ≡ Some (record { request = q; moment = t }) → Ever (IsFreshReply c s j m moment) h → replied k h ≡ false → AllAreViews q m j moment k h
+        → asks_since j h ≡ suc few → replies_since j h ≤ few_r → lookup (eq (key_of r)) es ≡ Some v
+    finds x h es f pend ask ever un views a b =
+        let s = f q j t m moment n k ask ever val pos ca_q un views in
+        let one : one_if (is_ask x.pending) ≡ 1 = ap (λ p. one_if (is_ask p)) pend in
+        let fa = s.few_asks in
+        let fb = s.few_replies in
+        let fewer : 3 * s.a + s.b < cap = enough s.a s.b (omega arith) (omega arith) in
+        subst (λ z. lookup (eq z) es ≡ Some v) (sym keys) (hit Value eq eq_refl eq_sym eq_trans cap (key_of q) v s.a s.b s.entries es s.between fewer)
+      where
+        enough : (a b : ℕ) → a ≤ few → b ≤ few_r → 3 * a + b < cap
+        enough a b p q = omega arith
+
+    -- the hit, and no server has the request
+    abbrev pub HitAlone : List Out → History → Type 0
+    HitAlone outs h = IsHit q r m age k outs × ((i : ℕ) → handed k i (put_all outs h) ≡ false)
+
+    step_hit : (x : Upper P.State) (h : History) (es gs : Cache) → Kept c s P past w x h → (d : Made P.State) (move : Move c s compose (machine_of P) x d) → Cached c s compose (machine_of P) eq cap x d move es gs → x.pending ≡ Ask r → x.asked ≡ k → moment + age ≡ x.now → lookup (eq (key_of r)) es ≡ Some v → replied j h ≡ true
+        → (e : Made P.State) → Moves c s compose (machine_of P) d.state e
+        → (d.state.pending ≡ x.pending → d.state.asked ≡ x.asked → Counts j k h (put_all d.outs h) d.outs → HitAlone (d.outs ++ e.outs) h) → HitAlone (d.outs ++ e.outs) h
+    step_hit x h es gs kept _ (Server_moves i d lt act) cached pend is_k is found rep e more rest = rest refl refl (counts_silent j k past w (put_all d.outs h) d.outs h (acts_right_here c s P past w x h kept i lt d act (put_all d.outs h) (λ k e. e)) rep)
+    step_hit x h es gs kept _ (Hands_on i l a d lt held untried st) cached pend is_k is found rep e more rest = rest refl refl (counts_silent j k past w (put_all d.outs h) d.outs h (starts_right_here c s P past w x h kept i lt l a held untried d st (put_all d.outs h) (λ k e. e)) rep)
+    step_hit x h es gs kept _ (Gives_up i l d lt held holds can) cached pend is_k is found rep e more rest =
+        let end : History = Put (Reply l (Err errors.TimedOut)) ∷ put_all d.outs h in
+        rest refl refl (counts_silent j k past w end d.outs h (cancels_right_here c s P past w x h kept i lt l held holds d can end (λ j e. or_right (l == j) (replied j (put_all d.outs h)) e) (replied_now l (put_all d.outs h))) rep)
+      where
+        replied_now : (k : ℕ) (g : History) → replied k (Put (Reply k (Err errors.TimedOut)) ∷ g) ≡ true
+        replied_now k g = grind (arith, nat_tests)
+    step_hit x h es gs kept _ (Drops before after y held no_one) cached pend is_k is found rep e more rest = rest refl refl (counts_none j k h rep)
+    step_hit x h es gs kept _ (Keeps_back before after y a eqn held waits) cached pend is_k is found rep e more rest = rest refl refl (counts_none j k h rep)
+    step_hit x h es gs kept _ (Delivers before after y a z eqn held waits out) cached pend is_k is found rep e more rest = rest refl refl (counts_none j k h rep)
+    step_hit x h es gs kept _ (Concludes l a y z held tried free none eqn out) cached pend is_k is found rep e more rest = rest refl refl (counts_none j k h rep)
+    step_hit x h es gs kept _ (Times_out l a held late) cached pend is_k is found rep e more rest = rest refl refl (counts_none j k h rep)
+    step_hit x h es gs kept _ (Replies before after y eqn) cached pend is_k is found rep e more rest =
+        let f = kept.leaves y (subst (IsIn y) (sym eqn) (in_here y before after)) in
+        rest refl refl (counts_reply j k y.request y.result h rep (λ same. clash (replied j h) rep (subst (λ k. replied k h ≡ false) same f.unreplied)) (λ same. (let lt = f.below in omega arith)))
+    step_hit x h es gs kept _ (Forgets before after z eqn) cached pend is_k is found rep e more rest = rest refl refl (counts_none j k h rep)
+    step_hit x h es gs kept _ (Derives z l i co) cached pend is_k is found rep e more rest = rest refl refl (counts_none j k h rep)
+    step_hit x h es gs kept _ (Answers r' y pend' at) cached pend is_k is found rep e more rest =
+        let asked : Ask r' ≡ Ask r = sym pend' ∙ pend in
+        let same : r' ≡ r = cc in
+        let exact : (o : Octets) → compose r ≡ Ok o → is_cacheable r ≡ true → (v : Value) → lookup (eq (key_of r)) es ≡ Some v → Serves s v r x.now → ServedBy v r x.now y.result = subst (λ r. (o : Octets) → compose r ≡ Ok o → is_cacheable r ≡ true → (v : Value) → lookup (eq (key_of r)) es ≡ Some v → Serves s v r x.now → ServedBy v r x.now y.result) same cached.1 in
+        let served = exact o composed ca_r v found (own_serves x.now is) in
+        let who : y.request ≡ k = (at_once c s compose composes P past w x h kept r' y pend' at).request ∙ is_k in
+        let put = leaving_put y (answer y x) e (in_right y x.leaving (y ∷ []) (inl refl)) more in
+        let t = kept.to_come x.asked (omega arith) in
+        let a' = move_does c s compose composes P past w x h kept (unmade (answer y x)) (Answers r' y pend' at) in
+        (served_hit x.now e.outs is y.result served (subst (λ k. Among (Reply k y.result) e.outs) who put), moves_untried c s compose composes P k past w (answer y x) h e a'.leaves more (record { unheld = subst (λ k. x.held k ≡ None) is_k t.unheld; below = omega arith; unhanded = λ i. subst (λ k. handed k i h ≡ false) is_k (t.unhanded i) }))
+    step_hit x h es gs kept _ (Takes_on r' o' pend' comp lt) cached pend is_k is found rep e more rest =
+        let asked : Ask r' ≡ Ask r = sym pend' ∙ pend in
+        let same : r' ≡ r = cc in
+        let exact : is_cacheable r ≡ true → (v : Value) → lookup (eq (key_of r)) es ≡ Some v → Serves s v r x.now → ⊥ = subst (λ r. is_cacheable r ≡ true → (v : Value) → lookup (eq (key_of r)) es ≡ Some v → Serves s v r x.now → ⊥) same cached.1 in
+        absurd (exact ca_r v found (own_serves x.now is))
+
+    then_alone : (xs ys : List Out) (h : History) → HitAlone ys (put_all xs h) → HitAlone (xs ++ ys) h
+    then_alone xs ys h a = (hit_more q r m age k xs ys a.0, λ i. ap (handed k i) (put_more xs ys h) ∙ a.1 i)
+
+    moves_hit : (x : Upper P.State) (h : History) (d : Made P.State) (moves : Moves c s compose (machine_of P) x d) (es fs : Cache) → Kept c s P past w x h → AllCached c s compose (machine_of P) eq cap x d moves es fs → HitFits (one_if (is_ask x.pending)) es h → x.pending ≡ Ask r → x.asked ≡ k → moment + age ≡ now h
+        → asking j h ≡ Some (record { request = q; moment = t }) → Ever (IsFreshReply c s j m moment) h → AllAreViews q m j moment k (put_all d.outs h) → asks_since j h ≡ suc few → replies_since j h + other_replies k d.outs ≤ few_r → HitAlone d.outs h
+    moves_hit _ h _ (Rests x done) es fs kept cached f pend is_k is ask ever views a b = absurd (clash (is_ask x.pending) (ap is_ask pend) done.taken)
+    moves_hit _ h _ (Goes x d e move more) es fs kept cached f pend is_k is ask ever views a b =
+        let all : OutsRight c s past w (put_all (d.outs ++ e.outs) h) h (d.outs ++ e.outs) = (moves_do c s compose composes P past w x h (record { state = e.state; outs = d.outs ++ e.outs }) kept (Goes x d e move more)).right (put_all (d.outs ++ e.outs) h) (λ k r. r) in
+        let rep : replied j h ≡ true = ever_replied c s j moment m h ever in
+        let now_views : AllAreViews q m j moment k h = views_back past w (put_all (d.outs ++ e.outs) h) q m j moment k (d.outs ++ e.outs) h all rep views in
+        let un : replied k h ≡ false = subst (λ k. replied k h ≡ false) is_k ((kept.to_come x.asked (omega arith)).unreplied) in
+        let found = finds x h es f pend ask ever un now_views a (omega arith) in
+        let g = move_fits past w x h kept d move es (cached.0) cached.1 f in
+        let a' = move_does c s compose composes P past w x h kept d move in
+        let o = others_more k d.outs e.outs in
+        step_hit x h es (cached.0) kept d move cached.1 pend is_k (is ∙ sym kept.clock) found rep e more (λ p n' counts.
+        then_alone d.outs e.outs h (moves_hit d.state (put_all d.outs h) e more (cached.0) fs a'.leaves cached.2 g (p ∙ pend) (n' ∙ is_k) (is ∙ sym (now_all d.outs h)) (asking_all j d.outs h ∙ ask) (ever_all (IsFreshReply c s j m moment) d.outs h ever)
+        (subst (AllAreViews q m j moment k) (put_more d.outs e.outs h) views) (counts.asks ∙ a) (let z = counts.replies in omega arith)))
+
+  row_hits : (old past : History) (u : What) (x : Upper P.State) (row : Row) (x' : Upper P.State) (es fs : Cache) → Kept c s P old u x past → IsDone c s compose (machine_of P) x → IsAskedInOctets row.event.what → (step : IsStep c s compose (machine_of P) x row x') → AllCached c s compose (machine_of P) eq cap (row_begins c s compose (machine_of P) row.event x) step.made step.moves es fs → HitFits 0 es past
+      → Hits c s compose cap past row × (Kept c s P past row.event.what x' (after row past) × IsDone c s compose (machine_of P) x' × HitFits 0 fs (after row past))
+  row_hits old past u x row x' es fs kept done octets step cached f =
+      let e = row.event in
+      let h : History = Came e ∷ past in
+      let d : Made P.State = step.made in
+      let k0 = row_kept c s compose P old u x past kept done e octets in
+      let all = moves_do c s compose composes P past e.what (row_begins c s compose (machine_of P) e x) h d k0 step.moves in
+      let begun = fits_came es e past (λ j rep. known_below j rep (cases_lt j (asks past))) f in
+      let g = moves_fit past e.what (row_begins c s compose (machine_of P) e x) h d step.moves es fs k0 cached begun in (
+        λ q r j t moment n age m o what ask ever val pos ca_q ca_r keys composed is le views room.
+            (let is_k : x.asked ≡ asks past = counted in
+            let rep : replied j past ≡ true = ever_replied c s j moment m past ever in
+            let same_outs : after row past ≡ put_all d.outs h = ap (λ o. put_all o h) step.outs in
+            subst (λ o. IsHit q r m age (asks past) o × ((i : ℕ) → handed (asks past) i (put_all o h) ≡ false)) (sym step.outs)
+            (moves_hit past e.what q r j t moment n age (asks past) m o val pos ca_q ca_r keys composed le (asks_since j past) (replies_since j past + other_replies (asks past) row.outs) room (row_begins c s compose (machine_of P) e x) h d step.moves es fs k0 cached begun what is_k is
+            (asking_came j (record { request = q; moment = t }) e past ask) (inr ever) (subst (AllAreViews q m j moment (asks past)) same_outs views)
+            (ap (λ b. if b then one_if (is_ask e.what) + asks_since j past else 0) rep ∙ (ap (λ w. one_if (is_ask w) + asks_since j past) what ∙ one_more (asks_since j past)))
+            (let z : replies_since j h ≡ replies_since j past = ap (λ b. if b then replies_since j past else 0) rep in let y : other_replies (asks past) row.outs ≡ other_replies (asks past) d.outs = ap (other_replies (asks past)) step.outs in omega arith))),
+        (subst₂ (λ z g. Kept c s P past e.what z g) (sym step.leaves) (sym (ap (λ o. put_all o h) step.outs)) all.leaves, subst (λ z. IsDone c s compose (machine_of P) z) (sym step.leaves) all.done, subst (HitFits 0 fs) (sym (ap (λ o. put_all o h) step.outs)) g),
+      )
+    where
+      counted : x.asked ≡ asks past
+      counted = (let n = kept.count in let z : one_if (is_ask x.pending) ≡ 0 = ap one_if done.taken in omega arith)
+
+      known_below : (j : ℕ) → replied j past ≡ true → (j < asks past) ⊎ (asks past ≤ j) → j < asks past
+      known_below j rep (inl lt) = lt
+      known_below j rep (inr ge) = absurd (let n = counted in clash (replied j past) rep ((kept.to_come j (omega arith)).unreplied))
+
+      one_more : (n : ℕ) → 1 + n ≡ suc n
+      one_more n = omega arith
+
+  rows_hit : (x : Upper P.State) (rows : List Row) (run : IsRun c s compose (machine_of P) x rows) (old past : History) (u : What) (es : Cache) → Kept c s P old u x past → IsDone c s compose (machine_of P) x → AllAskedInOctets (map (λ row. row.event) rows) → RunCached c s compose (machine_of P) eq cap x rows run es → HitFits 0 es past → AllHit c s compose cap past rows
+  rows_hit _ _ (Ends x) old past u es kept done octets cached f = tt
+  rows_hit _ _ (Goes_on x row x' rows step more) old past u es kept done octets cached f =
+      let r = row_hits old past u x row x' es (cached.0) kept done octets.0 step cached.1 f in
+      (r.0, rows_hit x' rows more past (after row past) row.event.what (cached.0) r.1.0 r.1.1 octets.1 cached.2 r.1.2)
+
+  -- Hit: in every run with its cache, an asking with the key of a message that is kept is answered in its own row.
+  pub run_hits : (rows : List Row) (run : IsRun c s compose (machine_of P) (begun c s compose (machine_of P)) rows) → AllAskedInOctets (map (λ row. row.event) rows) → RunCached c s compose (machine_of P) eq cap (begun c s compose (machine_of P)) rows run [] → AllHit c s compose cap [] rows
+  run_hits rows run octets cached = rows_hit (begun c s compose (machine_of P)) rows run [] [] Tick [] (begun_kept c s compose P) (begun_done c s compose P) octets cached (λ q j t m moment n but ask ever. absurd ever)
+
+-- In every run whose cache is exact, over any servers' parts, an asking that the cache must answer is answered in its own row.
+abbrev pub EveryCachedRunOverPartsHits : Type 1
+EveryCachedRunOverPartsHits = (c : Conf) (s : Settings) (compose : Request → Result Octets Error) (P : Part c) (eq : Key → Key → Bool) (cap : ℕ) (rows : List Row)
+    → Composes compose → TellsKeys eq → AllAskedInOctets (map (λ row. row.event) rows) → (run : IsRun c s compose (machine_of P) (begun c s compose (machine_of P)) rows) → RunCached c s compose (machine_of P) eq cap (begun c s compose (machine_of P)) rows run [] → AllHit c s compose cap [] rows
+
+pub cached_run_hits : EveryCachedRunOverPartsHits
+cached_run_hits c s compose P eq cap rows composes same octets run cached = run_hits c s compose composes P eq cap same.itself same.back same.on same.equal rows run octets cached

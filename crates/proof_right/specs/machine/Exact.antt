@@ -1,0 +1,77 @@
+-- The cache exactly as it is kept beside the moves: which entry is used and stored, and when an asking must be answered from one.
+use Rattle.std.specs.Prelude.{◌≡◌, ℕ, ◌+◌, ◌≤◌, Bool, true, if◌then◌else◌, Some, None, List, Result, Ok, Err}
+use Rattle.std.specs.Map.{lookup}
+use Rattle.lru.specs.LruCache.{lru_cache, put_entries}
+use Rattle.dns_base.specs.Data.{Data}
+use Rattle.client_request.specs.Request.{Request}
+use Rattle.client_request.specs.declared.error.Error.{Error}
+use Rattle.client_request.specs.declared.event.Row.{Row}
+use Rattle.right_trace.specs.Trace.{Conf}
+use Rattle.right_trace.specs.Messages.{Octets}
+use Rattle.right_trace.specs.Settings.{Settings}
+use Rattle.right_trace.specs.Keys.{Key, key_of, is_cacheable}
+use Rattle.right_trace.specs.Parts.{Parts, read_parts, known_parts, Says}
+use Rattle.right_trace.specs.Views.{view_of, view_validity}
+use Rattle.proof_right.specs.machine.Part.{ServerPart}
+use Rattle.proof_right.specs.machine.Client.{Leaving, Upper, Made, Move, Server_moves, Hands_on, Gives_up, Drops, Keeps_back, Delivers, Concludes, Times_out, Replies, Forgets, Derives, Answers, Takes_on, Moves, Rests, Goes, IsRun, Ends, Goes_on, row_begins}
+use Rattle.proof_right.specs.machine.Cache.{Op, AskDoes, after_ops}
+use Rattle.client_request.specs.declared.error.Error.TheVariants as errors
+
+-- what is kept under a key: the first reply, whose it was, and when
+pub record Value : Type 0 where
+  pub first : Request
+  pub number : ℕ
+  pub result : Result Octets Error
+  pub moment : ℕ
+
+abbrev pub value_of : (now : ℕ) → Leaving → Value
+value_of n y = record { first = y.asked; number = y.request; result = y.result; moment = n }
+
+-- The message that is kept may be given to r now: its age is at most the validity of its view.
+pub record Serves (s : Settings) (v : Value) (r : Request) (now : ℕ) : Type 0 where
+  pub message : Octets
+  pub is : v.result ≡ Ok message
+  pub parts : Parts Octets
+  pub read : read_parts message ≡ Some parts
+  pub age : ℕ
+  pub is_age : v.moment + age ≡ now
+  pub in_time : age ≤ view_validity s v.first r parts
+
+-- what is then given
+pub data ServedBy (v : Value) (r : Request) (now : ℕ) : Result Octets Error → Type 0 where
+  Viewing : (m y : Octets) (x : Parts Data) (age : ℕ) → v.result ≡ Ok m → known_parts m ≡ Some x → v.moment + age ≡ now → Says y (view_of v.first r age x) → ServedBy v r now (Ok y)
+  NotReading : (m : Octets) → v.result ≡ Ok m → known_parts m ≡ None → ServedBy v r now (Err errors.MessageParseError)
+
+module _ (c : Conf) (s : Settings) (compose : Request → Result Octets Error) (P : ServerPart c) (eq : Key → Key → Bool) (cap : ℕ) where
+  -- an asking looks, or leaves all as it was
+  pub data Looks (r : Request) (es fs : List (Key × Value)) : Type 0 where
+    Looked : (os : List (Op Value)) → AskDoes eq (key_of r) es os → fs ≡ after_ops eq cap os es → Looks r es fs
+    LeftAlone : fs ≡ es → Looks r es fs
+
+  -- the entry under the own key, and what it serves
+  abbrev pub OwnServes : (r : Request) (now : ℕ) → List (Key × Value) → (Value → Type 0) → Type 0
+  OwnServes r n es Q = is_cacheable r ≡ true → (v : Value) → lookup (eq (key_of r)) es ≡ Some v → Serves s v r n → Q v
+
+  abbrev pub Cached : (x : Upper P.State) (d : Made P.State) → Move c s compose P x d → (es fs : List (Key × Value)) → Type 0
+  Cached x _ (Server_moves i d lt act) es fs = fs ≡ es
+  Cached x _ (Hands_on i k a d lt held untried st) es fs = fs ≡ es
+  Cached x _ (Gives_up i k d lt held holds can) es fs = fs ≡ es
+  Cached x _ (Drops before after y is held) es fs = fs ≡ es
+  Cached x _ (Keeps_back before after y a is held waits) es fs = fs ≡ es
+  Cached x _ (Delivers before after y a z is held waits out) es fs = fs ≡ es
+  Cached x _ (Concludes k a y z held tried free none is out) es fs = fs ≡ es
+  Cached x _ (Times_out k a held late) es fs = fs ≡ es
+  Cached x _ (Replies before after y is) es fs = fs ≡ (if y.is_stored then put_entries eq (lru_cache es cap) (key_of y.asked) (value_of x.now y) else es)
+  Cached x _ (Forgets before after e is) es fs = fs ≡ es
+  Cached x _ (Derives e k j covers) es fs = fs ≡ es
+  Cached x _ (Answers r y pend at) es fs = Looks r es fs × ((o : Octets) → compose r ≡ Ok o → OwnServes r x.now es (λ v. ServedBy v r x.now y.result))
+  Cached x _ (Takes_on r o pend composed lt) es fs = Looks r es fs × OwnServes r x.now es (λ v. ⊥)
+
+  abbrev pub AllCached : (x : Upper P.State) (d : Made P.State) → Moves c s compose P x d → (es fs : List (Key × Value)) → Type 0
+  AllCached _ _ (Rests x done) es fs = fs ≡ es
+  AllCached _ _ (Goes x d e move more) es fs = (gs : List (Key × Value)) × Cached x d move es gs × AllCached d.state e more gs fs
+
+  -- a run with its cache
+  abbrev pub RunCached : (x : Upper P.State) (rows : List Row) → IsRun c s compose P x rows → List (Key × Value) → Type 0
+  RunCached _ _ (Ends x) es = Unit {0}
+  RunCached _ _ (Goes_on x row x' rows step more) es = (fs : List (Key × Value)) × AllCached (row_begins c s compose P row.event x) step.made step.moves es fs × RunCached x' rows more fs
