@@ -3,7 +3,6 @@
 ghost use Rattle.std.specs.Prelude.{◌≡◌, Some, None, Ok, IfOk, IfErr, IsErrOf, [], map};
 ghost use Rattle.client_request.specs.Timers.{IsWant};
 ghost use Rattle.proof_cutting.specs.Cuts.{MayBeCut};
-ghost use Rattle.proof_client.specs.Above.{AreWords};
 ghost use Rattle.client_steps.specs.Headline.{conf_of, settings_of};
 ghost use Rattle.client_steps.specs.Whole.{plain_trace};
 ghost use Rattle.client_cache.specs.Plain.{room_of};
@@ -24,8 +23,7 @@ pub trait Replay {
     /// The trace of a client that is told these events and draws these words: a row for each event, in
     /// order. `NoMemory`, or `NumbersUsed` where a number would pass the greatest `u64`.
     ///
-    /// The trace is right and timely whatever the events are, as long as each word that comes has 64 bits; and what is kept is
-    /// given: a request with the key of a message that is kept is answered from the cache in its own row, few enough requests
+    /// The trace is right and timely whatever the events are; and what is kept is given: a request with the key of a message that is kept is answered from the cache in its own row, few enough requests
     /// and replies later. Where the octets that one event brings to a stream come in several, one behind another at one moment,
     /// the same is put out in the same order, and the same client is left.
     fn replay<W: Words>(
@@ -38,10 +36,10 @@ pub trait Replay {
     ) -> Result<Trace, Error>
         ensures plain { IfOk result (λ t. plain_trace redundant cache conf.now (W.stream words.old) events.now ≡ Some t.rows) }
         ensures events { IfOk result (λ t. map (λ row. row.event) t.rows ≡ events.now) }
-        ensures right { IfOk result (λ t. AreWords (W.stream words.old) → Right (conf_of conf.now) (settings_of redundant cache) t.rows) }
-        ensures timely { IfOk result (λ t. AreWords (W.stream words.old) → Timely (conf_of conf.now) t.rows) }
-        ensures hits { IfOk result (λ t. AreWords (W.stream words.old) → AllHit (conf_of conf.now) (settings_of redundant cache) composed (room_of cache) [] t.rows) }
-        ensures cut { IfOk result (λ t. AreWords (W.stream words.old) → MayBeCut redundant cache conf.now (W.stream words.old) events.now t.rows) }
+        ensures right { IfOk result (λ t. Right (conf_of conf.now) (settings_of redundant cache) t.rows) }
+        ensures timely { IfOk result (λ t. Timely (conf_of conf.now) t.rows) }
+        ensures hits { IfOk result (λ t. AllHit (conf_of conf.now) (settings_of redundant cache) composed (room_of cache) [] t.rows) }
+        ensures cut { IfOk result (λ t. MayBeCut redundant cache conf.now (W.stream words.old) events.now t.rows) }
         ensures numbers { IsErrOf result Error.NumbersUsed → plain_trace redundant cache conf.now (W.stream words.old) events.now ≡ None }
         ensures refused { IfErr result IsWant };
 }

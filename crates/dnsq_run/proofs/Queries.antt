@@ -9,6 +9,7 @@ use Rattle.client_request.specs.Request.{Request}
 use Rattle.client_request.specs.declared.error.Error.{Error}
 use Rattle.client_request.specs.declared.event.Out.TheVariants.{Reply}
 use Rattle.client_request.specs.declared.event.What.TheVariants.{Ask}
+use Rattle.proof_client.specs.Above.{AreWords}
 use Rattle.proof_client.specs.Ties.{EveryPlainTraceIsRight}
 use Rattle.client_settings.specs.Settings.{default_cache, default_redundant, seconds}
 use Rattle.client_steps.specs.Whole.{Whole, started}
@@ -77,10 +78,10 @@ week : (default_cache).max_validity ≤ seconds 6048000
 week = omega arith
 
 -- what was answered to a new client whose edge learned its servers
-pub replied : EveryPlainTraceIsRight → (q : Query) (conf : ResolvConf) (old new : World) (client left : Whole) (request : Request) (deeds : Option (List Deed)) (polls : ℕ) (answer : Option (Result (List ℕ) Error))
+pub replied : EveryPlainTraceIsRight → (q : Query) (conf : ResolvConf) (old new : World) → AreWords old.words → (client left : Whole) (request : Request) (deeds : Option (List Deed)) (polls : ℕ) (answer : Option (Result (List ℕ) Error))
     → client ≡ started default_redundant default_cache conf → request ≡ request_of q → deeds ≡ after_deeds (map (λ server. Learned server) conf.servers) old.deeds → polls ≡ old.polls
     → IsAnswered 0 1000000 request (scene client old.words deeds polls old.moments) (scene left new.words new.deeds new.polls new.moments) answer → IsReplied q conf old new answer
-replied law q conf old new client left request deeds polls answer is asks learned polled a =
+replied law q conf old new small client left request deeds polls answer is asks learned polled a =
     let same : scene client old.words deeds polls old.moments ≡ begun conf old = cc in
     let b : IsAnswered 0 1000000 (request_of q) (begun conf old) (scene left new.words new.deeds new.polls new.moments) answer =
     subst (λ (r : Request). IsAnswered 0 1000000 r (begun conf old) (scene left new.words new.deeds new.polls new.moments) answer) asks
@@ -88,8 +89,8 @@ replied law q conf old new client left request deeds polls answer is asks learne
     record {
       left = left;
       answered = b;
-      right = λ small. (law default_redundant default_cache conf old.words (events_of (rows_of b.asked.asking b.asked.turns)) (rows_of b.asked.asking b.asked.turns) b.plain (record { limited = week; small = small; asked = b.asked.octets; octets = b.asked.comes })).0;
-      timely = λ small. (law default_redundant default_cache conf old.words (events_of (rows_of b.asked.asking b.asked.turns)) (rows_of b.asked.asking b.asked.turns) b.plain (record { limited = week; small = small; asked = b.asked.octets; octets = b.asked.comes })).1;
+      right = (law default_redundant default_cache conf old.words (events_of (rows_of b.asked.asking b.asked.turns)) (rows_of b.asked.asking b.asked.turns) b.plain (record { limited = week; small = small; asked = b.asked.octets; octets = b.asked.comes })).0;
+      timely = (law default_redundant default_cache conf old.words (events_of (rows_of b.asked.asking b.asked.turns)) (rows_of b.asked.asking b.asked.turns) b.plain (record { limited = week; small = small; asked = b.asked.octets; octets = b.asked.comes })).1;
     }
 
 -- or a number would have passed 64 bits

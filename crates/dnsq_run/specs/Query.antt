@@ -8,7 +8,6 @@ use Rattle.client_request.specs.declared.event.Event.{Event}
 use Rattle.client_request.specs.declared.event.Out.TheVariants.{Reply}
 use Rattle.client_request.specs.declared.event.Row.{Row}
 use Rattle.client_request.specs.declared.event.What.TheVariants.{Ask, Tick}
-use Rattle.proof_client.specs.Above.{AreWords}
 use Rattle.client_settings.specs.Settings.{default_cache, default_redundant}
 use Rattle.client_steps.specs.Headline.{conf_of, settings_of}
 use Rattle.client_steps.specs.Whole.{Whole, plain_trace, started}
@@ -68,8 +67,8 @@ around deeds polls given stream old new P = P (world (stream old.2) (deeds old.0
 pub record IsReplied (q : Query) (conf : ResolvConf) (old new : World) (answer : Option (Result (List ℕ) Error)) : Type 0 where
   pub left : Whole
   pub answered : IsAnswered 0 1000000 (request_of q) (begun conf old) (scene left new.words new.deeds new.polls new.moments) answer
-  pub right : AreWords old.words → Right (conf_of conf) (settings_of default_redundant default_cache) (rows_of answered.asked.asking answered.asked.turns)
-  pub timely : AreWords old.words → Timely (conf_of conf) (rows_of answered.asked.asking answered.asked.turns)
+  pub right : Right (conf_of conf) (settings_of default_redundant default_cache) (rows_of answered.asked.asking answered.asked.turns)
+  pub timely : Timely (conf_of conf) (rows_of answered.asked.asking answered.asked.turns)
 
 -- The configuration is what the text says, finalized, with the query's port; the text is that of the source, where it tells it.
 pub record IsConfOf (q : Query) (told : Option (List ℕ)) (conf : ResolvConf) : Type 0 where

@@ -13,7 +13,6 @@ ghost use Rattle.dnsq_run.specs.Program.{first_lane, rows_of, IsReplayed, IsRefu
 
 use crate::ending::Ending;
 use crate::lines::{refused_line, says};
-use crate::short_words::words_are_short;
 use crate::statuses::{NO_MEMORY, NUMBERS_USED, REFUSED, SOURCE_FAULT};
 use crate::telling::text_of;
 use crate::usage::Command;
@@ -87,7 +86,6 @@ pub fn trace_of(alloc: Global, script: Script) -> Result<Trace, Ending>
         words,
         lanes,
     } = script;
-    words_are_short(words.as_slice());
     let mut words = ListWords::new(words);
     match Client::replay(
         alloc,
