@@ -1,0 +1,60 @@
+"""Says where docs/SCRIPTS.md and README.md name what the code does not have, or leave out what it has. It proves nothing.
+
+usage: python3 tests/documented.py
+
+The names of events, outs, faults, errors and settings stand in definitions as `codes "NAME"`, the exit statuses in
+crates/dnsq_run/src/statuses.rt; each must stand in the tables of the documents, and no other.
+"""
+
+import pathlib
+import re
+import sys
+
+TOP = pathlib.Path(__file__).resolve().parent.parent
+SPECS = TOP / "crates/dns_script/specs"
+
+
+def names(path, table):
+    """The names of a table of definitions."""
+    text = path.read_text(encoding="utf-8")
+    body = re.search(rf"^{table} =\n?(.*?)∷ \[\]", text, re.M | re.S)
+    return set(re.findall(r'codes "([^"]+)"', body.group(1))) if body else set()
+
+
+def rows(text, heading):
+    """The first words of the rows of the table under a heading."""
+    part = re.split(r"\n##+ ", text.split(heading, 1)[1], maxsplit=1)[0]
+    part = part.split("|---", 1)[1].split("\n\n", 1)[0]
+    return {m.split(" ")[0] for m in re.findall(r"^\| `(?:> )?([^`]+)`", part, re.M)}
+
+
+def compared(what, documented, real):
+    faults = [f"docs/SCRIPTS.md: {what} {it} is in no definition" for it in sorted(documented - real)]
+    return faults + [f"docs/SCRIPTS.md: {what} {it} is not documented" for it in sorted(real - documented)]
+
+
+def main():
+    scripts = (TOP / "docs/SCRIPTS.md").read_text(encoding="utf-8")
+    faults = compared("line", rows(scripts, "## A script"), names(SPECS / "Names.antt", "script_names"))
+    faults += compared("event", rows(scripts, "### Events"), names(SPECS / "Names.antt", "event_names"))
+    faults += compared("fault", rows(scripts, "| Fault |"), names(SPECS / "Names.antt", "fault_names"))
+    faults += compared("setting", rows(scripts, "### Settings"), names(SPECS / "Settings.antt", "setting_names"))
+    faults += compared("out", rows(scripts, "## A trace"), names(SPECS / "Names.antt", "out_names"))
+    told = scripts.split("The errors are", 1)[1].split(".", 1)[0]
+    errors = {it.split(" ")[0] for it in re.findall(r"`([^`]+)`", told)} - {"KIND", "Connect", "Send", "Timeout", "Receive"}
+    real = names(SPECS / "Names.antt", "error_names") | {"Dgram", "StreamReadError", "StreamWriteError"}
+    faults += compared("error", errors, real)
+    readme = (TOP / "README.md").read_text(encoding="utf-8")
+    told = set(re.findall(r"^\| (\d) \|", readme, re.M))
+    code = (TOP / "crates/dnsq_run/src/statuses.rt").read_text(encoding="utf-8")
+    have = set(re.findall(r"Status\((\d)\)", code)) | {"0"}
+    faults += [f"README.md: the status {it} is not in both the document and the code" for it in sorted(told ^ have)]
+    commands = set(re.findall(r"^\| `(\w+)[^`]*` \|", readme.split("## dnsq", 1)[1].split("##", 1)[0], re.M))
+    usage = (TOP / "crates/dnsq_run/src/usage.rt").read_text(encoding="utf-8")
+    faults += [f"README.md: no command {it}" for it in sorted(commands) if f'"{it}"' not in usage and it not in usage]
+    print(*faults, sep="\n", end="\n" if faults else "")
+    return 1 if faults else 0
+
+
+if __name__ == "__main__":
+    sys.exit(main())
