@@ -11,6 +11,7 @@ use Rattle.std.specs.Set.{remove_key}
 use Rattle.client_request.specs.Board.{Part}
 use Rattle.client_request.specs.Numbered.{puts, frees, entry_at}
 use Rattle.client_request.specs.Requests.{Requests}
+use Rattle.client_request.specs.Response as response
 use Rattle.client_request.specs.View.{View, Heard, Transport, told, more_at, due_timer, word, drawn, asks, answers, sets_timer, drops_timer, draws_ticket, draws_place}
 use Rattle.client_request.specs.declared.error.Error.{Error}
 use Rattle.client_request.specs.declared.error.Error.TheVariants as errors
@@ -216,9 +217,8 @@ pub record Dgram (R : Type 0) : Type 0 where
   pub failed : Bool
 
 -- what stands for the result of a request
-pub record Asked : Type 0 where
-  pub ticket : ℕ
-  pub given : Bool
+abbrev pub Asked : Type 0
+Asked = response.Asked
 
 module _ {R : Type 0} where
   abbrev pub fresh : Tables R

@@ -1,18 +1,17 @@
 //! The transport over one server by datagrams.
 
 ghost use Rattle.std.specs.Prelude.{◌≡◌, true, false, IsOkAnd};
-ghost use Rattle.client_request.specs.Response.{response_of};
 ghost use Rattle.client_dgram.specs.Plain as plain;
 ghost use Rattle.client_dgram.specs.Settings.{default_settings};
 
 use crate::config::Config;
-use crate::tables::{Tables, give_up, hear, take_on};
+use crate::steps::{give_up, hear, take_on};
+use crate::tables::Tables;
 use client_request::{
-    Board, ComposeRequest, Cx, Error, GetResponse, Poll, SendRequest, Signal, Words, take_response,
+    ComposeRequest, Cx, Error, GetResponse, Latch, Pending, SendRequest, Signal, Words,
 };
-use dns_base::{Message, NoMemory};
+use dns_base::NoMemory;
 use std::alloc::Global;
-use std::fmt;
 use std::marker::Model;
 
 /// A server that is asked by datagrams. `server` is the number that its outs name.
@@ -21,7 +20,7 @@ pub struct Connection<Req> {
     server: u32,
     config: Config,
     tables: Tables<Req>,
-    failed: bool,
+    failed: Latch,
 }
 
 impl<Req> Model for Connection<Req> {
@@ -52,7 +51,7 @@ impl<Req> Connection<Req> {
             server,
             config,
             tables: Tables::new(alloc),
-            failed: false,
+            failed: Latch::new(),
         })
     }
 
@@ -67,54 +66,19 @@ impl<Req> Connection<Req> {
     pub fn has_failed(&self) -> bool
         ensures { result ≡ self.now.failed }
     {
-        self.failed
+        self.failed.is_set()
     }
 
     /// Lets each later call answer `Failed`, for what holds it and could not go on.
     pub fn fail(&mut self)
         ensures { self.new ≡ record self.old { failed = true } }
     {
-        self.failed = true;
-    }
-}
-
-/// What stands for the result of a request by datagrams.
-#[derive(Drop)]
-pub struct Request {
-    ticket: u64,
-    given: bool,
-}
-
-impl Model for Request {
-    ghost use Rattle.client_dgram.specs.Plain.{Asked};
-
-    ghost Value = { Asked };
-
-    ghost view = { λ r. record { ticket = r.ticket; given = r.given } };
-}
-
-impl fmt::Debug for Request {
-    fn fmt<W: fmt::Write>(&self, f: &mut fmt::Formatter<W>) -> fmt::Result {
-        f.write_str("Request { fut: _ }")
-    }
-}
-
-impl GetResponse for Request {
-    ghost ticket_of = { λ r. r.ticket };
-
-    ghost has_given = { λ r. r.given };
-
-    fn get_response(&mut self, board: &mut Board) -> Poll<Result<Message, Error>> {
-        take_response(board, self.ticket, &mut self.given)
-    }
-
-    fn ticket(&self) -> u64 {
-        self.ticket
+        self.failed.set();
     }
 }
 
 impl<Req: ComposeRequest> SendRequest<Req> for Connection<Req> {
-    type Response = Request;
+    type Response = Pending;
 
     ghost has_failed = { λ c. c.failed };
 
@@ -126,41 +90,22 @@ impl<Req: ComposeRequest> SendRequest<Req> for Connection<Req> {
         &mut self,
         cx: &mut Cx<'_, W>,
         request: Req,
-    ) -> Result<Request, Error> {
-        if self.failed {
-            return Err(Error::Failed);
-        }
-        match take_on(&mut self.tables, self.server, &self.config, cx, request) {
-            Ok(ticket) => Ok(Request {
-                ticket,
-                given: false,
-            }),
-            Err(error) => {
-                self.failed = true;
-                Err(error)
-            }
-        }
+    ) -> Result<Pending, Error> {
+        self.failed.check()?;
+        let taken = take_on(&mut self.tables, self.server, &self.config, cx, request);
+        let ticket = self.failed.keep(taken)?;
+        Ok(Pending::new(ticket))
     }
 
     fn step<W: Words>(&mut self, cx: &mut Cx<'_, W>, signal: Signal<'_>) -> Result<(), Error> {
-        if self.failed {
-            return Err(Error::Failed);
-        }
-        let result = hear(&mut self.tables, self.server, &self.config, cx, signal);
-        if result.is_err() {
-            self.failed = true;
-        }
-        result
+        self.failed.check()?;
+        let heard = hear(&mut self.tables, self.server, &self.config, cx, signal);
+        self.failed.keep(heard)
     }
 
-    fn cancel<W: Words>(&mut self, cx: &mut Cx<'_, W>, response: Request) -> Result<(), Error> {
-        if self.failed {
-            return Err(Error::Failed);
-        }
-        let result = give_up(&mut self.tables, self.server, cx, response.ticket);
-        if result.is_err() {
-            self.failed = true;
-        }
-        result
+    fn cancel<W: Words>(&mut self, cx: &mut Cx<'_, W>, response: Pending) -> Result<(), Error> {
+        self.failed.check()?;
+        let given_up = give_up(&mut self.tables, self.server, cx, response.ticket());
+        self.failed.keep(given_up)
     }
 }

@@ -15,11 +15,12 @@ mod connection;
 mod job;
 mod list_sockets;
 mod sockets;
+mod steps;
 mod tables;
 
-pub use client_request::{QueryError, QueryErrorKind};
+pub use client_request::{Pending as Request, QueryError, QueryErrorKind};
 pub use config::Config;
-pub use connection::{Connection, Request};
+pub use connection::Connection;
 pub use job::{Job, Stage};
 pub use list_sockets::{ListConnect, ListDgram};
 pub use sockets::{Connect, DgramRecv, DgramSend};

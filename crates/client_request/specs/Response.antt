@@ -49,6 +49,11 @@ abbrev pub ended_after : (ended : Bool) → Poll Part → Bool
 ended_after ended Pending = ended
 ended_after ended (Ready part) = ended || is_end part
 
+-- what stands for the result of a request: its ticket, and whether the result was given
+pub record Asked : Type 0 where
+  pub ticket : ℕ
+  pub given : Bool
+
 -- why a call of a transport gives up
 abbrev pub IsRefusal : Error → Type 0
 IsRefusal NoMemory = Unit {0}

@@ -18,7 +18,7 @@ pub struct Posted {
     /// The ticket of the response that it is for.
     pub ticket: u64,
     /// The result, or a part of it.
-    pub part: Result<Option<Message>, Error>,
+    pub part: Part,
 }
 
 /// The parts that were put and not taken, in the order in which they were put.
@@ -54,14 +54,12 @@ impl Board {
     }
 
     /// Puts a part for a ticket behind all others. After want of memory nothing was put.
-    pub fn put(&mut self, ticket: u64, part: Result<Option<Message>, Error>) -> Result<(), NoMemory>
+    pub fn put(&mut self, ticket: u64, part: Part) -> Result<(), NoMemory>
         ensures ok { OnOk result (self.new ≡ posted ticket part self.old) }
         ensures err { OnErr result (self.new ≡ self.old) }
     {
-        match self.posted.push_back(Posted { ticket, part }) {
-            Ok(()) => Ok(()),
-            Err(_) => Err(NoMemory),
-        }
+        self.posted.push_back(Posted { ticket, part })?;
+        Ok(())
     }
 
     /// Lets go what stands, and keeps the memory for what is put next.
@@ -81,7 +79,7 @@ impl Board {
     }
 
     /// Takes the oldest part of a ticket.
-    pub fn take(&mut self, ticket: u64) -> Option<Result<Option<Message>, Error>>
+    pub fn take(&mut self, ticket: u64) -> Option<Part>
         ensures value { result ≡ part_of ticket self.old }
         ensures rest { self.new ≡ without_part ticket self.old }
     {

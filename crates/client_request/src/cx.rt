@@ -1,6 +1,11 @@
 //! What a transport is given at each call.
 
+ghost use Rattle.std.specs.Prelude.{◌≡◌, ◌+◌, true, false, IfOk, IfErr, OnOk, OnErr};
+ghost use Rattle.client_request.specs.Timers.{can_draw};
+ghost use Rattle.client_request.specs.declared.error.Error.TheVariants as errors;
+
 use crate::board::Board;
+use crate::error::Error;
 use crate::event::{Moment, What};
 use crate::lists::Outs;
 use crate::timers::{TimerId, Timers};
@@ -31,6 +36,44 @@ pub struct Cx<'a, W> {
     pub request: u64,
     /// Set by a step at whose place another whole frame stands; the caller steps again, by `More`.
     pub more: bool,
+}
+
+impl<'a, W> Cx<'a, W> {
+    /// Draws the next ticket. `NumbersUsed` where the one after it would pass the greatest `u64`; then
+    /// nothing is changed.
+    pub fn draw_ticket(&mut self) -> Result<u64, Error>
+        ensures drawn { IfOk result (λ ticket. ticket ≡ self.old.ticket) }
+        ensures left { OnOk result (self.new ≡ record self.old { ticket = self.old.ticket + 1 }) }
+        ensures draws { OnOk result (can_draw self.old.ticket ≡ true) }
+        ensures used { OnErr result (can_draw self.old.ticket ≡ false) }
+        ensures numbers { IfErr result (λ e. e ≡ errors.NumbersUsed) }
+        ensures err { OnErr result (self.new ≡ self.old) }
+    {
+        let ticket = self.ticket;
+        let Some(next) = ticket.checked_add(1) else {
+            return Err(Error::NumbersUsed);
+        };
+        self.ticket = next;
+        Ok(ticket)
+    }
+
+    /// Draws the next place. `NumbersUsed` where the one after it would pass the greatest `u64`; then
+    /// nothing is changed.
+    pub fn draw_place(&mut self) -> Result<u64, Error>
+        ensures drawn { IfOk result (λ place. place ≡ self.old.place) }
+        ensures left { OnOk result (self.new ≡ record self.old { place = self.old.place + 1 }) }
+        ensures draws { OnOk result (can_draw self.old.place ≡ true) }
+        ensures used { OnErr result (can_draw self.old.place ≡ false) }
+        ensures numbers { IfErr result (λ e. e ≡ errors.NumbersUsed) }
+        ensures err { OnErr result (self.new ≡ self.old) }
+    {
+        let place = self.place;
+        let Some(next) = place.checked_add(1) else {
+            return Err(Error::NumbersUsed);
+        };
+        self.place = next;
+        Ok(place)
+    }
 }
 
 /// What a transport hears.

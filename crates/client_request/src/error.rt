@@ -6,6 +6,7 @@ ghost use Rattle.client_request.specs.declared.error.CopyRecordsError.TheVariant
 
 use crate::fault::Fault;
 use dns_base::{LongOptData, NoMemory, ParseError, PushError, ShortMessage};
+use std::alloc::AllocFailed;
 
 /// Why a datagram try failed: what was being done, and the fault.
 #[derive(Clone, Copy, Debug, PartialEq, Eq, Hash)]
@@ -122,6 +123,14 @@ impl From<NoMemory> for Error {
     ghost from_gives = { λ _ e. e ≡ errors.NoMemory };
 
     fn from(_error: NoMemory) -> Error {
+        Error::NoMemory
+    }
+}
+
+impl<T: Drop> From<AllocFailed<T>> for Error {
+    ghost from_gives = { λ _ e. e ≡ errors.NoMemory };
+
+    fn from(_error: AllocFailed<T>) -> Error {
         Error::NoMemory
     }
 }

@@ -3,10 +3,9 @@
 ghost use Rattle.std.specs.Prelude.{◌≡◌, ℕ, Bool};
 ghost use Rattle.client_request.specs.Response.{part_response_of, board_after, is_end, ended_after};
 
-use crate::board::Board;
+use crate::board::{Board, Part};
 use crate::error::Error;
 use crate::response::Poll;
-use dns_base::Message;
 
 /// What stands for the results of one request: messages one after another, and then an end. The end is
 /// None, or any error but `WrongReplyForQuery`, after which more messages may come.
@@ -19,7 +18,7 @@ pub trait GetResponseMulti: Drop {
 
     /// The oldest result that stands for it on the board, which then has it no more. Once the end was given
     /// the answer is `ConnectionClosed`.
-    fn get_response(&mut self, board: &mut Board) -> Poll<Result<Option<Message>, Error>>
+    fn get_response(&mut self, board: &mut Board) -> Poll<Part>
         ensures value { result ≡ part_response_of (has_ended self.old) (ticket_of self.old) board.old }
         ensures taken { board.new ≡ board_after (has_ended self.old) (ticket_of self.old) board.old }
         ensures ended { has_ended self.new ≡ ended_after (has_ended self.old) result }
@@ -31,7 +30,7 @@ pub trait GetResponseMulti: Drop {
 }
 
 /// Whether nothing comes after a result.
-fn is_end(part: &Result<Option<Message>, Error>) -> bool
+fn is_end(part: &Part) -> bool
     ensures { result ≡ is_end part.now }
 {
     match part {
@@ -43,11 +42,7 @@ fn is_end(part: &Result<Option<Message>, Error>) -> bool
 }
 
 /// The next result of the request with a ticket, of which `ended` says whether the end was given before.
-pub fn take_part(
-    board: &mut Board,
-    ticket: u64,
-    ended: &mut bool,
-) -> Poll<Result<Option<Message>, Error>>
+pub fn take_part(board: &mut Board, ticket: u64, ended: &mut bool) -> Poll<Part>
     ensures value { result ≡ part_response_of ended.old ticket board.old }
     ensures taken { board.new ≡ board_after ended.old ticket board.old }
     ensures ended { ended.new ≡ ended_after ended.old result }
