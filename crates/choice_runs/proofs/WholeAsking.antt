@@ -4,13 +4,12 @@ use Rattle.std.specs.Prelude.{option_and_then}
 use Rattle.client_request.specs.Carries.{IsOfOctets}
 use Rattle.client_request.specs.Numbered.{entry_at}
 use Rattle.client_request.specs.Request.{Request}
-use Rattle.client_request.specs.Response.{Asked}
 use Rattle.client_request.specs.Timers.{can_draw}
 use Rattle.client_request.specs.View.{View, word, drawn}
 use Rattle.client_request.specs.Words.{rest_of}
 use Rattle.client_request.specs.declared.event.What.{What}
 use Rattle.client_choice.specs.Choice.{Choice, takes_on, drops}
-use Rattle.client_choice.specs.Redundant.{with_choice, transport, takes, takes_listed, by_estimate, probe, asks_for_probe, probed_place, with_probe}
+use Rattle.client_choice.specs.Redundant.{with_choice, transport, takes, takes_listed, by_estimate, probe, asks_for_probe, probed_place, with_probe, Asked}
 use Rattle.client_choice.specs.Servers.{Server}
 use Rattle.client_choice.specs.declared.job.ListedServer.{ListedServer}
 use Rattle.headline.specs.machine.Streams.{with_at}

@@ -2,7 +2,6 @@
 use Rattle.std.proofs.Common.{◌≡◌, ℕ, ◌+◌, ◌⊎◌, inl, inr, le_refl, le_trans, Bool, true, false, nat_lt, if◌then◌else◌, List, [], ◌∷◌, ◌++◌, length, Option, Some, None, refl, sym, ap, ap₂, ◌∙◌, slice_get}
 use Rattle.std.specs.Prelude.{set, option_map, option_and_then}
 use Rattle.client_request.specs.Numbered.{frees, entry_at}
-use Rattle.client_request.specs.Response.{Asked}
 use Rattle.client_request.specs.Timers.{can_draw}
 use Rattle.client_request.specs.View.{View, Transport, more_at, word, drawn}
 use Rattle.client_request.specs.declared.event.Out.{Out}
@@ -10,7 +9,7 @@ use Rattle.client_settings.specs.Settings.{RedundantSettings}
 use Rattle.client_choice.specs.Choice as choice
 use Rattle.client_choice.specs.Choice.{Choice, ChoiceJob, unset, stopped, drops_response, drops_each, drops_job, drops, fresh_job, runs, takes_on, due, hears_all}
 use Rattle.client_choice.specs.Redundant as redundant
-use Rattle.client_choice.specs.Redundant.{Redundant, entry_of, lined_up, all_lined_up, by_estimate, asks_for_probe, probed_place, probe, with_probe, takes_listed, takes, with_choice}
+use Rattle.client_choice.specs.Redundant.{Redundant, Asked, entry_of, lined_up, all_lined_up, by_estimate, asks_for_probe, probed_place, probe, with_probe, takes_listed, takes, with_choice}
 use Rattle.client_choice.specs.Servers.{Server, onto, dropped, drops_found, drops_at}
 use Rattle.client_choice.specs.declared.job.ListedServer.{ListedServer}
 use Rattle.client_choice.specs.declared.job.Started.{Started}

@@ -15,16 +15,18 @@ loop-server-preserved g c =
       keeps = c.in_ok-hear_one.ensures.holds.keeps ∙ c.loop-server.invariant.keeps;
     }
 
-pub returns-in_err-hear_one-clause-holds : goal.returns-in_err-hear_one-clause-holds
-returns-in_err-hear_one-clause-holds g c =
+pub returns-in_err-hear_one : goal.returns-in_err-hear_one
+returns-in_err-hear_one g c =
     let next : c.loop-server.server < length c.args.choice.now.servers = grind (arith, common_steps) in
     record {
-      lends = search rules;
-      ok = search rules;
-      numbers = λ is.
-          sym c.loop-server.invariant.same
-          ∙ hears_stop g.U.SendRequest.transport c.args.config.now (length c.args.choice.now.servers) c.loop-server.server _ c.loop-server.choice _ next (c.in_err-hear_one.ensures.holds.numbers (search rules));
-      keeps = search rules;
-      refused = search rules;
-      failed_only = search rules;
+      holds = record {
+        lends = search rules;
+        ok = search rules;
+        numbers = λ is.
+            sym c.loop-server.invariant.same
+            ∙ hears_stop g.U.SendRequest.transport c.args.config.now (length c.args.choice.now.servers) c.loop-server.server _ c.loop-server.choice _ next (c.in_err-hear_one.ensures.holds.numbers (search rules));
+        keeps = search rules;
+        refused = search rules;
+        failed_only = search rules;
+      };
     }
