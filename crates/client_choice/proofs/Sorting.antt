@@ -1,7 +1,7 @@
 -- A stable sort by estimate gives what lining up the entries one after another gives.
 use Rattle.std.proofs.Common.{◌≡◌, ℕ, suc, ◌+◌, ◌<◌, ◌≤◌, ◌==◌, Bool, true, false, not, ◌&&◌, List, [], ◌∷◌, ◌++◌, length, cond, refl, sym, ap, subst, ◌∙◌, arith, append-nil, append_assoc, Some, None, Less, Equal, Greater}
 use mathlib.Core.Path.{fun_ext}
-use Rattle.std.specs.Prelude.{nat_lt, slice_index_or, Option}
+use Rattle.std.specs.Prelude.{nat_lt, slice_index_or}
 use Rattle.std.specs.List.{filter, position_or_len}
 use Rattle.std.specs.List.Sorted.{IsNonDecreasingBy, IsStableByKey}
 use Rattle.std.specs.Ordering.{nat_cmp, is_lt}

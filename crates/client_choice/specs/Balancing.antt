@@ -5,6 +5,7 @@
 use Rattle.std.specs.Prelude.{ℕ, ◌||◌, Bool, false, List, [], ◌∷◌, ◌++◌, Option, Some, option_map, option_and_then, Result, Ok, Err}
 use Rattle.client_request.specs.Board.{Part}
 use Rattle.client_request.specs.Requests.{Requests}
+use Rattle.client_request.specs.Response as response
 use Rattle.client_request.specs.View.{View, Heard, Transport, answers, draws_ticket}
 use Rattle.client_request.specs.declared.error.Error.{Error}
 use Rattle.client_choice.specs.declared.job.ListedServer.{ListedServer}
@@ -84,9 +85,8 @@ pub record Balancer (R U P : Type 0) : Type 0 where
   pub failed : Bool
 
 -- what stands for the result of a request
-pub record Asked : Type 0 where
-  pub ticket : ℕ
-  pub given : Bool
+abbrev pub Asked : Type 0
+Asked = response.Asked
 
 module _ {R U P : Type 0} where
   abbrev pub no_parts : Parts R U P

@@ -1,6 +1,7 @@
 pub mod BalancerSettings
 pub mod Balancing
 pub mod Bursts
+pub mod Calls
 pub mod Candidates
 pub mod Choice
 pub mod Redundant

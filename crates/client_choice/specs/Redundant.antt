@@ -2,6 +2,7 @@
 use Rattle.std.specs.Prelude.{ℕ, ◌+◌, ◌-◌, ◌*◌, ◌/◌, ◌^◌, ◌||◌, nat_lt, nat_le, Bool, false, if◌then◌else◌, List, [], ◌∷◌, ◌++◌, length, Option, Some, None, option_map, option_and_then, Err, slice_get}
 use Rattle.std.specs.List.{insert, remove, position}
 use Rattle.client_request.specs.View.{View, Transport, word, drawn, answers, draws_ticket}
+use Rattle.client_request.specs.Response as response
 use Rattle.client_request.specs.Response.{IsRefusal}
 use Rattle.client_request.specs.declared.error.Error.{Error}
 use Rattle.client_request.specs.declared.error.Error.TheVariants as errors
@@ -89,9 +90,8 @@ pub record Redundant (R U P : Type 0) : Type 0 where
   pub failed : Bool
 
 -- what stands for the result of a request
-pub record Asked : Type 0 where
-  pub ticket : ℕ
-  pub given : Bool
+abbrev pub Asked : Type 0
+Asked = response.Asked
 
 -- the identifier of the first server that is added; the others follow
 abbrev pub first_identifier : ℕ

@@ -69,10 +69,8 @@ fn insert_in_order(list: &mut Vec<Candidate>, c: Candidate, bound: u128) -> Resu
     ensures { OnOk result (list.new.items ≡ plain.placed bound c list.old.items) }
 {
     let at = place_of(list, &c, bound).unwrap_or(list.len());
-    match list.insert(at, c) {
-        Ok(()) => Ok(()),
-        Err(_) => Err(NoMemory),
-    }
+    list.insert(at, c)?;
+    Ok(())
 }
 
 /// The least estimate.
@@ -116,10 +114,8 @@ fn bring_forward(list: &mut Vec<Candidate>, place: usize, least: u64) -> Result<
         estimate: least,
         ..c
     };
-    match list.insert(0, first) {
-        Ok(()) => Ok(()),
-        Err(_) => Err(NoMemory),
-    }
+    list.insert(0, first)?;
+    Ok(())
 }
 
 /// Puts the server that is probed first, if one is and nothing is asked of it.
@@ -146,9 +142,7 @@ fn entries_of(alloc: Global, list: &[Candidate]) -> Result<VecDeque<ListedServer
             server: c.server,
             estimate: c.estimate,
         };
-        if entries.push_back(entry).is_err() {
-            return Err(NoMemory);
-        }
+        entries.push_back(entry)?;
     }
     Ok(entries)
 }

@@ -1,18 +1,17 @@
 //! The requests of a choice: which server is started when, and whose result is given.
 
-ghost use Rattle.std.specs.Prelude.{◌≡◌, ◌+◌, ◌<◌, true, OnOk, OnErr, IfOk, IfErr, IsErrOf, Some, length};
-ghost use Rattle.client_request.specs.Calls.{Steps, NumbersRunOut};
-ghost use Rattle.client_request.specs.Cx.{view_of, heard, LendsTheSame};
-ghost use Rattle.client_request.specs.Response.{IsRefusal};
-ghost use Rattle.client_request.specs.Timers.{IsWant};
+ghost use Rattle.std.specs.Prelude.{◌≡◌, ◌+◌, ◌<◌, OnOk, OnErr, Some};
+ghost use Rattle.client_request.specs.Calls.{Follows};
+ghost use Rattle.client_request.specs.Cx.{view_of, LendsTheSame};
+ghost use Rattle.client_choice.specs.Calls.{HoldsServers};
 ghost use Rattle.client_choice.specs.Choice as plain;
 ghost use Rattle.client_choice.specs.Servers as of_servers;
 
 use crate::job::{ChoiceJob, Started};
 use crate::servers::{Server, give_up_at, judge_at, take_owner};
-use client_request::{Board, ComposeRequest, Cx, Error, SendRequest, TimerId, Words};
+use client_request::{Board, ComposeRequest, Cx, Error, Part, SendRequest, TimerId, Words};
 use client_settings::redundant::Config;
-use dns_base::{Message, NoMemory, OptRcode};
+use dns_base::{NoMemory, OptRcode};
 use number_table::NumberTable;
 use std::alloc::Global;
 use std::marker::Model;
@@ -64,16 +63,14 @@ impl<Req, U: SendRequest<Req> + Drop> Choice<Req, U> {
         ensures err { OnErr result (self.new ≡ self.old) }
     {
         let server = Server::new(self.alloc, upstream);
-        match self.servers.push(server) {
-            Ok(()) => Ok(()),
-            Err(_) => Err(NoMemory),
-        }
+        self.servers.push(server)?;
+        Ok(())
     }
 }
 
 /// Whether a result is put off while another server may still give a better one. A message's code takes a
 /// walk to its OPT record, so it is read only where the settings put some code off.
-pub(crate) fn is_deferred(config: &Config, part: &Result<Option<Message>, Error>) -> bool
+pub(crate) fn is_deferred(config: &Config, part: &Part) -> bool
     ensures { result ≡ plain.is_deferred config.now part.now }
 {
     match part {
@@ -95,18 +92,13 @@ pub(crate) fn arm<Req: Drop, P: Drop, W: Words>(
     job: &mut ChoiceJob<Req, P>,
     due: u128,
 ) -> Result<(), Error>
-    ensures lends { LendsTheSame cx.old cx.new }
-    ensures ok { Steps result (plain.arms ticket due job.old timers.old (view_of W.stream cx.old)) ((job.new, timers.new), view_of W.stream cx.new) }
-    ensures numbers { NumbersRunOut result (plain.arms ticket due job.old timers.old (view_of W.stream cx.old)) }
-    ensures want { IfErr result IsWant }
+    ensures follows { Follows W.stream cx.old cx.new result (plain.arms ticket due job.old timers.old) (job.new, timers.new) }
 {
     if job.left.is_empty() {
         return Ok(());
     }
     let timer = cx.timers.set(due)?;
-    if timers.insert(timer.0, ticket).is_err() {
-        return Err(Error::NoMemory);
-    }
+    timers.insert(timer.0, ticket)?;
     job.timer = Some(timer.0);
     Ok(())
 }
@@ -175,12 +167,7 @@ fn give_up_one<Req: ComposeRequest, U: SendRequest<Req>, W: Words>(
     cx: &mut Cx<'_, W>,
     started: Started<U::Response>,
 ) -> Result<(), Error>
-    ensures lends { LendsTheSame cx.old cx.new }
-    ensures ok { Steps result (plain.drops_response U.transport started servers.old.items (view_of W.stream cx.old) started.response) (servers.new.items, view_of W.stream cx.new) }
-    ensures numbers { NumbersRunOut result (plain.drops_response U.transport started servers.old.items (view_of W.stream cx.old) started.response) }
-    ensures keeps { OnOk result (of_servers.flags U.holds_failed servers.new.items ≡ of_servers.flags U.holds_failed servers.old.items) }
-    ensures refused { IfErr result IsRefusal }
-    ensures failed_only { IsErrOf result Error.Failed → of_servers.holds_failed U.holds_failed servers.old.items ≡ true }
+    ensures holds { HoldsServers U.holds_failed W.stream cx.old cx.new result (λ s v. plain.drops_response U.transport started s v started.response) servers.old.items servers.new.items }
 {
     let Started {
         server,
@@ -200,12 +187,7 @@ pub(crate) fn give_up_all<Req: ComposeRequest, U: SendRequest<Req>, W: Words>(
     cx: &mut Cx<'_, W>,
     started: Vec<Started<U::Response>>,
 ) -> Result<(), Error>
-    ensures lends { LendsTheSame cx.old cx.new }
-    ensures ok { Steps result (plain.drops_each U.transport started.items servers.old.items (view_of W.stream cx.old)) (servers.new.items, view_of W.stream cx.new) }
-    ensures numbers { NumbersRunOut result (plain.drops_each U.transport started.items servers.old.items (view_of W.stream cx.old)) }
-    ensures keeps { OnOk result (of_servers.flags U.holds_failed servers.new.items ≡ of_servers.flags U.holds_failed servers.old.items) }
-    ensures refused { IfErr result IsRefusal }
-    ensures failed_only { IsErrOf result Error.Failed → of_servers.holds_failed U.holds_failed servers.old.items ≡ true }
+    ensures holds { HoldsServers U.holds_failed W.stream cx.old cx.new result (plain.drops_each U.transport started.items) servers.old.items servers.new.items }
 {
     for s in started {
         give_up_one(servers, cx, s)?;

@@ -79,8 +79,6 @@ pub(crate) fn promote(
         server: entry.server,
         estimate,
     };
-    match entries.push_front(first) {
-        Ok(()) => Ok(()),
-        Err(_) => Err(NoMemory),
-    }
+    entries.push_front(first)?;
+    Ok(())
 }

@@ -4,8 +4,8 @@ ghost use Rattle.std.specs.Prelude.{◌≡◌, OnOk};
 ghost use Rattle.client_choice.specs.Choice as plain;
 
 use crate::servers::Reply;
-use client_request::Error;
-use dns_base::{Message, NoMemory};
+use client_request::Part;
+use dns_base::NoMemory;
 use std::collections::VecDeque;
 use std::marker::Model;
 
@@ -46,7 +46,7 @@ pub struct ChoiceJob<Req, P> {
     /// The timer that starts the next server.
     pub(crate) timer: Option<u64>,
     /// Of the results that were put off the one to give where no better one comes.
-    pub(crate) deferred: Option<Result<Option<Message>, Error>>,
+    pub(crate) deferred: Option<Part>,
 }
 
 impl<Req, P> Model for ChoiceJob<Req, P> {
@@ -66,10 +66,7 @@ impl<Req, P> Model for ChoiceJob<Req, P> {
 
 /// Whether a result is better than the one to give so far: a message is better than an error, and of
 /// two of a kind the first.
-fn is_better(
-    kept: &Option<Result<Option<Message>, Error>>,
-    part: &Result<Option<Message>, Error>,
-) -> bool
+fn is_better(kept: &Option<Part>, part: &Part) -> bool
     ensures { result ≡ plain.is_better kept.now part.now }
 {
     match kept {
@@ -95,7 +92,7 @@ fn all_gave<P>(started: &[Started<P>]) -> bool
 
 impl<Req: Drop, P: Drop> ChoiceJob<Req, P> {
     /// Puts a result off.
-    pub(crate) fn put_off(&mut self, part: Result<Option<Message>, Error>)
+    pub(crate) fn put_off(&mut self, part: Part)
         ensures { self.new ≡ plain.put_off part self.old }
     {
         if is_better(&self.deferred, &part) {
@@ -119,10 +116,8 @@ impl<Req: Drop, P: Drop> ChoiceJob<Req, P> {
             lower,
             response,
         };
-        match self.started.push(started) {
-            Ok(()) => Ok(()),
-            Err(_) => Err(NoMemory),
-        }
+        self.started.push(started)?;
+        Ok(())
     }
 
     /// A server gave its result.
@@ -156,9 +151,7 @@ impl<Req: Drop, P: Drop> ChoiceJob<Req, P> {
 }
 
 /// What stands for the result of a request that was started, where it has none yet; and its result.
-pub(crate) fn parted<P: Drop>(
-    reply: Option<Reply<P>>,
-) -> (Option<P>, Option<Result<Option<Message>, Error>>)
+pub(crate) fn parted<P: Drop>(reply: Option<Reply<P>>) -> (Option<P>, Option<Part>)
     ensures { result ≡ plain.parted reply }
 {
     match reply {

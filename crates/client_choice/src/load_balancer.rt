@@ -17,6 +17,7 @@ mod parts;
 mod steps;
 
 pub use bursts::Limit;
+pub use client_request::Pending as Request;
 pub use config::{Config, ConnConfig};
-pub use connection::{Connection, Request, Transport};
+pub use connection::{Connection, Transport};
 pub use parts::Parts;

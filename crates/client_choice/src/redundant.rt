@@ -11,10 +11,11 @@
 //! ```
 
 ghost use Rattle.std.specs.Prelude.{◌≡◌, ◌+◌, ◌<◌, true, false, OnOk, OnErr, IfOk, IfErr, IsErrOf, Some, None, Ok, Err, length, is_some, if◌then◌else◌};
-ghost use Rattle.client_request.specs.Calls.{Steps, NumbersRunOut, AnswersFailed};
+ghost use Rattle.client_request.specs.Calls.{NumbersRunOut, AnswersFailed};
 ghost use Rattle.client_request.specs.Cx.{view_of, LendsTheSame};
 ghost use Rattle.client_request.specs.Response.{IsRefusal};
 ghost use Rattle.client_settings.specs.Settings.{default_redundant};
+ghost use Rattle.client_choice.specs.Calls.{GivesChoice, HoldsChoice};
 ghost use Rattle.client_choice.specs.Choice as requests;
 ghost use Rattle.client_choice.specs.Redundant as plain;
 ghost use Rattle.client_choice.specs.Servers as of_servers;
@@ -24,14 +25,14 @@ use crate::entries::{by_estimate, probe, promote};
 use crate::job::ListedServer;
 use crate::servers::send_at;
 use crate::steps::{give_up, hear, start_job};
+pub use client_request::Pending as Request;
 use client_request::{
-    Board, ComposeRequest, Cx, Error, GetResponse, Poll, SendRequest, Signal, Words, take_response,
+    ComposeRequest, Cx, Error, GetResponse, Latch, Pending, SendRequest, Signal, Words,
 };
 pub use client_settings::redundant::Config;
-use dns_base::{Message, NoMemory};
+use dns_base::NoMemory;
 use std::alloc::Global;
 use std::collections::VecDeque;
-use std::fmt;
 use std::marker::Model;
 
 /// The identifier of the first server that is added. The others follow.
@@ -42,7 +43,7 @@ const FIRST_IDENTIFIER: u64 = 10;
 pub struct Connection<Req, U: SendRequest<Req>> {
     config: Config,
     choice: Choice<Req, U>,
-    failed: bool,
+    failed: Latch,
 }
 
 /// The same: a connection is a transport.
@@ -71,7 +72,7 @@ impl<Req, U: SendRequest<Req>> Connection<Req, U> {
         Connection {
             config,
             choice: Choice::new(alloc),
-            failed: false,
+            failed: Latch::new(),
         }
     }
 }
@@ -93,16 +94,11 @@ pub(crate) fn send_past<Req: ComposeRequest, U: SendRequest<Req>, W: Words>(
     id: u64,
     request: Req,
 ) -> Result<Option<U::Response>, Error>
-    ensures lends { LendsTheSame cx.old cx.new }
-    ensures ok { IfOk result (λ r. plain.sends_past U.transport id request choice.old (view_of W.stream cx.old) ≡ Some ((r, choice.new), view_of W.stream cx.new)) }
+    ensures holds { GivesChoice U.holds_failed W.stream cx.old cx.new result (plain.sends_past U.transport id request) (λ r. r) choice.old choice.new }
     ensures found { IfOk result (λ r. is_some r ≡ plain.is_known id choice.old.servers) }
     ensures unknown { plain.is_known id choice.old.servers ≡ false → result ≡ Ok None }
     ensures none { result ≡ Ok None → choice.new ≡ choice.old }
     ensures none_view { result ≡ Ok None → view_of W.stream cx.new ≡ view_of W.stream cx.old }
-    ensures numbers { NumbersRunOut result (plain.sends_past U.transport id request choice.old (view_of W.stream cx.old)) }
-    ensures keeps { OnOk result (of_servers.flags U.holds_failed choice.new.servers ≡ of_servers.flags U.holds_failed choice.old.servers) }
-    ensures refused { IfErr result IsRefusal }
-    ensures failed_only { IsErrOf result Error.Failed → of_servers.holds_failed U.holds_failed choice.old.servers ≡ true }
 {
     let Some(index) = index_of(id) else {
         return Ok(None);
@@ -136,12 +132,7 @@ fn start_listed<Req: ComposeRequest, U: SendRequest<Req>, W: Words>(
     entries: VecDeque<ListedServer>,
     request: Req,
 ) -> Result<(), Error>
-    ensures lends { LendsTheSame cx.old cx.new }
-    ensures ok { Steps result (plain.takes_listed config.now U.transport ticket request entries.items choice.old (view_of W.stream cx.old)) (choice.new, view_of W.stream cx.new) }
-    ensures numbers { NumbersRunOut result (plain.takes_listed config.now U.transport ticket request entries.items choice.old (view_of W.stream cx.old)) }
-    ensures keeps { OnOk result (of_servers.flags U.holds_failed choice.new.servers ≡ of_servers.flags U.holds_failed choice.old.servers) }
-    ensures refused { IfErr result IsRefusal }
-    ensures failed_only { IsErrOf result Error.Failed → of_servers.holds_failed U.holds_failed choice.old.servers ≡ true }
+    ensures holds { HoldsChoice U.holds_failed W.stream cx.old cx.new result (plain.takes_listed config.now U.transport ticket request entries.items) choice.old choice.new }
 {
     let mut entries = entries;
     let Some(first) = entries.front().copied() else {
@@ -159,19 +150,10 @@ fn take_on<Req: ComposeRequest, U: SendRequest<Req>, W: Words>(
     cx: &mut Cx<'_, W>,
     request: Req,
 ) -> Result<u64, Error>
-    ensures lends { LendsTheSame cx.old cx.new }
-    ensures ok { Steps result (plain.takes config.now U.transport request choice.old (view_of W.stream cx.old)) (choice.new, view_of W.stream cx.new) }
+    ensures holds { HoldsChoice U.holds_failed W.stream cx.old cx.new result (plain.takes config.now U.transport request) choice.old choice.new }
     ensures ticket { IfOk result (λ ticket. ticket ≡ cx.old.ticket) }
-    ensures numbers { NumbersRunOut result (plain.takes config.now U.transport request choice.old (view_of W.stream cx.old)) }
-    ensures keeps { OnOk result (of_servers.flags U.holds_failed choice.new.servers ≡ of_servers.flags U.holds_failed choice.old.servers) }
-    ensures refused { IfErr result IsRefusal }
-    ensures failed_only { IsErrOf result Error.Failed → of_servers.holds_failed U.holds_failed choice.old.servers ≡ true }
 {
-    let ticket = cx.ticket;
-    let Some(next) = ticket.checked_add(1) else {
-        return Err(Error::NumbersUsed);
-    };
-    cx.ticket = next;
+    let ticket = cx.draw_ticket()?;
     let entries = by_estimate(choice.alloc, &choice.servers)?;
     start_listed(choice, config, cx, ticket, entries, request)?;
     Ok(ticket)
@@ -186,11 +168,9 @@ impl<Req: ComposeRequest, U: SendRequest<Req> + Drop> Connection<Req, U> {
         ensures refused { IfErr result (λ e. e ≡ (if self.old.failed then Error.Failed else Error.NoMemory)) }
         ensures err { OnErr result (self.new ≡ record self.old { failed = true }) }
     {
-        if self.failed {
-            return Err(Error::Failed);
-        }
+        self.failed.check()?;
         if self.choice.add(conn).is_err() {
-            self.failed = true;
+            self.failed.set();
             return Err(Error::NoMemory);
         }
         Ok(())
@@ -222,57 +202,15 @@ impl<Req: ComposeRequest, U: SendRequest<Req>> Connection<Req, U> {
         ensures failed { self.old.failed ≡ true → AnswersFailed result (self.old, view_of W.stream cx.old) (self.new, view_of W.stream cx.new) }
         ensures failed_only { IsErrOf result Error.Failed → plain.holds_failed U.holds_failed self.old ≡ true }
     {
-        if self.failed {
-            return Err(Error::Failed);
-        }
-        match send_past(&mut self.choice, cx, id, request) {
-            Ok(Some(response)) => Ok(response),
-            Ok(None) => Err(Error::RedundantTransportNotFound),
-            Err(error) => {
-                self.failed = true;
-                Err(error)
-            }
-        }
-    }
-}
-
-/// What stands for the result of a request.
-#[derive(Drop)]
-pub struct Request {
-    ticket: u64,
-    given: bool,
-}
-
-impl Model for Request {
-    ghost use Rattle.client_choice.specs.Redundant.{Asked};
-
-    ghost Value = { Asked };
-
-    ghost view = { λ r. record { ticket = r.ticket; given = r.given } };
-}
-
-impl fmt::Debug for Request {
-    fn fmt<W: fmt::Write>(&self, f: &mut fmt::Formatter<W>) -> fmt::Result {
-        f.write_str("Request { fut: _ }")
-    }
-}
-
-impl GetResponse for Request {
-    ghost ticket_of = { λ r. r.ticket };
-
-    ghost has_given = { λ r. r.given };
-
-    fn get_response(&mut self, board: &mut Board) -> Poll<Result<Message, Error>> {
-        take_response(board, self.ticket, &mut self.given)
-    }
-
-    fn ticket(&self) -> u64 {
-        self.ticket
+        self.failed.check()?;
+        let sent = send_past(&mut self.choice, cx, id, request);
+        let response = self.failed.keep(sent)?;
+        response.ok_or(Error::RedundantTransportNotFound)
     }
 }
 
 impl<Req: ComposeRequest, U: SendRequest<Req>> SendRequest<Req> for Connection<Req, U> {
-    type Response = Request;
+    type Response = Pending;
 
     ghost has_failed = { λ c. c.failed };
 
@@ -284,42 +222,22 @@ impl<Req: ComposeRequest, U: SendRequest<Req>> SendRequest<Req> for Connection<R
         &mut self,
         cx: &mut Cx<'_, W>,
         request: Req,
-    ) -> Result<Request, Error> {
-        if self.failed {
-            return Err(Error::Failed);
-        }
-        let result = take_on(&mut self.choice, &self.config, cx, request);
-        match result {
-            Ok(ticket) => Ok(Request {
-                ticket,
-                given: false,
-            }),
-            Err(error) => {
-                self.failed = true;
-                Err(error)
-            }
-        }
+    ) -> Result<Pending, Error> {
+        self.failed.check()?;
+        let taken = take_on(&mut self.choice, &self.config, cx, request);
+        let ticket = self.failed.keep(taken)?;
+        Ok(Pending::new(ticket))
     }
 
     fn step<W: Words>(&mut self, cx: &mut Cx<'_, W>, signal: Signal<'_>) -> Result<(), Error> {
-        if self.failed {
-            return Err(Error::Failed);
-        }
-        let result = hear(&mut self.choice, &self.config, cx, signal);
-        if result.is_err() {
-            self.failed = true;
-        }
-        result
+        self.failed.check()?;
+        let heard = hear(&mut self.choice, &self.config, cx, signal);
+        self.failed.keep(heard)
     }
 
-    fn cancel<W: Words>(&mut self, cx: &mut Cx<'_, W>, response: Request) -> Result<(), Error> {
-        if self.failed {
-            return Err(Error::Failed);
-        }
-        let result = give_up(&mut self.choice, cx, response.ticket);
-        if result.is_err() {
-            self.failed = true;
-        }
-        result
+    fn cancel<W: Words>(&mut self, cx: &mut Cx<'_, W>, response: Pending) -> Result<(), Error> {
+        self.failed.check()?;
+        let given_up = give_up(&mut self.choice, cx, response.ticket());
+        self.failed.keep(given_up)
     }
 }

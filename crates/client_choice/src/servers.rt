@@ -1,18 +1,17 @@
 //! The servers of a choice.
 
-ghost use Rattle.std.specs.Prelude.{◌≡◌, ◌<◌, length, true, false, OnOk, IfOk, IfErr, IsErrOf, slice_get, [], Some, None, Ok, map, is_some, nat_lt};
-ghost use Rattle.client_request.specs.Calls.{Steps, NumbersRunOut};
-ghost use Rattle.client_request.specs.Cx.{view_of, heard, LendsTheSame};
-ghost use Rattle.client_request.specs.Response.{IsRefusal};
+ghost use Rattle.std.specs.Prelude.{◌≡◌, ◌<◌, length, false, IfOk, [], Some, None, Ok, is_some, nat_lt};
+ghost use Rattle.client_request.specs.Calls.{Holds};
+ghost use Rattle.client_request.specs.Cx.{view_of, heard};
+ghost use Rattle.client_choice.specs.Calls.{Gives, GivesServers, HoldsServers};
 ghost use Rattle.client_choice.specs.Servers as plain;
 ghost use Rattle.client_choice.specs.Stats as estimates;
 
 use crate::stats::Stats;
 use client_request::{
-    Board, ComposeRequest, Cx, Error, GetResponse, SendRequest, Signal, Words, cancel_below,
+    Board, ComposeRequest, Cx, Error, GetResponse, Part, SendRequest, Signal, Words, cancel_below,
     send_below, step_below,
 };
-use dns_base::Message;
 use number_table::NumberTable;
 use std::alloc::Global;
 use std::marker::Model;
@@ -52,7 +51,7 @@ pub enum Reply<P> {
     /// Its result is still to come.
     Later(P),
     /// Its result, at once.
-    Now(Result<Option<Message>, Error>),
+    Now(Part),
 }
 
 impl<U> Server<U> {
@@ -88,12 +87,7 @@ fn start<Req: ComposeRequest, U: SendRequest<Req>, W: Words>(
     ticket: u64,
     request: Req,
 ) -> Result<Reply<U::Response>, Error>
-    ensures lends { LendsTheSame cx.old cx.new }
-    ensures ok { IfOk result (λ r. plain.starts U.transport ticket request server.old (view_of W.stream cx.old) ≡ Some ((r, server.new), view_of W.stream cx.new)) }
-    ensures numbers { NumbersRunOut result (plain.starts U.transport ticket request server.old (view_of W.stream cx.old)) }
-    ensures keeps { OnOk result (U.holds_failed server.new.upstream ≡ U.holds_failed server.old.upstream) }
-    ensures refused { IfErr result IsRefusal }
-    ensures failed_only { IsErrOf result Error.Failed → U.holds_failed server.old.upstream ≡ true }
+    ensures holds { Gives W.stream cx.old cx.new result (plain.starts U.transport ticket request server.old) (λ r. (r, server.new)) U.holds_failed server.old.upstream server.new.upstream }
 {
     server.starts = server.starts.saturating_add(1);
     let response = send_below(&mut server.upstream, &mut server.posted, cx, request)?;
@@ -101,9 +95,7 @@ fn start<Req: ComposeRequest, U: SendRequest<Req>, W: Words>(
     match server.posted.take(lower) {
         Some(part) => Ok(Reply::Now(part)),
         None => {
-            if server.waiting.insert(lower, ticket).is_err() {
-                return Err(Error::NoMemory);
-            }
+            server.waiting.insert(lower, ticket)?;
             Ok(Reply::Later(response))
         }
     }
@@ -115,12 +107,7 @@ fn send<Req: ComposeRequest, U: SendRequest<Req>, W: Words>(
     cx: &mut Cx<'_, W>,
     request: Req,
 ) -> Result<U::Response, Error>
-    ensures lends { LendsTheSame cx.old cx.new }
-    ensures ok { IfOk result (λ r. plain.sends U.transport request server.old (view_of W.stream cx.old) ≡ Some ((r, server.new), view_of W.stream cx.new)) }
-    ensures numbers { NumbersRunOut result (plain.sends U.transport request server.old (view_of W.stream cx.old)) }
-    ensures keeps { OnOk result (U.holds_failed server.new.upstream ≡ U.holds_failed server.old.upstream) }
-    ensures refused { IfErr result IsRefusal }
-    ensures failed_only { IsErrOf result Error.Failed → U.holds_failed server.old.upstream ≡ true }
+    ensures holds { Gives W.stream cx.old cx.new result (plain.sends U.transport request server.old) (λ r. (r, server.new)) U.holds_failed server.old.upstream server.new.upstream }
 {
     let response = send_below(&mut server.upstream, &mut server.posted, cx, request)?;
     let lower = response.ticket();
@@ -137,12 +124,7 @@ fn hear<Req: ComposeRequest, U: SendRequest<Req>, W: Words>(
     cx: &mut Cx<'_, W>,
     signal: Signal<'_>,
 ) -> Result<(), Error>
-    ensures lends { LendsTheSame cx.old cx.new }
-    ensures ok { OnOk result (plain.hears U.transport (heard signal.entry) server.old (view_of W.stream cx.old) ≡ Some ((board.new, server.new), view_of W.stream cx.new)) }
-    ensures numbers { NumbersRunOut result (plain.hears U.transport (heard signal.entry) server.old (view_of W.stream cx.old)) }
-    ensures keeps { OnOk result (U.holds_failed server.new.upstream ≡ U.holds_failed server.old.upstream) }
-    ensures refused { IfErr result IsRefusal }
-    ensures failed_only { IsErrOf result Error.Failed → U.holds_failed server.old.upstream ≡ true }
+    ensures holds { Holds W.stream cx.old cx.new result (plain.hears U.transport (heard signal.entry) server.old) (board.new, server.new) U.holds_failed server.old.upstream server.new.upstream }
 {
     step_below(&mut server.upstream, &mut server.posted, cx, signal)?;
     board.clear();
@@ -157,12 +139,7 @@ fn give_up<Req: ComposeRequest, U: SendRequest<Req>, W: Words>(
     lower: u64,
     response: U::Response,
 ) -> Result<(), Error>
-    ensures lends { LendsTheSame cx.old cx.new }
-    ensures ok { Steps result (plain.drops U.transport lower response server.old (view_of W.stream cx.old)) (server.new, view_of W.stream cx.new) }
-    ensures numbers { NumbersRunOut result (plain.drops U.transport lower response server.old (view_of W.stream cx.old)) }
-    ensures keeps { OnOk result (U.holds_failed server.new.upstream ≡ U.holds_failed server.old.upstream) }
-    ensures refused { IfErr result IsRefusal }
-    ensures failed_only { IsErrOf result Error.Failed → U.holds_failed server.old.upstream ≡ true }
+    ensures holds { Holds W.stream cx.old cx.new result (plain.drops U.transport lower response server.old) server.new U.holds_failed server.old.upstream server.new.upstream }
 {
     let _ = server.waiting.remove(lower);
     cancel_below(&mut server.upstream, &mut server.posted, cx, response)
@@ -176,12 +153,7 @@ pub(crate) fn start_at<Req: ComposeRequest, U: SendRequest<Req>, W: Words>(
     ticket: u64,
     request: Req,
 ) -> Result<Option<Reply<U::Response>>, Error>
-    ensures lends { LendsTheSame cx.old cx.new }
-    ensures ok { IfOk result (λ r. plain.starts_at U.transport index ticket request servers.old.items (view_of W.stream cx.old) ≡ Some ((r, servers.new.items), view_of W.stream cx.new)) }
-    ensures numbers { NumbersRunOut result (plain.starts_at U.transport index ticket request servers.old.items (view_of W.stream cx.old)) }
-    ensures keeps { OnOk result (plain.flags U.holds_failed servers.new.items ≡ plain.flags U.holds_failed servers.old.items) }
-    ensures refused { IfErr result IsRefusal }
-    ensures failed_only { IsErrOf result Error.Failed → plain.holds_failed U.holds_failed servers.old.items ≡ true }
+    ensures holds { GivesServers U.holds_failed W.stream cx.old cx.new result (plain.starts_at U.transport index ticket request) (λ r. r) servers.old.items servers.new.items }
 {
     let Some(server) = servers.get_mut(index) else {
         return Ok(None);
@@ -197,16 +169,11 @@ pub(crate) fn send_at<Req: ComposeRequest, U: SendRequest<Req>, W: Words>(
     cx: &mut Cx<'_, W>,
     request: Req,
 ) -> Result<Option<U::Response>, Error>
-    ensures lends { LendsTheSame cx.old cx.new }
-    ensures ok { IfOk result (λ r. plain.sends_at U.transport index request servers.old.items (view_of W.stream cx.old) ≡ Some ((r, servers.new.items), view_of W.stream cx.new)) }
+    ensures holds { GivesServers U.holds_failed W.stream cx.old cx.new result (plain.sends_at U.transport index request) (λ r. r) servers.old.items servers.new.items }
     ensures found { IfOk result (λ r. is_some r ≡ nat_lt index (length servers.old.items)) }
     ensures unknown { nat_lt index (length servers.old.items) ≡ false → result ≡ Ok None }
     ensures none { result ≡ Ok None → servers.new.items ≡ servers.old.items }
     ensures none_view { result ≡ Ok None → view_of W.stream cx.new ≡ view_of W.stream cx.old }
-    ensures numbers { NumbersRunOut result (plain.sends_at U.transport index request servers.old.items (view_of W.stream cx.old)) }
-    ensures keeps { OnOk result (plain.flags U.holds_failed servers.new.items ≡ plain.flags U.holds_failed servers.old.items) }
-    ensures refused { IfErr result IsRefusal }
-    ensures failed_only { IsErrOf result Error.Failed → plain.holds_failed U.holds_failed servers.old.items ≡ true }
 {
     let Some(server) = servers.get_mut(index) else {
         return Ok(None);
@@ -223,12 +190,7 @@ pub(crate) fn hear_at<Req: ComposeRequest, U: SendRequest<Req>, W: Words>(
     cx: &mut Cx<'_, W>,
     signal: Signal<'_>,
 ) -> Result<(), Error>
-    ensures lends { LendsTheSame cx.old cx.new }
-    ensures ok { OnOk result (plain.hears_at U.transport index (heard signal.entry) servers.old.items (view_of W.stream cx.old) ≡ Some ((board.new, servers.new.items), view_of W.stream cx.new)) }
-    ensures numbers { NumbersRunOut result (plain.hears_at U.transport index (heard signal.entry) servers.old.items (view_of W.stream cx.old)) }
-    ensures keeps { OnOk result (plain.flags U.holds_failed servers.new.items ≡ plain.flags U.holds_failed servers.old.items) }
-    ensures refused { IfErr result IsRefusal }
-    ensures failed_only { IsErrOf result Error.Failed → plain.holds_failed U.holds_failed servers.old.items ≡ true }
+    ensures holds { GivesServers U.holds_failed W.stream cx.old cx.new result (plain.hears_at U.transport index (heard signal.entry)) (λ _. board.new) servers.old.items servers.new.items }
 {
     let Some(server) = servers.get_mut(index) else {
         board.clear();
@@ -245,12 +207,7 @@ pub(crate) fn give_up_at<Req: ComposeRequest, U: SendRequest<Req>, W: Words>(
     lower: u64,
     response: U::Response,
 ) -> Result<(), Error>
-    ensures lends { LendsTheSame cx.old cx.new }
-    ensures ok { Steps result (plain.drops_at U.transport index lower response servers.old.items (view_of W.stream cx.old)) (servers.new.items, view_of W.stream cx.new) }
-    ensures numbers { NumbersRunOut result (plain.drops_at U.transport index lower response servers.old.items (view_of W.stream cx.old)) }
-    ensures keeps { OnOk result (plain.flags U.holds_failed servers.new.items ≡ plain.flags U.holds_failed servers.old.items) }
-    ensures refused { IfErr result IsRefusal }
-    ensures failed_only { IsErrOf result Error.Failed → plain.holds_failed U.holds_failed servers.old.items ≡ true }
+    ensures holds { HoldsServers U.holds_failed W.stream cx.old cx.new result (plain.drops_at U.transport index lower response) servers.old.items servers.new.items }
 {
     let Some(server) = servers.get_mut(index) else {
         return Ok(());

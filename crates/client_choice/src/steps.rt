@@ -1,9 +1,8 @@
 //! What each call of a choice does.
 
-ghost use Rattle.std.specs.Prelude.{◌≡◌, ◌+◌, ◌-◌, true, OnOk, IfOk, IfErr, IsErrOf, Some, None, length};
-ghost use Rattle.client_request.specs.Calls.{Steps, NumbersRunOut};
-ghost use Rattle.client_request.specs.Cx.{view_of, heard, LendsTheSame};
-ghost use Rattle.client_request.specs.Response.{IsRefusal};
+ghost use Rattle.std.specs.Prelude.{◌≡◌, ◌+◌, ◌-◌, OnOk, Some, None};
+ghost use Rattle.client_request.specs.Cx.{heard};
+ghost use Rattle.client_choice.specs.Calls.{GivesChoice, HoldsChoice};
 ghost use Rattle.client_choice.specs.Choice as plain;
 ghost use Rattle.client_choice.specs.Servers as of_servers;
 
@@ -11,10 +10,10 @@ use crate::choice::{Choice, arm, disarm, disown, give_up_all, is_deferred, judge
 use crate::job::{ChoiceJob, ListedServer, parted};
 use crate::servers::{hear_at, start_at};
 use client_request::{
-    Board, ComposeRequest, Cx, Error, Posted, SendRequest, Signal, TimerId, Words,
+    Board, ComposeRequest, Cx, Error, Part, Posted, SendRequest, Signal, TimerId, Words,
 };
 use client_settings::redundant::Config;
-use dns_base::{Message, NoMemory};
+use dns_base::NoMemory;
 use std::collections::VecDeque;
 use std::mem;
 
@@ -25,14 +24,9 @@ fn start_server<Req: ComposeRequest, U: SendRequest<Req>, W: Words>(
     ticket: u64,
     job: &mut ChoiceJob<Req, U::Response>,
     entry: ListedServer,
-) -> Result<Option<Result<Option<Message>, Error>>, Error>
-    ensures lends { LendsTheSame cx.old cx.new }
-    ensures ok { IfOk result (λ part. plain.begins U.transport ticket entry job.old choice.old (view_of W.stream cx.old) ≡ Some (((part, job.new), choice.new), view_of W.stream cx.new)) }
-    ensures numbers { NumbersRunOut result (plain.begins U.transport ticket entry job.old choice.old (view_of W.stream cx.old)) }
+) -> Result<Option<Part>, Error>
+    ensures holds { GivesChoice U.holds_failed W.stream cx.old cx.new result (plain.begins U.transport ticket entry job.old) (λ part. (part, job.new)) choice.old choice.new }
     ensures left { OnOk result (job.new.left ≡ job.old.left) }
-    ensures keeps { OnOk result (of_servers.flags U.holds_failed choice.new.servers ≡ of_servers.flags U.holds_failed choice.old.servers) }
-    ensures refused { IfErr result IsRefusal }
-    ensures failed_only { IsErrOf result Error.Failed → of_servers.holds_failed U.holds_failed choice.old.servers ≡ true }
 {
     let (since, lower) = (cx.now.0, cx.ticket);
     cx.request = job.number;
@@ -53,10 +47,8 @@ fn keep_job<Req: ComposeRequest, U: SendRequest<Req>>(
 ) -> Result<(), NoMemory>
     ensures { OnOk result (choice.new ≡ plain.keeps ticket job choice.old) }
 {
-    match choice.jobs.insert(ticket, job) {
-        Ok(_) => Ok(()),
-        Err(_) => Err(NoMemory),
-    }
+    choice.jobs.insert(ticket, job)?;
+    Ok(())
 }
 
 /// A server gave the result of a request: each that was started is judged, and the others give it up.
@@ -66,14 +58,9 @@ fn give_result<Req: ComposeRequest, U: SendRequest<Req>, W: Words>(
     ticket: u64,
     giver: usize,
     job: ChoiceJob<Req, U::Response>,
-    part: Result<Option<Message>, Error>,
+    part: Part,
 ) -> Result<(), Error>
-    ensures lends { LendsTheSame cx.old cx.new }
-    ensures ok { Steps result (plain.ends U.transport ticket giver part job choice.old (view_of W.stream cx.old)) (choice.new, view_of W.stream cx.new) }
-    ensures numbers { NumbersRunOut result (plain.ends U.transport ticket giver part job choice.old (view_of W.stream cx.old)) }
-    ensures keeps { OnOk result (of_servers.flags U.holds_failed choice.new.servers ≡ of_servers.flags U.holds_failed choice.old.servers) }
-    ensures refused { IfErr result IsRefusal }
-    ensures failed_only { IsErrOf result Error.Failed → of_servers.holds_failed U.holds_failed choice.old.servers ≡ true }
+    ensures holds { HoldsChoice U.holds_failed W.stream cx.old cx.new result (plain.ends U.transport ticket giver part job) choice.old choice.new }
 {
     judge_all(choice, &job, giver, cx.now.0);
     disarm(&mut choice.timers, cx, job.timer);
@@ -88,12 +75,7 @@ fn keep_or_give_deferred<Req: ComposeRequest, U: SendRequest<Req>, W: Words>(
     ticket: u64,
     job: ChoiceJob<Req, U::Response>,
 ) -> Result<(), Error>
-    ensures lends { LendsTheSame cx.old cx.new }
-    ensures ok { Steps result (plain.rests ticket job choice.old (view_of W.stream cx.old)) (choice.new, view_of W.stream cx.new) }
-    ensures numbers { NumbersRunOut result (plain.rests ticket job choice.old (view_of W.stream cx.old)) }
-    ensures keeps { OnOk result (of_servers.flags U.holds_failed choice.new.servers ≡ of_servers.flags U.holds_failed choice.old.servers) }
-    ensures refused { IfErr result IsRefusal }
-    ensures failed_only { IsErrOf result Error.Failed → of_servers.holds_failed U.holds_failed choice.old.servers ≡ true }
+    ensures holds { HoldsChoice U.holds_failed W.stream cx.old cx.new result (plain.rests ticket job) choice.old choice.new }
 {
     if !job.is_over() {
         keep_job(choice, ticket, job)?;
@@ -125,12 +107,7 @@ fn start_next_servers<Req: ComposeRequest, U: SendRequest<Req>, W: Words>(
     ticket: u64,
     job: ChoiceJob<Req, U::Response>,
 ) -> Result<(), Error>
-    ensures lends { LendsTheSame cx.old cx.new }
-    ensures ok { Steps result (plain.runs U.transport config.now ticket job.left job choice.old (view_of W.stream cx.old)) (choice.new, view_of W.stream cx.new) }
-    ensures numbers { NumbersRunOut result (plain.runs U.transport config.now ticket job.left job choice.old (view_of W.stream cx.old)) }
-    ensures keeps { OnOk result (of_servers.flags U.holds_failed choice.new.servers ≡ of_servers.flags U.holds_failed choice.old.servers) }
-    ensures refused { IfErr result IsRefusal }
-    ensures failed_only { IsErrOf result Error.Failed → of_servers.holds_failed U.holds_failed choice.old.servers ≡ true }
+    ensures holds { HoldsChoice U.holds_failed W.stream cx.old cx.new result (plain.runs U.transport config.now ticket job.left job) choice.old choice.new }
 {
     let mut job = job;
     while let Some(entry) = job.left.pop_front() {
@@ -157,12 +134,7 @@ fn start_next_if_last<Req: ComposeRequest, U: SendRequest<Req>, W: Words>(
     server: usize,
     job: ChoiceJob<Req, U::Response>,
 ) -> Result<(), Error>
-    ensures lends { LendsTheSame cx.old cx.new }
-    ensures ok { Steps result (plain.puts_off U.transport config.now ticket server job choice.old (view_of W.stream cx.old)) (choice.new, view_of W.stream cx.new) }
-    ensures numbers { NumbersRunOut result (plain.puts_off U.transport config.now ticket server job choice.old (view_of W.stream cx.old)) }
-    ensures keeps { OnOk result (of_servers.flags U.holds_failed choice.new.servers ≡ of_servers.flags U.holds_failed choice.old.servers) }
-    ensures refused { IfErr result IsRefusal }
-    ensures failed_only { IsErrOf result Error.Failed → of_servers.holds_failed U.holds_failed choice.old.servers ≡ true }
+    ensures holds { HoldsChoice U.holds_failed W.stream cx.old cx.new result (plain.puts_off U.transport config.now ticket server job) choice.old choice.new }
 {
     if !job.is_last(server) {
         return keep_or_give_deferred(choice, cx, ticket, job);
@@ -181,14 +153,9 @@ fn defer_or_give<Req: ComposeRequest, U: SendRequest<Req>, W: Words>(
     ticket: u64,
     server: usize,
     job: ChoiceJob<Req, U::Response>,
-    part: Result<Option<Message>, Error>,
+    part: Part,
 ) -> Result<(), Error>
-    ensures lends { LendsTheSame cx.old cx.new }
-    ensures ok { Steps result (plain.gets U.transport config.now ticket server part job choice.old (view_of W.stream cx.old)) (choice.new, view_of W.stream cx.new) }
-    ensures numbers { NumbersRunOut result (plain.gets U.transport config.now ticket server part job choice.old (view_of W.stream cx.old)) }
-    ensures keeps { OnOk result (of_servers.flags U.holds_failed choice.new.servers ≡ of_servers.flags U.holds_failed choice.old.servers) }
-    ensures refused { IfErr result IsRefusal }
-    ensures failed_only { IsErrOf result Error.Failed → of_servers.holds_failed U.holds_failed choice.old.servers ≡ true }
+    ensures holds { HoldsChoice U.holds_failed W.stream cx.old cx.new result (plain.gets U.transport config.now ticket server part job) choice.old choice.new }
 {
     if !is_deferred(config, &part) {
         return give_result(choice, cx, ticket, server, job, part);
@@ -207,12 +174,7 @@ fn settle<Req: ComposeRequest, U: SendRequest<Req>, W: Words>(
     server: usize,
     posted: Posted,
 ) -> Result<(), Error>
-    ensures lends { LendsTheSame cx.old cx.new }
-    ensures ok { Steps result (plain.settles U.transport config.now server posted choice.old (view_of W.stream cx.old)) (choice.new, view_of W.stream cx.new) }
-    ensures numbers { NumbersRunOut result (plain.settles U.transport config.now server posted choice.old (view_of W.stream cx.old)) }
-    ensures keeps { OnOk result (of_servers.flags U.holds_failed choice.new.servers ≡ of_servers.flags U.holds_failed choice.old.servers) }
-    ensures refused { IfErr result IsRefusal }
-    ensures failed_only { IsErrOf result Error.Failed → of_servers.holds_failed U.holds_failed choice.old.servers ≡ true }
+    ensures holds { HoldsChoice U.holds_failed W.stream cx.old cx.new result (plain.settles U.transport config.now server posted) choice.old choice.new }
 {
     let Posted {
         ticket: lower,
@@ -238,12 +200,7 @@ fn settle_all<Req: ComposeRequest, U: SendRequest<Req>, W: Words>(
     server: usize,
     board: &mut Board,
 ) -> Result<(), Error>
-    ensures lends { LendsTheSame cx.old cx.new }
-    ensures ok { Steps result (plain.settles_all U.transport config.now server board.old choice.old (view_of W.stream cx.old)) (choice.new, view_of W.stream cx.new) }
-    ensures numbers { NumbersRunOut result (plain.settles_all U.transport config.now server board.old choice.old (view_of W.stream cx.old)) }
-    ensures keeps { OnOk result (of_servers.flags U.holds_failed choice.new.servers ≡ of_servers.flags U.holds_failed choice.old.servers) }
-    ensures refused { IfErr result IsRefusal }
-    ensures failed_only { IsErrOf result Error.Failed → of_servers.holds_failed U.holds_failed choice.old.servers ≡ true }
+    ensures holds { HoldsChoice U.holds_failed W.stream cx.old cx.new result (plain.settles_all U.transport config.now server board.old) choice.old choice.new }
 {
     while let Some(posted) = board.take_first() {
         settle(choice, config, cx, server, posted)?;
@@ -260,12 +217,7 @@ fn hear_one<Req: ComposeRequest, U: SendRequest<Req>, W: Words>(
     server: usize,
     signal: Signal<'_>,
 ) -> Result<(), Error>
-    ensures lends { LendsTheSame cx.old cx.new }
-    ensures ok { Steps result (plain.hears_one U.transport config.now server (heard signal.entry) choice.old (view_of W.stream cx.old)) (choice.new, view_of W.stream cx.new) }
-    ensures numbers { NumbersRunOut result (plain.hears_one U.transport config.now server (heard signal.entry) choice.old (view_of W.stream cx.old)) }
-    ensures keeps { OnOk result (of_servers.flags U.holds_failed choice.new.servers ≡ of_servers.flags U.holds_failed choice.old.servers) }
-    ensures refused { IfErr result IsRefusal }
-    ensures failed_only { IsErrOf result Error.Failed → of_servers.holds_failed U.holds_failed choice.old.servers ≡ true }
+    ensures holds { HoldsChoice U.holds_failed W.stream cx.old cx.new result (plain.hears_one U.transport config.now server (heard signal.entry)) choice.old choice.new }
 {
     hear_at(&mut choice.servers, server, board, cx, signal)?;
     settle_all(choice, config, cx, server, board)
@@ -278,12 +230,7 @@ fn hear_all<Req: ComposeRequest, U: SendRequest<Req>, W: Words>(
     cx: &mut Cx<'_, W>,
     signal: Signal<'_>,
 ) -> Result<(), Error>
-    ensures lends { LendsTheSame cx.old cx.new }
-    ensures ok { Steps result (plain.hears_all U.transport config.now (heard signal.entry) choice.old (view_of W.stream cx.old)) (choice.new, view_of W.stream cx.new) }
-    ensures numbers { NumbersRunOut result (plain.hears_all U.transport config.now (heard signal.entry) choice.old (view_of W.stream cx.old)) }
-    ensures keeps { OnOk result (of_servers.flags U.holds_failed choice.new.servers ≡ of_servers.flags U.holds_failed choice.old.servers) }
-    ensures refused { IfErr result IsRefusal }
-    ensures failed_only { IsErrOf result Error.Failed → of_servers.holds_failed U.holds_failed choice.old.servers ≡ true }
+    ensures holds { HoldsChoice U.holds_failed W.stream cx.old cx.new result (plain.hears_all U.transport config.now (heard signal.entry)) choice.old choice.new }
 {
     let mut board = mem::replace(&mut choice.board, Board::new(choice.alloc));
     for server in 0..choice.servers.len() {
@@ -300,12 +247,7 @@ fn start_after_estimate<Req: ComposeRequest, U: SendRequest<Req>, W: Words>(
     cx: &mut Cx<'_, W>,
     ticket: u64,
 ) -> Result<(), Error>
-    ensures lends { LendsTheSame cx.old cx.new }
-    ensures ok { Steps result (plain.fires_at U.transport config.now ticket choice.old (view_of W.stream cx.old)) (choice.new, view_of W.stream cx.new) }
-    ensures numbers { NumbersRunOut result (plain.fires_at U.transport config.now ticket choice.old (view_of W.stream cx.old)) }
-    ensures keeps { OnOk result (of_servers.flags U.holds_failed choice.new.servers ≡ of_servers.flags U.holds_failed choice.old.servers) }
-    ensures refused { IfErr result IsRefusal }
-    ensures failed_only { IsErrOf result Error.Failed → of_servers.holds_failed U.holds_failed choice.old.servers ≡ true }
+    ensures holds { HoldsChoice U.holds_failed W.stream cx.old cx.new result (plain.fires_at U.transport config.now ticket) choice.old choice.new }
 {
     let Some(job) = choice.jobs.remove(ticket) else {
         return Ok(());
@@ -322,12 +264,7 @@ fn fire_timer<Req: ComposeRequest, U: SendRequest<Req>, W: Words>(
     cx: &mut Cx<'_, W>,
     timer: TimerId,
 ) -> Result<(), Error>
-    ensures lends { LendsTheSame cx.old cx.new }
-    ensures ok { Steps result (plain.due U.transport config.now timer.0 choice.old (view_of W.stream cx.old)) (choice.new, view_of W.stream cx.new) }
-    ensures numbers { NumbersRunOut result (plain.due U.transport config.now timer.0 choice.old (view_of W.stream cx.old)) }
-    ensures keeps { OnOk result (of_servers.flags U.holds_failed choice.new.servers ≡ of_servers.flags U.holds_failed choice.old.servers) }
-    ensures refused { IfErr result IsRefusal }
-    ensures failed_only { IsErrOf result Error.Failed → of_servers.holds_failed U.holds_failed choice.old.servers ≡ true }
+    ensures holds { HoldsChoice U.holds_failed W.stream cx.old cx.new result (plain.due U.transport config.now timer.0) choice.old choice.new }
 {
     match choice.timers.remove(timer.0) {
         Some(ticket) => start_after_estimate(choice, config, cx, ticket),
@@ -342,12 +279,7 @@ pub(crate) fn hear<Req: ComposeRequest, U: SendRequest<Req>, W: Words>(
     cx: &mut Cx<'_, W>,
     signal: Signal<'_>,
 ) -> Result<(), Error>
-    ensures lends { LendsTheSame cx.old cx.new }
-    ensures ok { Steps result (plain.hears U.transport config.now (heard signal.entry) choice.old (view_of W.stream cx.old)) (choice.new, view_of W.stream cx.new) }
-    ensures numbers { NumbersRunOut result (plain.hears U.transport config.now (heard signal.entry) choice.old (view_of W.stream cx.old)) }
-    ensures keeps { OnOk result (of_servers.flags U.holds_failed choice.new.servers ≡ of_servers.flags U.holds_failed choice.old.servers) }
-    ensures refused { IfErr result IsRefusal }
-    ensures failed_only { IsErrOf result Error.Failed → of_servers.holds_failed U.holds_failed choice.old.servers ≡ true }
+    ensures holds { HoldsChoice U.holds_failed W.stream cx.old cx.new result (plain.hears U.transport config.now (heard signal.entry)) choice.old choice.new }
 {
     match signal {
         Signal::Due(timer) => fire_timer(choice, config, cx, timer),
@@ -364,12 +296,7 @@ pub(crate) fn start_job<Req: ComposeRequest, U: SendRequest<Req>, W: Words>(
     entries: VecDeque<ListedServer>,
     request: Req,
 ) -> Result<(), Error>
-    ensures lends { LendsTheSame cx.old cx.new }
-    ensures ok { Steps result (plain.takes_on U.transport config.now ticket entries.items request choice.old (view_of W.stream cx.old)) (choice.new, view_of W.stream cx.new) }
-    ensures numbers { NumbersRunOut result (plain.takes_on U.transport config.now ticket entries.items request choice.old (view_of W.stream cx.old)) }
-    ensures keeps { OnOk result (of_servers.flags U.holds_failed choice.new.servers ≡ of_servers.flags U.holds_failed choice.old.servers) }
-    ensures refused { IfErr result IsRefusal }
-    ensures failed_only { IsErrOf result Error.Failed → of_servers.holds_failed U.holds_failed choice.old.servers ≡ true }
+    ensures holds { HoldsChoice U.holds_failed W.stream cx.old cx.new result (plain.takes_on U.transport config.now ticket entries.items request) choice.old choice.new }
 {
     let job = ChoiceJob {
         number: cx.request,
@@ -388,12 +315,7 @@ pub(crate) fn give_up<Req: ComposeRequest, U: SendRequest<Req>, W: Words>(
     cx: &mut Cx<'_, W>,
     ticket: u64,
 ) -> Result<(), Error>
-    ensures lends { LendsTheSame cx.old cx.new }
-    ensures ok { Steps result (plain.drops U.transport ticket choice.old (view_of W.stream cx.old)) (choice.new, view_of W.stream cx.new) }
-    ensures numbers { NumbersRunOut result (plain.drops U.transport ticket choice.old (view_of W.stream cx.old)) }
-    ensures keeps { OnOk result (of_servers.flags U.holds_failed choice.new.servers ≡ of_servers.flags U.holds_failed choice.old.servers) }
-    ensures refused { IfErr result IsRefusal }
-    ensures failed_only { IsErrOf result Error.Failed → of_servers.holds_failed U.holds_failed choice.old.servers ≡ true }
+    ensures holds { HoldsChoice U.holds_failed W.stream cx.old cx.new result (plain.drops U.transport ticket) choice.old choice.new }
 {
     let Some(job) = choice.jobs.remove(ticket) else {
         return Ok(());

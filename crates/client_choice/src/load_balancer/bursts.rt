@@ -90,10 +90,8 @@ fn add_if_room<U>(
     if !limit.has_room(server.starts) {
         return Ok(());
     }
-    match candidates.push(candidate(index, server)) {
-        Ok(()) => Ok(()),
-        Err(_) => Err(NoMemory),
-    }
+    candidates.push(candidate(index, server))?;
+    Ok(())
 }
 
 /// Adds the server of an index, unless its burst has reached its limit. Before that its burst may begin

@@ -14,11 +14,9 @@ use crate::load_balancer::parts::Parts;
 use crate::load_balancer::steps::{give_up, hear, take_on};
 use crate::redundant::send_past;
 use client_request::{
-    Board, ComposeRequest, Cx, Error, GetResponse, Poll, SendRequest, Signal, Words, take_response,
+    ComposeRequest, Cx, Error, GetResponse, Latch, Pending, SendRequest, Signal, Words,
 };
-use dns_base::Message;
 use std::alloc::Global;
-use std::fmt;
 use std::marker::Model;
 
 /// Servers that requests are spread over. Each is a transport of its own.
@@ -26,7 +24,7 @@ use std::marker::Model;
 pub struct Connection<Req, U: SendRequest<Req>> {
     config: Config,
     parts: Parts<Req, U>,
-    failed: bool,
+    failed: Latch,
 }
 
 /// A connection is the transport, too.
@@ -53,7 +51,7 @@ impl<Req, U: SendRequest<Req>> Connection<Req, U> {
         Connection {
             config,
             parts: Parts::new(alloc),
-            failed: false,
+            failed: Latch::new(),
         }
     }
 }
@@ -69,13 +67,11 @@ impl<Req, U: SendRequest<Req> + Drop> Connection<Req, U> {
         ensures failed_only { IsErrOf result errors.Failed → self.old.failed ≡ true }
     {
         let _label = label;
-        if self.failed {
-            return Err(Error::Failed);
-        }
+        self.failed.check()?;
         match self.parts.add(*config, conn) {
             Ok(()) => Ok(()),
             Err(_) => {
-                self.failed = true;
+                self.failed.set();
                 Err(Error::NoMemory)
             }
         }
@@ -107,57 +103,15 @@ impl<Req: ComposeRequest, U: SendRequest<Req>> Connection<Req, U> {
         ensures failed { self.old.failed ≡ true → AnswersFailed result (self.old, view_of W.stream cx.old) (self.new, view_of W.stream cx.new) }
         ensures failed_only { IsErrOf result errors.Failed → plain.holds_failed U.holds_failed self.old ≡ true }
     {
-        if self.failed {
-            return Err(Error::Failed);
-        }
-        match send_past(&mut self.parts.choice, cx, id, request) {
-            Ok(Some(response)) => Ok(response),
-            Ok(None) => Err(Error::RedundantTransportNotFound),
-            Err(error) => {
-                self.failed = true;
-                Err(error)
-            }
-        }
-    }
-}
-
-/// What stands for the result of a request.
-#[derive(Drop)]
-pub struct Request {
-    ticket: u64,
-    given: bool,
-}
-
-impl Model for Request {
-    ghost use Rattle.client_choice.specs.Balancing.{Asked};
-
-    ghost Value = { Asked };
-
-    ghost view = { λ r. record { ticket = r.ticket; given = r.given } };
-}
-
-impl fmt::Debug for Request {
-    fn fmt<W: fmt::Write>(&self, f: &mut fmt::Formatter<W>) -> fmt::Result {
-        f.write_str("Request { fut: _ }")
-    }
-}
-
-impl GetResponse for Request {
-    ghost ticket_of = { λ r. r.ticket };
-
-    ghost has_given = { λ r. r.given };
-
-    fn get_response(&mut self, board: &mut Board) -> Poll<Result<Message, Error>> {
-        take_response(board, self.ticket, &mut self.given)
-    }
-
-    fn ticket(&self) -> u64 {
-        self.ticket
+        self.failed.check()?;
+        let sent = send_past(&mut self.parts.choice, cx, id, request);
+        let response = self.failed.keep(sent)?;
+        response.ok_or(Error::RedundantTransportNotFound)
     }
 }
 
 impl<Req: ComposeRequest, U: SendRequest<Req>> SendRequest<Req> for Connection<Req, U> {
-    type Response = Request;
+    type Response = Pending;
 
     ghost has_failed = { λ c. c.failed };
 
@@ -169,42 +123,22 @@ impl<Req: ComposeRequest, U: SendRequest<Req>> SendRequest<Req> for Connection<R
         &mut self,
         cx: &mut Cx<'_, W>,
         request: Req,
-    ) -> Result<Request, Error> {
-        if self.failed {
-            return Err(Error::Failed);
-        }
-        let result = take_on(&mut self.parts, &self.config, cx, request);
-        match result {
-            Ok(ticket) => Ok(Request {
-                ticket,
-                given: false,
-            }),
-            Err(error) => {
-                self.failed = true;
-                Err(error)
-            }
-        }
+    ) -> Result<Pending, Error> {
+        self.failed.check()?;
+        let taken = take_on(&mut self.parts, &self.config, cx, request);
+        let ticket = self.failed.keep(taken)?;
+        Ok(Pending::new(ticket))
     }
 
     fn step<W: Words>(&mut self, cx: &mut Cx<'_, W>, signal: Signal<'_>) -> Result<(), Error> {
-        if self.failed {
-            return Err(Error::Failed);
-        }
-        let result = hear(&mut self.parts, &self.config, cx, signal);
-        if result.is_err() {
-            self.failed = true;
-        }
-        result
+        self.failed.check()?;
+        let heard = hear(&mut self.parts, &self.config, cx, signal);
+        self.failed.keep(heard)
     }
 
-    fn cancel<W: Words>(&mut self, cx: &mut Cx<'_, W>, response: Request) -> Result<(), Error> {
-        if self.failed {
-            return Err(Error::Failed);
-        }
-        let result = give_up(&mut self.parts, cx, response.ticket);
-        if result.is_err() {
-            self.failed = true;
-        }
-        result
+    fn cancel<W: Words>(&mut self, cx: &mut Cx<'_, W>, response: Pending) -> Result<(), Error> {
+        self.failed.check()?;
+        let given_up = give_up(&mut self.parts, cx, response.ticket());
+        self.failed.keep(given_up)
     }
 }

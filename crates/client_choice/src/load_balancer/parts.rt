@@ -43,9 +43,7 @@ impl<Req, U: SendRequest<Req> + Drop> Parts<Req, U> {
     pub(crate) fn add(&mut self, config: ConnConfig, upstream: U) -> Result<(), NoMemory>
         ensures { OnOk result (self.new ≡ plain.joined config upstream self.old) }
     {
-        if self.limits.push(Limit::new(config)).is_err() {
-            return Err(NoMemory);
-        }
+        self.limits.push(Limit::new(config))?;
         self.choice.add(upstream)
     }
 }

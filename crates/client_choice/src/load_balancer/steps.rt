@@ -1,9 +1,8 @@
 //! What each call of a balancer does.
 
-ghost use Rattle.std.specs.Prelude.{◌≡◌, true, OnOk, IfOk, IfErr, IsErrOf};
-ghost use Rattle.client_request.specs.Calls.{Steps, NumbersRunOut};
-ghost use Rattle.client_request.specs.Cx.{view_of, heard, LendsTheSame};
-ghost use Rattle.client_request.specs.Response.{IsRefusal};
+ghost use Rattle.std.specs.Prelude.{◌≡◌, IfOk};
+ghost use Rattle.client_request.specs.Cx.{heard};
+ghost use Rattle.client_choice.specs.Calls.{HoldsParts};
 ghost use Rattle.client_choice.specs.Balancing as plain;
 ghost use Rattle.client_choice.specs.ServeFail.{serve_failed};
 
@@ -13,15 +12,12 @@ use crate::load_balancer::config::Config;
 use crate::load_balancer::parts::Parts;
 use crate::servfail::serve_fail;
 use crate::steps;
-use client_request::{ComposeRequest, Cx, Error, SendRequest, Signal, Words};
+use client_request::{ComposeRequest, Cx, Error, Part, SendRequest, Signal, Words};
 use dns_base::{Message, NoMemory};
 use std::alloc::Global;
 
 /// The answer to a message for which no server may be asked, or why there is none.
-fn unserved_message(
-    alloc: Global,
-    message: &Message,
-) -> Result<Result<Option<Message>, Error>, NoMemory>
+fn unserved_message(alloc: Global, message: &Message) -> Result<Part, NoMemory>
     ensures { IfOk result (λ part. part ≡ plain.part_of (serve_failed message.now)) }
 {
     match serve_fail(alloc, message) {
@@ -32,10 +28,7 @@ fn unserved_message(
 }
 
 /// What a request gets where no server may be asked.
-fn unserved<Req: ComposeRequest>(
-    alloc: Global,
-    request: &Req,
-) -> Result<Result<Option<Message>, Error>, NoMemory>
+fn unserved<Req: ComposeRequest>(alloc: Global, request: &Req) -> Result<Part, NoMemory>
     ensures { IfOk result (λ part. part ≡ plain.unserved (Req.requests.composed request.now)) }
 {
     match request.to_message() {
@@ -55,12 +48,7 @@ fn start_at_candidates<Req: ComposeRequest, U: SendRequest<Req>, W: Words>(
     candidates: &[Candidate],
     request: Req,
 ) -> Result<(), Error>
-    ensures lends { LendsTheSame cx.old cx.new }
-    ensures ok { Steps result (plain.takes_at Req.requests U.transport config.now ticket request parts.old (view_of W.stream cx.old) candidates.now) (parts.new, view_of W.stream cx.new) }
-    ensures numbers { NumbersRunOut result (plain.takes_at Req.requests U.transport config.now ticket request parts.old (view_of W.stream cx.old) candidates.now) }
-    ensures keeps { OnOk result (plain.flags_below U.holds_failed parts.new ≡ plain.flags_below U.holds_failed parts.old) }
-    ensures refused { IfErr result IsRefusal }
-    ensures failed_only { IsErrOf result Error.Failed → plain.holds_below U.holds_failed parts.old ≡ true }
+    ensures holds { HoldsParts U.holds_failed W.stream cx.old cx.new result (λ p v. plain.takes_at Req.requests U.transport config.now ticket request p v candidates.now) parts.old parts.new }
 {
     let alloc = parts.choice.alloc;
     if candidates.is_empty() {
@@ -86,19 +74,10 @@ pub(crate) fn take_on<Req: ComposeRequest, U: SendRequest<Req>, W: Words>(
     cx: &mut Cx<'_, W>,
     request: Req,
 ) -> Result<u64, Error>
-    ensures lends { LendsTheSame cx.old cx.new }
-    ensures ok { Steps result (plain.takes Req.requests U.transport config.now request parts.old (view_of W.stream cx.old)) (parts.new, view_of W.stream cx.new) }
+    ensures holds { HoldsParts U.holds_failed W.stream cx.old cx.new result (plain.takes Req.requests U.transport config.now request) parts.old parts.new }
     ensures ticket { IfOk result (λ ticket. ticket ≡ cx.old.ticket) }
-    ensures numbers { NumbersRunOut result (plain.takes Req.requests U.transport config.now request parts.old (view_of W.stream cx.old)) }
-    ensures keeps { OnOk result (plain.flags_below U.holds_failed parts.new ≡ plain.flags_below U.holds_failed parts.old) }
-    ensures refused { IfErr result IsRefusal }
-    ensures failed_only { IsErrOf result Error.Failed → plain.holds_below U.holds_failed parts.old ≡ true }
 {
-    let ticket = cx.ticket;
-    let Some(next) = ticket.checked_add(1) else {
-        return Err(Error::NumbersUsed);
-    };
-    cx.ticket = next;
+    let ticket = cx.draw_ticket()?;
     let alloc = parts.choice.alloc;
     let candidates = survey(alloc, &mut parts.limits, &parts.choice.servers, cx.now.0)?;
     start_at_candidates(parts, config, cx, ticket, &candidates, request)?;
@@ -112,12 +91,7 @@ pub(crate) fn hear<Req: ComposeRequest, U: SendRequest<Req>, W: Words>(
     cx: &mut Cx<'_, W>,
     signal: Signal<'_>,
 ) -> Result<(), Error>
-    ensures lends { LendsTheSame cx.old cx.new }
-    ensures ok { Steps result (plain.hears U.transport config.now (heard signal.entry) parts.old (view_of W.stream cx.old)) (parts.new, view_of W.stream cx.new) }
-    ensures numbers { NumbersRunOut result (plain.hears U.transport config.now (heard signal.entry) parts.old (view_of W.stream cx.old)) }
-    ensures keeps { OnOk result (plain.flags_below U.holds_failed parts.new ≡ plain.flags_below U.holds_failed parts.old) }
-    ensures refused { IfErr result IsRefusal }
-    ensures failed_only { IsErrOf result Error.Failed → plain.holds_below U.holds_failed parts.old ≡ true }
+    ensures holds { HoldsParts U.holds_failed W.stream cx.old cx.new result (plain.hears U.transport config.now (heard signal.entry)) parts.old parts.new }
 {
     steps::hear(&mut parts.choice, config.deferring(), cx, signal)
 }
@@ -128,12 +102,7 @@ pub(crate) fn give_up<Req: ComposeRequest, U: SendRequest<Req>, W: Words>(
     cx: &mut Cx<'_, W>,
     ticket: u64,
 ) -> Result<(), Error>
-    ensures lends { LendsTheSame cx.old cx.new }
-    ensures ok { Steps result (plain.drops U.transport ticket parts.old (view_of W.stream cx.old)) (parts.new, view_of W.stream cx.new) }
-    ensures numbers { NumbersRunOut result (plain.drops U.transport ticket parts.old (view_of W.stream cx.old)) }
-    ensures keeps { OnOk result (plain.flags_below U.holds_failed parts.new ≡ plain.flags_below U.holds_failed parts.old) }
-    ensures refused { IfErr result IsRefusal }
-    ensures failed_only { IsErrOf result Error.Failed → plain.holds_below U.holds_failed parts.old ≡ true }
+    ensures holds { HoldsParts U.holds_failed W.stream cx.old cx.new result (plain.drops U.transport ticket) parts.old parts.new }
 {
     steps::give_up(&mut parts.choice, cx, ticket)
 }

@@ -10,13 +10,23 @@ loop-server-preserved g c =
       lends = search rules;
       within = omega (arith, next);
       same =
-          hears_next g.U.SendRequest.transport c.args.config.now (length c.args.choice.now.servers) c.loop-server.server _ c.loop-server.choice c.hear_one.new.choice _ _ next c.in_ok-hear_one.ensures.ok
+          hears_next g.U.SendRequest.transport c.args.config.now (length c.args.choice.now.servers) c.loop-server.server _ c.loop-server.choice c.hear_one.new.choice _ _ next c.in_ok-hear_one.ensures.holds.ok
           ∙ c.loop-server.invariant.same;
-      keeps = c.in_ok-hear_one.ensures.keeps ∙ c.loop-server.invariant.keeps;
+      keeps = c.in_ok-hear_one.ensures.holds.keeps ∙ c.loop-server.invariant.keeps;
     }
 
-pub returns-in_err-hear_one-clause-numbers : goal.returns-in_err-hear_one-clause-numbers
-returns-in_err-hear_one-clause-numbers g c is =
+pub returns-in_err-hear_one : goal.returns-in_err-hear_one
+returns-in_err-hear_one g c =
     let next : c.loop-server.server < length c.args.choice.now.servers = grind (arith, common_steps) in
-    sym c.loop-server.invariant.same
-    ∙ hears_stop g.U.SendRequest.transport c.args.config.now (length c.args.choice.now.servers) c.loop-server.server _ c.loop-server.choice _ next (c.in_err-hear_one.ensures.numbers (search rules))
+    record {
+      holds = record {
+        lends = search rules;
+        ok = search rules;
+        numbers = λ is.
+            sym c.loop-server.invariant.same
+            ∙ hears_stop g.U.SendRequest.transport c.args.config.now (length c.args.choice.now.servers) c.loop-server.server _ c.loop-server.choice _ next (c.in_err-hear_one.ensures.holds.numbers (search rules));
+        keeps = search rules;
+        refused = search rules;
+        failed_only = search rules;
+      };
+    }
