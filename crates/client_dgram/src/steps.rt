@@ -7,7 +7,7 @@ ghost use Rattle.client_dgram.specs.Plain as plain;
 
 use crate::config::Config;
 use crate::job::{Job, Stage};
-use crate::tables::{Tables, answer_in, leave, number_at, stage_at};
+use crate::tables::{Tables, answer_in, forget_sent, number_at, stage_at};
 use client_request::{
     ComposeRequest, Cx, Error, Fault, Out, Part, QueryError, Signal, TimerId, What, Words,
 };
@@ -37,7 +37,7 @@ fn open_next<Req: ComposeRequest, W: Words>(
 }
 
 /// A slot that is free is given on to the request that waits longest.
-fn give_on<Req: ComposeRequest, W: Words>(
+fn give_slot_on<Req: ComposeRequest, W: Words>(
     tables: &mut Tables<Req>,
     server: u32,
     cx: &mut Cx<'_, W>,
@@ -67,7 +67,7 @@ fn finish<Req: ComposeRequest, W: Words>(
     ensures follows { Follows W.stream cx.old cx.new result (plain.finishes server ticket part tables.old) tables.new }
 {
     cx.board.put(ticket, part)?;
-    give_on(tables, server, cx)
+    give_slot_on(tables, server, cx)
 }
 
 /// Takes a request on: it gets a slot, or waits for one.
@@ -198,7 +198,7 @@ fn open_failed<Req: ComposeRequest, W: Words>(
 }
 
 /// What came where a request was sent is its result: the place is closed.
-fn end<Req: ComposeRequest, W: Words>(
+fn close_and_finish<Req: ComposeRequest, W: Words>(
     tables: &mut Tables<Req>,
     server: u32,
     cx: &mut Cx<'_, W>,
@@ -209,14 +209,14 @@ fn end<Req: ComposeRequest, W: Words>(
 ) -> Result<(), Error>
     ensures follows { Follows W.stream cx.old cx.new result (λ v. plain.finishes server ticket part (plain.leaves place ticket timer tables.old) (plain.closes place timer v)) tables.new }
 {
-    leave(tables, place, ticket, timer);
+    forget_sent(tables, place, ticket, timer);
     cx.outs.push(Out::Close { place })?;
     cx.timers.cancel(TimerId(timer));
     finish(tables, server, cx, ticket, part)
 }
 
 /// A fault came to pass at a place where a request was sent.
-fn broken<Req: ComposeRequest, W: Words>(
+fn end_by_fault<Req: ComposeRequest, W: Words>(
     tables: &mut Tables<Req>,
     server: u32,
     cx: &mut Cx<'_, W>,
@@ -231,7 +231,7 @@ fn broken<Req: ComposeRequest, W: Words>(
     let Some(Stage::Sent { timer, .. }) = stage_at(&tables.jobs, ticket) else {
         return Ok(());
     };
-    end(tables, server, cx, place, ticket, timer, Err(error))
+    close_and_finish(tables, server, cx, place, ticket, timer, Err(error))
 }
 
 /// A datagram came at a place.
@@ -256,11 +256,11 @@ fn received<Req: ComposeRequest, W: Words>(
     let Some(message) = answer_in(&tables.jobs, ticket, octets) else {
         return Ok(());
     };
-    end(tables, server, cx, place, ticket, timer, Ok(Some(message)))
+    close_and_finish(tables, server, cx, place, ticket, timer, Ok(Some(message)))
 }
 
 /// The read timer of a try fired: its place is closed, and the next one opens, if any may follow.
-fn late<Req: ComposeRequest, W: Words>(
+fn time_out<Req: ComposeRequest, W: Words>(
     tables: &mut Tables<Req>,
     server: u32,
     cx: &mut Cx<'_, W>,
@@ -305,7 +305,7 @@ pub(crate) fn hear<Req: ComposeRequest, W: Words>(
     match signal {
         Signal::Told(what) => told(tables, server, config, cx, what),
         Signal::More { .. } => Ok(()),
-        Signal::Due(timer) => late(tables, server, cx, timer.0),
+        Signal::Due(timer) => time_out(tables, server, cx, timer.0),
     }
 }
 
@@ -327,15 +327,15 @@ fn told<Req: ComposeRequest, W: Words>(
         }
         What::SendFailed { place, fault } => {
             let error = Error::Dgram(QueryError::Send(*fault));
-            broken(tables, server, cx, *place, error)
+            end_by_fault(tables, server, cx, *place, error)
         }
         What::ShortSend { place } => {
             let error = Error::Dgram(QueryError::Send(Fault::ShortSend));
-            broken(tables, server, cx, *place, error)
+            end_by_fault(tables, server, cx, *place, error)
         }
         What::RecvFailed { place, fault } => {
             let error = Error::Dgram(QueryError::Receive(*fault));
-            broken(tables, server, cx, *place, error)
+            end_by_fault(tables, server, cx, *place, error)
         }
         What::Datagram { place, octets } => received(tables, server, config, cx, *place, octets),
         _ => Ok(()),
@@ -364,13 +364,13 @@ pub(crate) fn give_up<Req: ComposeRequest, W: Words>(
             let _ = tables.jobs.remove(ticket);
             let _ = tables.places.remove(place);
             cx.outs.push(Out::Close { place })?;
-            give_on(tables, server, cx)
+            give_slot_on(tables, server, cx)
         }
         Stage::Sent { place, timer } => {
-            leave(tables, place, ticket, timer);
+            forget_sent(tables, place, ticket, timer);
             cx.outs.push(Out::Close { place })?;
             cx.timers.cancel(TimerId(timer));
-            give_on(tables, server, cx)
+            give_slot_on(tables, server, cx)
         }
     }
 }

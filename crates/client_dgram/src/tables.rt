@@ -68,7 +68,7 @@ pub(crate) fn stage_at<Req>(jobs: &NumberTable<Job<Req>>, ticket: u64) -> Option
 }
 
 /// Takes a request that was sent out of the tables, with its place and its timer.
-pub(crate) fn leave<Req: ComposeRequest>(
+pub(crate) fn forget_sent<Req: ComposeRequest>(
     tables: &mut Tables<Req>,
     place: u64,
     ticket: u64,
