@@ -6,4 +6,4 @@ pub returns-in_err-cancel_below-clause-want : goal.returns-in_err-cancel_below-c
 returns-in_err-cancel_below-clause-want g c =
     let arm = c.in_err-cancel_below in
     let p = err_from_is_err_and c.from_residual.result c.from_residual.ensures.1 in
-    rw (p.1, p.2) (is_want _ _ _ arm.was arm.ensures.refused c.cancel_below.ensures.holds.failed_only c.self.invariant)
+    rw (p.1, p.2) (is_want _ _ _ arm.was arm.ensures.holds.refused c.cancel_below.ensures.holds.failed_only c.self.invariant)
