@@ -62,9 +62,8 @@ world words deeds polls moments = record { words = words; deeds = deeds; polls =
 abbrev pub around : {E C W : Type 0} {R : Type 1} → (E → Option (List Deed)) → (E → ℕ) → (C → Option (List ℕ)) → (W → ℕ → ℕ) → (old new : E × C × W) → (World → World → R) → R
 around deeds polls given stream old new P = P (world (stream old.2) (deeds old.0) (polls old.0) (given old.1)) (world (stream new.2) (deeds new.0) (polls new.0) (given new.1))
 
--- The edge learned the servers in order, and then a new client of them was asked the request, and this was answered; what the edge keeps of its waits is not the
--- program's. The rows are right and timely, where
--- each word has 64 bits.
+-- The edge learned the servers in order, and then a new client of them was asked the request, and this was answered; what the edge
+-- keeps of its waits is not the program's. The rows are right and timely.
 pub record IsReplied (q : Query) (conf : ResolvConf) (old new : World) (answer : Option (Result (List ℕ) Error)) : Type 0 where
   pub left : Whole
   pub waits : Option (List ℕ)
