@@ -1,5 +1,5 @@
 use Rattle.std.proofs.Common.{◌∙◌, sym, ap}
-use Rattle.std.specs.Prelude.{option_map}
+use Rattle.std.specs.Prelude.{option_map, Some}
 use Rattle.dns_base.specs.Canonical.{alias_in}
 use Rattle.dns_base.proofs.Aliases.{answers_read, answers_unread}
 use Rattle.dns_base.proofs.message.Message.alias_of.Goals as goal
