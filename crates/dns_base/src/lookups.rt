@@ -1,6 +1,6 @@
 //! What is found in the sections of a message.
 
-ghost use Rattle.std.specs.Prelude.{◌≡◌, ◌≤◌, length, take, option_map, IfSome};
+ghost use Rattle.std.specs.Prelude.{◌≡◌, ◌≤◌, length, take, option_map, IfSome, Some};
 ghost use Rattle.dns_base.specs.Message.{is_xfr, all_read, answer_records};
 ghost use Rattle.dns_base.specs.OptRecord.{opt_of, opt_rcode};
 ghost use Rattle.dns_base.specs.AliasTable.{HasTable};
@@ -89,17 +89,32 @@ impl Message {
         alias_table::tabulate(octets, start, u16_at(octets, 6), places)
     }
 
-    /// The first alias of an owner in the answer section, where that is read: by a table, if there is one, or else by a walk.
+    /// The first alias of an owner in the answer section, by the table of that.
+    fn tabled_alias(&self, places: &[u16], owner: &ParsedName<'_>) -> Option<Record<'_>>
+        requires { HasTable self.now places.now }
+        ensures { Some result ≡ option_map (alias_in owner.now) (answer_records self.now) }
+    {
+        find_alias(self.as_slice(), places, owner)
+    }
+
+    /// The first alias of an owner in the answer section, where that is read, by a walk.
+    fn walked_alias(&self, owner: &ParsedName<'_>) -> Option<Option<Record<'_>>>
+        ensures { result ≡ option_map (alias_in owner.now) (answer_records self.now) }
+    {
+        match self.answer() {
+            Ok(records) => first_alias(records, owner),
+            Err(_) => None,
+        }
+    }
+
+    /// The first alias of an owner in the answer section, where that is read: by a table, if there is one.
     fn alias_of(&self, table: Option<&[u16]>, owner: &ParsedName<'_>) -> Option<Option<Record<'_>>>
         requires { IfSome table (λ places. HasTable self.now places.now) }
         ensures { result ≡ option_map (alias_in owner.now) (answer_records self.now) }
     {
-        if let Some(places) = table {
-            return Some(find_alias(self.as_slice(), places, owner));
-        }
-        match self.answer() {
-            Ok(records) => first_alias(records, owner),
-            Err(_) => None,
+        match table {
+            Some(places) => Some(self.tabled_alias(places, owner)),
+            None => self.walked_alias(owner),
         }
     }
 
