@@ -285,14 +285,24 @@ nothing_yet octets = record {
 }
 
 -- the table of an answer section
-pub has_table : (octets places : List ℕ) (start : ℕ) → option_map (λ x. x.1) (questions_of octets) ≡ Some start → IsTabled octets start (u16_at octets 6) places → HasTable octets places
+of_answer : (octets places : List ℕ) (start : ℕ) → option_map (λ x. x.1) (questions_of octets) ≡ Some start → IsTabled octets start (u16_at octets 6) places → HasTable octets places
 unfolding answer_of
-has_table octets places start e t = record { records = t.found.0; read = go (questions_of octets) e; table = t.table }
+of_answer octets places start e t = record { records = t.found.0; read = go (questions_of octets) e; table = t.table }
   where
     go : {A : Type 0} → (o : Option (A × ℕ)) → option_map (λ x. x.1) o ≡ Some start
         → option_map (λ (found : List Known × ℕ). found.0) (o >>= λ before. list_at (record_at octets) (u16_at octets 6) before.1) ≡ Some t.found.0
     go None e = absurd (cc)
     go (Some x) e = let is : x.1 ≡ start = cc in rw (is, t.read) refl
+
+pub has_table : (octets all places : List ℕ) (start count : ℕ) → octets ≡ all → count ≡ u16_at octets 6 → option_map (λ x. x.1) (questions_of octets) ≡ Some start
+    → IsTabled octets start count places → HasTable all places
+has_table octets all places start count is counted e t =
+    let whole = of_answer octets places start e (subst (λ (n : ℕ). IsTabled octets start n places) counted t) in
+    subst (λ (o : List ℕ). HasTable o places) is whole
+
+-- a table of the same octets
+pub table_of : (octets all places : List ℕ) (records : List Known) → octets ≡ all → IsTable all places records → IsTable octets places records
+table_of octets all places records is t = subst (λ (o : List ℕ). IsTable o places records) (sym is) t
 
 -- a place more, put in its order
 put_in : (xs ys : List ℕ) (i n y k : ℕ) → n < length xs → i ≤ n → length ys ≡ length xs → CopiedTo xs ys i (i + 1) (n - i) → SameBelow xs ys (i + 1) → k < n + 1
