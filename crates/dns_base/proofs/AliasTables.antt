@@ -1,6 +1,6 @@
 -- Tables of aliases: what they find, and what one record more leaves.
-use Rattle.std.proofs.Common.{◌≡◌, ℕ, zero, suc, ◌+◌, ◌-◌, ◌<◌, ◌≤◌, ◌∙◌, List, [], ◌∷◌, ◌++◌, length, take, drop, refl, sym, ap, arith, subst, Bool, true, false, get_or, cond}
-use Rattle.std.specs.Prelude.{Option, Some, None, Result, Ok, Err, option_map, nat_le, nat_lt, slice_set, ◌==◌, ◌&&◌, if◌then◌else◌}
+use Rattle.std.proofs.Common.{◌≡◌, ℕ, suc, ◌+◌, ◌-◌, ◌<◌, ◌≤◌, ◌∙◌, List, [], ◌∷◌, ◌++◌, length, take, refl, sym, ap, arith, subst, Bool, true, false, get_or, cond}
+use Rattle.std.specs.Prelude.{Option, Some, None, Err, option_map, nat_le, nat_lt, slice_set, ◌==◌, ◌&&◌, if◌then◌else◌}
 use Rattle.std.specs.Option.{option_map_or}
 use Rattle.std.specs.declared.cmp.Ordering.{Ordering}
 use Rattle.std.specs.declared.cmp.Ordering.TheVariants.{Less, Equal, Greater}
@@ -20,7 +20,7 @@ use Rattle.dns_names.specs.Name.{Labels, Found, lowered, same_name, name_at}
 use Rattle.dns_names.specs.NameHash.{same_lowered}
 use Rattle.dns_names.proofs.Heads.{then_ok}
 use Rattle.dns_base.specs.Numbers.{u16_at, ◌>>=◌}
-use Rattle.dns_base.specs.Message.{Known, record_at, list_at, questions_of, answer_of, answer_records}
+use Rattle.dns_base.specs.Message.{Known, record_at, list_at, questions_of, answer_of}
 use Rattle.dns_base.specs.Canonical.{is_alias, alias_in}
 use Rattle.dns_base.specs.AliasTable.{name_cmp, order_at, IsFirst, IsTable, IsTabled, HasTable}
 use Rattle.dns_base.proofs.Lists.{list_snoc}

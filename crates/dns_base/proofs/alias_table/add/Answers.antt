@@ -11,7 +11,7 @@ returns-then-ne-clause-added c = λ records t.
 
 pub returns-in-Ok-clause-added : goal.returns-in-Ok-clause-added
 returns-in-Ok-clause-added c = λ records t.
-    owner_kept _ _ records c.args.alias.now c.in-Ok.field-0 _ c.owner.ensures c.in-Ok.ensures.bound (c.in-Ok.ensures.position 0) t
+    owner_kept _ _ records c.args.alias.now _ _ c.owner.ensures c.in-Ok.ensures.bound (c.in-Ok.ensures.position 0) t
 
 pub returns-else-place-clause-added : goal.returns-else-place-clause-added
 returns-else-place-clause-added c = λ records t.

@@ -1,7 +1,7 @@
-use Rattle.std.proofs.Common.{◌≡◌, ◌∙◌, sym, ap, ℕ}
+use Rattle.std.proofs.Common.{◌∙◌, sym, ap, ℕ}
 use Rattle.std.specs.Prelude.{option_map}
 use Rattle.dns_base.specs.Message.{Known}
-use Rattle.dns_base.proofs.AliasTables.{none_found, found_here}
+use Rattle.dns_base.proofs.AliasTables.{found_here}
 use Rattle.dns_base.proofs.alias_table.find_alias.Goals as goal
 
 pub returns-in_ok-record-in-Ok : goal.returns-in_ok-record-in-Ok

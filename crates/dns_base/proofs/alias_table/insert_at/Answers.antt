@@ -1,4 +1,3 @@
-use Rattle.std.proofs.Common.{arith}
 use Rattle.dns_base.proofs.AliasTables.{put}
 use Rattle.dns_base.proofs.alias_table.insert_at.Goals as goal
 

@@ -1,5 +1,5 @@
-use Rattle.std.proofs.Common.{◌≡◌, sym, ap, arith}
-use Rattle.std.specs.Prelude.{Option, option_map, ℕ}
+use Rattle.std.proofs.Common.{sym, ap, arith}
+use Rattle.std.specs.Prelude.{option_map, ℕ}
 use Rattle.dns_base.specs.Message.{Known}
 use Rattle.dns_base.proofs.AliasTables.{none_so_far, one_more, all_so_far}
 use Rattle.dns_base.proofs.alias_table.tabulate.Goals as goal

@@ -1,5 +1,5 @@
-use Rattle.std.proofs.Common.{◌≡◌, ℕ, ◌+◌, ◌-◌, ◌∙◌, sym, ap, arith}
-use Rattle.std.specs.Prelude.{Option, Some, None, option_and_then, option_map}
+use Rattle.std.proofs.Common.{◌≡◌, ◌-◌, ◌∙◌, sym, ap, arith}
+use Rattle.std.specs.Prelude.{Some, None, option_and_then, option_map}
 use Rattle.dns_base.specs.Message.{answer_records}
 use Rattle.dns_base.specs.Canonical.{alias_in}
 use Rattle.dns_base.proofs.Aliases.{leads, leads_there, leads_on}
