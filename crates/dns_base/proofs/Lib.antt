@@ -1,4 +1,5 @@
 pub mod Aliases
+pub mod AliasTables
 pub mod Compressing
 pub mod DataBack
 pub mod EntriesBack

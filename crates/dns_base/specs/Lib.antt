@@ -7,6 +7,7 @@ pub mod Answering
 pub mod ReadingLaws
 pub mod OptRecord
 pub mod Canonical
+pub mod AliasTable
 pub mod RecordData
 pub mod Knowing
 pub mod DataReading

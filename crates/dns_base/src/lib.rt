@@ -1,6 +1,7 @@
 //! DNS messages: read where they lie, and written (RFC 1035 4.1).
 #![tactic(auto)]
 
+mod alias_table;
 mod answer;
 mod builder;
 mod compressor;

@@ -193,7 +193,7 @@ fn records_end(octets: &[u8], count: u16, place: usize) -> Option<usize>
 }
 
 #[tactic(auto, unfolding(crate::specs::Message::questions_of))]
-fn answer_start(octets: &[u8]) -> Option<usize>
+pub(crate) fn answer_start(octets: &[u8]) -> Option<usize>
     requires { 12 ≤ length octets.now }
     ensures { result ≡ option_map (λ x. x.1) (questions_of octets.now) }
 {

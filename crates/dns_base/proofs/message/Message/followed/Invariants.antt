@@ -2,7 +2,7 @@ use Rattle.std.proofs.Common.{◌≡◌}
 use Rattle.dns_base.specs.Message.{answer_records}
 use Rattle.dns_base.specs.Canonical.{canonical_name}
 use Rattle.dns_base.proofs.Aliases.{leads}
-use Rattle.dns_base.proofs.message.Message.canonical_name.Given as goal
+use Rattle.dns_base.proofs.message.Message.followed.Given as goal
 
 abbrev pub invariant-steps : goal.invariant-steps
 invariant-steps l = canonical_name l.self ≡ leads l.left (answer_records l.self) l.name

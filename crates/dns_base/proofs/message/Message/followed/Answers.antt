@@ -1,9 +1,9 @@
-use Rattle.std.proofs.Common.{◌≡◌, ℕ, ◌+◌, ◌-◌, ◌∙◌, sym, ap, arith}
-use Rattle.std.specs.Prelude.{Option, Some, None, option_and_then, option_map}
+use Rattle.std.proofs.Common.{◌≡◌, ◌-◌, ◌∙◌, sym, ap, arith}
+use Rattle.std.specs.Prelude.{Some, None, option_and_then, option_map}
 use Rattle.dns_base.specs.Message.{answer_records}
 use Rattle.dns_base.specs.Canonical.{alias_in}
 use Rattle.dns_base.proofs.Aliases.{leads, leads_there, leads_on}
-use Rattle.dns_base.proofs.message.Message.canonical_name.Goals as goal
+use Rattle.dns_base.proofs.message.Message.followed.Goals as goal
 
 pub returns-in-None : goal.returns-in-None
 returns-in-None c =
