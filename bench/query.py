@@ -6,8 +6,8 @@
 PROGRAM is the built dnsq. An NSD serves on loopback, as for tests/ask_servers.py, and a configuration that names it is
 mounted over /etc/resolv.conf in a mount namespace of this script's own. Each program asks for the same address, one after
 another in turn, RUNS times (100), and the least and the middle of its times are told, and the ratios to those of dnsq. Then
-a port that stays silent is asked, and the processor time of that query is told: more than 0.1 s ends with status 1. Where a
-tool is missing that is said, and nothing is measured.
+a port that stays silent is asked, and the processor time of that query is told, and how often it slept: more than 0.1 s, or than
+50 times, ends with status 1. Where a tool is missing that is said, and nothing is measured.
 """
 
 import os
@@ -25,6 +25,7 @@ import ask_servers  # noqa: E402
 
 INSIDE = "BENCH_QUERY_INSIDE"
 MOST_BUSY = 0.1
+MOST_SLEEPS = 50
 
 
 def timed(words):
@@ -63,8 +64,9 @@ def silence(program):
         took, out = timed([program, "query", "www.example", "A", "--port", str(silent.getsockname()[1])])
         after = resource.getrusage(resource.RUSAGE_CHILDREN)
     busy = after.ru_utime + after.ru_stime - before.ru_utime - before.ru_stime
-    print("without an answer: %s after %.2f s, %.3f s on a processor" % (out.strip(), took, busy))
-    return busy
+    sleeps = after.ru_nvcsw - before.ru_nvcsw
+    print("without an answer: %s after %.2f s, %.3f s on a processor, slept %d times" % (out.strip(), took, busy, sleeps))
+    return busy <= MOST_BUSY and sleeps <= MOST_SLEEPS
 
 
 def inside(program, runs):
@@ -80,9 +82,9 @@ def inside(program, runs):
         finally:
             server.terminate()
             server.wait()
-        busy = silence(program)
+        is_quiet = silence(program)
         subprocess.run(["umount", "/etc/resolv.conf"])
-    sys.exit(1 if busy > MOST_BUSY else 0)
+    sys.exit(0 if is_quiet else 1)
 
 
 def main():
