@@ -32,16 +32,16 @@ loop-event-preserved g c =
     }
 
 pub returns-clause-right : goal.returns-clause-right
-returns-clause-right g c = (right_at_the_end c.args.redundant c.args.cache c.args.conf.now (g.W.Words.stream c.args.words.now) c.args.events.now c.loop-event.rows c.loop-event.event-index c.args.conf.now.options.timeout (client_with (g.W.Words.stream c.loop-event.words) c.loop-event.client) c.every_plain_trace_is_right.ensures c.loop-event.invariant.same c.loop-event-test.false (record { limited = c.max_validity_is_limited.ensures; small = g.W.Words.words_fit c.args.words.now; asked = c.all_asked_in_octets.ensures; octets = c.all_in_octets.ensures })).0
+returns-clause-right g c = (right_at_the_end c.args.redundant c.args.cache c.args.conf.now (g.W.Words.stream c.args.words.now) c.args.events.now c.loop-event.rows c.loop-event.event-index c.args.conf.now.options.timeout (client_with (g.W.Words.stream c.loop-event.words) c.loop-event.client) c.every_plain_trace_is_right.ensures c.loop-event.invariant.same c.loop-event-test.false (record { limited = c.max_validity_is_limited.ensures; small = g.met.W.Words.words_fit c.args.words.now; asked = c.all_asked_in_octets.ensures; octets = c.all_in_octets.ensures })).0
 
 pub returns-clause-hits : goal.returns-clause-hits
-returns-clause-hits g c = hits_at_the_end c.args.redundant c.args.cache c.args.conf.now (g.W.Words.stream c.args.words.now) c.args.events.now c.loop-event.rows c.loop-event.event-index c.args.conf.now.options.timeout (client_with (g.W.Words.stream c.loop-event.words) c.loop-event.client) c.every_plain_trace_hits.ensures c.loop-event.invariant.same c.loop-event-test.false (record { limited = c.max_validity_is_limited.ensures; small = g.W.Words.words_fit c.args.words.now; asked = c.all_asked_in_octets.ensures; octets = c.all_in_octets.ensures })
+returns-clause-hits g c = hits_at_the_end c.args.redundant c.args.cache c.args.conf.now (g.W.Words.stream c.args.words.now) c.args.events.now c.loop-event.rows c.loop-event.event-index c.args.conf.now.options.timeout (client_with (g.W.Words.stream c.loop-event.words) c.loop-event.client) c.every_plain_trace_hits.ensures c.loop-event.invariant.same c.loop-event-test.false (record { limited = c.max_validity_is_limited.ensures; small = g.met.W.Words.words_fit c.args.words.now; asked = c.all_asked_in_octets.ensures; octets = c.all_in_octets.ensures })
 
 pub returns-clause-cut : goal.returns-clause-cut
-returns-clause-cut g c = cut_at_the_end c.args.redundant c.args.cache c.args.conf.now (g.W.Words.stream c.args.words.now) c.args.events.now c.loop-event.rows c.loop-event.event-index c.args.conf.now.options.timeout (client_with (g.W.Words.stream c.loop-event.words) c.loop-event.client) c.every_plain_trace_may_be_cut.ensures c.loop-event.invariant.same c.loop-event-test.false (record { limited = c.max_validity_is_limited.ensures; small = g.W.Words.words_fit c.args.words.now; asked = c.all_asked_in_octets.ensures; octets = c.all_in_octets.ensures })
+returns-clause-cut g c = cut_at_the_end c.args.redundant c.args.cache c.args.conf.now (g.W.Words.stream c.args.words.now) c.args.events.now c.loop-event.rows c.loop-event.event-index c.args.conf.now.options.timeout (client_with (g.W.Words.stream c.loop-event.words) c.loop-event.client) c.every_plain_trace_may_be_cut.ensures c.loop-event.invariant.same c.loop-event-test.false (record { limited = c.max_validity_is_limited.ensures; small = g.met.W.Words.words_fit c.args.words.now; asked = c.all_asked_in_octets.ensures; octets = c.all_in_octets.ensures })
 
 pub returns-clause-timely : goal.returns-clause-timely
-returns-clause-timely g c = (right_at_the_end c.args.redundant c.args.cache c.args.conf.now (g.W.Words.stream c.args.words.now) c.args.events.now c.loop-event.rows c.loop-event.event-index c.args.conf.now.options.timeout (client_with (g.W.Words.stream c.loop-event.words) c.loop-event.client) c.every_plain_trace_is_right.ensures c.loop-event.invariant.same c.loop-event-test.false (record { limited = c.max_validity_is_limited.ensures; small = g.W.Words.words_fit c.args.words.now; asked = c.all_asked_in_octets.ensures; octets = c.all_in_octets.ensures })).1
+returns-clause-timely g c = (right_at_the_end c.args.redundant c.args.cache c.args.conf.now (g.W.Words.stream c.args.words.now) c.args.events.now c.loop-event.rows c.loop-event.event-index c.args.conf.now.options.timeout (client_with (g.W.Words.stream c.loop-event.words) c.loop-event.client) c.every_plain_trace_is_right.ensures c.loop-event.invariant.same c.loop-event-test.false (record { limited = c.max_validity_is_limited.ensures; small = g.met.W.Words.words_fit c.args.words.now; asked = c.all_asked_in_octets.ensures; octets = c.all_in_octets.ensures })).1
 
 pub returns-in_err-row-clause-numbers : goal.returns-in_err-row-clause-numbers
 returns-in_err-row-clause-numbers g c = λ is.
