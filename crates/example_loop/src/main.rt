@@ -7,7 +7,8 @@ mod line;
 mod making;
 mod trouble;
 
-use client_core::{Event, Moment, Out};
+use client_core::{Client, Event, Moment, Out, What};
+use client_request::ListWords;
 use line::Line;
 use making::{client, question, words};
 use std::time::Instant;
@@ -30,6 +31,41 @@ fn act(rt: HostRuntime, line: &mut Line, out: &Out) -> Result<(), Trouble> {
     Ok(())
 }
 
+/// Steps the client, and does what it puts out: how long it may wait then, unless nothing is due any more.
+fn step(
+    rt: HostRuntime,
+    client: &mut Client,
+    words: &mut ListWords,
+    line: &mut Line,
+    event: Event,
+) -> Result<Option<u128>, Trouble> {
+    let moment = u128::from(event.moment.0);
+    let row = client.step(words, event)?;
+    for out in row.outs.as_slice() {
+        act(rt, line, out)?;
+    }
+    Ok(client.next_due().map(|due| due.saturating_sub(moment)))
+}
+
+/// Asks for a name, and goes on until nothing is due any more.
+fn ask(
+    rt: HostRuntime,
+    client: &mut Client,
+    words: &mut ListWords,
+    start: &Instant,
+    mut line: Line,
+    mut what: What,
+) -> Result<(), Trouble> {
+    for _ in 0..100u32 {
+        let moment = Moment(u64::try_from(start.elapsed(&rt)?.as_micros())?);
+        let Some(most) = step(rt, client, words, &mut line, Event { moment, what })? else {
+            break;
+        };
+        what = line.wait(rt.alloc(), most)?;
+    }
+    Ok(())
+}
+
 /// The names that are asked for, and whether the server answers.
 const NAMES: [(&str, bool); 2] = [("example.com", true), ("example.org", false)];
 
@@ -37,19 +73,9 @@ fn main(rt: HostRuntime) -> Result<(), Trouble> {
     let (mut client, mut words) = (client(rt.alloc())?, words(rt.alloc())?);
     let start = Instant::now(&rt)?;
     for (name, answers) in NAMES {
-        let mut line = Line::new(rt, answers)?;
-        let mut what = question(rt.alloc(), name)?;
-        for _ in 0..100u32 {
-            let moment = Moment(u64::try_from(start.elapsed(&rt)?.as_micros())?);
-            let row = client.step(&mut words, Event { moment, what })?;
-            for out in row.outs.as_slice() {
-                act(rt, &mut line, out)?;
-            }
-            let Some(due) = client.next_due() else {
-                break;
-            };
-            what = line.wait(rt.alloc(), due.saturating_sub(u128::from(moment.0)))?;
-        }
+        let line = Line::new(rt, answers)?;
+        let what = question(rt.alloc(), name)?;
+        ask(rt, &mut client, &mut words, &start, line, what)?;
     }
     Ok(())
 }
