@@ -5,10 +5,10 @@ ghost use Rattle.std.specs.Prelude.{◌<◌, length, IfSome};
 use dns_base::{IpAddr, ParsedName};
 
 /// A number of two octets.
-pub(crate) fn u16_front(data: &[u8]) -> Option<(u16, &[u8])>
-    ensures { IfSome result (λ r. length r.1.now < length data.now) }
+pub(crate) fn u16_front(whole: &[u8]) -> Option<(u16, &[u8])>
+    ensures { IfSome result (λ r. length r.1.now < length whole.now) }
 {
-    match data {
+    match whole {
         [high, low, rest @ ..] => Some((u16::from_be_bytes([*high, *low]), rest)),
         _ => None,
     }
@@ -31,21 +31,21 @@ pub(crate) fn octets_front(data: &[u8], count: usize) -> Option<(&[u8], &[u8])> 
 }
 
 /// Octets behind an octet that counts them (RFC 1035 3.3).
-pub(crate) fn string_front(data: &[u8]) -> Option<(&[u8], &[u8])>
+pub(crate) fn string_front(whole: &[u8]) -> Option<(&[u8], &[u8])>
     ensures short { IfSome result (λ r. length r.0.now < 256) }
-    ensures shorter { IfSome result (λ r. length r.1.now < length data.now) }
+    ensures shorter { IfSome result (λ r. length r.1.now < length whole.now) }
 {
-    match data {
+    match whole {
         [count, rest @ ..] if rest.len() >= *count as usize => Some(rest.split_at(*count as usize)),
         _ => None,
     }
 }
 
 /// A code, and octets behind two that count them: an option (RFC 6891 6.1.2) or a service parameter (RFC 9460 2.2).
-pub(crate) fn option_front(data: &[u8]) -> Option<(u16, &[u8], &[u8])>
-    ensures { IfSome result (λ r. length r.2.now < length data.now) }
+pub(crate) fn option_front(whole: &[u8]) -> Option<(u16, &[u8], &[u8])>
+    ensures { IfSome result (λ r. length r.2.now < length whole.now) }
 {
-    match data {
+    match whole {
         [a, b, high, low, rest @ ..] => {
             let count = *high as usize * 256 + *low as usize;
             if rest.len() < count {

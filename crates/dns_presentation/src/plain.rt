@@ -203,7 +203,7 @@ pub(crate) struct Naptr<'a> {
     replacement: ParsedName<'a>,
 }
 
-/// So many strings at the front, and what is behind them.
+/// Three strings at the front, and what is behind them.
 fn three_strings(data: &[u8]) -> Option<(Strings<'_>, &[u8])> {
     let (flags, rest) = parts::string_front(data)?;
     let (services, rest) = parts::string_front(rest)?;

@@ -7,10 +7,10 @@ use dns_base::Rtype;
 use std::fmt::{self, Display};
 
 /// The next window of a set: its number, its bits, and what is behind it.
-fn window_front(data: &[u8]) -> Option<(u8, &[u8], &[u8])>
-    ensures { IfSome result (λ r. length r.2.now < length data.now) }
+fn window_front(whole: &[u8]) -> Option<(u8, &[u8], &[u8])>
+    ensures { IfSome result (λ r. length r.2.now < length whole.now) }
 {
-    match data {
+    match whole {
         [number, rest @ ..] => {
             let (bits, behind) = parts::string_front(rest)?;
             if bits.is_empty() || bits.len() > 32 {
