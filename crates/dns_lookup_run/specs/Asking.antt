@@ -1,0 +1,41 @@
+-- The requests of a lookup, and what is answered to them.
+use Rattle.std.specs.Prelude.{◌≡◌, ℕ, ◌+◌, Bool, true, false, if◌then◌else◌, List, [], ◌∷◌, ◌++◌, Option, None, Some, Result, Ok, Err}
+use Rattle.std.specs.List.{All}
+use Rattle.client_request.specs.Request.{Request, with_dnssec_ok}
+use Rattle.client_request.specs.declared.error.Error.{Error}
+use Rattle.client_loop.specs.Asking.{IsAnswered, Scene, StopsForNumbers, scene}
+use Rattle.client_steps.specs.Whole.{Whole}
+use Rattle.dns_values.specs.declared.numbers.Rtype.{Rtype}
+use Rattle.dnsq_run.specs.Query.{World, begun, is_message, request_of}
+use Rattle.resolv_conf.specs.declared.conf.ResolvConf.{ResolvConf}
+use Rattle.dns_lookup_run.specs.Conf.{IsConfOf}
+use Rattle.dns_lookup_words.specs.declared.lookup.Lookup.{Lookup}
+
+-- the request for a type: its one question, of class IN, with the flag DO where that is said
+abbrev pub request_for : Lookup → Rtype → Request
+request_for lookup rtype =
+    let asked = request_of (record { name = lookup.name; rtype = rtype; port = None }) in
+    if lookup.dnssec then with_dnssec_ok true asked else asked
+
+-- the type that is said, or A and then AAAA
+abbrev pub types_at : Option Rtype → List Rtype
+types_at (Some rtype) = rtype ∷ []
+types_at None = record { 0 = 1 } ∷ record { 0 = 28 } ∷ []
+
+abbrev pub Answer : Type 0
+Answer = Option (Result (List ℕ) Error)
+
+-- Types are asked for one after another, from the request of this number on, and each was answered so.
+pub data AreAnswered (lookup : Lookup) : ℕ → List Rtype → List Answer → Scene → Scene → Type 0 where
+  all_asked : (n : ℕ) (s : Scene) → AreAnswered lookup n [] [] s s
+  one_asked : (n : ℕ) (rtype : Rtype) (rtypes : List Rtype) (answer : Answer) (answers : List Answer) (old mid new : Scene)
+      → IsAnswered n 1000000 (request_for lookup rtype) old mid answer → AreAnswered lookup (n + 1) rtypes answers mid new
+      → AreAnswered lookup n (rtype ∷ rtypes) (answer ∷ answers) old new
+
+-- Of the types of a lookup some were asked for, and the others, if any, were not.
+pub record IsLookedUp (lookup : Lookup) (told : Option (List ℕ)) (old new : World) (rtypes later : List Rtype) (answers : List Answer) : Type 0 where
+  pub conf : ResolvConf
+  pub is_conf : IsConfOf lookup told conf
+  pub left : Whole
+  pub types : types_at lookup.rtype ≡ rtypes ++ later
+  pub answered : AreAnswered lookup 0 rtypes answers (begun conf old) (scene left new.words new.deeds new.polls new.moments)

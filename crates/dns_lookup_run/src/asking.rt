@@ -1,0 +1,70 @@
+//! The requests of a lookup.
+
+ghost use Rattle.std.specs.Prelude.{◌≡◌, ◌≢◌, IfOk, IfErr, IsErrOf};
+ghost use Rattle.client_loop.specs.Asking.{IsAnswered, StopsForNumbers, between};
+ghost use Rattle.dns_lookup_run.specs.Asking.{request_for};
+
+use crate::watched_clock::WatchedClock;
+use crate::watched_edge::{Heard, WatchedEdge};
+use client_core::{Client, Clock, Edge};
+use client_loop::ask;
+use client_request::{Compose, Error, RequestMessage, Words};
+use dns_lookup_words::Lookup;
+use dns_values::Rtype;
+use dnsq_run::{Answer, Query, request_of};
+use std::alloc::Global;
+
+/// What a request came to.
+#[derive(Drop)]
+pub(crate) struct Came {
+    /// What was answered.
+    pub(crate) answer: Answer,
+    /// From whom octets came last while it was asked; none where it was answered from what is kept.
+    pub(crate) heard: Option<Heard>,
+    /// How long it took, in microseconds.
+    pub(crate) micros: u64,
+}
+
+/// The request of a lookup for a type.
+fn request_for(alloc: Global, lookup: &Lookup, rtype: Rtype) -> Result<RequestMessage, Error>
+    ensures made { IfOk result (λ r. r ≡ request_for lookup.now rtype) }
+    ensures refused { IfErr result (λ e. e ≢ Error.NumbersUsed) }
+{
+    let query = Query {
+        name: lookup.name.try_clone(alloc)?,
+        rtype,
+        port: None,
+    };
+    let mut request = request_of(alloc, &query)?;
+    if lookup.dnssec {
+        request.set_dnssec_ok(true);
+    }
+    Ok(request)
+}
+
+/// Asks a client the request of a lookup for a type, under the number of its next request.
+pub(crate) fn asked<E: Edge + Drop, C: Clock + Drop, W: Words>(
+    alloc: Global,
+    lookup: &Lookup,
+    rtype: Rtype,
+    number: u64,
+    client: &mut Client,
+    edge: &mut WatchedEdge<E>,
+    clock: &mut WatchedClock<C>,
+    random: &mut W,
+) -> Result<Came, Error>
+    ensures answered { IfOk result (λ came. between E.deeds E.polls C.given W.stream (client.old, edge.old.edge, clock.old.clock, random.old) (client.new, edge.new.edge, clock.new.clock, random.new)
+        (λ old new. IsAnswered number 1000000 (request_for lookup.now rtype) old new came.answer)) }
+    ensures numbers { IsErrOf result Error.NumbersUsed → between E.deeds E.polls C.given W.stream (client.old, edge.old.edge, clock.old.clock, random.old)
+        (client.new, edge.new.edge, clock.new.clock, random.new) (StopsForNumbers (request_for lookup.now rtype)) }
+{
+    edge.forget();
+    clock.forget();
+    let request = request_for(alloc, lookup, rtype)?;
+    let answer = ask(client, edge, clock, random, number, request)?;
+    Ok(Came {
+        answer,
+        heard: edge.heard(),
+        micros: clock.passed(),
+    })
+}

@@ -1,0 +1,73 @@
+//! The configuration that is asked.
+
+ghost use Rattle.std.specs.Prelude.{◌≡◌, ◌≢◌, ◌++◌, map, IfOk, IfErr, OnOk};
+ghost use Rattle.dns_values.specs.Source.{Rose};
+ghost use Rattle.dnsq_run.specs.Program.{status_of};
+ghost use Rattle.resolv_conf.specs.Conf.{name_server};
+ghost use Rattle.dns_lookup_run.specs.Conf.{IsConfOf, conf_asked, named};
+
+use dns_base::NoMemory;
+use dns_lookup_words::Lookup;
+use dns_values::{Duration, IpAddr, SocketAddr, Source};
+use dnsq_run::{Ending, conf_at, configuration};
+use resolv_conf::{ResolvConf, ServerConf, Servers, Transport};
+use std::alloc::Global;
+
+/// The port of the DNS (RFC 1035 4.2).
+const DNS_PORT: u16 = 53;
+
+/// Adds servers by their addresses.
+fn push_all(servers: &mut Servers, ips: &[IpAddr]) -> Result<(), NoMemory>
+    ensures { OnOk result (servers.new ≡ servers.old ++ map name_server ips.now) }
+{
+    for ip in ips {
+        let addr = SocketAddr {
+            ip: *ip,
+            port: DNS_PORT,
+        };
+        servers.push(ServerConf::new(addr, Transport::UdpTcp))?;
+    }
+    Ok(())
+}
+
+/// A configuration of servers by their addresses alone.
+fn named(alloc: Global, ips: &[IpAddr]) -> Result<ResolvConf, NoMemory>
+    ensures { IfOk result (λ conf. conf ≡ named ips.now) }
+{
+    let mut conf = ResolvConf::new(alloc);
+    push_all(&mut conf.servers, ips)?;
+    conf.finalize(alloc)?;
+    Ok(conf)
+}
+
+/// With what the words say of the port, the time and streams.
+fn conf_asked(lookup: &Lookup, base: ResolvConf) -> ResolvConf
+    ensures { result ≡ conf_asked lookup.now base }
+{
+    let mut conf = conf_at(lookup.port, base);
+    if let Some(seconds) = lookup.seconds {
+        conf.options.timeout = Duration::from_secs(seconds);
+    }
+    if lookup.tcp {
+        conf.options.use_vc = true;
+    }
+    conf
+}
+
+/// The configuration that a lookup asks: of the servers that its words name, or else the one that a source gives.
+pub(crate) fn conf_of<S: Source>(
+    alloc: Global,
+    lookup: &Lookup,
+    source: &mut S,
+) -> Result<ResolvConf, Ending>
+    ensures conf { IfOk result (λ conf. IsConfOf lookup.now (S.left source.old) conf) }
+    ensures source_fault { IfErr result (λ e. status_of e ≡ 3 → Rose (S.faults source.old) (S.faults source.new)) }
+    ensures no_numbers { IfErr result (λ e. status_of e ≢ 7) }
+{
+    let base = if lookup.servers.is_empty() {
+        configuration(alloc, source)?
+    } else {
+        named(alloc, lookup.servers.as_slice())?
+    };
+    Ok(conf_asked(lookup, base))
+}

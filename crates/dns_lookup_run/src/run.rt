@@ -1,0 +1,163 @@
+//! What the program does, over a source, two sinks and the rest of its world.
+
+ghost use Rattle.std.specs.Prelude.{◌≡◌, ◌≢◌, ◌⊎◌, Ok, Err, true, false, IfOk};
+ghost use Rattle.client_loop.specs.Asking.{IsAnswered, StopsForNumbers, between};
+ghost use Rattle.dns_values.specs.Source.{Rose};
+ghost use Rattle.dns_values.specs.Sink.{IsFlushed};
+ghost use Rattle.dnsq_run.specs.Program.{IsStatus};
+ghost use Rattle.dnsq_run.specs.Query.{around, is_message};
+ghost use Rattle.dns_lookup_run.specs.Asking.{Answer, request_for};
+ghost use Rattle.dns_lookup_run.specs.Ends.{EndsSo, IsRefusalTold, LookupEnd};
+ghost use Rattle.dns_lookup_words.specs.Words.{LookupGives};
+
+use crate::asking::{Came, asked};
+use crate::conf::conf_of;
+use crate::page::page;
+use crate::telling::{tell_conf, tell_refusal, tell_stop, tell_unanswered};
+use crate::watched_clock::WatchedClock;
+use crate::watched_edge::WatchedEdge;
+use client_core::{Client, Clock, Edge, cache, redundant};
+use client_loop::learn_all;
+use client_request::Words;
+use dns_base::{NoMemory, Rtype, Status};
+use dns_lookup_words::{Fault, Lookup, lookup_of};
+use dns_values::{Sink, Source};
+use dnsq_run::{deliver, statuses};
+use resolv_conf::{ResolvConf, ServerConf};
+use std::alloc::Global;
+
+/// Writes what a request came to: the message, or a sentence that says why there is none.
+fn write_came<K: Sink, L: Sink>(
+    alloc: Global,
+    is_short: bool,
+    came: &Came,
+    servers: &[ServerConf],
+    sink: &mut K,
+    errors: &mut L,
+) -> Status
+    ensures statuses { (result.0 ≡ 0) ⊎ ((result.0 ≡ 4) ⊎ ((result.0 ≡ 5) ⊎ (result.0 ≡ 6))) }
+    ensures good { (result.0 ≡ 0) ⊎ (result.0 ≡ 4) → is_message came.now.answer ≡ true }
+    ensures bad { result.0 ≡ 5 → is_message came.now.answer ≡ false }
+    ensures flushed { result.0 ≡ 0 → IsFlushed (K.held sink.new) (K.flushed sink.new) }
+    ensures sink_fault { result.0 ≡ 4 → Rose (K.faults sink.old) (K.faults sink.new) }
+{
+    match &came.answer {
+        Some(Ok(message)) => match page(alloc, is_short, message, came, servers) {
+            Ok(text) => deliver(sink, text.as_bytes()),
+            Err(NoMemory) => statuses::NO_MEMORY,
+        },
+        Some(Err(error)) => tell_unanswered(alloc, Some(*error), errors),
+        None => tell_unanswered(alloc, None, errors),
+    }
+}
+
+/// Asks for a type, under the number of the client's next request, and writes what is answered.
+fn ask_for<K: Sink, L: Sink, E: Edge + Drop, C: Clock + Drop, W: Words>(
+    alloc: Global,
+    lookup: &Lookup,
+    rtype: Rtype,
+    number: u64,
+    servers: &[ServerConf],
+    client: &mut Client,
+    sink: &mut K,
+    errors: &mut L,
+    edge: &mut WatchedEdge<E>,
+    clock: &mut WatchedClock<C>,
+    random: &mut W,
+) -> Status
+    ensures statuses { IsStatus result.0 }
+    ensures done { (result.0 ≡ 0) ⊎ (result.0 ≡ 4) → (answer : Answer) × (is_message answer ≡ true) × between E.deeds E.polls C.given W.stream (client.old, edge.old.edge, clock.old.clock, random.old)
+        (client.new, edge.new.edge, clock.new.clock, random.new) (λ old new. IsAnswered number 1000000 (request_for lookup.now rtype) old new answer) }
+    ensures no_reply { result.0 ≡ 5 → (answer : Answer) × (is_message answer ≡ false) × between E.deeds E.polls C.given W.stream (client.old, edge.old.edge, clock.old.clock, random.old)
+        (client.new, edge.new.edge, clock.new.clock, random.new) (λ old new. IsAnswered number 1000000 (request_for lookup.now rtype) old new answer) }
+    ensures numbers { result.0 ≡ 7 → between E.deeds E.polls C.given W.stream (client.old, edge.old.edge, clock.old.clock, random.old)
+        (client.new, edge.new.edge, clock.new.clock, random.new) (StopsForNumbers (request_for lookup.now rtype)) }
+    ensures flushed { result.0 ≡ 0 → IsFlushed (K.held sink.new) (K.flushed sink.new) }
+    ensures sink_fault { result.0 ≡ 4 → Rose (K.faults sink.old) (K.faults sink.new) }
+    ensures others { (result.0 ≢ 1) × (result.0 ≢ 2) × (result.0 ≢ 3) }
+{
+    match asked(alloc, lookup, rtype, number, client, edge, clock, random) {
+        Ok(came) => write_came(alloc, lookup.short, &came, servers, sink, errors),
+        Err(error) => tell_stop(error, errors),
+    }
+}
+
+/// Asks for the type of a lookup, or for A and then AAAA, and writes what is answered. The first without an answer ends it.
+fn ask_all<K: Sink, L: Sink, E: Edge + Drop, C: Clock + Drop, W: Words>(
+    alloc: Global,
+    lookup: &Lookup,
+    conf: &ResolvConf,
+    sink: &mut K,
+    errors: &mut L,
+    edge: &mut WatchedEdge<E>,
+    clock: &mut WatchedClock<C>,
+    random: &mut W,
+) -> Status {
+    let servers = conf.servers.as_slice();
+    let Ok(()) = learn_all(edge, servers) else {
+        return statuses::NO_MEMORY;
+    };
+    let Ok(mut client) =
+        Client::new(alloc, conf, redundant::Config::new(), cache::Config::new())
+    else {
+        return statuses::NO_MEMORY;
+    };
+    let first = lookup.rtype.unwrap_or(Rtype::A);
+    let status = ask_for(
+        alloc, lookup, first, 0, servers, &mut client, sink, errors, edge, clock, random,
+    );
+    if status != statuses::DONE || lookup.rtype.is_some() {
+        return status;
+    }
+    ask_for(
+        alloc,
+        lookup,
+        Rtype::AAAA,
+        1,
+        servers,
+        &mut client,
+        sink,
+        errors,
+        edge,
+        clock,
+        random,
+    )
+}
+
+/// Does what words ask for, and answers the exit status.
+///
+/// The servers that the words name are asked, or else those of the configuration that `source` gives. What is answered is
+/// written to `sink`, and where nothing is, one sentence to `errors` says why; the status stands whatever becomes of that.
+pub fn run<S: Source, K: Sink, L: Sink, E: Edge + Drop, C: Clock + Drop, W: Words>(
+    alloc: Global,
+    words: &[String],
+    source: &mut S,
+    sink: &mut K,
+    errors: &mut L,
+    edge: &mut WatchedEdge<E>,
+    clock: &mut WatchedClock<C>,
+    random: &mut W,
+) -> Status
+    ensures statuses { IsStatus result.0 }
+    ensures never_one { result.0 ≢ 1 }
+
+    // The words.
+    ensures usage { result.0 ≡ 2 → IsRefusalTold words.now (L.held errors.old) (L.held errors.new) (L.faults errors.old) (L.faults errors.new) }
+
+    // What was asked, and what it came to.
+    ensures ends { around E.deeds E.polls C.given W.stream (edge.old.edge, clock.old.clock, random.old) (edge.new.edge, clock.new.clock, random.new) (LookupEnd words.now result.0 (S.left source.old)) }
+    ensures flushed { result.0 ≡ 0 → IsFlushed (K.held sink.new) (K.flushed sink.new) }
+
+    // Faults.
+    ensures sink_fault { result.0 ≡ 4 → Rose (K.faults sink.old) (K.faults sink.new) }
+{
+    let lookup = match lookup_of(alloc, words) {
+        Ok(lookup) => lookup,
+        Err(Fault::Refused(refusal)) => return tell_refusal(alloc, words, refusal, errors),
+        Err(Fault::NoMemory) => return statuses::NO_MEMORY,
+    };
+    match conf_of(alloc, &lookup, source) {
+        Ok(conf) => ask_all(alloc, &lookup, &conf, sink, errors, edge, clock, random),
+        Err(ending) => tell_conf(alloc, ending, errors),
+    }
+}
