@@ -15,3 +15,4 @@ mod table;
 pub use cache_rules::{AdDo, Key, validity, view};
 pub use client_settings::cache::Config;
 pub use connection::{Connection, Request};
+pub use table::Flags;

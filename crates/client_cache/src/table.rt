@@ -77,9 +77,9 @@ pub(crate) fn store(table: &mut Table, key: Key, entry: Entry) -> Result<(), NoM
 
 /// What a request asks of DNSSEC, and whether it has RD set.
 #[derive(Clone, Copy)]
-pub(crate) struct Flags {
-    pub(crate) class: AdDo,
-    pub(crate) rd: bool,
+pub struct Flags {
+    pub class: AdDo,
+    pub rd: bool,
 }
 
 impl Flags {

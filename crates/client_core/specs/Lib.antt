@@ -1,3 +1,4 @@
 pub mod Clock
 pub mod Edge
 pub mod ListEdge
+pub mod Waiting

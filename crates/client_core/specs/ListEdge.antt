@@ -5,10 +5,11 @@ use Rattle.client_request.specs.declared.event.What.{What}
 use Rattle.client_core.specs.Edge.{is_fault}
 use Rattle.client_core.specs.declared.deed.Deed.{Deed}
 
--- the events that are left, what was done, and the counts of polls and of faults
+-- the events that are left, what was done, the waits, and the counts of polls and of faults
 pub record Kept : Type 0 where
   pub events : List (Option What)
   pub deeds : List Deed
+  pub waits : List ℕ
   pub polls : ℕ
   pub faults : ℕ
 

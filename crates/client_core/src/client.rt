@@ -7,6 +7,7 @@ ghost use Rattle.client_request.specs.Response.{IsRefusal};
 ghost use Rattle.client_request.specs.Timers.{due_now, next_due};
 ghost use Rattle.client_steps.specs.Client as plain;
 ghost use Rattle.client_steps.specs.Machines.{client_in};
+ghost use Rattle.client_core.specs.Waiting.{time_left, wait_of};
 ghost use Rattle.client_steps.specs.Upstream as upstream;
 ghost use Rattle.client_steps.specs.Whole.{machine, started, with_one_more, plain_step, client_with};
 ghost use Rattle.client_cache.specs.Plain as caching;
@@ -85,6 +86,16 @@ fn turn<W: Words>(
     ensures failed_only { IsErrOf result Error.Failed → caching.holds_failed (choosing.holds_failed upstream.holds_failed) layer.old ≡ true }
 {
     take_in(layer, asked, cx, alloc, timeout, event)
+}
+
+/// The time from a moment until another one is due: 0 where that is past, and as long as may be where nothing is due.
+fn time_left(now: Moment, due: Option<u128>) -> u128
+    ensures { result ≡ time_left now.0 due }
+{
+    match due {
+        Some(due) => due.saturating_sub(u128::from(now.0)),
+        None => u128::MAX,
+    }
 }
 
 impl Client {
@@ -237,5 +248,16 @@ impl Client {
     {
         let (due, _) = self.timers.next_due()?;
         Some(due)
+    }
+
+    /// How long whoever holds the client may wait for something to happen, in microseconds from the moment of its last event on:
+    /// until `next_due`, or the greatest `u128` where no timer is set. 0 once a step was refused. It takes no memory.
+    pub fn may_wait(&self) -> u128
+        ensures { result ≡ wait_of self.entry.now }
+    {
+        if self.failed {
+            return 0;
+        }
+        time_left(self.now, self.next_due())
     }
 }

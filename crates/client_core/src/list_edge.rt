@@ -1,10 +1,11 @@
 //! An edge in memory.
 
-ghost use Rattle.std.specs.Prelude.{◌≡◌, [], ◌∷◌, ◌++◌, Some, OnOk, OnErr, IfOk};
+ghost use Rattle.std.specs.Prelude.{◌≡◌, ◌⊎◌, [], ◌∷◌, ◌++◌, Some, OnOk, OnErr, IfOk};
 ghost use Rattle.dns_values.specs.Source.{one_more};
 ghost use Rattle.client_core.specs.declared.deed.Deed.{Deed};
 ghost use Rattle.client_core.specs.Edge.{after_fault};
 ghost use Rattle.client_core.specs.ListEdge.{later_events, next_event};
+ghost use Rattle.client_core.specs.Waiting.{Waited};
 
 use crate::deed::Deed;
 use crate::edge::{Edge, is_fault};
@@ -15,13 +16,14 @@ use std::alloc::Global;
 use std::collections::VecDeque;
 use std::marker::Model;
 
-/// An edge that gives the events of a list, and none past its end, and keeps what was done with it. After want of memory it is
-/// as it was.
+/// An edge that gives the events of a list, and none past its end, and keeps what was done with it and the waits that it was told.
+/// After want of memory it is as it was.
 #[derive(Drop)]
 pub struct ListEdge {
     alloc: Global,
     events: VecDeque<Option<What>>,
     deeds: Vec<Deed>,
+    waits: Vec<u128>,
     polls: u64,
     faults: u64,
 }
@@ -31,7 +33,7 @@ impl Model for ListEdge {
 
     ghost Value = { Kept };
 
-    ghost view = { λ e. record { events = e.events.items; deeds = e.deeds.items; polls = e.polls; faults = e.faults } };
+    ghost view = { λ e. record { events = e.events.items; deeds = e.deeds.items; waits = e.waits.items; polls = e.polls; faults = e.faults } };
 }
 
 /// The same once more.
@@ -57,12 +59,13 @@ fn next_copy(alloc: Global, events: &VecDeque<Option<What>>) -> Result<Option<Wh
 impl ListEdge {
     /// An edge that gives these events, poll by poll, with which nothing was done.
     pub fn new(alloc: Global, events: Vec<Option<What>>) -> ListEdge
-        ensures { result ≡ record { events = events.items; deeds = []; polls = 0; faults = 0 } }
+        ensures { result ≡ record { events = events.items; deeds = []; waits = []; polls = 0; faults = 0 } }
     {
         ListEdge {
             alloc,
             events: VecDeque::from(events),
             deeds: Vec::new(alloc),
+            waits: Vec::new(alloc),
             polls: 0,
             faults: 0,
         }
@@ -73,6 +76,13 @@ impl ListEdge {
         ensures { result.now ≡ self.now.deeds }
     {
         self.deeds.as_slice()
+    }
+
+    /// The waits that it was told, in microseconds, in order.
+    pub fn waits(&self) -> &[u128]
+        ensures { result.now ≡ self.now.waits }
+    {
+        self.waits.as_slice()
     }
 
     fn keep(&mut self, deed: Deed) -> Result<(), NoMemory>
@@ -89,12 +99,15 @@ impl ListEdge {
 impl Edge for ListEdge {
     ghost deeds = { λ e. Some e.deeds };
 
+    ghost waits = { λ e. Some e.waits };
+
     ghost polls = { λ e. e.polls };
 
     ghost faults = { λ e. e.faults };
 
     fn learn_server(&mut self, server: &ServerConf) -> Result<(), NoMemory>
         ensures deeds { OnOk result (self.new.deeds ≡ self.old.deeds ++ Deed.Learned server.now ∷ []) }
+        ensures waits { self.new.waits ≡ self.old.waits }
         ensures polls { self.new.polls ≡ self.old.polls }
         ensures faults { self.new.faults ≡ self.old.faults }
         ensures events { self.new.events ≡ self.old.events }
@@ -105,6 +118,7 @@ impl Edge for ListEdge {
 
     fn act(&mut self, out: &Out) -> Result<(), NoMemory>
         ensures deeds { OnOk result (self.new.deeds ≡ self.old.deeds ++ Deed.Acted out.now ∷ []) }
+        ensures waits { self.new.waits ≡ self.old.waits }
         ensures polls { self.new.polls ≡ self.old.polls }
         ensures faults { self.new.faults ≡ self.old.faults }
         ensures events { self.new.events ≡ self.old.events }
@@ -116,6 +130,7 @@ impl Edge for ListEdge {
 
     fn poll(&mut self) -> Result<Option<What>, NoMemory>
         ensures deeds { IfOk result (λ what. self.new.deeds ≡ self.old.deeds ++ Deed.Polled what ∷ []) }
+        ensures waits { self.new.waits ≡ self.old.waits }
         ensures polls { OnOk result (self.new.polls ≡ one_more self.old.polls) }
         ensures faults { IfOk result (λ what. self.new.faults ≡ after_fault what self.old.faults) }
         ensures gives { IfOk result (λ what. what ≡ next_event self.old.events) }
@@ -130,5 +145,18 @@ impl Edge for ListEdge {
             self.faults = self.faults.saturating_add(1);
         }
         Ok(what)
+    }
+
+    /// It doesn't sleep. A wait for which there is no memory isn't kept.
+    fn wait(&mut self, most: u128)
+        ensures kept { (self.new ≡ record self.old { waits = self.old.waits ++ most ∷ [] }) ⊎ (self.new ≡ self.old) }
+        ensures waits { Waited most (Some self.old.waits) (Some self.new.waits) }
+        ensures deeds { self.new.deeds ≡ self.old.deeds }
+        ensures polls { self.new.polls ≡ self.old.polls }
+        ensures faults { self.new.faults ≡ self.old.faults }
+    {
+        match self.waits.push(most) {
+            Ok(()) | Err(_) => {}
+        }
     }
 }

@@ -73,6 +73,11 @@ impl Place {
         self.ready = ready;
     }
 
+    /// Whether a wait found something that was not looked at.
+    pub fn is_ready(&self) -> bool {
+        self.ready
+    }
+
     /// Hands octets to the socket: what is to be told of it by now. What the socket does not take is kept, and goes on
     /// when it takes more.
     pub fn put(&mut self, octets: &Octets) -> Result<Option<What>, NoMemory> {

@@ -15,8 +15,8 @@ use std::net::{Net, TcpListener, TcpStream};
 
 /// An edge over the system's sockets. What contracts see is how often it was polled, and the faults that it gave as events.
 ///
-/// No call waits for a peer. Where nothing happened, `poll` waits about a millisecond for something at any of the places, and
-/// then gives none. It gives what an act made happen first; then what happened at the places, each in its turn. A stream
+/// No call but `wait` sleeps: that one until something happened at any of the places, for the time that it is told, rounded up to
+/// whole milliseconds. `poll` gives what an act made happen first; then what happened at the places, each in its turn. A stream
 /// opens, and takes what it could not take at once, while the edge is polled. An out for a place that isn't open does nothing.
 ///
 /// After want of memory an act has done nothing, and a poll may have lost what came at one place. Of a stream nothing more is
@@ -81,5 +81,9 @@ impl<R: Net<Listener = TcpListener, Stream = TcpStream> + Copy> Edge for SocketE
             self.faults = self.faults.saturating_add(1);
         }
         Ok(what)
+    }
+
+    fn wait(&mut self, most: u128) {
+        self.sockets.wait(most);
     }
 }

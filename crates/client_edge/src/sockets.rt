@@ -1,5 +1,8 @@
 //! The sockets of a client, by places.
 
+ghost use Rattle.std.specs.Prelude.{◌≡◌, pos};
+ghost use Rattle.client_edge.specs.SocketEdge.{milliseconds};
+
 use crate::place::{Place, Socket};
 use crate::stream::Stream;
 use crate::tcp::TcpConnect;
@@ -16,8 +19,13 @@ use std::net::{Net, TcpListener, TcpStream};
 /// The most octets that one call takes from a socket.
 const SIZE: usize = 65535;
 
-/// How long a wait for sockets may last, in milliseconds.
-const WAIT: i32 = 1;
+/// So many microseconds in whole milliseconds, which the system counts: rounded up, since a wait that ended before its time would
+/// be made again.
+fn milliseconds(micros: u128) -> i32
+    ensures { result ≡ pos (milliseconds micros) }
+{
+    i32::try_from(micros.div_ceil(1000)).unwrap_or(i32::MAX)
+}
 
 /// The sockets of a client, and what happened at them of which nobody was told.
 #[derive(Drop)]
@@ -75,7 +83,15 @@ impl<R: Net<Listener = TcpListener, Stream = TcpStream> + Copy> Sockets<R> {
         Ok(())
     }
 
-    /// What happened, if anything did by now or within a wait.
+    /// Waits until something happened, but for no more than so many microseconds. Where memory runs out it doesn't wait, and the
+    /// next poll says so.
+    pub fn wait(&mut self, most: u128) {
+        if !self.has_news() {
+            let _ = self.find(milliseconds(most));
+        }
+    }
+
+    /// What happened, if anything did by now.
     pub fn poll(&mut self) -> Result<Option<What>, NoMemory> {
         if let Some(what) = self.happened.pop_front() {
             return Ok(Some(what));
@@ -83,7 +99,7 @@ impl<R: Net<Listener = TcpListener, Stream = TcpStream> + Copy> Sockets<R> {
         if let Some(what) = self.look()? {
             return Ok(Some(what));
         }
-        self.wait()?;
+        self.find(0)?;
         self.look()
     }
 
@@ -160,13 +176,18 @@ impl<R: Net<Listener = TcpListener, Stream = TcpStream> + Copy> Sockets<R> {
         Ok(None)
     }
 
-    /// Waits until there is something at a place, but not for long.
-    fn wait(&mut self) -> Result<(), NoMemory> {
+    /// Whether something happened of which nobody was told, as far as it was found.
+    fn has_news(&self) -> bool {
+        !self.happened.is_empty() || self.places.iter().any(|place| place.is_ready())
+    }
+
+    /// Waits until there is something at a place, at most so many milliseconds, and marks the places where there is.
+    fn find(&mut self, most: i32) -> Result<(), NoMemory> {
         self.asked.clear();
         for place in &self.places {
             self.asked.push(place.asked())?;
         }
-        let found = poll(&mut self.asked, WAIT);
+        let found = poll(&mut self.asked, most);
         for (place, asked) in self.places.iter_mut().zip(&self.asked) {
             place.set_ready(found > 0 && asked.revents != 0);
         }

@@ -4,8 +4,9 @@ use Rattle.std.proofs.lemmas.List.{map_more, take_all}
 use Rattle.dns_values.specs.Source.{one_more, last_count}
 use Rattle.client_request.specs.Words.{IsGivenOn}
 use Rattle.client_core.specs.Edge.{after_deed}
+use Rattle.client_core.specs.Waiting.{Waited}
 use Rattle.client_core.specs.declared.deed.Deed.{Deed}
-use Rattle.client_loop.specs.Turns.{after_deeds, AreGivenOn, RoseBy}
+use Rattle.client_loop.specs.Turns.{after_deeds, after_waits, AreGivenOn, RoseBy}
 
 pub append_nil : {A : Type 0} (xs : List A) → xs ++ [] ≡ xs
 append_nil [] = refl
@@ -27,6 +28,29 @@ more_deeds first second a b c f s = s ∙ ap (after_deeds second) f ∙ deeds_jo
 -- one deed more is deeds
 pub as_deeds : (deed : Deed) (a b : Option (List Deed)) → b ≡ after_deed deed a → b ≡ after_deeds (deed ∷ []) a
 as_deeds deed a b h = h
+
+-- no waits
+pub no_waits : (told : Option (List ℕ)) → told ≡ after_waits [] told
+no_waits None = refl
+no_waits (Some before) = ap Some (sym (append_nil before))
+
+-- some waits, and then others
+waits_joined : (first second : List ℕ) (told : Option (List ℕ)) → after_waits second (after_waits first told) ≡ after_waits (first ++ second) told
+waits_joined first second None = refl
+waits_joined first second (Some before) = ap Some (append_assoc before first second)
+
+pub more_waits : (first second : List ℕ) (a b c : Option (List ℕ)) → b ≡ after_waits first a → c ≡ after_waits second b → c ≡ after_waits (first ++ second) a
+more_waits first second a b c f s = s ∙ ap (after_waits second) f ∙ waits_joined first second a
+
+-- what is kept of one wait
+pub record KeptOf (most : ℕ) (old new : Option (List ℕ)) : Type 0 where
+  pub kept : List ℕ
+  pub is : (kept ≡ most ∷ []) ⊎ (kept ≡ [])
+  pub told : new ≡ after_waits kept old
+
+pub kept_of : (most : ℕ) (old new : Option (List ℕ)) → Waited most old new → KeptOf most old new
+kept_of most old new (inl h) = record { kept = most ∷ []; is = inl refl; told = h }
+kept_of most old new (inr h) = record { kept = []; is = inr refl; told = h ∙ no_waits old }
 
 -- the deeds that the items of a list give, one after another
 module _ {X : Type 0} (deed_of : X → Deed) (xs : List X) where

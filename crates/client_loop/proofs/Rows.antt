@@ -1,12 +1,12 @@
 -- The rows of turns, one more at a time.
-use Rattle.std.proofs.Common.{◌≡◌, ℕ, List, [], ◌∷◌, ◌++◌, map, Option, Some, None, refl, ap, sym, ◌∙◌}
+use Rattle.std.proofs.Common.{◌≡◌, ℕ, List, [], ◌∷◌, ◌++◌, map, Option, Some, None, refl, ap, sym, subst, ◌∙◌, append_assoc}
 use Rattle.std.specs.Prelude.{option_map}
 use Rattle.client_request.specs.declared.event.Event.{Event}
 use Rattle.client_request.specs.declared.event.Row.{Row}
 use Rattle.client_steps.specs.Client.{plain_rows, row_step}
 use Rattle.client_steps.specs.Whole.{Client, machine}
 use Rattle.client_core.proofs.Replaying.{next_row, no_row}
-use Rattle.client_loop.specs.Turns.{Leads, events_of, moments_of}
+use Rattle.client_loop.specs.Turns.{AreKept, IsKept, Leads, Turn, events_of, moments_of}
 use Rattle.client_loop.proofs.Deeds.{append_nil}
 
 events_more : (rows : List Row) (row : Row) (later : List Event) → events_of (rows ++ row ∷ []) ++ later ≡ events_of rows ++ (row.event ∷ later)
@@ -26,6 +26,13 @@ moments_and [] e = refl
 moments_and (r ∷ rows) e = ap (λ (ms : List ℕ). r.event.moment.0 ∷ ms) (moments_and rows e)
 
 module _ (timeout : ℕ) where
+  -- what was kept in one turn more
+  pub kept_more : (first : Client) (before : List Row) (turns : List Turn) (turn : Turn) → AreKept timeout first before turns → IsKept timeout first (before ++ map (λ t. t.row) turns) turn.kept
+      → AreKept timeout first before (turns ++ turn ∷ [])
+  kept_more first before [] turn h one = (subst (λ (rows : List Row). IsKept timeout first rows turn.kept) (append_nil before) one, tt)
+  kept_more first before (t ∷ ts) turn h one =
+      (h.0, kept_more first (before ++ t.row ∷ []) ts turn h.1 (subst (λ (rows : List Row). IsKept timeout first rows turn.kept) (sym (append_assoc before (t.row ∷ []) (map (λ (u : Turn). u.row) ts))) one))
+
   -- no rows lead nowhere
   pub leads_nowhere : (c : Client) → Leads timeout c [] c
   leads_nowhere c later = same (plain_rows machine timeout later c)

@@ -1,5 +1,5 @@
 -- A request that is asked, and one turn more.
-use Rattle.std.proofs.Common.{◌≡◌, ℕ, ◌+◌, ◌-◌, ◌<◌, ◌≤◌, List, [], ◌∷◌, ◌++◌, length, map, Option, Some, None, Result, Ok, Err, refl, ap, sym, subst, ◌∙◌, arith, length-append}
+use Rattle.std.proofs.Common.{◌≡◌, ℕ, ◌+◌, ◌-◌, ◌<◌, ◌≤◌, List, [], ◌∷◌, ◌++◌, ◌⊎◌, if◌then◌else◌, Bool, false, length, map, Option, Some, None, Result, Ok, Err, refl, ap, sym, subst, ◌∙◌, arith, length-append}
 use Rattle.std.specs.List.{flat_map}
 use Rattle.std.specs.Prelude.{IfOk, IsErrOf}
 use Rattle.std.proofs.lemmas.List.{flat_map_more}
@@ -17,15 +17,16 @@ use Rattle.client_core.specs.Edge.{after_deed}
 use Rattle.client_steps.specs.Whole.{Client, Whole, client_with, machine, plain_step}
 use Rattle.client_core.specs.declared.deed.Deed.{Deed}
 use Rattle.client_core.specs.declared.deed.Deed.TheVariants.{Polled}
+use Rattle.client_core.specs.Waiting.{Waited, first_due, time_left, wait_of}
 use Rattle.client_core.proofs.Replaying.{row_event}
 use Rattle.dns_values.specs.Source.{one_more}
 use Rattle.right_trace.specs.InOctets.{AllInOctets, IsInOctets}
 use Rattle.right_trace.specs.Timely.{AllAskedInOctets, IsAskedInOctets}
 use Rattle.client_loop.specs.Asking.{Asked, Begun, IsAnswered, Scene, StopsForNumbers, client_of, rows_of}
 use Rattle.client_loop.specs.Replies.{first_reply, or_later, reply_in}
-use Rattle.client_loop.specs.Turns.{AreGivenOn, IsOfPoll, IsTurn, Leads, RoseBy, StopsAt, Turn, acts_on, after_deeds, deeds_of, events_of, happened, moments_of}
-use Rattle.client_loop.proofs.Deeds.{append_nil, first_moment, more_deeds, more_moments, rose_by_none, rose_more}
-use Rattle.client_loop.proofs.Rows.{event_behind, leads_nowhere, leads_on, moment_behind, moments_and, plain_of, stops_on}
+use Rattle.client_loop.specs.Turns.{AreGivenOn, IsOfPoll, IsTurn, Leads, RoseBy, StopsAt, Turn, acts_on, after_deeds, after_waits, deeds_of, events_of, happened, moments_of}
+use Rattle.client_loop.proofs.Deeds.{KeptOf, append_nil, first_moment, kept_of, more_deeds, more_moments, more_waits, no_waits, rose_by_none, rose_more}
+use Rattle.client_loop.proofs.Rows.{event_behind, kept_more, leads_nowhere, leads_on, moment_behind, moments_and, plain_of, stops_on}
 
 -- an error is the same whatever else there might have been
 pub same_error : {A B : Type 0} (e f : Error) → IsErrOf {T = A} (Err e) f → IsErrOf {T = B} (Err e) f
@@ -92,9 +93,9 @@ module _ (request : Request) (old : Scene) where
   -- the request is asked
   pub asked_first : (new : Scene) (event : Event) (row : Row) → event.what ≡ Ask request → IsOfOctets request
       → row_step machine old.client.timeout event (client_of old) ≡ Some (row, client_of new)
-      → new.deeds ≡ after_deeds (acts_on row.outs) old.deeds → new.polls ≡ old.polls → IsGivenOn old.moments new.moments event.moment.0
+      → new.deeds ≡ after_deeds (acts_on row.outs) old.deeds → new.waits ≡ old.waits → new.polls ≡ old.polls → IsGivenOn old.moments new.moments event.moment.0
       → Begun request old new row
-  asked_first new event row asks in_octets step deeds polls moment =
+  asked_first new event row asks in_octets step deeds waits polls moment =
       let is : row.event ≡ event = row_event machine old.client.timeout row event (client_of old) (client_of new) step in
       let what : row.event.what ≡ Ask request = ap (λ (e : Event). e.what) is ∙ asks in
       record {
@@ -107,6 +108,8 @@ module _ (request : Request) (old : Scene) where
           octets = (subst IsAskedInOctets (sym what) in_octets, tt);
           comes = (subst IsInOctets (sym what) tt, tt);
           deeds = deeds ∙ ap (λ (ds : List Deed). after_deeds ds old.deeds) (sym (append_nil (acts_on row.outs)));
+          kept = tt;
+          waits = waits ∙ no_waits old.waits;
           polls = subst (λ (n : ℕ). RoseBy 0 old.polls n) (sym polls) (rose_by_none old.polls);
           moments = first_moment row.event.moment.0 old.moments new.moments (subst (λ (e : Event). IsGivenOn old.moments new.moments e.moment.0) (sym is) moment);
         };
@@ -115,12 +118,14 @@ module _ (request : Request) (old : Scene) where
       }
 
   -- one turn more is made
-  pub asked_more : (mid new : Scene) (a : Asked request old mid) (row : Row) → mid.client.timeout ≡ old.client.timeout
+  pub asked_more : (mid new : Scene) (a : Asked request old mid) (row : Row) → mid.client.timeout ≡ old.client.timeout → mid.client.failed ≡ false
       → row_step machine mid.client.timeout row.event (client_of mid) ≡ Some (row, client_of new)
-      → IsTurn row mid.deeds new.deeds → new.polls ≡ one_more mid.polls → IsGivenOn mid.moments new.moments row.event.moment.0
+      → IsTurn row mid.deeds new.deeds → Waited (wait_of mid.client) mid.waits new.waits → new.polls ≡ one_more mid.polls → IsGivenOn mid.moments new.moments row.event.moment.0
       → OneMore request old mid new a row
-  asked_more mid new a row same step t polls moment =
-      let turn : Turn = record { polled = t.polled; row = row } in
+  asked_more mid new a row same lasts step t waited polls moment =
+      let k : KeptOf (wait_of mid.client) mid.waits new.waits = kept_of (wait_of mid.client) mid.waits new.waits waited in
+      let turn : Turn = record { kept = k.kept; polled = t.polled; row = row } in
+      let most : wait_of mid.client ≡ time_left mid.client.now (first_due mid.client.timers.set) = ap (λ (b : Bool). if b then 0 else time_left mid.client.now (first_due mid.client.timers.set)) lasts in
       let rows : rows_of a.asking (a.turns ++ turn ∷ []) ≡ rows_of a.asking a.turns ++ row ∷ [] = rows_more a.asking a.turns turn in
       let events : events_of (rows_of a.asking a.turns) ++ row.event ∷ [] ≡ events_of (rows_of a.asking (a.turns ++ turn ∷ [])) = sym (ap events_of rows ∙ event_behind (rows_of a.asking a.turns) row) in
       let many : length (a.turns ++ turn ∷ []) ≡ length a.turns + 1 = length-append a.turns (turn ∷ []) in
@@ -134,6 +139,12 @@ module _ (request : Request) (old : Scene) where
           octets = subst AllAskedInOctets events (octets_more (events_of (rows_of a.asking a.turns)) row.event a.octets (subst IsAskedInOctets (sym t.of_poll) (happened_in_octets t.polled)));
           comes = subst AllInOctets events (coming_more (events_of (rows_of a.asking a.turns)) row.event a.comes t.octets);
           deeds = more_deeds (acts_on a.asking.outs ++ flat_map deeds_of a.turns) (deeds_of turn) old.deeds mid.deeds new.deeds a.deeds t.deeds ∙ ap (λ (ds : List Deed). after_deeds ds old.deeds) (flat_map_more deeds_of (acts_on a.asking.outs) a.turns turn);
+          kept = kept_more old.client.timeout (client_of old) (a.asking ∷ []) a.turns turn a.kept (record {
+            client = client_of mid;
+            leads = a.leads;
+            is = subst (λ (n : ℕ). (k.kept ≡ n ∷ []) ⊎ (k.kept ≡ [])) most k.is;
+          });
+          waits = more_waits (flat_map (λ (u : Turn). u.kept) a.turns) k.kept old.waits mid.waits new.waits a.waits k.told ∙ ap (λ (ws : List ℕ). after_waits ws old.waits) (flat_map_more (λ (u : Turn). u.kept) [] a.turns turn);
           polls = subst (λ (n : ℕ). RoseBy n old.polls new.polls) (sym many) (rose_more (length a.turns) old.polls mid.polls new.polls a.polls polls);
           moments = subst (λ (ms : List ℕ). AreGivenOn old.moments new.moments ms) (sym (ap moments_of rows ∙ moment_behind (rows_of a.asking a.turns) row)) (more_moments (moments_of (rows_of a.asking a.turns)) row.event.moment.0 old.moments mid.moments new.moments a.moments moment);
         };
@@ -206,10 +217,10 @@ module _ (request : Request) (old : Scene) where
   -- what was asked, if it was
   pub begun : (new : Scene) (event : Event) (r : Result Row Error) → event.what ≡ Ask request → IsOfOctets request
       → IfOk r (λ row. row_step machine old.client.timeout event (client_of old) ≡ Some (row, client_of new))
-      → IfOk r (λ row. new.deeds ≡ after_deeds (acts_on row.outs) old.deeds) → new.polls ≡ old.polls → IsGivenOn old.moments new.moments event.moment.0
+      → IfOk r (λ row. new.deeds ≡ after_deeds (acts_on row.outs) old.deeds) → new.waits ≡ old.waits → new.polls ≡ old.polls → IsGivenOn old.moments new.moments event.moment.0
       → IfOk r (Begun request old new)
-  begun new event (Ok row) asks in_octets step deeds polls moment = asked_first new event row asks in_octets step deeds polls moment
-  begun new event (Err error) asks in_octets step deeds polls moment = step
+  begun new event (Ok row) asks in_octets step deeds waits polls moment = asked_first new event row asks in_octets step deeds waits polls moment
+  begun new event (Err error) asks in_octets step deeds waits polls moment = step
 
   -- a number would pass 64 bits when the request is asked
   pub stops_first : (new : Scene) (event : Event) → event.what ≡ Ask request → row_step machine old.client.timeout event (client_of old) ≡ None

@@ -10,7 +10,7 @@ use Rattle.client_steps.specs.Client.{plain_rows}
 use Rattle.client_steps.specs.Whole.{Client, Whole, machine, client_with}
 use Rattle.client_core.specs.declared.deed.Deed.{Deed}
 use Rattle.client_loop.specs.Replies.{EndsWith, first_reply}
-use Rattle.client_loop.specs.Turns.{Turn, IsOfPoll, RoseBy, AreGivenOn, Leads, acts_on, after_deeds, deeds_of, events_of, moments_of}
+use Rattle.client_loop.specs.Turns.{Turn, IsOfPoll, RoseBy, AreGivenOn, AreKept, Leads, acts_on, after_deeds, after_waits, deeds_of, events_of, moments_of}
 use Rattle.right_trace.specs.InOctets.{AllInOctets}
 use Rattle.right_trace.specs.Timely.{AllAskedInOctets}
 
@@ -18,28 +18,29 @@ use Rattle.right_trace.specs.Timely.{AllAskedInOctets}
 abbrev pub rows_of : Row → List Turn → List Row
 rows_of asking turns = asking ∷ map (λ turn. turn.row) turns
 
--- A client, the words that come, what its edge tells of what was done with it, the edge's count of polls, and the moments that its clock tells.
+-- A client, the words that come, what its edge tells of what was done with it and of its waits, the edge's count of polls, and the moments that its clock tells.
 pub record Scene : Type 0 where
   pub client : Whole
   pub words : ℕ → ℕ
   pub deeds : Option (List Deed)
+  pub waits : Option (List ℕ)
   pub polls : ℕ
   pub moments : Option (List ℕ)
 
-abbrev pub scene : Whole → (ℕ → ℕ) → Option (List Deed) → ℕ → Option (List ℕ) → Scene
-scene client words deeds polls moments = record { client = client; words = words; deeds = deeds; polls = polls; moments = moments }
+abbrev pub scene : Whole → (ℕ → ℕ) → Option (List Deed) → (waits : Option (List ℕ)) → ℕ → (moments : Option (List ℕ)) → Scene
+scene client words deeds waits polls moments = record { client = client; words = words; deeds = deeds; waits = waits; polls = polls; moments = moments }
 
 -- What holds of the scenes before and after a call, by what an edge, a clock and words tell.
-abbrev pub between : {E C W : Type 0} {R : Type 1} → (E → Option (List Deed)) → (E → ℕ) → (C → Option (List ℕ)) → (W → ℕ → ℕ) → (old new : Whole × E × C × W) → (Scene → Scene → R) → R
-between deeds polls given stream old new P =
-    P (scene old.0 (stream old.3) (deeds old.1) (polls old.1) (given old.2)) (scene new.0 (stream new.3) (deeds new.1) (polls new.1) (given new.2))
+abbrev pub between : {E C W : Type 0} {R : Type 1} → (E → Option (List Deed)) → (E → Option (List ℕ)) → (E → ℕ) → (C → Option (List ℕ)) → (W → ℕ → ℕ) → (old new : Whole × E × C × W) → (Scene → Scene → R) → R
+between deeds waits polls given stream old new P =
+    P (scene old.0 (stream old.3) (deeds old.1) (waits old.1) (polls old.1) (given old.2)) (scene new.0 (stream new.3) (deeds new.1) (waits new.1) (polls new.1) (given new.2))
 
 -- the client as it begins a row
 abbrev pub client_of : Scene → Client
 client_of s = client_with s.words s.client
 
 -- A request was asked, and then turns were made: their rows are the plain client's, the events are those that the edge gave, at the clock's moments,
--- the edge acted on what was put out for each before it was polled again, and was polled once a turn.
+-- the edge acted on what was put out for each before it was polled again, and was polled once a turn, after it was told how long it may wait.
 pub record Asked (request : Request) (old new : Scene) : Type 0 where
   pub asking : Row
   pub turns : List Turn
@@ -49,6 +50,8 @@ pub record Asked (request : Request) (old new : Scene) : Type 0 where
   pub octets : AllAskedInOctets (events_of (rows_of asking turns))
   pub comes : AllInOctets (events_of (rows_of asking turns))
   pub deeds : new.deeds ≡ after_deeds (acts_on asking.outs ++ flat_map deeds_of turns) old.deeds
+  pub kept : AreKept old.client.timeout (client_of old) (asking ∷ []) turns
+  pub waits : new.waits ≡ after_waits (flat_map (λ turn. turn.kept) turns) old.waits
   pub polls : RoseBy (length turns) old.polls new.polls
   pub moments : AreGivenOn old.moments new.moments (moments_of (rows_of asking turns))
 

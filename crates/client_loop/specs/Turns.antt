@@ -1,5 +1,5 @@
 -- What a client does in a turn, over an edge and a clock.
-use Rattle.std.specs.Prelude.{◌≡◌, ◌⊎◌, ℕ, ◌+◌, List, ◌∷◌, ◌++◌, map, Option, None, Some, option_map}
+use Rattle.std.specs.Prelude.{◌≡◌, ◌⊎◌, ℕ, ◌+◌, List, [], ◌∷◌, ◌++◌, map, Option, None, Some, option_map}
 use Rattle.dns_values.specs.Source.{last_count}
 use Rattle.client_request.specs.Words.{IsGivenOn}
 use Rattle.client_request.specs.declared.event.Event.{Event}
@@ -12,6 +12,7 @@ use Rattle.client_steps.specs.Client.{plain_rows}
 use Rattle.client_steps.specs.Whole.{Client, Whole, machine, plain_step}
 use Rattle.client_core.specs.declared.deed.Deed.{Deed}
 use Rattle.client_core.specs.declared.deed.Deed.TheVariants.{Acted, Polled}
+use Rattle.client_core.specs.Waiting.{first_due, time_left}
 
 -- What happens in a turn is what the edge gave. Where it gave nothing, or a request, only time goes on.
 abbrev pub happened : Option What → What
@@ -23,8 +24,9 @@ happened (Some what) = what
 abbrev pub acts_on : List Out → List Deed
 acts_on outs = map (λ out. Acted out) outs
 
--- a turn: what the edge gave, and the row that came of it
+-- a turn: what the edge has kept of the wait that it was told, what it gave, and the row that came of it
 pub record Turn : Type 0 where
+  pub kept : List ℕ
   pub polled : Option What
   pub row : Row
 
@@ -40,12 +42,16 @@ deeds_of turn = Polled turn.polled ∷ acts_on turn.row.outs
 abbrev pub after_deeds : List Deed → Option (List Deed) → Option (List Deed)
 after_deeds deeds told = option_map (λ before. before ++ deeds) told
 
+-- what an edge tells of its waits after these too
+abbrev pub after_waits : List ℕ → Option (List ℕ) → Option (List ℕ)
+after_waits waits told = option_map (λ before. before ++ waits) told
+
 -- A row is that of a turn: there is something that the edge gave, so that the row is of it, what came is octets, and these are the deeds of both.
 pub record IsTurn (row : Row) (old new : Option (List Deed)) : Type 0 where
   pub polled : Option What
   pub octets : IsInOctets row.event.what
   pub of_poll : row.event.what ≡ happened polled
-  pub deeds : new ≡ after_deeds (deeds_of (record { polled = polled; row = row })) old
+  pub deeds : new ≡ after_deeds (Polled polled ∷ acts_on row.outs) old
 
 -- a count of polls rose by so many, or stands at its last value
 abbrev pub RoseBy : ℕ → (old new : ℕ) → Type 0
@@ -67,6 +73,17 @@ moments_of rows = map (λ row. row.event.moment.0) rows
 abbrev pub Leads : (timeout : ℕ) → Client → List Row → Client → Type 0
 Leads timeout before rows after =
     (later : List Event) → plain_rows machine timeout (events_of rows ++ later) before ≡ option_map (λ more. rows ++ more) (plain_rows machine timeout later after)
+
+-- After these rows an edge was told how long it may wait, which is until the next due moment of the client to which they lead, and has kept that or nothing.
+pub record IsKept (timeout : ℕ) (first : Client) (rows : List Row) (kept : List ℕ) : Type 0 where
+  pub client : Client
+  pub leads : Leads timeout first rows client
+  pub is : (kept ≡ time_left client.view.now (first_due client.view.timers.set) ∷ []) ⊎ (kept ≡ [])
+
+-- The edge was told so in each turn, whose row comes behind those before.
+abbrev pub AreKept : (timeout : ℕ) → (first : Client) → (before : List Row) → List Turn → Type 0
+AreKept timeout first before [] = Unit {0}
+AreKept timeout first before (turn ∷ turns) = IsKept timeout first before turn.kept × AreKept timeout first (before ++ turn.row ∷ []) turns
 
 -- A number would pass 64 bits at some event, at the moment that a clock gave.
 pub record StopsAt (words : ℕ → ℕ) (client : Whole) (old new : Option (List ℕ)) : Type 0 where

@@ -10,8 +10,7 @@ use client_core::{Client, Clock, Edge};
 use client_request::{Error, Event, RequestMessage, Row, What, Words};
 use dns_base::Message;
 
-/// How many turns a request is given. With an edge that waits about a millisecond where nothing happens they outlast an
-/// ordinary timeout.
+/// How many turns a request is given. With an edge that sleeps where nothing happens they outlast any timeout.
 pub const MOST_TURNS: u64 = 1_000_000;
 
 /// Asks a client a request, and turns until its reply is there, at most `MOST_TURNS` times: none where none of them had it.
@@ -27,8 +26,8 @@ pub fn ask<E: Edge, C: Clock, W: Words>(
     number: u64,
     request: RequestMessage,
 ) -> Result<Option<Result<Message, Error>>, Error>
-    ensures answered { IfOk result (between E.deeds E.polls C.given W.stream (client.old, edge.old, clock.old, words.old) (client.new, edge.new, clock.new, words.new) (IsAnswered number 1000000 request)) }
-    ensures numbers { IsErrOf result Error.NumbersUsed → between E.deeds E.polls C.given W.stream (client.old, edge.old, clock.old, words.old) (client.new, edge.new, clock.new, words.new) (StopsForNumbers request) }
+    ensures answered { IfOk result (between E.deeds E.waits E.polls C.given W.stream (client.old, edge.old, clock.old, words.old) (client.new, edge.new, clock.new, words.new) (IsAnswered number 1000000 request)) }
+    ensures numbers { IsErrOf result Error.NumbersUsed → between E.deeds E.waits E.polls C.given W.stream (client.old, edge.old, clock.old, words.old) (client.new, edge.new, clock.new, words.new) (StopsForNumbers request) }
     ensures timeout { OnOk result (client.new.timeout ≡ client.old.timeout) }
     ensures lasts { OnOk result (client.new.failed ≡ false) }
     ensures refused { IfErr result IsRefusal }
@@ -45,8 +44,8 @@ fn begin<E: Edge, C: Clock, W: Words>(
     words: &mut W,
     request: RequestMessage,
 ) -> Result<Row, Error>
-    ensures begun { IfOk result (between E.deeds E.polls C.given W.stream (client.old, edge.old, clock.old, words.old) (client.new, edge.new, clock.new, words.new) (Begun request)) }
-    ensures numbers { IsErrOf result Error.NumbersUsed → between E.deeds E.polls C.given W.stream (client.old, edge.old, clock.old, words.old) (client.new, edge.new, clock.new, words.new) (StopsForNumbers request) }
+    ensures begun { IfOk result (between E.deeds E.waits E.polls C.given W.stream (client.old, edge.old, clock.old, words.old) (client.new, edge.new, clock.new, words.new) (Begun request)) }
+    ensures numbers { IsErrOf result Error.NumbersUsed → between E.deeds E.waits E.polls C.given W.stream (client.old, edge.old, clock.old, words.old) (client.new, edge.new, clock.new, words.new) (StopsForNumbers request) }
     ensures timeout { OnOk result (client.new.timeout ≡ client.old.timeout) }
     ensures lasts { OnOk result (client.new.failed ≡ false) }
     ensures refused { IfErr result IsRefusal }
@@ -70,8 +69,8 @@ pub fn ask_within<E: Edge, C: Clock, W: Words>(
     request: RequestMessage,
     most: u64,
 ) -> Result<Option<Result<Message, Error>>, Error>
-    ensures answered { IfOk result (between E.deeds E.polls C.given W.stream (client.old, edge.old, clock.old, words.old) (client.new, edge.new, clock.new, words.new) (IsAnswered number most request)) }
-    ensures numbers { IsErrOf result Error.NumbersUsed → between E.deeds E.polls C.given W.stream (client.old, edge.old, clock.old, words.old) (client.new, edge.new, clock.new, words.new) (StopsForNumbers request) }
+    ensures answered { IfOk result (between E.deeds E.waits E.polls C.given W.stream (client.old, edge.old, clock.old, words.old) (client.new, edge.new, clock.new, words.new) (IsAnswered number most request)) }
+    ensures numbers { IsErrOf result Error.NumbersUsed → between E.deeds E.waits E.polls C.given W.stream (client.old, edge.old, clock.old, words.old) (client.new, edge.new, clock.new, words.new) (StopsForNumbers request) }
     ensures timeout { OnOk result (client.new.timeout ≡ client.old.timeout) }
     ensures lasts { OnOk result (client.new.failed ≡ false) }
     ensures refused { IfErr result IsRefusal }

@@ -78,26 +78,28 @@ week : (default_cache).max_validity ≤ seconds 6048000
 week = omega arith
 
 -- what was answered to a new client whose edge learned its servers
-pub replied : EveryPlainTraceIsRight → (q : Query) (conf : ResolvConf) (old new : World) → AreWords old.words → (client left : Whole) (request : Request) (deeds : Option (List Deed)) (polls : ℕ) (answer : Option (Result (List ℕ) Error))
+pub replied : EveryPlainTraceIsRight → (q : Query) (conf : ResolvConf) (old new : World) → AreWords old.words → (client left : Whole) (request : Request) (deeds : Option (List Deed)) (waits later_waits : Option (List ℕ)) (polls : ℕ) (answer : Option (Result (List ℕ) Error))
     → client ≡ started default_redundant default_cache conf → request ≡ request_of q → deeds ≡ after_deeds (map (λ server. Learned server) conf.servers) old.deeds → polls ≡ old.polls
-    → IsAnswered 0 1000000 request (scene client old.words deeds polls old.moments) (scene left new.words new.deeds new.polls new.moments) answer → IsReplied q conf old new answer
-replied law q conf old new small client left request deeds polls answer is asks learned polled a =
-    let same : scene client old.words deeds polls old.moments ≡ begun conf old = cc in
-    let b : IsAnswered 0 1000000 (request_of q) (begun conf old) (scene left new.words new.deeds new.polls new.moments) answer =
-    subst (λ (r : Request). IsAnswered 0 1000000 r (begun conf old) (scene left new.words new.deeds new.polls new.moments) answer) asks
-    (subst (λ (s : Scene). IsAnswered 0 1000000 request s (scene left new.words new.deeds new.polls new.moments) answer) same a) in
+    → IsAnswered 0 1000000 request (scene client old.words deeds waits polls old.moments) (scene left new.words new.deeds later_waits new.polls new.moments) answer → IsReplied q conf old new answer
+replied law q conf old new small client left request deeds waits later_waits polls answer is asks learned polled a =
+    let same : scene client old.words deeds waits polls old.moments ≡ begun conf old waits = cc in
+    let b : IsAnswered 0 1000000 (request_of q) (begun conf old waits) (scene left new.words new.deeds later_waits new.polls new.moments) answer =
+    subst (λ (r : Request). IsAnswered 0 1000000 r (begun conf old waits) (scene left new.words new.deeds later_waits new.polls new.moments) answer) asks
+    (subst (λ (s : Scene). IsAnswered 0 1000000 request s (scene left new.words new.deeds later_waits new.polls new.moments) answer) same a) in
     record {
       left = left;
+      waits = waits;
+      later_waits = later_waits;
       answered = b;
       right = (law default_redundant default_cache conf old.words (events_of (rows_of b.asked.asking b.asked.turns)) (rows_of b.asked.asking b.asked.turns) b.plain (record { limited = week; small = small; asked = b.asked.octets; octets = b.asked.comes })).0;
       timely = (law default_redundant default_cache conf old.words (events_of (rows_of b.asked.asking b.asked.turns)) (rows_of b.asked.asking b.asked.turns) b.plain (record { limited = week; small = small; asked = b.asked.octets; octets = b.asked.comes })).1;
     }
 
 -- or a number would have passed 64 bits
-pub stopped : (q : Query) (conf : ResolvConf) (client left : Whole) (request : Request) (words words_left : ℕ → ℕ) (deeds deeds_left : Option (List Deed)) (polls polls_left : ℕ) (old new : Option (List ℕ))
-    → client ≡ started default_redundant default_cache conf → request ≡ request_of q → StopsForNumbers request (scene client words deeds polls old) (scene left words_left deeds_left polls_left new) → Stops q conf words old new
-stopped q conf client left request words words_left deeds deeds_left polls polls_left old new is asks s =
-    let same : scene client words deeds polls old ≡ scene (started default_redundant default_cache conf) words deeds polls old = ap (λ (c : Whole). scene c words deeds polls old) is in
-    let t : StopsForNumbers request (scene (started default_redundant default_cache conf) words deeds polls old) (scene left words_left deeds_left polls_left new) =
-    subst (λ (b : Scene). StopsForNumbers request b (scene left words_left deeds_left polls_left new)) same s in
+pub stopped : (q : Query) (conf : ResolvConf) (client left : Whole) (request : Request) (words words_left : ℕ → ℕ) (deeds deeds_left : Option (List Deed)) (waits waits_left : Option (List ℕ)) (polls polls_left : ℕ) (old new : Option (List ℕ))
+    → client ≡ started default_redundant default_cache conf → request ≡ request_of q → StopsForNumbers request (scene client words deeds waits polls old) (scene left words_left deeds_left waits_left polls_left new) → Stops q conf words old new
+stopped q conf client left request words words_left deeds deeds_left waits waits_left polls polls_left old new is asks s =
+    let same : scene client words deeds waits polls old ≡ scene (started default_redundant default_cache conf) words deeds waits polls old = ap (λ (c : Whole). scene c words deeds waits polls old) is in
+    let t : StopsForNumbers request (scene (started default_redundant default_cache conf) words deeds waits polls old) (scene left words_left deeds_left waits_left polls_left new) =
+    subst (λ (b : Scene). StopsForNumbers request b (scene left words_left deeds_left waits_left polls_left new)) same s in
     record { asking = t.asking; later = t.later; asks = t.asks ∙ ap (λ (r : Request). Ask r) asks; stops = t.stops; moments = t.moments }

@@ -51,9 +51,9 @@ pub record World : Type 0 where
   pub polls : ℕ
   pub moments : Option (List ℕ)
 
--- a new client of a configuration, whose servers the edge has learned
-abbrev pub begun : ResolvConf → World → Scene
-begun conf old = scene (started default_redundant default_cache conf) old.words (after_deeds (map (λ server. Learned server) conf.servers) old.deeds) old.polls old.moments
+-- a new client of a configuration, whose servers the edge has learned; it keeps these waits
+abbrev pub begun : ResolvConf → World → Option (List ℕ) → Scene
+begun conf old waits = scene (started default_redundant default_cache conf) old.words (after_deeds (map (λ server. Learned server) conf.servers) old.deeds) waits old.polls old.moments
 
 abbrev pub world : (ℕ → ℕ) → Option (List Deed) → ℕ → Option (List ℕ) → World
 world words deeds polls moments = record { words = words; deeds = deeds; polls = polls; moments = moments }
@@ -62,11 +62,13 @@ world words deeds polls moments = record { words = words; deeds = deeds; polls =
 abbrev pub around : {E C W : Type 0} {R : Type 1} → (E → Option (List Deed)) → (E → ℕ) → (C → Option (List ℕ)) → (W → ℕ → ℕ) → (old new : E × C × W) → (World → World → R) → R
 around deeds polls given stream old new P = P (world (stream old.2) (deeds old.0) (polls old.0) (given old.1)) (world (stream new.2) (deeds new.0) (polls new.0) (given new.1))
 
--- The edge learned the servers in order, and then a new client of them was asked the request, and this was answered. The rows are right and timely, where
--- each word has 64 bits.
+-- The edge learned the servers in order, and then a new client of them was asked the request, and this was answered; what the edge
+-- keeps of its waits is not the program's. The rows are right and timely.
 pub record IsReplied (q : Query) (conf : ResolvConf) (old new : World) (answer : Option (Result (List ℕ) Error)) : Type 0 where
   pub left : Whole
-  pub answered : IsAnswered 0 1000000 (request_of q) (begun conf old) (scene left new.words new.deeds new.polls new.moments) answer
+  pub waits : Option (List ℕ)
+  pub later_waits : Option (List ℕ)
+  pub answered : IsAnswered 0 1000000 (request_of q) (begun conf old waits) (scene left new.words new.deeds later_waits new.polls new.moments) answer
   pub right : Right (conf_of conf) (settings_of default_redundant default_cache) (rows_of answered.asked.asking answered.asked.turns)
   pub timely : Timely (conf_of conf) (rows_of answered.asked.asking answered.asked.turns)
 

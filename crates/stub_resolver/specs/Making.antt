@@ -14,10 +14,11 @@ abbrev pub client_of : ResolvConf → Whole
 client_of conf = started default_redundant default_cache conf
 
 -- A resolver is new: its edge has learned the configuration's servers in order, and nothing was asked.
-pub record IsNew {E C W : Type 0} (deeds : E → Option (List Deed)) (polls faults : E → ℕ) (conf : ResolvConf) (edge : E) (clock : C) (words : W) (s : Stub E C W) : Type 0 where
+pub record IsNew {E C W : Type 0} (deeds : E → Option (List Deed)) (waits : E → Option (List ℕ)) (polls faults : E → ℕ) (conf : ResolvConf) (edge : E) (clock : C) (words : W) (s : Stub E C W) : Type 0 where
   pub client : s.client ≡ client_of conf
   pub options : s.options ≡ conf.options
   pub learned : deeds s.edge ≡ after_deeds (map (λ server. Learned server) conf.servers) (deeds edge)
+  pub no_wait : waits s.edge ≡ waits edge
   pub not_polled : polls s.edge ≡ polls edge
   pub no_fault : faults s.edge ≡ faults edge
   pub same_clock : s.clock ≡ clock
@@ -26,9 +27,9 @@ pub record IsNew {E C W : Type 0} (deeds : E → Option (List Deed)) (polls faul
   pub lasts : s.failed ≡ false
 
 -- The resolver is that of the configuration that the system's file says, where what opens it tells its files; the counts are of that one's faults.
-pub record IsNewByFile {E C W : Type 0} (deeds : E → Option (List Deed)) (polls faults : E → ℕ) (files : Option (List ℕ → Option (List ℕ))) (before after : ℕ) (edge : E) (clock : C) (words : W) (s : Stub E C W) : Type 0 where
+pub record ByFile {E C W : Type 0} (deeds : E → Option (List Deed)) (waits : E → Option (List ℕ)) (polls faults : E → ℕ) (files : Option (List ℕ → Option (List ℕ))) (before after : ℕ) (edge : E) (clock : C) (words : W) (s : Stub E C W) : Type 0 where
   pub conf : ResolvConf
-  pub is_new : IsNew deeds polls faults conf edge clock words s
+  pub is_new : IsNew deeds waits polls faults conf edge clock words s
   pub is_read : IfSome files (λ file_at. IsDefaultOf (file_at system_file) before after conf)
 
 -- An operation was called with such a resolver, and gave this, or there was no memory for one, and the result is what that becomes.

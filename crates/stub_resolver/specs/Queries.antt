@@ -64,6 +64,10 @@ pub data Gets (again : Bool) (message : List ℕ) (old new : Scene) (got : Got) 
   -- memory ran out
   starved : got ≡ Err (Client errors.NoMemory) → Gets again message old new got
 
+-- the same, as resolvers are seen
+abbrev pub GetsBy : {E C W : Type 0} → (see : Stub E C W → Scene) → (again : Bool) (message : List ℕ) (old new : Stub E C W) (got : Got) → Type 0
+GetsBy see again message old new got = Gets again message (see old) (see new) got
+
 abbrev pub IsGot : Got → (again : Bool) (message : List ℕ) (old new : Scene) → Type 0
 IsGot got again message old new = Gets again message old new got
 

@@ -21,5 +21,5 @@ abbrev pub with_fault : {E C W : Type 0} → Stub E C W → Stub E C W
 with_fault s = record s { faults = one_more s.faults }
 
 -- what is seen of it, by what an edge, a clock and words tell
-abbrev pub seen : {E C W : Type 0} → (E → Option (List Deed)) → (E → ℕ) → (C → Option (List ℕ)) → (W → ℕ → ℕ) → Stub E C W → Scene
-seen deeds polls given stream s = scene s.client (stream s.words) (deeds s.edge) (polls s.edge) (given s.clock)
+abbrev pub seen : {E C W : Type 0} → (E → Option (List Deed)) → (E → Option (List ℕ)) → (E → ℕ) → (C → Option (List ℕ)) → (W → ℕ → ℕ) → Stub E C W → Scene
+seen deeds waits polls given stream s = scene s.client (stream s.words) (deeds s.edge) (waits s.edge) (polls s.edge) (given s.clock)

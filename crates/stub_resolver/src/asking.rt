@@ -54,8 +54,8 @@ fn reply_to<E: Edge, C: Clock, W: Words>(
     words: &mut W,
     request: RequestMessage,
 ) -> Result<Reply, Error>
-    ensures answers { IfOk result (between E.deeds E.polls C.given W.stream (client.old, edge.old, clock.old, words.old) (client.new, edge.new, clock.new, words.new) (Answers request)) }
-    ensures numbers { IsErrOf result Error.NumbersUsed → between E.deeds E.polls C.given W.stream (client.old, edge.old, clock.old, words.old) (client.new, edge.new, clock.new, words.new) (StopsForNumbers request) }
+    ensures answers { IfOk result (between E.deeds E.waits E.polls C.given W.stream (client.old, edge.old, clock.old, words.old) (client.new, edge.new, clock.new, words.new) (Answers request)) }
+    ensures numbers { IsErrOf result Error.NumbersUsed → between E.deeds E.waits E.polls C.given W.stream (client.old, edge.old, clock.old, words.old) (client.new, edge.new, clock.new, words.new) (StopsForNumbers request) }
     ensures timeout { OnOk result (client.new.timeout ≡ client.old.timeout) }
     ensures lasts { OnOk result (client.new.failed ≡ false) }
     ensures refused { IfErr result IsRefusal }
@@ -76,8 +76,8 @@ fn last_reply<E: Edge, C: Clock, W: Words>(
     request: RequestMessage,
     again: bool,
 ) -> Result<Reply, Error>
-    ensures replies { IfOk result (between E.deeds E.polls C.given W.stream (client.old, edge.old, clock.old, words.old) (client.new, edge.new, clock.new, words.new) (Replies again request)) }
-    ensures numbers { IsErrOf result Error.NumbersUsed → between E.deeds E.polls C.given W.stream (client.old, edge.old, clock.old, words.old) (client.new, edge.new, clock.new, words.new) (Stops again request) }
+    ensures replies { IfOk result (between E.deeds E.waits E.polls C.given W.stream (client.old, edge.old, clock.old, words.old) (client.new, edge.new, clock.new, words.new) (Replies again request)) }
+    ensures numbers { IsErrOf result Error.NumbersUsed → between E.deeds E.waits E.polls C.given W.stream (client.old, edge.old, clock.old, words.old) (client.new, edge.new, clock.new, words.new) (Stops again request) }
     ensures timeout { OnOk result (client.new.timeout ≡ client.old.timeout) }
     ensures lasts { OnOk result (client.new.failed ≡ false) }
     ensures refused { IfErr result IsRefusal }
@@ -102,7 +102,7 @@ pub(crate) fn got_to<E: Edge, C: Clock, W: Words>(
     message: Message,
     again: bool,
 ) -> Result<Answer, QueryFault>
-    ensures gets { client.old.failed ≡ false → between E.deeds E.polls C.given W.stream (client.old, edge.old, clock.old, words.old) (client.new, edge.new, clock.new, words.new) (IsGot result again message) }
+    ensures gets { client.old.failed ≡ false → between E.deeds E.waits E.polls C.given W.stream (client.old, edge.old, clock.old, words.old) (client.new, edge.new, clock.new, words.new) (IsGot result again message) }
     ensures lasts { client.old.failed ≡ false → is_want result ≡ false → client.new.failed ≡ false }
 {
     let request = match RequestMessage::new(alloc, message) {

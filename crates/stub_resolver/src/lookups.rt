@@ -24,14 +24,14 @@ use std::alloc::Global;
 impl<E: Edge + Drop, C: Clock + Drop, W: Words + Drop> Resolver for StubResolver<E, C, W> {
     type Answer = Answer;
 
-    ghost says = { λ old one new. Queries (seen E.deeds E.polls C.given W.stream) true (question one.name one.rtype.0) old new one.got };
+    ghost says = { λ old one new. Queries (seen E.deeds E.waits E.polls C.given W.stream) true (question one.name one.rtype.0) old new one.got };
 
     ghost asked = { λ _. None };
 
     ghost faults = { λ s. s.faults };
 
     fn query(&mut self, alloc: Global, name: &Name, rtype: Rtype) -> Result<Answer, QueryFault>
-        ensures says { Queries (seen E.deeds E.polls C.given W.stream) true (question name.now rtype.0) self.old self.new result }
+        ensures says { Queries (seen E.deeds E.waits E.polls C.given W.stream) true (question name.now rtype.0) self.old self.new result }
         ensures asked { IsTold (asking name.now rtype.0 result) None None }
         ensures count { self.old.faults ≤ self.new.faults }
         ensures failed { IfErr result (IsCounted self.old.faults self.new.faults) }
@@ -55,7 +55,7 @@ impl<E: Edge + Drop, C: Clock + Drop, W: Words + Drop> StubResolver<E, C, W> {
         alloc: Global,
         addr: IpAddr,
     ) -> Result<FoundAddrs<StubResolver<E, C, W>>, QueryFault>
-        ensures asked { LooksUpAddr (AsksStub (seen E.deeds E.polls C.given W.stream)) addr self.old self.new result }
+        ensures asked { LooksUpAddr (AsksStub (seen E.deeds E.waits E.polls C.given W.stream)) addr self.old self.new result }
         ensures count { self.old.faults ≤ self.new.faults }
         ensures failed { IfErr result (IsCounted self.old.faults self.new.faults) }
     {
@@ -68,7 +68,7 @@ impl<E: Edge + Drop, C: Clock + Drop, W: Words + Drop> StubResolver<E, C, W> {
         alloc: Global,
         name: &Name,
     ) -> Result<FoundHosts<StubResolver<E, C, W>>, HostFault>
-        ensures asked { LooksUpHost (AsksStub (seen E.deeds E.polls C.given W.stream)) name.now self.old self.new result }
+        ensures asked { LooksUpHost (AsksStub (seen E.deeds E.waits E.polls C.given W.stream)) name.now self.old self.new result }
         ensures count { self.old.faults ≤ self.new.faults }
         ensures failed { IfErr result (HostIsCounted self.old.faults self.new.faults) }
     {
@@ -81,7 +81,7 @@ impl<E: Edge + Drop, C: Clock + Drop, W: Words + Drop> StubResolver<E, C, W> {
         alloc: Global,
         name: &RelativeName,
     ) -> Result<FoundHosts<StubResolver<E, C, W>>, HostFault>
-        ensures asked { SearchesHost (AsksStub (seen E.deeds E.polls C.given W.stream)) self.old.options.search name.now self.old self.new result }
+        ensures asked { SearchesHost (AsksStub (seen E.deeds E.waits E.polls C.given W.stream)) self.old.options.search name.now self.old self.new result }
         ensures count { self.old.faults ≤ self.new.faults }
         ensures failed { IfErr result (HostIsCounted self.old.faults self.new.faults) }
     {
@@ -99,7 +99,7 @@ impl<E: Edge + Drop, C: Clock + Drop, W: Words + Drop> StubResolver<E, C, W> {
     ) -> Result<Option<FoundSrvs>, SrvError>
         ensures long { IsLong (service.now ++ name.now) → AsksNothing self.old self.new (V.stream words.old) (V.stream words.new) result }
         ensures long_only { result ≡ Err services.LongName → IsLong (service.now ++ name.now) }
-        ensures asked { FindsSrv (AsksStub (seen E.deeds E.polls C.given W.stream)) service.now name.now fallback_port self.old self.new (V.stream words.old) (V.stream words.new) result }
+        ensures asked { FindsSrv (AsksStub (seen E.deeds E.waits E.polls C.given W.stream)) service.now name.now fallback_port self.old self.new (V.stream words.old) (V.stream words.new) result }
         ensures count { self.old.faults ≤ self.new.faults }
         ensures failed { IfErr result (SrvIsCounted self.old.faults self.new.faults) }
     {

@@ -3,7 +3,7 @@
 ghost use Rattle.std.specs.Prelude.{◌≡◌, ◌||◌, true, false, Err, OnErr};
 ghost use Rattle.dns_values.specs.Source.{Rose};
 ghost use Rattle.resolv_lookup.specs.ListAnswers.{faults_after};
-ghost use Rattle.stub_resolver.specs.Queries.{Gets, is_want};
+ghost use Rattle.stub_resolver.specs.Queries.{GetsBy, is_want};
 ghost use Rattle.stub_resolver.specs.Stub.{seen, with_fault};
 
 use crate::stub::StubResolver;
@@ -55,7 +55,7 @@ impl<'a, E: Edge + Drop, C: Clock + Drop, W: Words + Drop> Query<'a, E, C, W> {
     /// that can be read, or one for a whole zone, which several messages answer; then nothing was asked.
     pub fn run(self, alloc: Global, message: Message) -> Result<Answer, QueryFault>
         ensures failed { self.entry.resolver.now.failed ≡ true → (result ≡ Err (QueryFault.Client Error.Failed)) × (self.exit.0.now ≡ with_fault self.entry.resolver.now) }
-        ensures gets { self.entry.resolver.now.failed ≡ false → Gets self.entry.edns message (seen E.deeds E.polls C.given W.stream self.entry.resolver.now) (seen E.deeds E.polls C.given W.stream self.exit.0.now) result }
+        ensures gets { self.entry.resolver.now.failed ≡ false → GetsBy (seen E.deeds E.waits E.polls C.given W.stream) self.entry.edns message self.entry.resolver.now self.exit.0.now result }
         ensures count { self.exit.0.now.faults ≡ faults_after result self.entry.resolver.now.faults }
         ensures rose { OnErr result (Rose self.entry.resolver.now.faults self.exit.0.now.faults) }
         ensures lasts { self.exit.0.now.failed ≡ (self.entry.resolver.now.failed || is_want result) }

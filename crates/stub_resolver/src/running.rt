@@ -1,7 +1,7 @@
 //! An operation on a resolver of its own.
 
 ghost use Rattle.std.specs.Fn.{FnOnceReturnsAtMut};
-ghost use Rattle.stub_resolver.specs.Making.{IsDone, IsNew, IsNewByFile};
+ghost use Rattle.stub_resolver.specs.Making.{IsDone, IsNew, ByFile};
 
 use crate::stub::StubResolver;
 use client_core::{Clock, Edge};
@@ -21,7 +21,7 @@ impl<E: Edge + Drop, C: Clock + Drop, W: Words + Drop> StubResolver<E, C, W> {
         op: P,
     ) -> Result<T, F>
         requires { P.IsAlwaysCallable op }
-        ensures { IsDone (IsNew E.deeds E.polls E.faults conf edge clock words) (FnOnceReturnsAtMut P.FnOnce op) (F.from_gives Error.NoMemory) result }
+        ensures { IsDone (IsNew E.deeds E.waits E.polls E.faults conf edge clock words) (FnOnceReturnsAtMut P.FnOnce op) (F.from_gives Error.NoMemory) result }
     {
         let mut resolver = StubResolver::from_conf(alloc, conf, edge, clock, words)?;
         op(&mut resolver)
@@ -35,7 +35,7 @@ impl<E: Edge + Drop, C: Clock + Drop, W: Words + Drop> StubResolver<E, C, W> {
         P: FnOnce(&mut StubResolver<E, C, W>) -> Result<T, F>,
     >(alloc: Global, opener: &mut O, edge: E, clock: C, words: W, op: P) -> Result<T, F>
         requires { P.IsAlwaysCallable op }
-        ensures { IsDone (IsNewByFile E.deeds E.polls E.faults (O.files opener.old) (O.faults opener.old) (O.faults opener.new) edge clock words) (FnOnceReturnsAtMut P.FnOnce op) (F.from_gives Error.NoMemory) result }
+        ensures { IsDone (ByFile E.deeds E.waits E.polls E.faults (O.files opener.old) (O.faults opener.old) (O.faults opener.new) edge clock words) (FnOnceReturnsAtMut P.FnOnce op) (F.from_gives Error.NoMemory) result }
     {
         let mut resolver = StubResolver::new(alloc, opener, edge, clock, words)?;
         op(&mut resolver)

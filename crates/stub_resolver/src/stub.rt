@@ -6,7 +6,7 @@ ghost use Rattle.client_core.specs.Edge.{after_deed};
 ghost use Rattle.client_core.specs.declared.deed.Deed.TheVariants.{Learned};
 ghost use Rattle.client_steps.specs.Whole.{with_one_more};
 ghost use Rattle.resolv_lookup.specs.ListAnswers.{faults_after};
-ghost use Rattle.stub_resolver.specs.Making.{IsNew, IsNewByFile};
+ghost use Rattle.stub_resolver.specs.Making.{IsNew, ByFile};
 ghost use Rattle.stub_resolver.specs.Queries.{Gets, question, is_want};
 ghost use Rattle.stub_resolver.specs.Stub.{seen, with_fault};
 
@@ -66,7 +66,7 @@ impl<E: Edge + Drop, C: Clock + Drop, W: Words + Drop> StubResolver<E, C, W> {
         clock: C,
         words: W,
     ) -> Result<StubResolver<E, C, W>, Error>
-        ensures made { IfOk result (IsNew E.deeds E.polls E.faults conf edge clock words) }
+        ensures made { IfOk result (IsNew E.deeds E.waits E.polls E.faults conf edge clock words) }
         ensures refused { IfErr result (λ e. e ≡ Error.NoMemory) }
     {
         let mut edge = edge;
@@ -92,7 +92,7 @@ impl<E: Edge + Drop, C: Clock + Drop, W: Words + Drop> StubResolver<E, C, W> {
         clock: C,
         words: W,
     ) -> Result<StubResolver<E, C, W>, Error>
-        ensures made { IfOk result (IsNewByFile E.deeds E.polls E.faults (O.files opener.old) (O.faults opener.old) (O.faults opener.new) edge clock words) }
+        ensures made { IfOk result (ByFile E.deeds E.waits E.polls E.faults (O.files opener.old) (O.faults opener.old) (O.faults opener.new) edge clock words) }
         ensures count { O.faults opener.old ≤ O.faults opener.new }
         ensures refused { IfErr result (λ e. e ≡ Error.NoMemory) }
     {
@@ -113,6 +113,7 @@ impl<E: Edge + Drop, C: Clock + Drop, W: Words + Drop> StubResolver<E, C, W> {
     pub fn add_connection(&mut self, server: &ServerConf) -> Result<(), Error>
         ensures added { OnOk result (self.new ≡ record self.old { client = with_one_more server.now self.old.client; edge = self.new.edge }) }
         ensures learned { OnOk result (E.deeds self.new.edge ≡ after_deed (Learned server.now) (E.deeds self.old.edge)) }
+        ensures no_wait { OnOk result (E.waits self.new.edge ≡ E.waits self.old.edge) }
         ensures not_polled { OnOk result ((E.polls self.new.edge ≡ E.polls self.old.edge) × (E.faults self.new.edge ≡ E.faults self.old.edge)) }
         ensures failed { self.old.failed ≡ true → (result ≡ Err Error.Failed) × (self.new ≡ self.old) }
         ensures refused { IfErr result (λ e. e ≡ (if self.old.failed then Error.Failed else Error.NoMemory)) }
@@ -136,7 +137,7 @@ impl<E: Edge + Drop, C: Clock + Drop, W: Words + Drop> StubResolver<E, C, W> {
     /// pass the greatest `u64`, after which the resolver has failed; `Client(Failed)` where it had failed before.
     pub fn query(&mut self, alloc: Global, name: &Name, rtype: Rtype) -> Result<Answer, QueryFault>
         ensures failed { self.old.failed ≡ true → (result ≡ Err (QueryFault.Client Error.Failed)) × (self.new ≡ with_fault self.old) }
-        ensures gets { self.old.failed ≡ false → Gets true (question name.now rtype.0) (seen E.deeds E.polls C.given W.stream self.old) (seen E.deeds E.polls C.given W.stream self.new) result }
+        ensures gets { self.old.failed ≡ false → Gets true (question name.now rtype.0) (seen E.deeds E.waits E.polls C.given W.stream self.old) (seen E.deeds E.waits E.polls C.given W.stream self.new) result }
         ensures count { self.new.faults ≡ faults_after result self.old.faults }
         ensures rose { OnErr result (Rose self.old.faults self.new.faults) }
         ensures lasts { self.new.failed ≡ (self.old.failed || is_want result) }
@@ -159,7 +160,7 @@ impl<E: Edge + Drop, C: Clock + Drop, W: Words + Drop> StubResolver<E, C, W> {
         again: bool,
     ) -> Result<Answer, QueryFault>
         ensures failed { self.old.failed ≡ true → (result ≡ Err (QueryFault.Client Error.Failed)) × (self.new ≡ with_fault self.old) }
-        ensures gets { self.old.failed ≡ false → Gets again message (seen E.deeds E.polls C.given W.stream self.old) (seen E.deeds E.polls C.given W.stream self.new) result }
+        ensures gets { self.old.failed ≡ false → Gets again message (seen E.deeds E.waits E.polls C.given W.stream self.old) (seen E.deeds E.waits E.polls C.given W.stream self.new) result }
         ensures count { self.new.faults ≡ faults_after result self.old.faults }
         ensures rose { OnErr result (Rose self.old.faults self.new.faults) }
         ensures lasts { self.new.failed ≡ (self.old.failed || is_want result) }

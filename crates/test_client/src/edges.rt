@@ -28,6 +28,7 @@ fn a_clock_gives_its_list_and_then_its_last_moment(rt: HostRuntime) -> Result<()
 fn is_served<E: Edge>(edge: &mut E, server: &ServerConf) -> Result<bool, Fail> {
     edge.learn_server(server)?;
     edge.act(&Out::Close { place: 3 })?;
+    edge.wait(7);
     Ok(matches!(edge.poll()?, Some(What::Opened { place: 3 })) && edge.poll()?.is_none())
 }
 
@@ -62,6 +63,7 @@ fn an_edge_gives_its_list_and_keeps_what_was_done(rt: HostRuntime) -> Result<(),
     let mut edge = edge(rt.alloc())?;
     assert!(rt; is_served(&mut edge, &server())?);
     assert!(rt; were_done(edge.deeds()));
+    assert!(rt; edge.waits() == [7].as_slice());
     Ok(())
 }
 

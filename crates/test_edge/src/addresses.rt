@@ -34,6 +34,7 @@ pub fn server(addr: SocketAddr) -> ServerConf {
 /// The first event within some polls.
 pub fn next<E: Edge>(edge: &mut E) -> Result<What, Fail> {
     for _ in 0..POLLS {
+        edge.wait(1_000);
         if let Some(what) = edge.poll()? {
             return Ok(what);
         }

@@ -9,3 +9,5 @@ mod datagrams;
 mod streams;
 #[cfg(test)]
 mod system;
+#[cfg(test)]
+mod waits;

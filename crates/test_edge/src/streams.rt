@@ -37,6 +37,7 @@ fn open<E: Edge>(
 /// What an edge has to tell within a few polls.
 fn soon<E: Edge>(edge: &mut E) -> Result<Option<What>, Fail> {
     for _ in 0..20u32 {
+        edge.wait(1_000);
         let what = edge.poll()?;
         if what.is_some() {
             return Ok(what);
@@ -175,7 +176,7 @@ fn a_silent_server_delays_no_other(rt: HostRuntime) -> Result<(), Fail> {
     let mut buf = [0u8; 9];
     let (_, from) = peer.recv_from(&mut buf)?;
     peer.send_to(&[4, 5], from)?;
-    assert!(rt; matches!(edge.poll()?, Some(What::Datagram { place: 1, .. })));
+    assert!(rt; matches!(next(&mut edge)?, What::Datagram { place: 1, .. }));
     assert!(rt; soon(&mut edge)?.is_none());
     Ok(())
 }

@@ -7,3 +7,5 @@ mod asking;
 mod loopback;
 #[cfg(test)]
 mod servers;
+#[cfg(test)]
+mod silence;

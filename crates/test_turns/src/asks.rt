@@ -74,6 +74,14 @@ fn a_request_has_its_reply(rt: HostRuntime) -> Result<(), Fail> {
 }
 
 #[test]
+fn an_edge_may_wait_until_the_timeout(rt: HostRuntime) -> Result<(), Fail> {
+    let mut edge = answered(rt.alloc())?;
+    asked(rt.alloc(), &mut edge, 0, 2)?;
+    assert!(rt; edge.waits() == [5_000_000, 4_999_990].as_slice());
+    Ok(())
+}
+
+#[test]
 fn too_few_turns_have_no_reply(rt: HostRuntime) -> Result<(), Fail> {
     let mut edge = answered(rt.alloc())?;
     let reply = asked(rt.alloc(), &mut edge, 0, 1)?;
@@ -88,6 +96,7 @@ fn nothing_happens_in_so_many_turns(rt: HostRuntime) -> Result<(), Fail> {
     let reply = asked(rt.alloc(), &mut edge, 0, 3)?;
     assert!(rt; reply.is_none());
     assert!(rt; did(&edge, b"so---"));
+    assert!(rt; edge.waits() == [5_000_000, 4_999_990, 4_980_000].as_slice());
     Ok(())
 }
 
@@ -131,6 +140,7 @@ fn a_turn_without_an_event_is_a_tick(rt: HostRuntime) -> Result<(), Fail> {
     let row = idle_turn(rt.alloc(), &mut edge)?;
     assert!(rt; matches!(row.event.what, What::Tick) && row.event.moment.0 == 7);
     assert!(rt; row.outs.is_empty() && did(&edge, b"-"));
+    assert!(rt; edge.waits() == [u128::MAX].as_slice());
     Ok(())
 }
 

@@ -6,8 +6,8 @@ use Rattle.client_loop.proofs.asking.ask_within.Given as goal
 abbrev pub invariant-loop-left : goal.invariant-loop-left
 invariant-loop-left g l = record {
   waits : Waits l.fn.number l.left l.fn.most l.fn.request
-      (scene l.fn.client (g.W.Words.stream l.fn.words) (g.E.Edge.deeds l.fn.edge) (g.E.Edge.polls l.fn.edge) (g.C.Clock.given l.fn.clock))
-      (scene l.client (g.W.Words.stream l.words) (g.E.Edge.deeds l.edge) (g.E.Edge.polls l.edge) (g.C.Clock.given l.clock));
+      (scene l.fn.client (g.W.Words.stream l.fn.words) (g.E.Edge.deeds l.fn.edge) (g.E.Edge.waits l.fn.edge) (g.E.Edge.polls l.fn.edge) (g.C.Clock.given l.fn.clock))
+      (scene l.client (g.W.Words.stream l.words) (g.E.Edge.deeds l.edge) (g.E.Edge.waits l.edge) (g.E.Edge.polls l.edge) (g.C.Clock.given l.clock));
   timeout : l.client.timeout ≡ l.fn.client.timeout;
   lasts : l.client.failed ≡ false;
 }
