@@ -32,10 +32,12 @@ pub data AreAnswered (lookup : Lookup) : ℕ → List Rtype → List Answer → 
       → IsAnswered n 1000000 (request_for lookup rtype) old mid answer → AreAnswered lookup (n + 1) rtypes answers mid new
       → AreAnswered lookup n (rtype ∷ rtypes) (answer ∷ answers) old new
 
--- Of the types of a lookup some were asked for, and the others, if any, were not.
+-- Of the types of a lookup some were asked for, and the others, if any, were not. What the edge keeps of its waits is not the program's.
 pub record IsLookedUp (lookup : Lookup) (told : Option (List ℕ)) (old new : World) (rtypes later : List Rtype) (answers : List Answer) : Type 0 where
   pub conf : ResolvConf
   pub is_conf : IsConfOf lookup told conf
   pub left : Whole
+  pub waits : Option (List ℕ)
+  pub later_waits : Option (List ℕ)
   pub types : types_at lookup.rtype ≡ rtypes ++ later
-  pub answered : AreAnswered lookup 0 rtypes answers (begun conf old) (scene left new.words new.deeds new.polls new.moments)
+  pub answered : AreAnswered lookup 0 rtypes answers (begun conf old waits) (scene left new.words new.deeds later_waits new.polls new.moments)

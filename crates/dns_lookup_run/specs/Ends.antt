@@ -40,10 +40,12 @@ pub record IsStopped (lookup : Lookup) (told : Option (List ℕ)) (old new : Wor
   pub later : List Rtype
   pub types : types_at lookup.rtype ≡ rtypes ++ rtype ∷ later
   pub answers : List Answer
+  pub waits : Option (List ℕ)
   pub mid : Scene
-  pub answered : AreAnswered lookup 0 rtypes answers (begun conf old) mid
+  pub answered : AreAnswered lookup 0 rtypes answers (begun conf old waits) mid
   pub left : Whole
-  pub stops : StopsForNumbers (request_for lookup rtype) mid (scene left new.words new.deeds new.polls new.moments)
+  pub later_waits : Option (List ℕ)
+  pub stops : StopsForNumbers (request_for lookup rtype) mid (scene left new.words new.deeds later_waits new.polls new.moments)
 
 -- what a lookup ends with, by its status
 pub record EndsSo (lookup : Lookup) (status : ℕ) (told : Option (List ℕ)) (old new : World) : Type 0 where

@@ -53,9 +53,9 @@ pub(crate) fn asked<E: Edge + Drop, C: Clock + Drop, W: Words>(
     clock: &mut WatchedClock<C>,
     random: &mut W,
 ) -> Result<Came, Error>
-    ensures answered { IfOk result (λ came. between E.deeds E.polls C.given W.stream (client.old, edge.old.edge, clock.old.clock, random.old) (client.new, edge.new.edge, clock.new.clock, random.new)
+    ensures answered { IfOk result (λ came. between E.deeds E.waits E.polls C.given W.stream (client.old, edge.old.edge, clock.old.clock, random.old) (client.new, edge.new.edge, clock.new.clock, random.new)
         (λ old new. IsAnswered number 1000000 (request_for lookup.now rtype) old new came.answer)) }
-    ensures numbers { IsErrOf result Error.NumbersUsed → between E.deeds E.polls C.given W.stream (client.old, edge.old.edge, clock.old.clock, random.old)
+    ensures numbers { IsErrOf result Error.NumbersUsed → between E.deeds E.waits E.polls C.given W.stream (client.old, edge.old.edge, clock.old.clock, random.old)
         (client.new, edge.new.edge, clock.new.clock, random.new) (StopsForNumbers (request_for lookup.now rtype)) }
 {
     edge.forget();

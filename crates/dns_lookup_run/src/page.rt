@@ -49,7 +49,9 @@ fn whole_page(
         heard: came.heard,
         servers,
     };
-    let text = format!(in alloc; "{shown}\n;; Query time: {millis} msec\n;; SERVER: {answerer}\n;; MSG SIZE  rcvd: {size}\n\n")?;
+    let text = format!(in alloc;
+        "{shown}\n;; Query time: {millis} msec\n;; SERVER: {answerer}\n;; MSG SIZE  rcvd: {size}\n\n"
+    )?;
     Ok(text)
 }
 

@@ -66,11 +66,11 @@ fn ask_for<K: Sink, L: Sink, E: Edge + Drop, C: Clock + Drop, W: Words>(
     random: &mut W,
 ) -> Status
     ensures statuses { IsStatus result.0 }
-    ensures done { (result.0 ≡ 0) ⊎ (result.0 ≡ 4) → (answer : Answer) × (is_message answer ≡ true) × between E.deeds E.polls C.given W.stream (client.old, edge.old.edge, clock.old.clock, random.old)
+    ensures done { (result.0 ≡ 0) ⊎ (result.0 ≡ 4) → (answer : Answer) × (is_message answer ≡ true) × between E.deeds E.waits E.polls C.given W.stream (client.old, edge.old.edge, clock.old.clock, random.old)
         (client.new, edge.new.edge, clock.new.clock, random.new) (λ old new. IsAnswered number 1000000 (request_for lookup.now rtype) old new answer) }
-    ensures no_reply { result.0 ≡ 5 → (answer : Answer) × (is_message answer ≡ false) × between E.deeds E.polls C.given W.stream (client.old, edge.old.edge, clock.old.clock, random.old)
+    ensures no_reply { result.0 ≡ 5 → (answer : Answer) × (is_message answer ≡ false) × between E.deeds E.waits E.polls C.given W.stream (client.old, edge.old.edge, clock.old.clock, random.old)
         (client.new, edge.new.edge, clock.new.clock, random.new) (λ old new. IsAnswered number 1000000 (request_for lookup.now rtype) old new answer) }
-    ensures numbers { result.0 ≡ 7 → between E.deeds E.polls C.given W.stream (client.old, edge.old.edge, clock.old.clock, random.old)
+    ensures numbers { result.0 ≡ 7 → between E.deeds E.waits E.polls C.given W.stream (client.old, edge.old.edge, clock.old.clock, random.old)
         (client.new, edge.new.edge, clock.new.clock, random.new) (StopsForNumbers (request_for lookup.now rtype)) }
     ensures flushed { result.0 ≡ 0 → IsFlushed (K.held sink.new) (K.flushed sink.new) }
     ensures sink_fault { result.0 ≡ 4 → Rose (K.faults sink.old) (K.faults sink.new) }
@@ -97,14 +97,23 @@ fn ask_all<K: Sink, L: Sink, E: Edge + Drop, C: Clock + Drop, W: Words>(
     let Ok(()) = learn_all(edge, servers) else {
         return statuses::NO_MEMORY;
     };
-    let Ok(mut client) =
-        Client::new(alloc, conf, redundant::Config::new(), cache::Config::new())
+    let Ok(mut client) = Client::new(alloc, conf, redundant::Config::new(), cache::Config::new())
     else {
         return statuses::NO_MEMORY;
     };
     let first = lookup.rtype.unwrap_or(Rtype::A);
     let status = ask_for(
-        alloc, lookup, first, 0, servers, &mut client, sink, errors, edge, clock, random,
+        alloc,
+        lookup,
+        first,
+        0,
+        servers,
+        &mut client,
+        sink,
+        errors,
+        edge,
+        clock,
+        random,
     );
     if status != statuses::DONE || lookup.rtype.is_some() {
         return status;

@@ -28,10 +28,14 @@ pub(crate) fn tell_refusal<L: Sink>(
     }
 }
 
+/// What is told where there is no configuration and no server is named.
+const UNREAD_CONF: &str =
+    "dns_lookup: /etc/resolv.conf could not be read, and no server is named by @ADDRESS\n";
+
 /// Why a configuration was refused, as a sentence.
 fn refused_conf(alloc: Global, line: &[u8]) -> Result<String, NoMemory> {
-    let why = str::from_utf8(line).unwrap_or("it can't be read\n");
-    Ok(format!(in alloc; "dns_lookup: no servers are known, of the configuration {why}")?)
+    let why = str::from_utf8(line).unwrap_or("it can't be told\n");
+    Ok(format!(in alloc; "dns_lookup: /etc/resolv.conf: {why}")?)
 }
 
 /// Tells why no configuration was read.
@@ -39,11 +43,9 @@ pub(crate) fn tell_conf<L: Sink>(alloc: Global, ending: Ending, errors: &mut L) 
     ensures status { (result.0 ≡ 3) ⊎ (result.0 ≡ 6) }
 {
     match ending {
-        Ending::Silent(statuses::SOURCE_FAULT) => end_by(
-            errors,
-            statuses::SOURCE_FAULT,
-            b"dns_lookup: the configuration could not be read, and no server is named by @ADDRESS\n",
-        ),
+        Ending::Silent(status) if status == statuses::SOURCE_FAULT => {
+            end_by(errors, statuses::SOURCE_FAULT, UNREAD_CONF.as_bytes())
+        }
         Ending::Silent(_) => statuses::NO_MEMORY,
         Ending::Says(_, line) => match refused_conf(alloc, &line) {
             Ok(line) => end_by(errors, statuses::SOURCE_FAULT, line.as_bytes()),
@@ -80,11 +82,10 @@ pub(crate) fn tell_stop<L: Sink>(error: Error, errors: &mut L) -> Status
     ensures numbers { result.0 ≡ 7 → error ≡ Error.NumbersUsed }
 {
     match error {
-        Error::NumbersUsed => end_by(
-            errors,
-            statuses::NUMBERS_USED,
-            b"dns_lookup: numbers are used up\n",
-        ),
+        Error::NumbersUsed => {
+            let line = "dns_lookup: numbers are used up\n";
+            end_by(errors, statuses::NUMBERS_USED, line.as_bytes())
+        }
         _ => statuses::NO_MEMORY,
     }
 }

@@ -111,6 +111,8 @@ impl<E: Edge + Drop> WatchedEdge<E> {
 impl<E: Edge + Drop> Edge for WatchedEdge<E> {
     ghost deeds = { λ w. E.deeds w.edge };
 
+    ghost waits = { λ w. E.waits w.edge };
+
     ghost polls = { λ w. E.polls w.edge };
 
     ghost faults = { λ w. E.faults w.edge };
@@ -130,5 +132,9 @@ impl<E: Edge + Drop> Edge for WatchedEdge<E> {
         let what = self.edge.poll()?;
         self.heard = heard_after(&what, &self.opened, self.heard);
         Ok(what)
+    }
+
+    fn wait(&mut self, most: u128) {
+        self.edge.wait(most);
     }
 }

@@ -183,6 +183,12 @@ pub data LookupGives (words : List (String Global)) (answer : Result Lookup Refu
   said_whole : (said : Said) → WordsGive 0 words nothing_said (Ok said) → answer ≡ asked said → LookupGives words answer
   wrong_word : (refusal : Refusal) → WordsGive 0 words nothing_said (Err refusal) → answer ≡ Err refusal → LookupGives words answer
 
+-- What the words say, or why they say nothing.
+abbrev pub IsSaidBy : List (String Global) → Result Said Fault → Type 0
+IsSaidBy words (Ok said) = WordsGive 0 words nothing_said (Ok said)
+IsSaidBy words (Err (faults.Refused refusal)) = WordsGive 0 words nothing_said (Err refusal)
+IsSaidBy words (Err faults.NoMemory) = Unit {0}
+
 abbrev pub IsJudged : List (String Global) → Result Lookup Fault → Type 0
 IsJudged words (Ok lookup) = LookupGives words (Ok lookup)
 IsJudged words (Err (faults.Refused refusal)) = LookupGives words (Err refusal)

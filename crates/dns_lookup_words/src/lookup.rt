@@ -1,7 +1,7 @@
 //! What words ask.
 
 ghost use Rattle.std.specs.Prelude.{MatchResult, ◌≡◌, Ok, Err};
-ghost use Rattle.dns_lookup_words.specs.Words.{IsJudged, asked};
+ghost use Rattle.dns_lookup_words.specs.Words.{IsJudged, IsSaidBy, asked};
 
 use crate::said::{Next, Said};
 use crate::wrong::{Fault, Refusal};
@@ -62,6 +62,17 @@ fn asked(said: Said) -> Result<Lookup, Refusal>
     }
 }
 
+/// What the words say, one after another.
+fn said_by(alloc: Global, words: &[String]) -> Result<Said, Fault>
+    ensures { IsSaidBy words.now result }
+{
+    let mut said = Said::new(alloc);
+    match said.take_all(alloc, words) {
+        Ok(()) => Ok(said),
+        Err(fault) => Err(fault),
+    }
+}
+
 /// The lookup of the words, which do not hold the program's own name.
 ///
 /// A word that begins with `@` names a server by its address, one that begins with a hyphen or a plus is an option, and of the
@@ -70,12 +81,9 @@ fn asked(said: Said) -> Result<Lookup, Refusal>
 pub fn lookup_of(alloc: Global, words: &[String]) -> Result<Lookup, Fault>
     ensures { IsJudged words.now result }
 {
-    let mut said = Said::new(alloc);
-    match said.take_all(alloc, words) {
-        Ok(()) => match asked(said) {
-            Ok(lookup) => Ok(lookup),
-            Err(refusal) => Err(Fault::Refused(refusal)),
-        },
-        Err(fault) => Err(fault),
+    let said = said_by(alloc, words)?;
+    match asked(said) {
+        Ok(lookup) => Ok(lookup),
+        Err(refusal) => Err(Fault::Refused(refusal)),
     }
 }

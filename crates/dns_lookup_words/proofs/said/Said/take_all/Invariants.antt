@@ -4,11 +4,11 @@ use Rattle.dns_lookup_words.specs.declared.wrong.Refusal.{Refusal}
 use Rattle.dns_lookup_words.specs.Words.{WordsGive}
 use Rattle.dns_lookup_words.proofs.said.Said.take_all.Given as goal
 
-abbrev pub invariant-loop-rest : goal.invariant-loop-rest
-invariant-loop-rest l = record {
+abbrev pub invariant-loop-word : goal.invariant-loop-word
+invariant-loop-word l = record {
   counted : l.at + length l.rest ≡ length l.words;
   follows : (answer : Result Said Refusal) → WordsGive l.at l.rest l.self answer → WordsGive 0 l.words l.fn.self answer;
 }
 
-abbrev pub decreases-loop-rest : goal.decreases-loop-rest
-decreases-loop-rest l = length l.rest
+abbrev pub decreases-loop-word : goal.decreases-loop-word
+decreases-loop-word l = length l.rest
