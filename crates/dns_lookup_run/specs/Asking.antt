@@ -1,14 +1,12 @@
 -- The requests of a lookup, and what is answered to them.
-use Rattle.std.specs.Prelude.{◌≡◌, ℕ, ◌+◌, Bool, true, false, if◌then◌else◌, List, [], ◌∷◌, ◌++◌, Option, None, Some, Result, Ok, Err}
-use Rattle.std.specs.List.{All}
+use Rattle.std.specs.Prelude.{ℕ, ◌+◌, true, if◌then◌else◌, List, [], ◌∷◌, Option, None, Some, Result}
 use Rattle.client_request.specs.Request.{Request, with_dnssec_ok}
 use Rattle.client_request.specs.declared.error.Error.{Error}
-use Rattle.client_loop.specs.Asking.{IsAnswered, Scene, StopsForNumbers, scene}
+use Rattle.client_loop.specs.Asking.{IsAnswered, Scene, scene}
 use Rattle.client_steps.specs.Whole.{Whole}
 use Rattle.dns_values.specs.declared.numbers.Rtype.{Rtype}
-use Rattle.dnsq_run.specs.Query.{World, begun, is_message, request_of}
+use Rattle.dnsq_run.specs.Query.{World, begun, request_of}
 use Rattle.resolv_conf.specs.declared.conf.ResolvConf.{ResolvConf}
-use Rattle.dns_lookup_run.specs.Conf.{IsConfOf}
 use Rattle.dns_lookup_words.specs.declared.lookup.Lookup.{Lookup}
 
 -- the request for a type: its one question, of class IN, with the flag DO where that is said
@@ -32,12 +30,10 @@ pub data AreAnswered (lookup : Lookup) : ℕ → List Rtype → List Answer → 
       → IsAnswered n 1000000 (request_for lookup rtype) old mid answer → AreAnswered lookup (n + 1) rtypes answers mid new
       → AreAnswered lookup n (rtype ∷ rtypes) (answer ∷ answers) old new
 
--- Of the types of a lookup some were asked for, and the others, if any, were not. What the edge keeps of its waits is not the program's.
-pub record IsLookedUp (lookup : Lookup) (told : Option (List ℕ)) (old new : World) (rtypes later : List Rtype) (answers : List Answer) : Type 0 where
-  pub conf : ResolvConf
-  pub is_conf : IsConfOf lookup told conf
+-- A new client, whose edge learned the servers of a configuration, was asked for these types, and then for none. What the edge keeps of
+-- its waits is not the program's.
+pub record IsAskedFor (lookup : Lookup) (conf : ResolvConf) (old new : World) (rtypes : List Rtype) (answers : List Answer) : Type 0 where
   pub left : Whole
   pub waits : Option (List ℕ)
   pub later_waits : Option (List ℕ)
-  pub types : types_at lookup.rtype ≡ rtypes ++ later
   pub answered : AreAnswered lookup 0 rtypes answers (begun conf old waits) (scene left new.words new.deeds later_waits new.polls new.moments)

@@ -1,15 +1,14 @@
 -- What a lookup ends with.
-use Rattle.std.specs.Prelude.{◌≡◌, ◌⊎◌, ℕ, Bool, true, false, List, [], ◌∷◌, ◌++◌, Option, None, Some, String, Result, Ok, Err, codes}
+use Rattle.std.specs.Prelude.{◌≡◌, ◌≢◌, ◌⊎◌, ℕ, true, false, List, [], ◌∷◌, ◌++◌, Option, String, Ok, Err}
 use Rattle.std.specs.List.{All}
 use Rattle.std.specs.declared.alloc.Global.{Global}
 use Rattle.client_loop.specs.Asking.{Scene, StopsForNumbers, scene}
-use Rattle.client_request.specs.ErrorText.{error_text}
 use Rattle.client_steps.specs.Whole.{Whole}
 use Rattle.dns_values.specs.declared.numbers.Rtype.{Rtype}
 use Rattle.dnsq_run.specs.Program.{IsSaid}
 use Rattle.dnsq_run.specs.Query.{World, begun, is_message}
 use Rattle.resolv_conf.specs.declared.conf.ResolvConf.{ResolvConf}
-use Rattle.dns_lookup_run.specs.Asking.{Answer, AreAnswered, IsLookedUp, request_for, types_at}
+use Rattle.dns_lookup_run.specs.Asking.{Answer, AreAnswered, IsAskedFor, request_for, types_at}
 use Rattle.dns_lookup_run.specs.Conf.{IsConfOf}
 use Rattle.dns_lookup_words.specs.Sentences.{sentence}
 use Rattle.dns_lookup_words.specs.Words.{LookupGives}
@@ -17,24 +16,24 @@ use Rattle.dns_lookup_words.specs.declared.lookup.Lookup.{Lookup}
 use Rattle.dns_lookup_words.specs.declared.wrong.Refusal.{Refusal}
 
 -- Each type was asked for, and each answer is a message.
-pub record IsAnsweredWhole (lookup : Lookup) (told : Option (List ℕ)) (old new : World) : Type 0 where
+pub record IsAnsweredWhole (lookup : Lookup) (conf : ResolvConf) (old new : World) : Type 0 where
   pub answers : List Answer
-  pub looked : IsLookedUp lookup told old new (types_at lookup.rtype) [] answers
+  pub asked : IsAskedFor lookup conf old new (types_at lookup.rtype) answers
   pub messages : All (λ answer. is_message answer ≡ true) answers
 
--- The last type that was asked for has no message, and so no other was asked for.
-pub record IsUnanswered (lookup : Lookup) (told : Option (List ℕ)) (old new : World) : Type 0 where
+-- Some first of the types were asked for, and of the answers the last alone is no message.
+pub record IsUnanswered (lookup : Lookup) (conf : ResolvConf) (old new : World) : Type 0 where
   pub rtypes : List Rtype
   pub later : List Rtype
+  pub types : types_at lookup.rtype ≡ rtypes ++ later
   pub answers : List Answer
   pub last : Answer
-  pub looked : IsLookedUp lookup told old new rtypes later (answers ++ last ∷ [])
+  pub asked : IsAskedFor lookup conf old new rtypes (answers ++ last ∷ [])
+  pub messages : All (λ answer. is_message answer ≡ true) answers
   pub no_message : is_message last ≡ false
 
--- A number would pass 64 bits while a type is asked for, behind those that were answered.
-pub record IsStopped (lookup : Lookup) (told : Option (List ℕ)) (old new : World) : Type 0 where
-  pub conf : ResolvConf
-  pub is_conf : IsConfOf lookup told conf
+-- Some first of the types were asked for, and while the next is, a number would pass 64 bits.
+pub record IsStopped (lookup : Lookup) (conf : ResolvConf) (old new : World) : Type 0 where
   pub rtypes : List Rtype
   pub rtype : Rtype
   pub later : List Rtype
@@ -47,18 +46,22 @@ pub record IsStopped (lookup : Lookup) (told : Option (List ℕ)) (old new : Wor
   pub later_waits : Option (List ℕ)
   pub stops : StopsForNumbers (request_for lookup rtype) mid (scene left new.words new.deeds later_waits new.polls new.moments)
 
--- what a lookup ends with, by its status
-pub record EndsSo (lookup : Lookup) (status : ℕ) (told : Option (List ℕ)) (old new : World) : Type 0 where
-  pub done : status ≡ 0 → IsAnsweredWhole lookup told old new
-  pub no_reply : status ≡ 5 → IsUnanswered lookup told old new
-  pub numbers : status ≡ 7 → IsStopped lookup told old new
+-- what a lookup over a configuration ends with, by its status
+pub record EndsSo (lookup : Lookup) (conf : ResolvConf) (status : ℕ) (old new : World) : Type 0 where
+  pub done : status ≡ 0 → IsAnsweredWhole lookup conf old new
+  pub no_reply : status ≡ 5 → IsUnanswered lookup conf old new
+  pub numbers : status ≡ 7 → IsStopped lookup conf old new
+
+-- What words end with: they are refused, or a lookup whose configuration can't be had, or whose servers are asked.
+pub data WordsEnd (words : List (String Global)) (told : Option (List ℕ)) (status : ℕ) (old new : World) : Type 0 where
+  no_memory : status ≡ 6 → WordsEnd words told status old new
+  refused : (refusal : Refusal) → LookupGives words (Err refusal) → status ≡ 2 → WordsEnd words told status old new
+  no_conf : (lookup : Lookup) → LookupGives words (Ok lookup) → status ≡ 3 → WordsEnd words told status old new
+  asked : (lookup : Lookup) (conf : ResolvConf) → LookupGives words (Ok lookup) → IsConfOf lookup told conf → (status ≢ 2) × (status ≢ 3)
+      → EndsSo lookup conf status old new → WordsEnd words told status old new
 
 -- The words are refused, and the sentence that says why is told.
 pub record IsRefusalTold (words : List (String Global)) (before after : Option (List ℕ)) (faults faults_after : ℕ) : Type 0 where
   pub refusal : Refusal
   pub refused : LookupGives words (Err refusal)
   pub told : IsSaid (sentence words refusal) before after faults faults_after
-
--- Where the words are a lookup, it ends so.
-abbrev pub LookupEnd : List (String Global) → ℕ → (told : Option (List ℕ)) → (old new : World) → Type 0
-LookupEnd words status told old new = (lookup : Lookup) → LookupGives words (Ok lookup) → EndsSo lookup status told old new

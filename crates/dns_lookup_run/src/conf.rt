@@ -4,7 +4,7 @@ ghost use Rattle.std.specs.Prelude.{◌≡◌, ◌≢◌, ◌++◌, map, IfOk, I
 ghost use Rattle.dns_values.specs.Source.{Rose};
 ghost use Rattle.dnsq_run.specs.Program.{status_of};
 ghost use Rattle.resolv_conf.specs.Conf.{name_server};
-ghost use Rattle.dns_lookup_run.specs.Conf.{IsConfOf, conf_asked, named};
+ghost use Rattle.dns_lookup_run.specs.Conf.{IsBase, IsConfOf, conf_asked, named};
 
 use dns_base::NoMemory;
 use dns_lookup_words::Lookup;
@@ -54,20 +54,32 @@ fn conf_asked(lookup: &Lookup, base: ResolvConf) -> ResolvConf
     conf
 }
 
+/// The configuration of the servers that words name, or else the one that a source gives.
+#[tactic(auto, using(crate::proofs::Bases::named_base, crate::proofs::Bases::source_base))]
+fn base_of<S: Source>(alloc: Global, lookup: &Lookup, source: &mut S) -> Result<ResolvConf, Ending>
+    ensures base { IfOk result (λ conf. IsBase lookup.now.servers (S.left source.old) conf) }
+    ensures source_fault { IfErr result (λ e. status_of e ≡ 3 → Rose (S.faults source.old) (S.faults source.new)) }
+    ensures no_numbers { IfErr result (λ e. status_of e ≢ 7) }
+{
+    if lookup.servers.is_empty() {
+        configuration(alloc, source)
+    } else {
+        Ok(named(alloc, lookup.servers.as_slice())?)
+    }
+}
+
 /// The configuration that a lookup asks: of the servers that its words name, or else the one that a source gives.
 pub(crate) fn conf_of<S: Source>(
     alloc: Global,
     lookup: &Lookup,
     source: &mut S,
 ) -> Result<ResolvConf, Ending>
-    ensures conf { IfOk result (λ conf. IsConfOf lookup.now (S.left source.old) conf) }
+    ensures conf { IfOk result (IsConfOf lookup.now (S.left source.old)) }
     ensures source_fault { IfErr result (λ e. status_of e ≡ 3 → Rose (S.faults source.old) (S.faults source.new)) }
     ensures no_numbers { IfErr result (λ e. status_of e ≢ 7) }
 {
-    let base = if lookup.servers.is_empty() {
-        configuration(alloc, source)?
-    } else {
-        named(alloc, lookup.servers.as_slice())?
-    };
-    Ok(conf_asked(lookup, base))
+    match base_of(alloc, lookup, source) {
+        Ok(base) => Ok(conf_asked(lookup, base)),
+        Err(ending) => Err(ending),
+    }
 }

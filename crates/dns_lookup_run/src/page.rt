@@ -10,7 +10,8 @@ use resolv_conf::ServerConf;
 use std::alloc::Global;
 use std::fmt::{self, Display};
 
-/// Who answered, and by which transport; a server that isn't known was not asked.
+/// Who answered, and by which transport, if one was asked.
+#[derive(Clone, Copy)]
 struct Answerer<'a> {
     heard: Option<Heard>,
     servers: &'a [ServerConf],

@@ -1,14 +1,13 @@
 //! What the program does, over a source, two sinks and the rest of its world.
 
-ghost use Rattle.std.specs.Prelude.{◌≡◌, ◌≢◌, ◌⊎◌, Ok, Err, true, false, IfOk};
+ghost use Rattle.std.specs.Prelude.{◌≡◌, ◌≢◌, ◌⊎◌, true, false};
 ghost use Rattle.client_loop.specs.Asking.{IsAnswered, StopsForNumbers, between};
 ghost use Rattle.dns_values.specs.Source.{Rose};
 ghost use Rattle.dns_values.specs.Sink.{IsFlushed};
 ghost use Rattle.dnsq_run.specs.Program.{IsStatus};
 ghost use Rattle.dnsq_run.specs.Query.{around, is_message};
 ghost use Rattle.dns_lookup_run.specs.Asking.{Answer, request_for};
-ghost use Rattle.dns_lookup_run.specs.Ends.{EndsSo, IsRefusalTold, LookupEnd};
-ghost use Rattle.dns_lookup_words.specs.Words.{LookupGives};
+ghost use Rattle.dns_lookup_run.specs.Ends.{EndsSo, IsRefusalTold, WordsEnd};
 
 use crate::asking::{Came, asked};
 use crate::conf::conf_of;
@@ -92,7 +91,13 @@ fn ask_all<K: Sink, L: Sink, E: Edge + Drop, C: Clock + Drop, W: Words>(
     edge: &mut WatchedEdge<E>,
     clock: &mut WatchedClock<C>,
     random: &mut W,
-) -> Status {
+) -> Status
+    ensures statuses { IsStatus result.0 }
+    ensures ends { around E.deeds E.polls C.given W.stream (edge.old.edge, clock.old.clock, random.old) (edge.new.edge, clock.new.clock, random.new) (EndsSo lookup.now conf.now result.0) }
+    ensures flushed { result.0 ≡ 0 → IsFlushed (K.held sink.new) (K.flushed sink.new) }
+    ensures sink_fault { result.0 ≡ 4 → Rose (K.faults sink.old) (K.faults sink.new) }
+    ensures others { (result.0 ≢ 1) × (result.0 ≢ 2) × (result.0 ≢ 3) }
+{
     let servers = conf.servers.as_slice();
     let Ok(()) = learn_all(edge, servers) else {
         return statuses::NO_MEMORY;
@@ -154,7 +159,7 @@ pub fn run<S: Source, K: Sink, L: Sink, E: Edge + Drop, C: Clock + Drop, W: Word
     ensures usage { result.0 ≡ 2 → IsRefusalTold words.now (L.held errors.old) (L.held errors.new) (L.faults errors.old) (L.faults errors.new) }
 
     // What was asked, and what it came to.
-    ensures ends { around E.deeds E.polls C.given W.stream (edge.old.edge, clock.old.clock, random.old) (edge.new.edge, clock.new.clock, random.new) (LookupEnd words.now result.0 (S.left source.old)) }
+    ensures ends { around E.deeds E.polls C.given W.stream (edge.old.edge, clock.old.clock, random.old) (edge.new.edge, clock.new.clock, random.new) (WordsEnd words.now (S.left source.old) result.0) }
     ensures flushed { result.0 ≡ 0 → IsFlushed (K.held sink.new) (K.flushed sink.new) }
 
     // Faults.

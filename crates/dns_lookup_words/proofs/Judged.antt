@@ -7,10 +7,12 @@ use Rattle.dns_lookup_words.specs.declared.lookup.Lookup.{Lookup}
 use Rattle.dns_lookup_words.specs.declared.said.Next.{Next}
 use Rattle.dns_lookup_words.specs.declared.said.Next.TheVariants as next
 use Rattle.dns_lookup_words.specs.declared.said.Said.{Said}
+use Rattle.dns_lookup_words.specs.declared.wrong.Fault.{Fault}
+use Rattle.dns_lookup_words.specs.declared.wrong.Fault.TheVariants as faults
 use Rattle.dns_lookup_words.specs.declared.wrong.Refusal.{Refusal}
 use Rattle.dns_lookup_words.specs.declared.wrong.Refusal.TheVariants.{Word}
 use Rattle.dns_lookup_words.specs.declared.wrong.Wrong.{Wrong}
-use Rattle.dns_lookup_words.specs.Words.{AddressGives, AnyGives, GivesAt, LookupGives, ServerGives, WordGives, WordsGive, asked, bad_word, good_word, no_word, nothing_said, said_whole, server_text, with_address, with_server, wrong_word}
+use Rattle.dns_lookup_words.specs.Words.{AddressGives, AnyGives, GivesAt, IsJudged, IsSaidBy, LookupGives, ServerGives, WordGives, WordsGive, asked, bad_word, good_word, no_word, nothing_said, said_whole, server_text, with_address, with_server, wrong_word}
 
 one_server : (text : List ℕ) (said : Said) (a b : Result Said Wrong) → ServerGives text said a → ServerGives text said b → a ≡ b
 one_server text said (Ok x) (Ok y) h k = ap Ok (h.2 ∙ ap (λ ip. with_server ip said) (one_address text h.0 k.0 h.1 k.1) ∙ sym k.2)
@@ -92,3 +94,20 @@ one_lookup words a b (said_whole x h e) (wrong_word y k f) = absurd (never x y (
 one_lookup words a b (wrong_word x h e) (said_whole y k f) = absurd (never y x (one_answer 0 words nothing_said (whole y) (ends x) k h))
 one_lookup words a b (wrong_word x h e) (wrong_word y k f) =
     e ∙ ap refusing (same_refusal x y (one_answer 0 words nothing_said (ends x) (ends y) h k)) ∙ sym f
+
+abbrev asking : Lookup → Result Lookup Refusal
+asking lookup = Ok lookup
+
+-- what is said is a lookup, or no whole one
+pub is_lookup : (words : List (String Global)) (said : Said) (lookup : Lookup) → WordsGive 0 words nothing_said (whole said) → asking lookup ≡ asked said
+    → LookupGives words (asking lookup)
+is_lookup words said lookup h is = said_whole said h is
+
+pub is_refused : (words : List (String Global)) (said : Said) (refusal : Refusal) → WordsGive 0 words nothing_said (whole said) → refusing refusal ≡ asked said
+    → LookupGives words (refusing refusal)
+is_refused words said refusal h is = said_whole said h is
+
+-- or a word is wrong
+pub not_said : (words : List (String Global)) (fault : Fault) → IsSaidBy words (Err fault) → IsJudged words (Err fault)
+not_said words (faults.Refused refusal) h = wrong_word refusal h refl
+not_said words faults.NoMemory h = tt

@@ -154,6 +154,11 @@ pub data WordsGive : ℕ → List (String Global) → Said → Result Said Refus
   good_word : (n : ℕ) (word : String Global) (words : List (String Global)) (said mid : Said) (answer : Result Said Refusal)
       → WordGives (string_bytes word) said (Ok mid) → WordsGive (n + 1) words mid answer → WordsGive n (word ∷ words) said answer
 
+-- why words were not taken of which the one of this number was not
+abbrev pub fault_at : ℕ → WordFault → Fault
+fault_at n (word_faults.Wrong wrong) = faults.Refused (refusals.Word n wrong)
+fault_at n word_faults.NoMemory = faults.NoMemory
+
 abbrev pub AllAnswer : (Result Said Refusal → Type 0) → Result (Unit {0}) Fault → Said → Type 0
 AllAnswer Gives (Ok u) new = Gives (Ok new)
 AllAnswer Gives (Err (faults.Refused refusal)) new = Gives (Err refusal)

@@ -81,9 +81,11 @@ fn said_by(alloc: Global, words: &[String]) -> Result<Said, Fault>
 pub fn lookup_of(alloc: Global, words: &[String]) -> Result<Lookup, Fault>
     ensures { IsJudged words.now result }
 {
-    let said = said_by(alloc, words)?;
-    match asked(said) {
-        Ok(lookup) => Ok(lookup),
-        Err(refusal) => Err(Fault::Refused(refusal)),
+    match said_by(alloc, words) {
+        Ok(said) => match asked(said) {
+            Ok(lookup) => Ok(lookup),
+            Err(refusal) => Err(Fault::Refused(refusal)),
+        },
+        Err(fault) => Err(fault),
     }
 }

@@ -2,7 +2,7 @@
 
 ghost use Rattle.std.specs.Prelude.{◌≡◌, Ok, Err, Some, None, true, false, if◌then◌else◌, option_and_then, option_copied, option_map};
 ghost use Rattle.std.specs.Result.{result_ok};
-ghost use Rattle.dns_lookup_words.specs.Words.{AddressGives, AllAnswer, Answers, ServerGives, WordGives, WordsGive, AnyGives, begins_option, flagged, name_given, option_or_plain, plain_said, port_said, server_text, time_said, time_text, type_given, one_message};
+ghost use Rattle.dns_lookup_words.specs.Words.{AddressGives, AllAnswer, Answers, ServerGives, WordGives, WordsGive, AnyGives, begins_option, fault_at, flagged, name_given, option_or_plain, plain_said, port_said, server_text, time_said, time_text, type_given, one_message};
 ghost use Rattle.dns_names.specs.Text.{name_of_text};
 ghost use Rattle.dns_values.specs.NumberNames.{type_of_text};
 
@@ -61,6 +61,16 @@ fn type_in(word: &str) -> Option<Rtype>
             }
         }
         Err(_) => None,
+    }
+}
+
+/// Why words were not taken of which the one of this number was not.
+fn fault_at(at: usize, fault: WordFault) -> Fault
+    ensures { result ≡ fault_at at fault }
+{
+    match fault {
+        WordFault::Wrong(wrong) => Fault::Refused(Refusal::Word { at, wrong }),
+        WordFault::NoMemory => Fault::NoMemory,
     }
 }
 
@@ -208,10 +218,7 @@ impl Said {
         while let Some((word, behind)) = rest.split_first() {
             match self.take(alloc, word.as_str()) {
                 Ok(()) => rest = behind,
-                Err(WordFault::Wrong(wrong)) => {
-                    return Err(Fault::Refused(Refusal::Word { at, wrong }));
-                }
-                Err(WordFault::NoMemory) => return Err(Fault::NoMemory),
+                Err(fault) => return Err(fault_at(at, fault)),
             }
             at += 1;
         }

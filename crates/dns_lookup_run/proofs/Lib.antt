@@ -1,0 +1,2 @@
+mod Bases
+mod Endings
