@@ -1,2 +1,2 @@
-mod Bases
-mod Endings
+pub mod Bases
+pub mod Endings

@@ -1,11 +1,11 @@
 -- The requests of a lookup, and what is answered to them.
-use Rattle.std.specs.Prelude.{ℕ, ◌+◌, true, if◌then◌else◌, List, [], ◌∷◌, Option, None, Some, Result}
+use Rattle.std.specs.Prelude.{◌≡◌, ℕ, ◌+◌, Bool, true, if◌then◌else◌, List, [], ◌∷◌, Option, None, Some, Result}
 use Rattle.client_request.specs.Request.{Request, with_dnssec_ok}
 use Rattle.client_request.specs.declared.error.Error.{Error}
-use Rattle.client_loop.specs.Asking.{IsAnswered, Scene, scene}
+use Rattle.client_loop.specs.Asking.{IsAnswered, Scene, StopsForNumbers, scene}
 use Rattle.client_steps.specs.Whole.{Whole}
 use Rattle.dns_values.specs.declared.numbers.Rtype.{Rtype}
-use Rattle.dnsq_run.specs.Query.{World, begun, request_of}
+use Rattle.dnsq_run.specs.Query.{World, begun, is_message, request_of}
 use Rattle.resolv_conf.specs.declared.conf.ResolvConf.{ResolvConf}
 use Rattle.dns_lookup_words.specs.declared.lookup.Lookup.{Lookup}
 
@@ -22,6 +22,18 @@ types_at None = record { 0 = 1 } ∷ record { 0 = 28 } ∷ []
 
 abbrev pub Answer : Type 0
 Answer = Option (Result (List ℕ) Error)
+
+-- A type was asked for under this number, and this was answered.
+abbrev pub Gave : Lookup → Rtype → ℕ → Answer → (old new : Scene) → Type 0
+Gave lookup rtype n answer old new = IsAnswered n 1000000 (request_for lookup rtype) old new answer
+
+-- It was asked for, and a message was answered, or not.
+abbrev pub Came : Lookup → Rtype → ℕ → Bool → (old new : Scene) → Type 0
+Came lookup rtype n message old new = (answer : Answer) × (is_message answer ≡ message) × Gave lookup rtype n answer old new
+
+-- A number would pass 64 bits while it is asked for.
+abbrev pub Stopped : Lookup → Rtype → (old new : Scene) → Type 0
+Stopped lookup rtype old new = StopsForNumbers (request_for lookup rtype) old new
 
 -- Types are asked for one after another, from the request of this number on, and each was answered so.
 pub data AreAnswered (lookup : Lookup) : ℕ → List Rtype → List Answer → Scene → Scene → Type 0 where

@@ -15,6 +15,10 @@ use Rattle.dns_lookup_words.specs.Words.{LookupGives}
 use Rattle.dns_lookup_words.specs.declared.lookup.Lookup.{Lookup}
 use Rattle.dns_lookup_words.specs.declared.wrong.Refusal.{Refusal}
 
+-- A message was answered: its page was written whole, or the sink failed.
+abbrev pub HasPage : ℕ → Type 0
+HasPage status = (status ≡ 0) ⊎ (status ≡ 4)
+
 -- Each type was asked for, and each answer is a message.
 pub record IsAnsweredWhole (lookup : Lookup) (conf : ResolvConf) (old new : World) : Type 0 where
   pub answers : List Answer

@@ -1,10 +1,13 @@
 -- What an edge and a clock are seen to do.
 use Rattle.std.specs.Prelude.{ℕ, ◌==◌, if◌then◌else◌, List, [], ◌∷◌, ◌++◌, Option, None, Some}
+use Rattle.client_core.specs.declared.deed.Deed.{Deed}
+use Rattle.client_loop.specs.Asking.{Scene, scene}
 use Rattle.client_request.specs.declared.event.Out.{Out}
 use Rattle.client_request.specs.declared.event.Out.TheVariants.{OpenDgram, OpenStream}
 use Rattle.client_request.specs.declared.event.Via.TheVariants.{Dgram, Stream}
 use Rattle.client_request.specs.declared.event.What.{What}
 use Rattle.client_request.specs.declared.event.What.TheVariants.{Bytes, Datagram}
+use Rattle.client_steps.specs.Whole.{Whole}
 use Rattle.dns_lookup_run.specs.declared.watched_edge.Heard.{Heard}
 use Rattle.dns_lookup_run.specs.declared.watched_edge.Opened.{Opened}
 
@@ -19,6 +22,12 @@ pub record Times (C : Type 0) : Type 0 where
   pub clock : C
   pub first : Option ℕ
   pub last : ℕ
+
+-- What holds of the scenes before and after a call, by what a watched edge, a watched clock and words tell.
+abbrev pub on : {E C W : Type 0} {R : Type 1} → (E → Option (List Deed)) → (E → Option (List ℕ)) → (E → ℕ) → (C → Option (List ℕ)) → (W → ℕ → ℕ) → (old new : Whole × Seen E × Times C × W) → (Scene → Scene → R) → R
+on deeds waits polls given stream old new P =
+    P (scene old.0 (stream old.3) (deeds old.1.edge) (waits old.1.edge) (polls old.1.edge) (given old.2.clock))
+    (scene new.0 (stream new.3) (deeds new.1.edge) (waits new.1.edge) (polls new.1.edge) (given new.2.clock))
 
 -- the places, with that which an out opens
 abbrev pub with_opened : Out → List Opened → List Opened

@@ -1,8 +1,9 @@
 //! The requests of a lookup.
 
 ghost use Rattle.std.specs.Prelude.{◌≡◌, ◌≢◌, IfOk, IfErr, IsErrOf};
-ghost use Rattle.client_loop.specs.Asking.{IsAnswered, StopsForNumbers, between};
-ghost use Rattle.dns_lookup_run.specs.Asking.{request_for};
+ghost use Rattle.client_request.specs.declared.error.Error.TheVariants.{NumbersUsed};
+ghost use Rattle.dns_lookup_run.specs.Asking.{Gave, Stopped, request_for};
+ghost use Rattle.dns_lookup_run.specs.Watched.{on};
 
 use crate::watched_clock::WatchedClock;
 use crate::watched_edge::{Heard, WatchedEdge};
@@ -51,17 +52,17 @@ pub(crate) fn asked<E: Edge + Drop, C: Clock + Drop, W: Words>(
     client: &mut Client,
     edge: &mut WatchedEdge<E>,
     clock: &mut WatchedClock<C>,
-    random: &mut W,
+    words: &mut W,
 ) -> Result<Came, Error>
-    ensures answered { IfOk result (λ came. between E.deeds E.waits E.polls C.given W.stream (client.old, edge.old.edge, clock.old.clock, random.old) (client.new, edge.new.edge, clock.new.clock, random.new)
-        (λ old new. IsAnswered number 1000000 (request_for lookup.now rtype) old new came.answer)) }
-    ensures numbers { IsErrOf result Error.NumbersUsed → between E.deeds E.waits E.polls C.given W.stream (client.old, edge.old.edge, clock.old.clock, random.old)
-        (client.new, edge.new.edge, clock.new.clock, random.new) (StopsForNumbers (request_for lookup.now rtype)) }
+    ensures answered { IfOk result (λ c. on E.deeds E.waits E.polls C.given W.stream (client.old, edge.old, clock.old, words.old) (client.new, edge.new, clock.new, words.new)
+        (Gave lookup.now rtype number c.answer)) }
+    ensures numbers { IsErrOf result NumbersUsed → on E.deeds E.waits E.polls C.given W.stream (client.old, edge.old, clock.old, words.old)
+        (client.new, edge.new, clock.new, words.new) (Stopped lookup.now rtype) }
 {
     edge.forget();
     clock.forget();
     let request = request_for(alloc, lookup, rtype)?;
-    let answer = ask(client, edge, clock, random, number, request)?;
+    let answer = ask(client, edge, clock, words, number, request)?;
     Ok(Came {
         answer,
         heard: edge.heard(),

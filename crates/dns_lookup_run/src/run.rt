@@ -1,13 +1,13 @@
 //! What the program does, over a source, two sinks and the rest of its world.
 
 ghost use Rattle.std.specs.Prelude.{◌≡◌, ◌≢◌, ◌⊎◌, true, false};
-ghost use Rattle.client_loop.specs.Asking.{IsAnswered, StopsForNumbers, between};
 ghost use Rattle.dns_values.specs.Source.{Rose};
 ghost use Rattle.dns_values.specs.Sink.{IsFlushed};
 ghost use Rattle.dnsq_run.specs.Program.{IsStatus};
 ghost use Rattle.dnsq_run.specs.Query.{around, is_message};
-ghost use Rattle.dns_lookup_run.specs.Asking.{Answer, request_for};
-ghost use Rattle.dns_lookup_run.specs.Ends.{EndsSo, IsRefusalTold, WordsEnd};
+ghost use Rattle.dns_lookup_run.specs.Asking.{Came, Stopped};
+ghost use Rattle.dns_lookup_run.specs.Ends.{EndsSo, HasPage, IsRefusalTold, WordsEnd};
+ghost use Rattle.dns_lookup_run.specs.Watched.{on};
 
 use crate::asking::{Came, asked};
 use crate::conf::conf_of;
@@ -35,7 +35,7 @@ fn write_came<K: Sink, L: Sink>(
     errors: &mut L,
 ) -> Status
     ensures statuses { (result.0 ≡ 0) ⊎ ((result.0 ≡ 4) ⊎ ((result.0 ≡ 5) ⊎ (result.0 ≡ 6))) }
-    ensures good { (result.0 ≡ 0) ⊎ (result.0 ≡ 4) → is_message came.now.answer ≡ true }
+    ensures good { HasPage result.0 → is_message came.now.answer ≡ true }
     ensures bad { result.0 ≡ 5 → is_message came.now.answer ≡ false }
     ensures flushed { result.0 ≡ 0 → IsFlushed (K.held sink.new) (K.flushed sink.new) }
     ensures sink_fault { result.0 ≡ 4 → Rose (K.faults sink.old) (K.faults sink.new) }
@@ -65,12 +65,12 @@ fn ask_for<K: Sink, L: Sink, E: Edge + Drop, C: Clock + Drop, W: Words>(
     random: &mut W,
 ) -> Status
     ensures statuses { IsStatus result.0 }
-    ensures done { (result.0 ≡ 0) ⊎ (result.0 ≡ 4) → (answer : Answer) × (is_message answer ≡ true) × between E.deeds E.waits E.polls C.given W.stream (client.old, edge.old.edge, clock.old.clock, random.old)
-        (client.new, edge.new.edge, clock.new.clock, random.new) (λ old new. IsAnswered number 1000000 (request_for lookup.now rtype) old new answer) }
-    ensures no_reply { result.0 ≡ 5 → (answer : Answer) × (is_message answer ≡ false) × between E.deeds E.waits E.polls C.given W.stream (client.old, edge.old.edge, clock.old.clock, random.old)
-        (client.new, edge.new.edge, clock.new.clock, random.new) (λ old new. IsAnswered number 1000000 (request_for lookup.now rtype) old new answer) }
-    ensures numbers { result.0 ≡ 7 → between E.deeds E.waits E.polls C.given W.stream (client.old, edge.old.edge, clock.old.clock, random.old)
-        (client.new, edge.new.edge, clock.new.clock, random.new) (StopsForNumbers (request_for lookup.now rtype)) }
+    ensures done { HasPage result.0 → on E.deeds E.waits E.polls C.given W.stream (client.old, edge.old, clock.old, random.old)
+        (client.new, edge.new, clock.new, random.new) (Came lookup.now rtype number true) }
+    ensures no_reply { result.0 ≡ 5 → on E.deeds E.waits E.polls C.given W.stream (client.old, edge.old, clock.old, random.old)
+        (client.new, edge.new, clock.new, random.new) (Came lookup.now rtype number false) }
+    ensures numbers { result.0 ≡ 7 → on E.deeds E.waits E.polls C.given W.stream (client.old, edge.old, clock.old, random.old)
+        (client.new, edge.new, clock.new, random.new) (Stopped lookup.now rtype) }
     ensures flushed { result.0 ≡ 0 → IsFlushed (K.held sink.new) (K.flushed sink.new) }
     ensures sink_fault { result.0 ≡ 4 → Rose (K.faults sink.old) (K.faults sink.new) }
     ensures others { (result.0 ≢ 1) × (result.0 ≢ 2) × (result.0 ≢ 3) }

@@ -1,5 +1,5 @@
 -- Words are one thing.
-use Rattle.std.proofs.Common.{◌≡◌, ◌+◌, ℕ, List, [], ◌∷◌, refl, ap, sym, subst, ◌∙◌, Option, None, Some, Result, Ok, Err, String, Global}
+use Rattle.std.proofs.Common.{◌≡◌, ◌+◌, ℕ, List, refl, ap, sym, subst, ◌∙◌, Option, None, Some, Result, Ok, Err, String, Global}
 use Rattle.std.specs.String.{string_bytes}
 use Rattle.dns_names.specs.Name.{Labels}
 use Rattle.dns_values.proofs.Addresses.{one_address}

@@ -1,5 +1,5 @@
 -- Words that are taken, one after another.
-use Rattle.std.proofs.Common.{◌≡◌, ◌≢◌, ◌+◌, ◌==◌, ℕ, Bool, true, false, if◌then◌else◌, List, [], ◌∷◌, refl, ap, sym, subst, arith, Option, None, Some, Result, Ok, Err, String, Global}
+use Rattle.std.proofs.Common.{◌≡◌, ◌≢◌, ◌+◌, ◌==◌, ℕ, Bool, true, false, if◌then◌else◌, List, [], ◌∷◌, length, refl, ap, sym, subst, arith, Option, None, Some, Result, Ok, Err, String, Global}
 use Rattle.std.proofs.lemmas.Bool.Decides.{nat_tests}
 use Rattle.std.specs.Borrow.{Bor}
 use Rattle.std.specs.Option.{MatchOption, option_copied}
@@ -53,5 +53,6 @@ goes_on n left word behind text said mid answer is reads h rest =
     let Q : List ℕ → Type 0 = λ t. WordGives t said (Ok mid) in
     subst P (sym is) (good_word n word behind said mid answer (subst Q reads h) rest)
 
-pub ends : (n : ℕ) (left : Words) (said : Said) → left ≡ [] → WordsGive n left said (Ok said)
-ends n left said is = let P : Words → Type 0 = λ ws. WordsGive n ws said (Ok said) in subst P (sym is) (no_word n said)
+pub ends : (n : ℕ) (left : Words) (said : Said) → length left ≡ 0 → WordsGive n left said (Ok said)
+ends n [] said none = no_word n said
+ends n (word ∷ left) said none = absurd (omega arith)

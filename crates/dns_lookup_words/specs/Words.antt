@@ -1,5 +1,5 @@
 -- The words of a lookup, in dig's habits: `[@SERVER ..] [-p PORT] (-x ADDRESS | NAME [TYPE]) [+tcp] [+dnssec] [+short] [+time=SECONDS]`.
-use Rattle.std.specs.Prelude.{◌≡◌, ℕ, ◌+◌, ◌*◌, ◌==◌, ◌||◌, Bool, true, false, if◌then◌else◌, List, [], ◌∷◌, ◌++◌, length, codes, nat_lt, Option, None, Some, option_and_then, option_map, String, Result, Ok, Err}
+use Rattle.std.specs.Prelude.{◌≡◌, ℕ, ◌+◌, ◌==◌, ◌||◌, Bool, true, false, if◌then◌else◌, List, [], ◌∷◌, ◌++◌, length, codes, nat_lt, Option, None, Some, option_and_then, String, Result, Ok, Err}
 use Rattle.std.specs.List.{position_or_len, before_first, after_first}
 use Rattle.std.specs.Result.{result_ok}
 use Rattle.std.specs.Str.{bytes_eq}

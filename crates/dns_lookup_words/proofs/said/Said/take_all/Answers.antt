@@ -1,5 +1,4 @@
-use Rattle.std.proofs.Common.{◌≡◌, ◌∷◌, [], arith, rules}
-use Rattle.std.specs.String.{string_bytes}
+use Rattle.std.proofs.Common.{rules}
 use Rattle.dns_lookup_words.specs.Words.{WordsGive}
 use Rattle.dns_lookup_words.proofs.Taken.{ends, goes_on, stops_at}
 use Rattle.dns_lookup_words.proofs.said.Said.take_all.Goals as goal
@@ -17,4 +16,4 @@ loop-word-preserved c = record {
 }
 
 pub returns : goal.returns
-returns c = c.loop-word.invariant.follows _ (ends c.loop-word.at c.loop-word.rest.now c.loop-word.self (search rules))
+returns c = c.loop-word.invariant.follows _ (ends c.loop-word.at c.loop-word.rest.now c.loop-word.self c.in_default.ensures.cases)
