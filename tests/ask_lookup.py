@@ -145,10 +145,11 @@ def serve(kind, folder):
 
 
 def read(text):
-    """The response code, the flags, the counts, and the records of each section with single blanks."""
+    """The response code, the flags, the counts without OPT records, and the records of each section with single blanks."""
     status = re.search(r"status: ([A-Z0-9]+)", text).group(1)
     flags = re.search(r"Flags:([a-z ]*);", text).group(1).split()
     counts = [int(n) for n in re.search(r"QUERY: (\d+); ANSWER: (\d+); AUTHORITY: (\d+); ADDITIONAL: (\d+)", text).groups()]
+    counts[3] -= 1 if "EDNS PSEUDOSECTION" in text else 0
     sections = {}
     for title in ("QUESTION", "ANSWER", "AUTHORITY", "ADDITIONAL"):
         part = re.search(r";; %s SECTION:\n(.*?)(\n\n|\Z)" % title, text, re.S)

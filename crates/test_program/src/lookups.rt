@@ -95,14 +95,14 @@ const RUNS: [(&str, bool, u8, &str, &str); 18] = [
         true,
         5,
         "192.0.2.1\n",
-        "dns_lookup: no answer: connecting failed: connection refused\n",
+        "dns_lookup: no answer: dgram error: connecting failed: connection refused\n",
     ),
     (
         "@192.0.2.53 example.com A",
         false,
         5,
         "",
-        "dns_lookup: no answer: connecting failed: connection refused\n",
+        "dns_lookup: no answer: dgram error: connecting failed: connection refused\n",
     ),
     (
         "example.com A",
