@@ -6,7 +6,7 @@ PROGRAM is the built dnsq, LOOKUPS the built lookup_read. A program of before ca
 how much of each size is taken, from 0 to 1, for a program that is built without optimization; the bounds hold for 1.
 
 What is written: an answer is kept, and is the reply to one request after another, with its names compressed anew. At most
-50 ns may go by for an octet of the message with its names written out. What is looked up: the aliases of an answer are
+50 ns of a processor may go for an octet of the message with its names written out. What is looked up: the aliases of an answer are
 followed, at most 200 ns for such an octet. The time is that of many such replies or answers, less that of none, and the
 least of three runs counts; so many are taken that it is 0.2 s at least, or else one alone.
 
@@ -19,10 +19,10 @@ where one is over.
 """
 
 import random
+import resource
 import subprocess
 import sys
 import tempfile
-import time
 
 from replay import QUESTION, ask, by_stream, opened, text_of, wrote
 
@@ -174,13 +174,13 @@ def chain_of_aliases(size, order):
 
 def chain_through_pointers(size):
     """The same in reverse order, each name through so many pointers."""
-    answer, place, labels = with_chain([label(0, 2)] + [b"a"] * (POINTERS - 1))
-    count = (size - len(answer.octets)) // 20
+    answer, place, labels = with_chain([label(0, 3)] + [b"a"] * (POINTERS - 1))
+    count = (size - len(answer.octets)) // 22
     for number in reversed(range(count)):
-        names = [[label(number + at, 2)] + labels for at in (0, 1)]
-        owner, target = (b"\2" + name[0] + pointer(place) for name in names)
+        names = [[label(number + at, 3)] + labels for at in (0, 1)]
+        owner, target = (b"\3" + name[0] + pointer(place) for name in names)
         answer.record(owner, CNAME, target, names)
-    return answer, label(count, 2).decode() + ".a" * (POINTERS - 1)
+    return answer, label(count, 3).decode() + ".a" * (POINTERS - 1)
 
 
 def one_owner(size):
@@ -198,16 +198,22 @@ def shuffled(numbers):
     return numbers
 
 
+def on_processor():
+    """The seconds that the programs which ended so far had a processor."""
+    used = resource.getrusage(resource.RUSAGE_CHILDREN)
+    return used.ru_utime + used.ru_stime
+
+
 def run(command, text):
-    """The seconds that a program takes with a text, the least of some runs, and what it writes."""
+    """The seconds that a program has a processor for a text, the least of some runs, and what it writes."""
     least = None
     with tempfile.TemporaryFile() as given:
         given.write(text.encode())
         for _ in range(RUNS):
             given.seek(0)
-            began = time.perf_counter()
+            before = on_processor()
             told = subprocess.run(command, stdin=given, stdout=subprocess.PIPE, check=True).stdout
-            took = time.perf_counter() - began
+            took = on_processor() - before
             least = took if least is None else min(least, took)
             if took > 2:
                 break
@@ -272,7 +278,7 @@ def time_looked_up(table, program, share):
                ("aliases of one owner", one_owner(int(LONGEST * share)))]
     for name, (answer, target) in shapes:
         line = "host - %s\n" % answer.finished()
-        found = (" %s. " % target).encode()
+        found = (" %s " % target).encode()
         took = seconds_each([program], lambda times: line * times,
                             lambda told: sum(one.startswith(b"host ") and found in one for one in told.splitlines()))
         table.row(name, answer.written_out, took, FOR_LOOKED_UP)
