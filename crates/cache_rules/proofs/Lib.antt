@@ -5,5 +5,4 @@ pub mod DataBack
 pub mod Carrying
 pub mod Saying
 pub mod ViewLaws
-pub mod KeptLaws
 pub mod EmptySections

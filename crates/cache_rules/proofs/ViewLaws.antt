@@ -15,6 +15,7 @@ use Rattle.right_trace.specs.Validity.{second, has_item, least, without_opt, goo
 use Rattle.right_trace.specs.Views.{viewed_header, with_name, leaves_out, lessened, mostly_lessened, without_signing, viewed}
 use Rattle.right_trace.proofs.Deriving.{viewed_twice}
 use Rattle.right_trace.proofs.Said.{known_validity}
+use Rattle.cache_rules.specs.Laws.{ViewLaws}
 use Rattle.cache_rules.specs.Viewing.{header_between, under_header}
 use Rattle.cache_rules.proofs.Headers.{header_viewed}
 use Rattle.cache_rules.proofs.WhatIsMet.{some_inside, header_tc}
@@ -174,3 +175,6 @@ validity s x octets says =
     let y = known_validity s octets d.0 d.1 in
     of_parts s octets y.0 y.1
     ∙ ap Some (y.2 ∙ (sym (validity_lowered s d.0) ∙ (ap (validity_of_parts s) d.2 ∙ validity_lowered s x)))
+
+pub view_laws : ViewLaws
+view_laws = record { headers = headers; under_headers = under_headers; derived = derived_says; validity = validity }

@@ -12,7 +12,6 @@ use Rattle.right_trace.specs.Validity.{validity_of_parts, validity_of_message}
 use Rattle.right_trace.specs.Views.{viewed_header, leaves_out, viewed}
 use Rattle.cache_rules.specs.Key.{key_in}
 use Rattle.cache_rules.specs.Viewing.{header_between, under_header}
-use Rattle.cache_rules.specs.Kept.{Kept, Keeps}
 
 -- the key of a request whose results are kept
 abbrev pub kept_key : Request → Option Key
@@ -36,5 +35,3 @@ pub record ViewLaws : Type 0 where
       → Says given (viewed m r name n d) → Says given (viewed q r name n x)
   -- octets that say these parts may be kept as long as these
   pub validity : (s : Settings) (x : Parts Data) (octets : Octets) → Says octets x → validity_of_message s octets ≡ Some (validity_of_parts s x)
-  -- a message that is kept for other requests may be kept as long as its view for them
-  pub kept : (s : Settings) (x : Parts Data) (q k : Key) (e : Kept) (name : Labels) → Keeps x q k e → validity_of_message s e.octets ≡ Some (validity_of_parts s (viewed q k name 0 x))

@@ -173,7 +173,7 @@ fn message_validity(message: &Message, config: &cache::Config) -> Result<Duratio
 }
 
 /// The validity of a message.
-pub(crate) fn validity_of(message: &Message, config: &cache::Config) -> Result<Duration, Error>
+fn validity_of(message: &Message, config: &cache::Config) -> Result<Duration, Error>
     ensures { result ≡ spec.or_unread (validity_of_message (spec.cached_by config.now) message.now) }
 {
     message_validity(message, config)

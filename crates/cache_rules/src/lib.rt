@@ -6,13 +6,11 @@
 
 mod copying;
 mod keeping;
-mod kept;
 mod key;
 mod laws;
 mod viewing;
 
 pub use keeping::validity;
-pub use kept::Kept;
 pub use key::{AdDo, Key, is_signing};
 pub use laws::{keys_are_of_requests, keys_are_told_apart, view_laws};
 pub use viewing::{derived_header, view, view_under};

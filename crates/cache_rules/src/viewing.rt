@@ -32,7 +32,7 @@ pub fn derived_header(header: Header, from: AdDo, to: AdDo, clear_rd: bool) -> H
 }
 
 /// Whether RRSIG, NSEC and NSEC3 are left out: only the first asked for DNSSEC records (RFC 4035 3.2.1).
-pub(crate) fn drops_signing(from: AdDo, to: AdDo) -> bool
+fn drops_signing(from: AdDo, to: AdDo) -> bool
     ensures { result ≡ drops_signing (flag_class from) (flag_class to) }
 {
     matches!(from, AdDo::Do) && !matches!(to, AdDo::Do)
@@ -100,7 +100,7 @@ fn copied(
 /// `MessageParseError` exactly where the message or the data of a record can't be read by its type.
 ///
 /// A name may be read out of the octets of the header, by a pointer. So a header that was derived is kept beside its
-/// message, as [`Kept`](crate::Kept) does, and not written over it, which could change names.
+/// message, and not written over it, which could change names.
 pub fn view_under(
     alloc: Global,
     header: Header,

@@ -8,3 +8,5 @@ pub mod Saying
 pub mod Sorting
 pub mod StatsLaws
 pub mod Surveying
+pub mod Ordered
+pub mod Placing

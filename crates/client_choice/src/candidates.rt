@@ -1,7 +1,7 @@
 //! The order in which the servers are started for a request.
 
 ghost use Rattle.std.specs.Prelude.{◌≡◌, ◌+◌, ◌*◌, ◌<◌, OnOk, IfOk, [], length, map};
-ghost use Rattle.std.specs.List.{position};
+ghost use Rattle.std.specs.Ordering.{is_lt};
 ghost use Rattle.client_request.specs.Cx.{view_of, LendsTheSame};
 ghost use Rattle.client_choice.specs.Candidates as plain;
 
@@ -10,6 +10,7 @@ use crate::job::ListedServer;
 use client_request::{Cx, Words};
 use dns_base::NoMemory;
 use std::alloc::Global;
+use std::cmp::Ordering;
 use std::collections::VecDeque;
 
 /// No estimate is above four hours, in microseconds.
@@ -57,20 +58,17 @@ fn comes_before(c: &Candidate, d: &Candidate, bound: u128) -> bool
     }
 }
 
-/// The place of the first that a server comes before.
-fn place_of(list: &[Candidate], c: &Candidate, bound: u128) -> Option<usize>
-    ensures { result ≡ position (λ d. plain.comes_before bound c.now d) list.now }
+/// How two servers compare by that.
+fn start_order(c: &Candidate, d: &Candidate, bound: u128) -> Ordering
+    ensures { is_lt result ≡ plain.comes_before bound c.now d.now }
 {
-    list.iter().position(|d| comes_before(c, d, bound))
-}
-
-/// Puts a server in its place.
-fn insert_in_order(list: &mut Vec<Candidate>, c: Candidate, bound: u128) -> Result<(), NoMemory>
-    ensures { OnOk result (list.new.items ≡ plain.placed bound c list.old.items) }
-{
-    let at = place_of(list, &c, bound).unwrap_or(list.len());
-    list.insert(at, c)?;
-    Ok(())
+    if comes_before(c, d, bound) {
+        Ordering::Less
+    } else if comes_before(d, c, bound) {
+        Ordering::Greater
+    } else {
+        Ordering::Equal
+    }
 }
 
 /// The least estimate.
@@ -92,10 +90,8 @@ fn place_all(
 ) -> Result<Vec<Candidate>, NoMemory>
     ensures { IfOk result (λ list. list.items ≡ plain.placed_all bound candidates.now []) }
 {
-    let mut list = Vec::new(alloc);
-    for c in candidates {
-        insert_in_order(&mut list, *c, bound)?;
-    }
+    let mut list = Vec::from_slice(alloc, candidates)?;
+    list.sort_by(|c, d| start_order(c, d, bound))?;
     Ok(list)
 }
 

@@ -21,7 +21,7 @@ use Rattle.cache_rules.specs.Validity.{with_cache, cached_by, or_unread}
 use Rattle.cache_rules.specs.Viewing.{header_between, view_octets, IsViewable}
 use Rattle.cache_rules.proofs.Headers.{header_long}
 use Rattle.cache_rules.proofs.Saying.{view_made}
-use Rattle.cache_rules.proofs.KeptLaws.{view_laws}
+use Rattle.cache_rules.proofs.ViewLaws.{view_laws}
 use Rattle.client_cache.specs.Keeping.{Stored, Entry, Asked, Outcome, same_class, reflagged, derived, derived_outcome, derived_message, rewritten, revalued, rd_cleared, without_rd}
 use Rattle.proof_cache.specs.Standing.{Anew, KeepsMessage, KeepsResult, Message, Fault, Stands, Derived, Nothing, More}
 use Rattle.proof_cache.specs.Laws.{DerivingIsMoving}

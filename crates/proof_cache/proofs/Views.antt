@@ -20,7 +20,7 @@ use Rattle.cache_rules.specs.Viewing.{header_between, under_header}
 use Rattle.cache_rules.proofs.Headers.{header_long}
 use Rattle.cache_rules.proofs.Saying.{what_is_known}
 use Rattle.cache_rules.proofs.WhatIsMet.{header_is}
-use Rattle.cache_rules.proofs.KeptLaws.{view_laws}
+use Rattle.cache_rules.proofs.ViewLaws.{view_laws}
 use Rattle.client_cache.specs.Keeping.{Stored}
 use Rattle.proof_cache.specs.Standing.{IsKept, Whole, Anew, KeepsMessage}
 use Rattle.proof_cache.proofs.Messages.{between_octets}

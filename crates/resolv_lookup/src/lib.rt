@@ -33,5 +33,5 @@ pub use list_resolver::ListResolver;
 pub use resolver::{AsMessage, Asking, Resolver, SearchNames};
 pub use search::search_host;
 pub use search_iter::SearchIter;
-pub use srv::{FoundSrvs, FoundSrvsIter, lookup_srv};
+pub use srv::{FoundSrvs, IntoSrvs, lookup_srv};
 pub use srv_item::{ResolvedSrvItem, Srv, SrvItem};

@@ -125,10 +125,10 @@ impl FoundSrvs {
     }
 
     /// Where the servers are, in order. It takes no memory.
-    pub fn into_srvs(self) -> FoundSrvsIter
+    pub fn into_srvs(self) -> IntoSrvs
         ensures { result ≡ map (λ item. item.srv) self }
     {
-        FoundSrvsIter { found: self }
+        IntoSrvs { found: self }
     }
 
     /// Adds the items of `other`, and orders them all anew, with a word drawn for each. After `NoMemory`
@@ -175,11 +175,11 @@ fn push_copies(alloc: Global, items: &mut Vec<SrvItem>, found: &FoundSrvs) -> Re
 
 /// Where the servers of a service are that are left to give, in order.
 #[derive(Debug, Drop)]
-pub struct FoundSrvsIter {
+pub struct IntoSrvs {
     found: FoundSrvs,
 }
 
-impl Model for FoundSrvsIter {
+impl Model for IntoSrvs {
     ghost use Rattle.std.specs.Prelude.{List, map};
     ghost use Rattle.resolv_lookup.specs.declared.srv_item.Srv.{Srv};
 
@@ -188,7 +188,7 @@ impl Model for FoundSrvsIter {
     ghost view = { λ f. map (λ item. item.srv) f.found };
 }
 
-impl Iterator for FoundSrvsIter {
+impl Iterator for IntoSrvs {
     type Item = Srv;
 
     ghost next_gives = { YieldsFirst (λ s. s) };

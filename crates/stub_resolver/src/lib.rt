@@ -21,7 +21,7 @@ mod stub;
 pub use query::Query;
 pub use resolv_lookup::{
     Answer, AsMessage, Asking, FoundAddrs, FoundAddrsIter, FoundHosts, FoundHostsIter,
-    FoundHostsSocketIter, FoundSrvs, FoundSrvsIter, HostFault, ListResolver, QueryFault,
+    FoundHostsSocketIter, FoundSrvs, HostFault, IntoSrvs, ListResolver, QueryFault,
     ResolvedSrvItem, Resolver, SearchIter, SearchNames, Srv, SrvError, SrvItem, lookup_addr,
     lookup_host, lookup_srv, order_laws, search_host,
 };

@@ -5,10 +5,9 @@ use crate::messages::Part::{
 };
 use crate::messages::{Written, message_of};
 use cache_rules::AdDo::{Ad, Do, None as Plain};
-use cache_rules::{AdDo, Kept, derived_header, view, view_under};
+use cache_rules::{AdDo, derived_header, view, view_under};
 use client_request::Error;
-use client_settings::cache::Config;
-use dns_base::{Duration, Message, Name};
+use dns_base::{Message, Name};
 use std::alloc::Global;
 
 /// The flags of the first request and of the second, whether RD is cleared, and how many seconds went by.
@@ -213,50 +212,4 @@ fn is_given_under(alloc: Global) -> Result<bool, Error> {
 #[test]
 fn a_kept_header_stands_over_the_entries(rt: HostRuntime) {
     assert_eq!(rt; is_given_under(rt.alloc()), Ok(true));
-}
-
-/// A DO answer as it came, kept for AD, and of that for no flag and without recursion.
-fn first_kept(alloc: Global) -> Result<Kept, Error> {
-    Ok(Kept::first(message_of(alloc, &FLAGS[2].1)?))
-}
-
-fn kept_for_ad(alloc: Global) -> Result<Kept, Error> {
-    first_kept(alloc)?.derive(alloc, Do, Ad, false, &loud_name(alloc)?)
-}
-
-fn kept_for_plain(alloc: Global) -> Result<Kept, Error> {
-    kept_for_ad(alloc)?.derive(alloc, Ad, Plain, true, &loud_name(alloc)?)
-}
-
-/// For how many seconds an entry may be kept, and the octets of its header.
-fn told(kept: Result<Kept, Error>) -> Result<(Duration, [u8; 4]), Error> {
-    let kept = kept?;
-    Ok((kept.validity(&Config::new())?, kept.header().to_octets()))
-}
-
-fn given_of(alloc: Global, kept: &Kept) -> Result<Message, Error> {
-    kept.try_clone()?.give(alloc, Plain, &loud_name(alloc)?, 0)
-}
-
-fn is_given_to_others(alloc: Global) -> Result<bool, Error> {
-    let given = given_of(alloc, &kept_for_plain(alloc)?)?;
-    Ok(is_message(alloc, &given, &FLAGS[2].2))
-}
-
-#[test]
-fn what_is_kept_tells_its_time_and_header(rt: HostRuntime) {
-    let first = told(first_kept(rt.alloc()));
-    assert_eq!(rt; first, Ok((Duration::from_secs(50), [0, 7, 0x81, 0xb0])));
-    let for_ad = told(kept_for_ad(rt.alloc()));
-    assert_eq!(rt; for_ad, Ok((Duration::from_secs(300), [0, 7, 0x81, 0xb0])));
-    let for_plain = told(kept_for_plain(rt.alloc()));
-    assert_eq!(rt;
-        for_plain,
-        Ok((Duration::from_secs(300), [0, 7, 0x80, 0x90]))
-    );
-}
-
-#[test]
-fn what_is_kept_is_given_to_others(rt: HostRuntime) {
-    assert_eq!(rt; is_given_to_others(rt.alloc()), Ok(true));
 }

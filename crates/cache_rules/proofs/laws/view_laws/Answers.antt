@@ -1,4 +1,4 @@
-use Rattle.cache_rules.proofs.KeptLaws.{view_laws}
+use Rattle.cache_rules.proofs.ViewLaws.{view_laws}
 use Rattle.cache_rules.proofs.laws.view_laws.Goals as goal
 
 pub returns : goal.returns

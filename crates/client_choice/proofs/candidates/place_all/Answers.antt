@@ -1,13 +1,15 @@
-use Rattle.std.proofs.Common.{ap, sym, ◌∙◌, ◌+◌, ◌<◌, List, length, drop, rules}
-use Rattle.std.proofs.lemmas.List.{at_drop_more}
-use Rattle.client_choice.specs.declared.candidates.Candidate.{Candidate}
-use Rattle.client_choice.specs.Candidates as plain
+use Rattle.std.proofs.Common.{rules, subst}
+use Rattle.std.proofs.lemmas.Fn.{always_returns_same}
+use Rattle.std.specs.List.Sorted.{IsStableBy}
+use Rattle.client_choice.specs.Candidates.{comes_before}
+use Rattle.client_choice.proofs.Placing.{sorted_is_placed, start_order}
 use Rattle.client_choice.proofs.candidates.place_all.Goals as goal
 
-pub loop-c-preserved : goal.loop-c-preserved
-loop-c-preserved c =
-    let within : c.loop-c.c-index < length c.args.candidates.now = search rules in
-    let none : Candidate = record { server = 0; queue = 0; estimate = 0 } in
-    let all : List Candidate → List Candidate = λ others. plain.placed_all c.args.bound others c.loop-c.list.items in
-    ap (λ list. plain.placed_all c.args.bound (drop (c.loop-c.c-index + 1) c.args.candidates.now) list) c.in_ok-insert_in_order.ensures
-    ∙ (sym (at_drop_more all c.args.candidates.now c.loop-c.c-index none within) ∙ c.loop-c.invariant)
+pub returns : goal.returns
+returns c =
+    let earlier = comes_before c.args.bound in
+    let order = start_order c.args.bound in
+    let stable = c.sort_by.ensures.stable earlier order (always_returns_same _ _ _ (λ a r next called. search rules)) in
+    sorted_is_placed c.args.bound c.args.candidates.now c.sort_by.new.self.items
+    (c.in_ok-sort_by.ensures.sorted earlier order (always_returns_same _ _ _ (λ a r next called. search rules)))
+    (subst (λ all. IsStableBy earlier all c.sort_by.new.self.items) c.in_ok-list.ensures.items stable)

@@ -1,5 +1,5 @@
 use Rattle.std.proofs.Common.{ℕ, ◌∙◌, rules}
-use Rattle.std.proofs.lemmas.List.Sorted.{answers_always, IsNonDecreasingBy-from_sort_by_key}
+use Rattle.std.proofs.lemmas.List.Sorted.{answers_always}
 use Rattle.client_choice.specs.declared.job.ListedServer.{ListedServer}
 use Rattle.client_choice.proofs.Sorting.{sorted_is}
 use Rattle.client_choice.proofs.entries.by_estimate.Goals as goal
@@ -7,6 +7,6 @@ use Rattle.client_choice.proofs.entries.by_estimate.Goals as goal
 pub returns : goal.returns
 returns g c =
     let expected : ListedServer → ℕ = λ e. e.estimate in
-    let up = IsNonDecreasingBy-from_sort_by_key expected _ c.in_ok-sort_by_key.ensures.sorted (λ a r q k. search rules) in
-    let stable = c.in_ok-sort_by_key.ensures.stable expected (answers_always _ _ _ (λ f a r next called. search rules)) in
-    c.from.ensures.0 ∙ sorted_is c.args.servers.now c.in_ok-list.list.items c.sort_by_key.new.self.items c.in_ok-list.ensures up stable
+    let sorted = c.in_ok-sort_by_key.ensures.sorted expected (answers_always _ _ _ (λ f a r next called. search rules)) in
+    let stable = c.sort_by_key.ensures.stable expected (answers_always _ _ _ (λ f a r next called. search rules)) in
+    c.from.ensures.0 ∙ sorted_is c.args.servers.now c.in_ok-list.list.items c.sort_by_key.new.self.items c.in_ok-list.ensures sorted stable
