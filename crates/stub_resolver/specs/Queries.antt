@@ -1,5 +1,6 @@
 -- What a query asks, and what it gets.
 use Rattle.std.specs.Prelude.{◌≡◌, ℕ, ◌==◌, ◌&&◌, ◌||◌, Bool, true, false, List, [], ◌∷◌, ◌++◌, Option, None, Some, Result, Ok, Err}
+use Rattle.dns_names.specs.Name.{Labels}
 use Rattle.dns_base.specs.Query.{query_octets}
 use Rattle.dns_base.specs.Header.{rcode_of}
 use Rattle.client_request.specs.Request.{Request, is_misformed, recorded_from}
