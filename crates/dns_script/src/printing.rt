@@ -4,7 +4,7 @@ ghost use Rattle.std.specs.Prelude.{◌≡◌, ◌++◌, ◌∷◌, [], OnOk, If
 ghost use Rattle.std.specs.Fmt.{decimal};
 ghost use Rattle.std.specs.List.{join_with_byte};
 ghost use Rattle.dns_script.specs.Words.{error_words, fault_word, hex_word, query_error_words};
-ghost use Rattle.dns_script.specs.Lines.{event_line, line, opt_octets, out_line, request_words, result_words, what_words};
+ghost use Rattle.dns_script.specs.Lines.{event_line, line, opt_octets, out_line, out_words, request_words, result_words, what_words};
 ghost use Rattle.dns_script.specs.TraceReading.{IsTrace};
 ghost use Rattle.dns_script.specs.TraceText.{first_line, last_line, row_text, trace_text_of};
 
@@ -125,21 +125,23 @@ fn push_start(text: &mut Vec<u8>, request: u64, server: u32, via: Via) -> Result
     Ok(())
 }
 
-/// Adds the line of a reply.
-fn push_reply(
+/// Adds a reply as a trace tells it behind `> `, and a line feed.
+///
+/// `NoMemory` where memory runs out. What was added until then stays.
+pub fn push_reply(
     text: &mut Vec<u8>,
     request: u64,
     reply: &Result<Message, Error>,
 ) -> Result<(), NoMemory>
-    ensures { OnOk result (text.new.items ≡ text.old.items ++ out_line (Out.Reply request reply.now)) }
+    ensures { OnOk result (text.new.items ≡ text.old.items ++ line (out_words (Out.Reply request reply.now))) }
 {
-    text.extend_from_slice(b"> reply ")?;
+    text.extend_from_slice(b"reply ")?;
     push_number(text, request, b' ')?;
     push_result(text, reply)
 }
 
 /// Writes the line of what was put out, as it stands in a trace.
-pub(crate) fn push_out(text: &mut Vec<u8>, out: &Out) -> Result<(), NoMemory>
+fn push_out(text: &mut Vec<u8>, out: &Out) -> Result<(), NoMemory>
     ensures { OnOk result (text.new.items ≡ text.old.items ++ out_line out.now) }
 {
     match out {
@@ -171,7 +173,10 @@ pub(crate) fn push_out(text: &mut Vec<u8>, out: &Out) -> Result<(), NoMemory>
             text.extend_from_slice(b"> close ")?;
             push_number(text, *place, b'\n')
         }
-        Out::Reply { request, result } => push_reply(text, *request, result),
+        Out::Reply { request, result } => {
+            text.extend_from_slice(b"> ")?;
+            push_reply(text, *request, result)
+        }
     }
 }
 

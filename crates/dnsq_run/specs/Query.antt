@@ -1,13 +1,12 @@
 -- What a query asks, and what comes of it.
 use Rattle.std.specs.Prelude.{◌≡◌, ◌≢◌, ◌⊎◌, ℕ, Bool, true, false, List, [], ◌∷◌, map, Option, None, Some, Result, Ok, Err, IfSome, codes, String}
 use Rattle.std.specs.declared.alloc.Global.{Global}
-use Rattle.dns_base.specs.Draft.{finished, fresh, pushed_question, with_header}
+use Rattle.dns_base.specs.Query.{query_octets}
 use Rattle.client_request.specs.Request.{Request, recorded_from}
 use Rattle.client_request.specs.declared.error.Error.{Error}
 use Rattle.client_request.specs.declared.event.Event.{Event}
 use Rattle.client_request.specs.declared.event.Out.TheVariants.{Reply}
-use Rattle.client_request.specs.declared.event.Row.{Row}
-use Rattle.client_request.specs.declared.event.What.TheVariants.{Ask, Tick}
+use Rattle.client_request.specs.declared.event.What.TheVariants.{Ask}
 use Rattle.client_settings.specs.Settings.{default_cache, default_redundant}
 use Rattle.client_steps.specs.Headline.{conf_of, settings_of}
 use Rattle.client_steps.specs.Whole.{Whole, plain_trace, started}
@@ -36,13 +35,9 @@ abbrev pub conf_at : Option ℕ → ResolvConf → ResolvConf
 conf_at None conf = conf
 conf_at (Some port) conf = record conf { servers = map (at_port port) conf.servers }
 
--- the header of a question with recursion desired
-abbrev pub recursive : List ℕ
-recursive = 0 ∷ 0 ∷ 1 ∷ 0 ∷ []
-
--- the request: its one question, of class IN
+-- the request: its one question, of class IN, recursion desired
 abbrev pub request_of : Query → Request
-request_of q = recorded_from (finished (pushed_question (record { name = q.name; rtype = q.rtype.0; class = 1 }) (with_header recursive (fresh None))))
+request_of q = recorded_from (query_octets q.name q.rtype.0)
 
 -- the words that come, what the edge tells, its count of polls, and the moments that the clock tells
 pub record World : Type 0 where
@@ -96,10 +91,6 @@ pub record StopsAsking (q : Query) (told : Option (List ℕ)) (words : ℕ → �
   pub conf : ResolvConf
   pub is_conf : IsConfOf q told conf
   pub stopped : Stops q conf words old new
-
--- a trace of the reply to request 0 alone
-abbrev pub one_reply : Result (List ℕ) Error → List Row
-one_reply reply = record { event = record { moment = record { 0 = 0 }; what = Tick }; outs = Reply 0 reply ∷ [] } ∷ []
 
 -- what is written for an answer: the line of the reply, or that there is none
 abbrev pub answer_line : Option (Result (List ℕ) Error) → List ℕ

@@ -19,7 +19,6 @@ mod lines;
 mod number;
 mod query;
 mod query_words;
-mod question;
 mod replay;
 mod run;
 mod short_words;

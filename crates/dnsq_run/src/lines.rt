@@ -2,10 +2,11 @@
 
 ghost use Rattle.std.specs.Prelude.{◌≡◌, ◌≢◌, ◌⊎◌, ◌++◌, IfOk, codes};
 ghost use Rattle.std.specs.Fmt.{decimal};
-ghost use Rattle.dnsq_run.specs.Program.{IsEarly, status_of, line_of};
+ghost use Rattle.dnsq_run.specs.Program.{IsEarly, status_of, line_of, numbers_line};
 
 use crate::ending::Ending;
-use crate::statuses::{NO_MEMORY, REFUSED};
+use crate::statuses::{NO_MEMORY, NUMBERS_USED, REFUSED};
+use client_request::Error;
 use dns_base::Status;
 use std::alloc::{AllocError, Global};
 
@@ -37,5 +38,18 @@ pub fn refused_line(alloc: Global, line: u64) -> Ending
     match line_text(alloc, line) {
         Ok(text) => Ending::Says(REFUSED, text),
         Err(_) => Ending::Silent(NO_MEMORY),
+    }
+}
+
+/// How a command ends of which the client refused a step.
+pub(crate) fn refusal(alloc: Global, error: Error) -> Ending
+    ensures early { IsEarly result }
+    ensures numbers { status_of result ≡ 7 → error ≡ Error.NumbersUsed }
+    ensures line { status_of result ≡ 7 → line_of result ≡ numbers_line }
+    ensures others { (status_of result ≢ 1) × (status_of result ≢ 3) }
+{
+    match error {
+        Error::NumbersUsed => says(alloc, NUMBERS_USED, "numbers used\n"),
+        _ => Ending::Silent(NO_MEMORY),
     }
 }

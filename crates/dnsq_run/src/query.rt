@@ -3,21 +3,19 @@
 ghost use Rattle.std.specs.Prelude.{◌≡◌, ◌≢◌, ◌≤◌, [], length, map, Some, IfSome, OnOk, IfOk, IfErr, IsErrOf};
 ghost use Rattle.dns_values.specs.Source.{Rose};
 ghost use Rattle.dnsq_run.specs.Program.{IsEarly, IsRefused, status_of, line_of, numbers_line};
-ghost use Rattle.dnsq_run.specs.Query.{IsAsked, IsReplied, Stops, StopsAsking, answer_line, at_port, conf_at, is_message, one_reply, around};
+ghost use Rattle.dnsq_run.specs.Query.{IsAsked, IsReplied, Stops, StopsAsking, answer_line, at_port, conf_at, is_message, request_of, around};
 
 use crate::configure::configuration;
 use crate::ending::Ending;
-use crate::lines::says;
+use crate::lines::refusal;
 use crate::query_words::Query;
-use crate::question::request_of;
-use crate::statuses::{NO_MEMORY, NUMBERS_USED};
 use crate::usage::Command;
 use client_core::{Client, Clock, Edge, cache, redundant};
 use client_loop::{ask, learn_all};
 use client_replay::every_plain_trace_is_right;
-use client_request::{Error, Event, Moment, Out, Outs, Row, Rows, Trace, What, Words};
+use client_request::{Error, RequestMessage, Words};
 use dns_base::{Message, NoMemory};
-use dns_script::trace_text;
+use dns_script::push_reply;
 use dns_values::Source;
 use resolv_conf::{ResolvConf, Servers};
 use std::alloc::Global;
@@ -50,41 +48,16 @@ fn conf_at(port: Option<u16>, conf: ResolvConf) -> ResolvConf
     }
 }
 
-/// A row that has one out, the reply to request 0.
-fn row_of(alloc: Global, reply: Result<Message, Error>) -> Result<Rows, NoMemory>
-    ensures { IfOk result (λ rows. rows ≡ one_reply reply) }
-{
-    let mut outs = Outs::new(alloc);
-    outs.push(Out::Reply {
-        request: 0,
-        result: reply,
-    })?;
-    let event = Event {
-        moment: Moment(0),
-        what: What::Tick,
-    };
-    let mut rows = Rows::new(alloc);
-    rows.push(Row { event, outs })?;
-    Ok(rows)
-}
-
-/// The line of a reply: that of a trace, without what stands before it there and behind it.
-fn reply_line(alloc: Global, reply: Result<Message, Error>) -> Result<Vec<u8>, NoMemory>
-    ensures { IfOk result (λ v. v.items ≡ answer_line (Some reply)) }
-{
-    let rows = row_of(alloc, reply)?;
-    let text = trace_text(alloc, &Trace { rows })?;
-    Ok(Vec::from_slice(alloc, &text[20..text.len() - 4])?)
-}
-
 /// What is written for an answer: the line of the reply, or that there is none.
 pub fn answer_line(alloc: Global, answer: Answer) -> Result<Vec<u8>, NoMemory>
     ensures { IfOk result (λ v. v.items ≡ answer_line answer) }
 {
+    let mut line = Vec::new(alloc);
     match answer {
-        Some(reply) => reply_line(alloc, reply),
-        None => Ok(Vec::from_slice(alloc, b"no reply\n")?),
+        Some(reply) => push_reply(&mut line, 0, &reply)?,
+        None => line.extend_from_slice(b"no reply\n")?,
     }
+    Ok(line)
 }
 
 /// Whether an answer is a message.
@@ -94,17 +67,13 @@ pub fn is_message(answer: &Answer) -> bool
     matches!(answer, Some(Ok(_)))
 }
 
-/// How a query ends whose asking was refused.
-fn refusal(alloc: Global, error: Error) -> Ending
-    ensures early { IsEarly result }
-    ensures numbers { status_of result ≡ 7 → error ≡ Error.NumbersUsed }
-    ensures line { status_of result ≡ 7 → line_of result ≡ numbers_line }
-    ensures others { (status_of result ≢ 1) × (status_of result ≢ 3) }
+/// The request of a query: its one question, of class IN, recursion desired.
+fn request_of(alloc: Global, query: &Query) -> Result<RequestMessage, Error>
+    ensures made { IfOk result (λ r. r ≡ request_of query.now) }
+    ensures refused { IfErr result (λ e. e ≢ Error.NumbersUsed) }
 {
-    match error {
-        Error::NumbersUsed => says(alloc, NUMBERS_USED, "numbers used\n"),
-        _ => Ending::Silent(NO_MEMORY),
-    }
+    let message = Message::query(alloc, &query.name, query.rtype)?;
+    RequestMessage::new(alloc, message)
 }
 
 /// What the servers of a configuration answer to a query.

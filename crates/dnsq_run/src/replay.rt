@@ -9,17 +9,17 @@ ghost use Rattle.right_trace.specs.Hit.{AllHit};
 ghost use Rattle.right_trace.specs.Right.{Right};
 ghost use Rattle.right_trace.specs.Timely.{Timely};
 ghost use Rattle.dns_script.specs.ScriptReading.{IsScript};
-ghost use Rattle.dnsq_run.specs.Program.{first_lane, rows_of, IsReplayed, IsRefused, StopsForNumbers, IsEarly, status_of, line_of, numbers_line};
+ghost use Rattle.dnsq_run.specs.Program.{rows_of, IsReplayed, IsRefused, StopsForNumbers, IsEarly, status_of, line_of, numbers_line};
 
 use crate::ending::Ending;
-use crate::lines::{refused_line, says};
-use crate::statuses::{NO_MEMORY, NUMBERS_USED, REFUSED, SOURCE_FAULT};
-use crate::telling::text_of;
+use crate::lines::{refusal, refused_line, says};
+use crate::statuses::{NO_MEMORY, REFUSED, SOURCE_FAULT};
+use crate::telling::{first_lane, text_of};
 use crate::usage::Command;
 use client_core::Client;
 use client_replay::Replay;
-use client_request::{Error, Event, ListWords, Trace};
-use dns_script::{Lanes, Script, ScriptFault, read_script};
+use client_request::{ListWords, Trace};
+use dns_script::{Script, ScriptFault, read_script};
 use dns_values::{ReadFault, Source, read_to_end};
 use std::alloc::Global;
 
@@ -58,16 +58,6 @@ fn script_of(alloc: Global, text: &[u8]) -> Result<Script, Ending>
     }
 }
 
-/// The events of the first lane.
-fn first_lane(lanes: &Lanes) -> &[Event]
-    ensures { result.now ≡ first_lane lanes.now }
-{
-    match lanes.as_slice() {
-        [] => &[],
-        [events, ..] => events.as_slice(),
-    }
-}
-
 /// The trace of a script with one lane.
 pub fn trace_of(alloc: Global, script: Script) -> Result<Trace, Ending>
     ensures plain { IfOk result (λ t. rows_of script ≡ Some t.rows) }
@@ -87,17 +77,17 @@ pub fn trace_of(alloc: Global, script: Script) -> Result<Trace, Ending>
         lanes,
     } = script;
     let mut words = ListWords::new(words);
+    let events = first_lane(alloc, lanes);
     match Client::replay(
         alloc,
         &conf,
         redundant,
         cache,
         &mut words,
-        first_lane(&lanes),
+        events.as_slice(),
     ) {
         Ok(trace) => Ok(trace),
-        Err(Error::NumbersUsed) => Err(says(alloc, NUMBERS_USED, "numbers used\n")),
-        Err(_) => Err(Ending::Silent(NO_MEMORY)),
+        Err(error) => Err(refusal(alloc, error)),
     }
 }
 

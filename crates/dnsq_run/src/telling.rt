@@ -7,9 +7,8 @@ ghost use Rattle.dns_script.specs.TraceText.{first_line, trace_text_of};
 ghost use Rattle.dnsq_run.specs.Program.{first_lane, rows_of, IsTold, IsEarly, status_of, line_of, numbers_line};
 
 use crate::ending::Ending;
-use crate::lines::says;
+use crate::lines::refusal;
 use crate::short_words::words_are_short;
-use crate::statuses::{NO_MEMORY, NUMBERS_USED};
 use client_core::{Client, all_asked_in_octets, all_in_octets, cache, redundant};
 use client_replay::{every_plain_trace_hits, every_plain_trace_is_right};
 use client_request::{Error, Events, ListWords, Words};
@@ -19,7 +18,7 @@ use resolv_conf::ResolvConf;
 use std::alloc::Global;
 
 /// The events of the first lane.
-fn first_of(alloc: Global, lanes: Lanes) -> Events
+pub(crate) fn first_lane(alloc: Global, lanes: Lanes) -> Events
     ensures { result ≡ first_lane lanes }
 {
     let mut lanes = lanes.into_vec();
@@ -82,7 +81,7 @@ pub fn text_of(alloc: Global, script: Script, room: Vec<u8>) -> Result<Vec<u8>, 
     } = script;
     words_are_short(words.as_slice());
     let mut words = ListWords::new(words);
-    let events = first_of(alloc, lanes);
+    let events = first_lane(alloc, lanes);
     cache.max_validity_is_limited();
     all_asked_in_octets(events.as_slice());
     all_in_octets(events.as_slice());
@@ -90,7 +89,6 @@ pub fn text_of(alloc: Global, script: Script, room: Vec<u8>) -> Result<Vec<u8>, 
     every_plain_trace_hits();
     match told(alloc, &conf, redundant, cache, &mut words, events, room) {
         Ok(text) => Ok(text),
-        Err(Error::NumbersUsed) => Err(says(alloc, NUMBERS_USED, "numbers used\n")),
-        Err(_) => Err(Ending::Silent(NO_MEMORY)),
+        Err(error) => Err(refusal(alloc, error)),
     }
 }

@@ -14,7 +14,6 @@
 mod asking;
 mod lookups;
 mod query;
-mod question;
 mod running;
 mod stub;
 
