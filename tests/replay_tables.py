@@ -10,7 +10,8 @@ two questions that share a stream. Of each there is a script for each fault, at 
 end. Of the last there is one whose octets come one by one, and one for each place at which they can be cut in two. Then come
 a moment past which there is no other, moments that go back, events for a place that is not there, writes that take nothing, a
 thousand answers under other ids before the true one, and worked scripts of answers that are errors, of streams that end, of
-several servers, and of what a cache gives.
+several servers, and of what a cache gives: for each request by its type, its flags and DO, which others its answer serves
+(that the reference serves just those is checked by the rule, written again here), how an answer ages, and what is not kept.
 """
 
 import subprocess
@@ -127,6 +128,80 @@ def of_a_cache():
         "at 60000000 " + asked for asked in (plain + "00000120 -", ASK, plain + "00000110 -", do)]
 
 
+DO = "0000290000000080000000"
+LOOKUPS = [(kind, rd, cd) for kind in ("do", "ad", "none") for rd in (0, 1) for cd in (0, 1)]
+
+
+def asked(name, rtype, lookup, qclass=1):
+    """A request with these flags, as an event; in `name` in hexadecimal digits."""
+    kind, rd, cd = lookup
+    flags = "%02x%02x" % (rd, 0x20 * (kind == "ad") | 0x10 * cd)
+    base = "0000%s00010000000000" % flags + "00%s%04x%04x" % (name, rtype, qclass)
+    return "ask %s 0000%s %s" % (base, flags, DO if kind == "do" else "-")
+
+
+def answered(name, rtype, flags, records, count, qclass=1):
+    return "0000%s0001%04x00000000%s%04x%04x%s" % (flags, count, name, rtype, qclass, records)
+
+
+def serves(first, second, rtype):
+    """Whether an answer to the first request serves the second (RFC 4035 4.6, RFC 6840 5.7)."""
+    has_flags = first[0] == second[0] or (first[0] == "do" and rtype != 46) or (first[0], second[0]) == ("ad", "none")
+    return has_flags and first[2] == second[2] and (first[1] or not second[1])
+
+
+def of_lookups():
+    """For each request twelve names are asked for so and answered, and then each of them by another request."""
+    for rtype in (1, 46):
+        record = "c00c%04x00010000003c00040a000001" % rtype
+        names = ["02%02x%02x" % (97 + k // 4, 97 + k % 4) + NAME for k in range(len(LOOKUPS))]
+        for first in LOOKUPS:
+            events = []
+            for k, name in enumerate(names):
+                events += [asked(name, rtype, first), "opened %d" % k,
+                           "datagram %d %s" % (k, answered(name, rtype, "8180", record, 1))]
+            events += [asked(name, rtype, second) for name, second in zip(names, LOOKUPS)]
+            yield looked_up(rtype, first), ["conf nameserver 192.0.2.53"] + ["at 0 " + event for event in events]
+
+
+def looked_up(rtype, first):
+    return "what an answer serves: type %d, %s, rd %d, cd %d" % ((rtype,) + first)
+
+
+def are_served(due, rtype, first):
+    """Whether in a trace the last twelve requests are answered at once just where the first serves them."""
+    rows = due.split("\nat ")[-len(LOOKUPS):]
+    return all(("\n> reply" in row) == bool(serves(first, second, rtype)) for row, second in zip(rows, LOOKUPS))
+
+
+def of_kept_answers():
+    plain, do, ad, no_rd = ("none", 1, 0), ("do", 1, 0), ("ad", 1, 0), ("none", 0, 0)
+    minute = "c00c000100010000003c00040a000001"
+    signature = "c00c002e00010000003c000401020304"
+
+    def come(place, records, count, qclass=1, name=NAME):
+        return ["at 0 opened %d" % place,
+                "at 0 datagram %d %s" % (place, answered(name, 1, "85a0", records, count, qclass))]
+
+    def at(moment, lookup, qclass=1, name=NAME):
+        return ["at %d %s" % (moment, asked(name, 1, lookup, qclass))]
+
+    head = ["conf nameserver 192.0.2.53"]
+    yield "an answer that serves to its last microsecond", head + at(0, plain) + come(0, minute, 1) + at(30500000, plain) + at(
+        60000000, plain) + at(60000001, plain)
+    yield "views that age from the first answer", head + at(0, do) + come(0, minute + signature, 2) + at(10000000, no_rd) + at(
+        20000000, plain) + at(20000000, no_rd) + at(60000001, no_rd)
+    yield "an error that is kept from when it came", head + at(0, plain) + ["at 0 open-failed 0 refused"] + at(
+        30000000, plain) + at(30000001, plain)
+    yield "what was not used for longest", head + ["set max-cache-entries 2"] + at(0, plain) + come(0, minute, 1) + at(
+        0, ad) + come(1, minute, 1) + at(0, plain) + at(0, do) + come(2, minute, 1) + at(0, plain)
+    yield "an answer that can't be read", head + at(0, plain) + come(0, "", 1) + at(0, plain)
+    yield "another class", head + at(0, plain, 3) + come(0, "", 1, 3) + at(0, plain, 3)
+    yield "an answer for no time", head + at(0, plain) + come(0, "", 0) + at(0, plain)
+    loud = "074558414d504c4503434f4d00"
+    yield "a name in upper case", head + at(0, plain) + come(0, minute, 1) + at(0, plain, 1, loud)
+
+
 def scripts():
     yield "a datagram", sum(DATAGRAM, [])
     yield "truncated", sum(TRUNCATED, [])
@@ -139,6 +214,8 @@ def scripts():
     yield from of_one_server()
     yield from of_two_servers()
     yield from of_a_cache()
+    yield from of_lookups()
+    yield from of_kept_answers()
 
 
 def replayed(folder, lines):
@@ -154,6 +231,10 @@ def main():
     for name, lines in scripts():
         told.append("script %s\n%s\n" % (name, "\n".join(lines)))
         due.append("script %s\n%s" % (name, replayed(sys.argv[1], lines)))
+    traces = dict(zip((name for name, _ in scripts()), due))
+    for rtype, first in ((rtype, first) for rtype in (1, 46) for first in LOOKUPS):
+        if not are_served(traces[looked_up(rtype, first)], rtype, first):
+            sys.exit("%s: the reference client serves others" % looked_up(rtype, first))
     for file, text in (("stdin", "".join(told)), ("stdout", "".join(due))):
         if "--check" not in sys.argv:
             (TABLES / file).write_text(text)

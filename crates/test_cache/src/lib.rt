@@ -1,9 +1,6 @@
-//! Tests of the cache, through its public calls.
+//! Tests of the cache's calls that no run of the program makes. What it keeps and gives is shown by the stored run of
+//! `tool_replays`.
 #![tactic(auto)]
 
 #[cfg(test)]
-mod lookups;
-#[cfg(test)]
-mod runs;
-#[cfg(test)]
-mod world;
+mod below;

@@ -1,10 +1,13 @@
 //! Which results are put off, and which of them is given in the end.
 
-use crate::world::Told::*;
-use crate::world::{Given, Told, are_given, choice_among, first_given, next_due, tell_all};
+use crate::world::{
+    FAILED, NO_LEAVE, NO_NAME, NXDOMAIN, REFUSES, SERVFAIL, choice_among, tell_all,
+};
 use client_choice::redundant::Config;
 use client_request::{Error, Fault, QueryError};
 use std::alloc::Global;
+use test_world::Told::*;
+use test_world::{Given, Told, are_given, first_given};
 
 /// A word that asks for no probe.
 const HIGH: u64 = u64::MAX;
@@ -12,9 +15,9 @@ const HIGH: u64 = u64::MAX;
 /// What the first server gives: an error, an answer with REFUSED, with SERVFAIL, and with a code that is never put off.
 const FIRST_RESULTS: [&[Told]; 4] = [
     &[Ask, Refused(0)],
-    &[Ask, Opened(0), Answer(0, 5)],
-    &[Ask, Opened(0), Answer(0, 2)],
-    &[Ask, Opened(0), Answer(0, 3)],
+    &[Ask, Opened(0), Datagram(0, &REFUSES)],
+    &[Ask, Opened(0), Datagram(0, &SERVFAIL)],
+    &[Ask, Opened(0), Datagram(0, &NXDOMAIN)],
 ];
 
 /// Settings: whether errors, REFUSED and SERVFAIL are put off; and which of the results above are then put off.
@@ -58,16 +61,12 @@ fn setting_holds(alloc: Global, setting: &Setting) -> bool {
         && is_as_said(alloc, config, FIRST_RESULTS[3], setting.1[3])
 }
 
-/// The first settings that do not hold, with their number.
-fn fault_in(alloc: Global) -> Option<usize> {
-    SETTINGS
-        .iter()
-        .position(|setting| !setting_holds(alloc, setting))
-}
-
 #[test]
 fn results_are_put_off_as_is_set(rt: HostRuntime) {
-    assert_eq!(rt; fault_in(rt.alloc()), None);
+    let fault = SETTINGS
+        .iter()
+        .position(|setting| !setting_holds(rt.alloc(), setting));
+    assert_eq!(rt; fault, None);
 }
 
 const REFUSED: Error = Error::Dgram(QueryError::Connect(Fault::Refused));
@@ -91,47 +90,71 @@ const ENDS: [End; 9] = [
     // A message, whichever came first.
     (
         &[HIGH],
-        &[Ask, Refused(0), Opened(1), Answer(1, 2)],
-        &[(0, Ok(2))],
+        &[Ask, Refused(0), Opened(1), Datagram(1, &SERVFAIL)],
+        &[(0, Ok(FAILED))],
         None,
     ),
     (
         &[HIGH],
-        &[Ask, Opened(0), Answer(0, 5), Refused(1)],
-        &[(0, Ok(5))],
+        &[Ask, Opened(0), Datagram(0, &REFUSES), Refused(1)],
+        &[(0, Ok(NO_LEAVE))],
         None,
     ),
     // Of two messages the first.
     (
         &[HIGH],
-        &[Ask, Opened(0), Answer(0, 5), Opened(1), Answer(1, 2)],
-        &[(0, Ok(5))],
+        &[
+            Ask,
+            Opened(0),
+            Datagram(0, &REFUSES),
+            Opened(1),
+            Datagram(1, &SERVFAIL),
+        ],
+        &[(0, Ok(NO_LEAVE))],
         None,
     ),
     (
         &[HIGH],
-        &[Ask, Opened(0), Answer(0, 2), Opened(1), Answer(1, 5)],
-        &[(0, Ok(2))],
+        &[
+            Ask,
+            Opened(0),
+            Datagram(0, &SERVFAIL),
+            Opened(1),
+            Datagram(1, &REFUSES),
+        ],
+        &[(0, Ok(FAILED))],
         None,
     ),
     // What is not put off is better than all.
     (
         &[HIGH],
-        &[Ask, Opened(0), Answer(0, 2), Opened(1), Answer(1, 3)],
-        &[(0, Ok(3))],
+        &[
+            Ask,
+            Opened(0),
+            Datagram(0, &SERVFAIL),
+            Opened(1),
+            Datagram(1, &NXDOMAIN),
+        ],
+        &[(0, Ok(NO_NAME))],
         None,
     ),
     // What is put off waits while another server may still answer, also where that one was started before.
     (
         &[HIGH],
-        &[Ask, Later(300_000), Opened(1), Answer(1, 2)],
+        &[Ask, Later(300_000), Opened(1), Datagram(1, &SERVFAIL)],
         &[],
         None,
     ),
     (
         &[HIGH],
-        &[Ask, Later(300_000), Opened(1), Answer(1, 2), Refused(0)],
-        &[(0, Ok(2))],
+        &[
+            Ask,
+            Later(300_000),
+            Opened(1),
+            Datagram(1, &SERVFAIL),
+            Refused(0),
+        ],
+        &[(0, Ok(FAILED))],
         None,
     ),
     // The second server is probed and fails, the first one is refused, and the message of the second is given. No estimate
@@ -142,12 +165,12 @@ const ENDS: [End; 9] = [
             Ask,
             Opened(0),
             Later(10_000),
-            Answer(0, 2),
+            Datagram(0, &SERVFAIL),
             Later(10_000),
             Refused(1),
             Ask,
         ],
-        &[(0, Ok(2))],
+        &[(0, Ok(FAILED))],
         Some(320_000),
     ),
 ];
@@ -155,16 +178,13 @@ const ENDS: [End; 9] = [
 fn end_holds(alloc: Global, end: &End) -> Result<bool, Error> {
     let mut world = choice_among(alloc, config_of(&[true, true, true]), 2, end.0)?;
     tell_all(alloc, &mut world, end.1)?;
-    Ok(are_given(&mut world, end.2) && next_due(&world) == end.3)
-}
-
-/// The first end that does not hold, with its number.
-fn fault_in_ends(alloc: Global) -> Option<usize> {
-    ENDS.iter()
-        .position(|end| !end_holds(alloc, end).is_ok_and(|holds| holds))
+    Ok(are_given(&mut world, end.2) && world.lent.next_due() == end.3)
 }
 
 #[test]
 fn the_best_of_what_was_put_off_is_given(rt: HostRuntime) {
-    assert_eq!(rt; fault_in_ends(rt.alloc()), None);
+    let fault = ENDS
+        .iter()
+        .position(|end| end_holds(rt.alloc(), end) != Ok(true));
+    assert_eq!(rt; fault, None);
 }

@@ -1,13 +1,12 @@
 //! Whole runs of a choice: what it is told, what it puts out, and which results come.
 
-use crate::world::Deed::*;
-use crate::world::Told::*;
-use crate::world::{
-    Deed, Given, Told, are_given, are_put_out, choice_among, first_result, next_due, tell_all,
-};
+use crate::world::{NO_NAME, NXDOMAIN, choice_among, tell_all};
 use client_choice::redundant::Config;
 use client_request::{Error, Fault, QueryError};
 use std::alloc::Global;
+use test_world::Deed::*;
+use test_world::Told::*;
+use test_world::{Deed, Given, Told, are_given, are_put_out, result_of};
 
 /// What a run is: how many servers there are, the words that are drawn, what is told, what is put out, the results that come, in
 /// order, and when the next timer is due.
@@ -42,8 +41,8 @@ const RUNS: [Run; 11] = [
     (
         1,
         &[1],
-        &[Ask, Opened(0), Answer(0, 3)],
-        &[Opens(0, 0), Sends(0, 0)],
+        &[Ask, Opened(0), Datagram(0, &NXDOMAIN)],
+        &[Opens(0, 0), Sends(0, 0, 1)],
         &[],
         Some(5_000_000),
     ),
@@ -57,18 +56,18 @@ const RUNS: [Run; 11] = [
             Later(300_000),
             Opened(1),
             Later(20_000),
-            Answer(1, 3),
+            Datagram(1, &NXDOMAIN),
             Ask,
         ],
         &[
             Opens(0, 1),
             Opens(1, 0),
-            Sends(1, 0),
+            Sends(1, 0, 0),
             Closes(1),
             Closes(0),
             Opens(2, 1),
         ],
-        &[(0, Ok(3))],
+        &[(0, Ok(NO_NAME))],
         Some(585_000),
     ),
     // The same with three servers, but the next request is not probed. The first server is asked for the 265 milliseconds
@@ -82,7 +81,7 @@ const RUNS: [Run; 11] = [
             Later(300_000),
             Opened(1),
             Later(20_000),
-            Answer(1, 3),
+            Datagram(1, &NXDOMAIN),
             Ask,
             Later(265_000),
             Later(300_000),
@@ -90,14 +89,14 @@ const RUNS: [Run; 11] = [
         &[
             Opens(0, 1),
             Opens(1, 0),
-            Sends(1, 0),
+            Sends(1, 0, 0),
             Closes(1),
             Closes(0),
             Opens(2, 0),
             Opens(3, 2),
             Opens(4, 1),
         ],
-        &[(0, Ok(3))],
+        &[(0, Ok(NO_NAME))],
         None,
     ),
     // An error is the result where nothing is put off, and no second server is asked.
@@ -140,9 +139,9 @@ const RUNS: [Run; 11] = [
     (
         2,
         &[],
-        &[AskOf(11), Opened(0), Answer(0, 3)],
-        &[Opens(0, 1), Sends(0, 0), Closes(0)],
-        &[(0, Ok(3))],
+        &[AskOf(11), Opened(0), Datagram(0, &NXDOMAIN)],
+        &[Opens(0, 1), Sends(0, 0, 0), Closes(0)],
+        &[(0, Ok(NO_NAME))],
         None,
     ),
     // Two requests share the servers, and each has its own timer.
@@ -168,48 +167,47 @@ const RUNS: [Run; 11] = [
 fn holds(alloc: Global, run: &Run) -> Result<bool, Error> {
     let mut world = choice_among(alloc, Config::new(), run.0, run.1)?;
     tell_all(alloc, &mut world, run.2)?;
-    Ok(are_put_out(&world, run.3) && are_given(&mut world, run.4) && next_due(&world) == run.5)
-}
-
-/// The first run that does not hold, with its number.
-fn fault_in(alloc: Global) -> Option<usize> {
-    RUNS.iter()
-        .position(|run| !holds(alloc, run).is_ok_and(|holds| holds))
+    Ok(
+        are_put_out(&world.lent.outs, run.3)
+            && are_given(&mut world, run.4)
+            && world.lent.next_due() == run.5,
+    )
 }
 
 #[test]
 fn a_choice_does_what_its_runs_say(rt: HostRuntime) {
-    assert_eq!(rt; fault_in(rt.alloc()), None);
+    let fault = RUNS
+        .iter()
+        .position(|run| holds(rt.alloc(), run) != Ok(true));
+    assert_eq!(rt; fault, None);
 }
 
-/// What stands for the result of the first of a run's requests.
-fn result_of(alloc: Global, told: &[Told]) -> Result<Option<Result<u8, Error>>, Error> {
+/// Whether what stands for a request has its result once that came.
+fn has_result(alloc: Global) -> Result<bool, Error> {
     let mut world = choice_among(alloc, Config::new(), 1, &[])?;
-    tell_all(alloc, &mut world, told)?;
-    Ok(first_result(&mut world))
+    tell_all(alloc, &mut world, &[Ask, Opened(0), Datagram(0, &NXDOMAIN)])?;
+    Ok(result_of(&mut world, 0) == Some(Ok(NO_NAME)))
 }
 
-#[test]
-fn the_response_has_the_result(rt: HostRuntime) {
-    let told = [Ask, Opened(0), Answer(0, 3)];
-    assert_eq!(rt; result_of(rt.alloc(), &told), Ok(Some(Ok(3))));
-}
+/// What comes of it that a request is sent to the server of an identifier, of two: they have identifiers from 10 on.
+type Sent = (u64, Result<(), Error>);
 
-/// What comes of it that a request is sent to the server of an identifier, of two.
-fn sent_on(alloc: Global, id: u64) -> Result<(), Error> {
+const SENT: [Sent; 3] = [
+    (9, Err(Error::RedundantTransportNotFound)),
+    (10, Ok(())),
+    (12, Err(Error::RedundantTransportNotFound)),
+];
+
+fn is_sent_so(alloc: Global, row: &Sent) -> Result<bool, Error> {
     let mut world = choice_among(alloc, Config::new(), 2, &[])?;
-    tell_all(alloc, &mut world, &[AskOf(id)])
+    Ok(tell_all(alloc, &mut world, &[AskOf(row.0)]) == row.1)
 }
 
 #[test]
-fn servers_have_identifiers_from_10_on(rt: HostRuntime) {
-    assert_eq!(rt;
-        sent_on(rt.alloc(), 9),
-        Err(Error::RedundantTransportNotFound)
-    );
-    assert_eq!(rt; sent_on(rt.alloc(), 10), Ok(()));
-    assert_eq!(rt;
-        sent_on(rt.alloc(), 12),
-        Err(Error::RedundantTransportNotFound)
+fn a_response_has_its_result_and_a_server_its_identifier(rt: HostRuntime) {
+    assert_eq!(rt; has_result(rt.alloc()), Ok(true));
+    assert!(rt;
+        SENT.iter()
+            .all(|row| is_sent_so(rt.alloc(), row) == Ok(true))
     );
 }
