@@ -1,10 +1,19 @@
 //! Whole runs of a balancer: which servers are asked, in which order, and which results come.
 
-use crate::world::Deed::*;
-use crate::world::Told::*;
-use crate::world::{Deed, Given, Told, are_given, are_put_out, balancer, first_code, tell_all};
+use crate::world::{balancer, tell_all};
 use client_request::Error;
 use std::alloc::Global;
+use test_world::Deed::*;
+use test_world::Told::*;
+use test_world::{Deed, Given, Head, Told, are_given, are_put_out, result_of};
+
+/// An answer: there is no such name.
+const ANSWER: [u8; 12] = [0, 0, 0x81, 0x83, 0, 0, 0, 0, 0, 0, 0, 0];
+
+/// What is seen of it, and of what is answered without a server, under SERVFAIL.
+const NO_NAME: Head = [0, 0, 0x81, 0x83];
+
+const NO_SERVER: Head = [0, 0, 0x81, 2];
 
 /// The factor, the limit of each server's bursts, the first words, what is told, what is put out, and the results that
 /// come, in order.
@@ -29,24 +38,24 @@ const THIRD: u64 = 1 << 63;
 
 const RUNS: [Run; 15] = [
     // Without a server the answer is SERVFAIL, at once.
-    (5000, &[], &[], &[Ask], &[], &[(0, Ok(2))]),
+    (5000, &[], &[], &[Ask], &[], &[(0, Ok(NO_SERVER))]),
     // What a server answers is the result.
     (
         5000,
         &[None],
         &[],
-        &[Ask, Opened(0), Answer(0)],
-        &[Opens(0, 0), Sends(0, 0), Closes(0)],
-        &[(0, Ok(3))],
+        &[Ask, Opened(0), Datagram(0, &ANSWER)],
+        &[Opens(0, 0), Sends(0, 0, 0), Closes(0)],
+        &[(0, Ok(NO_NAME))],
     ),
     // What goes past the balancer counts in no burst.
     (
         5000,
         &[Some(1)],
         &[],
-        &[AskOf(10), Ask, Ask, Opened(0), Answer(0)],
-        &[Opens(0, 0), Opens(1, 0), Sends(0, 0), Closes(0)],
-        &[(2, Ok(2)), (0, Ok(3))],
+        &[AskOf(10), Ask, Ask, Opened(0), Datagram(0, &ANSWER)],
+        &[Opens(0, 0), Opens(1, 0), Sends(0, 0, 0), Closes(0)],
+        &[(2, Ok(NO_SERVER)), (0, Ok(NO_NAME))],
     ),
     // Two requests in a second, and no third one until that second has passed.
     (
@@ -55,7 +64,7 @@ const RUNS: [Run; 15] = [
         &[],
         &[Ask, Ask, Ask, Later(1_000_000), Ask, Later(1), Ask],
         &[Opens(0, 0), Opens(1, 0), Opens(2, 0)],
-        &[(2, Ok(2)), (3, Ok(2))],
+        &[(2, Ok(NO_SERVER)), (3, Ok(NO_SERVER))],
     ),
     // A burst that begins anew begins at its first request.
     (
@@ -73,7 +82,7 @@ const RUNS: [Run; 15] = [
             Ask,
         ],
         &[Opens(0, 0), Opens(1, 0)],
-        &[(1, Ok(2)), (2, Ok(2))],
+        &[(1, Ok(NO_SERVER)), (2, Ok(NO_SERVER))],
     ),
     // A server whose burst is over is left out, and the others are asked.
     (
@@ -85,7 +94,7 @@ const RUNS: [Run; 15] = [
         &[],
     ),
     // No request may go to this one.
-    (5000, &[Some(0)], &[], &[Ask], &[], &[(0, Ok(2))]),
+    (5000, &[Some(0)], &[], &[Ask], &[], &[(0, Ok(NO_SERVER))]),
     // The server with the shorter queue is asked, and of those with equal ones the one that was added first.
     (
         5000,
@@ -109,34 +118,48 @@ const RUNS: [Run; 15] = [
         5000,
         &[None, None],
         &[],
-        &[Ask, Opened(0), Later(4_900_000), Answer(0), Ask, Ask],
+        &[
+            Ask,
+            Opened(0),
+            Later(4_900_000),
+            Datagram(0, &ANSWER),
+            Ask,
+            Ask,
+        ],
         &[
             Opens(0, 0),
-            Sends(0, 0),
+            Sends(0, 0, 0),
             Opens(1, 1),
             Closes(0),
             Closes(1),
             Opens(2, 1),
             Opens(3, 1),
         ],
-        &[(0, Ok(3))],
+        &[(0, Ok(NO_NAME))],
     ),
     // Where that is not slow, it comes first once more is asked of the other.
     (
         50_000,
         &[None, None],
         &[],
-        &[Ask, Opened(0), Later(4_900_000), Answer(0), Ask, Ask],
+        &[
+            Ask,
+            Opened(0),
+            Later(4_900_000),
+            Datagram(0, &ANSWER),
+            Ask,
+            Ask,
+        ],
         &[
             Opens(0, 0),
-            Sends(0, 0),
+            Sends(0, 0, 0),
             Opens(1, 1),
             Closes(0),
             Closes(1),
             Opens(2, 1),
             Opens(3, 0),
         ],
-        &[(0, Ok(3))],
+        &[(0, Ok(NO_NAME))],
     ),
     // A word has the second or the third server probed: the first is asked once the estimate has passed.
     (
@@ -171,34 +194,36 @@ const RUNS: [Run; 15] = [
 fn holds(alloc: Global, run: &Run) -> Result<bool, Error> {
     let mut world = balancer(alloc, run.0, run.1, run.2)?;
     tell_all(alloc, &mut world, run.3)?;
-    Ok(are_put_out(&world, run.4) && are_given(&mut world, run.5))
-}
-
-/// The first run that does not hold, with its number.
-fn fault_in(alloc: Global) -> Option<usize> {
-    RUNS.iter()
-        .position(|run| !holds(alloc, run).is_ok_and(|holds| holds))
+    Ok(are_put_out(&world.lent.outs, run.4) && are_given(&mut world, run.5))
 }
 
 #[test]
 fn a_balancer_does_what_its_runs_say(rt: HostRuntime) {
-    assert_eq!(rt; fault_in(rt.alloc()), None);
+    let fault = RUNS
+        .iter()
+        .position(|run| holds(rt.alloc(), run) != Ok(true));
+    assert_eq!(rt; fault, None);
 }
 
-/// What stands for the result of the first of a run's requests.
-fn code_of(alloc: Global, told: &[Told]) -> Result<Option<Result<u8, Error>>, Error> {
+/// What is told, and what then stands for the result of the first request.
+type Waits = (&'static [Told], Option<Result<Head, Error>>);
+
+const WAITS: [Waits; 2] = [
+    (&[Ask, Opened(0), Datagram(0, &ANSWER)], Some(Ok(NO_NAME))),
+    (&[Ask], None),
+];
+
+fn waits_so(alloc: Global, row: &Waits) -> Result<bool, Error> {
     let mut world = balancer(alloc, 5000, &FREE, &[])?;
-    tell_all(alloc, &mut world, told)?;
-    Ok(first_code(&mut world))
+    tell_all(alloc, &mut world, row.0)?;
+    Ok(result_of(&mut world, 0) == row.1)
 }
 
 #[test]
-fn the_response_has_the_result(rt: HostRuntime) {
-    let told = [Ask, Opened(0), Answer(0)];
-    assert_eq!(rt; code_of(rt.alloc(), &told), Ok(Some(Ok(3))));
-}
-
-#[test]
-fn the_response_waits(rt: HostRuntime) {
-    assert_eq!(rt; code_of(rt.alloc(), &[Ask]), Ok(None));
+fn the_response_waits_and_has_the_result(rt: HostRuntime) {
+    assert!(rt;
+        WAITS
+            .iter()
+            .all(|row| waits_so(rt.alloc(), row) == Ok(true))
+    );
 }

@@ -7,6 +7,4 @@ mod clients;
 #[cfg(test)]
 mod edges;
 #[cfg(test)]
-mod lent;
-#[cfg(test)]
 mod upstreams;

@@ -1,109 +1,131 @@
 //! An edge and servers by datagrams.
 
-use crate::addresses::{here, here_by_six, next, send, server};
+use crate::addresses::{here, is_datagram, is_opened, learns, next, opens, polled, sends};
+use crate::peers::{Pair, gone, paired, server_by_four, server_by_six};
 use client_core::{Edge, Out, What};
 use client_dgram::{Connect, DgramRecv, DgramSend};
 use client_edge::{SocketEdge, UdpConnect};
 use client_request::Fault;
 use dns_base::SocketAddr;
 use std::alloc::Global;
+use std::io;
 use std::net::UdpSocket;
-use std::test::Fail;
 
-/// A question and its answer at place 0.
-fn there_and_back<E: Edge>(
-    edge: &mut E,
-    alloc: Global,
-    peer: &UdpSocket,
-    addr: SocketAddr,
-) -> Result<bool, Fail> {
-    edge.learn_server(&server(addr))?;
-    edge.act(&Out::OpenDgram {
-        place: 0,
-        server: 0,
-    })?;
-    let opened = matches!(edge.poll()?, Some(What::Opened { place: 0 }));
-    send(edge, alloc, 0, &[1, 2, 3])?;
+/// Whether a server gets three octets, and gives two.
+fn takes_and_gives(peer: &UdpSocket) -> io::Result<bool> {
     let mut buf = [0u8; 9];
     let (count, from) = peer.recv_from(&mut buf)?;
-    let nothing = edge.poll()?.is_none();
     peer.send_to(&[4, 5], from)?;
-    let What::Datagram { place: 0, octets } = next(edge)? else {
-        return Ok(false);
+    Ok(buf[..count] == [1, 2, 3])
+}
+
+/// Whether a question goes to the server, and its answer comes.
+fn there_and_back(alloc: Global, pair: &mut Pair) -> bool {
+    is_opened(&polled(&mut pair.edge), 0)
+        && sends(&mut pair.edge, alloc, 0, &[1, 2, 3])
+        && polled(&mut pair.edge).is_none()
+        && takes_and_gives(&pair.peer).is_ok_and(|so| so)
+        && is_datagram(&next(&mut pair.edge), &[4, 5])
+}
+
+/// Whether what is sent to a place that was closed makes nothing happen.
+fn is_closed(alloc: Global, pair: &mut Pair) -> bool {
+    pair.edge.act(&Out::Close { place: 0 }).is_ok()
+        && sends(&mut pair.edge, alloc, 0, &[6])
+        && polled(&mut pair.edge).is_none()
+}
+
+fn goes_by_four(rt: HostRuntime) -> bool {
+    match server_by_four(rt).and_then(|server| paired(rt, server)) {
+        Some(mut pair) => {
+            there_and_back(rt.alloc(), &mut pair) && is_closed(rt.alloc(), &mut pair)
+        }
+        None => false,
+    }
+}
+
+/// The same by IPv6, if this host has it.
+fn goes_by_six(rt: HostRuntime) -> bool {
+    let Some(server) = server_by_six(rt) else {
+        return true;
     };
-    Ok(opened && buf[..count] == [1, 2, 3] && nothing && octets.as_slice() == [4u8, 5].as_slice())
+    match paired(rt, server) {
+        Some(mut pair) => there_and_back(rt.alloc(), &mut pair),
+        None => false,
+    }
 }
 
 #[test]
-fn a_datagram_goes_there_and_back(rt: HostRuntime) -> Result<(), Fail> {
-    let peer = UdpSocket::bind(&rt, "127.0.0.1:0")?;
-    let addr = here(peer.local_addr()?.port());
+fn a_datagram_goes_there_and_back(rt: HostRuntime) {
+    assert!(rt; goes_by_four(rt));
+    assert!(rt; goes_by_six(rt));
+}
+
+/// Whether place 1 could not be opened, since there is no such server.
+fn is_unknown(what: &Option<What>) -> bool {
+    matches!(
+        what,
+        Some(What::OpenFailed {
+            place: 1,
+            fault: Fault::Other
+        })
+    )
+}
+
+/// Whether receiving failed at place 0, since nobody listens.
+fn is_refused(what: &Option<What>) -> bool {
+    matches!(
+        what,
+        Some(What::RecvFailed {
+            place: 0,
+            fault: Fault::Refused
+        })
+    )
+}
+
+/// Whether an edge tells that nobody listens for datagrams at an address, and that it knows no second server.
+fn tells_of_nobody(rt: HostRuntime, addr: SocketAddr) -> bool {
     let mut edge = SocketEdge::new(rt, rt.alloc());
-    assert!(rt; there_and_back(&mut edge, rt.alloc(), &peer, addr)?);
-    edge.act(&Out::Close { place: 0 })?;
-    send(&mut edge, rt.alloc(), 0, &[6])?;
-    assert!(rt; edge.poll()?.is_none());
-    Ok(())
+    learns(&mut edge, addr)
+        && opens(&mut edge, 0, 0)
+        && opens(&mut edge, 1, 1)
+        && is_opened(&polled(&mut edge), 0)
+        && is_unknown(&polled(&mut edge))
+        && sends(&mut edge, rt.alloc(), 0, &[1, 2, 3])
+        && is_refused(&next(&mut edge))
 }
 
 #[test]
-fn a_datagram_goes_by_ipv6(rt: HostRuntime) -> Result<(), Fail> {
-    let Ok(peer) = UdpSocket::bind(&rt, "[::1]:0") else {
-        return Ok(());
-    };
-    let addr = here_by_six(peer.local_addr()?.port());
-    let mut edge = SocketEdge::new(rt, rt.alloc());
-    assert!(rt; there_and_back(&mut edge, rt.alloc(), &peer, addr)?);
-    Ok(())
+fn nobody_listens_for_datagrams(rt: HostRuntime) {
+    assert!(rt; gone(rt).is_some_and(|port| tells_of_nobody(rt, here(port))));
 }
 
-#[test]
-fn nobody_listens_for_datagrams(rt: HostRuntime) -> Result<(), Fail> {
-    let gone = UdpSocket::bind(&rt, "127.0.0.1:0")?.local_addr()?.port();
-    let mut edge = SocketEdge::new(rt, rt.alloc());
-    edge.learn_server(&server(here(gone)))?;
-    edge.act(&Out::OpenDgram {
-        place: 0,
-        server: 0,
-    })?;
-    edge.act(&Out::OpenDgram {
-        place: 1,
-        server: 1,
-    })?;
-    assert!(rt; matches!(edge.poll()?, Some(What::Opened { place: 0 })));
-    assert!(rt;
-        matches!(
-            edge.poll()?,
-            Some(What::OpenFailed {
-                place: 1,
-                fault: Fault::Other
-            })
-        )
-    );
-    send(&mut edge, rt.alloc(), 0, &[1, 2, 3])?;
-    let what = next(&mut edge)?;
-    assert!(rt;
-        matches!(
-            what,
-            What::RecvFailed {
-                place: 0,
-                fault: Fault::Refused
-            }
-        )
-    );
-    Ok(())
-}
-
-#[test]
-fn a_socket_by_itself(rt: HostRuntime) -> Result<(), Fail> {
-    let peer = UdpSocket::bind(&rt, "127.0.0.1:0")?;
-    let mut socket = UdpConnect::new(rt, here(peer.local_addr()?.port())).connect()?;
-    assert_eq!(rt; socket.send(&[1, 2]), Ok(2));
+/// Whether a server gets two octets, and gives twelve.
+fn gives_many(peer: &UdpSocket) -> io::Result<bool> {
     let mut buf = [0u8; 9];
-    assert_eq!(rt; socket.recv(&mut buf), Err(Fault::Expired));
-    let (_, from) = peer.recv_from(&mut buf)?;
+    let (count, from) = peer.recv_from(&mut buf)?;
     peer.send_to(&[7; 12], from)?;
-    assert_eq!(rt; socket.recv(&mut buf), Ok(9));
-    assert_eq!(rt; buf, [7; 9]);
-    Ok(())
+    Ok(buf[..count] == [1, 2])
+}
+
+/// Whether a socket sends, waits in vain, and receives as much as there is room for.
+fn sends_and_receives<S: DgramSend + DgramRecv>(socket: &mut S, peer: &UdpSocket) -> bool {
+    let mut buf = [0u8; 9];
+    socket.send(&[1, 2]) == Ok(2)
+        && socket.recv(&mut buf) == Err(Fault::Expired)
+        && gives_many(peer).is_ok_and(|so| so)
+        && socket.recv(&mut buf) == Ok(9)
+        && buf == [7; 9]
+}
+
+fn connects(rt: HostRuntime, (peer, addr): (UdpSocket, SocketAddr)) -> bool {
+    match UdpConnect::new(rt, addr).connect() {
+        Ok(mut socket) => sends_and_receives(&mut socket, &peer),
+        Err(_) => false,
+    }
+}
+
+#[test]
+fn a_socket_by_itself(rt: HostRuntime) {
+    assert!(rt; server_by_four(rt).is_some_and(|server| connects(rt, server)));
 }

@@ -6,6 +6,8 @@ mod addresses;
 #[cfg(test)]
 mod datagrams;
 #[cfg(test)]
+mod peers;
+#[cfg(test)]
 mod streams;
 #[cfg(test)]
 mod system;
