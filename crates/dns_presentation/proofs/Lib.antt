@@ -1,0 +1,4 @@
+pub mod GenericTexts
+pub mod NameTexts
+pub mod OctetTexts
+pub mod StringTexts

@@ -1,0 +1,5 @@
+pub mod Octets
+pub mod Strings
+pub mod Names
+pub mod Generic
+pub mod Laws
