@@ -1,0 +1,27 @@
+//! DNS data as people read it: the presentation form of names, data, records and messages (RFC 1035 5.1).
+#![tactic(auto)]
+
+mod base64;
+mod data;
+mod generic;
+mod laws;
+mod location;
+mod message;
+mod names;
+mod octets;
+mod options;
+mod parts;
+mod plain;
+mod security;
+mod service;
+mod shown;
+mod strings;
+mod time;
+mod types;
+
+pub use data::ShownData;
+pub use generic::Generic;
+pub use laws::presentation_laws;
+pub use names::Absolute;
+pub use shown::{Presentation, Shown};
+pub use strings::CharacterString;
