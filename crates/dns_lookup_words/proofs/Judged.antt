@@ -1,0 +1,113 @@
+-- Words are one thing.
+use Rattle.std.proofs.Common.{◌≡◌, ◌+◌, ℕ, List, refl, ap, sym, subst, ◌∙◌, Option, None, Some, Result, Ok, Err, String, Global}
+use Rattle.std.specs.String.{string_bytes}
+use Rattle.dns_names.specs.Name.{Labels}
+use Rattle.dns_values.proofs.Addresses.{one_address}
+use Rattle.dns_lookup_words.specs.declared.lookup.Lookup.{Lookup}
+use Rattle.dns_lookup_words.specs.declared.said.Next.{Next}
+use Rattle.dns_lookup_words.specs.declared.said.Next.TheVariants as next
+use Rattle.dns_lookup_words.specs.declared.said.Said.{Said}
+use Rattle.dns_lookup_words.specs.declared.wrong.Fault.{Fault}
+use Rattle.dns_lookup_words.specs.declared.wrong.Fault.TheVariants as faults
+use Rattle.dns_lookup_words.specs.declared.wrong.Refusal.{Refusal}
+use Rattle.dns_lookup_words.specs.declared.wrong.Refusal.TheVariants.{Word}
+use Rattle.dns_lookup_words.specs.declared.wrong.Wrong.{Wrong}
+use Rattle.dns_lookup_words.specs.Words.{AddressGives, AnyGives, GivesAt, IsJudged, IsSaidBy, LookupGives, ServerGives, WordGives, WordsGive, asked, bad_word, good_word, no_word, nothing_said, said_whole, server_text, with_address, with_server, wrong_word}
+
+one_server : (text : List ℕ) (said : Said) (a b : Result Said Wrong) → ServerGives text said a → ServerGives text said b → a ≡ b
+one_server text said (Ok x) (Ok y) h k = ap Ok (h.2 ∙ ap (λ ip. with_server ip said) (one_address text h.0 k.0 h.1 k.1) ∙ sym k.2)
+one_server text said (Ok x) (Err w) h k = absurd (k.0 h.0 h.1)
+one_server text said (Err v) (Ok y) h k = absurd (h.0 k.0 k.1)
+one_server text said (Err v) (Err w) h k = ap Err (h.1 ∙ sym k.1)
+
+one_reverse : (name : Option Labels) (word : List ℕ) (said : Said) (a b : Result Said Wrong) → AddressGives name word said a → AddressGives name word said b → a ≡ b
+one_reverse (Some name) word said a b h k = h ∙ sym k
+one_reverse None word said (Ok x) (Ok y) h k = ap Ok (h.2 ∙ ap (λ ip. with_address ip said) (one_address word h.0 k.0 h.1 k.1) ∙ sym k.2)
+one_reverse None word said (Ok x) (Err w) h k = absurd (k.0 h.0 h.1)
+one_reverse None word said (Err v) (Ok y) h k = absurd (h.0 k.0 k.1)
+one_reverse None word said (Err v) (Err w) h k = ap Err (h.1 ∙ sym k.1)
+
+one_any : (text : Option (List ℕ)) (word : List ℕ) (said : Said) (a b : Result Said Wrong) → AnyGives text word said a → AnyGives text word said b → a ≡ b
+one_any (Some text) word said a b h k = one_server text said a b h k
+one_any None word said a b h k = h ∙ sym k
+
+one_at : (n : Next) (word : List ℕ) (said : Said) (a b : Result Said Wrong) → GivesAt n word said a → GivesAt n word said b → a ≡ b
+one_at next.Any word said a b h k = one_any (server_text word) word said a b h k
+one_at next.Port word said a b h k = h ∙ sym k
+one_at next.Address word said a b h k = one_reverse said.name word said a b h k
+
+one_word : (word : List ℕ) (said : Said) (a b : Result Said Wrong) → WordGives word said a → WordGives word said b → a ≡ b
+one_word word said a b h k = one_at said.next word said a b h k
+
+abbrev good : Said → Result Said Wrong
+good said = Ok said
+
+abbrev bad : Wrong → Result Said Wrong
+bad wrong = Err wrong
+
+not_both : (said : Said) (wrong : Wrong) → good said ≡ bad wrong → ⊥
+not_both said wrong is = cc
+
+same_said : (a b : Said) → good a ≡ good b → a ≡ b
+same_said a b is = cc
+
+same_wrong : (a b : Wrong) → bad a ≡ bad b → a ≡ b
+same_wrong a b is = cc
+
+abbrev refused : ℕ → Wrong → Result Said Refusal
+refused n wrong = Err (Word n wrong)
+
+one_answer : (n : ℕ) (words : List (String Global)) (said : Said) (a b : Result Said Refusal) → WordsGive n words said a → WordsGive n words said b → a ≡ b
+one_answer n words said a b (no_word m s) (no_word k t) = refl
+one_answer n words said a b (bad_word m word more s v h) (bad_word k word' more' s' w i) =
+    ap (refused n) (same_wrong v w (one_word (string_bytes word) said (bad v) (bad w) h i))
+one_answer n words said a b (bad_word m word more s v h) (good_word k word' more' s' mid d i rest) =
+    absurd (not_both mid v (one_word (string_bytes word) said (good mid) (bad v) i h))
+one_answer n words said a b (good_word m word more s mid d h rest) (bad_word k word' more' s' w i) =
+    absurd (not_both mid w (one_word (string_bytes word) said (good mid) (bad w) h i))
+one_answer n words said a b (good_word m word more s mid d h rest) (good_word k word' more' s' mid' d' i rest') =
+    let same = same_said mid' mid (one_word (string_bytes word) said (good mid') (good mid) i h) in
+    one_answer (n + 1) more mid a b rest (subst (λ (s : Said). WordsGive (n + 1) more s b) same rest')
+
+abbrev whole : Said → Result Said Refusal
+whole said = Ok said
+
+abbrev ends : Refusal → Result Said Refusal
+ends refusal = Err refusal
+
+never : (said : Said) (refusal : Refusal) → whole said ≡ ends refusal → ⊥
+never said refusal is = cc
+
+same_whole : (a b : Said) → whole a ≡ whole b → a ≡ b
+same_whole a b is = cc
+
+same_refusal : (a b : Refusal) → ends a ≡ ends b → a ≡ b
+same_refusal a b is = cc
+
+abbrev refusing : Refusal → Result Lookup Refusal
+refusing refusal = Err refusal
+
+pub one_lookup : (words : List (String Global)) (a b : Result Lookup Refusal) → LookupGives words a → LookupGives words b → a ≡ b
+one_lookup words a b (said_whole x h e) (said_whole y k f) =
+    e ∙ ap asked (same_whole x y (one_answer 0 words nothing_said (whole x) (whole y) h k)) ∙ sym f
+one_lookup words a b (said_whole x h e) (wrong_word y k f) = absurd (never x y (one_answer 0 words nothing_said (whole x) (ends y) h k))
+one_lookup words a b (wrong_word x h e) (said_whole y k f) = absurd (never y x (one_answer 0 words nothing_said (whole y) (ends x) k h))
+one_lookup words a b (wrong_word x h e) (wrong_word y k f) =
+    e ∙ ap refusing (same_refusal x y (one_answer 0 words nothing_said (ends x) (ends y) h k)) ∙ sym f
+
+abbrev asking : Lookup → Result Lookup Refusal
+asking lookup = Ok lookup
+
+-- what is said is a lookup, or no whole one
+pub is_lookup : (words : List (String Global)) (said : Said) (lookup : Lookup) → WordsGive 0 words nothing_said (whole said) → asking lookup ≡ asked said
+    → LookupGives words (asking lookup)
+is_lookup words said lookup h is = said_whole said h is
+
+pub is_refused : (words : List (String Global)) (said : Said) (refusal : Refusal) → WordsGive 0 words nothing_said (whole said) → refusing refusal ≡ asked said
+    → LookupGives words (refusing refusal)
+is_refused words said refusal h is = said_whole said h is
+
+-- or a word is wrong
+pub not_said : (words : List (String Global)) (fault : Fault) → IsSaidBy words (Err fault) → IsJudged words (Err fault)
+not_said words (faults.Refused refusal) h = wrong_word refusal h refl
+not_said words faults.NoMemory h = tt

@@ -1,0 +1,39 @@
+-- The sentences that tell what is wrong with words.
+use Rattle.std.specs.Prelude.{ℕ, List, [], ◌++◌, codes, slice_get, Option, None, Some, String}
+use Rattle.std.specs.String.{string_bytes}
+use Rattle.std.specs.declared.alloc.Global.{Global}
+use Rattle.dns_lookup_words.specs.declared.wrong.Refusal.{Refusal}
+use Rattle.dns_lookup_words.specs.declared.wrong.Refusal.TheVariants.{Word, NoPort, NoAddress, NoName}
+use Rattle.dns_lookup_words.specs.declared.wrong.Wrong.{Wrong}
+use Rattle.dns_lookup_words.specs.declared.wrong.Wrong.TheVariants as wrongs
+
+-- what is wrong with a word
+abbrev pub wrong_text : Wrong → List ℕ
+wrong_text wrongs.Server = codes "names no server, which only an address does"
+wrong_text wrongs.Port = codes "is no port"
+wrong_text wrongs.Address = codes "is no address"
+wrong_text wrongs.Name = codes "is no name"
+wrong_text wrongs.Type = codes "is no type that one message answers"
+wrong_text wrongs.Time = codes "gives no seconds from 1 to 600"
+wrong_text wrongs.Option = codes "is no option"
+wrong_text wrongs.More = codes "is one word too many"
+
+abbrev pub text_of : Option (String Global) → List ℕ
+text_of None = []
+text_of (Some word) = string_bytes word
+
+-- the word of a number
+abbrev pub word_at : List (String Global) → ℕ → List ℕ
+word_at words n = text_of (slice_get words n)
+
+-- the sentence of a word that is wrong
+abbrev pub word_sentence : List ℕ → Wrong → List ℕ
+word_sentence word wrong = codes "dns_lookup: " ++ (word ++ (codes " " ++ (wrong_text wrong ++ codes "\n")))
+
+-- the sentence of a refusal, which names the wrong word
+abbrev pub sentence : List (String Global) → Refusal → List ℕ
+sentence words (Word n wrong) = word_sentence (word_at words n) wrong
+sentence words NoPort = codes "dns_lookup: no port stands behind -p\n"
+sentence words NoAddress = codes "dns_lookup: no address stands behind -x\n"
+sentence words NoName =
+    codes "dns_lookup: no name is asked for: dns_lookup [@SERVER ..] [-p PORT] (-x ADDRESS | NAME [TYPE]) [+tcp] [+dnssec] [+short] [+time=SECONDS]\n"

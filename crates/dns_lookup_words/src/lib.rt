@@ -1,0 +1,23 @@
+//! The words of a lookup, as `dns_lookup` is given them: what they ask, or the first that is wrong.
+//!
+//! ```text
+//! match lookup_of(alloc, &words) {
+//!     Ok(lookup) => ask(lookup),
+//!     Err(Fault::Refused(refusal)) => tell(sentence(alloc, &words, refusal)?),
+//!     Err(Fault::NoMemory) => give_up(),
+//! }
+//! ```
+#![tactic(auto)]
+
+mod laws;
+mod lookup;
+mod number;
+mod said;
+mod taking;
+mod telling;
+mod wrong;
+
+pub use laws::lookup_laws;
+pub use lookup::{Lookup, lookup_of};
+pub use telling::sentence;
+pub use wrong::{Fault, Refusal, Wrong};

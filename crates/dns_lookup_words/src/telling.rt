@@ -1,0 +1,57 @@
+//! The sentences that tell what is wrong with words.
+
+ghost use Rattle.std.specs.Prelude.{◌≡◌, IfOk};
+ghost use Rattle.std.specs.String.{string_bytes};
+ghost use Rattle.dns_lookup_words.specs.Sentences.{sentence, word_at, word_sentence, wrong_text};
+
+use crate::wrong::{Refusal, Wrong};
+use dns_values::NoMemory;
+use std::alloc::Global;
+
+fn wrong_text(wrong: Wrong) -> &'static str
+    ensures { result.now ≡ wrong_text wrong }
+{
+    match wrong {
+        Wrong::Server => "names no server, which only an address does",
+        Wrong::Port => "is no port",
+        Wrong::Address => "is no address",
+        Wrong::Name => "is no name",
+        Wrong::Type => "is no type that one message answers",
+        Wrong::Time => "gives no seconds from 1 to 600",
+        Wrong::Option => "is no option",
+        Wrong::More => "is one word too many",
+    }
+}
+
+/// The word of a number, or none at all.
+fn word_at(words: &[String], at: usize) -> &str
+    ensures { result.now ≡ word_at words.now at }
+{
+    match words.get(at) {
+        Some(word) => word.as_str(),
+        None => "",
+    }
+}
+
+/// The sentence of a word that is wrong.
+fn word_sentence(alloc: Global, word: &str, wrong: Wrong) -> Result<String, NoMemory>
+    ensures { IfOk result (λ s. string_bytes s ≡ word_sentence word.now wrong) }
+{
+    let text = wrong_text(wrong);
+    Ok(format!(in alloc; "dns_lookup: {word} {text}\n")?)
+}
+
+/// The sentence that tells why these words are no lookup: one line, which names the wrong word as it was given.
+pub fn sentence(alloc: Global, words: &[String], refusal: Refusal) -> Result<String, NoMemory>
+    ensures { IfOk result (λ s. string_bytes s ≡ sentence words.now refusal) }
+{
+    let text = match refusal {
+        Refusal::Word { at, wrong } => return word_sentence(alloc, word_at(words, at), wrong),
+        Refusal::NoPort => "dns_lookup: no port stands behind -p\n",
+        Refusal::NoAddress => "dns_lookup: no address stands behind -x\n",
+        Refusal::NoName => {
+            "dns_lookup: no name is asked for: dns_lookup [@SERVER ..] [-p PORT] (-x ADDRESS | NAME [TYPE]) [+tcp] [+dnssec] [+short] [+time=SECONDS]\n"
+        }
+    };
+    Ok(String::from_str(alloc, text)?)
+}
