@@ -1,10 +1,9 @@
 -- What generic data prints is read as that data.
-use Rattle.std.proofs.Common.{◌≡◌, ◌≤◌, ◌<◌, ◌+◌, ◌-◌, ◌*◌, ◌/◌, ◌%◌, ◌^◌, ℕ, List, [], ◌∷◌, ◌++◌, length, refl, sym, ◌∙◌, ap, arith, append_assoc, decimal}
-use Rattle.std.specs.Prelude.{Option, Some, None, option_and_then, ◌==◌}
+use Rattle.std.proofs.Common.{◌≡◌, ◌<◌, ◌+◌, ◌*◌, ◌/◌, ◌%◌, ◌^◌, ℕ, List, [], ◌∷◌, ◌++◌, length, refl, ◌∙◌, ap, arith, append_assoc, decimal}
+use Rattle.std.specs.Prelude.{Some, option_and_then}
 use Rattle.std.specs.List.{AllByRecursion}
 use Rattle.std.proofs.lemmas.Bool.{eq-eqb}
 use Rattle.std.proofs.lemmas.Fmt.{decimal_by_steps}
-use Rattle.dns_presentation.specs.Octets.{hex_text, octets_of_hex}
 use Rattle.dns_presentation.specs.Generic.{digits_behind, generic_text, read_number, read_digits, counted, read_counted, read_generic}
 use Rattle.dns_presentation.proofs.OctetTexts.{digit_is, hex_back}
 

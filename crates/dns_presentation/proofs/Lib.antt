@@ -1,4 +1,5 @@
 pub mod GenericTexts
 pub mod NameTexts
 pub mod OctetTexts
+pub mod RecordTexts
 pub mod StringTexts

@@ -1,6 +1,6 @@
 -- What a name prints among other text is read as that name.
-use Rattle.std.proofs.Common.{◌≡◌, ◌≤◌, ◌<◌, ◌+◌, ◌/◌, ◌%◌, ◌^◌, ℕ, List, [], ◌∷◌, ◌++◌, length, refl, sym, ◌∙◌, ap, subst, arith, Bool, true, false, append_assoc, decimal, inl, inr}
-use Rattle.std.specs.Prelude.{Option, Some, None, option_map, Ok, ◌==◌, ◌&&◌, ◌||◌, nat_le}
+use Rattle.std.proofs.Common.{◌≡◌, ◌≤◌, ◌<◌, ◌+◌, ◌/◌, ◌%◌, ◌^◌, ℕ, List, [], ◌∷◌, ◌++◌, length, refl, sym, ◌∙◌, ap, subst, arith, Bool, true, false, append_assoc, inl, inr}
+use Rattle.std.specs.Prelude.{Option, Some, option_map, Ok, ◌==◌, ◌&&◌, ◌||◌, nat_le}
 use Rattle.std.specs.List.{AllByRecursion, flat_map}
 use Rattle.std.proofs.lemmas.Bool.{eqb-true, leb-true, le-leb, lt-ltb}
 use Rattle.std.proofs.lemmas.Fmt.{decimal_digit}
@@ -8,7 +8,7 @@ use Rattle.dns_names.specs.Name.{Labels, octet_count, IsLabel, IsLegal, AreOctet
 use Rattle.dns_names.specs.Text.{cut_text, escaped, numbered, onto, dot, backslash, is_dot, is_digit, is_printable, three_digits, undotted, are_full, are_short, full, judged, name_labels, name_of_text}
 use Rattle.dns_names.proofs.Shown.{onto_onto, onto_nothing, cut_dot}
 use Rattle.dns_presentation.specs.Octets.{numbered_octet}
-use Rattle.dns_presentation.specs.Names.{is_plain, name_octet, ended_label, ended_labels, absolute_text}
+use Rattle.dns_presentation.specs.Names.{is_plain, name_octet, ended_label, absolute_text}
 use Rattle.dns_presentation.proofs.OctetTexts.{three_are, digit_is, one_of, neither, both}
 
 by_digits : (n : ℕ) (rest : List ℕ) → n < 256 → cut_text (numbered_octet n ++ rest) ≡ option_map (onto (n ∷ [])) (cut_text rest)

@@ -1,10 +1,10 @@
 -- What digits write of an octet is read as that octet.
-use Rattle.std.proofs.Common.{◌≡◌, ◌≤◌, ◌<◌, ◌+◌, ◌-◌, ◌*◌, ◌/◌, ◌%◌, ◌^◌, ℕ, List, [], ◌∷◌, ◌++◌, refl, sym, ◌∙◌, ap, subst, arith, Bool, true, false, decimal, inl, inr, ◌⊎◌}
-use Rattle.std.specs.Prelude.{Option, Some, None, ◌==◌, ◌&&◌, ◌||◌, nat_le, nat_lt}
-use Rattle.std.specs.List.{AllByRecursion, flat_map}
-use Rattle.std.proofs.lemmas.Bool.{leb-true, le-leb, lt-ltb, lt-leb, ltb-true, ltb-false}
+use Rattle.std.proofs.Common.{◌≡◌, ◌≤◌, ◌<◌, ◌+◌, ◌/◌, ◌%◌, ◌^◌, ℕ, List, [], ◌∷◌, refl, ap, arith, Bool, true, false, inl, inr, ◌⊎◌}
+use Rattle.std.specs.Prelude.{Some, ◌&&◌, ◌||◌, nat_lt}
+use Rattle.std.specs.List.{AllByRecursion}
+use Rattle.std.proofs.lemmas.Bool.{le-leb, lt-leb, ltb-true, ltb-false}
 use Rattle.dns_names.specs.Text.{is_digit, three_digits}
-use Rattle.dns_presentation.specs.Octets.{hex_digit, hex_octet, hex_text, hex_value, with_front, octets_of_hex}
+use Rattle.dns_presentation.specs.Octets.{hex_digit, hex_text, hex_value, octets_of_hex}
 
 pub three_are : (n : ℕ) → n < 256 → three_digits (48 + n / 100) (48 + n / 10 % 10) (48 + n % 10) ≡ n
 three_are n h = omega arith

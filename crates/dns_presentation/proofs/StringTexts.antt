@@ -1,12 +1,12 @@
 -- What a string prints is read as that string.
-use Rattle.std.proofs.Common.{◌≡◌, ◌≤◌, ◌<◌, ◌+◌, ◌/◌, ◌%◌, ◌^◌, ℕ, List, [], ◌∷◌, ◌++◌, refl, sym, ◌∙◌, ap, subst, arith, Bool, true, false, append_assoc, decimal, inl, inr, ◌⊎◌}
-use Rattle.std.specs.Prelude.{Option, Some, None, option_map, ◌==◌, ◌&&◌, ◌||◌, nat_le}
+use Rattle.std.proofs.Common.{◌≡◌, ◌≤◌, ◌<◌, ◌+◌, ◌/◌, ◌%◌, ◌^◌, ℕ, List, [], ◌∷◌, ◌++◌, refl, sym, ◌∙◌, ap, subst, arith, Bool, true, false, append_assoc, inl, inr}
+use Rattle.std.specs.Prelude.{Some, option_map, ◌==◌, ◌||◌}
 use Rattle.std.specs.List.{AllByRecursion, flat_map}
 use Rattle.std.proofs.lemmas.Bool.{eqb-true, le-leb}
 use Rattle.std.proofs.lemmas.Fmt.{decimal_digit}
-use Rattle.dns_names.specs.Text.{backslash, is_digit, is_printable, three_digits}
+use Rattle.dns_names.specs.Text.{backslash, is_printable, three_digits}
 use Rattle.dns_presentation.specs.Octets.{numbered_octet}
-use Rattle.dns_presentation.specs.Strings.{quote, string_octet, string_text, Reading, with_octet, read_octets, read_escaped, read_numbered, read_string}
+use Rattle.dns_presentation.specs.Strings.{quote, string_octet, string_text, with_octet, read_octets, read_escaped, read_numbered, read_string}
 use Rattle.dns_presentation.proofs.OctetTexts.{three_are, digit_is, one_of, neither}
 
 by_digits : (n : ℕ) (rest : List ℕ) → n < 256 → read_octets (numbered_octet n ++ rest) ≡ option_map (with_octet n) (read_octets rest)

@@ -2,4 +2,5 @@ pub mod Octets
 pub mod Strings
 pub mod Names
 pub mod Generic
+pub mod Records
 pub mod Laws

@@ -17,6 +17,16 @@ string_octet n =
 abbrev pub string_text : List ℕ → List ℕ
 string_text octets = quote ∷ flat_map string_octet octets ++ quote ∷ []
 
+-- An octet of an item of a list, in a text that may go on behind it: a comma stands behind two backslashes and a backslash behind
+-- three, since the list and the text each have an escape (RFC 9460 A.1).
+abbrev pub item_octet : ℕ → List ℕ
+item_octet n =
+    if n == 44 then backslash ∷ backslash ∷ n ∷ []
+    else if n == backslash then backslash ∷ backslash ∷ backslash ∷ n ∷ []
+    else if (n == quote) || ((n == 59) || ((n == 40) || (n == 41))) then backslash ∷ n ∷ []
+    else if nat_le 33 n && nat_le n 126 then n ∷ []
+    else numbered_octet n
+
 -- the octets of a string, and the text behind it
 abbrev pub Reading : Type 0
 Reading = List ℕ × List ℕ

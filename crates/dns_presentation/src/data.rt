@@ -1,15 +1,20 @@
 //! The data of records as text, by its type.
 
+ghost use Rattle.std.specs.Prelude.{◌≡◌};
+ghost use Rattle.std.specs.Fmt.{DisplaysOnOk};
+ghost use Rattle.dns_base.specs.RecordData.{data_view};
+ghost use Rattle.dns_presentation.specs.Records.{has_form, octets_text, numbered_text, data_text, known_text};
+
 use crate::base64::Base64;
 use crate::generic::Generic;
 use crate::location::Location;
 use crate::names::Absolute;
-use crate::parts;
 use crate::plain::{Caa, Naptr, Preferred, Sshfp, Strings, Tlsa, TwoNames, Uri, read_hinfo};
 use crate::security::{Dnskey, Ds, Hashing, Nsec, Nsec3, Rrsig};
 use crate::service::Service;
 use dns_base::{IpAddr, Record, RecordData, Rtype};
 use std::fmt::{self, Display};
+use std::net::Ipv6Addr;
 
 /// What was read of data, or generic data where it wasn't.
 fn write_read<D: Display + Drop, W: fmt::Write>(
@@ -26,46 +31,81 @@ fn write_read<D: Display + Drop, W: fmt::Write>(
 /// The data of types that signatures need, and of others generic data.
 fn write_security<W: fmt::Write>(
     rtype: Rtype,
-    data: &[u8],
+    octets: &[u8],
     f: &mut fmt::Formatter<W>,
 ) -> fmt::Result {
     match rtype {
-        Rtype::DS | Rtype::CDS => write_read(Ds::read(data), data, f),
-        Rtype::DNSKEY | Rtype::CDNSKEY => write_read(Dnskey::read(data), data, f),
-        Rtype::RRSIG => write_read(Rrsig::read(data), data, f),
-        Rtype::NSEC => write_read(Nsec::read(data), data, f),
-        Rtype::NSEC3 => write_read(Nsec3::read(data), data, f),
-        Rtype::NSEC3PARAM => write_read(Hashing::read(data), data, f),
-        _ => f.write(Generic(data)),
+        Rtype::DS | Rtype::CDS => write_read(Ds::read(octets), octets, f),
+        Rtype::DNSKEY | Rtype::CDNSKEY => write_read(Dnskey::read(octets), octets, f),
+        Rtype::RRSIG => write_read(Rrsig::read(octets), octets, f),
+        Rtype::NSEC => write_read(Nsec::read(octets), octets, f),
+        Rtype::NSEC3 => write_read(Nsec3::read(octets), octets, f),
+        Rtype::NSEC3PARAM => write_read(Hashing::read(octets), octets, f),
+        _ => f.write(Generic(octets)),
     }
 }
 
-/// The data of types that a message's reader doesn't look into.
-fn write_other<W: fmt::Write>(rtype: Rtype, data: &[u8], f: &mut fmt::Formatter<W>) -> fmt::Result {
+/// Whether octets of a type have a form here.
+fn has_form(rtype: Rtype) -> bool
+    ensures { result ≡ has_form rtype.0 }
+{
     match rtype {
-        Rtype::SPF => write_read(Strings::read(data), data, f),
-        Rtype::HINFO => write_read(read_hinfo(data), data, f),
-        Rtype::RP => write_read(TwoNames::read(data), data, f),
-        Rtype::AFSDB | Rtype::KX => write_read(Preferred::read(data), data, f),
-        Rtype::LOC => write_read(Location::read(data), data, f),
-        Rtype::NAPTR => write_read(Naptr::read(data), data, f),
-        Rtype::SSHFP => write_read(Sshfp::read(data), data, f),
-        Rtype::TLSA | Rtype::SMIMEA => write_read(Tlsa::read(data), data, f),
-        Rtype::OPENPGPKEY if !data.is_empty() => f.write(Base64(data)),
-        Rtype::SVCB | Rtype::HTTPS => write_read(Service::read(data), data, f),
-        Rtype::URI => write_read(Uri::read(data), data, f),
-        Rtype::CAA => write_read(Caa::read(data), data, f),
-        _ => write_security(rtype, data, f),
+        Rtype::HINFO | Rtype::RP | Rtype::AFSDB | Rtype::LOC | Rtype::NAPTR | Rtype::KX => true,
+        Rtype::DS | Rtype::SSHFP | Rtype::RRSIG | Rtype::NSEC | Rtype::DNSKEY => true,
+        Rtype::NSEC3 | Rtype::NSEC3PARAM | Rtype::TLSA | Rtype::SMIMEA | Rtype::CDS => true,
+        Rtype::CDNSKEY | Rtype::OPENPGPKEY | Rtype::SVCB | Rtype::HTTPS => true,
+        Rtype::SPF | Rtype::URI | Rtype::CAA => true,
+        _ => false,
+    }
+}
+
+/// Octets of a type that has a form here.
+fn write_form<W: fmt::Write>(
+    rtype: Rtype,
+    octets: &[u8],
+    f: &mut fmt::Formatter<W>,
+) -> fmt::Result {
+    match rtype {
+        Rtype::SPF => write_read(Strings::read(octets), octets, f),
+        Rtype::HINFO => write_read(read_hinfo(octets), octets, f),
+        Rtype::RP => write_read(TwoNames::read(octets), octets, f),
+        Rtype::AFSDB | Rtype::KX => write_read(Preferred::read(octets), octets, f),
+        Rtype::LOC => write_read(Location::read(octets), octets, f),
+        Rtype::NAPTR => write_read(Naptr::read(octets), octets, f),
+        Rtype::SSHFP => write_read(Sshfp::read(octets), octets, f),
+        Rtype::TLSA | Rtype::SMIMEA => write_read(Tlsa::read(octets), octets, f),
+        Rtype::OPENPGPKEY if !octets.is_empty() => f.write(Base64(octets)),
+        Rtype::SVCB | Rtype::HTTPS => write_read(Service::read(octets), octets, f),
+        Rtype::URI => write_read(Uri::read(octets), octets, f),
+        Rtype::CAA => write_read(Caa::read(octets), octets, f),
+        _ => write_security(rtype, octets, f),
+    }
+}
+
+/// Octets that a message's reader doesn't look into.
+fn write_octets<W: fmt::Write>(
+    rtype: Rtype,
+    octets: &[u8],
+    f: &mut fmt::Formatter<W>,
+) -> fmt::Result
+    ensures { DisplaysOnOk W.Write.write_str_gives f.old result (octets_text rtype.0 octets.now) f.new }
+{
+    if has_form(rtype) {
+        write_form(rtype, octets, f)
+    } else {
+        f.write(Generic(octets))
     }
 }
 
 /// The start of a zone (RFC 1035 3.3.13) or where a service is (RFC 2782), and of other data generic data.
 fn write_numbered<W: fmt::Write>(
-    data: &RecordData<'_>,
-    raw: &[u8],
+    numbered: &RecordData<'_>,
+    whole: &[u8],
     f: &mut fmt::Formatter<W>,
-) -> fmt::Result {
-    match data {
+) -> fmt::Result
+    ensures { DisplaysOnOk W.Write.write_str_gives f.old result (numbered_text whole.now (data_view numbered.now)) f.new }
+{
+    match numbered {
         RecordData::Soa {
             mname,
             rname,
@@ -85,20 +125,22 @@ fn write_numbered<W: fmt::Write>(
             port,
             target,
         } => { write!(f, "{priority} {weight} {port} {}", Absolute(target)) }
-        _ => f.write(Generic(raw)),
+        _ => f.write(Generic(whole)),
     }
 }
 
 /// The data of a type.
 fn write_known<W: fmt::Write>(
     rtype: Rtype,
-    data: &RecordData<'_>,
-    raw: &[u8],
+    known: &RecordData<'_>,
+    whole: &[u8],
     f: &mut fmt::Formatter<W>,
-) -> fmt::Result {
-    match data {
+) -> fmt::Result
+    ensures { DisplaysOnOk W.Write.write_str_gives f.old result (data_text rtype.0 whole.now (data_view known.now)) f.new }
+{
+    match known {
         RecordData::A(octets) => f.write(IpAddr::V4(*octets)),
-        RecordData::Aaaa(octets) => f.write(parts::long_address(octets)),
+        RecordData::Aaaa(octets) => f.write(Ipv6Addr::from_octets(*octets)),
         RecordData::Ns(name) | RecordData::Md(name) | RecordData::Mf(name) => f.write(Absolute(
             name,
         )),
@@ -112,9 +154,9 @@ fn write_known<W: fmt::Write>(
             write!(f, "{} {}", Absolute(first), Absolute(second))
         }
         RecordData::Mx(preference, exchange) => write!(f, "{preference} {}", Absolute(exchange)),
-        RecordData::Txt(strings) => write_read(Strings::read(strings), raw, f),
-        RecordData::Other(octets) => write_other(rtype, octets, f),
-        _ => write_numbered(data, raw, f),
+        RecordData::Txt(strings) => write_read(Strings::read(strings), whole, f),
+        RecordData::Other(octets) => write_octets(rtype, octets, f),
+        _ => write_numbered(known, whole, f),
     }
 }
 
@@ -124,11 +166,13 @@ fn write_known<W: fmt::Write>(
 pub struct ShownData<'s, 'a>(pub &'s Record<'a>);
 
 impl Display for ShownData<'_, '_> {
+    ghost output = { λ d. known_text d.0.now };
+
     fn fmt<W: fmt::Write>(&self, f: &mut fmt::Formatter<W>) -> fmt::Result {
-        let raw = self.0.raw_data();
+        let whole = self.0.raw_data();
         match self.0.data() {
-            Ok(data) => write_known(self.0.rtype(), &data, raw, f),
-            Err(_) => f.write(Generic(raw)),
+            Ok(known) => write_known(self.0.rtype(), &known, whole, f),
+            Err(_) => f.write(Generic(whole)),
         }
     }
 }

@@ -1,6 +1,8 @@
 //! The data of SVCB and HTTPS: how a service is reached (RFC 9460).
 
-ghost use Rattle.std.specs.Prelude.{◌<◌, length};
+ghost use Rattle.std.specs.Prelude.{◌<◌, length, Some};
+ghost use Rattle.std.specs.List.{flat_map};
+ghost use Rattle.dns_presentation.specs.Strings.{item_octet};
 
 use crate::base64::Base64;
 use crate::names::Absolute;
@@ -15,6 +17,8 @@ use std::fmt::{self, Display};
 struct ItemOctet(u8);
 
 impl Display for ItemOctet {
+    ghost output = { λ o. Some (item_octet o.0) };
+
     fn fmt<W: fmt::Write>(&self, f: &mut fmt::Formatter<W>) -> fmt::Result {
         let c = char::from(self.0);
         match self.0 {
@@ -31,6 +35,8 @@ impl Display for ItemOctet {
 struct Item<'a>(&'a [u8]);
 
 impl Display for Item<'_> {
+    ghost output = { λ i. Some (flat_map item_octet i.0.now) };
+
     fn fmt<W: fmt::Write>(&self, f: &mut fmt::Formatter<W>) -> fmt::Result {
         for octet in self.0 {
             f.write(ItemOctet(*octet))?;

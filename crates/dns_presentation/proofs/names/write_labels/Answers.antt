@@ -1,5 +1,4 @@
-use Rattle.std.proofs.Common.{◌∷◌, ◌++◌, rules, append_assoc, ◌∙◌}
-use Rattle.std.specs.List.{flat_map}
+use Rattle.std.proofs.Common.{◌++◌, rules, append_assoc, ◌∙◌}
 use Rattle.std.proofs.Output.{has_written_append}
 use Rattle.dns_presentation.specs.Names.{ended_label, ended_labels}
 use Rattle.dns_presentation.proofs.names.write_labels.Goals as goal
