@@ -1,11 +1,12 @@
 //! A client of one server by streams, or of none at first, stepped by hand.
 
+use crate::lent::{request, words};
 use client_core::{Client, Row, cache, redundant};
 use client_request::{Error, Event, ListWords, Moment, Out, Via, What};
-use dns_base::{IpAddr, NoMemory, SocketAddr};
+use dns_base::{IpAddr, SocketAddr};
 use resolv_conf::{ResolvConf, ServerConf, Transport};
 use std::alloc::Global;
-use test_world::{QUERY, query, words_of};
+use std::test::Fail;
 
 /// A server that is asked by streams alone.
 fn server() -> ServerConf {
@@ -17,24 +18,25 @@ fn server() -> ServerConf {
 }
 
 /// A configuration of that server.
-fn conf(alloc: Global) -> Result<ResolvConf, NoMemory> {
+fn conf(alloc: Global) -> Result<ResolvConf, Error> {
     let mut conf = ResolvConf::new(alloc);
     conf.servers.push(server())?;
     Ok(conf)
 }
 
-fn client_of(alloc: Global, conf: &ResolvConf) -> Result<Client, Error> {
-    Client::new(alloc, conf, redundant::Config::new(), cache::Config::new())
+fn client(alloc: Global) -> Result<Client, Error> {
+    let conf = conf(alloc)?;
+    Client::new(alloc, &conf, redundant::Config::new(), cache::Config::new())
 }
 
-/// What a client does where the query is asked so many microseconds after its start.
+/// What a client puts out where the query is asked so many microseconds after its start.
 fn asked(
     alloc: Global,
     client: &mut Client,
     words: &mut ListWords,
     moment: u64,
 ) -> Result<Row, Error> {
-    let request = query(alloc, &QUERY)?;
+    let request = request(alloc)?;
     let event = Event {
         moment: Moment(moment),
         what: What::Ask { request },
@@ -60,6 +62,15 @@ fn opens_a_stream(number: u64, outs: &[Out]) -> bool {
     }
 }
 
+#[test]
+fn a_client_asks_and_waits_for_five_seconds(rt: HostRuntime) -> Result<(), Fail> {
+    let mut client = client(rt.alloc())?;
+    let row = asked(rt.alloc(), &mut client, &mut words(rt.alloc())?, 7)?;
+    assert!(rt; opens_a_stream(0, row.outs.as_slice()));
+    assert_eq!(rt; client.next_due(), Some(5_000_007));
+    Ok(())
+}
+
 /// Whether a request is told that there is no server.
 fn has_no_server(number: u64, outs: &[Out]) -> bool {
     match outs {
@@ -73,64 +84,42 @@ fn has_no_server(number: u64, outs: &[Out]) -> bool {
     }
 }
 
-/// Whether the query, asked then, has a stream opened, or else is told that there is no server.
-fn is_told(
+/// A client of a configuration without servers.
+fn client_of_none(alloc: Global) -> Result<Client, Error> {
+    let conf = ResolvConf::new(alloc);
+    Client::new(alloc, &conf, redundant::Config::new(), cache::Config::new())
+}
+
+fn is_told_of_none(
     alloc: Global,
     client: &mut Client,
     words: &mut ListWords,
-    (moment, number, opens): (u64, u64, bool),
-) -> bool {
-    match asked(alloc, client, words, moment) {
-        Ok(row) if opens => opens_a_stream(number, row.outs.as_slice()),
-        Ok(row) => has_no_server(number, row.outs.as_slice()),
-        Err(_) => false,
-    }
-}
-
-/// Whether a client of the server asks it, and waits for five seconds.
-fn asks_and_waits(alloc: Global, conf: &ResolvConf, words: &mut ListWords) -> bool {
-    match client_of(alloc, conf) {
-        Ok(mut client) => {
-            is_told(alloc, &mut client, words, (7, 0, true)) && client.next_due() == Some(5_000_007)
-        }
-        Err(_) => false,
-    }
+    moment: u64,
+    number: u64,
+) -> Result<bool, Error> {
+    let row = asked(alloc, client, words, moment)?;
+    Ok(has_no_server(number, row.outs.as_slice()))
 }
 
 /// Whether a server that is added is asked half a minute later: that there was none is kept until then, as each error is.
-fn asks_who_is_added(alloc: Global, words: &mut ListWords) -> bool {
-    match client_of(alloc, &ResolvConf::new(alloc)) {
-        Ok(mut client) => {
-            is_told(alloc, &mut client, words, (7, 0, false))
-                && client.add_server(&server()).is_ok()
-                && is_told(alloc, &mut client, words, (30_000_007, 1, false))
-                && is_told(alloc, &mut client, words, (30_000_008, 2, true))
-        }
-        Err(_) => false,
+fn asks_it_later(alloc: Global, client: &mut Client, words: &mut ListWords) -> Result<bool, Error> {
+    if !is_told_of_none(alloc, client, words, 30_000_007, 1)? {
+        return Ok(false);
     }
+    let row = asked(alloc, client, words, 30_000_008)?;
+    Ok(opens_a_stream(2, row.outs.as_slice()))
 }
 
-/// The word 7, and then 0.
-fn words(alloc: Global) -> Result<ListWords, NoMemory> {
-    Ok(ListWords::new(words_of(alloc, &[7])?))
-}
-
-fn client_asks_and_waits(alloc: Global) -> bool {
-    match (conf(alloc), words(alloc)) {
-        (Ok(conf), Ok(mut words)) => asks_and_waits(alloc, &conf, &mut words),
-        _ => false,
-    }
-}
-
-fn client_asks_who_is_added(alloc: Global) -> bool {
-    match words(alloc) {
-        Ok(mut words) => asks_who_is_added(alloc, &mut words),
-        Err(_) => false,
-    }
+fn asks_who_is_added(alloc: Global, client: &mut Client) -> Result<bool, Error> {
+    let mut words = words(alloc)?;
+    let told = is_told_of_none(alloc, client, &mut words, 7, 0)?;
+    client.add_server(&server())?;
+    Ok(told && asks_it_later(alloc, client, &mut words)?)
 }
 
 #[test]
-fn a_client_asks_its_server_and_one_that_is_added(rt: HostRuntime) {
-    assert!(rt; client_asks_and_waits(rt.alloc()));
-    assert!(rt; client_asks_who_is_added(rt.alloc()));
+fn a_server_that_is_added_is_asked(rt: HostRuntime) -> Result<(), Fail> {
+    let mut client = client_of_none(rt.alloc())?;
+    assert_eq!(rt; asks_who_is_added(rt.alloc(), &mut client), Ok(true));
+    Ok(())
 }

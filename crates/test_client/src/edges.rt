@@ -2,9 +2,10 @@
 
 use client_core::{Clock, Deed, Edge, ListClock, ListEdge, is_fault};
 use client_request::{Fault, Moment, Out, What};
-use dns_base::{IpAddr, NoMemory, SocketAddr};
+use dns_base::{IpAddr, SocketAddr};
 use resolv_conf::{ServerConf, Transport};
-use std::alloc::{AllocError, Global};
+use std::alloc::Global;
+use std::test::Fail;
 
 /// The next two moments of a clock.
 fn two_moments<C: Clock>(clock: &mut C) -> [u64; 2] {
@@ -12,29 +13,23 @@ fn two_moments<C: Clock>(clock: &mut C) -> [u64; 2] {
     [first.0, clock.now().0]
 }
 
-fn gives_its_list(alloc: Global) -> bool {
-    match Vec::from_slice(alloc, &[Moment(5), Moment(4)]) {
-        Ok(moments) => two_moments(&mut ListClock::new(moments)) == [5, 4],
-        Err(_) => false,
-    }
-}
-
 #[test]
-fn a_clock_gives_its_list_and_then_its_last_moment(rt: HostRuntime) {
-    assert!(rt; gives_its_list(rt.alloc()));
-    assert!(rt; two_moments(&mut ListClock::new(Vec::new(rt.alloc()))) == [0, 0]);
-}
-
-/// Whether a poll gives that place 3 is open.
-fn is_opened(polled: &Result<Option<What>, NoMemory>) -> bool {
-    matches!(polled, Ok(Some(What::Opened { place: 3 })))
+fn a_clock_gives_its_list_and_then_its_last_moment(rt: HostRuntime) -> Result<(), Fail> {
+    let moments = vec![in rt.alloc(); Moment(5), Moment(4)]?;
+    assert_eq!(rt; two_moments(&mut ListClock::new(moments)), [5, 4]);
+    assert_eq!(rt;
+        two_moments(&mut ListClock::new(Vec::new(rt.alloc()))),
+        [0, 0]
+    );
+    Ok(())
 }
 
 /// Lets an edge learn a server and close a place, and answers whether its two polls give an opened place and none.
-fn is_served<E: Edge>(edge: &mut E, server: &ServerConf) -> bool {
-    let did = edge.learn_server(server).is_ok() && edge.act(&Out::Close { place: 3 }).is_ok();
+fn is_served<E: Edge>(edge: &mut E, server: &ServerConf) -> Result<bool, Fail> {
+    edge.learn_server(server)?;
+    edge.act(&Out::Close { place: 3 })?;
     edge.wait(7);
-    did && is_opened(&edge.poll()) && matches!(edge.poll(), Ok(None))
+    Ok(matches!(edge.poll()?, Some(What::Opened { place: 3 })) && edge.poll()?.is_none())
 }
 
 fn server() -> ServerConf {
@@ -45,7 +40,7 @@ fn server() -> ServerConf {
     ServerConf::new(address, Transport::UdpTcp)
 }
 
-fn edge(alloc: Global) -> Result<ListEdge, AllocError> {
+fn edge(alloc: Global) -> Result<ListEdge, Fail> {
     let mut events = Vec::new(alloc);
     events.push(Some(What::Opened { place: 3 }))?;
     Ok(ListEdge::new(alloc, events))
@@ -63,28 +58,21 @@ fn were_done(deeds: &[Deed]) -> bool {
     )
 }
 
-fn keeps_what_was_done(alloc: Global) -> bool {
-    match edge(alloc) {
-        Ok(mut edge) => {
-            is_served(&mut edge, &server())
-                && were_done(edge.deeds())
-                && edge.waits() == [7].as_slice()
-        }
-        Err(_) => false,
-    }
-}
-
-/// Whether a fault is told of, and the end of a stream, but neither an open place nor nothing.
-fn tells_of_faults() -> bool {
-    let fault = Fault::Refused;
-    is_fault(&Some(What::OpenFailed { place: 3, fault }))
-        && is_fault(&Some(What::Ended { place: 3 }))
-        && !is_fault(&Some(What::Opened { place: 3 }))
-        && !is_fault(&None)
+#[test]
+fn an_edge_gives_its_list_and_keeps_what_was_done(rt: HostRuntime) -> Result<(), Fail> {
+    let mut edge = edge(rt.alloc())?;
+    assert!(rt; is_served(&mut edge, &server())?);
+    assert!(rt; were_done(edge.deeds()));
+    assert!(rt; edge.waits() == [7].as_slice());
+    Ok(())
 }
 
 #[test]
-fn an_edge_gives_its_list_and_keeps_what_was_done(rt: HostRuntime) {
-    assert!(rt; keeps_what_was_done(rt.alloc()));
-    assert!(rt; tells_of_faults());
+fn an_event_tells_of_a_fault_or_not(rt: HostRuntime) -> Result<(), Fail> {
+    let fault = Fault::Refused;
+    assert!(rt; is_fault(&Some(What::OpenFailed { place: 3, fault })));
+    assert!(rt; is_fault(&Some(What::Ended { place: 3 })));
+    assert!(rt; !is_fault(&Some(What::Opened { place: 3 })));
+    assert!(rt; !is_fault(&None));
+    Ok(())
 }

@@ -7,4 +7,6 @@ mod clients;
 #[cfg(test)]
 mod edges;
 #[cfg(test)]
+mod lent;
+#[cfg(test)]
 mod upstreams;

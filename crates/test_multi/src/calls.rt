@@ -1,12 +1,11 @@
 //! Each public call, where nothing goes wrong.
 
-use crate::rows::{ANSWER, FIRST};
-use crate::world::{World, connected, tell};
+use crate::rows::ANSWER;
+use crate::world::Told::*;
+use crate::world::{connected, last_octets, result_of, tell, tell_all};
 use client_multi::multi_stream::{Config, Connection};
-use client_request::{Error, Out, RequestMessage};
+use client_request::{Error, RequestMessage};
 use std::alloc::Global;
-use test_world::Told::*;
-use test_world::{Head, result_of, tell_all};
 
 #[test]
 fn a_connection_says_what_it_is(rt: HostRuntime) {
@@ -22,9 +21,9 @@ fn a_connection_says_what_it_is(rt: HostRuntime) {
 }
 
 /// The result of a request before and after its answer came, and once more.
-fn results(alloc: Global) -> Result<[Option<Result<Head, Error>>; 3], Error> {
+fn results(alloc: Global) -> Result<[Option<Result<u16, Error>>; 3], Error> {
     let mut world = connected(alloc, Config::new(), &[])?;
-    tell_all(alloc, &mut world, &[Ask, Opened(0), Wrote(0, 46)])?;
+    tell_all(alloc, &mut world, &[Ask, Open(0), Wrote(0, 46)])?;
     let before = result_of(&mut world, 0);
     tell(alloc, &mut world, Bytes(0, &ANSWER))?;
     Ok([before, result_of(&mut world, 0), result_of(&mut world, 0)])
@@ -32,7 +31,7 @@ fn results(alloc: Global) -> Result<[Option<Result<Head, Error>>; 3], Error> {
 
 #[test]
 fn a_result_comes_once(rt: HostRuntime) {
-    let wanted = [None, Some(Ok(FIRST)), Some(Err(Error::AlreadyDone))];
+    let wanted = [None, Some(Ok(0)), Some(Err(Error::AlreadyDone))];
     assert_eq!(rt; results(rt.alloc()), Ok(wanted));
 }
 
@@ -42,20 +41,10 @@ const FRAME: [u8; 46] = [
     109, 0, 0, 1, 0, 1, 0, 0, 41, 0, 0, 0, 0, 0, 0, 0, 4, 0, 11, 0, 0,
 ];
 
-/// The octets of the out that came last, where it is a write, or goes on with one.
-fn last_octets(world: &World) -> Option<&[u8]> {
-    match world.lent.outs.as_slice().last() {
-        Some(Out::Write { octets, .. }) | Some(Out::Resume { octets, .. }) => {
-            Some(octets.as_slice())
-        }
-        _ => None,
-    }
-}
-
 /// Whether the query is written, and what is left once so many octets were.
 fn writes_the_query(alloc: Global) -> Result<bool, Error> {
     let mut world = connected(alloc, Config::new(), &[])?;
-    tell_all(alloc, &mut world, &[Ask, Opened(0)])?;
+    tell_all(alloc, &mut world, &[Ask, Open(0)])?;
     let whole = last_octets(&world) == Some(&FRAME[..]);
     tell(alloc, &mut world, Wrote(0, 20))?;
     Ok(whole && last_octets(&world) == Some(&FRAME[20..]))
@@ -69,12 +58,12 @@ fn a_request_is_written(rt: HostRuntime) {
 /// Whether each call answers `Failed` once one found no memory, and changes nothing.
 fn stays_failed(alloc: Global) -> Result<bool, Error> {
     let mut world = connected(alloc, Config::new(), &[])?;
-    world.transport.fail();
+    world.connection.fail();
     Ok(
         tell(alloc, &mut world, Ask) == Err(Error::Failed)
-            && tell(alloc, &mut world, Opened(0)) == Err(Error::Failed)
+            && tell(alloc, &mut world, Open(0)) == Err(Error::Failed)
             && tell(alloc, &mut world, Shutdown) == Err(Error::Failed)
-            && world.lent.outs.len() == 0,
+            && world.outs.len() == 0,
     )
 }
 

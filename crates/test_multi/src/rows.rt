@@ -1,19 +1,14 @@
 //! What each event does at each stage: what is put out, and which results come.
 
+use crate::world::Deed::*;
+use crate::world::Told::*;
+use crate::world::{Deed, Given, Told};
 use client_request::Error;
-use test_world::Deed::*;
-use test_world::Told::*;
-use test_world::{Deed, Given, Head, Told};
 
 /// A frame that answers the query under id 0 by an error, and under id 1.
 pub const ANSWER: [u8; 14] = [0, 12, 0, 0, 0x81, 0x82, 0, 0, 0, 0, 0, 0, 0, 0];
 
 pub const ANSWER_1: [u8; 14] = [0, 12, 0, 1, 0x81, 0x82, 0, 0, 0, 0, 0, 0, 0, 0];
-
-/// What is seen of these answers.
-pub const FIRST: Head = [0, 0, 0x81, 0x82];
-
-pub const SECOND: Head = [0, 1, 0x81, 0x82];
 
 /// A frame with id 0 that answers nothing.
 pub const NO_ANSWER: [u8; 14] = [0, 12, 0, 0, 0x01, 0x82, 0, 0, 0, 0, 0, 0, 0, 0];
@@ -29,9 +24,9 @@ const LATE: Given = (0, Err(Error::StreamReadTimeout));
 
 /// No request came yet.
 const NEW: [Cell; 6] = [
-    (Ask, &[OpensStream(0, 3)], &[]),
-    (Opened(0), &[], &[]),
-    (Refused(0), &[], &[]),
+    (Ask, &[Opens(0)], &[]),
+    (Open(0), &[], &[]),
+    (Refuse(0), &[], &[]),
     (Bytes(0, &ANSWER), &[], &[]),
     (Shutdown, &[], &[]),
     (Later(1_000_000_000), &[], &[]),
@@ -40,10 +35,10 @@ const NEW: [Cell; 6] = [
 /// A request waits for the place that opens.
 const OPENING: [Cell; 14] = [
     (Ask, &[], &[]),
-    (Opened(0), &[Writes(0, 0, 0)], &[]),
-    (Opened(1), &[], &[]),
-    (Refused(0), &[], &[]),
-    (Refused(1), &[], &[]),
+    (Open(0), &[Writes(0, 0, 0)], &[]),
+    (Open(1), &[], &[]),
+    (Refuse(0), &[], &[]),
+    (Refuse(1), &[], &[]),
     (Wrote(0, 46), &[], &[]),
     (WriteFailed(0), &[], &[]),
     (ReadFailed(0), &[], &[]),
@@ -58,24 +53,24 @@ const OPENING: [Cell; 14] = [
 /// The place could not be opened: the request backs off for a microsecond, and so does all that comes.
 const REFUSED: [Cell; 7] = [
     (Ask, &[], &[]),
-    (Opened(0), &[], &[]),
-    (Refused(0), &[], &[]),
+    (Open(0), &[], &[]),
+    (Refuse(0), &[], &[]),
     (Cancel(0), &[], &[]),
-    (Later(1), &[OpensStream(1, 3)], &[]),
-    (Later(30_000_000), &[OpensStream(1, 3)], &[LATE]),
+    (Later(1), &[Opens(1)], &[]),
+    (Later(30_000_000), &[Opens(1)], &[LATE]),
     (Shutdown, &[], &[]),
 ];
 
 /// The request was written, and waits for its answer.
 const WRITTEN: [Cell; 17] = [
     (Ask, &[Writes(0, 1, 1)], &[]),
-    (Opened(0), &[], &[]),
-    (Refused(0), &[], &[]),
+    (Open(0), &[], &[]),
+    (Refuse(0), &[], &[]),
     (Wrote(0, 0), &[], &[]),
     (WriteFailed(0), &[Closes(0)], &[]),
     (ReadFailed(0), &[Closes(0)], &[]),
     (Ended(0), &[Closes(0)], &[]),
-    (Bytes(0, &ANSWER), &[], &[(0, Ok(FIRST))]),
+    (Bytes(0, &ANSWER), &[], &[(0, Ok(0))]),
     (Bytes(0, &ANSWER_1), &[], &[]),
     (
         Bytes(0, &NO_ANSWER),
@@ -101,13 +96,13 @@ const WRITING: [Cell; 4] = [
 
 /// The connection ended, and the request backs off for a microsecond.
 const BROKEN: [Cell; 7] = [
-    (Ask, &[OpensStream(1, 3)], &[]),
+    (Ask, &[Opens(1)], &[]),
     (Bytes(0, &ANSWER), &[], &[]),
     (Ended(0), &[], &[]),
     (Cancel(0), &[], &[]),
     (Shutdown, &[], &[]),
-    (Later(1), &[OpensStream(1, 3)], &[]),
-    (Later(30_000_000), &[OpensStream(1, 3)], &[LATE]),
+    (Later(1), &[Opens(1)], &[]),
+    (Later(30_000_000), &[Opens(1)], &[LATE]),
 ];
 
 /// The connection is idle.
@@ -123,7 +118,7 @@ const IDLE: [Cell; 5] = [
 const SHUT: [Cell; 5] = [
     (Ask, &[], &[(1, Err(Error::ConnectionClosed))]),
     (Shutdown, &[], &[]),
-    (Bytes(0, &ANSWER), &[], &[(0, Ok(FIRST))]),
+    (Bytes(0, &ANSWER), &[], &[(0, Ok(0))]),
     (ReadFailed(0), &[Closes(0)], &[]),
     (Later(30_000_000), &[Closes(0)], &[LATE]),
 ];
@@ -139,20 +134,20 @@ const GIVEN_UP: [Cell; 4] = [
 pub const STAGES: [Stage; 10] = [
     (&[], &NEW),
     (&[Ask], &OPENING),
-    (&[Ask, Refused(0)], &REFUSED),
-    (&[Ask, Opened(0), Wrote(0, 46)], &WRITTEN),
-    (&[Ask, Opened(0)], &WRITING),
-    (&[Ask, Opened(0), Wrote(0, 46), ReadFailed(0)], &BROKEN),
-    (&[Ask, Opened(0), Wrote(0, 46), Bytes(0, &ANSWER)], &IDLE),
-    (&[Ask, Opened(0), Wrote(0, 46), Shutdown], &SHUT),
-    (&[Ask, Opened(0), Wrote(0, 46), Cancel(0)], &GIVEN_UP),
+    (&[Ask, Refuse(0)], &REFUSED),
+    (&[Ask, Open(0), Wrote(0, 46)], &WRITTEN),
+    (&[Ask, Open(0)], &WRITING),
+    (&[Ask, Open(0), Wrote(0, 46), ReadFailed(0)], &BROKEN),
+    (&[Ask, Open(0), Wrote(0, 46), Bytes(0, &ANSWER)], &IDLE),
+    (&[Ask, Open(0), Wrote(0, 46), Shutdown], &SHUT),
+    (&[Ask, Open(0), Wrote(0, 46), Cancel(0)], &GIVEN_UP),
     (&[Ask, Cancel(0)], &LEFT),
 ];
 
 /// The request was given up while its place opens.
 const LEFT: [Cell; 4] = [
     (Ask, &[], &[]),
-    (Opened(0), &[], &[]),
-    (Refused(0), &[], &[]),
+    (Open(0), &[], &[]),
+    (Refuse(0), &[], &[]),
     (Later(30_000_000), &[], &[]),
 ];

@@ -2,11 +2,10 @@
 
 use crate::chains::{CHAINS, Chain};
 use crate::rows::{Cell, STAGES, Stage};
-use crate::world::{World, connected, tell, tell_all};
+use crate::world::{World, are_given, are_put_out, connected, forget, tell, tell_all};
 use client_multi::multi_stream::Config;
 use client_request::Error;
 use std::alloc::Global;
-use test_world::{are_given, are_put_out, forget};
 
 /// A server at a stage, whose outs and results by then are taken.
 fn reached(alloc: Global, stage: &Stage) -> Result<World, Error> {
@@ -19,7 +18,7 @@ fn reached(alloc: Global, stage: &Stage) -> Result<World, Error> {
 /// Whether an event does what its cell says.
 fn does(alloc: Global, world: &mut World, cell: &Cell) -> Result<bool, Error> {
     tell(alloc, world, cell.0)?;
-    Ok(are_put_out(&world.lent.outs, cell.1) && are_given(world, cell.2))
+    Ok(are_put_out(world, cell.1) && are_given(world, cell.2))
 }
 
 fn holds(alloc: Global, stage: &Stage, cell: &Cell) -> Result<bool, Error> {
@@ -29,10 +28,12 @@ fn holds(alloc: Global, stage: &Stage, cell: &Cell) -> Result<bool, Error> {
 
 /// The first cell of a stage that does not hold, with its number.
 fn fault_in(alloc: Global, stage: &Stage) -> Option<usize> {
-    stage
-        .1
-        .iter()
-        .position(|cell| !holds(alloc, stage, cell).is_ok_and(|holds| holds))
+    for (number, cell) in stage.1.iter().enumerate() {
+        if !holds(alloc, stage, cell).is_ok_and(|holds| holds) {
+            return Some(number);
+        }
+    }
+    None
 }
 
 #[test]
@@ -42,28 +43,26 @@ fn an_event_does_what_its_stage_says(rt: HostRuntime) {
     }
 }
 
-/// The same, and what was put out is forgotten.
-fn goes_on(alloc: Global, world: &mut World, cell: &Cell) -> bool {
-    let so = does(alloc, world, cell) == Ok(true);
-    forget(alloc, world);
-    so
-}
-
 /// The first event of a chain that does not do what its cell says.
 fn first_fault(alloc: Global, chain: &Chain) -> Result<Option<usize>, Error> {
     let mut world = connected(alloc, Config::new(), chain.0)?;
-    Ok(
-        chain
-            .1
-            .iter()
-            .position(|cell| !goes_on(alloc, &mut world, cell)),
-    )
+    for (number, cell) in chain.1.iter().enumerate() {
+        if !does(alloc, &mut world, cell)? {
+            return Ok(Some(number));
+        }
+        forget(alloc, &mut world);
+    }
+    Ok(None)
 }
 
 #[test]
 fn events_do_what_their_chain_says(rt: HostRuntime) {
-    let fault = CHAINS
-        .iter()
-        .position(|chain| first_fault(rt.alloc(), chain) != Ok(None));
-    assert_eq!(rt; fault, None);
+    for (number, chain) in CHAINS.iter().enumerate() {
+        assert_eq!(rt;
+            first_fault(rt.alloc(), chain),
+            Ok(None),
+            "chain {}",
+            number
+        );
+    }
 }

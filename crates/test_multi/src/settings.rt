@@ -1,14 +1,13 @@
 //! The settings of reconnection, and how long is backed off.
 
-use crate::rows::{ANSWER, FIRST};
-use crate::world::connected;
+use crate::rows::ANSWER;
+use crate::world::Deed::*;
+use crate::world::Told::*;
+use crate::world::{Deed, Given, Told, are_given, are_put_out, connected, tell_all};
 use client_multi::multi_stream::{Config, retry_time};
 use client_request::Error;
 use dns_base::Duration;
 use std::alloc::Global;
-use test_world::Deed::*;
-use test_world::Told::*;
-use test_world::{Deed, Given, Told, are_given, are_put_out, tell_all};
 
 #[test]
 fn settings_have_their_defaults(rt: HostRuntime) {
@@ -74,7 +73,7 @@ const TIMED: [Timed; 6] = [
         None,
         None,
         &[Ask, Later(999)],
-        &[OpensStream(0, 3)],
+        &[Opens(0)],
         &[],
     ),
     (
@@ -82,40 +81,40 @@ const TIMED: [Timed; 6] = [
         None,
         None,
         &[Ask, Later(1_000)],
-        &[OpensStream(0, 3)],
+        &[Opens(0)],
         &[LATE],
     ),
     (
         None,
         Some(2_000),
         None,
-        &[Ask, Opened(0), Later(2_000)],
-        &[OpensStream(0, 3), SENT],
+        &[Ask, Open(0), Later(2_000)],
+        &[Opens(0), SENT],
         &[],
     ),
     (
         None,
         Some(2_000),
         None,
-        &[Ask, Opened(0), Later(2_001)],
-        &[OpensStream(0, 3), SENT, Closes(0)],
+        &[Ask, Open(0), Later(2_001)],
+        &[Opens(0), SENT, Closes(0)],
         &[],
     ),
     (
         None,
         None,
         Some(0),
-        &[Ask, Opened(0), Bytes(0, &ANSWER)],
-        &[OpensStream(0, 3), SENT, Closes(0)],
-        &[(0, Ok(FIRST))],
+        &[Ask, Open(0), Bytes(0, &ANSWER)],
+        &[Opens(0), SENT, Closes(0)],
+        &[(0, Ok(0))],
     ),
     (
         None,
         None,
         Some(1),
-        &[Ask, Opened(0), Bytes(0, &ANSWER), Later(1)],
-        &[OpensStream(0, 3), SENT, Closes(0)],
-        &[(0, Ok(FIRST))],
+        &[Ask, Open(0), Bytes(0, &ANSWER), Later(1)],
+        &[Opens(0), SENT, Closes(0)],
+        &[(0, Ok(0))],
     ),
 ];
 
@@ -140,7 +139,7 @@ fn config_of(row: &Timed) -> Config {
 fn holds(alloc: Global, row: &Timed) -> Result<bool, Error> {
     let mut world = connected(alloc, config_of(row), &[])?;
     tell_all(alloc, &mut world, row.3)?;
-    Ok(are_put_out(&world.lent.outs, row.4) && are_given(&mut world, row.5))
+    Ok(are_put_out(&world, row.4) && are_given(&mut world, row.5))
 }
 
 #[test]

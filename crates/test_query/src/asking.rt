@@ -2,12 +2,13 @@
 
 use client_core::{Clock, Moment};
 use client_edge::{RandWords, RealClock, SocketEdge};
-use client_request::{ListWords, WordList, Words};
-use dns_base::{NoMemory, Octets};
+use client_request::{ListWords, WordList};
+use dns_base::Octets;
 use dns_values::{MemSink, MemSource};
 use dnsq_run::run_alone;
 use rand::rngs::StdRng;
 use std::alloc::{AllocError, Global};
+use std::test::Fail;
 
 /// The words that ask for the address of example.com at a port.
 fn words(alloc: Global, port: u16) -> Result<Vec<String>, AllocError> {
@@ -20,80 +21,41 @@ fn words(alloc: Global, port: u16) -> Result<Vec<String>, AllocError> {
 }
 
 /// A source of a configuration.
-fn source(alloc: Global, conf: &str) -> Result<MemSource, NoMemory> {
+fn source(alloc: Global, conf: &str) -> Result<MemSource, Fail> {
     let octets = Octets::from_slice(alloc, conf.as_bytes())?;
     Ok(MemSource::new(octets, Vec::new(alloc)))
 }
 
-/// What the program reads, and what it writes.
-#[derive(Drop)]
-struct Run {
-    words: Vec<String>,
-    source: MemSource,
-    sink: MemSink,
-}
-
-/// A run that asks at a port under a configuration.
-fn prepared(alloc: Global, conf: &str, port: u16) -> Option<Run> {
-    match (words(alloc, port), source(alloc, conf)) {
-        (Ok(words), Ok(source)) => Some(Run {
-            words,
-            source,
-            sink: MemSink::new(alloc, Vec::new(alloc), Vec::new(alloc)),
-        }),
-        _ => None,
-    }
-}
-
-/// The exit status of a run.
-fn status_of<W: Words>(rt: HostRuntime, run: &mut Run, random: &mut W) -> u8 {
+/// Whether the program, asked at a port under a configuration, ends well with the line of a message.
+pub fn is_answered(rt: HostRuntime, conf: &str, port: u16) -> Result<bool, Fail> {
+    let alloc = rt.alloc();
+    let words = words(alloc, port)?;
+    let mut sink = MemSink::new(alloc, Vec::new(alloc), Vec::new(alloc));
     let status = run_alone(
-        rt.alloc(),
-        &run.words,
-        &mut run.source,
-        &mut run.sink,
-        &mut SocketEdge::new(rt, rt.alloc()),
+        alloc,
+        &words,
+        &mut source(alloc, conf)?,
+        &mut sink,
+        &mut SocketEdge::new(rt, alloc),
         &mut RealClock::new(rt),
-        random,
+        &mut RandWords::new(rand::make_rng::<StdRng, _>(&rt)?),
     );
-    status.0
+    Ok(status.0 == 0 && sink.as_slice().starts_with(b"reply 0 ok "))
 }
 
-/// What a run writes.
-#[derive(Clone, Copy)]
-pub enum Said {
-    Is(&'static [u8]),
-    Begins(&'static [u8]),
-}
-
-fn is_said(octets: &[u8], said: Said) -> bool {
-    match said {
-        Said::Is(whole) => octets == whole,
-        Said::Begins(first) => octets.starts_with(first),
-    }
-}
-
-/// What is wanted of a run: its exit status, what it writes, and within how many microseconds it ends.
-#[derive(Clone, Copy)]
-pub struct Wanted {
+/// What a run came to.
+#[derive(Drop)]
+pub struct Ended {
+    /// The exit status.
     pub status: u8,
-    pub said: Said,
-    pub micros: u64,
-}
-
-/// Whether a run comes to that.
-fn comes_to<W: Words>(rt: HostRuntime, run: &mut Run, random: &mut W, wanted: Wanted) -> bool {
-    let mut clock = RealClock::new(rt);
-    let Moment(begun) = clock.now();
-    let status = status_of(rt, run, random);
-    let Moment(ended) = clock.now();
-    status == wanted.status
-        && is_said(run.sink.as_slice(), wanted.said)
-        && ended.saturating_sub(begun) < wanted.micros
+    /// What was written.
+    pub said: MemSink,
+    /// How long it took, in microseconds.
+    pub micros: u128,
 }
 
 /// So many of the greatest word, which asks for no probe.
-fn great_words(alloc: Global, count: usize) -> Result<ListWords, NoMemory> {
+fn great_words(alloc: Global, count: usize) -> Result<ListWords, Fail> {
     let mut words = WordList::new(alloc);
     for _ in 0..count {
         words.push(u64::MAX)?;
@@ -101,26 +63,26 @@ fn great_words(alloc: Global, count: usize) -> Result<ListWords, NoMemory> {
     Ok(ListWords::new(words))
 }
 
-/// Whether the program, asked at a port under a configuration, comes to that.
-pub fn answers(rt: HostRuntime, conf: &str, port: u16, wanted: Wanted) -> bool {
-    match (
-        prepared(rt.alloc(), conf, port),
-        rand::make_rng::<StdRng, _>(&rt),
-    ) {
-        (Some(mut run), Ok(random)) => {
-            comes_to(rt, &mut run, &mut RandWords::new(random), wanted)
-        }
-        _ => false,
-    }
-}
-
-/// The same where the first server is asked first.
-pub fn answers_in_order(rt: HostRuntime, conf: &str, port: u16, wanted: Wanted) -> bool {
-    match (
-        prepared(rt.alloc(), conf, port),
-        great_words(rt.alloc(), 64),
-    ) {
-        (Some(mut run), Ok(mut random)) => comes_to(rt, &mut run, &mut random, wanted),
-        _ => false,
-    }
+/// What the program comes to, asked at a port under a configuration, where the first server is asked first.
+pub fn ends(rt: HostRuntime, conf: &str, port: u16) -> Result<Ended, Fail> {
+    let alloc = rt.alloc();
+    let words = words(alloc, port)?;
+    let mut said = MemSink::new(alloc, Vec::new(alloc), Vec::new(alloc));
+    let mut clock = RealClock::new(rt);
+    let Moment(begun) = clock.now();
+    let status = run_alone(
+        alloc,
+        &words,
+        &mut source(alloc, conf)?,
+        &mut said,
+        &mut SocketEdge::new(rt, alloc),
+        &mut RealClock::new(rt),
+        &mut great_words(alloc, 64)?,
+    );
+    let Moment(ended) = clock.now();
+    Ok(Ended {
+        status: status.0,
+        said,
+        micros: (ended - begun) as u128,
+    })
 }

@@ -1,14 +1,14 @@
 //! Requests that are asked, and turns.
 
-use crate::scenes::{ANSWER, Gives, edge, request, server, set_scene};
-use Got::{Answer, Nothing, Other};
+use crate::scenes::{ANSWER, answered, client, clock, request, server, words};
 use client_core::{Deed, ListEdge, Out, What};
 use client_loop::{MOST_TURNS, ask, ask_within, learn_all, turn};
 use client_request::{Error, Moment, Row};
 use dns_base::Message;
 use std::alloc::Global;
+use std::test::Fail;
 
-/// A letter for what an edge was asked to do.
+/// What an edge was asked to do: a letter for each deed.
 fn letter(deed: &Deed) -> u8 {
     match deed {
         Deed::Learned(_) => b'l',
@@ -23,173 +23,157 @@ fn letter(deed: &Deed) -> u8 {
     }
 }
 
-fn is_letter(pair: (&Deed, &u8)) -> bool {
-    letter(pair.0) == *pair.1
-}
-
 /// Whether these are the deeds of an edge, in order.
 fn did(edge: &ListEdge, letters: &[u8]) -> bool {
     let deeds = edge.deeds();
-    deeds.len() == letters.len() && deeds.iter().zip(letters).all(is_letter)
+    deeds.len() == letters.len()
+        && deeds
+            .iter()
+            .zip(letters)
+            .all(|(deed, one)| letter(deed) == *one)
 }
 
-/// What a request got: no reply, the message that came, or something else.
-#[derive(Clone, Copy, PartialEq, Eq)]
-enum Got {
-    Nothing,
-    Answer,
-    Other,
-}
-
-fn got_by(reply: &Result<Option<Result<Message, Error>>, Error>) -> Got {
+/// Whether the answer is the message that came.
+fn is_answer(reply: &Option<Result<Message, Error>>) -> bool {
     match reply {
-        Ok(None) => Nothing,
-        Ok(Some(Ok(message))) if message.as_slice() == ANSWER.as_slice() => Answer,
-        _ => Other,
-    }
-}
-
-/// What the request of a number gets within so many turns, over an edge.
-fn asked(alloc: Global, edge: &mut ListEdge, number: u64, most: u64) -> Got {
-    let moments = [Moment(0), Moment(10), Moment(20_000)];
-    let (Some(mut scene), Ok(request)) = (set_scene(alloc, &moments), request(alloc)) else {
-        return Other;
-    };
-    got_by(&ask_within(
-        &mut scene.client,
-        edge,
-        &mut scene.clock,
-        &mut scene.words,
-        number,
-        request,
-        most,
-    ))
-}
-
-/// What an edge gives, the number of a request, for how many turns it is waited, what it gets, what the edge did, and how long
-/// it might wait where that is said.
-type Asked = (Gives, u64, u64, Got, &'static [u8], Option<&'static [u128]>);
-
-const ASKED: [Asked; 5] = [
-    // A request has its reply, and an edge may wait until the timeout.
-    (
-        Gives::Answer,
-        0,
-        2,
-        Answer,
-        b"sopwpcr",
-        Some(&[5_000_000, 4_999_990]),
-    ),
-    // Too few turns have no reply.
-    (Gives::Answer, 0, 1, Nothing, b"sopw", None),
-    // Nothing happens in so many turns.
-    (
-        Gives::Nothing,
-        0,
-        3,
-        Nothing,
-        b"so---",
-        Some(&[5_000_000, 4_999_990, 4_980_000]),
-    ),
-    // The reply to another request is not taken.
-    (Gives::Answer, 1, 4, Nothing, b"sopwpcr--", None),
-    // A request that an edge gives is not asked.
-    (Gives::Request, 0, 2, Nothing, b"sop-", None),
-];
-
-fn waited(edge: &ListEdge, waits: Option<&[u128]>) -> bool {
-    match waits {
-        Some(waits) => edge.waits() == waits,
-        None => true,
-    }
-}
-
-fn goes(alloc: Global, row: &Asked) -> bool {
-    match edge(alloc, row.0) {
-        Ok(mut edge) => {
-            asked(alloc, &mut edge, row.1, row.2) == row.3
-                && did(&edge, row.4)
-                && waited(&edge, row.5)
-        }
-        Err(_) => false,
-    }
-}
-
-#[test]
-fn requests_get_what_their_rows_say(rt: HostRuntime) {
-    assert_eq!(rt; ASKED.iter().position(|row| !goes(rt.alloc(), row)), None);
-}
-
-/// Whether the row of a turn is that of a tick at a moment, and nothing is put out.
-fn is_idle(row: &Result<Row, Error>, moment: u64) -> bool {
-    match row {
-        Ok(row) => {
-            matches!(row.event.what, What::Tick)
-                && row.event.moment.0 == moment
-                && row.outs.is_empty()
-        }
-        Err(_) => false,
-    }
-}
-
-/// Whether a turn of a client that was asked nothing is a tick, for which an edge may wait for ever.
-fn turns_idly(alloc: Global, edge: &mut ListEdge) -> bool {
-    let Some(mut scene) = set_scene(alloc, &[Moment(7)]) else {
-        return false;
-    };
-    is_idle(
-        &turn(&mut scene.client, edge, &mut scene.clock, &mut scene.words),
-        7,
-    )
-}
-
-#[test]
-fn a_turn_without_an_event_is_a_tick(rt: HostRuntime) {
-    let mut edge = ListEdge::new(rt.alloc(), Vec::new(rt.alloc()));
-    assert!(rt; turns_idly(rt.alloc(), &mut edge) && did(&edge, b"-"));
-    assert!(rt; edge.waits() == [u128::MAX].as_slice());
-}
-
-/// Whether an edge learned two servers, in order.
-fn has_learned(deeds: &[Deed]) -> bool {
-    match deeds {
-        [Deed::Learned(first), Deed::Learned(second)] => {
-            *first == server(53) && *second == server(54)
-        }
+        Some(Ok(message)) => message.as_slice() == ANSWER.as_slice(),
         _ => false,
     }
 }
 
-#[test]
-fn servers_are_learned_in_order(rt: HostRuntime) {
-    let mut edge = ListEdge::new(rt.alloc(), Vec::new(rt.alloc()));
-    assert!(rt; learn_all(&mut edge, &[server(53), server(54)]).is_ok());
-    assert!(rt; has_learned(edge.deeds()));
-}
-
-/// What a request gets with as many turns as `ask` gives.
-fn asked_at_length(alloc: Global, edge: &mut ListEdge) -> Got {
-    let (Some(mut scene), Ok(request)) = (set_scene(alloc, &[Moment(0)]), request(alloc)) else {
-        return Other;
-    };
-    got_by(&ask(
-        &mut scene.client,
+/// What is answered to the request of a number within so many turns, over an edge.
+fn asked(
+    alloc: Global,
+    edge: &mut ListEdge,
+    number: u64,
+    most: u64,
+) -> Result<Option<Result<Message, Error>>, Fail> {
+    let mut client = client(alloc)?;
+    let mut words = words(alloc)?;
+    let mut clock = clock(alloc, &[Moment(0), Moment(10), Moment(20_000)])?;
+    let request = request(alloc)?;
+    let reply = ask_within(
+        &mut client,
         edge,
-        &mut scene.clock,
-        &mut scene.words,
-        0,
+        &mut clock,
+        &mut words,
+        number,
         request,
-    ))
-}
-
-fn is_asked_at_length(alloc: Global) -> bool {
-    match edge(alloc, Gives::Answer) {
-        Ok(mut edge) => asked_at_length(alloc, &mut edge) == Answer,
-        Err(_) => false,
-    }
+        most,
+    )?;
+    Ok(reply)
 }
 
 #[test]
-fn many_turns_are_given(rt: HostRuntime) {
-    assert!(rt; is_asked_at_length(rt.alloc()) && MOST_TURNS == 1_000_000);
+fn a_request_has_its_reply(rt: HostRuntime) -> Result<(), Fail> {
+    let mut edge = answered(rt.alloc())?;
+    let reply = asked(rt.alloc(), &mut edge, 0, 2)?;
+    assert!(rt; is_answer(&reply));
+    assert!(rt; did(&edge, b"sopwpcr"));
+    Ok(())
+}
+
+#[test]
+fn an_edge_may_wait_until_the_timeout(rt: HostRuntime) -> Result<(), Fail> {
+    let mut edge = answered(rt.alloc())?;
+    asked(rt.alloc(), &mut edge, 0, 2)?;
+    assert!(rt; edge.waits() == [5_000_000, 4_999_990].as_slice());
+    Ok(())
+}
+
+#[test]
+fn too_few_turns_have_no_reply(rt: HostRuntime) -> Result<(), Fail> {
+    let mut edge = answered(rt.alloc())?;
+    let reply = asked(rt.alloc(), &mut edge, 0, 1)?;
+    assert!(rt; reply.is_none());
+    assert!(rt; did(&edge, b"sopw"));
+    Ok(())
+}
+
+#[test]
+fn nothing_happens_in_so_many_turns(rt: HostRuntime) -> Result<(), Fail> {
+    let mut edge = ListEdge::new(rt.alloc(), Vec::new(rt.alloc()));
+    let reply = asked(rt.alloc(), &mut edge, 0, 3)?;
+    assert!(rt; reply.is_none());
+    assert!(rt; did(&edge, b"so---"));
+    assert!(rt; edge.waits() == [5_000_000, 4_999_990, 4_980_000].as_slice());
+    Ok(())
+}
+
+#[test]
+fn the_reply_to_another_request_is_not_taken(rt: HostRuntime) -> Result<(), Fail> {
+    let mut edge = answered(rt.alloc())?;
+    let reply = asked(rt.alloc(), &mut edge, 1, 4)?;
+    assert!(rt; reply.is_none());
+    assert!(rt; did(&edge, b"sopwpcr--"));
+    Ok(())
+}
+
+/// An edge that gives a request.
+fn asking(alloc: Global) -> Result<ListEdge, Fail> {
+    let request = request(alloc)?;
+    let mut events = Vec::new(alloc);
+    events.push(Some(What::Ask { request }))?;
+    Ok(ListEdge::new(alloc, events))
+}
+
+#[test]
+fn a_request_that_an_edge_gives_is_not_asked(rt: HostRuntime) -> Result<(), Fail> {
+    let mut edge = asking(rt.alloc())?;
+    let reply = asked(rt.alloc(), &mut edge, 0, 2)?;
+    assert!(rt; reply.is_none());
+    assert!(rt; did(&edge, b"sop-"));
+    Ok(())
+}
+
+/// A turn of a client that was asked nothing.
+fn idle_turn(alloc: Global, edge: &mut ListEdge) -> Result<Row, Fail> {
+    let mut client = client(alloc)?;
+    let mut words = words(alloc)?;
+    let mut clock = clock(alloc, &[Moment(7)])?;
+    Ok(turn(&mut client, edge, &mut clock, &mut words)?)
+}
+
+#[test]
+fn a_turn_without_an_event_is_a_tick(rt: HostRuntime) -> Result<(), Fail> {
+    let mut edge = ListEdge::new(rt.alloc(), Vec::new(rt.alloc()));
+    let row = idle_turn(rt.alloc(), &mut edge)?;
+    assert!(rt; matches!(row.event.what, What::Tick) && row.event.moment.0 == 7);
+    assert!(rt; row.outs.is_empty() && did(&edge, b"-"));
+    assert!(rt; edge.waits() == [u128::MAX].as_slice());
+    Ok(())
+}
+
+#[test]
+fn servers_are_learned_in_order(rt: HostRuntime) -> Result<(), Fail> {
+    let mut edge = ListEdge::new(rt.alloc(), Vec::new(rt.alloc()));
+    learn_all(&mut edge, &[server(53), server(54)])?;
+    assert!(rt;
+        matches!(
+            edge.deeds(),
+            [Deed::Learned(first), Deed::Learned(second)] if *first == server(53) && *second == server(54)
+        )
+    );
+    Ok(())
+}
+
+/// What is answered with as many turns as `ask` gives.
+fn asked_at_length(
+    alloc: Global,
+    edge: &mut ListEdge,
+) -> Result<Option<Result<Message, Error>>, Fail> {
+    let mut client = client(alloc)?;
+    let mut words = words(alloc)?;
+    let mut clock = clock(alloc, &[Moment(0)])?;
+    let request = request(alloc)?;
+    Ok(ask(&mut client, edge, &mut clock, &mut words, 0, request)?)
+}
+
+#[test]
+fn many_turns_are_given(rt: HostRuntime) -> Result<(), Fail> {
+    let mut edge = answered(rt.alloc())?;
+    let reply = asked_at_length(rt.alloc(), &mut edge)?;
+    assert!(rt; is_answer(&reply));
+    assert_eq!(rt; MOST_TURNS, 1_000_000);
+    Ok(())
 }

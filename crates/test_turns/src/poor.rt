@@ -2,13 +2,14 @@
 
 ghost use Rattle.std.specs.Prelude.{None};
 
-use crate::scenes::{Scene, request, server, set_scene};
+use crate::scenes::{client, clock, request, server, words};
 use client_core::{Edge, Out, What};
 use client_loop::{ask_within, learn_all, turn};
-use client_request::{Error, Moment, RequestMessage};
-use dns_base::NoMemory;
+use client_request::{Error, Moment, Row};
+use dns_base::{Message, NoMemory};
 use resolv_conf::ServerConf;
 use std::alloc::Global;
+use std::test::Fail;
 
 /// An edge each call of which finds no memory.
 #[derive(Drop)]
@@ -34,42 +35,37 @@ impl Edge for Poor {
     }
 }
 
-/// Whether a turn over such an edge finds no memory.
-fn turns_poorly(scene: &mut Scene) -> bool {
-    let row = turn(
-        &mut scene.client,
-        &mut Poor,
-        &mut scene.clock,
-        &mut scene.words,
-    );
-    matches!(row, Err(Error::NoMemory))
-}
-
-/// Whether a request over such an edge finds none.
-fn asks_poorly(scene: &mut Scene, request: RequestMessage) -> bool {
+/// What is answered over such an edge: a turn's row, and a reply.
+fn answers(
+    alloc: Global,
+) -> Result<
+    (
+        Result<Row, Error>,
+        Result<Option<Result<Message, Error>>, Error>,
+    ),
+    Fail,
+> {
+    let mut client = client(alloc)?;
+    let mut words = words(alloc)?;
+    let mut clock = clock(alloc, &[Moment(0)])?;
+    let request = request(alloc)?;
+    let row = turn(&mut client, &mut Poor, &mut clock, &mut words);
     let reply = ask_within(
-        &mut scene.client,
+        &mut client,
         &mut Poor,
-        &mut scene.clock,
-        &mut scene.words,
+        &mut clock,
+        &mut words,
         0,
         request,
         9,
     );
-    matches!(reply, Err(Error::NoMemory))
-}
-
-fn answers_poorly(alloc: Global) -> bool {
-    match (set_scene(alloc, &[Moment(0)]), request(alloc)) {
-        (Some(mut scene), Ok(request)) => {
-            turns_poorly(&mut scene) && asks_poorly(&mut scene, request)
-        }
-        _ => false,
-    }
+    Ok((row, reply))
 }
 
 #[test]
-fn want_of_memory_of_an_edge_is_handed_on(rt: HostRuntime) {
-    assert!(rt; answers_poorly(rt.alloc()));
+fn want_of_memory_of_an_edge_is_handed_on(rt: HostRuntime) -> Result<(), Fail> {
+    let (row, reply) = answers(rt.alloc())?;
+    assert!(rt; matches!(row, Err(Error::NoMemory)) && matches!(reply, Err(Error::NoMemory)));
     assert_eq!(rt; learn_all(&mut Poor, &[server(53)]), Err(NoMemory));
+    Ok(())
 }

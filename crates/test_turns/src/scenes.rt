@@ -1,10 +1,11 @@
 //! A client of one server, what happens to it, and what it is asked.
 
 use client_core::{Client, ListClock, ListEdge, What, cache, redundant};
-use client_request::{Error, ListWords, Moment, RequestMessage, WordList};
+use client_request::{ListWords, Moment, RequestMessage, WordList};
 use dns_base::{IpAddr, Message, NoMemory, Octets, SocketAddr};
 use resolv_conf::{ResolvConf, ServerConf, Transport};
-use std::alloc::Global;
+use std::alloc::{AllocError, Global};
+use std::test::Fail;
 
 /// Asks for the address of example.com, recursion desired.
 const QUESTION: [u8; 29] = [
@@ -19,9 +20,9 @@ pub const ANSWER: [u8; 45] = [
 ];
 
 /// The request of that question.
-pub fn request(alloc: Global) -> Result<RequestMessage, Error> {
-    let octets = Octets::from_slice(alloc, &QUESTION)?;
-    RequestMessage::new(alloc, Message::from_octets(octets)?)
+pub fn request(alloc: Global) -> Result<RequestMessage, Fail> {
+    let message = Message::from_octets(Octets::from_slice(alloc, &QUESTION)?)?;
+    Ok(RequestMessage::new(alloc, message)?)
 }
 
 /// A server by its last octet.
@@ -38,71 +39,29 @@ fn conf(alloc: Global) -> Result<ResolvConf, NoMemory> {
 }
 
 /// A client of that server.
-fn client(alloc: Global) -> Result<Client, Error> {
+pub fn client(alloc: Global) -> Result<Client, Fail> {
     let conf = conf(alloc)?;
-    Client::new(alloc, &conf, redundant::Config::new(), cache::Config::new())
+    let client = Client::new(alloc, &conf, redundant::Config::new(), cache::Config::new())?;
+    Ok(client)
 }
 
 /// The word 4660, and 0 from then on.
-fn words(alloc: Global) -> Result<ListWords, NoMemory> {
+pub fn words(alloc: Global) -> Result<ListWords, NoMemory> {
     let mut words = WordList::new(alloc);
     words.push(4660)?;
     Ok(ListWords::new(words))
 }
 
-/// A client of that server, and what its turns are given but an edge.
-#[derive(Drop)]
-pub struct Scene {
-    pub client: Client,
-    pub clock: ListClock,
-    pub words: ListWords,
-}
-
-/// A scene whose clock gives these moments.
-pub fn set_scene(alloc: Global, moments: &[Moment]) -> Option<Scene> {
-    match (client(alloc), Vec::from_slice(alloc, moments), words(alloc)) {
-        (Ok(client), Ok(moments), Ok(words)) => Some(Scene {
-            client,
-            clock: ListClock::new(moments),
-            words,
-        }),
-        _ => None,
-    }
+/// A clock that gives these moments.
+pub fn clock(alloc: Global, moments: &[Moment]) -> Result<ListClock, AllocError> {
+    Ok(ListClock::new(Vec::from_slice(alloc, moments)?))
 }
 
 /// That the first place is open, and then the answer's datagram.
-fn push_answer(events: &mut Vec<Option<What>>, alloc: Global) -> Result<(), NoMemory> {
+pub fn answered(alloc: Global) -> Result<ListEdge, Fail> {
     let octets = Octets::from_slice(alloc, &ANSWER)?;
+    let mut events = Vec::new(alloc);
     events.push(Some(What::Opened { place: 0 }))?;
     events.push(Some(What::Datagram { place: 0, octets }))?;
-    Ok(())
-}
-
-/// What an edge gives.
-#[derive(Clone, Copy)]
-pub enum Gives {
-    Nothing,
-    /// That the first place is open, and then the answer's datagram.
-    Answer,
-    /// A request.
-    Request,
-}
-
-fn events(alloc: Global, gives: Gives) -> Result<Vec<Option<What>>, Error> {
-    let mut events = Vec::new(alloc);
-    match gives {
-        Gives::Nothing => {}
-        Gives::Answer => push_answer(&mut events, alloc)?,
-        Gives::Request => {
-            let request = request(alloc)?;
-            if events.push(Some(What::Ask { request })).is_err() {
-                return Err(Error::NoMemory);
-            }
-        }
-    }
-    Ok(events)
-}
-
-pub fn edge(alloc: Global, gives: Gives) -> Result<ListEdge, Error> {
-    Ok(ListEdge::new(alloc, events(alloc, gives)?))
+    Ok(ListEdge::new(alloc, events))
 }
