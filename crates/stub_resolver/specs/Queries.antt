@@ -1,7 +1,7 @@
 -- What a query asks, and what it gets.
 use Rattle.std.specs.Prelude.{◌≡◌, ℕ, ◌==◌, ◌&&◌, ◌||◌, Bool, true, false, List, [], ◌∷◌, ◌++◌, Option, None, Some, Result, Ok, Err}
 use Rattle.dns_names.specs.Name.{Labels}
-use Rattle.dns_base.specs.Query.{query_octets}
+use Rattle.dns_base.specs.Draft.{finished, fresh, pushed_question, with_header}
 use Rattle.dns_base.specs.Header.{rcode_of}
 use Rattle.client_request.specs.Request.{Request, is_misformed, recorded_from}
 use Rattle.client_request.specs.declared.error.Error.{Error}
@@ -13,6 +13,14 @@ use Rattle.resolv_lookup.specs.Services.{Fits, LooksUpSrv, Outcome}
 use Rattle.resolv_lookup.specs.declared.fault.QueryFault.TheVariants.{Client, NoReply}
 use Rattle.resolv_lookup.specs.declared.resolver.Asking.{Asking}
 use Rattle.stub_resolver.specs.Stub.{Stub, with_fault}
+
+-- the header of a question with recursion desired (RFC 1035 4.1.1)
+abbrev pub recursive : List ℕ
+recursive = 0 ∷ 0 ∷ 1 ∷ 0 ∷ []
+
+-- the message that asks for the records of a type that a name has, of class IN
+abbrev pub question : Labels → ℕ → List ℕ
+question name rtype = finished (pushed_question (record { name = name; rtype = rtype; class = 1 }) (with_header recursive (fresh None)))
 
 -- the client's reply to a request, if it came
 abbrev pub Reply : Type 0
@@ -80,7 +88,7 @@ pub record Queries {E C W : Type 0} (see : Stub E C W → Scene) (again : Bool) 
 
 -- A question was asked, which is told to no one.
 abbrev pub AsksStub : {E C W : Type 0} → (Stub E C W → Scene) → Stub E C W → Asking → Stub E C W → Type 0
-AsksStub see = Asks (λ old one new. Queries see true (query_octets one.name one.rtype.0) old new one.got) (λ _. None)
+AsksStub see = Asks (λ old one new. Queries see true (question one.name one.rtype.0) old new one.got) (λ _. None)
 
 -- A service of a name was looked up, where the name of both fits.
 abbrev pub FindsSrv : {R : Type 0} → (R → Asking → R → Type 0) → (service name : Labels) (port : ℕ) (before after : R) (old new : ℕ → ℕ) → Outcome → Type 0

@@ -14,6 +14,7 @@
 mod asking;
 mod lookups;
 mod query;
+mod question;
 mod running;
 mod stub;
 

@@ -1,14 +1,13 @@
 //! Lookups over a stub resolver.
 
 ghost use Rattle.std.specs.Prelude.{◌≡◌, ◌≤◌, ◌++◌, None, true, Err, IfErr};
-ghost use Rattle.dns_base.specs.Query.{query_octets};
 ghost use Rattle.resolv_lookup.specs.Asked.{IsCounted, IsTold, asking};
 ghost use Rattle.resolv_lookup.specs.Hosts.{HostIsCounted, LooksUpHost};
 ghost use Rattle.resolv_lookup.specs.Names.{LooksUpAddr};
 ghost use Rattle.resolv_lookup.specs.Search.{SearchesHost};
 ghost use Rattle.resolv_lookup.specs.Services.{AsksNothing, IsLong, SrvIsCounted};
 ghost use Rattle.resolv_lookup.specs.declared.fault.SrvError.TheVariants as services;
-ghost use Rattle.stub_resolver.specs.Queries.{AsksStub, FindsSrv, Queries};
+ghost use Rattle.stub_resolver.specs.Queries.{AsksStub, FindsSrv, Queries, question};
 ghost use Rattle.stub_resolver.specs.Stub.{seen};
 
 use crate::stub::StubResolver;
@@ -25,14 +24,14 @@ use std::alloc::Global;
 impl<E: Edge + Drop, C: Clock + Drop, W: Words + Drop> Resolver for StubResolver<E, C, W> {
     type Answer = Answer;
 
-    ghost says = { λ old one new. Queries (seen E.deeds E.waits E.polls C.given W.stream) true (query_octets one.name one.rtype.0) old new one.got };
+    ghost says = { λ old one new. Queries (seen E.deeds E.waits E.polls C.given W.stream) true (question one.name one.rtype.0) old new one.got };
 
     ghost asked = { λ _. None };
 
     ghost faults = { λ s. s.faults };
 
     fn query(&mut self, alloc: Global, name: &Name, rtype: Rtype) -> Result<Answer, QueryFault>
-        ensures says { Queries (seen E.deeds E.waits E.polls C.given W.stream) true (query_octets name.now rtype.0) self.old self.new result }
+        ensures says { Queries (seen E.deeds E.waits E.polls C.given W.stream) true (question name.now rtype.0) self.old self.new result }
         ensures asked { IsTold (asking name.now rtype.0 result) None None }
         ensures count { self.old.faults ≤ self.new.faults }
         ensures failed { IfErr result (IsCounted self.old.faults self.new.faults) }

@@ -2,16 +2,16 @@
 
 ghost use Rattle.std.specs.Prelude.{◌≡◌, ◌≤◌, ◌||◌, if◌then◌else◌, true, false, Err, IfOk, IfErr, OnOk, OnErr};
 ghost use Rattle.dns_values.specs.Source.{Rose, one_more};
-ghost use Rattle.dns_base.specs.Query.{query_octets};
 ghost use Rattle.client_core.specs.Edge.{after_deed};
 ghost use Rattle.client_core.specs.declared.deed.Deed.TheVariants.{Learned};
 ghost use Rattle.client_steps.specs.Whole.{with_one_more};
 ghost use Rattle.resolv_lookup.specs.ListAnswers.{faults_after};
 ghost use Rattle.stub_resolver.specs.Making.{IsNew, ByFile};
-ghost use Rattle.stub_resolver.specs.Queries.{Gets, is_want};
+ghost use Rattle.stub_resolver.specs.Queries.{Gets, question, is_want};
 ghost use Rattle.stub_resolver.specs.Stub.{seen, with_fault};
 
 use crate::asking::{got_to, is_want};
+use crate::question::question;
 use client_core::{Client, Clock, Edge, cache, redundant};
 use client_loop::learn_all;
 use client_request::{Error, Words};
@@ -137,7 +137,7 @@ impl<E: Edge + Drop, C: Clock + Drop, W: Words + Drop> StubResolver<E, C, W> {
     /// pass the greatest `u64`, after which the resolver has failed; `Client(Failed)` where it had failed before.
     pub fn query(&mut self, alloc: Global, name: &Name, rtype: Rtype) -> Result<Answer, QueryFault>
         ensures failed { self.old.failed ≡ true → (result ≡ Err (QueryFault.Client Error.Failed)) × (self.new ≡ with_fault self.old) }
-        ensures gets { self.old.failed ≡ false → Gets true (query_octets name.now rtype.0) (seen E.deeds E.waits E.polls C.given W.stream self.old) (seen E.deeds E.waits E.polls C.given W.stream self.new) result }
+        ensures gets { self.old.failed ≡ false → Gets true (question name.now rtype.0) (seen E.deeds E.waits E.polls C.given W.stream self.old) (seen E.deeds E.waits E.polls C.given W.stream self.new) result }
         ensures count { self.new.faults ≡ faults_after result self.old.faults }
         ensures rose { OnErr result (Rose self.old.faults self.new.faults) }
         ensures lasts { self.new.failed ≡ (self.old.failed || is_want result) }
@@ -146,7 +146,7 @@ impl<E: Edge + Drop, C: Clock + Drop, W: Words + Drop> StubResolver<E, C, W> {
         if self.failed {
             return self.fail(QueryFault::Client(Error::Failed));
         }
-        match Message::query(alloc, name, rtype) {
+        match question(alloc, name, rtype) {
             Ok(message) => self.ask(alloc, message, true),
             Err(NoMemory) => self.fail(QueryFault::from(NoMemory)),
         }
