@@ -1,14 +1,13 @@
 //! The client: one step for each event.
 
 ghost use Rattle.std.specs.Prelude.{◌≡◌, if◌then◌else◌, true, false, Some, None, Ok, Err, OnOk, OnErr, IfOk, IfErr, IsErrOf, option_map};
-ghost use Rattle.client_request.specs.Calls.{Steps, NumbersRunOut, AnswersFailed};
-ghost use Rattle.client_request.specs.Cx.{LendsTheSame};
+ghost use Rattle.client_request.specs.Calls.{NumbersRunOut, AnswersFailed};
 ghost use Rattle.client_request.specs.Response.{IsRefusal};
 ghost use Rattle.client_request.specs.Timers.{due_now, next_due};
 ghost use Rattle.client_steps.specs.Client as plain;
-ghost use Rattle.client_steps.specs.Machines.{client_in};
+ghost use Rattle.client_steps.specs.Machines.{ClientHolds};
 ghost use Rattle.client_core.specs.Waiting.{time_left, wait_of};
-ghost use Rattle.client_steps.specs.Upstream as upstream;
+ghost use Rattle.client_steps.specs.Upstream as below;
 ghost use Rattle.client_steps.specs.Whole.{machine, started, with_one_more, plain_step, client_with};
 ghost use Rattle.client_cache.specs.Plain as caching;
 ghost use Rattle.client_choice.specs.Redundant as choosing;
@@ -78,12 +77,7 @@ fn turn<W: Words>(
     timeout: Duration,
     event: &Event,
 ) -> Result<(), Error>
-    ensures lends { LendsTheSame cx.old cx.new }
-    ensures ok { Steps result (plain.client_step machine timeout event.now (client_in layer.old asked.old W.stream cx.old)) (client_in layer.new asked.new W.stream cx.new) }
-    ensures numbers { NumbersRunOut result (plain.client_step machine timeout event.now (client_in layer.old asked.old W.stream cx.old)) }
-    ensures keeps { OnOk result (caching.holds_failed (choosing.holds_failed upstream.holds_failed) layer.new ≡ caching.holds_failed (choosing.holds_failed upstream.holds_failed) layer.old) }
-    ensures refused { IfErr result IsRefusal }
-    ensures failed_only { IsErrOf result Error.Failed → caching.holds_failed (choosing.holds_failed upstream.holds_failed) layer.old ≡ true }
+    ensures holds { ClientHolds W.stream cx.old cx.new result (plain.client_step machine timeout event.now) (caching.holds_failed (choosing.holds_failed below.holds_failed)) (layer.old, asked.old) (layer.new, asked.new) }
 {
     take_in(layer, asked, cx, alloc, timeout, event)
 }

@@ -1,11 +1,9 @@
 //! Calls of the transport, each with its replies, and the deadlines of requests.
 
-ghost use Rattle.std.specs.Prelude.{◌≡◌, ◌+◌, ◌<◌, true, Some, None, Err, Ok, OnOk, IfErr, IsErrOf};
-ghost use Rattle.client_request.specs.Calls.{Steps, NumbersRunOut};
-ghost use Rattle.client_request.specs.Cx.{heard, LendsTheSame};
-ghost use Rattle.client_request.specs.Response.{IsRefusal};
+ghost use Rattle.std.specs.Prelude.{◌≡◌, ◌+◌};
+ghost use Rattle.client_request.specs.Cx.{heard};
 ghost use Rattle.client_steps.specs.Client as plain;
-ghost use Rattle.client_steps.specs.Machines.{machine_of, client_in};
+ghost use Rattle.client_steps.specs.Machines.{machine_of, ClientHolds};
 
 use crate::asked::{Asked, Waiting, reply_all};
 use client_request::{
@@ -22,12 +20,7 @@ fn hear<L: SendRequest<RequestMessage>, W: Words>(
     cx: &mut Cx<'_, W>,
     signal: Signal<'_>,
 ) -> Result<(), Error>
-    ensures lends { LendsTheSame cx.old cx.new }
-    ensures ok { Steps result (plain.hears (machine_of L.transport L.Response.ticket_of) (heard signal.entry) (client_in layer.old asked.old W.stream cx.old)) (client_in layer.new asked.new W.stream cx.new) }
-    ensures numbers { NumbersRunOut result (plain.hears (machine_of L.transport L.Response.ticket_of) (heard signal.entry) (client_in layer.old asked.old W.stream cx.old)) }
-    ensures keeps { OnOk result (L.holds_failed layer.new ≡ L.holds_failed layer.old) }
-    ensures refused { IfErr result IsRefusal }
-    ensures failed_only { IsErrOf result Error.Failed → L.holds_failed layer.old ≡ true }
+    ensures holds { ClientHolds W.stream cx.old cx.new result (plain.hears (machine_of L.transport L.Response.ticket_of) (heard signal.entry)) L.holds_failed (layer.old, asked.old) (layer.new, asked.new) }
 {
     layer.step(cx, signal)?;
     reply_all(asked, cx)?;
@@ -41,12 +34,7 @@ fn time_out<L: SendRequest<RequestMessage>, W: Words>(
     cx: &mut Cx<'_, W>,
     waiting: Option<Waiting<L::Response>>,
 ) -> Result<(), Error>
-    ensures lends { LendsTheSame cx.old cx.new }
-    ensures ok { Steps result (plain.times_out (machine_of L.transport L.Response.ticket_of) (client_in layer.old asked.old W.stream cx.old) waiting) (client_in layer.new asked.new W.stream cx.new) }
-    ensures numbers { NumbersRunOut result (plain.times_out (machine_of L.transport L.Response.ticket_of) (client_in layer.old asked.old W.stream cx.old) waiting) }
-    ensures keeps { OnOk result (L.holds_failed layer.new ≡ L.holds_failed layer.old) }
-    ensures refused { IfErr result IsRefusal }
-    ensures failed_only { IsErrOf result Error.Failed → L.holds_failed layer.old ≡ true }
+    ensures holds { ClientHolds W.stream cx.old cx.new result (λ c. plain.times_out (machine_of L.transport L.Response.ticket_of) c waiting) L.holds_failed (layer.old, asked.old) (layer.new, asked.new) }
 {
     let Some(waiting) = waiting else {
         return Ok(());
@@ -70,12 +58,7 @@ fn fire<L: SendRequest<RequestMessage>, W: Words>(
     cx: &mut Cx<'_, W>,
     timer: TimerId,
 ) -> Result<(), Error>
-    ensures lends { LendsTheSame cx.old cx.new }
-    ensures ok { Steps result (plain.fire (machine_of L.transport L.Response.ticket_of) timer.0 (client_in layer.old asked.old W.stream cx.old)) (client_in layer.new asked.new W.stream cx.new) }
-    ensures numbers { NumbersRunOut result (plain.fire (machine_of L.transport L.Response.ticket_of) timer.0 (client_in layer.old asked.old W.stream cx.old)) }
-    ensures keeps { OnOk result (L.holds_failed layer.new ≡ L.holds_failed layer.old) }
-    ensures refused { IfErr result IsRefusal }
-    ensures failed_only { IsErrOf result Error.Failed → L.holds_failed layer.old ≡ true }
+    ensures holds { ClientHolds W.stream cx.old cx.new result (plain.fire (machine_of L.transport L.Response.ticket_of) timer.0) L.holds_failed (layer.old, asked.old) (layer.new, asked.new) }
 {
     match asked.take_late(timer.0) {
         Some(waiting) => time_out(layer, asked, cx, waiting),
@@ -90,12 +73,7 @@ fn fire_all<L: SendRequest<RequestMessage>, W: Words>(
     asked: &mut Asked<L::Response>,
     cx: &mut Cx<'_, W>,
 ) -> Result<(), Error>
-    ensures lends { LendsTheSame cx.old cx.new }
-    ensures ok { Steps result (plain.fires_all (machine_of L.transport L.Response.ticket_of) (client_in layer.old asked.old W.stream cx.old)) (client_in layer.new asked.new W.stream cx.new) }
-    ensures numbers { NumbersRunOut result (plain.fires_all (machine_of L.transport L.Response.ticket_of) (client_in layer.old asked.old W.stream cx.old)) }
-    ensures keeps { OnOk result (L.holds_failed layer.new ≡ L.holds_failed layer.old) }
-    ensures refused { IfErr result IsRefusal }
-    ensures failed_only { IsErrOf result Error.Failed → L.holds_failed layer.old ≡ true }
+    ensures holds { ClientHolds W.stream cx.old cx.new result (plain.fires_all (machine_of L.transport L.Response.ticket_of)) L.holds_failed (layer.old, asked.old) (layer.new, asked.new) }
 {
     let mut count: u64 = 0;
     while count < u64::MAX {
@@ -115,12 +93,7 @@ fn tell<L: SendRequest<RequestMessage>, W: Words>(
     cx: &mut Cx<'_, W>,
     what: &What,
 ) -> Result<(), Error>
-    ensures lends { LendsTheSame cx.old cx.new }
-    ensures ok { Steps result (plain.tells (machine_of L.transport L.Response.ticket_of) what.now (client_in layer.old asked.old W.stream cx.old)) (client_in layer.new asked.new W.stream cx.new) }
-    ensures numbers { NumbersRunOut result (plain.tells (machine_of L.transport L.Response.ticket_of) what.now (client_in layer.old asked.old W.stream cx.old)) }
-    ensures keeps { OnOk result (L.holds_failed layer.new ≡ L.holds_failed layer.old) }
-    ensures refused { IfErr result IsRefusal }
-    ensures failed_only { IsErrOf result Error.Failed → L.holds_failed layer.old ≡ true }
+    ensures holds { ClientHolds W.stream cx.old cx.new result (plain.tells (machine_of L.transport L.Response.ticket_of) what.now) L.holds_failed (layer.old, asked.old) (layer.new, asked.new) }
 {
     cx.more = false;
     hear(layer, asked, cx, Signal::Told(what))
@@ -133,12 +106,7 @@ fn take_frame<L: SendRequest<RequestMessage>, W: Words>(
     cx: &mut Cx<'_, W>,
     place: u64,
 ) -> Result<(), Error>
-    ensures lends { LendsTheSame cx.old cx.new }
-    ensures ok { Steps result (plain.next_frame (machine_of L.transport L.Response.ticket_of) place (client_in layer.old asked.old W.stream cx.old)) (client_in layer.new asked.new W.stream cx.new) }
-    ensures numbers { NumbersRunOut result (plain.next_frame (machine_of L.transport L.Response.ticket_of) place (client_in layer.old asked.old W.stream cx.old)) }
-    ensures keeps { OnOk result (L.holds_failed layer.new ≡ L.holds_failed layer.old) }
-    ensures refused { IfErr result IsRefusal }
-    ensures failed_only { IsErrOf result Error.Failed → L.holds_failed layer.old ≡ true }
+    ensures holds { ClientHolds W.stream cx.old cx.new result (plain.next_frame (machine_of L.transport L.Response.ticket_of) place) L.holds_failed (layer.old, asked.old) (layer.new, asked.new) }
 {
     cx.more = false;
     hear(layer, asked, cx, Signal::More { place })
@@ -153,12 +121,7 @@ fn take_frames<L: SendRequest<RequestMessage>, W: Words>(
     place: u64,
     most: usize,
 ) -> Result<(), Error>
-    ensures lends { LendsTheSame cx.old cx.new }
-    ensures ok { Steps result (plain.more_frames (machine_of L.transport L.Response.ticket_of) place most (client_in layer.old asked.old W.stream cx.old)) (client_in layer.new asked.new W.stream cx.new) }
-    ensures numbers { NumbersRunOut result (plain.more_frames (machine_of L.transport L.Response.ticket_of) place most (client_in layer.old asked.old W.stream cx.old)) }
-    ensures keeps { OnOk result (L.holds_failed layer.new ≡ L.holds_failed layer.old) }
-    ensures refused { IfErr result IsRefusal }
-    ensures failed_only { IsErrOf result Error.Failed → L.holds_failed layer.old ≡ true }
+    ensures holds { ClientHolds W.stream cx.old cx.new result (plain.more_frames (machine_of L.transport L.Response.ticket_of) place most) L.holds_failed (layer.old, asked.old) (layer.new, asked.new) }
 {
     let mut left = most;
     while left > 0 {
@@ -180,12 +143,7 @@ fn ask<L: SendRequest<RequestMessage>, W: Words>(
     timeout: Duration,
     request: RequestMessage,
 ) -> Result<(), Error>
-    ensures lends { LendsTheSame cx.old cx.new }
-    ensures ok { Steps result (plain.asks_request (machine_of L.transport L.Response.ticket_of) timeout request (client_in layer.old asked.old W.stream cx.old)) (client_in layer.new asked.new W.stream cx.new) }
-    ensures numbers { NumbersRunOut result (plain.asks_request (machine_of L.transport L.Response.ticket_of) timeout request (client_in layer.old asked.old W.stream cx.old)) }
-    ensures keeps { OnOk result (L.holds_failed layer.new ≡ L.holds_failed layer.old) }
-    ensures refused { IfErr result IsRefusal }
-    ensures failed_only { IsErrOf result Error.Failed → L.holds_failed layer.old ≡ true }
+    ensures holds { ClientHolds W.stream cx.old cx.new result (plain.asks_request (machine_of L.transport L.Response.ticket_of) timeout request) L.holds_failed (layer.old, asked.old) (layer.new, asked.new) }
 {
     let number = asked.next();
     if number == u64::MAX {
@@ -221,12 +179,7 @@ fn happen<L: SendRequest<RequestMessage>, W: Words>(
     timeout: Duration,
     what: &What,
 ) -> Result<(), Error>
-    ensures lends { LendsTheSame cx.old cx.new }
-    ensures ok { Steps result (plain.happens (machine_of L.transport L.Response.ticket_of) timeout what.now (client_in layer.old asked.old W.stream cx.old)) (client_in layer.new asked.new W.stream cx.new) }
-    ensures numbers { NumbersRunOut result (plain.happens (machine_of L.transport L.Response.ticket_of) timeout what.now (client_in layer.old asked.old W.stream cx.old)) }
-    ensures keeps { OnOk result (L.holds_failed layer.new ≡ L.holds_failed layer.old) }
-    ensures refused { IfErr result IsRefusal }
-    ensures failed_only { IsErrOf result Error.Failed → L.holds_failed layer.old ≡ true }
+    ensures holds { ClientHolds W.stream cx.old cx.new result (plain.happens (machine_of L.transport L.Response.ticket_of) timeout what.now) L.holds_failed (layer.old, asked.old) (layer.new, asked.new) }
 {
     match what {
         What::Ask { request } => {
@@ -251,12 +204,7 @@ pub fn take_in<L: SendRequest<RequestMessage>, W: Words>(
     timeout: Duration,
     event: &Event,
 ) -> Result<(), Error>
-    ensures lends { LendsTheSame cx.old cx.new }
-    ensures ok { Steps result (plain.client_step (machine_of L.transport L.Response.ticket_of) timeout event.now (client_in layer.old asked.old W.stream cx.old)) (client_in layer.new asked.new W.stream cx.new) }
-    ensures numbers { NumbersRunOut result (plain.client_step (machine_of L.transport L.Response.ticket_of) timeout event.now (client_in layer.old asked.old W.stream cx.old)) }
-    ensures keeps { OnOk result (L.holds_failed layer.new ≡ L.holds_failed layer.old) }
-    ensures refused { IfErr result IsRefusal }
-    ensures failed_only { IsErrOf result Error.Failed → L.holds_failed layer.old ≡ true }
+    ensures holds { ClientHolds W.stream cx.old cx.new result (plain.client_step (machine_of L.transport L.Response.ticket_of) timeout event.now) L.holds_failed (layer.old, asked.old) (layer.new, asked.new) }
 {
     cx.now = cx.now.max(event.moment);
     fire_all(layer, asked, cx)?;

@@ -22,24 +22,52 @@ loop-count-preserved g c =
       lends = search rules;
       same =
           c.loop-count.invariant.same
-          ∙ fires_next m c.loop-count.count before after c.in-Some.timer c.fire.new.self c.loop-count-test.true (sym c.in-Some.ensures.value) c.fire.ensures.after c.in_ok-fire.ensures.ok;
+          ∙ fires_next m c.loop-count.count before after c.in-Some.timer c.fire.new.self c.loop-count-test.true (sym c.in-Some.ensures.value) c.fire.ensures.after c.in_ok-fire.ensures.holds.ok;
       keeps = search rules;
     }
 
-pub returns-in_default-clause-ok : goal.returns-in_default-clause-ok
-returns-in_default-clause-ok g c =
+pub returns-in_default : goal.returns-in_default
+returns-in_default g c =
     let m = machine_of g.L.SendRequest.transport g.L.Response.GetResponse.ticket_of in
     let before = client_of c.loop-count.layer (c.loop-count.asked, view_of g.W.Words.stream c.loop-count.cx) in
-    c.loop-count.invariant.same ∙ fires_rests m c.loop-count.count before c.fire.new.self c.loop-count-test.true (sym c.in_default.ensures.value) c.fire.ensures.after
+    record {
+      holds = record {
+        lends = search rules;
+        ok = c.loop-count.invariant.same ∙ fires_rests m c.loop-count.count before c.fire.new.self c.loop-count-test.true (sym c.in_default.ensures.value) c.fire.ensures.after;
+        numbers = search rules;
+        keeps = search rules;
+        refused = search rules;
+        failed_only = search rules;
+      };
+    }
 
-pub returns-in_err-fire-clause-numbers : goal.returns-in_err-fire-clause-numbers
-returns-in_err-fire-clause-numbers g c is =
+pub returns-in_err-fire : goal.returns-in_err-fire
+returns-in_err-fire g c =
     let m = machine_of g.L.SendRequest.transport g.L.Response.GetResponse.ticket_of in
     let before = client_of c.loop-count.layer (c.loop-count.asked, view_of g.W.Words.stream c.loop-count.cx) in
-    c.loop-count.invariant.same ∙ fires_stops m c.loop-count.count before c.in-Some.timer c.fire.new.self c.loop-count-test.true (sym c.in-Some.ensures.value) c.fire.ensures.after (c.in_err-fire.ensures.numbers (search rules))
+    record {
+      holds = record {
+        lends = search rules;
+        ok = search rules;
+        numbers = λ is.
+            c.loop-count.invariant.same ∙ fires_stops m c.loop-count.count before c.in-Some.timer c.fire.new.self c.loop-count-test.true (sym c.in-Some.ensures.value) c.fire.ensures.after (c.in_err-fire.ensures.holds.numbers (search rules));
+        keeps = search rules;
+        refused = search rules;
+        failed_only = search rules;
+      };
+    }
 
-pub returns-clause-numbers : goal.returns-clause-numbers
-returns-clause-numbers g c is =
+pub returns : goal.returns
+returns g c =
     let m = machine_of g.L.SendRequest.transport g.L.Response.GetResponse.ticket_of in
     let before = client_of c.loop-count.layer (c.loop-count.asked, view_of g.W.Words.stream c.loop-count.cx) in
-    c.loop-count.invariant.same ∙ fires_over m c.loop-count.count before c.loop-count-test.false
+    record {
+      holds = record {
+        lends = search rules;
+        ok = search rules;
+        numbers = λ is. c.loop-count.invariant.same ∙ fires_over m c.loop-count.count before c.loop-count-test.false;
+        keeps = search rules;
+        refused = search rules;
+        failed_only = search rules;
+      };
+    }
