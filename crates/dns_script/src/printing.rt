@@ -171,6 +171,10 @@ pub(crate) fn push_out(text: &mut Vec<u8>, out: &Out) -> Result<(), NoMemory>
             text.extend_from_slice(b"> close ")?;
             push_number(text, *place, b'\n')
         }
+        Out::Stale { request } => {
+            text.extend_from_slice(b"> stale ")?;
+            push_number(text, *request, b'\n')
+        }
         Out::Reply { request, result } => push_reply(text, *request, result),
     }
 }

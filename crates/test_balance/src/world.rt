@@ -269,7 +269,7 @@ fn number_of(world: &World, ticket: u64) -> Option<u64> {
 
 /// The result that stands first on the board, which is taken.
 fn first_given(world: &mut World) -> Option<Given> {
-    let Posted { ticket, part } = world.board.take_first()?;
+    let Posted { ticket, part, .. } = world.board.take_first()?;
     let number = number_of(world, ticket)?;
     match part {
         Ok(Some(message)) => Some((number, Ok(message.header().rcode().0))),

@@ -153,7 +153,7 @@ pub fn ask(alloc: Global, world: &mut World, query: Query) -> Result<Came, Error
 
 /// The result that stands first on the board, which is taken.
 fn taken(world: &mut World) -> Came {
-    let Posted { ticket: _, part } = world.board.take_first()?;
+    let Posted { part, .. } = world.board.take_first()?;
     match part {
         Ok(Some(message)) => Some(Ok(message)),
         Ok(None) => None,
