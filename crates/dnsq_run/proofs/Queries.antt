@@ -1,5 +1,5 @@
 -- What is asked and answered, and the line of an answer.
-use Rattle.std.proofs.Common.{◌≡◌, ℕ, ◌+◌, ◌-◌, ◌≤◌, List, [], ◌∷◌, ◌++◌, length, map, take, Option, Some, Result, ap, subst, ◌∙◌, arith, length-append}
+use Rattle.std.proofs.Common.{◌≡◌, ℕ, ◌+◌, ◌-◌, ◌≤◌, false, List, [], ◌∷◌, ◌++◌, length, map, take, Option, Some, Result, ap, subst, ◌∙◌, arith, length-append}
 use Rattle.std.proofs.Math.Seq.{drop-append_seam, take-append_seam}
 use Rattle.std.proofs.lemmas.Fmt.{decimal_digit}
 use Rattle.std.specs.Fmt.{decimal}
@@ -46,7 +46,7 @@ line_of_reply reply = line (out_words (Reply 0 reply))
 
 -- the text, where the moment's word is this
 text_with : List ℕ → Result (List ℕ) Error → List ℕ
-text_with zero reply = first_line ++ ((line (codes "at" ∷ zero ∷ codes "tick" ∷ []) ++ flat_map out_line (Reply 0 reply ∷ [])) ++ []) ++ last_line
+text_with zero reply = first_line false ++ ((line (codes "at" ∷ zero ∷ codes "tick" ∷ []) ++ flat_map out_line (Reply 0 reply ∷ [])) ++ []) ++ last_line
 
 digit : decimal 0 ≡ 48 ∷ []
 digit = decimal_digit 0 (omega arith)
