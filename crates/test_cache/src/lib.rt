@@ -6,4 +6,6 @@ mod lookups;
 #[cfg(test)]
 mod runs;
 #[cfg(test)]
+mod stale_runs;
+#[cfg(test)]
 mod world;

@@ -45,6 +45,7 @@ pub struct World {
     place: u64,
     asked: u64,
     response: Option<Request<client_dgram::Request>>,
+    stale_count: usize,
 }
 
 /// A cache with these settings. Each id is 0.
@@ -61,6 +62,7 @@ pub fn cache_with(alloc: Global, config: Config) -> Result<World, Error> {
         place: 0,
         asked: 0,
         response: None,
+        stale_count: 0,
     })
 }
 
@@ -131,6 +133,25 @@ pub fn answer_of(
     Ok(octets)
 }
 
+/// A message with this response code, with so many records of authority, whose octets are these.
+pub fn negative_of(
+    alloc: Global,
+    query: Query,
+    code: u8,
+    count: u8,
+    records: &[u8],
+) -> Result<Octets, Error> {
+    let mut octets = Vec::new(alloc);
+    put_all(
+        &mut octets,
+        &[0, 0, 0x85, 0xa0 | code, 0, 1, 0, 0, 0, count, 0, 0],
+    )?;
+    put_question(&mut octets, query)?;
+    put_all(&mut octets, records)?;
+    let octets = Octets::from_vec(octets)?;
+    Ok(octets)
+}
+
 /// Asks, and says what came of it at once.
 pub fn ask(alloc: Global, world: &mut World, query: Query) -> Result<Came, Error> {
     let request = request_of(alloc, query)?;
@@ -153,7 +174,10 @@ pub fn ask(alloc: Global, world: &mut World, query: Query) -> Result<Came, Error
 
 /// The result that stands first on the board, which is taken.
 fn taken(world: &mut World) -> Came {
-    let Posted { part, .. } = world.board.take_first()?;
+    let Posted { part, is_stale, .. } = world.board.take_first()?;
+    if is_stale {
+        world.stale_count = world.stale_count.saturating_add(1);
+    }
     match part {
         Ok(Some(message)) => Some(Ok(message)),
         Ok(None) => None,
@@ -213,6 +237,30 @@ pub fn cancel(world: &mut World) -> Result<(), Error> {
     let result = world.cache.cancel(&mut cx, response);
     (world.ticket, world.place) = (cx.ticket, cx.place);
     result
+}
+
+/// What stands in now for the result of the request that was asked last.
+pub fn stale(world: &mut World) -> Result<Option<Message>, Error> {
+    let Some(response) = &world.response else {
+        return Ok(None);
+    };
+    let mut cx = Cx {
+        now: Moment(world.now),
+        words: &mut world.words,
+        outs: &mut world.outs,
+        board: &mut world.board,
+        timers: &mut world.timers,
+        ticket: world.ticket,
+        place: world.place,
+        request: 0,
+        more: false,
+    };
+    world.cache.stale(&mut cx, response)
+}
+
+/// How many of the results that were given were stale.
+pub fn stale_count(world: &World) -> usize {
+    world.stale_count
 }
 
 /// How many outs were put out.
