@@ -1,0 +1,3 @@
+pub mod Drawing
+pub mod Histories
+pub mod LaneSteps
