@@ -38,16 +38,16 @@ continues_on : (f : ℕ → ℕ) (a : List ℕ) (h : ℕ → ℕ) (b : List ℕ)
 continues_on f a h b g c d k = c k ∙ (ahead_same a h (λ j. ahead b g j) d k ∙ sym (ahead_append a b g k))
 
 first_ahead : (ws : List ℕ) (g : ℕ → ℕ) (k : ℕ) → k < length ws → slice_index ws k ≡ ahead ws g k
-first_ahead [] g k lt = absurd (omega lt)
+first_ahead [] g k lt = absurd (omega (arith, lt))
 first_ahead (w ∷ ws) g zero lt = refl
 first_ahead (w ∷ ws) g (suc k) lt = first_ahead ws g k (omega arith)
 
 entries_drew : (n : ℕ) (s : Whole) (f : ℕ → ℕ) (entries : List Entry) (t : Whole) (g : ℕ → ℕ) → Runs n s f (map Made entries) t g → Continues f (drawn_by entries) g
-entries_drew n s f [] t g r k = ap (λ (h : ℕ → ℕ). h k) r.1
+entries_drew n s f [] t g r = λ k. ap (λ (h : ℕ → ℕ). h k) r.1
 entries_drew n s f (e ∷ entries) t g r = continues_on f e.words r.2 (drawn_by entries) g r.3.drawn (entries_drew n r.1 r.2 entries t g r.4)
 
 lost_drew : (n : ℕ) (s : Whole) (f : ℕ → ℕ) (entries : List Entry) (caller : ℕ) (t : Whole) (g : ℕ → ℕ) → Runs n s f (map Made entries ++ Lost caller ∷ []) t g → Continues f (drawn_by entries) g
-lost_drew n s f [] caller t g r k = ap (λ (h : ℕ → ℕ). h k) r.3
+lost_drew n s f [] caller t g r = λ k. ap (λ (h : ℕ → ℕ). h k) r.3
 lost_drew n s f (e ∷ entries) caller t g r = continues_on f e.words r.2 (drawn_by entries) g r.3.drawn (lost_drew n r.1 r.2 entries caller t g r.4)
 
 first_drawn : (f : ℕ → ℕ) (ws : List ℕ) (g : ℕ → ℕ) → Continues f ws g → (k : ℕ) → k < length ws → slice_index ws k ≡ f k

@@ -1,12 +1,15 @@
 -- Lanes that grow by one event, and several of them.
-use Rattle.std.proofs.Common.{◌≡◌, ◌≢◌, ◌⊎◌, ℕ, zero, suc, ◌+◌, ◌<◌, ◌≤◌, List, [], ◌∷◌, ◌++◌, map, take, length, Some, Result, Ok, Err, refl, sym, ap, subst, ◌∙◌, inl, inr, ⊎_elim, arith, append_assoc}
+use Rattle.std.proofs.Common.{◌≡◌, ◌≢◌, ◌⊎◌, ℕ, zero, suc, ◌+◌, ◌<◌, ◌≤◌, List, [], ◌∷◌, ◌++◌, map, take, length, get_or, Some, Result, Ok, Err, refl, sym, ap, subst, ◌∙◌, inl, inr, ⊎_elim, arith, append_assoc}
 use Rattle.std.specs.Prelude.{All, slice_get, slice_index_or, IfOk, IfErr, IsErrOf, Vec}
 use Rattle.std.specs.declared.alloc.Global.{Global}
-use Rattle.std.proofs.lemmas.List.{append-nil, take_all}
+use Rattle.std.proofs.lemmas.List.{append-nil, take_all, take_more}
+use Rattle.std.proofs.lemmas.Option.{slice_get-get_or}
 use mathlib.Core.List.{IsPrefix, map-append}
 use Rattle.joint_history.specs.Views.{own}
 use Rattle.joint_history.proofs.Beginnings.{prefix_self, prefix_front, prefix_trans}
 use Rattle.client_request.specs.declared.error.Error.{Error}
+use Rattle.client_request.specs.Timers.{IsWant}
+use Rattle.client_request.specs.declared.error.Error.TheVariants as errors
 use Rattle.client_request.specs.declared.error.Error.TheVariants.{NoMemory, NumbersUsed, Failed}
 use Rattle.client_request.specs.declared.event.Event.{Event}
 use Rattle.client_shared.specs.declared.entry.Entry.{Entry}
@@ -63,7 +66,7 @@ none_behind old new s = ap (λ (n : ℕ). events_in (own caller_of n new.seen)) 
 
 -- nothing was submitted yet
 pub lane_start : (p : Passed) → IsLane p p [] []
-lane_start p = record { number = refl; begins = prefix_self p.seen; events_are = refl; calls_are = sym (append-nil (calls p)); its_events = sym (append-nil (events_of p)); filed = λ k d lt. absurd (omega lt) }
+lane_start p = record { number = refl; begins = prefix_self p.seen; events_are = refl; calls_are = sym (append-nil (calls p)); its_events = sym (append-nil (events_of p)); filed = λ k d lt. absurd (omega (arith, lt)) }
 
 -- one event more
 pub lane_on : (old mid new : Passed) (events : List Event) (receipts : List Receipt) (event : Event) (receipt : Receipt) → IsLane old mid events receipts → IsSubmitted mid new event receipt → IsLane old new (events ++ event ∷ []) (receipts ++ receipt ∷ [])
@@ -134,14 +137,126 @@ module _ (o : Opening) (p q : Passed) (ps qs : List Passed) (events : List Event
     failed = λ is.
         let same : error ≡ Failed = cc is in
         ⊎_elim (λ (n : error ≡ NoMemory). absurd (cc (same, n)))
-        (λ t. ⊎_elim (λ (f : IsErrOf first error). IsSomeLost.here q qs (l.failed (f ∙ ap Err same))) (λ (r : IsErrOf rest error). IsSomeLost.later q qs (ls.failed (r ∙ ap Err same))) t)
+        (λ t. ⊎_elim (λ (f : IsErrOf first error). inl (l.failed (f ∙ ap Err same))) (λ (r : IsErrOf rest error). inr (ls.failed (r ∙ ap Err same))) t)
         j.error;
     numbers = λ is.
         let same : error ≡ NumbersUsed = cc is in
         ⊎_elim (λ (n : error ≡ NoMemory). absurd (cc (same, n)))
-        (λ t. ⊎_elim (λ (f : IsErrOf first error). IsSomeStopped.here p q ps qs events lanes (l.numbers (f ∙ ap Err same))) (λ (r : IsErrOf rest error). IsSomeStopped.later p q ps qs events lanes (ls.numbers (r ∙ ap Err same))) t)
+        (λ t. ⊎_elim (λ (f : IsErrOf first error). inl (l.numbers (f ∙ ap Err same))) (λ (r : IsErrOf rest error). inr (ls.numbers (r ∙ ap Err same))) t)
         j.error;
   }
     where
       ended : (r : Result (Vec Receipt Global) Error) (e : Error) → IfErr r IsLaneEnd → IsErrOf r e → IsLaneEnd e
       ended r e h is = subst (λ (z : Result (Vec Receipt Global) Error). IfErr z IsLaneEnd) is h
+
+-- ---- where a lane ends
+
+failed_or : (e : Error) → (e ≡ Failed) ⊎ (e ≢ Failed)
+failed_or errors.Failed = inl refl
+failed_or errors.ConnectionClosed = inr (λ is. cc is)
+failed_or errors.OptTooLong = inr (λ is. cc is)
+failed_or errors.MessageBuilderPushError = inr (λ is. cc is)
+failed_or errors.MessageParseError = inr (λ is. cc is)
+failed_or errors.RedundantTransportNotFound = inr (λ is. cc is)
+failed_or errors.FormError = inr (λ is. cc is)
+failed_or errors.ShortMessage = inr (λ is. cc is)
+failed_or errors.StreamLongMessage = inr (λ is. cc is)
+failed_or errors.StreamIdleTimeout = inr (λ is. cc is)
+failed_or errors.StreamReceiveError = inr (λ is. cc is)
+failed_or (errors.StreamReadError fault) = inr (λ is. cc is)
+failed_or errors.StreamReadTimeout = inr (λ is. cc is)
+failed_or errors.StreamTooManyOutstandingQueries = inr (λ is. cc is)
+failed_or (errors.StreamWriteError fault) = inr (λ is. cc is)
+failed_or errors.StreamUnexpectedEndOfData = inr (λ is. cc is)
+failed_or errors.WrongReplyForQuery = inr (λ is. cc is)
+failed_or errors.NoTransportAvailable = inr (λ is. cc is)
+failed_or (errors.Dgram fault) = inr (λ is. cc is)
+failed_or errors.NoMemory = inr (λ is. cc is)
+failed_or errors.NumbersUsed = inr (λ is. cc is)
+failed_or errors.TimedOut = inr (λ is. cc is)
+failed_or errors.AlreadyDone = inr (λ is. cc is)
+
+lane_at : (old new : Passed) (events : List Event) (i : ℕ) (receipts : List Receipt) → IsLane old new (take i events) receipts → IsBegunLane old new events
+lane_at old new events i receipts l = record { count = i; receipts = receipts; lane = l }
+
+-- one event more of a lane's
+pub lane_next : (old mid new : Passed) (events : List Event) (i : ℕ) (event copy : Event) (receipts : List Receipt) (receipt : Receipt) → i < length events → event ≡ get_or events i event → copy ≡ event → IsLane old mid (take i events) receipts
+    → IsSubmitted mid new copy receipt → IsLane old new (take (i + 1) events) (receipts ++ receipt ∷ [])
+lane_next old mid new events i event copy receipts receipt lt is same l s =
+    let more : take (i + 1) events ≡ take i events ++ event ∷ [] = (let b = take_more events i event lt in cc) in
+    subst (λ (es : List Event). IsLane old new es (receipts ++ receipt ∷ [])) (sym more)
+    (lane_on old mid new (take i events) receipts event receipt l (subst (λ (e : Event). IsSubmitted mid new e receipt) same s))
+
+-- a lane that was submitted whole
+pub lane_whole : (o : Opening) (old new : Passed) (events : List Event) (i : ℕ) (receipts : Vec Receipt Global) → length events ≤ i → IsLane old new (take i events) receipts.items → LaneEnds o old new events (Ok receipts)
+lane_whole o old new events i receipts le l = record {
+  whole = subst (λ (es : List Event). IsLane old new es receipts.items) (take_all i events le) l;
+  begun = tt;
+  ends = tt;
+  failed = λ is. absurd (cc is);
+  numbers = λ is. absurd (cc is);
+}
+
+-- memory is refused before a call
+pub lane_poor : (o : Opening) (old new : Passed) (events : List Event) (i : ℕ) (receipts : List Receipt) → IsLane old new (take i events) receipts → LaneEnds o old new events (Err NoMemory)
+lane_poor o old new events i receipts l = record {
+  whole = tt;
+  begun = lane_at old new events i receipts l;
+  ends = tt;
+  failed = λ is. absurd (cc is);
+  numbers = λ is. absurd (cc is);
+}
+
+-- a call is refused
+pub lane_fails : (o : Opening) (old mid new : Passed) (events : List Event) (i : ℕ) (event copy : Event) (receipts : List Receipt) (error : Error) → i < length events → event ≡ get_or events i event → copy ≡ event → IsLane old mid (take i events) receipts
+    → (error ≡ Failed → IsBehind mid new) → (error ≢ Failed → IsWant error × ((new ≡ mid) ⊎ IsRefused mid new)) → (error ≡ NumbersUsed → IsStopped o new copy) → LaneEnds o old new events (Err error)
+lane_fails o old mid new events i event copy receipts error lt is same l behind refused stopped = ⊎_elim
+    (λ (f : error ≡ Failed). fails (lane_behind old mid new (take i events) receipts l (behind f)) (subst IsLaneEnd (sym f) tt) (λ _. (behind f).ends))
+    (λ (n : error ≢ Failed).
+      let want = refused n in
+      ⊎_elim
+      (λ (kept : new ≡ mid). fails (subst (λ (q : Passed). IsLane old q (take i events) receipts) (sym kept) l) (want_ends error want.0) (λ f. absurd (n f)))
+      (λ (r : IsRefused mid new). fails (lane_refused old mid new (take i events) receipts l r) (want_ends error want.0) (λ f. absurd (n f)))
+      want.1)
+    (failed_or error)
+  where
+    want_ends : (e : Error) → IsWant e → IsLaneEnd e
+    want_ends errors.NoMemory w = tt
+    want_ends errors.NumbersUsed w = tt
+    want_ends errors.Failed w = tt
+    want_ends errors.ConnectionClosed w = absurd w
+    want_ends errors.OptTooLong w = absurd w
+    want_ends errors.MessageBuilderPushError w = absurd w
+    want_ends errors.MessageParseError w = absurd w
+    want_ends errors.RedundantTransportNotFound w = absurd w
+    want_ends errors.FormError w = absurd w
+    want_ends errors.ShortMessage w = absurd w
+    want_ends errors.StreamLongMessage w = absurd w
+    want_ends errors.StreamIdleTimeout w = absurd w
+    want_ends errors.StreamReceiveError w = absurd w
+    want_ends (errors.StreamReadError fault) w = absurd w
+    want_ends errors.StreamReadTimeout w = absurd w
+    want_ends errors.StreamTooManyOutstandingQueries w = absurd w
+    want_ends (errors.StreamWriteError fault) w = absurd w
+    want_ends errors.StreamUnexpectedEndOfData w = absurd w
+    want_ends errors.WrongReplyForQuery w = absurd w
+    want_ends errors.NoTransportAvailable w = absurd w
+    want_ends (errors.Dgram fault) w = absurd w
+    want_ends errors.TimedOut w = absurd w
+    want_ends errors.AlreadyDone w = absurd w
+
+    fails : IsLane old new (take i events) receipts → IsLaneEnd error → (error ≡ Failed → EndsLost new.seen) → LaneEnds o old new events (Err error)
+    fails lane ends lost = record {
+      whole = tt;
+      begun = lane_at old new events i receipts lane;
+      ends = ends;
+      failed = λ e. lost (cc e);
+      numbers = λ e. record {
+        count = i;
+        receipts = receipts;
+        event = event;
+        lane = lane;
+        next = slice_get-get_or events i event lt ∙ ap Some (sym is);
+        stopped = subst (IsStopped o new) same (stopped (cc e));
+      };
+    }

@@ -53,14 +53,14 @@ AreBegunLanes (p ∷ ps) (q ∷ qs) (events ∷ lanes) = IsBegunLane p q events 
 AreBegunLanes ps qs lanes = ⊥
 
 -- a lane's next event has no number
-pub data IsSomeStopped (o : Opening) : (old new : List Passed) → List (List Event) → Type 0 where
-  here : (p q : Passed) (ps qs : List Passed) (events : List Event) (lanes : List (List Event)) → IsStoppedLane o p q events → IsSomeStopped o (p ∷ ps) (q ∷ qs) (events ∷ lanes)
-  later : (p q : Passed) (ps qs : List Passed) (events : List Event) (lanes : List (List Event)) → IsSomeStopped o ps qs lanes → IsSomeStopped o (p ∷ ps) (q ∷ qs) (events ∷ lanes)
+abbrev pub IsSomeStopped : Opening → (old new : List Passed) → List (List Event) → Type 0
+IsSomeStopped o (p ∷ ps) (q ∷ qs) (events ∷ lanes) = IsStoppedLane o p q events ⊎ IsSomeStopped o ps qs lanes
+IsSomeStopped o ps qs lanes = ⊥
 
 -- what a pass has seen ends with a loss
-pub data IsSomeLost : List Passed → Type 0 where
-  here : (p : Passed) (ps : List Passed) → EndsLost p.seen → IsSomeLost (p ∷ ps)
-  later : (p : Passed) (ps : List Passed) → IsSomeLost ps → IsSomeLost (p ∷ ps)
+abbrev pub IsSomeLost : List Passed → Type 0
+IsSomeLost [] = ⊥
+IsSomeLost (p ∷ ps) = EndsLost p.seen ⊎ IsSomeLost ps
 
 -- how a lane ends that is not submitted whole
 abbrev pub IsLaneEnd : Error → Type 0

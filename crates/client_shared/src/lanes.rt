@@ -28,7 +28,7 @@ impl Gate for NoGate {
 }
 
 /// The calls of one lane, to its first error.
-#[tactic(auto, using(crate::proofs::LaneSteps::lane_start, crate::proofs::LaneSteps::lane_on))]
+#[tactic(auto, using(crate::proofs::LaneSteps::lane_start, crate::proofs::LaneSteps::lane_poor, crate::proofs::LaneSteps::lane_whole))]
 fn run_lane<R: Wait, L: ClientKey, W: Words + Drop, G: Gate>(
     rt: &R,
     alloc: Global,

@@ -37,7 +37,6 @@ impl<L: ClientKey> Pass<L> {
     }
 
     /// What a pass has seen is a legal history of its client. It does nothing.
-    #[tactic(auto, using(crate::proofs::Histories::legal_callers))]
     pub fn history_is_legal(&self)
         ensures legal { IsLegal L.opening self.now.seen }
         ensures callers { AreOfCallers L.opening.callers self.now.seen }

@@ -1,5 +1,5 @@
 -- What lanes that share a client leave in its journal.
-use Rattle.std.proofs.Common.{◌≡◌, ◌≢◌, ◌⊎◌, ℕ, zero, suc, ◌+◌, ◌<◌, ◌≤◌, ◌==◌, Bool, true, false, List, [], ◌∷◌, ◌++◌, map, take, drop, length, Option, Some, None, refl, sym, ap, subst, ◌∙◌, arith, append_assoc, length-append, lt_of_not-le, eq-eqb, ne_eqb}
+use Rattle.std.proofs.Common.{◌≡◌, ◌≢◌, ◌⊎◌, inl, inr, ℕ, zero, suc, ◌+◌, ◌<◌, ◌≤◌, ◌==◌, Bool, true, false, List, [], ◌∷◌, ◌++◌, map, take, drop, length, Option, Some, None, refl, sym, ap, subst, ◌∙◌, arith, append_assoc, length-append, lt_of_not-le, eq-eqb, ne_eqb}
 use Rattle.std.specs.Prelude.{All, slice_get, slice_index_or, if◌then◌else◌}
 use Rattle.std.specs.Option.{option_map_or}
 use Rattle.std.proofs.lemmas.Option.{slice_get_past, slice_get_within, get_or_from_slice_get, slice_get-get_or}
@@ -19,7 +19,7 @@ use Rattle.client_shared.specs.History as passes
 use Rattle.client_shared.specs.Lanes.{IsLane, IsBegunLane, IsStoppedLane, AreLanes, AreBegunLanes, IsSomeStopped}
 use Rattle.client_shared.proofs.Histories.{events_in-append}
 use Rattle.client_shared.proofs.LaneSteps.{get_front, get_end}
-use Rattle.client_steps.specs.Headline.{conf_of, settings_of}
+use Rattle.client_steps.specs.Whole.{plain_trace}
 use Rattle.dns_script.specs.declared.script.Script.{Script}
 use Rattle.proof_client.specs.Ties.{AreHandedIn}
 use Rattle.proof_shared.specs.Histories.{LegalHistories, events_of}
@@ -112,8 +112,11 @@ record Stopped (o : Opening) (ps qs : List Passed) (lanes : List (List Event)) :
   lane : Lane (IsStoppedLane o) ps qs place events
 
 stopped_at : (o : Opening) (ps qs : List Passed) (lanes : List (List Event)) → IsSomeStopped o ps qs lanes → Stopped o ps qs lanes
-stopped_at o _ _ _ (IsSomeStopped.here p q ps qs events lanes s) = record { place = zero; events = events; events_at = refl; lane = record { old = p; new = q; old_at = refl; new_at = refl; holds = s } }
-stopped_at o _ _ _ (IsSomeStopped.later p q ps qs events lanes s) =
+stopped_at o [] qs lanes s = absurd s
+stopped_at o (p ∷ ps) [] lanes s = absurd s
+stopped_at o (p ∷ ps) (q ∷ qs) [] s = absurd s
+stopped_at o (p ∷ ps) (q ∷ qs) (events ∷ lanes) (inl s) = record { place = zero; events = events; events_at = refl; lane = record { old = p; new = q; old_at = refl; new_at = refl; holds = s } }
+stopped_at o (p ∷ ps) (q ∷ qs) (events ∷ lanes) (inr s) =
     let rest = stopped_at o ps qs lanes s in
     record { place = suc rest.place; events = rest.events; events_at = rest.events_at; lane = record { old = rest.lane.old; new = rest.lane.new; old_at = rest.lane.old_at; new_at = rest.lane.new_at; holds = rest.lane.holds } }
 
@@ -220,7 +223,7 @@ module _ (lanes : List (List Event)) (qs : List Passed) (entries : List Entry) (
         event = st.event;
         lanes = λ n. prefix_trans (events_by n before) (events_by n entries) (lane_at script.lanes n) (fewer before q.number n began) (subst (λ (ls : List (List Event)). IsPrefix (events_by n entries) (lane_at ls n)) (sym same) (begun_lanes begun n));
         next = subst (λ (z : List Event × List Event). IsPrefix (z.0 ++ st.event ∷ []) z.1) (λ i. (sym own_before i, sym lane_is i)) (next_begins s.events st.count st.event st.next);
-        stops = subst (λ (p : Opening). Rattle.client_steps.specs.Whole.plain_trace p.redundant p.cache p.conf p.words (events_of before ++ st.event ∷ []) ≡ None) is none;
+        stops = subst (λ (p : Opening). plain_trace p.redundant p.cache p.conf p.words (events_of before ++ st.event ∷ []) ≡ None) is none;
       }
 
   pub are_made : (o : Opening) (laws : LegalHistories) (script : Script) (receipts : List Receipt) (left : ℕ → ℕ) → o ≡ opening_for script → script.lanes ≡ lanes → AreLanes ps qs lanes receipts → IsLegal o (history entries lost)

@@ -5,7 +5,7 @@ ghost use Rattle.client_request.specs.Words.{listed};
 ghost use Rattle.client_shared.specs.History.{opening_of};
 
 use crate::scenes::{Two, event, script, two};
-use client_request::Out;
+use client_request::{ListWords, Out};
 use client_shared::{ClientKey, CloseFault, Closed, Opened, Receipt};
 use dns_script::Script;
 use std::alloc::Global;
@@ -49,11 +49,11 @@ fn says(receipt: &Receipt, number: u64, sent: Option<u16>) -> bool {
         Out::Send { id, .. } => Some(*id),
         _ => None,
     });
-    receipt.number == number && ids.find(|id| id.is_some()).is_some() == sent.is_some()
+    receipt.number == number && ids.find(|id| id.is_some()).unwrap_or(None) == sent
 }
 
 /// Whether the journal has the asking of the first caller, and the opening of the second, which drew the first word.
-fn has_both(closed: &Closed<client_request::ListWords>) -> bool {
+fn has_both(closed: &Closed<ListWords>) -> bool {
     match closed.journal.as_slice() {
         [first, second] => {
             first.caller == 0

@@ -1,11 +1,13 @@
 use Rattle.std.proofs.Common.{◌≡◌, ◌<◌, ℕ, List, map, None, Result, Ok, refl, sym, ap, ◌∙◌, subst}
 use Rattle.std.specs.Prelude.{IfOk}
+use Rattle.client_request.specs.declared.event.Event.{Event}
+use Rattle.client_steps.specs.Whole.{plain_step}
 use Rattle.client_shared.specs.declared.entry.Entry.{Entry}
 use Rattle.client_shared.specs.declared.entry.Item.{Item}
 use Rattle.client_shared.specs.declared.entry.Item.TheVariants.{Made}
 use Rattle.client_shared.specs.declared.entry.Receipt.{Receipt}
 use Rattle.client_shared.specs.History.{Passed, Puts, StepsTo, entry_of, history}
-use Rattle.client_shared.proofs.Histories.{for_caller, next_legal, loss_legal, desk_lost, submitted}
+use Rattle.client_shared.proofs.Histories.{for_caller, next_legal, loss_legal, desk_lost, submitted, stopped}
 use Rattle.client_shared.proofs.desk.step_and_put.Goals as goal
 
 pub put-number-requires-clause-legal : goal.put-number-requires-clause-legal
@@ -38,3 +40,9 @@ returns-in-Ok-clause-ok g c =
     let outs : r.outs ≡ r.again = sym x.1 in
     let puts : Puts old (map Made before) (Made (entry_of old.number c.args.event r.words r.again)) new = subst (λ (e : Entry). Puts old (map Made before) (Made e) new) (λ i. entry_of (number i) (event i) r.words (outs i)) c.put-number.ensures.pass in
     submitted old new before c.args.event r.words receipt puts c.put-number.ensures.place refl
+
+pub returns-in-Err-clause-numbers : goal.returns-in-Err-clause-numbers
+returns-in-Err-clause-numbers g c = λ is.
+    let none : plain_step (g.W.Words.stream c.args.words) c.args.event c.args.client.now ≡ None =
+        subst (λ (e : Event). plain_step (g.W.Words.stream c.args.words) e c.args.client.now ≡ None) c.requires.copied (c.step_and_copy-words.ensures.numbers (c.in-Err.is ∙ is)) in
+    stopped g.L.ClientKey.opening g.W.Words.stream c.args.client.now c.args.words c.args.entries.now.items c.args.event c.args.pass.now c.lose.new.pass c.requires.stands c.lose.ensures.pass none
