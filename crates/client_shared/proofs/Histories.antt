@@ -1,6 +1,6 @@
 -- Histories that grow by one item.
-use Rattle.std.proofs.Common.{◌≡◌, ℕ, zero, suc, ◌+◌, ◌==◌, Bool, true, false, List, [], ◌∷◌, ◌++◌, map, length, ◌<◌, Option, Some, None, refl, sym, ap, subst, ◌∙◌, eq-eqb, ne_eqb, arith}
-use Rattle.std.specs.Prelude.{if◌then◌else◌, All, slice_index_or}
+use Rattle.std.proofs.Common.{◌≡◌, ℕ, zero, suc, ◌+◌, ◌==◌, Bool, true, false, true≢false, List, [], ◌∷◌, ◌++◌, map, length, ◌<◌, Option, Some, None, refl, sym, ap, subst, ◌∙◌, eq-eqb, ne_eqb, arith}
+use Rattle.std.specs.Prelude.{if◌then◌else◌, is_some, All, slice_index_or}
 use Rattle.std.proofs.lemmas.List.{append-nil}
 use mathlib.Core.List.{IsPrefix, map-append}
 use Rattle.atomic_table.specs.Seated.{TableId}
@@ -30,6 +30,7 @@ loses n s f (d ∷ entries) t g caller below r = (r.0, r.1, r.2, r.3, loses n r.
 
 -- the callers of a legal history
 below_all : (n : ℕ) (s : Whole) (f : ℕ → ℕ) (items : List Item) (t : Whole) (g : ℕ → ℕ) → Runs n s f items t g → AreOfCallers n items
+below_all n s f [] t g r k d lt = absurd (omega (arith, lt))
 below_all n s f (Made e ∷ items) t g r zero d lt = r.0
 below_all n s f (Made e ∷ items) t g r (suc k) d lt = below_all n r.1 r.2 items t g r.4 k d (omega arith)
 below_all n s f (Lost c ∷ items) t g r zero d lt = r.0
@@ -183,6 +184,7 @@ closed entries lost p s = record { settled = s; calls_are = ap made_in s.own_ite
 
 -- the callers of a journal
 pub journal_callers : (n : ℕ) (entries : List Entry) (lost : Option ℕ) → AreOfCallers n (history entries lost) → All (λ (e : Entry). e.caller < n) entries
+journal_callers n [] lost h k d lt = absurd (omega (arith, lt))
 journal_callers n (e ∷ entries) None h zero d lt = h zero (Made e) (omega arith)
 journal_callers n (e ∷ entries) None h (suc k) d lt = journal_callers n entries None (λ j x l. h (suc j) x (omega arith)) k d (omega arith)
 journal_callers n (e ∷ entries) (Some c) h zero d lt = h zero (Made e) (omega arith)
@@ -197,3 +199,7 @@ unlost [] [] caller e = absurd (cc e)
 unlost [] (b ∷ before) caller e = absurd (cc e)
 unlost (e ∷ entries) [] caller is = absurd (cc is)
 unlost (e ∷ entries) (b ∷ before) caller is = unlost entries before caller (cc is)
+
+pub none_lost : (entries : List Entry) (lost : Option ℕ) (items : List Item) → history entries lost ≡ items → is_some lost ≡ false → EndsLost items → ⊥
+none_lost entries None items is no ends = unlost entries ends.0 ends.1 (is ∙ ends.2)
+none_lost entries (Some caller) items is no ends = true≢false no

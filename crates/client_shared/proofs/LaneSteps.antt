@@ -149,6 +149,12 @@ module _ (o : Opening) (p q : Passed) (ps qs : List Passed) (events : List Event
       ended : (r : Result (Vec Receipt Global) Error) (e : Error) → IfErr r IsLaneEnd → IsErrOf r e → IsLaneEnd e
       ended r e h is = subst (λ (z : Result (Vec Receipt Global) Error). IfErr z IsLaneEnd) is h
 
+-- the same of lists that are known to begin so
+pub lanes_split : (o : Opening) (olds news : List Passed) (all : List (List Event)) (p q : Passed) (ps qs : List Passed) (events : List Event) (lanes : List (List Event)) (first rest result : Result (Vec Receipt Global) Error)
+    → IsJoined first rest result → LaneEnds o p q events first → LanesEnd o ps qs lanes rest → olds ≡ p ∷ ps → news ≡ q ∷ qs → all ≡ events ∷ lanes → LanesEnd o olds news all result
+lanes_split o olds news all p q ps qs events lanes first rest result j l ls old_is new_is all_is =
+    subst (λ (z : List Passed × List Passed × List (List Event)). LanesEnd o z.0 z.1 z.2 result) (λ i. (sym old_is i, sym new_is i, sym all_is i)) (lanes_more o p q ps qs events lanes first rest result l ls j)
+
 -- ---- where a lane ends
 
 failed_or : (e : Error) → (e ≡ Failed) ⊎ (e ≢ Failed)

@@ -78,7 +78,7 @@ fn joined(
 }
 
 /// The lanes from a number on: the first by a thread of its own, and the others beside it.
-#[tactic(auto, using(crate::proofs::LaneSteps::lanes_none, crate::proofs::LaneSteps::lanes_more))]
+#[tactic(auto, using(crate::proofs::LaneSteps::lanes_none, crate::proofs::LaneSteps::lanes_split))]
 fn run_from<
     R: Threads + Wait + Sync,
     L: ClientKey + Send + Sync,

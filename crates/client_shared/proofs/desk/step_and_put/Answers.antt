@@ -1,6 +1,7 @@
-use Rattle.std.proofs.Common.{◌≡◌, ◌<◌, ℕ, List, map, None, Result, Ok, refl, sym, ap, ◌∙◌, subst}
+use Rattle.std.proofs.Common.{◌≡◌, ◌<◌, ℕ, List, map, None, Result, Ok, Err, refl, sym, ap, ◌∙◌, subst}
 use Rattle.std.specs.Prelude.{IfOk}
 use Rattle.client_request.specs.declared.event.Event.{Event}
+use Rattle.client_request.specs.declared.error.Error.TheVariants.{NumbersUsed}
 use Rattle.client_steps.specs.Whole.{plain_step}
 use Rattle.client_shared.specs.declared.entry.Entry.{Entry}
 use Rattle.client_shared.specs.declared.entry.Item.{Item}
@@ -43,6 +44,7 @@ returns-in-Ok-clause-ok g c =
 
 pub returns-in-Err-clause-numbers : goal.returns-in-Err-clause-numbers
 returns-in-Err-clause-numbers g c = λ is.
+    let error_is : c.in-Err.error ≡ NumbersUsed = cc is in
     let none : plain_step (g.W.Words.stream c.args.words) c.args.event c.args.client.now ≡ None =
-        subst (λ (e : Event). plain_step (g.W.Words.stream c.args.words) e c.args.client.now ≡ None) c.requires.copied (c.step_and_copy-words.ensures.numbers (c.in-Err.is ∙ is)) in
+        subst (λ (e : Event). plain_step (g.W.Words.stream c.args.words) e c.args.client.now ≡ None) c.requires.copied (c.step_and_copy-words.ensures.numbers (c.in-Err.is ∙ ap Err error_is)) in
     stopped g.L.ClientKey.opening g.W.Words.stream c.args.client.now c.args.words c.args.entries.now.items c.args.event c.args.pass.now c.lose.new.pass c.requires.stands c.lose.ensures.pass none
