@@ -141,8 +141,17 @@ impl<E: Owned> Joint<E> {
         requires calls { (caller.old.me.0.calls ≡ true) × (caller.old.me.0.keeps ≡ false) }
         requires number { E.by item.now ≡ caller.old.me.0.number }
         requires room { length keeper.old.me.0.seen + 1 < 2 ^ 64 }
-        ensures keeper { (keeper.new.table_id ≡ keeper.old.table_id) × (keeper.new.me.0.keeps ≡ true) × (keeper.new.me.1 ≡ []) × (keeper.new.me.0.seen ≡ keeper.old.me.0.seen ++ item.now ∷ []) × (keeper.new.me.0.made ≡ keeper.old.me.0.made) }
-        ensures caller { (caller.new.table_id ≡ caller.old.table_id) × (caller.new.me.0.calls ≡ true) × (caller.new.me.0.keeps ≡ false) × (caller.new.me.1 ≡ caller.old.me.1) × (caller.new.me.0.number ≡ caller.old.me.0.number) × (caller.new.me.0.seen ≡ keeper.old.me.0.seen ++ item.now ∷ []) }
+        ensures keeper_table { keeper.new.table_id ≡ keeper.old.table_id }
+        ensures keeper_keeps { keeper.new.me.0.keeps ≡ true }
+        ensures keeper_slots { keeper.new.me.1 ≡ [] }
+        ensures keeper_seen { keeper.new.me.0.seen ≡ keeper.old.me.0.seen ++ item.now ∷ [] }
+        ensures keeper_made { keeper.new.me.0.made ≡ keeper.old.me.0.made }
+        ensures caller_table { caller.new.table_id ≡ caller.old.table_id }
+        ensures caller_calls { caller.new.me.0.calls ≡ true }
+        ensures caller_keeps { caller.new.me.0.keeps ≡ false }
+        ensures caller_slots { caller.new.me.1 ≡ caller.old.me.1 }
+        ensures caller_number { caller.new.me.0.number ≡ caller.old.me.0.number }
+        ensures caller_seen { caller.new.me.0.seen ≡ keeper.old.me.0.seen ++ item.now ∷ [] }
         ensures begins { IsPrefix caller.old.me.0.seen keeper.old.me.0.seen }
         ensures own_items { own E.by caller.old.me.0.number keeper.old.me.0.seen ≡ own E.by caller.old.me.0.number caller.old.me.0.seen }
     {
@@ -158,8 +167,17 @@ impl<E: Owned> Joint<E> {
         requires own { (keeper.old.table_id ≡ self.now.table.shared.table_id) × (caller.old.table_id ≡ self.now.table.shared.table_id) }
         requires keeps { keeper.old.me.0.keeps ≡ true }
         requires calls { (caller.old.me.0.calls ≡ true) × (caller.old.me.0.keeps ≡ false) }
-        ensures keeper { (keeper.new.table_id ≡ keeper.old.table_id) × (keeper.new.me.0.keeps ≡ true) × (keeper.new.me.1 ≡ []) × (keeper.new.me.0.seen ≡ keeper.old.me.0.seen) × (keeper.new.me.0.made ≡ keeper.old.me.0.made) }
-        ensures caller { (caller.new.table_id ≡ caller.old.table_id) × (caller.new.me.0.calls ≡ true) × (caller.new.me.0.keeps ≡ false) × (caller.new.me.1 ≡ caller.old.me.1) × (caller.new.me.0.number ≡ caller.old.me.0.number) × (caller.new.me.0.seen ≡ keeper.old.me.0.seen) }
+        ensures keeper_table { keeper.new.table_id ≡ keeper.old.table_id }
+        ensures keeper_keeps { keeper.new.me.0.keeps ≡ true }
+        ensures keeper_slots { keeper.new.me.1 ≡ [] }
+        ensures keeper_seen { keeper.new.me.0.seen ≡ keeper.old.me.0.seen }
+        ensures keeper_made { keeper.new.me.0.made ≡ keeper.old.me.0.made }
+        ensures caller_table { caller.new.table_id ≡ caller.old.table_id }
+        ensures caller_calls { caller.new.me.0.calls ≡ true }
+        ensures caller_keeps { caller.new.me.0.keeps ≡ false }
+        ensures caller_slots { caller.new.me.1 ≡ caller.old.me.1 }
+        ensures caller_number { caller.new.me.0.number ≡ caller.old.me.0.number }
+        ensures caller_seen { caller.new.me.0.seen ≡ keeper.old.me.0.seen }
         ensures begins { IsPrefix caller.old.me.0.seen keeper.old.me.0.seen }
         ensures own_items { own E.by caller.old.me.0.number keeper.old.me.0.seen ≡ own E.by caller.old.me.0.number caller.old.me.0.seen }
     {
