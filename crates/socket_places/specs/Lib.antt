@@ -1,0 +1,5 @@
+pub mod Books
+pub mod Lists
+pub mod Places
+pub mod Table
+pub mod Told
