@@ -23,9 +23,14 @@ mod question;
 mod replay;
 mod run;
 mod short_words;
-mod statuses;
+pub mod statuses;
 mod telling;
 mod usage;
 
+pub use configure::configuration;
+pub use ending::Ending;
 pub use laws::input_laws;
-pub use run::run_alone;
+pub use query::{Answer, conf_at};
+pub use query_words::Query;
+pub use question::request_of;
+pub use run::{deliver, end_by, run_alone};

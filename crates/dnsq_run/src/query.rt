@@ -37,7 +37,7 @@ fn at_port(servers: Servers, port: u16) -> Servers
 }
 
 /// The configuration that is asked.
-fn conf_at(port: Option<u16>, conf: ResolvConf) -> ResolvConf
+pub fn conf_at(port: Option<u16>, conf: ResolvConf) -> ResolvConf
     ensures { result ≡ conf_at port conf }
 {
     let Some(port) = port else {

@@ -1,0 +1,4 @@
+pub mod Asking
+pub mod Conf
+pub mod Ends
+pub mod Watched
