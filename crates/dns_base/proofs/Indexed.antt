@@ -138,7 +138,7 @@ index_whole s t o ps i names octets places =
 pub found_by : (s : Suffixes) (o ps : List ℕ) (labels : Labels) (firsts : List (Option ℕ)) → IsIndex s o ps → IsShared (take s.octets o) (take s.places ps) labels s.names.items firsts
     → AreFirsts o (take s.places ps) labels firsts
 found_by s o ps labels firsts i shared = λ front rest e some.
-    let here = are_firsts (take s.octets o) (take s.places ps) labels firsts shared.few shared.firsts (λ f r e h. i.others r (omega arith) (shared.longest f r e h)) front rest e some in
+    let here = are_firsts (take s.octets o) (take s.places ps) labels firsts shared.few shared.these (λ f r e h. i.others r (omega arith) (shared.longest f r e h)) front rest e some in
     here ∙ sym (found_more (take s.octets o) (drop s.octets o) (take s.places ps) rest i.read) ∙ ap (λ (x : List ℕ). found_at x (take s.places ps) rest) (take-append-drop s.octets o)
 
 taken_on : (n j : ℕ) (ps : List ℕ) → take (n + j) ps ≡ take n ps ++ take j (drop n ps)
@@ -182,7 +182,7 @@ index_run s t o ps k at j name shared i whole long run is few key firsts place n
     known = subst (λ (x : List ℕ). AllByRecursion (IsKnown x old) s.names.items) all i.known
 
     mine : drop (length name - length shared) (firsts_of o old name) ≡ shared
-    mine = subst (λ (x : List ℕ). drop (length name - length shared) (firsts_of x old name) ≡ shared) all is.firsts
+    mine = subst (λ (x : List ℕ). drop (length name - length shared) (firsts_of x old name) ≡ shared) all is.these
 
     nothing : (front rest : Labels) → name ≡ front ++ rest → length shared < length rest → found_at o old rest ≡ None
     nothing front rest e h = subst (λ (x : List ℕ). found_at x old rest ≡ None) all (i.others rest (omega arith) (is.longest front rest e h))

@@ -81,7 +81,7 @@ shared_with o ps key labels known count firsts i is common its =
     let long : length firsts ≡ count = ap length its ∙ parts.0 in
     record {
       few = omega arith;
-      firsts = ap (λ (n : ℕ). drop (length labels - n) (firsts_of o ps labels)) long ∙ parts.1 ∙ sym its;
+      these = ap (λ (n : ℕ). drop (length labels - n) (firsts_of o ps labels)) long ∙ parts.1 ∙ sym its;
       longest = λ front rest e h. (ap (begins (name_key rest)) i.key ∙ share_no_more labels i.labels count c front rest e (omega arith), tt);
     }
 
@@ -91,7 +91,7 @@ shared_none o ps labels names at h =
     let none : take 1 (drop at names) ≡ [] = ap (take 1) (drop_all at names h) in
     record {
       few = omega arith;
-      firsts = drop_all (length labels - 0) (firsts_of o ps labels) (omega (arith, firsts_length o ps labels));
+      these = drop_all (length labels - 0) (firsts_of o ps labels) (omega (arith, firsts_length o ps labels));
       longest = λ front rest e k. subst (NoneEnds rest) (sym none) tt;
     }
 
@@ -125,7 +125,7 @@ pub shared_around : (o ps key : List ℕ) (labels : Labels) (names : List Known)
     → IsShared o ps labels [] firsts → length left ≤ length firsts → length right ≤ length firsts → IsShared o ps labels names firsts
 shared_around o ps key labels names at left right firsts rise place is l r chosen left_few right_few = record {
   few = chosen.few;
-  firsts = chosen.firsts;
+  these = chosen.these;
   longest = λ front rest e h.
       let mine : begins (name_key rest) key ≡ true = ap (begins (name_key rest)) (is ∙ ap name_key e) ∙ key_begins front rest in
       none_between names at (name_key rest) key rise place.long place.before place.behind mine (λ i at_is. (l i at_is).longest front rest e (omega arith)) (r.longest front rest e (omega arith));
@@ -133,5 +133,5 @@ shared_around o ps key labels names at left right firsts rise place is l r chose
 
 -- of fewer names
 pub shared_by_none : (o ps : List ℕ) (labels : Labels) (names : List Known) (firsts : List (Option ℕ)) → IsShared o ps labels names firsts → IsShared o ps labels [] firsts
-shared_by_none o ps labels names firsts h = record { few = h.few; firsts = h.firsts; longest = λ front rest e k. tt }
+shared_by_none o ps labels names firsts h = record { few = h.few; these = h.these; longest = λ front rest e k. tt }
 

@@ -77,7 +77,7 @@ pub record IsCommon (a b : Labels) (count : ℕ) : Type 0 where
 -- of it is one of theirs.
 pub record IsShared (octets places : List ℕ) (labels : Labels) (names : List Known) (firsts : List (Option ℕ)) : Type 0 where
   pub few : length firsts ≤ length labels
-  pub firsts : drop (length labels - length firsts) (firsts_of octets places labels) ≡ firsts
+  pub these : drop (length labels - length firsts) (firsts_of octets places labels) ≡ firsts
   pub longest : (front rest : Labels) → labels ≡ front ++ rest → length firsts < length rest → NoneEnds rest names
 
 -- the first place of the suffix of so many labels, where the longest have none

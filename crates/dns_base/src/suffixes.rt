@@ -29,7 +29,7 @@ fn put_lowered(key: &mut Vec<u8>, label: &[u8]) -> Result<(), NoMemory>
 
 /// Appends labels, the last of them first.
 fn put_key(key: &mut Vec<u8>, mut labels: LabelIter<'_>) -> Result<(), NoMemory>
-    requires { AllByRecursion IsLabel labels.entry }
+    requires { AllByRecursion IsLabel labels }
     ensures { OnOk result (key.new.items ≡ key.old.items ++ name_key labels.entry) }
 {
     match labels.next() {
