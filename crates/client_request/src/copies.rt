@@ -130,6 +130,7 @@ impl Out {
                 octets: octets.try_clone()?,
             }),
             Out::Close { place } => Ok(Out::Close { place: *place }),
+            Out::Stale { request } => Ok(Out::Stale { request: *request }),
             Out::Reply {
                 request,
                 result: Ok(message),

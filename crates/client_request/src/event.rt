@@ -108,6 +108,11 @@ pub enum Out {
     Close {
         place: u64,
     },
+    /// The reply that follows says what an expired message said, since no server gave an answer. Nothing is
+    /// to be done.
+    Stale {
+        request: u64,
+    },
     /// The result of a request for whoever asked it: its only one.
     Reply {
         request: u64,

@@ -8,7 +8,7 @@ use Rattle.client_request.specs.declared.event.What.{What}
 use Rattle.client_request.specs.declared.event.What.TheVariants.{Tick, Opened}
 use Rattle.client_request.specs.declared.event.Via.{Via}
 use Rattle.client_request.specs.declared.event.Via.TheVariants.{Stream}
-use Rattle.client_request.specs.declared.event.Out.TheVariants.{Reply}
+use Rattle.client_request.specs.declared.event.Out.TheVariants.{Stale, Reply}
 use Rattle.right_trace.specs.Trace.{History, Conf, Came, Put, put_all}
 use Rattle.right_trace.specs.Messages.{Octets, is_valid}
 use Rattle.right_trace.specs.Requests.{Asking, asking, replied, waits, handed}
@@ -134,6 +134,8 @@ pub record Part (c : Conf) : Type 1 where
   pub one_id : (s p k i j : ℕ) (q r : Request) (m n : Octets) (past : History) (w : What) (u : State) (h : History) → Fits s past w u h → Comes c q Stream s p k i m past w h → Comes c r Stream s p k j n past w h → i ≡ j
   -- a reply is nothing to it
   pub replies : (s k : ℕ) (x : Result Octets Error) (past : History) (w : What) (u : State) (h : History) → Fits s past w u h → Fits s past w u (Put (Reply k x) ∷ h)
+  -- nor is the mark of one
+  pub marks : (s k : ℕ) (past : History) (w : What) (u : State) (h : History) → Fits s past w u h → Fits s past w u (Put (Stale k) ∷ h)
   -- a move of its own
   pub acts_keeps : (s place : ℕ) (past : History) (w : What) (u : State) (h : History) (d : Act State) → s < length c.servers → Fits s past w u h → place ≡ reach h → Acts s place u d → Keeps State Fits none_more s past w h d
   pub acts_right : (s place : ℕ) (past : History) (w : What) (u : State) (h : History) (d : Act State) → s < length c.servers → Fits s past w u h → place ≡ reach h → Acts s place u d → ((k : ℕ) → holds u k ≡ true → replied k past ≡ false)

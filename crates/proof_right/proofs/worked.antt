@@ -1,5 +1,6 @@
 pub mod Streams
 pub mod Cache
+pub mod Stale
 pub mod Servers
 pub mod Resting
 pub mod Runs

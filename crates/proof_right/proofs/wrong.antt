@@ -1,5 +1,7 @@
+pub mod Marks
 pub mod Dgrams
 pub mod Sends
 pub mod Streams
 pub mod Cache
 pub mod Places
+pub mod Stale

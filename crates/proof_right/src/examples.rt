@@ -11,6 +11,7 @@ ghost use Rattle.proof_right.specs.examples.Runs.{IsARun};
 ghost use Rattle.proof_right.specs.examples.Servers.{WorkedServers, failing_server};
 ghost use Rattle.proof_right.specs.examples.Slots.{SlotIsGivenOn};
 ghost use Rattle.proof_right.specs.examples.Streams.{cut_goes_on, WorkedStreams};
+ghost use Rattle.proof_right.specs.examples.Stale.{IsServedStale};
 
 /// A request by datagram: its place, its send, what answers it, and of what a failure is blamed.
 pub fn worked_datagrams()
@@ -31,6 +32,11 @@ pub fn worked_cache()
 /// A request that is asked again is answered from the cache, and all that makes this a hit holds.
 pub fn worked_hit()
     ensures { WorkedHit }
+{}
+
+/// An expired message is given where the server's place fails to open.
+pub fn worked_stale()
+    ensures { IsServedStale }
 {}
 
 /// A slow server, and one that fails, each beside another.

@@ -4,7 +4,7 @@ ghost use Rattle.std.specs.Prelude.{◌<◌, ◌≡◌, ℕ, length, slice_index
 ghost use Rattle.client_request.specs.Composed.{composed};
 ghost use Rattle.right_trace.specs.Messages.{Composes, Octets};
 ghost use Rattle.right_trace.specs.Parts.{flags_in};
-ghost use Rattle.proof_right.specs.Theorem.{EveryCachedRunHits, EveryRunIsRight, EveryRunOfOneServerIsRight, RunsOfOneServerAreRuns};
+ghost use Rattle.proof_right.specs.Theorem.{EveryCachedRunHits, EveryRunIsRight, EveryRunOfOneServerIsRight, RunsOfOneServerAreRuns, EveryCachedRunServesStale};
 
 /// What is composed of a request carries it, and a request is refused only where its base is not read or a
 /// section would have too many entries.
@@ -28,6 +28,12 @@ pub fn runs_of_one_server_are_runs()
 /// In every run whose cache is exact, an asking that the cache must answer is answered in its own row.
 pub fn every_cached_run_hits()
     ensures { EveryCachedRunHits }
+{}
+
+/// In every run whose cache is exact, a request for which a kept message had expired does not fail by its servers or
+/// its deadline while that message may serve.
+pub fn every_cached_run_serves_stale()
+    ensures { EveryCachedRunServesStale }
 {}
 
 /// The parts of a header are all bits of its four octets, bit Z too (RFC 1035 4.1.1).

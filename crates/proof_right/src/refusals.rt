@@ -24,6 +24,8 @@ ghost use Rattle.proof_right.specs.examples.Messages.{answer, answer_with_z, pla
 ghost use Rattle.proof_right.specs.examples.Hits.{missed};
 ghost use Rattle.proof_right.specs.examples.Rows.{by_datagrams, deferring, two_servers};
 ghost use Rattle.proof_right.specs.examples.Wrong.{IsItsAnswer, IsItsFrame, asked_then, blamed_unsent, blamed_when_closed, closed_again, closed_for_nothing, closed_twice, closed_unopened, failing_at_once, frame_passed_over, frame_taken, invented, nothing_sent, nothing_written, opened_twice, passed_over, refused_again, refused_thrice, replied_twice, second_while_open, second_while_opening, sent_at_once, sent_elsewhere, sent_nowhere, sent_too_soon, started_unasked, still_waiting, stream_closed_for_nothing, taken, taken_unwritten, taken_when_closed, timed_out_early, written, wrong_without_frame};
+ghost use Rattle.proof_right.specs.examples.Stale.{marked_alone, not_served, serving_stale, stale_at_once, unmarked_stale};
+ghost use Rattle.right_trace.specs.StaleServed.{AllServeStale};
 
 /// By datagram: replies, sends, closes and answers that are not owed, or that are owed and do not stand.
 pub fn wrong_datagrams_are_refused()
@@ -107,4 +109,13 @@ pub fn wrong_replies_are_refused()
     ensures error_past_its_time { (c : Conf) → Right c first_settings (refused_again 30000001) → ⊥ }
     ensures error_from_its_repeat { (c : Conf) → Right c first_settings refused_thrice → ⊥ }
     ensures before_all_failed { Right two_servers deferring failing_at_once → ⊥ }
+{}
+
+/// With an expired message: one that is given when no server failed, one without its mark, a mark without its reply, and
+/// an error where the message may serve.
+pub fn wrong_stale_replies_are_refused()
+    ensures at_once { (c : Conf) (m : Octets) → 0 < c.timeout → Right c serving_stale (stale_at_once m) → ⊥ }
+    ensures without_mark { (c : Conf) (m : Octets) → Right c serving_stale (unmarked_stale m) → ⊥ }
+    ensures alone { (c : Conf) → Right c serving_stale marked_alone → ⊥ }
+    ensures never { AllServeStale by_datagrams serving_stale 1000 [] not_served → ⊥ }
 {}

@@ -11,7 +11,7 @@ use Rattle.right_trace.specs.Messages.{Octets}
 use Rattle.right_trace.specs.Settings.{Settings}
 use Rattle.right_trace.specs.Keys.{Key, Covers, key_of, spelled_name, is_signing}
 use Rattle.right_trace.specs.Parts.{Header, Item, Parts, raw, typed, flags_in, read_parts, known_parts, lowered_item, lowered_parts, Says}
-use Rattle.right_trace.specs.Validity.{second, has_item, least, without_opt, good_limit, limit, validity_of_parts}
+use Rattle.right_trace.specs.Validity.{second, has_item, least, without_opt, good_limit, absent_limit, limit, validity_of_parts}
 use Rattle.right_trace.specs.Views.{viewed_header, with_name, leaves_out, lessened, mostly_lessened, without_signing, viewed, view_of}
 use Rattle.right_trace.proofs.Deriving.{views_compose}
 
@@ -109,12 +109,14 @@ module _ {C : Type 0} where
       go false i = i (min n (x.ttl * second))
 
   limit_stripped : (s : Settings) (x : Parts C) → limit s (stripped_parts x) ≡ limit s x
-  limit_stripped s x = go x.questions (x.code == 0)
+  limit_stripped s x = go x.questions (x.code == 0) (x.code == 3)
     where
-      go : (qs : List Asked) (b : Bool) → (if b then good_limit s (stripped_parts x) qs else (if x.code == 3 then s.max_nxdomain_validity else s.misc_error_duration)) ≡ (if b then good_limit s x qs else (if x.code == 3 then s.max_nxdomain_validity else s.misc_error_duration))
-      go [] true = refl
-      go (q ∷ qs) true = ap₂ (λ a b. if a then s.max_validity else b) (has_stripped q.rtype q.class x.answer) (ap₂ (λ a b. if a then s.max_nodata_validity else (if b then s.max_delegation_validity else 0)) (has_stripped 6 q.class x.authority) (has_stripped 2 q.class x.authority))
-      go qs false = refl
+      go : (qs : List Asked) (b d : Bool) → (if b then good_limit s (stripped_parts x) qs else (if d then absent_limit s (stripped_parts x) qs else s.misc_error_duration)) ≡ (if b then good_limit s x qs else (if d then absent_limit s x qs else s.misc_error_duration))
+      go [] true d = refl
+      go (q ∷ qs) true d = ap₂ (λ a b. if a then s.max_validity else b) (has_stripped q.rtype q.class x.answer) (ap₂ (λ a b. if a then s.max_nodata_validity else (if b then s.max_delegation_validity else 0)) (has_stripped 6 q.class x.authority) (has_stripped 2 q.class x.authority))
+      go [] false true = refl
+      go (q ∷ qs) false true = ap (λ a. if a then s.max_nxdomain_validity else 0) (has_stripped 6 q.class x.authority)
+      go qs false false = refl
 
   validity_stripped : (s : Settings) (x : Parts C) → validity_of_parts s (stripped_parts x) ≡ validity_of_parts s x
   validity_stripped s x = ap (λ n. if x.header.tc && not s.cache_truncated then 0 else n)

@@ -1,13 +1,13 @@
 -- The view of a message to its own key is valid as long as the message.
-use Rattle.std.proofs.Common.{◌≡◌, ℕ, Bool, true, false, Option, Some, None, List, [], ◌∷◌, refl, arith, ◌∙◌, ap, ap₂, ◌==◌, ◌&&◌, ◌<◌}
+use Rattle.std.proofs.Common.{◌≡◌, ℕ, Bool, true, false, Option, Some, None, List, [], ◌∷◌, is_some, refl, arith, ◌∙◌, ap, ap₂, ◌==◌, ◌&&◌, ◌<◌}
 use Rattle.std.specs.Prelude.{if◌then◌else◌, not, map, ◌-◌, min}
 use Rattle.dns_names.specs.Name.{Labels}
 use Rattle.dns_base.specs.Message.{Asked}
 use Rattle.right_trace.specs.Messages.{Octets, truncated}
 use Rattle.right_trace.specs.Settings.{Settings}
 use Rattle.right_trace.specs.Keys.{FlagClass, Do, Ad, Plain, Key, is_do}
-use Rattle.right_trace.specs.Parts.{Header, Item, Parts, read_parts}
-use Rattle.right_trace.specs.Validity.{good_limit, limit, least, without_opt, validity_of_parts, validity_read, validity_of_message}
+use Rattle.right_trace.specs.Parts.{Header, Item, Parts, read_parts, known_parts}
+use Rattle.right_trace.specs.Validity.{good_limit, absent_limit, limit, least, without_opt, validity_of_parts, validity_read, validity_of_message}
 use Rattle.right_trace.specs.Views.{with_name, leaves_out, lessened, mostly_lessened, without_signing, viewed}
 
 less_none : (n : ℕ) → n - 0 ≡ n
@@ -38,13 +38,15 @@ module _ {C : Type 0} where
 
   -- the name in the question is nothing to the limit
   limit_same : (s : Settings) (x : Parts C) (h : Header) (n : Labels) → limit s (record { header = h; code = x.code; questions = map (with_name n) x.questions; answer = x.answer; authority = x.authority; additional = x.additional }) ≡ limit s x
-  limit_same s x h n = go x.questions (x.code == 0)
+  limit_same s x h n = go x.questions (x.code == 0) (x.code == 3)
     where
-      go : (qs : List Asked) (b : Bool) → (if b then good_limit s (record { header = h; code = x.code; questions = map (with_name n) x.questions; answer = x.answer; authority = x.authority; additional = x.additional }) (map (with_name n) qs) else (if x.code == 3 then s.max_nxdomain_validity else s.misc_error_duration))
-          ≡ (if b then good_limit s x qs else (if x.code == 3 then s.max_nxdomain_validity else s.misc_error_duration))
-      go [] true = refl
-      go (q ∷ qs) true = refl
-      go qs false = refl
+      go : (qs : List Asked) (b d : Bool) → (if b then good_limit s (record { header = h; code = x.code; questions = map (with_name n) x.questions; answer = x.answer; authority = x.authority; additional = x.additional }) (map (with_name n) qs) else (if d then absent_limit s (record { header = h; code = x.code; questions = map (with_name n) x.questions; answer = x.answer; authority = x.authority; additional = x.additional }) (map (with_name n) qs) else s.misc_error_duration))
+          ≡ (if b then good_limit s x qs else (if d then absent_limit s x qs else s.misc_error_duration))
+      go [] true d = refl
+      go (q ∷ qs) true d = refl
+      go [] false true = refl
+      go (q ∷ qs) false true = refl
+      go qs false false = refl
 
   pub own_view_valid : (s : Settings) (k : Key) (n : Labels) (x : Parts C) → validity_of_parts s (viewed k k n 0 x) ≡ validity_of_parts s x
   own_view_valid s k n x =
@@ -62,9 +64,21 @@ module _ {C : Type 0} where
 -- a message with a validity above 0 is read
 pub valid_is_read : (s : Settings) (m : Octets) (n : ℕ) → validity_of_message s m ≡ Some n → 0 < n → (x : Parts Octets) × (read_parts m ≡ Some x) × (validity_of_parts s x ≡ n)
 unfolding validity_of_message
-valid_is_read s m n e lt = go (truncated m && not s.cache_truncated) (read_parts m) refl e
+valid_is_read s m n e lt = go (truncated m && not s.cache_truncated) (is_some (known_parts m)) (read_parts m) refl e
   where
-    go : (b : Bool) (o : Option (Parts Octets)) → read_parts m ≡ o → (if b then Some 0 else validity_read s o) ≡ Some n → (x : Parts Octets) × (read_parts m ≡ Some x) × (validity_of_parts s x ≡ n)
-    go true o q e = absurd (let z : 0 ≡ n = cc in omega arith)
-    go false (Some x) q e = (x, q, cc)
-    go false None q e = absurd (cc)
+    go : (b k : Bool) (o : Option (Parts Octets)) → read_parts m ≡ o → (if b then Some 0 else validity_read s k o) ≡ Some n → (x : Parts Octets) × (read_parts m ≡ Some x) × (validity_of_parts s x ≡ n)
+    go true k o q e = absurd (let z : 0 ≡ n = cc in omega arith)
+    go false true (Some x) q e = (x, q, cc)
+    go false false (Some x) q e = absurd (let z : 0 ≡ n = cc in omega arith)
+    go false k None q e = absurd (cc)
+
+-- and so is the data of its records
+pub valid_is_known : (s : Settings) (m : Octets) (n : ℕ) → validity_of_message s m ≡ Some n → 0 < n → is_some (known_parts m) ≡ true
+unfolding validity_of_message
+valid_is_known s m n e lt = go (truncated m && not s.cache_truncated) (is_some (known_parts m)) (read_parts m) e
+  where
+    go : (b k : Bool) (o : Option (Parts Octets)) → (if b then Some 0 else validity_read s k o) ≡ Some n → k ≡ true
+    go b true o e = refl
+    go true false o e = absurd (let z : 0 ≡ n = cc in omega arith)
+    go false false (Some x) e = absurd (let z : 0 ≡ n = cc in omega arith)
+    go false false None e = absurd (cc)

@@ -1,6 +1,6 @@
 -- Why a request gets an error: by a server, by the client, by the cache.
 use Rattle.right_trace.specs.Causes.{ServerCause, DeadlineHasPassed}
-use Rattle.std.specs.Prelude.{◌≡◌, ℕ, ◌+◌, ◌≤◌, Bool, true, false, Some, None, ◌∷◌, length, Err}
+use Rattle.std.specs.Prelude.{◌≡◌, ℕ, ◌+◌, ◌≤◌, Bool, true, false, ◌||◌, Some, None, ◌∷◌, length, Err}
 use Rattle.client_request.specs.Request.{Request}
 use Rattle.client_request.specs.declared.error.Error.{Error}
 use Rattle.client_request.specs.declared.event.What.{What}
@@ -39,32 +39,12 @@ pub record CameWithoutValidity (c : Conf) (s : Settings) (k : ℕ) (m : Octets) 
   pub matches : Matches c request via server place k id m past w h
   pub none : validity_of_message s m ≡ None
 
--- the message of an earlier request, which may serve this one, can't be read: it would have been viewed, or what DO added cannot be left out
-pub data MustBeRead (s : Settings) (q r : Request) (x : Parts Octets) (age : ℕ) : Type 0 where
-  InTime : age ≤ view_validity s q r x → MustBeRead s q r x age
-  Derived : is_do (key_of q).flags ≡ true → is_do (key_of r).flags ≡ false → MustBeRead s q r x age
-
--- the asking is answered from such a message
-pub record CantBeViewed (c : Conf) (s : Settings) (k : ℕ) (h : History) : Type 0 where
-  pub asked_here : is_asked_here k h ≡ true
-  pub first : Request
-  pub request : Request
-  pub message : Octets
-  pub age : ℕ
-  pub supplied : Supplies c s k first request message age h
-  pub unknown : known_parts message ≡ None
-  pub parts : Parts Octets
-  pub is_parts : read_parts message ≡ Some parts
-  pub kept : is_above (validity_of_message s message) ≡ true
-  pub must : MustBeRead s first request parts age
-
 -- the causes that are no kept error
 pub data DirectCause (c : Conf) (s : Settings) (k : ℕ) (past : History) (w : What) (h : History) : Error → Type 0 where
   Deadline : DeadlineHasPassed c k h → DirectCause c s k past w h errors.TimedOut
   NoServer : length c.servers ≡ 0 → is_asked_here k h ≡ true → DirectCause c s k past w h errors.NoTransportAvailable
   ByServer : (e : Error) → HereOrEarlier s.defers_errors (λ past w h. ServerCause c k past w h e) past w h → DirectCause c s k past w h e
   NoValidity : (m : Octets) → HereOrEarlier (is_deferred s m) (CameWithoutValidity c s k m) past w h → DirectCause c s k past w h errors.MessageParseError
-  ViewNotKnown : CantBeViewed c s k h → DirectCause c s k past w h errors.MessageParseError
 
 -- the one error that is never kept
 abbrev pub is_deadline : Error → Bool
@@ -96,6 +76,15 @@ is_of_server (errors.Dgram e) = true
 is_of_server errors.WrongReplyForQuery = true
 is_of_server errors.StreamReadTimeout = true
 is_of_server _ = false
+
+-- an error for which an expired message may stand: a server's, or that of the deadline
+abbrev pub is_failure : Error → Bool
+is_failure e = is_deadline e || is_of_server e
+
+-- A cause of its own; a deferred error stands only when every server is done with the request, and no message came.
+pub record OwnCause (c : Conf) (s : Settings) (e : Error) (k : ℕ) (past : History) (w : What) (h : History) : Type 0 where
+  pub direct : DirectCause c s k past w h e
+  pub last : is_of_server e ≡ true → s.defers_errors ≡ true → AllAreDone c k past w h × NoneCame c k past w h
 
 -- An error has its own cause or is kept; a deferred one that is not kept is given only when every server is done with the request, and no message came.
 pub data HasCause (c : Conf) (s : Settings) (e : Error) (k : ℕ) (past : History) (w : What) (h : History) : Type 0 where

@@ -5,12 +5,12 @@ use Rattle.client_request.specs.Request.{Request}
 use Rattle.client_request.specs.declared.error.Error.{Error}
 use Rattle.client_request.specs.declared.event.What.TheVariants.{Ask}
 use Rattle.client_request.specs.declared.event.Out.{Out}
-use Rattle.client_request.specs.declared.event.Out.TheVariants.{Reply}
+use Rattle.client_request.specs.declared.event.Out.TheVariants.{Stale, Reply}
 use Rattle.client_request.specs.declared.event.Row.{Row}
 use Rattle.right_trace.specs.Trace.{History, Conf, Came, Put, after}
 use Rattle.right_trace.specs.Time.{now, newest, one_if, Ever}
 use Rattle.right_trace.specs.Messages.{Octets}
-use Rattle.right_trace.specs.Requests.{asks, asking, is_ask, is_asked_here, is_reply, replied, handed}
+use Rattle.right_trace.specs.Requests.{asks, asking, is_ask, is_asked_here, is_reply, is_marked, replied, handed}
 use Rattle.right_trace.specs.Right.{Among}
 use Rattle.right_trace.specs.Settings.{Settings}
 use Rattle.right_trace.specs.Keys.{key_of, is_cacheable}
@@ -47,8 +47,9 @@ IsViewOf q m moment h k (Ok y) = (r : Request) (t : ℕ) → asking k h ≡ Some
     → (is_asked_here k h ≡ true) × (x : Parts Data) × (age : ℕ) × (known_parts m ≡ Some x) × (moment + age ≡ now h) × Says y (view_of q r age x)
 IsViewOf q m moment h k (Err e) = (r : Request) (t : ℕ) → asking k h ≡ Some (record { request = r; moment = t }) → is_cacheable r ≡ true → key_of r ≡ key_of q → ⊥
 
+-- a reply is such, or it is marked as stale: that of an expired message changes nothing that is kept
 abbrev pub OutIsView : (q : Request) (m : Octets) (moment : ℕ) (h : History) → Out → Type 0
-OutIsView q m moment h (Reply k x) = IsViewOf q m moment h k x
+OutIsView q m moment h (Reply k x) = (is_marked k h ≡ true) ⊎ IsViewOf q m moment h k x
 OutIsView q m moment h _ = Unit {0}
 
 -- each reply since that to request j, but one to request `but`, is such, if its request has the key of q
@@ -57,12 +58,11 @@ AllAreViews q m j n but [] = Unit {0}
 AllAreViews q m j n but (Came e ∷ h) = AllAreViews q m j n but h
 AllAreViews q m j n but (Put o ∷ h) = (is_reply j o ≡ true) ⊎ (((is_reply but o ≡ true) ⊎ OutIsView q m n h o) × AllAreViews q m j n but h)
 
--- What is given: the view; or, where the message is not known, that it can't be read.
+-- What is given: the view.
 pub data IsHit (q r : Request) (m : Octets) (age k : ℕ) (outs : List Out) : Type 0 where
   Views : (x : Parts Data) (y : Octets) → known_parts m ≡ Some x → Says y (view_of q r age x) → Among (Reply k (Ok y)) outs → IsHit q r m age k outs
-  CantRead : known_parts m ≡ None → Among (Reply k (Err errors.MessageParseError)) outs → IsHit q r m age k outs
 
--- Request j, which is q, had the fresh reply m, of a validity that has not passed. An asking with the same key, with few askings and replies between, all of them with that key views of it, is a hit, and is handed to no server.
+-- Request j, which is q, had the fresh reply m, of a validity that has not passed. An asking with the same key, with few askings and replies between, all of them with that key views of it or stale, is a hit, not marked as stale, and is handed to no server.
 abbrev pub Hits : (c : Conf) (s : Settings) (compose : Request → Result Octets Error) (max : ℕ) (past : History) (row : Row) → Type 0
 Hits c s compose max past row =
     (q r : Request) (j t moment n age : ℕ) (m o : Octets)
@@ -79,7 +79,7 @@ Hits c s compose max past row =
     → age ≤ n
     → AllAreViews q m j moment (asks past) (after row past)
     → 3 * asks_since j past + (replies_since j past + other_replies (asks past) row.outs) < max
-    → IsHit q r m age (asks past) row.outs × ((i : ℕ) → handed (asks past) i (after row past) ≡ false)
+    → IsHit q r m age (asks past) row.outs × ((i : ℕ) → handed (asks past) i (after row past) ≡ false) × (Among (Stale (asks past)) row.outs → ⊥)
 
 abbrev pub AllHit : (c : Conf) (s : Settings) (compose : Request → Result Octets Error) (max : ℕ) (past : History) → List Row → Type 0
 AllHit c s compose max past [] = Unit {0}

@@ -17,10 +17,12 @@ pub mod Owed
 pub mod Replies
 pub mod Causes
 pub mod Errors
+pub mod Stale
 pub mod Orderly
 pub mod Busy
 pub mod Right
 pub mod Timely
 pub mod Hit
+pub mod StaleServed
 pub mod InOctets
 pub mod Updates

@@ -1,6 +1,6 @@
 -- Replies that are messages: one that came for its request; and what an earlier one serves.
 use Rattle.right_trace.specs.Coming.{CameFor, CameFirst}
-use Rattle.std.specs.Prelude.{◌≡◌, ℕ, ◌+◌, ◌<◌, true, Some, ◌∷◌, Ok}
+use Rattle.std.specs.Prelude.{◌≡◌, ℕ, ◌+◌, ◌<◌, true, false, Some, ◌∷◌, Ok}
 use Rattle.dns_base.specs.Data.{Data}
 use Rattle.client_request.specs.Request.{Request}
 use Rattle.client_request.specs.declared.event.What.{What}
@@ -8,7 +8,7 @@ use Rattle.client_request.specs.declared.event.Out.TheVariants.{Reply}
 use Rattle.right_trace.specs.Trace.{History, Conf, Put}
 use Rattle.right_trace.specs.Time.{now, newest, row_before, Ever, EarlierRow, OfRow}
 use Rattle.right_trace.specs.Messages.{Octets}
-use Rattle.right_trace.specs.Requests.{asking, is_asked_here}
+use Rattle.right_trace.specs.Requests.{asking, is_asked_here, is_marked}
 use Rattle.right_trace.specs.Settings.{Settings}
 use Rattle.right_trace.specs.Keys.{Covers}
 use Rattle.right_trace.specs.Parts.{Parts, Says}
@@ -23,10 +23,11 @@ pub data IsFresh (c : Conf) (s : Settings) (k : ℕ) (m : Octets) (past : Histor
   InThisRow : CameFor c k m past w h → IsFresh c s k m past w h
   Deferred : is_deferred s m ≡ true → EarlierRow (OfRow (CameFor c k m)) h → IsFresh c s k m past w h
 
--- the newest out is request q's fresh reply with this message, at this moment
+-- the newest out is request q's fresh reply with this message, at this moment; it is not marked as stale
 pub record IsFreshReply (c : Conf) (s : Settings) (q : ℕ) (m : Octets) (moment : ℕ) (h : History) : Type 0 where
   pub before : History
   pub put : h ≡ (Put (Reply q (Ok m)) ∷ before)
+  pub unmarked : is_marked q before ≡ false
   pub fresh : IsFresh c s q m (row_before before) (newest before) before
   pub at : now h ≡ moment
 
@@ -57,7 +58,7 @@ pub record IsView (c : Conf) (s : Settings) (k : ℕ) (m : Octets) (h : History)
   pub valid : IsValidView s first request message parts age
   pub says : Says m (view_of first request age parts)
 
--- An Ok reply is fresh or a view; a deferred message is given only when every server is done with the request, and is the first that came.
+-- An Ok reply that is not marked as stale is fresh or a view; a deferred message is given only when every server is done with the request, and is the first that came.
 pub data OkIsRight (c : Conf) (s : Settings) (k : ℕ) (m : Octets) (past : History) (w : What) (h : History) : Type 0 where
   Fresh : IsFresh c s k m past w h → (is_deferred s m ≡ true → AllAreDone c k past w h × CameFirst c k m past w h) → OkIsRight c s k m past w h
   View : IsView c s k m h → OkIsRight c s k m past w h

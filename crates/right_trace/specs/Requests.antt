@@ -6,7 +6,7 @@ use Rattle.client_request.specs.declared.event.Via.TheVariants.{Dgram, Stream}
 use Rattle.right_trace.specs.Trace.{History, Came, Put}
 use Rattle.client_request.specs.Request.{Request}
 use Rattle.client_request.specs.declared.event.Out.{Out}
-use Rattle.client_request.specs.declared.event.Out.TheVariants.{Start, Reply}
+use Rattle.client_request.specs.declared.event.Out.TheVariants.{Start, Stale, Reply}
 use Rattle.client_request.specs.declared.event.Via.{Via}
 use Rattle.right_trace.specs.Time.{now}
 
@@ -53,6 +53,17 @@ abbrev pub replied : (k : ℕ) → History → Bool
 replied k [] = false
 replied k (Came e ∷ h) = replied k h
 replied k (Put o ∷ h) = is_reply k o || replied k h
+
+-- an out says that the reply to request k, which is to follow it, is stale
+abbrev pub is_mark : (k : ℕ) → Out → Bool
+is_mark k (Stale j) = j == k
+is_mark k _ = false
+
+-- it was put last
+abbrev pub is_marked : (k : ℕ) → History → Bool
+is_marked k [] = false
+is_marked k (Came e ∷ h) = false
+is_marked k (Put o ∷ h) = is_mark k o
 
 -- request k was asked and has no reply
 abbrev pub waits : (k : ℕ) → History → Bool

@@ -6,7 +6,7 @@ use Rattle.client_request.specs.Request.{Request}
 use Rattle.client_request.specs.declared.error.Error.{Error}
 use Rattle.client_request.specs.declared.event.What.{What}
 use Rattle.client_request.specs.declared.event.Out.{Out}
-use Rattle.client_request.specs.declared.event.Out.TheVariants.{Start, OpenDgram, OpenStream, Send, Write, Resume, Close, Reply}
+use Rattle.client_request.specs.declared.event.Out.TheVariants.{Start, OpenDgram, OpenStream, Send, Write, Resume, Close, Reply, Stale}
 use Rattle.client_request.specs.declared.event.Row.{Row}
 use Rattle.client_request.specs.declared.event.Via.{Via}
 use Rattle.client_request.specs.declared.event.Via.TheVariants.{Dgram}
@@ -22,6 +22,7 @@ use Rattle.right_trace.specs.Busy.{IsBusy}
 use Rattle.right_trace.specs.Settings.{Settings, defers_nothing}
 use Rattle.right_trace.specs.Validity.{is_final}
 use Rattle.right_trace.specs.Coming.{IsExcused}
+use Rattle.right_trace.specs.Stale.{MessageIsRight}
 use Rattle.client_request.specs.declared.error.Error.TheVariants as errors
 use Rattle.client_request.specs.declared.error.QueryError.TheVariants as query
 
@@ -69,12 +70,17 @@ abbrev pub faults : List Out → ℕ
 faults [] = 0
 faults (o ∷ os) = fault_of o + faults os
 
--- what a reply owes, by its result
+-- what a reply owes that is not marked as stale, by its result
 abbrev pub ReplyRight : (c : Conf) (s : Settings) (past : History) (w : What) (h : History) (k : ℕ) → Result Octets Error → Type 0
 ReplyRight c s past w h k (Ok m) = OkIsRight c s k m past w h
 ReplyRight c s past w h k (Err e) = HasCause c s e k past w h
 
--- what an out of a server owes at the point where it is put: all outs but replies
+-- what a reply owes, marked or not
+abbrev pub ReplyOwes : (c : Conf) (s : Settings) (past : History) (w : What) (h : History) (k : ℕ) → Result Octets Error → Type 0
+ReplyOwes c s past w h k (Ok m) = MessageIsRight c s k m past w h
+ReplyOwes c s past w h k (Err e) = HasCause c s e k past w h
+
+-- what an out of a server owes at the point where it is put: all outs but replies and their marks
 abbrev pub ServerOutRight : (c : Conf) (past : History) (w : What) (h end : History) → Out → Type 0
 ServerOutRight c past w h end (Start k s v) = HasServer c × MayStart c k s past w h v × IsAsked k h
 ServerOutRight c past w h end (OpenDgram p s) = HasServer c × (s < length c.servers) × IsUnopened p h
@@ -83,16 +89,29 @@ ServerOutRight c past w h end (Send p k id o) = HasServer c × ((s : ℕ) → is
 ServerOutRight c past w h end (Write p k id o) = HasServer c × MayWrite k p id o past h
 ServerOutRight c past w h end (Resume p o) = HasServer c
 ServerOutRight c past w h end (Close p) = HasServer c × MayClose c p past w h end × WasLive p h
+ServerOutRight c past w h end (Stale k) = ⊥
 ServerOutRight c past w h end (Reply k x) = ⊥
 
 -- what an out owes
 abbrev pub OutRight : (c : Conf) (s : Settings) (past : History) (w : What) (h end : History) → Out → Type 0
-OutRight c s past w h end (Reply k x) = IsFirst k h × ReplyRight c s past w h k x
+OutRight c s past w h end (Reply k x) = IsFirst k h × ReplyOwes c s past w h k x
+OutRight c s past w h end (Stale k) = HasServer c
 OutRight c s past w h end o = ServerOutRight c past w h end o
 
 abbrev pub OutsRight : (c : Conf) (s : Settings) (past : History) (w : What) (end h : History) → List Out → Type 0
 OutsRight c s past w end h [] = Unit {0}
 OutsRight c s past w end h (o ∷ os) = OutRight c s past w h end o × OutsRight c s past w end (Put o ∷ h) os
+
+-- the first of these is an Ok reply to request k
+abbrev pub IsFollowed : (k : ℕ) → List Out → Type 0
+IsFollowed k (Reply j (Ok m) ∷ os) = j ≡ k
+IsFollowed k _ = ⊥
+
+-- each mark stands directly before its reply, which is Ok
+abbrev pub MarksStand : List Out → Type 0
+MarksStand [] = Unit {0}
+MarksStand (Stale k ∷ os) = IsFollowed k os × MarksStand os
+MarksStand (o ∷ os) = MarksStand os
 
 abbrev pub ServerOutsRight : (c : Conf) (past : History) (w : What) (end h : History) → List Out → Type 0
 ServerOutsRight c past w end h [] = Unit {0}
@@ -119,6 +138,7 @@ pub record RowRight (c : Conf) (s : Settings) (past : History) (row : Row) : Typ
   pub busy : HasServer c → WaitingIsBusy c (after row past)
   pub places : PlacesAreMet s (after row past)
   pub prompt : Prompt c s past row
+  pub marks : MarksStand row.outs
   pub one_fault : defers_nothing s ≡ true → faults row.outs ≤ 1
 
 abbrev pub RightAfter : (c : Conf) (s : Settings) (past : History) → List Row → Type 0

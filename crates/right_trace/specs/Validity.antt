@@ -7,7 +7,7 @@ use Rattle.client_request.specs.declared.error.Error.{Error}
 use Rattle.right_trace.specs.Messages.{Octets, truncated}
 use Rattle.right_trace.specs.Settings.{Settings}
 use Rattle.right_trace.specs.Keys.{is_cacheable}
-use Rattle.right_trace.specs.Parts.{Item, Parts, read_parts}
+use Rattle.right_trace.specs.Parts.{Item, Parts, read_parts, known_parts}
 
 -- 1 s
 unfoldable pub second : ℕ
@@ -37,22 +37,27 @@ module _ {C : Type 0} where
       else (if has_item 6 q.class x.authority then s.max_nodata_validity
       else (if has_item 2 q.class x.authority then s.max_delegation_validity else 0))
 
+  -- the limit of a message that says that the name is not there, by its first question: it is kept only with the zone's SOA (RFC 2308 3, 5)
+  abbrev pub absent_limit : Settings → Parts C → List Asked → ℕ
+  absent_limit s x [] = 0
+  absent_limit s x (q ∷ qs) = if has_item 6 q.class x.authority then s.max_nxdomain_validity else 0
+
   -- the limit of a message, by its response code; 3 says that the name is not there
   abbrev pub limit : Settings → Parts C → ℕ
-  limit s x = if x.code == 0 then good_limit s x x.questions else (if x.code == 3 then s.max_nxdomain_validity else s.misc_error_duration)
+  limit s x = if x.code == 0 then good_limit s x x.questions else (if x.code == 3 then absent_limit s x x.questions else s.misc_error_duration)
 
   abbrev pub validity_of_parts : Settings → Parts C → ℕ
   validity_of_parts s x =
       if x.header.tc && not s.cache_truncated then 0
       else least (least (least (min s.max_validity (limit s x)) x.answer) x.authority) (without_opt x.additional)
 
--- the validity of a message; none where it is not read
-abbrev pub validity_read : Settings → Option (Parts Octets) → Option ℕ
-validity_read s (Some x) = Some (validity_of_parts s x)
-validity_read s None = None
+-- the validity of a message; none where it is not read, and 0 where the data of a record is not read by its type: no view of it could be made
+abbrev pub validity_read : Settings → (is_known : Bool) → Option (Parts Octets) → Option ℕ
+validity_read s b (Some x) = Some (if b then validity_of_parts s x else 0)
+validity_read s b None = None
 
 unfoldable pub validity_of_message : Settings → Octets → Option ℕ
-validity_of_message s m = if truncated m && not s.cache_truncated then Some 0 else validity_read s (read_parts m)
+validity_of_message s m = if truncated m && not s.cache_truncated then Some 0 else validity_read s (is_some (known_parts m)) (read_parts m)
 
 -- some validity, above 0
 abbrev pub is_above : Option ℕ → Bool

@@ -1,5 +1,5 @@
 -- A cached message as it is given to another request, later.
-use Rattle.std.specs.Prelude.{◌≡◌, ℕ, ◌-◌, ◌/◌, ◌<◌, ◌≤◌, Bool, false, not, ◌&&◌, ◌==◌, if◌then◌else◌, Some, List, [], ◌∷◌, map}
+use Rattle.std.specs.Prelude.{◌≡◌, ℕ, ◌-◌, ◌/◌, ◌<◌, ◌≤◌, Bool, false, not, ◌&&◌, ◌==◌, if◌then◌else◌, Some, List, [], ◌∷◌, map, ◌+◌, true, ◌||◌}
 use Rattle.dns_names.specs.Name.{Labels}
 use Rattle.dns_base.specs.Data.{Data}
 use Rattle.dns_base.specs.Message.{Asked}
@@ -63,6 +63,22 @@ module _ {C : Type 0} where
   abbrev pub view_of : (q r : Request) → (age : ℕ) → Parts C → Parts C
   view_of q r age x = viewed (key_of q) (key_of r) (spelled_name r) (age / second) x
 
+  -- a record with this TTL
+  abbrev pub with_ttl : (ttl : ℕ) → Item C → Item C
+  with_ttl n x = record { owner = x.owner; rtype = x.rtype; class = x.class; ttl = n; content = x.content }
+
+  -- the same, but for an OPT record
+  abbrev pub mostly_with_ttl : (ttl : ℕ) → Item C → Item C
+  mostly_with_ttl n x = if x.rtype == 41 then x else with_ttl n x
+
+  -- a message with this TTL in each record
+  abbrev pub all_with_ttl : (ttl : ℕ) → Parts C → Parts C
+  all_with_ttl n x = record { header = x.header; code = x.code; questions = x.questions; answer = map (with_ttl n) x.answer; authority = map (with_ttl n) x.authority; additional = map (mostly_with_ttl n) x.additional }
+
+  -- a message as it is given when it has expired: each TTL is 30 s (RFC 8767 5)
+  abbrev pub stale_of : (q r : Request) → Parts C → Parts C
+  stale_of q r x = all_with_ttl 30 (view_of q r 0 x)
+
   -- how long the view of a message may be given
   abbrev pub view_validity : Settings → (q r : Request) → Parts C → ℕ
   view_validity s q r x = validity_of_parts s (viewed (key_of q) (key_of r) (spelled_name r) 0 x)
@@ -80,3 +96,17 @@ pub record IsValidView (s : Settings) (q r : Request) (m : Octets) (x : Parts Da
   pub is_validity : validity_of_message s m ≡ Some validity
   pub kept : 0 < validity
   pub in_time : age ≤ view_validity s q r x
+
+-- a response code that tells of a name: what it has, or that it is not there
+abbrev pub tells_of_name : (code : ℕ) → Bool
+tells_of_name n = (n == 0) || (n == 3)
+
+-- A message with these parts that has expired may be given at this age: it tells of a name, and is no failure of a server (RFC 8767 4).
+pub record IsValidStale (s : Settings) (q r : Request) (m : Octets) (x : Parts Data) (age : ℕ) : Type 0 where
+  pub known : known_parts m ≡ Some x
+  pub validity : ℕ
+  pub is_validity : validity_of_message s m ≡ Some validity
+  pub kept : 0 < validity
+  pub tells : tells_of_name x.code ≡ true
+  pub allowed : 0 < s.stale_for
+  pub in_time : age ≤ view_validity s q r x + s.stale_for

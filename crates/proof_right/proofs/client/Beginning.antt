@@ -102,6 +102,10 @@ module _ (c : Conf) (s : Settings) (compose : Request → Result Octets Error) (
     differ = tt;
     waited = λ k e. absurd (cc);
     entries = λ e j. absurd j;
+    olds = λ k e o. absurd (cc);
+    own = λ y j. absurd j;
+    revived = λ y m j. absurd j;
+    unmarked = λ k. refl;
     parts = λ i lt. P.fresh_fits i;
     beyond = λ i le. record { no_place = λ p. refl; no_start = λ k v. refl };
   }
@@ -240,6 +244,15 @@ module _ (c : Conf) (s : Settings) (compose : Request → Result Octets Error) (
           | inr ne ↦ inl (waits_tried k (waits_before k ne q))
         ];
         entries = λ z j. (let f = kept.entries z j in record { cacheable = f.cacheable; covers = f.covers; below = f.below; asked = (f.asked.0, asked_still z.number (f.asked.0) z.first f.asked.1); moment = later z.moment f.moment; was = was_on z.number z.moment z.result f.was });
+        olds = λ k z o. (let d = kept.olds k z o in let f = d.fits in record {
+          fits = record { cacheable = f.cacheable; covers = f.covers; below = f.below; asked = (f.asked.0, asked_still z.number (f.asked.0) z.first f.asked.1); moment = later z.moment f.moment; was = was_on z.number z.moment z.result f.was };
+          below = d.below;
+          covers = λ q t a. d.covers q t (sym (asking_other k e h (λ same. (let lt = d.below in let n = all_asked in omega arith))) ∙ a);
+          server = d.server;
+        });
+        own = λ y j. absurd (nothing_in y x.leaving done.leaving j);
+        revived = λ y m j. absurd (nothing_in y x.leaving done.leaving j);
+        unmarked = λ k. refl;
         parts = λ i lt. P.begins i past h w e (x.ups i) (kept.parts i lt) (done.rests i lt);
         beyond = λ i le. (let f = kept.beyond i le in record { no_place = f.no_place; no_start = f.no_start });
       }

@@ -10,7 +10,7 @@ use Rattle.client_request.specs.declared.error.QueryError.{QueryError}
 use Rattle.client_request.specs.declared.event.What.{What}
 use Rattle.client_request.specs.declared.event.What.TheVariants.{Ask, Opened, OpenFailed, SendFailed, ShortSend, Datagram, RecvFailed, Wrote, WriteFailed, Bytes, ReadFailed, Ended, Tick}
 use Rattle.client_request.specs.declared.event.Out.{Out}
-use Rattle.client_request.specs.declared.event.Out.TheVariants.{Start, OpenDgram, OpenStream, Send, Write, Resume, Close, Reply}
+use Rattle.client_request.specs.declared.event.Out.TheVariants.{Start, OpenDgram, OpenStream, Send, Write, Resume, Close, Stale, Reply}
 use Rattle.right_trace.specs.Trace.{History, Conf, Put, put_all}
 use Rattle.right_trace.specs.Time.{one_if}
 use Rattle.right_trace.specs.Messages.{Octets, Composes}
@@ -20,7 +20,7 @@ use Rattle.right_trace.specs.Right.{fault_of, faults, ServerOutsRight}
 use Rattle.right_trace.specs.Settings.{Settings, defers_nothing}
 use Rattle.right_trace.specs.Keys.{is_cacheable}
 use Rattle.proof_right.specs.machine.Part.{Post, Act}
-use Rattle.proof_right.specs.machine.Client.{Posted, Leaving, Upper, Made, with_up, tag, moved, hand, store, take_on, leave, outcome, outcome_of, validity_of, IsOutcome, Caches, Passes, Move, Server_moves, Hands_on, Gives_up, Drops, Keeps_back, Delivers, Concludes, Times_out, Replies, Forgets, Derives, Answers, Takes_on, Moves, Rests, Goes}
+use Rattle.proof_right.specs.machine.Client.{Posted, Leaving, Upper, Made, with_up, tag, moved, hand, store, take_on, leave, outcome, outcome_of, validity_of, IsOutcome, Caches, Passes, Move, Server_moves, Hands_on, Gives_up, Drops, Keeps_back, Delivers, Concludes, Times_out, Revives, told_of, revive, Replies, Forgets, Derives, Answers, Takes_on, Moves, Rests, Goes}
 use Rattle.proof_right.proofs.client.Kept.{Kept}
 use Rattle.proof_right.proofs.client.Later.{site_all}
 use Rattle.right_trace.proofs.Asked.{here_is_ask}
@@ -64,6 +64,11 @@ fault_reply k (Err errors.TimedOut) = refl
 fault_reply k (Err errors.AlreadyDone) = refl
 fault_reply k (Err errors.Failed) = refl
 
+-- what is put of a result that leaves is no fault where that is none
+told_faults : (k : ℕ) (x : Result Octets Error) (o : Option Octets) → faults (told_of k x o) ≤ fault_in x
+told_faults k x None = (let r = fault_reply k x in omega arith)
+told_faults k x (Some m) = omega arith
+
 fault_query_few : (q : QueryError) → fault_in (Err (errors.Dgram q)) ≤ 1
 fault_query_few (query.Connect f) = omega arith
 fault_query_few (query.Send f) = omega arith
@@ -84,6 +89,7 @@ no_faults c past w end (OpenStream q i ∷ xs) h r = (let i = no_faults c past w
 no_faults c past w end (Send p k id o ∷ xs) h r = (let i = no_faults c past w end xs (Put (Send p k id o) ∷ h) r.1 in omega arith)
 no_faults c past w end (Write p k id o ∷ xs) h r = (let i = no_faults c past w end xs (Put (Write p k id o) ∷ h) r.1 in omega arith)
 no_faults c past w end (Resume p o ∷ xs) h r = (let i = no_faults c past w end xs (Put (Resume p o) ∷ h) r.1 in omega arith)
+no_faults c past w end (Stale l ∷ xs) h r = (let i = no_faults c past w end xs (Put (Stale l) ∷ h) r.1 in omega arith)
 no_faults c past w end (Close p ∷ xs) h r = (let i = no_faults c past w end xs (Put (Close p) ∷ h) r.1 in omega arith)
 no_faults c past w end (Reply k x ∷ xs) h r = absurd r.0
 
@@ -254,15 +260,19 @@ module _ (c : Conf) (s : Settings) (compose : Request → Result Octets Error) (
       fewer n (n + 0) x (leave z (record x { board = before ++ after })) h f (omega arith) (omega arith) refl
   move_faults n x h _ kept f (Concludes k a y z held tried free none is out) = (let g = best_given a.kept_back y is in absurd (waits_not s (g.0).result quiet ((kept.back k a (g.0) held g.1).waits)))
   move_faults n x h _ kept f (Times_out k a held late) =
-      let l = left x.leaving (record { request = k; asked = a.request; result = Err errors.TimedOut; is_stored = false }) in
-      fewer n (n + 0) x (leave (record { request = k; asked = a.request; result = Err errors.TimedOut; is_stored = false }) x) h f (omega arith) (omega arith) refl
+      let l = left x.leaving (record { request = k; asked = a.request; result = Err errors.TimedOut; is_stored = false; stale = None }) in
+      fewer n (n + 0) x (leave (record { request = k; asked = a.request; result = Err errors.TimedOut; is_stored = false; stale = None }) x) h f (omega arith) (omega arith) refl
   move_faults n x h _ kept f (Replies before after y is) =
       let b : on_leave x.leaving ≡ on_leave (before ++ after) + fault_in y.result = ap on_leave is ∙ total_but (λ z. fault_in z.result) before y after in
-      let r = fault_reply y.request y.result in
-      put y (record x { leaving = before ++ after; stored = store x.now y x.stored }) (fewer n (n + (fault_of (Reply y.request y.result) + 0)) x (record x { leaving = before ++ after; stored = store x.now y x.stored }) h f (omega arith) (omega arith) refl)
+      let r = told_faults y.request y.result y.stale in
+      put (told_of y.request y.result y.stale) (record x { leaving = before ++ after; stored = store x.now y x.stored }) (fewer n (n + faults (told_of y.request y.result y.stale)) x (record x { leaving = before ++ after; stored = store x.now y x.stored }) h f (omega arith) (omega arith) refl)
     where
-      put : (y : Leaving) (z : Upper P.State) → FaultsFit (n + (fault_of (Reply y.request y.result) + 0)) z h → FaultsFit (n + (fault_of (Reply y.request y.result) + 0)) z (Put (Reply y.request y.result) ∷ h)
-      put y z g = record { few = g.few; event = λ o. elim (g.event o) [ inl a ↦ inl a | inr b ↦ inr (b.0, event_on (b.0) w (Reply y.request y.result ∷ []) h b.1, b.2) ] }
+      put : (outs : List Out) (z : Upper P.State) → FaultsFit (n + faults outs) z h → FaultsFit (n + faults outs) z (put_all outs h)
+      put outs z g = record { few = g.few; event = λ o. elim (g.event o) [ inl a ↦ inl a | inr b ↦ inr (b.0, event_on (b.0) w outs h b.1, b.2) ] }
+  move_faults n x h _ kept f (Revives before after y e m is fails old revived) =
+      let b : on_leave x.leaving ≡ on_leave (before ++ after) + fault_in y.result = ap on_leave is ∙ total_but (λ z. fault_in z.result) before y after in
+      let d : on_leave (before ++ revive m y ∷ after) ≡ on_leave (before ++ after) + fault_in y.result = total_but (λ z. fault_in z.result) before (revive m y) after in
+      fewer n (n + 0) x (record x { leaving = before ++ revive m y ∷ after }) h f (omega arith) (omega arith) refl
   move_faults n x h _ kept f (Forgets before after e is) = fewer n (n + 0) x (record x { stored = before ++ after }) h f (omega arith) (omega arith) refl
   move_faults n x h _ kept f (Derives e k j covers) = fewer n (n + 0) x (record x { stored = record e { under = k } ∷ x.stored }) h f (omega arith) (omega arith) refl
   move_faults n x h _ kept f (Answers r y pend at) =
@@ -274,7 +284,7 @@ module _ (c : Conf) (s : Settings) (compose : Request → Result Octets Error) (
         few = omega arith;
         event = λ o. inl (subst (λ v. is_ask v ≡ true) kept.newest (here_is_ask x.asked h ((kept.pending r pend).here)));
       }
-  move_faults n x h _ kept f (Takes_on r o pend composed lt) = fewer n (n + 0) x (take_on r x) h f (omega arith) (omega arith) refl
+  move_faults n x h _ kept f (Takes_on r o old pend composed lt there) = fewer n (n + 0) x (take_on r old x) h f (omega arith) (omega arith) refl
 
   pub moves_faults : (n : ℕ) (x : Upper P.State) (h : History) (d : Made P.State) → Kept c s P past w x h → FaultsFit n x h → Moves c s compose (machine_of P) x d → n + faults d.outs ≤ 1
   moves_faults n _ h _ kept f (Rests x done) = (let a = f.few in omega arith)

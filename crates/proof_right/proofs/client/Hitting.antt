@@ -1,8 +1,8 @@
 -- A run with its cache hits.
-use Rattle.right_trace.specs.Parts.{known_parts, Says, IsIn}
+use Rattle.right_trace.specs.Parts.{known_parts, Says, IsIn, Parts}
 use Rattle.proof_right.proofs.PartLaws.{machine_of, Part}
 use Rattle.std.proofs.Common.{◌≡◌, ℕ, suc, ◌+◌, ◌*◌, ◌<◌, ◌≤◌, ◌≢◌, Bool, true, false, ◌⊎◌, inl, inr, Option, Some, None, List, [], ◌∷◌, ◌++◌, refl, arith, sym, ◌∙◌, ap, ap₂, subst, subst₂, ◌==◌, ◌&&◌, ◌||◌}
-use Rattle.std.specs.Prelude.{Result, Ok, Err, if◌then◌else◌, not, map}
+use Rattle.std.specs.Prelude.{Result, Ok, Err, if◌then◌else◌, not, map, ◌-◌}
 use Rattle.std.specs.Map.{lookup}
 use Rattle.std.proofs.lemmas.Bool.{cases_lt, or_right}
 use Rattle.std.proofs.lemmas.Bool.Decides.{nat_tests}
@@ -13,36 +13,39 @@ use Rattle.client_request.specs.declared.event.Event.{Event}
 use Rattle.client_request.specs.declared.event.What.{What}
 use Rattle.client_request.specs.declared.event.What.TheVariants.{Ask, Opened, OpenFailed, SendFailed, ShortSend, Datagram, RecvFailed, Wrote, WriteFailed, Bytes, ReadFailed, Ended as Ev_ended, Tick}
 use Rattle.client_request.specs.declared.event.Out.{Out}
-use Rattle.client_request.specs.declared.event.Out.TheVariants.{Start, OpenDgram, OpenStream, Send, Write, Resume, Close, Reply}
+use Rattle.client_request.specs.declared.event.Out.TheVariants.{Start, OpenDgram, OpenStream, Send, Write, Resume, Close, Reply, Stale}
 use Rattle.right_trace.specs.Trace.{History, Conf, Item, Came, Put, put_all, after}
 use Rattle.right_trace.specs.Time.{now, newest, one_if, row_before, Ever, OfRow}
 use Rattle.right_trace.specs.Messages.{Octets, Composes}
-use Rattle.right_trace.specs.Requests.{asks, Asking, asking, is_ask, is_asked_here, is_reply, replied, handed}
+use Rattle.right_trace.specs.Requests.{asks, Asking, asking, is_ask, is_asked_here, is_reply, replied, handed, is_marked}
 use Rattle.right_trace.specs.Right.{Among, OutRight, OutsRight, ServerOutRight, ServerOutsRight}
 use Rattle.right_trace.specs.Timely.{IsAskedInOctets, AllAskedInOctets}
 use Rattle.client_request.specs.declared.event.Row.{Row}
 use Rattle.right_trace.specs.Settings.{Settings}
 use Rattle.right_trace.specs.Keys.{Key, key_of, is_cacheable, spelled_name, TellsKeys}
 use Rattle.right_trace.specs.Validity.{validity_of_message, validity_of_parts}
-use Rattle.right_trace.specs.Views.{viewed, view_of, view_validity}
-use Rattle.proof_right.proofs.client.Unhanded.{moves_untried}
+use Rattle.right_trace.specs.Views.{viewed, view_of, view_validity, tells_of_name}
+use Rattle.proof_right.proofs.client.Unhanded.{moves_untried, Untried, server_calm, move_calm, move_untried}
 use Rattle.right_trace.specs.Coming.{CameFor}
 use Rattle.right_trace.specs.Replies.{IsFresh, InThisRow, Deferred, IsFreshReply}
 use Rattle.proof_right.specs.machine.Cache.{Op, AskDoes, after_ops, Between, Ended, Asked, Replied, RepliedUnstored}
-use Rattle.right_trace.specs.Hit.{asks_since, replies_since, is_some_reply, other_replies, IsViewOf, OutIsView, AllAreViews, IsHit, Views, CantRead, Hits, AllHit}
-use Rattle.proof_right.specs.machine.Exact.{Value, value_of, RunCached, Serves, ServedBy, Viewing, NotReading, Looks, Looked, LeftAlone, Cached, AllCached}
-use Rattle.proof_right.specs.machine.Client.{unmade, Leaving, Upper, Made, Move, Server_moves, Hands_on, Gives_up, Drops, Keeps_back, Delivers, Concludes, Times_out, Replies, Forgets, Derives, Answers, Takes_on, Moves, Rests, Goes, IsDone, IsStep, IsRun, Ends, Goes_on, row_begins, begun, answer}
+use Rattle.right_trace.specs.Hit.{asks_since, replies_since, is_some_reply, other_replies, IsViewOf, OutIsView, AllAreViews, IsHit, Views, Hits, AllHit}
+use Rattle.proof_right.specs.machine.Exact.{Value, value_of, RunCached, Serves, ServedBy, Viewing, Looks, Looked, LeftAlone, Cached, AllCached, entry_under, MayRevive}
+use Rattle.proof_right.specs.machine.Client.{unmade, Leaving, Upper, Made, Move, Server_moves, Hands_on, Gives_up, Drops, Keeps_back, Delivers, Concludes, Times_out, Replies, Forgets, Derives, Answers, Takes_on, Moves, Rests, Goes, IsDone, IsStep, IsRun, Ends, Goes_on, row_begins, begun, answer, Entry, moved, hand, take_on, with_expired, is_failing, told_of, revive, Revives}
 use Rattle.proof_right.proofs.client.Kept.{Kept, MayStore, LeavingFits}
 use Rattle.proof_right.proofs.client.Later.{put_more, now_all, asking_all, ever_all}
-use Rattle.proof_right.proofs.client.Lists.{decide, in_left, in_right, in_here, in_but}
+use Rattle.proof_right.proofs.client.Lists.{decide, in_left, in_right, in_here, in_but, in_either, in_more}
 use Rattle.proof_right.proofs.client.Serving.{clash}
 use Rattle.right_trace.proofs.Asked.{asking_below, asking_other, asking_came, here_asks, here_is_ask, earlier_known}
 use Rattle.proof_right.proofs.client.Moving.{acts_right_here, starts_right_here, cancels_right_here}
 use Rattle.proof_right.proofs.client.Steps.{move_does, moves_do}
 use Rattle.proof_right.proofs.client.Beginning.{begun_kept, begun_done, row_kept}
-use Rattle.proof_right.proofs.client.Outcomes.{at_once}
+use Rattle.proof_right.proofs.client.Outcomes.{at_once, at_once_plain}
 use Rattle.proof_right.proofs.client.Hit.{hit}
 use Rattle.right_trace.proofs.Valid.{own_view_valid, valid_is_read}
+use Rattle.right_trace.specs.Errors.{is_failure}
+use Rattle.right_trace.specs.StaleServed.{NeverFails, ServesStale, AllServeStale}
+use Rattle.dns_base.specs.Data.{Data}
 use Rattle.client_request.specs.declared.error.Error.TheVariants as errors
 
 -- a message that came can't be of a request asked in this row
@@ -87,6 +90,7 @@ no_reply c past w h end (OpenStream q i) r = (λ j. refl, refl)
 no_reply c past w h end (Send p k id o) r = (λ j. refl, refl)
 no_reply c past w h end (Write p k id o) r = (λ j. refl, refl)
 no_reply c past w h end (Resume p o) r = (λ j. refl, refl)
+no_reply c past w h end (Stale l) r = (λ j. refl, refl)
 no_reply c past w h end (Close p) r = (λ j. refl, refl)
 no_reply c past w h end (Reply k x) r = absurd r
 
@@ -104,6 +108,10 @@ among_left o (x ∷ xs) ys i = elim i [ inl e ↦ inl e | inr i ↦ inr (among_l
 among_right : (o : Out) (xs ys : List Out) → Among o ys → Among o (xs ++ ys)
 among_right o [] ys i = i
 among_right o (x ∷ xs) ys i = inr (among_right o xs ys i)
+
+pub among_either : (o : Out) (xs ys : List Out) → Among o (xs ++ ys) → Among o xs ⊎ Among o ys
+among_either o [] ys i = inr i
+among_either o (x ∷ xs) ys i = elim i [ inl e ↦ inl (inl e) | inr j ↦ elim (among_either o xs ys j) [ inl l ↦ inl (inr l) | inr r ↦ inr r ] ]
 
 module _ (eq : Key → Key → Bool) (cap : ℕ) where
   snoc_ask : (k own : Key) (a b : ℕ) (es fs : List (Key × Value)) (os : List (Op Value)) → Between eq cap k a b es fs → AskDoes eq own fs os → Between eq cap k (a + 1) b es (after_ops eq cap os fs)
@@ -279,13 +287,70 @@ module _ (c : Conf) (s : Settings) (compose : Request → Result Octets Error) (
             apart : OutIsView q m moment h (Reply y.request y.result) → y.is_stored ≡ true → eq (key_of q) (key_of y.asked) ≡ false
             apart view e = elim (decide (eq (key_of q) (key_of y.asked))) [ inl same ↦ absurd (no_view y.result refl (sym (eq_same (key_of q) (key_of y.asked) same)) (fit.stores e) view) | inr n ↦ n ]
               where
-                no_view : (u : Result Octets Error) → y.result ≡ u → key_of y.asked ≡ key_of q → (is_cacheable y.asked ≡ true) × MayStore c s y.request past w h u → IsViewOf q m moment h y.request u → ⊥
-                no_view (Ok o) e k st view = (let v = view y.asked (fit.asked.0) fit.asked.1 st.0 k in no_ask v.0 o st.1.0)
-                no_view (Err o) e k st view = view y.asked (fit.asked.0) fit.asked.1 st.0 k
+                unmarked : (u : Result Octets Error) → (is_marked y.request h ≡ true) ⊎ IsViewOf q m moment h y.request u → IsViewOf q m moment h y.request u
+                unmarked u (inl marked) = absurd (clash (is_marked y.request h) marked (kept.unmarked y.request))
+                unmarked u (inr view) = view
+
+                no_view : (u : Result Octets Error) → y.result ≡ u → key_of y.asked ≡ key_of q → (is_cacheable y.asked ≡ true) × MayStore c s y.request past w h u → (is_marked y.request h ≡ true) ⊎ IsViewOf q m moment h y.request u → ⊥
+                no_view (Ok o) e k st view = (let v = unmarked (Ok o) view y.asked (fit.asked.0) fit.asked.1 st.0 k in no_ask v.0 o st.1.0)
+                no_view (Err o) e k st view = unmarked (Err o) view y.asked (fit.asked.0) fit.asked.1 st.0 k
 
             go : (entries : Cache) (a b : ℕ) → Between eq cap (key_of q) a b (put_entries eq (lru_cache entries cap) (key_of q) (value q j m moment)) es → OutIsView q m moment h (Reply y.request y.result) → (z : Bool) → y.is_stored ≡ z → Between eq cap (key_of q) a (b + 1) (put_entries eq (lru_cache entries cap) (key_of q) (value q j m moment)) fs
             go entries a b bt view true e = subst (λ z. Between eq cap (key_of q) a (b + 1) (put_entries eq (lru_cache entries cap) (key_of q) (value q j m moment)) z) (sym (cached ∙ ap (λ b. if b then put_entries eq (lru_cache es cap) (key_of y.asked) (value_of x.now y) else es) e)) (snoc_store eq cap (key_of q) (key_of y.asked) (value_of x.now y) a b (put_entries eq (lru_cache entries cap) (key_of q) (value q j m moment)) es bt (apart view e))
             go entries a b bt view false e = subst (λ z. Between eq cap (key_of q) a (b + 1) (put_entries eq (lru_cache entries cap) (key_of q) (value q j m moment)) z) (sym (cached ∙ ap (λ b. if b then put_entries eq (lru_cache es cap) (key_of y.asked) (value_of x.now y) else es) e)) (RepliedUnstored a b (put_entries eq (lru_cache entries cap) (key_of q) (value q j m moment)) es bt)
+
+    -- what an expired message says is put, behind its mark: nothing that is kept changes
+    fits_stale : (first last : List Leaving) (y : Leaving) (o : Octets) → x.leaving ≡ first ++ y ∷ last → y.stale ≡ Some o → (es : Cache) → HitFits (one_if (is_ask x.pending)) es h → HitFits (one_if (is_ask x.pending)) es (Put (Reply y.request (Ok o)) ∷ Put (Stale y.request) ∷ h)
+    fits_stale first last y o is revived es f q j t m moment n but ask ever val pos ca un views = elim ever [ inl z ↦ absurd (marked z) | inr z ↦ elim z [ inl u ↦ absurd (let p : Path History (Put (Stale y.request) ∷ h) (Put (Reply j (Ok m)) ∷ u.before) = u.put in cc) | inr ever ↦ old ever ] ]
+      where
+        fit : LeavingFits c s P past w x.held x.ups x.asked y h
+        fit = kept.leaves y (subst (IsIn y) (sym is) (in_here y first last))
+
+        own : (k : ℕ) → (k == k) ≡ true
+        own k = grind (arith, nat_tests)
+
+        marked : IsFreshReply c s j m moment (Put (Reply y.request (Ok o)) ∷ Put (Stale y.request) ∷ h) → ⊥
+        marked z =
+            let heads : Put (Reply y.request (Ok o)) ≡ Put (Reply j (Ok m)) = head (Put (Reply y.request (Ok o))) (Put (Reply j (Ok m))) (Put (Stale y.request) ∷ h) z.before z.put in
+            let outs : Reply y.request (Ok o) ≡ Reply j (Ok m) = cc in
+            let k : y.request ≡ j = cc in
+            let tails : Path History (Put (Stale y.request) ∷ h) z.before = tail (Put (Reply y.request (Ok o))) (Put (Reply j (Ok m))) (Put (Stale y.request) ∷ h) z.before z.put in
+            clash (is_marked j z.before) (subst (λ g. is_marked j g ≡ true) tails (subst (λ j. is_marked j (Put (Stale y.request) ∷ h) ≡ true) k (own y.request))) z.unmarked
+          where
+            head : (a b : Item) (g k : History) → Path History (a ∷ g) (b ∷ k) → a ≡ b
+            head a b g k e = cc
+
+            tail : (a b : Item) (g k : History) → Path History (a ∷ g) (b ∷ k) → g ≡ k
+            tail a b g k e = cc
+
+        old : Ever (IsFreshReply c s j m moment) h → Kept_since q j m moment (one_if (is_ask x.pending)) es (Put (Reply y.request (Ok o)) ∷ Put (Stale y.request) ∷ h)
+        old z =
+            let r = ever_replied c s j moment m h z in
+            let ne : y.request ≢ j = λ k. clash (replied j h) r (subst (λ k. replied k h ≡ false) k fit.unreplied) in
+            let not_j : is_reply j (Reply y.request (Ok o)) ≡ false = (let z : (y.request == j) ≡ false = grind (arith, nat_tests) in z) in
+            let un' : replied but h ≡ false = not_or (y.request == but) (replied but h) un in
+            let v : AllAreViews q m j moment but (Put (Stale y.request) ∷ h) = elim views [ inl x ↦ absurd (clash (is_reply j (Reply y.request (Ok o))) x not_j) | inr p ↦ p.1 ] in
+            let u : AllAreViews q m j moment but h = elim v [ inl x ↦ absurd (cc) | inr p ↦ p.1 ] in
+            let k = f q j t m moment n but ask z val pos ca un' u in
+            let asks_same : asks_since j (Put (Reply y.request (Ok o)) ∷ Put (Stale y.request) ∷ h) ≡ asks_since j h = ap (λ b. if b then one_if (is_ask (newest h)) else asks_since j h) not_j in
+            let none : replies_since j (Put (Stale y.request) ∷ h) ≡ 0 + replies_since j h = ap (λ b. if b then 0 + replies_since j h else 0) r in
+            let more : replies_since j (Put (Reply y.request (Ok o)) ∷ Put (Stale y.request) ∷ h) ≡ 1 + replies_since j (Put (Stale y.request) ∷ h) = ap (λ b. if b then 0 else (if replied j h then 1 + replies_since j (Put (Stale y.request) ∷ h) else 0)) not_j ∙ ap (λ b. if b then 1 + replies_since j (Put (Stale y.request) ∷ h) else 0) r in
+            record { entries = k.entries; a = k.a; b = k.b; between = k.between; few_asks = subst (λ z. k.a + one_if (is_ask x.pending) ≤ z) (sym asks_same) k.few_asks; few_replies = (let z = k.few_replies in omega arith) }
+          where
+            not_or : (a b : Bool) → (a || b) ≡ false → b ≡ false
+            not_or true b e = absurd (cc)
+            not_or false b e = e
+
+    fits_told : (first last : List Leaving) (y : Leaving) → x.leaving ≡ first ++ y ∷ last → (es fs : Cache) → fs ≡ (if y.is_stored then put_entries eq (lru_cache es cap) (key_of y.asked) (value_of x.now y) else es)
+        → HitFits (one_if (is_ask x.pending)) es h → HitFits (one_if (is_ask x.pending)) fs (put_all (told_of y.request y.result y.stale) h)
+    fits_told first last y is es fs cached f = go y.stale refl
+      where
+        there : IsIn y x.leaving
+        there = subst (IsIn y) (sym is) (in_here y first last)
+
+        go : (o : Option Octets) → y.stale ≡ o → HitFits (one_if (is_ask x.pending)) fs (put_all (told_of y.request y.result o) h)
+        go None e = fits_reply first last y is es fs cached f
+        go (Some o) e = subst (λ z. HitFits (one_if (is_ask x.pending)) z (Put (Reply y.request (Ok o)) ∷ Put (Stale y.request) ∷ h)) (sym (cached ∙ ap (λ b. if b then put_entries eq (lru_cache es cap) (key_of y.asked) (value_of x.now y) else es) (kept.revived y o there e).unstored)) (fits_stale first last y o is e es f)
 
     -- one move
     move_fits : (d : Made P.State) (move : Move c s compose (machine_of P) x d) (es fs : Cache) → Cached c s compose (machine_of P) eq cap x d move es fs → HitFits (one_if (is_ask x.pending)) es h → HitFits (one_if (is_ask d.state.pending)) fs (put_all d.outs h)
@@ -302,31 +367,33 @@ module _ (c : Conf) (s : Settings) (compose : Request → Result Octets Error) (
     move_fits _ (Delivers before after y a l is held waits out) es fs e f = subst (λ z. HitFits (one_if (is_ask x.pending)) z h) (sym e) f
     move_fits _ (Concludes k a y l held tried free none is out) es fs e f = subst (λ z. HitFits (one_if (is_ask x.pending)) z h) (sym e) f
     move_fits _ (Times_out k a held late) es fs e f = subst (λ z. HitFits (one_if (is_ask x.pending)) z h) (sym e) f
-    move_fits _ (Replies before after y is) es fs e f = fits_reply before after y is es fs e f
+    move_fits _ (Revives before after y e' m is fails old revived) es fs e f = subst (λ z. HitFits (one_if (is_ask x.pending)) z h) (sym e) f
+    move_fits _ (Replies before after y is) es fs e f = fits_told before after y is es fs e.0 f
     move_fits _ (Forgets before after z is) es fs e f = subst (λ z. HitFits (one_if (is_ask x.pending)) z h) (sym e) f
     move_fits _ (Derives z k j covers) es fs e f = subst (λ z. HitFits (one_if (is_ask x.pending)) z h) (sym e) f
     move_fits _ (Answers r y pend at) es fs e f = fits_looks r es fs h e.0 (subst (λ p. HitFits (one_if (is_ask p)) es h) pend f)
-    move_fits _ (Takes_on r o pend composed lt) es fs e f = fits_looks r es fs h e.0 (subst (λ p. HitFits (one_if (is_ask p)) es h) pend f)
+    move_fits _ (Takes_on r o old pend composed lt there) es fs e f = fits_looks r es fs h e.0 (subst (λ p. HitFits (one_if (is_ask p)) es h) pend f)
 
   -- what leaves is put
-  leaving_put : (y : Leaving) (x : Upper P.State) (d : Made P.State) → IsIn y x.leaving → Moves c s compose (machine_of P) x d → Among (Reply y.request y.result) d.outs
-  leaving_put y _ _ i (Rests x done) = absurd (subst (IsIn y) done.leaving i)
-  leaving_put y _ _ i (Goes x d e move more) = elim (still y x d i move) [ inl j ↦ among_right (Reply y.request y.result) d.outs e.outs (leaving_put y d.state e j more) | inr a ↦ among_left (Reply y.request y.result) d.outs e.outs a ]
+  leaving_put : (y : Leaving) (x : Upper P.State) (d : Made P.State) → y.stale ≡ None → is_failing y.result ≡ false → IsIn y x.leaving → Moves c s compose (machine_of P) x d → Among (Reply y.request y.result) d.outs
+  leaving_put y _ _ plain calm i (Rests x done) = absurd (subst (IsIn y) done.leaving i)
+  leaving_put y _ _ plain calm i (Goes x d e move more) = elim (still x d i move) [ inl j ↦ among_right (Reply y.request y.result) d.outs e.outs (leaving_put y d.state e plain calm j more) | inr a ↦ among_left (Reply y.request y.result) d.outs e.outs a ]
     where
-      still : (y : Leaving) (x : Upper P.State) (d : Made P.State) → IsIn y x.leaving → Move c s compose (machine_of P) x d → IsIn y d.state.leaving ⊎ Among (Reply y.request y.result) d.outs
-      still y x _ i (Server_moves j d lt act) = inl i
-      still y x _ i (Hands_on j k a d lt held untried st) = inl i
-      still y x _ i (Gives_up j k d lt held holds can) = inl i
-      still y x _ i (Drops before after z is held) = inl i
-      still y x _ i (Keeps_back before after z a is held waits) = inl i
-      still y x _ i (Delivers before after z a l is held waits out) = inl (in_left y x.leaving (l ∷ []) i)
-      still y x _ i (Concludes k a z l held tried free none is out) = inl (in_left y x.leaving (l ∷ []) i)
-      still y x _ i (Times_out k a held late) = inl (in_left y x.leaving (record { request = k; asked = a.request; result = Err errors.TimedOut; is_stored = false } ∷ []) i)
-      still y x _ i (Replies before after z is) = elim (in_but y z before after (subst (IsIn y) is i)) [ inl same ↦ inr (inl (ap (λ (v : Leaving). Reply v.request v.result) same)) | inr l ↦ inl l ]
-      still y x _ i (Forgets before after z is) = inl i
-      still y x _ i (Derives z k j co) = inl i
-      still y x _ i (Answers r z pend at) = inl (in_left y x.leaving (z ∷ []) i)
-      still y x _ i (Takes_on r o pend composed lt) = inl i
+      still : (x : Upper P.State) (d : Made P.State) → IsIn y x.leaving → Move c s compose (machine_of P) x d → IsIn y d.state.leaving ⊎ Among (Reply y.request y.result) d.outs
+      still x _ i (Server_moves j d lt act) = inl i
+      still x _ i (Hands_on j k a d lt held untried st) = inl i
+      still x _ i (Gives_up j k d lt held holds can) = inl i
+      still x _ i (Drops before after z is held) = inl i
+      still x _ i (Keeps_back before after z a is held waits) = inl i
+      still x _ i (Delivers before after z a l is held waits out) = inl (in_left y x.leaving (l ∷ []) i)
+      still x _ i (Concludes k a z l held tried free none is out) = inl (in_left y x.leaving (l ∷ []) i)
+      still x _ i (Times_out k a held late) = inl (in_left y x.leaving (record { request = k; asked = a.request; result = Err errors.TimedOut; is_stored = false; stale = None } ∷ []) i)
+      still x _ i (Revives before after z e m is fails old revived) = elim (in_but y z before after (subst (IsIn y) is i)) [ inl same ↦ absurd (clash (is_failing z.result) fails (ap (λ (v : Leaving). is_failing v.result) same ∙ calm)) | inr l ↦ inl (in_more y (revive m z) before after l) ]
+      still x _ i (Replies before after z is) = elim (in_but y z before after (subst (IsIn y) is i)) [ inl same ↦ inr (subst (λ o. Among (Reply y.request y.result) (told_of z.request z.result o)) (sym (ap (λ (v : Leaving). v.stale) same ∙ plain)) (inl (ap (λ (v : Leaving). Reply v.request v.result) same))) | inr l ↦ inl l ]
+      still x _ i (Forgets before after z is) = inl i
+      still x _ i (Derives z k j co) = inl i
+      still x _ i (Answers r z pend at) = inl (in_left y x.leaving (z ∷ []) i)
+      still x _ i (Takes_on r o old pend composed lt there) = inl i
 
   moves_fit : (past : History) (w : What) (x : Upper P.State) (h : History) (d : Made P.State) (moves : Moves c s compose (machine_of P) x d) (es fs : Cache) → Kept c s P past w x h → AllCached c s compose (machine_of P) eq cap x d moves es fs → HitFits (one_if (is_ask x.pending)) es h → HitFits 0 fs (put_all d.outs h)
   moves_fit past w _ h _ (Rests x done) es fs kept is f = subst (λ z. HitFits 0 z h) (sym is) (subst (λ b. HitFits (one_if b) es h) done.taken f)
@@ -352,16 +419,26 @@ module _ (c : Conf) (s : Settings) (compose : Request → Result Octets Error) (
       go (Send p k i z) r (inl e) = absurd (cc)
       go (Write p k i z) r (inl e) = absurd (cc)
       go (Resume p z) r (inl e) = absurd (cc)
+      go (Stale l) r (inl e) = absurd (cc)
       go (Close p) r (inl e) = absurd (cc)
+
+  -- no failure of request k is put
+  abbrev pub Never : (k : ℕ) → List Out → Type 0
+  Never k outs = (e : Error) → is_failure e ≡ true → Among (Reply k (Err e)) outs → ⊥
+
+  never_more : (k : ℕ) (xs ys : List Out) → Never k xs → Never k ys → Never k (xs ++ ys)
+  never_more k xs ys a b e f i = elim (among_either (Reply k (Err e)) xs ys i) [ inl l ↦ a e f l | inr r ↦ b e f r ]
 
   -- what outs add to the counts
   record Counts (j k : ℕ) (h h' : History) (outs : List Out) : Type 0 where
     pub is_replied : replied j h' ≡ true
     pub asks : asks_since j h' ≡ asks_since j h
     pub replies : replies_since j h' ≤ replies_since j h + other_replies k outs
+    pub unmarked : Among (Stale k) outs → ⊥
+    pub calm : Never k outs
 
   counts_none : (j k : ℕ) (h : History) → replied j h ≡ true → Counts j k h h []
-  counts_none j k h r = record { is_replied = r; asks = refl; replies = omega arith }
+  counts_none j k h r = record { is_replied = r; asks = refl; replies = omega arith; unmarked = λ a. a; calm = λ e f a. a }
 
   counts_silent : (j k : ℕ) (past : History) (w : What) (end : History) (xs : List Out) (h : History) → ServerOutsRight c past w end h xs → replied j h ≡ true → Counts j k h (put_all xs h) xs
   counts_silent j k past w end [] h r rep = counts_none j k h rep
@@ -371,7 +448,7 @@ module _ (c : Conf) (s : Settings) (compose : Request → Result Octets Error) (
       let a : asks_since j (Put x ∷ h) ≡ asks_since j h = ap (λ b. if b then one_if (is_ask (newest h)) else asks_since j h) (none.0 j) in
       let b : replies_since j (Put x ∷ h) ≡ 0 + replies_since j h = ap (λ b. if b then 0 else (if replied j h then one_if (is_some_reply x) + replies_since j h else 0)) (none.0 j) ∙ (ap (λ b. if b then one_if (is_some_reply x) + replies_since j h else 0) rep ∙ ap (λ b. one_if b + replies_since j h) none.1) in
       let z = i.replies in
-      record { is_replied = i.is_replied; asks = i.asks ∙ a; replies = omega arith }
+      record { is_replied = i.is_replied; asks = i.asks ∙ a; replies = omega arith; unmarked = λ m. elim m [ inl is ↦ subst (ServerOutRight c past w h end) is r.0 | inr b ↦ i.unmarked b ]; calm = λ e f m. elim m [ inl is ↦ subst (ServerOutRight c past w h end) is r.0 | inr b ↦ i.calm e f b ] }
 
   counts_reply : (j k l : ℕ) (v : Result Octets Error) (h : History) → replied j h ≡ true → l ≢ j → l ≢ k → Counts j k h (Put (Reply l v) ∷ h) (Reply l v ∷ [])
   counts_reply j k l v h rep nj nk =
@@ -379,11 +456,36 @@ module _ (c : Conf) (s : Settings) (compose : Request → Result Octets Error) (
       let ek : (l == k) ≡ false = grind (arith, nat_tests) in
       let b : replies_since j (Put (Reply l v) ∷ h) ≡ 1 + replies_since j h = ap (λ b. if b then 0 else (if replied j h then 1 + replies_since j h else 0)) ej ∙ ap (λ b. if b then 1 + replies_since j h else 0) rep in
       let o : other_replies k (Reply l v ∷ []) ≡ 1 = ap (λ b. one_if (true && not b) + 0) ek in
-      record { is_replied = or_right (l == j) (replied j h) rep; asks = ap (λ b. if b then one_if (is_ask (newest h)) else asks_since j h) ej; replies = omega arith }
+      record { is_replied = or_right (l == j) (replied j h) rep; asks = ap (λ b. if b then one_if (is_ask (newest h)) else asks_since j h) ej; replies = omega arith; unmarked = λ a. elim a [ inl is ↦ absurd (cc) | inr b ↦ b ]; calm = λ e f a. elim a [ inl is ↦ nk (cc) | inr b ↦ b ] }
+
+  counts_told : (j k l : ℕ) (v : Result Octets Error) (o : Option Octets) (h : History) → replied j h ≡ true → l ≢ j → l ≢ k → Counts j k h (put_all (told_of l v o) h) (told_of l v o)
+  counts_told j k l v None h rep nj nk = counts_reply j k l v h rep nj nk
+  counts_told j k l v (Some m) h rep nj nk =
+      let i = counts_reply j k l (Ok m) (Put (Stale l) ∷ h) rep nj nk in
+      let g : replies_since j (Put (Stale l) ∷ h) ≡ 0 + replies_since j h = ap (λ b. if b then 0 + replies_since j h else 0) rep in
+      let z = i.replies in
+      record { is_replied = i.is_replied; asks = i.asks; replies = omega arith; unmarked = λ a. elim a [ inl is ↦ other is | inr b ↦ i.unmarked b ]; calm = λ e f a. elim a [ inl is ↦ absurd (cc) | inr b ↦ i.calm e f b ] }
+    where
+      other : Stale l ≡ Stale k → ⊥
+      other is = nk (cc)
 
   hit_more : (q r : Request) (m : Octets) (age k : ℕ) (xs ys : List Out) → IsHit q r m age k ys → IsHit q r m age k (xs ++ ys)
   hit_more q r m age k xs ys (Views x y a b i) = Views x y a b (among_right (Reply k (Ok y)) xs ys i)
-  hit_more q r m age k xs ys (CantRead a i) = CantRead a (among_right (Reply k (Err errors.MessageParseError)) xs ys i)
+
+  module _ (q r : Request) (j t moment n k : ℕ) (m : Octets) (val : validity_of_message s m ≡ Some n) (pos : 0 < n) (ca_q : is_cacheable q ≡ true) (keys : key_of r ≡ key_of q) (few few_r : ℕ) (room : 3 * few + few_r < cap) where
+    -- what an asking's own key finds
+    finds : (x : Upper P.State) (h : History) (es : Cache) → HitFits (one_if (is_ask x.pending)) es h → x.pending ≡ Ask r → asking j h ≡ Some (record { request = q; moment = t }) → Ever (IsFreshReply c s j m moment) h → replied k h ≡ false → AllAreViews q m j moment k h
+        → asks_since j h ≡ suc few → replies_since j h ≤ few_r → lookup (eq (key_of r)) es ≡ Some (value q j m moment)
+    finds x h es f pend ask ever un views a b =
+        let s = f q j t m moment n k ask ever val pos ca_q un views in
+        let one : one_if (is_ask x.pending) ≡ 1 = ap (λ p. one_if (is_ask p)) pend in
+        let fa = s.few_asks in
+        let fb = s.few_replies in
+        let fewer : 3 * s.a + s.b < cap = enough s.a s.b (omega arith) (omega arith) in
+        subst (λ z. lookup (eq z) es ≡ Some (value q j m moment)) (sym keys) (hit Value eq eq_refl eq_sym eq_trans cap (key_of q) (value q j m moment) s.a s.b s.entries es s.between fewer)
+      where
+        enough : (a b : ℕ) → a ≤ few → b ≤ few_r → 3 * a + b < cap
+        enough a b p q = omega arith
 
   module _ (past : History) (w : What) (q r : Request) (j t moment n age k : ℕ) (m o : Octets) (val : validity_of_message s m ≡ Some n) (pos : 0 < n) (ca_q : is_cacheable q ≡ true) (ca_r : is_cacheable r ≡ true) (keys : key_of r ≡ key_of q) (composed : compose r ≡ Ok o) (le : age ≤ n)
       (few few_r : ℕ) (room : 3 * few + few_r < cap) where
@@ -405,25 +507,13 @@ module _ (c : Conf) (s : Settings) (compose : Request → Result Octets Error) (
       where
         same_age : (a : ℕ) → moment + a ≡ now → a ≡ age
         same_age a e = omega arith
-    served_hit now outs is _ (NotReading m' e unknown) i = (let mm : m ≡ m' = cc in CantRead (subst (λ z. known_parts z ≡ None) (sym mm) unknown) i)
 
-    -- what an asking's own key finds
-    finds : (x : Upper P.State) (h : History) (es : Cache) → HitFits (one_if (is_ask x.pending)) es h → x.pending ≡ Ask r → asking j h ≡ Some (record { request = q; moment = t }) → Ever (IsFreshReply c s j m moment) h → replied k h ≡ false → AllAreViews q m j moment k h
-        → asks_since j h ≡ suc few → replies_since j h ≤ few_r → lookup (eq (key_of r)) es ≡ Some v
-    finds x h es f pend ask ever un views a b =
-        let s = f q j t m moment n k ask ever val pos ca_q un views in
-        let one : one_if (is_ask x.pending) ≡ 1 = ap (λ p. one_if (is_ask p)) pend in
-        let fa = s.few_asks in
-        let fb = s.few_replies in
-        let fewer : 3 * s.a + s.b < cap = enough s.a s.b (omega arith) (omega arith) in
-        subst (λ z. lookup (eq z) es ≡ Some v) (sym keys) (hit Value eq eq_refl eq_sym eq_trans cap (key_of q) v s.a s.b s.entries es s.between fewer)
-      where
-        enough : (a b : ℕ) → a ≤ few → b ≤ few_r → 3 * a + b < cap
-        enough a b p q = omega arith
+    served_calm : (now : ℕ) (u : Result Octets Error) → ServedBy v r now u → is_failing u ≡ false
+    served_calm now _ (Viewing m' y x age' e known is' says) = refl
 
-    -- the hit, and no server has the request
+    -- the hit, no server has the request, and it is not marked as stale
     abbrev pub HitAlone : List Out → History → Type 0
-    HitAlone outs h = IsHit q r m age k outs × ((i : ℕ) → handed k i (put_all outs h) ≡ false)
+    HitAlone outs h = IsHit q r m age k outs × ((i : ℕ) → handed k i (put_all outs h) ≡ false) × (Among (Stale k) outs → ⊥)
 
     step_hit : (x : Upper P.State) (h : History) (es gs : Cache) → Kept c s P past w x h → (d : Made P.State) (move : Move c s compose (machine_of P) x d) → Cached c s compose (machine_of P) eq cap x d move es gs → x.pending ≡ Ask r → x.asked ≡ k → moment + age ≡ x.now → lookup (eq (key_of r)) es ≡ Some v → replied j h ≡ true
         → (e : Made P.State) → Moves c s compose (machine_of P) d.state e
@@ -441,9 +531,10 @@ module _ (c : Conf) (s : Settings) (compose : Request → Result Octets Error) (
     step_hit x h es gs kept _ (Delivers before after y a z eqn held waits out) cached pend is_k is found rep e more rest = rest refl refl (counts_none j k h rep)
     step_hit x h es gs kept _ (Concludes l a y z held tried free none eqn out) cached pend is_k is found rep e more rest = rest refl refl (counts_none j k h rep)
     step_hit x h es gs kept _ (Times_out l a held late) cached pend is_k is found rep e more rest = rest refl refl (counts_none j k h rep)
+    step_hit x h es gs kept _ (Revives before after y e' m' eqn fails old revived) cached pend is_k is found rep e more rest = rest refl refl (counts_none j k h rep)
     step_hit x h es gs kept _ (Replies before after y eqn) cached pend is_k is found rep e more rest =
         let f = kept.leaves y (subst (IsIn y) (sym eqn) (in_here y before after)) in
-        rest refl refl (counts_reply j k y.request y.result h rep (λ same. clash (replied j h) rep (subst (λ k. replied k h ≡ false) same f.unreplied)) (λ same. (let lt = f.below in omega arith)))
+        rest refl refl (counts_told j k y.request y.result y.stale h rep (λ same. clash (replied j h) rep (subst (λ k. replied k h ≡ false) same f.unreplied)) (λ same. (let lt = f.below in omega arith)))
     step_hit x h es gs kept _ (Forgets before after z eqn) cached pend is_k is found rep e more rest = rest refl refl (counts_none j k h rep)
     step_hit x h es gs kept _ (Derives z l i co) cached pend is_k is found rep e more rest = rest refl refl (counts_none j k h rep)
     step_hit x h es gs kept _ (Answers r' y pend' at) cached pend is_k is found rep e more rest =
@@ -452,18 +543,29 @@ module _ (c : Conf) (s : Settings) (compose : Request → Result Octets Error) (
         let exact : (o : Octets) → compose r ≡ Ok o → is_cacheable r ≡ true → (v : Value) → lookup (eq (key_of r)) es ≡ Some v → Serves s v r x.now → ServedBy v r x.now y.result = subst (λ r. (o : Octets) → compose r ≡ Ok o → is_cacheable r ≡ true → (v : Value) → lookup (eq (key_of r)) es ≡ Some v → Serves s v r x.now → ServedBy v r x.now y.result) same cached.1 in
         let served = exact o composed ca_r v found (own_serves x.now is) in
         let who : y.request ≡ k = (at_once c s compose composes P past w x h kept r' y pend' at).request ∙ is_k in
-        let put = leaving_put y (answer y x) e (in_right y x.leaving (y ∷ []) (inl refl)) more in
+        let plain = at_once_plain c s compose x.now x.asked x.stored r' y at in
+        let calm = served_calm x.now y.result served in
+        let put = leaving_put y (answer y x) e plain calm (in_right y x.leaving (y ∷ []) (inl refl)) more in
         let t = kept.to_come x.asked (omega arith) in
         let a' = move_does c s compose composes P past w x h kept (unmade (answer y x)) (Answers r' y pend' at) in
-        (served_hit x.now e.outs is y.result served (subst (λ k. Among (Reply k y.result) e.outs) who put), moves_untried c s compose composes P k past w (answer y x) h e a'.leaves more (record { unheld = subst (λ k. x.held k ≡ None) is_k t.unheld; below = omega arith; unhanded = λ i. subst (λ k. handed k i h ≡ false) is_k (t.unhanded i) }))
-    step_hit x h es gs kept _ (Takes_on r' o' pend' comp lt) cached pend is_k is found rep e more rest =
+        let alone = moves_untried c s compose composes P k past w (answer y x) h e a'.leaves more (record {
+          unheld = subst (λ k. x.held k ≡ None) is_k t.unheld;
+          below = omega arith;
+          unhanded = λ i. subst (λ k. handed k i h ≡ false) is_k (t.unhanded i);
+          calm = λ z l q. elim (in_either z x.leaving (y ∷ []) l) [
+            | inl o ↦ absurd (let lt = (kept.leaves z o).below in omega arith)
+            | inr n ↦ elim n [ inl e ↦ subst (λ (z : Leaving). (z.stale ≡ None) × (is_failing z.result ≡ false)) e (plain, calm) | inr v ↦ absurd v ]
+          ];
+        }) in
+        (served_hit x.now e.outs is y.result served (subst (λ k. Among (Reply k y.result) e.outs) who put), alone.0, alone.1.0)
+    step_hit x h es gs kept _ (Takes_on r' o' old pend' comp lt there) cached pend is_k is found rep e more rest =
         let asked : Ask r' ≡ Ask r = sym pend' ∙ pend in
         let same : r' ≡ r = cc in
         let exact : is_cacheable r ≡ true → (v : Value) → lookup (eq (key_of r)) es ≡ Some v → Serves s v r x.now → ⊥ = subst (λ r. is_cacheable r ≡ true → (v : Value) → lookup (eq (key_of r)) es ≡ Some v → Serves s v r x.now → ⊥) same cached.1 in
         absurd (exact ca_r v found (own_serves x.now is))
 
-    then_alone : (xs ys : List Out) (h : History) → HitAlone ys (put_all xs h) → HitAlone (xs ++ ys) h
-    then_alone xs ys h a = (hit_more q r m age k xs ys a.0, λ i. ap (handed k i) (put_more xs ys h) ∙ a.1 i)
+    then_alone : (xs ys : List Out) (h : History) → (Among (Stale k) xs → ⊥) → HitAlone ys (put_all xs h) → HitAlone (xs ++ ys) h
+    then_alone xs ys h un a = (hit_more q r m age k xs ys a.0, λ i. ap (handed k i) (put_more xs ys h) ∙ a.1 i, λ z. elim (among_either (Stale k) xs ys z) [ inl l ↦ un l | inr b ↦ a.2 b ])
 
     moves_hit : (x : Upper P.State) (h : History) (d : Made P.State) (moves : Moves c s compose (machine_of P) x d) (es fs : Cache) → Kept c s P past w x h → AllCached c s compose (machine_of P) eq cap x d moves es fs → HitFits (one_if (is_ask x.pending)) es h → x.pending ≡ Ask r → x.asked ≡ k → moment + age ≡ now h
         → asking j h ≡ Some (record { request = q; moment = t }) → Ever (IsFreshReply c s j m moment) h → AllAreViews q m j moment k (put_all d.outs h) → asks_since j h ≡ suc few → replies_since j h + other_replies k d.outs ≤ few_r → HitAlone d.outs h
@@ -473,13 +575,204 @@ module _ (c : Conf) (s : Settings) (compose : Request → Result Octets Error) (
         let rep : replied j h ≡ true = ever_replied c s j moment m h ever in
         let now_views : AllAreViews q m j moment k h = views_back past w (put_all (d.outs ++ e.outs) h) q m j moment k (d.outs ++ e.outs) h all rep views in
         let un : replied k h ≡ false = subst (λ k. replied k h ≡ false) is_k ((kept.to_come x.asked (omega arith)).unreplied) in
-        let found = finds x h es f pend ask ever un now_views a (omega arith) in
+        let found = finds q r j t moment n k m val pos ca_q keys few few_r room x h es f pend ask ever un now_views a (omega arith) in
         let g = move_fits past w x h kept d move es (cached.0) cached.1 f in
         let a' = move_does c s compose composes P past w x h kept d move in
         let o = others_more k d.outs e.outs in
         step_hit x h es (cached.0) kept d move cached.1 pend is_k (is ∙ sym kept.clock) found rep e more (λ p n' counts.
-        then_alone d.outs e.outs h (moves_hit d.state (put_all d.outs h) e more (cached.0) fs a'.leaves cached.2 g (p ∙ pend) (n' ∙ is_k) (is ∙ sym (now_all d.outs h)) (asking_all j d.outs h ∙ ask) (ever_all (IsFreshReply c s j m moment) d.outs h ever)
+        then_alone d.outs e.outs h counts.unmarked (moves_hit d.state (put_all d.outs h) e more (cached.0) fs a'.leaves cached.2 g (p ∙ pend) (n' ∙ is_k) (is ∙ sym (now_all d.outs h)) (asking_all j d.outs h ∙ ask) (ever_all (IsFreshReply c s j m moment) d.outs h ever)
         (subst (AllAreViews q m j moment k) (put_more d.outs e.outs h) views) (counts.asks ∙ a) (let z = counts.replies in omega arith)))
+
+  -- Request k, which is r and was asked at u: a message m of an earlier request q with the same key had expired, and may serve up to a moment.
+  module _ (q r : Request) (j t k moment n u : ℕ) (m : Octets) (known : Parts Data) (val : validity_of_message s m ≡ Some n) (pos : 0 < n) (is_known : known_parts m ≡ Some known) (tells : tells_of_name known.code ≡ true) (ca_q : is_cacheable q ≡ true) (ca_r : is_cacheable r ≡ true) (keys : key_of r ≡ key_of q) (past_it : moment + n < u)
+      (few few_r : ℕ) (room : 3 * few + few_r < cap) where
+    abbrev limit : ℕ
+    limit = moment + n + s.stale_for
+
+    abbrev old : Entry
+    old = entry_under (key_of r) (value q j m moment)
+
+    -- It was taken on with what had expired; or it was answered at once, and not by a failure.
+    data Spared (x : Upper P.State) (h : History) : Type 0 where
+      HasOld : x.expired k ≡ Some old → k < x.asked → asking k h ≡ Some (record { request = r; moment = u }) → u ≤ x.now → Spared x h
+      IsAnswered : Untried c s compose composes P k x h → Spared x h
+
+    -- it may serve at this moment
+    may : (now : ℕ) → u ≤ now → now ≤ limit → (o : Option Entry) → o ≡ Some old → MayRevive s now r o
+    may now ge le o there =
+        let p = valid_is_read s m n val pos in
+        let same : view_validity s q r (p.0) ≡ n = ap (λ k. validity_of_parts s (viewed k (key_of r) (spelled_name r) 0 (p.0))) (sym keys) ∙ (own_view_valid s (key_of r) (spelled_name r) (p.0) ∙ p.2) in
+        let a = between now ge le in
+        record { entry = old; there = there; message = m; is = refl; parts = p.0; read = p.1; known = known; is_known = is_known; tells = tells; age = a.0; is_age = a.1; allowed = a.2; in_time = subst (λ z. a.0 ≤ z + s.stale_for) (sym same) a.3 }
+      where
+        between : (now : ℕ) → u ≤ now → now ≤ limit → (age : ℕ) × (moment + age ≡ now) × (0 < s.stale_for) × (age ≤ n + s.stale_for)
+        between now ge le = (now - moment, (omega arith), (omega arith), (omega arith))
+
+    -- a reply that is put
+    reply_never : (past : History) (w : What) (x : Upper P.State) (h : History) → Kept c s P past w x h → x.now ≤ limit → x.expired k ≡ Some old → asking k h ≡ Some (record { request = r; moment = u }) → u ≤ x.now → (y : Leaving) → IsIn y x.leaving
+        → (y.stale ≡ None → is_failing y.result ≡ true → MayRevive s x.now y.asked (x.expired y.request) → ⊥) → Never k (told_of y.request y.result y.stale)
+    reply_never past w x h kept le there asked ge y i exact e fails = go y.stale refl
+      where
+        put : y.request ≡ k → y.result ≡ Err e → y.stale ≡ None → ⊥
+        put who res plain =
+            let f = kept.leaves y i in
+            let same : y.asked ≡ r = same_ask y.asked r (f.asked.0) u (sym f.asked.1 ∙ (ap (λ k. asking k h) who ∙ asked)) in
+            exact plain (ap is_failing res ∙ fails) (subst (λ q. MayRevive s x.now q (x.expired y.request)) (sym same) (may x.now ge le (x.expired y.request) (ap x.expired who ∙ there)))
+
+        go : (o : Option Octets) → y.stale ≡ o → Among (Reply k (Err e)) (told_of y.request y.result o) → ⊥
+        go None plain a = elim a [ inl is ↦ (let who : y.request ≡ k = cc in let res : y.result ≡ Err e = cc in put who res plain) | inr b ↦ b ]
+        go (Some o) plain a = elim a [ inl is ↦ absurd (cc) | inr b ↦ elim b [ inl is ↦ (let z : Path (Result Octets Error) (Ok o) (Err e) = cc in absurd (cc)) | inr d ↦ d ] ]
+
+    stays : (x y : Upper P.State) (h : History) (outs : List Out) → x.expired k ≡ Some old → k < x.asked → asking k h ≡ Some (record { request = r; moment = u }) → u ≤ x.now → y.expired k ≡ x.expired k → x.asked ≤ y.asked → y.now ≡ x.now → Spared y (put_all outs h)
+    stays x y h outs o b a ge same more now_is = HasOld (same ∙ o) (omega arith) (asking_all k outs h ∙ a) (omega arith)
+
+    server_never : (past : History) (w : What) (end : History) (xs : List Out) (h : History) → ServerOutsRight c past w end h xs → Never k xs
+    server_never past w end xs h r = (server_calm c s compose composes P k past w end xs h r).1
+
+    none_never : Never k []
+    none_never e f a = a
+
+    move_spared : (past : History) (w : What) (x : Upper P.State) (h : History) → Kept c s P past w x h → (d : Made P.State) (move : Move c s compose (machine_of P) x d) (es fs : Cache) → Cached c s compose (machine_of P) eq cap x d move es fs → Spared x h → Spared d.state (put_all d.outs h) × (x.now ≤ limit → Never k d.outs)
+    move_spared past w x h kept d move es fs cached (IsAnswered un) = (IsAnswered (move_untried c s compose composes P k past w x h kept d move un), λ le. (move_calm c s compose composes P k past w x h kept d move un.calm).1)
+    move_spared past w x h kept _ (Server_moves i d lt act) es fs cached (HasOld o b a ge) = (stays x (moved i d x) h d.outs o b a ge refl (omega arith) refl, λ le. server_never past w (put_all d.outs h) d.outs h (acts_right_here c s P past w x h kept i lt d act (put_all d.outs h) (λ k e. e)))
+    move_spared past w x h kept _ (Hands_on i l g d lt held untried st) es fs cached (HasOld o b a ge) = (stays x (moved i d (hand l i g x)) h d.outs o b a ge refl (omega arith) refl, λ le. server_never past w (put_all d.outs h) d.outs h (starts_right_here c s P past w x h kept i lt l g held untried d st (put_all d.outs h) (λ k e. e)))
+    move_spared past w x h kept _ (Gives_up i l d lt held holds can) es fs cached (HasOld o b a ge) =
+        let end : History = Put (Reply l (Err errors.TimedOut)) ∷ put_all d.outs h in
+        (stays x (moved i d x) h d.outs o b a ge refl (omega arith) refl, λ le. server_never past w end d.outs h (cancels_right_here c s P past w x h kept i lt l held holds d can end (λ j e. or_right (l == j) (replied j (put_all d.outs h)) e) (replied_now l (put_all d.outs h))))
+      where
+        replied_now : (k : ℕ) (g : History) → replied k (Put (Reply k (Err errors.TimedOut)) ∷ g) ≡ true
+        replied_now k g = grind (arith, nat_tests)
+    move_spared past w x h kept _ (Drops before after y is held) es fs cached (HasOld o b a ge) = (stays x (record x { board = before ++ after }) h [] o b a ge refl (omega arith) refl, λ le. none_never)
+    move_spared past w x h kept _ (Keeps_back before after y g is held waits) es fs cached (HasOld o b a ge) = (HasOld o b a ge, λ le. none_never)
+    move_spared past w x h kept _ (Delivers before after y g l is held waits out) es fs cached (HasOld o b a ge) = (HasOld o b a ge, λ le. none_never)
+    move_spared past w x h kept _ (Concludes l g y z held tried free none is out) es fs cached (HasOld o b a ge) = (HasOld o b a ge, λ le. none_never)
+    move_spared past w x h kept _ (Times_out l g held late) es fs cached (HasOld o b a ge) = (HasOld o b a ge, λ le. none_never)
+    move_spared past w x h kept _ (Revives before after y z m' is fails there revived) es fs cached (HasOld o b a ge) = (HasOld o b a ge, λ le. none_never)
+    move_spared past w x h kept _ (Replies before after y is) es fs cached (HasOld o b a ge) =
+        (HasOld o b (asking_all k (told_of y.request y.result y.stale) h ∙ a) ge, λ le. reply_never past w x h kept le o a ge y (subst (IsIn y) (sym is) (in_here y before after)) cached.1)
+    move_spared past w x h kept _ (Forgets before after z is) es fs cached (HasOld o b a ge) = (HasOld o b a ge, λ le. none_never)
+    move_spared past w x h kept _ (Derives z l i co) es fs cached (HasOld o b a ge) = (HasOld o b a ge, λ le. none_never)
+    move_spared past w x h kept _ (Answers g y pend at) es fs cached (HasOld o b a ge) = (stays x (answer y x) h [] o b a ge refl (omega arith) refl, λ le. none_never)
+    move_spared past w x h kept _ (Takes_on g z there pend composed lt stored) es fs cached (HasOld o b a ge) = (stays x (take_on g there x) h [] o b a ge (other there (λ same. (omega arith))) (omega arith) refl, λ le. none_never)
+      where
+        other : (v : Option Entry) → x.asked ≢ k → with_expired x.asked v x.expired k ≡ x.expired k
+        other v ne = (let e : (x.asked == k) ≡ false = grind (arith, nat_tests) in ap (λ b. if b then v else x.expired k) e)
+
+    -- a move leaves the moment
+    now_on : (past : History) (w : What) (x y : Upper P.State) (h : History) (outs : List Out) → Kept c s P past w x h → Kept c s P past w y (put_all outs h) → y.now ≡ x.now
+    now_on past w x y h outs a b = b.clock ∙ (now_all outs h ∙ sym a.clock)
+
+    moves_spared : (past : History) (w : What) (x : Upper P.State) (h : History) (d : Made P.State) (moves : Moves c s compose (machine_of P) x d) (es fs : Cache) → Kept c s P past w x h → AllCached c s compose (machine_of P) eq cap x d moves es fs → Spared x h → Spared d.state (put_all d.outs h) × (x.now ≤ limit → Never k d.outs)
+    moves_spared past w _ h _ (Rests x done) es fs kept cached sp = (sp, λ le. none_never)
+    moves_spared past w _ h _ (Goes x d e move more) es fs kept cached sp =
+        let a = move_spared past w x h kept d move es (cached.0) cached.1 sp in
+        let k' = (move_does c s compose composes P past w x h kept d move).leaves in
+        let b = moves_spared past w d.state (put_all d.outs h) e more (cached.0) fs k' cached.2 a.0 in
+        (subst (Spared e.state) (sym (put_more d.outs e.outs h)) b.0, λ le. never_more k d.outs e.outs (a.1 le) (b.1 (subst (λ n. n ≤ limit) (sym (now_on past w x d.state h d.outs kept k')) le)))
+
+    abbrev Spares : (x : Upper P.State) (d : Made P.State) → History → Type 0
+    Spares x d h = Spared d.state (put_all d.outs h) × (x.now ≤ limit → Never k d.outs)
+
+    -- in the row that asks it
+    step_spared : (past : History) (w : What) (x : Upper P.State) (h : History) (es gs fs : Cache) → Kept c s P past w x h → (d : Made P.State) (move : Move c s compose (machine_of P) x d) → Cached c s compose (machine_of P) eq cap x d move es gs → x.pending ≡ Ask r → x.asked ≡ k → x.now ≡ u → lookup (eq (key_of r)) es ≡ Some (value q j m moment) → replied j h ≡ true
+        → (e : Made P.State) (more : Moves c s compose (machine_of P) d.state e) → AllCached c s compose (machine_of P) eq cap d.state e more gs fs → Kept c s P past w d.state (put_all d.outs h)
+        → (d.state.pending ≡ x.pending → d.state.asked ≡ x.asked → Counts j k h (put_all d.outs h) d.outs → Spares d.state e (put_all d.outs h)) → Spared e.state (put_all e.outs (put_all d.outs h)) × (x.now ≤ limit → Never k (d.outs ++ e.outs))
+    step_spared past w x h es gs fs kept d move cached pend is_k is_u found rep e more cached' kept' rest = go d move cached e more cached' kept' rest
+      where
+        with_counts : (d e : Made P.State) → Kept c s P past w d.state (put_all d.outs h) → Counts j k h (put_all d.outs h) d.outs → Spares d.state e (put_all d.outs h) → Spared e.state (put_all e.outs (put_all d.outs h)) × (x.now ≤ limit → Never k (d.outs ++ e.outs))
+        with_counts d e kept' counts b = (b.0, λ le. never_more k d.outs e.outs counts.calm (b.1 (subst (λ n. n ≤ limit) (sym (now_on past w x d.state h d.outs kept kept')) le)))
+
+        replied_now : (k : ℕ) (g : History) → replied k (Put (Reply k (Err errors.TimedOut)) ∷ g) ≡ true
+        replied_now k g = grind (arith, nat_tests)
+
+        go : (d : Made P.State) (move : Move c s compose (machine_of P) x d) → Cached c s compose (machine_of P) eq cap x d move es gs → (e : Made P.State) (more : Moves c s compose (machine_of P) d.state e) → AllCached c s compose (machine_of P) eq cap d.state e more gs fs → Kept c s P past w d.state (put_all d.outs h)
+            → (d.state.pending ≡ x.pending → d.state.asked ≡ x.asked → Counts j k h (put_all d.outs h) d.outs → Spares d.state e (put_all d.outs h)) → Spared e.state (put_all e.outs (put_all d.outs h)) × (x.now ≤ limit → Never k (d.outs ++ e.outs))
+        go _ (Server_moves i d lt act) cached e more cached' kept' rest =
+            let counts = counts_silent j k past w (put_all d.outs h) d.outs h (acts_right_here c s P past w x h kept i lt d act (put_all d.outs h) (λ k e. e)) rep in
+            with_counts (record { state = moved i d x; outs = d.outs }) e kept' counts (rest refl refl counts)
+        go _ (Hands_on i l g d lt held untried st) cached e more cached' kept' rest =
+            let counts = counts_silent j k past w (put_all d.outs h) d.outs h (starts_right_here c s P past w x h kept i lt l g held untried d st (put_all d.outs h) (λ k e. e)) rep in
+            with_counts (record { state = moved i d (hand l i g x); outs = d.outs }) e kept' counts (rest refl refl counts)
+        go _ (Gives_up i l d lt held holds can) cached e more cached' kept' rest =
+            let end : History = Put (Reply l (Err errors.TimedOut)) ∷ put_all d.outs h in
+            let counts = counts_silent j k past w end d.outs h (cancels_right_here c s P past w x h kept i lt l held holds d can end (λ j e. or_right (l == j) (replied j (put_all d.outs h)) e) (replied_now l (put_all d.outs h))) rep in
+            with_counts (record { state = moved i d x; outs = d.outs }) e kept' counts (rest refl refl counts)
+        go _ (Drops before after y is held) cached e more cached' kept' rest = with_counts (unmade (record x { board = before ++ after })) e kept' (counts_none j k h rep) (rest refl refl (counts_none j k h rep))
+        go d (Keeps_back before after y g is held waits) cached e more cached' kept' rest = with_counts d e kept' (counts_none j k h rep) (rest refl refl (counts_none j k h rep))
+        go d (Delivers before after y g z is held waits out) cached e more cached' kept' rest = with_counts d e kept' (counts_none j k h rep) (rest refl refl (counts_none j k h rep))
+        go d (Concludes l g y z held tried free none is out) cached e more cached' kept' rest = with_counts d e kept' (counts_none j k h rep) (rest refl refl (counts_none j k h rep))
+        go d (Times_out l g held late) cached e more cached' kept' rest = with_counts d e kept' (counts_none j k h rep) (rest refl refl (counts_none j k h rep))
+        go d (Revives before after y z m' is fails there revived) cached e more cached' kept' rest = with_counts d e kept' (counts_none j k h rep) (rest refl refl (counts_none j k h rep))
+        go d (Replies before after y is) cached e more cached' kept' rest =
+            let f = kept.leaves y (subst (IsIn y) (sym is) (in_here y before after)) in
+            let counts = counts_told j k y.request y.result y.stale h rep (λ same. clash (replied j h) rep (subst (λ k. replied k h ≡ false) same f.unreplied)) (λ same. (let lt = f.below in omega arith)) in
+            with_counts d e kept' counts (rest refl refl counts)
+        go d (Forgets before after z is) cached e more cached' kept' rest = with_counts d e kept' (counts_none j k h rep) (rest refl refl (counts_none j k h rep))
+        go d (Derives z l i co) cached e more cached' kept' rest = with_counts d e kept' (counts_none j k h rep) (rest refl refl (counts_none j k h rep))
+        go d (Answers r' y pend' at) cached e more cached' kept' rest =
+            let asked : Ask r' ≡ Ask r = sym pend' ∙ pend in
+            let same : r' ≡ r = cc in
+            let exact : is_cacheable r ≡ true → (v : Value) (m : Octets) → lookup (eq (key_of r)) es ≡ Some v → v.result ≡ Ok m → is_failing y.result ≡ false = subst (λ r. is_cacheable r ≡ true → (v : Value) (m : Octets) → lookup (eq (key_of r)) es ≡ Some v → v.result ≡ Ok m → is_failing y.result ≡ false) same cached.2 in
+            let calm = exact ca_r (value q j m moment) m found refl in
+            let plain = at_once_plain c s compose x.now x.asked x.stored r' y at in
+            let t = kept.to_come x.asked (omega arith) in
+            let un : Untried c s compose composes P k (answer y x) h = record {
+              unheld = subst (λ k. x.held k ≡ None) is_k t.unheld;
+              below = omega arith;
+              unhanded = λ i. subst (λ k. handed k i h ≡ false) is_k (t.unhanded i);
+              calm = λ z l q. elim (in_either z x.leaving (y ∷ []) l) [
+                | inl o ↦ absurd (let lt = (kept.leaves z o).below in omega arith)
+                | inr n ↦ elim n [ inl e ↦ subst (λ (z : Leaving). (z.stale ≡ None) × (is_failing z.result ≡ false)) e (plain, calm) | inr v ↦ absurd v ]
+              ];
+            } in
+            moves_spared past w (answer y x) h e more gs fs kept' cached' (IsAnswered un)
+        go d (Takes_on r' o' there pend' comp lt stored) cached e more cached' kept' rest =
+            let asked : Ask r' ≡ Ask r = sym pend' ∙ pend in
+            let same : r' ≡ r = cc in
+            let exact : is_cacheable r ≡ true → (v : Value) (m : Octets) → lookup (eq (key_of r)) es ≡ Some v → v.result ≡ Ok m → there ≡ Some (entry_under (key_of r) v) = subst (λ r. is_cacheable r ≡ true → (v : Value) (m : Octets) → lookup (eq (key_of r)) es ≡ Some v → v.result ≡ Ok m → there ≡ Some (entry_under (key_of r) v)) same cached.2 in
+            let is_old : there ≡ Some old = exact ca_r (value q j m moment) m found refl in
+            let p = kept.pending r pend in
+            let a : asking k h ≡ Some (record { request = r; moment = u }) = subst (λ k. asking k h ≡ Some (record { request = r; moment = u })) is_k (p.asked ∙ ap (λ n. Some (record { request = r; moment = n })) is_u) in
+            moves_spared past w (take_on r' there x) h e more gs fs kept' cached' (HasOld (this there is_k ∙ is_old) (omega arith) a (omega arith))
+          where
+            this : (v : Option Entry) → x.asked ≡ k → with_expired x.asked v x.expired k ≡ v
+            this v is = (let e : (x.asked == k) ≡ true = grind (arith, nat_tests) in ap (λ b. if b then v else x.expired k) e)
+
+    asking_spared : (past : History) (w : What) (x : Upper P.State) (h : History) (d : Made P.State) (moves : Moves c s compose (machine_of P) x d) (es fs : Cache) → Kept c s P past w x h → AllCached c s compose (machine_of P) eq cap x d moves es fs → HitFits (one_if (is_ask x.pending)) es h → x.pending ≡ Ask r → x.asked ≡ k → x.now ≡ u
+        → asking j h ≡ Some (record { request = q; moment = t }) → Ever (IsFreshReply c s j m moment) h → AllAreViews q m j moment k (put_all d.outs h) → asks_since j h ≡ suc few → replies_since j h + other_replies k d.outs ≤ few_r → Spares x d h
+    asking_spared past w _ h _ (Rests x done) es fs kept cached f pend is_k is_u ask ever views a b = absurd (clash (is_ask x.pending) (ap is_ask pend) done.taken)
+    asking_spared past w _ h _ (Goes x d e move more) es fs kept cached f pend is_k is_u ask ever views a b =
+        let all : OutsRight c s past w (put_all (d.outs ++ e.outs) h) h (d.outs ++ e.outs) = (moves_do c s compose composes P past w x h (record { state = e.state; outs = d.outs ++ e.outs }) kept (Goes x d e move more)).right (put_all (d.outs ++ e.outs) h) (λ k r. r) in
+        let rep : replied j h ≡ true = ever_replied c s j moment m h ever in
+        let now_views : AllAreViews q m j moment k h = views_back past w (put_all (d.outs ++ e.outs) h) q m j moment k (d.outs ++ e.outs) h all rep views in
+        let un : replied k h ≡ false = subst (λ k. replied k h ≡ false) is_k ((kept.to_come x.asked (omega arith)).unreplied) in
+        let found = finds q r j t moment n k m val pos ca_q keys few few_r room x h es f pend ask ever un now_views a (omega arith) in
+        let g = move_fits past w x h kept d move es (cached.0) cached.1 f in
+        let a' = move_does c s compose composes P past w x h kept d move in
+        let o = others_more k d.outs e.outs in
+        let z = step_spared past w x h es (cached.0) fs kept d move cached.1 pend is_k is_u found rep e more cached.2 a'.leaves (λ p n' counts.
+        asking_spared past w d.state (put_all d.outs h) e more (cached.0) fs a'.leaves cached.2 g (p ∙ pend) (n' ∙ is_k) (now_on past w x d.state h d.outs kept a'.leaves ∙ is_u) (asking_all j d.outs h ∙ ask) (ever_all (IsFreshReply c s j m moment) d.outs h ever)
+        (subst (AllAreViews q m j moment k) (put_more d.outs e.outs h) views) (counts.asks ∙ a) (let z = counts.replies in omega arith)) in
+        (subst (Spared e.state) (sym (put_more d.outs e.outs h)) z.0, z.1)
+
+    -- the rows behind it
+    rows_spared : (x : Upper P.State) (rows : List Row) (run : IsRun c s compose (machine_of P) x rows) (old' past : History) (w : What) (es : Cache) → Kept c s P old' w x past → IsDone c s compose (machine_of P) x → AllAskedInOctets (map (λ row. row.event) rows) → RunCached c s compose (machine_of P) eq cap x rows run es → Spared x past → NeverFails k limit past rows
+    rows_spared _ _ (Ends x) old' past w es kept done octets cached sp = tt
+    rows_spared _ _ (Goes_on x row x' rows step more) old' past w es kept done octets cached sp =
+        let e = row.event in
+        let h : History = Came e ∷ past in
+        let d : Made P.State = step.made in
+        let k0 = row_kept c s compose P old' w x past kept done e octets.0 in
+        let all = moves_do c s compose composes P past e.what (row_begins c s compose (machine_of P) e x) h d k0 step.moves in
+        let b = moves_spared past e.what (row_begins c s compose (machine_of P) e x) h d step.moves es (cached.0) k0 cached.1 (begins e sp) in
+        let same_outs : after row past ≡ put_all d.outs h = ap (λ o. put_all o h) step.outs in (
+          λ le. subst (Never k) (sym step.outs) (b.1 (subst (λ n. n ≤ limit) (sym k0.clock) le)),
+          rows_spared x' rows more past (after row past) e.what (cached.0) (subst₂ (λ z g. Kept c s P past e.what z g) (sym step.leaves) (sym same_outs) all.leaves) (subst (λ z. IsDone c s compose (machine_of P) z) (sym step.leaves) all.done) octets.1 cached.2 (subst₂ Spared (sym step.leaves) (sym same_outs) b.0),
+        )
+      where
+        begins : (e : Event) → Spared x past → Spared (row_begins c s compose (machine_of P) e x) (Came e ∷ past)
+        begins e (HasOld o b a ge) = HasOld o b (asking_came k (record { request = r; moment = u }) e past a) (omega arith)
+        begins e (IsAnswered un) = IsAnswered (record { unheld = un.unheld; below = un.below; unhanded = un.unhanded; calm = un.calm })
 
   row_hits : (old past : History) (u : What) (x : Upper P.State) (row : Row) (x' : Upper P.State) (es fs : Cache) → Kept c s P old u x past → IsDone c s compose (machine_of P) x → IsAskedInOctets row.event.what → (step : IsStep c s compose (machine_of P) x row x') → AllCached c s compose (machine_of P) eq cap (row_begins c s compose (machine_of P) row.event x) step.made step.moves es fs → HitFits 0 es past
       → Hits c s compose cap past row × (Kept c s P past row.event.what x' (after row past) × IsDone c s compose (machine_of P) x' × HitFits 0 fs (after row past))
@@ -495,7 +788,7 @@ module _ (c : Conf) (s : Settings) (compose : Request → Result Octets Error) (
             (let is_k : x.asked ≡ asks past = counted in
             let rep : replied j past ≡ true = ever_replied c s j moment m past ever in
             let same_outs : after row past ≡ put_all d.outs h = ap (λ o. put_all o h) step.outs in
-            subst (λ o. IsHit q r m age (asks past) o × ((i : ℕ) → handed (asks past) i (put_all o h) ≡ false)) (sym step.outs)
+            subst (λ o. IsHit q r m age (asks past) o × ((i : ℕ) → handed (asks past) i (put_all o h) ≡ false) × (Among (Stale (asks past)) o → ⊥)) (sym step.outs)
             (moves_hit past e.what q r j t moment n age (asks past) m o val pos ca_q ca_r keys composed le (asks_since j past) (replies_since j past + other_replies (asks past) row.outs) room (row_begins c s compose (machine_of P) e x) h d step.moves es fs k0 cached begun what is_k is
             (asking_came j (record { request = q; moment = t }) e past ask) (inr ever) (subst (AllAreViews q m j moment (asks past)) same_outs views)
             (ap (λ b. if b then one_if (is_ask e.what) + asks_since j past else 0) rep ∙ (ap (λ w. one_if (is_ask w) + asks_since j past) what ∙ one_more (asks_since j past)))
@@ -514,14 +807,54 @@ module _ (c : Conf) (s : Settings) (compose : Request → Result Octets Error) (
       one_more n = omega arith
 
   rows_hit : (x : Upper P.State) (rows : List Row) (run : IsRun c s compose (machine_of P) x rows) (old past : History) (u : What) (es : Cache) → Kept c s P old u x past → IsDone c s compose (machine_of P) x → AllAskedInOctets (map (λ row. row.event) rows) → RunCached c s compose (machine_of P) eq cap x rows run es → HitFits 0 es past → AllHit c s compose cap past rows
-  rows_hit _ _ (Ends x) old past u es kept done octets cached f = tt
-  rows_hit _ _ (Goes_on x row x' rows step more) old past u es kept done octets cached f =
-      let r = row_hits old past u x row x' es (cached.0) kept done octets.0 step cached.1 f in
+  rows_hit _ _ (Ends x) earlier past u es kept done octets cached f = tt
+  rows_hit _ _ (Goes_on x row x' rows step more) earlier past u es kept done octets cached f =
+      let r = row_hits earlier past u x row x' es (cached.0) kept done octets.0 step cached.1 f in
       (r.0, rows_hit x' rows more past (after row past) row.event.what (cached.0) r.1.0 r.1.1 octets.1 cached.2 r.1.2)
 
   -- Hit: in every run with its cache, an asking with the key of a message that is kept is answered in its own row.
   pub run_hits : (rows : List Row) (run : IsRun c s compose (machine_of P) (begun c s compose (machine_of P)) rows) → AllAskedInOctets (map (λ row. row.event) rows) → RunCached c s compose (machine_of P) eq cap (begun c s compose (machine_of P)) rows run [] → AllHit c s compose cap [] rows
   run_hits rows run octets cached = rows_hit (begun c s compose (machine_of P)) rows run [] [] Tick [] (begun_kept c s compose P) (begun_done c s compose P) octets cached (λ q j t m moment n but ask ever. absurd ever)
+
+  row_serves : (old past : History) (u : What) (x : Upper P.State) (row : Row) (x' : Upper P.State) (rows : List Row) (es fs : Cache) → Kept c s P old u x past → IsDone c s compose (machine_of P) x → AllAskedInOctets (map (λ row. row.event) (row ∷ rows)) → (step : IsStep c s compose (machine_of P) x row x') → AllCached c s compose (machine_of P) eq cap (row_begins c s compose (machine_of P) row.event x) step.made step.moves es fs → HitFits 0 es past
+      → (more : IsRun c s compose (machine_of P) x' rows) → RunCached c s compose (machine_of P) eq cap x' rows more fs → Kept c s P past row.event.what x' (after row past) → IsDone c s compose (machine_of P) x' → ServesStale c s cap past row rows
+  row_serves old past w x row x' rows es fs kept done octets step cached f more cached' kept' done' q r j t moment n m known what ask ever val pos is_known tells ca_q ca_r keys past_it views room =
+      let e = row.event in
+      let h : History = Came e ∷ past in
+      let d : Made P.State = step.made in
+      let k0 = row_kept c s compose P old w x past kept done e octets.0 in
+      let begun = fits_came es e past (λ j rep. known_below j rep (cases_lt j (asks past))) f in
+      let is_k : x.asked ≡ asks past = counted in
+      let rep : replied j past ≡ true = ever_replied c s j moment m past ever in
+      let same_outs : after row past ≡ put_all d.outs h = ap (λ o. put_all o h) step.outs in
+      let few_r : ℕ = replies_since j past + other_replies (asks past) row.outs in
+      let b = asking_spared q r j t (asks past) moment n (now h) m known val pos is_known tells ca_q ca_r keys past_it (asks_since j past) few_r room past e.what (row_begins c s compose (machine_of P) e x) h d step.moves es fs k0 cached begun what is_k k0.clock
+      (asking_came j (record { request = q; moment = t }) e past ask) (inr ever) (subst (AllAreViews q m j moment (asks past)) same_outs views)
+      (ap (λ b. if b then one_if (is_ask e.what) + asks_since j past else 0) rep ∙ (ap (λ w. one_if (is_ask w) + asks_since j past) what ∙ one_more (asks_since j past)))
+      (let z : replies_since j h ≡ replies_since j past = ap (λ b. if b then replies_since j past else 0) rep in let y : other_replies (asks past) row.outs ≡ other_replies (asks past) d.outs = ap (other_replies (asks past)) step.outs in omega arith) in (
+        λ le. subst (Never (asks past)) (sym step.outs) (b.1 (subst (λ n'. n' ≤ moment + n + s.stale_for) (sym k0.clock) le)),
+        rows_spared q r j t (asks past) moment n (now h) m known val pos is_known tells ca_q ca_r keys past_it (asks_since j past) few_r room x' rows more past (after row past) e.what fs kept' done' octets.1 cached' (subst₂ (Spared q r j t (asks past) moment n (now h) m known val pos is_known tells ca_q ca_r keys past_it (asks_since j past) few_r room) (sym step.leaves) (sym same_outs) b.0),
+      )
+    where
+      counted : x.asked ≡ asks past
+      counted = (let n = kept.count in let z : one_if (is_ask x.pending) ≡ 0 = ap one_if done.taken in omega arith)
+
+      known_below : (j : ℕ) → replied j past ≡ true → (j < asks past) ⊎ (asks past ≤ j) → j < asks past
+      known_below j rep (inl lt) = lt
+      known_below j rep (inr ge) = absurd (let n = counted in clash (replied j past) rep ((kept.to_come j (omega arith)).unreplied))
+
+      one_more : (n : ℕ) → 1 + n ≡ suc n
+      one_more n = omega arith
+
+  rows_serve : (x : Upper P.State) (rows : List Row) (run : IsRun c s compose (machine_of P) x rows) (old past : History) (u : What) (es : Cache) → Kept c s P old u x past → IsDone c s compose (machine_of P) x → AllAskedInOctets (map (λ row. row.event) rows) → RunCached c s compose (machine_of P) eq cap x rows run es → HitFits 0 es past → AllServeStale c s cap past rows
+  rows_serve _ _ (Ends x) earlier past u es kept done octets cached f = tt
+  rows_serve _ _ (Goes_on x row x' rows step more) earlier past u es kept done octets cached f =
+      let r = row_hits earlier past u x row x' es (cached.0) kept done octets.0 step cached.1 f in
+      (row_serves earlier past u x row x' rows es (cached.0) kept done octets step cached.1 f more cached.2 r.1.0 r.1.1, rows_serve x' rows more past (after row past) row.event.what (cached.0) r.1.0 r.1.1 octets.1 cached.2 r.1.2)
+
+  -- Stale: in every run with its cache, a request for which a kept message had expired does not fail while that may serve.
+  pub run_serves_stale : (rows : List Row) (run : IsRun c s compose (machine_of P) (begun c s compose (machine_of P)) rows) → AllAskedInOctets (map (λ row. row.event) rows) → RunCached c s compose (machine_of P) eq cap (begun c s compose (machine_of P)) rows run [] → AllServeStale c s cap [] rows
+  run_serves_stale rows run octets cached = rows_serve (begun c s compose (machine_of P)) rows run [] [] Tick [] (begun_kept c s compose P) (begun_done c s compose P) octets cached (λ q j t m moment n but ask ever. absurd ever)
 
 -- In every run whose cache is exact, over any servers' parts, an asking that the cache must answer is answered in its own row.
 abbrev pub EveryCachedRunOverPartsHits : Type 1
@@ -530,3 +863,11 @@ EveryCachedRunOverPartsHits = (c : Conf) (s : Settings) (compose : Request → R
 
 pub cached_run_hits : EveryCachedRunOverPartsHits
 cached_run_hits c s compose P eq cap rows composes same octets run cached = run_hits c s compose composes P eq cap same.itself same.back same.on same.equal rows run octets cached
+
+-- and a request for which a message that is kept had expired does not fail while that message may serve.
+abbrev pub EveryCachedRunOverPartsServesStale : Type 1
+EveryCachedRunOverPartsServesStale = (c : Conf) (s : Settings) (compose : Request → Result Octets Error) (P : Part c) (eq : Key → Key → Bool) (cap : ℕ) (rows : List Row)
+    → Composes compose → TellsKeys eq → AllAskedInOctets (map (λ row. row.event) rows) → (run : IsRun c s compose (machine_of P) (begun c s compose (machine_of P)) rows) → RunCached c s compose (machine_of P) eq cap (begun c s compose (machine_of P)) rows run [] → AllServeStale c s cap [] rows
+
+pub cached_run_serves_stale : EveryCachedRunOverPartsServesStale
+cached_run_serves_stale c s compose P eq cap rows composes same octets run cached = run_serves_stale c s compose composes P eq cap same.itself same.back same.on same.equal rows run octets cached

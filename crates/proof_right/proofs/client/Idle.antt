@@ -64,6 +64,7 @@ idle_part c = record {
   begins_expecting = λ s p k id r v m old past w e u f rests x. absurd (clash (is_at v s p past) (there v s p past x.comes.is_open.stands.at) (f.now p v));
   one_id = λ s p k i j q r m n past w u h f x y. absurd (clash (is_at Stream s p past) (there Stream s p past x.is_open.stands.at) (f.before p Stream));
   replies = λ s k x past w u h f. record { before = f.before; now = f.now; unstarted = f.unstarted };
+  marks = λ s k past w u h f. record { before = f.before; now = f.now; unstarted = f.unstarted };
   acts_keeps = λ s place past w u h d lt f p act. absurd act;
   acts_right = λ s place past w u h d lt f p act un end later. absurd act;
   acts_gives = λ s place past w u h d lt f p act. absurd act;

@@ -11,20 +11,22 @@ use Rattle.client_request.specs.declared.event.Via.TheVariants.{Dgram}
 use Rattle.right_trace.specs.Trace.{History, Conf}
 use Rattle.right_trace.specs.Time.{now, newest, one_if, row_before, Ever, EarlierRow, OfRow}
 use Rattle.right_trace.specs.Messages.{Octets}
-use Rattle.right_trace.specs.Requests.{asks, Asking, asking, is_ask, is_asked_here, replied, waits, started, handed}
+use Rattle.right_trace.specs.Requests.{asks, Asking, asking, is_ask, is_asked_here, is_marked, replied, waits, started, handed}
 use Rattle.right_trace.specs.Places.{is_at, reach}
 use Rattle.right_trace.specs.Exchanges.{Matches}
 use Rattle.right_trace.specs.Settings.{Settings}
-use Rattle.right_trace.specs.Keys.{KeysCover, key_of, is_cacheable}
+use Rattle.right_trace.specs.Keys.{KeysCover, KeyCovers, key_of, is_cacheable}
 use Rattle.right_trace.specs.Validity.{validity_of_message, is_deferred, waits_for_others}
 use Rattle.right_trace.specs.Owed.{IsOwed}
 use Rattle.right_trace.specs.Coming.{IsExcused, SomeCame, CameFirst}
-use Rattle.right_trace.specs.Replies.{IsFresh, IsFreshReply}
-use Rattle.right_trace.specs.Errors.{HereOrEarlier, DirectCause, IsErrorReply, is_deadline, is_of_server}
-use Rattle.right_trace.specs.Right.{ReplyRight}
+use Rattle.right_trace.specs.Replies.{IsFresh, IsFreshReply, Supplies}
+use Rattle.right_trace.specs.Errors.{HereOrEarlier, DirectCause, OwnCause, IsErrorReply, is_deadline, is_of_server, is_failure}
+use Rattle.right_trace.specs.Right.{ReplyRight, HasServer}
+use Rattle.right_trace.specs.Views.{stale_of, IsValidStale}
+use Rattle.dns_base.specs.Data.{Data}
 use Rattle.proof_right.proofs.PartLaws.{PostRight, Part}
 use Rattle.proof_right.specs.machine.Client.{Posted, Given, Waiting, Leaving, Entry, Upper, first_message}
-use Rattle.right_trace.specs.Parts.{IsIn}
+use Rattle.right_trace.specs.Parts.{IsIn, Parts, Says}
 
 -- a reply with this result is given only when every server is done with the request
 abbrev pub needs_all : Settings → Result Octets Error → Bool
@@ -71,6 +73,30 @@ pub record EntryFits (c : Conf) (s : Settings) (e : Entry) (n : ℕ) (h : Histor
   pub asked : (t : ℕ) × (asking e.number h ≡ Some (record { request = e.first; moment = t }))
   pub moment : e.moment ≤ now h
   pub was : WasReply c s e.number e.moment h e.result
+
+-- what had expired when request k was asked may serve it
+pub record OldFits (c : Conf) (s : Settings) (k : ℕ) (e : Entry) (n : ℕ) (h : History) : Type 0 where
+  pub fits : EntryFits c s e k h
+  pub below : k < n
+  pub covers : (r : Request) (t : ℕ) → asking k h ≡ Some (record { request = r; moment = t }) → KeyCovers e.under r
+  pub server : HasServer c
+
+-- what is put in the place of a result that fails is what an expired message says
+pub record StaleFits (c : Conf) (s : Settings) (expired : ℕ → Option Entry) (y : Leaving) (m : Octets) (h : History) : Type 0 where
+  pub unstored : y.is_stored ≡ false
+  pub error : Error
+  pub is : y.result ≡ Err error
+  pub fails : is_failure error ≡ true
+  pub old : is_some (expired y.request) ≡ true
+  pub server : HasServer c
+  pub first : Request
+  pub request : Request
+  pub message : Octets
+  pub age : ℕ
+  pub supplied : Supplies c s y.request first request message age h
+  pub parts : Parts Data
+  pub valid : IsValidStale s first request message parts age
+  pub says : Says m (stale_of first request parts)
 
 -- an asking that was not answered or taken on yet
 pub record Pending (k n : ℕ) (r : Request) (h : History) : Type 0 where
@@ -153,5 +179,9 @@ module _ (c : Conf) (s : Settings) (P : Part c) where
     pub differ : AllDiffer x.leaving
     pub waited : (k : ℕ) → waits k h ≡ true → (is_some (x.held k) ≡ true) ⊎ (Leaves k x.leaving ⊎ ((is_ask x.pending ≡ true) × (k ≡ x.asked)))
     pub entries : (e : Entry) → IsIn e x.stored → EntryFits c s e x.asked h
+    pub olds : (k : ℕ) (e : Entry) → x.expired k ≡ Some e → OldFits c s k e x.asked h
+    pub own : (y : Leaving) → IsIn y x.leaving → is_some (x.expired y.request) ≡ true → (e : Error) → y.result ≡ Err e → is_failure e ≡ true → OwnCause c s e y.request past w h
+    pub revived : (y : Leaving) (m : Octets) → IsIn y x.leaving → y.stale ≡ Some m → StaleFits c s x.expired y m h
+    pub unmarked : (k : ℕ) → is_marked k h ≡ false
     pub parts : (i : ℕ) → i < length c.servers → P.Fits i past w (x.ups i) h
     pub beyond : (i : ℕ) → length c.servers ≤ i → Nothing i h

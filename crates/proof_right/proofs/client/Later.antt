@@ -7,7 +7,7 @@ use Rattle.client_request.specs.Request.{Request}
 use Rattle.client_request.specs.declared.error.Error.{Error}
 use Rattle.client_request.specs.declared.event.What.{What}
 use Rattle.client_request.specs.declared.event.Out.{Out}
-use Rattle.client_request.specs.declared.event.Out.TheVariants.{Start, OpenDgram, OpenStream, Send, Write, Resume, Close, Reply}
+use Rattle.client_request.specs.declared.event.Out.TheVariants.{Start, OpenDgram, OpenStream, Send, Write, Resume, Close, Stale, Reply}
 use Rattle.client_request.specs.declared.event.Via.{Via}
 use Rattle.client_request.specs.declared.event.Via.TheVariants.{Dgram, Stream}
 use Rattle.right_trace.specs.Trace.{History, Conf, Put, put_all}
@@ -24,10 +24,11 @@ use Rattle.right_trace.specs.Owed.{AllAreDone}
 use Rattle.proof_right.proofs.server.Coming.{kind_on}
 use Rattle.right_trace.specs.Coming.{CameFor, IsExcused, SomeCame, CameFirst, FirstHere, FirstEarlier, NoneCame}
 use Rattle.right_trace.specs.Replies.{IsFresh, InThisRow, Deferred, IsFreshReply, CoversLater, Supplies, IsView, Fresh, View}
-use Rattle.right_trace.specs.Errors.{HereOrEarlier, Here, Earlier, CameWithoutValidity, CantBeViewed, DirectCause, Deadline, NoServer, ByServer, NoValidity, ViewNotKnown, IsErrorReply, IsKeptError, Own, Kept}
+use Rattle.right_trace.specs.Errors.{OwnCause, HereOrEarlier, Here, Earlier, CameWithoutValidity, DirectCause, Deadline, NoServer, ByServer, NoValidity, IsErrorReply, IsKeptError, Own, Kept}
 use Rattle.right_trace.specs.Right.{ReplyRight, ServerOutRight, ServerOutsRight}
 use Rattle.proof_right.proofs.PartLaws.{PostRight, Later}
-use Rattle.proof_right.proofs.client.Kept.{needs_all}
+use Rattle.proof_right.proofs.client.Kept.{needs_all, WasReply, EntryFits, OldFits, StaleFits}
+use Rattle.proof_right.specs.machine.Client.{Leaving, Entry}
 
 -- plain folds that an out does not touch
 
@@ -91,6 +92,7 @@ site_put p (OpenStream q i) x h e = rw e (go (q == p))
 site_put p (Send q k i o) x h e = e
 site_put p (Write q k i o) x h e = e
 site_put p (Resume q o) x h e = e
+site_put p (Stale l) x h e = e
 site_put p (Close q) x h e = e
 site_put p (Reply k r) x h e = e
 
@@ -116,6 +118,7 @@ gone_put p (OpenStream q i) h e = rw e (if_gone (q == p))
 gone_put p (Send q k i o) h e = e
 gone_put p (Write q k i o) h e = e
 gone_put p (Resume q o) h e = e
+gone_put p (Stale l) h e = e
 gone_put p (Close q) h e = rw e (if_gone (q == p))
 gone_put p (Reply k r) h e = e
 
@@ -141,8 +144,12 @@ six_stay c past w h end (Send p j id o) x k i e = go (is_send_to k i (Send p j i
     go false q = rw q (e, refl)
 six_stay c past w h end (Write p j id o) x k i e = (e, refl)
 six_stay c past w h end (Resume p o) x k i e = (e, refl)
+six_stay c past w h end (Stale l) x k i e = (e, refl)
 six_stay c past w h end (Close p) x k i e = (e, refl)
 six_stay c past w h end (Reply j r) x k i e = absurd x
+
+pub six_mark : (j : ℕ) (h : History) → SixStay h (Stale j)
+six_mark j h k i e = (e, refl)
 
 pub six_reply : (j : ℕ) (x : Result Octets Error) (h : History) → SixStay h (Reply j x)
 six_reply j x h k i e = (e, refl)
@@ -161,6 +168,7 @@ written_more k n (OpenDgram a b) true x ws i = i
 written_more k n (OpenStream a b) true x ws i = i
 written_more k n (Send a b d y) true x ws i = i
 written_more k n (Resume a y) true x ws i = i
+written_more k n (Stale l) true x ws i = i
 written_more k n (Close a) true x ws i = i
 written_more k n (Reply a y) true x ws i = i
 
@@ -193,6 +201,14 @@ waited_reply Stream r s p k id l u x past h i = i
 
 pub matches_reply : (c : Conf) (r : Request) (v : Via) (s p k id : ℕ) (m : Octets) (past : History) (w : What) (l : ℕ) (u : Result Octets Error) (h : History) → Matches c r v s p k id m past w (Put (Reply l u) ∷ h) → Matches c r v s p k id m past w h
 matches_reply c r v s p k id m past w l u h x = (let o = x.comes.is_open in record { comes = record { is_open = record { stands = o.stands; octets = o.octets; sent = waited_reply v r s p k id l u o.octets past h o.sent; carries = o.carries }; first = x.comes.first }; agrees = x.agrees; whole = x.whole })
+
+-- nor does a mark
+waited_mark : (v : Via) (r : Request) (s p k id l : ℕ) (x : Octets) (past h : History) → IsAmong x (waited_for v r s p k id (now h) [] past (Put (Stale l) ∷ h)) → IsAmong x (waited_for v r s p k id (now h) [] past h)
+waited_mark Dgram r s p k id l x past h i = i
+waited_mark Stream r s p k id l x past h i = i
+
+pub matches_mark : (c : Conf) (r : Request) (v : Via) (s p k id : ℕ) (m : Octets) (past : History) (w : What) (l : ℕ) (h : History) → Matches c r v s p k id m past w (Put (Stale l) ∷ h) → Matches c r v s p k id m past w h
+matches_mark c r v s p k id m past w l h x = (let o = x.comes.is_open in record { comes = record { is_open = record { stands = o.stands; octets = o.octets; sent = waited_mark v r s p k id l o.octets past h o.sent; carries = o.carries }; first = x.comes.first }; agrees = x.agrees; whole = x.whole })
 
 -- causes
 
@@ -294,7 +310,7 @@ module _ (c : Conf) (past : History) (w : What) (h h' : History) (on : Carried c
   covers_on : (k j : ℕ) (q r : Request) → CoversLater k j q r h → CoversLater k j q r h'
   covers_on k j q r x = record { asked = (x.asked.0, asked_on k (x.asked.0) r x.asked.1); below = x.below; first_asked = (x.first_asked.0, asked_on j (x.first_asked.0) q x.first_asked.1); covering = x.covering }
 
-  supplies_on : (s : Settings) (k : ℕ) (q r : Request) (m : Octets) (age : ℕ) → Supplies c s k q r m age h → Supplies c s k q r m age h'
+  pub supplies_on : (s : Settings) (k : ℕ) (q r : Request) (m : Octets) (age : ℕ) → Supplies c s k q r m age h → Supplies c s k q r m age h'
   supplies_on s k q r m age x = record { number = x.number; earlier = covers_on k x.number q r x.earlier; moment = x.moment; got = on.ever (IsFreshReply c s x.number m x.moment) x.got; is_age = x.is_age ∙ sym on.clock }
 
   view_on : (s : Settings) (k : ℕ) (m : Octets) → IsView c s k m h → IsView c s k m h'
@@ -307,15 +323,11 @@ module _ (c : Conf) (past : History) (w : What) (h h' : History) (on : Carried c
   without_on : (s : Settings) (k : ℕ) (m : Octets) → CameWithoutValidity c s k m past w h → CameWithoutValidity c s k m past w h'
   without_on s k m x = record { request = x.request; via = x.via; server = x.server; place = x.place; id = x.id; cacheable = x.cacheable; matches = matches_on x.request x.via x.server x.place k x.id m x.matches; none = x.none }
 
-  cant_on : (s : Settings) (k : ℕ) → CantBeViewed c s k h → CantBeViewed c s k h'
-  cant_on s k x = record { asked_here = on.here k ∙ x.asked_here; first = x.first; request = x.request; message = x.message; age = x.age; supplied = supplies_on s k x.first x.request x.message x.age x.supplied; unknown = x.unknown; parts = x.parts; is_parts = x.is_parts; kept = x.kept; must = x.must }
-
   pub direct_on : (s : Settings) (k : ℕ) (e : Error) → DirectCause c s k past w h e → DirectCause c s k past w h' e
   direct_on s k _ (Deadline x) = Deadline (record { asking_of = x.asking_of; asked = on.asked k ∙ x.asked; passed = subst (λ n. x.asking_of.moment + c.timeout ≤ n) (sym on.clock) x.passed })
   direct_on s k _ (NoServer n x) = NoServer n (on.here k ∙ x)
   direct_on s k _ (ByServer e x) = ByServer e (here_on s.defers_errors (λ past w h. ServerCause c k past w h e) (on.cause k e) x)
   direct_on s k _ (NoValidity m x) = NoValidity m (here_on (is_deferred s m) (CameWithoutValidity c s k m) (without_on s k m) x)
-  direct_on s k _ (ViewNotKnown x) = ViewNotKnown (cant_on s k x)
 
   kept_on : (s : Settings) (e : Error) (k : ℕ) → IsKeptError c s e k h → IsKeptError c s e k h'
   kept_on s e k x = record { asked_here = on.here k ∙ x.asked_here; is_kept_at_all = x.is_kept_at_all; number = x.number; first = x.first; request = x.request; earlier = covers_on k x.number x.first x.request x.earlier; moment = x.moment; got = on.ever (IsErrorReply c s x.number e x.moment) x.got; recent = subst (λ n. n ≤ x.moment + s.transport_failure_duration) (sym on.clock) x.recent }
@@ -342,6 +354,24 @@ module _ (c : Conf) (past : History) (w : What) (h h' : History) (on : Carried c
   reply_on s k (Ok m) g f (View x) = View (view_on s k m x)
   reply_on s k (Err e) g f (Own x d) = Own (direct_on s k e x) (λ a b. (f (rw a b) (d a b).0, g (rw a b) (d a b).1))
   reply_on s k (Err e) g f (Kept x) = Kept (kept_on s e k x)
+
+  -- so does a cause of its own
+  pub own_on : (s : Settings) (k : ℕ) (e : Error) → (needs_all s (Err e) ≡ true → NoneCame c k past w h → NoneCame c k past w h') → (needs_all s (Err e) ≡ true → AllAreDone c k past w h → AllAreDone c k past w h') → OwnCause c s e k past w h → OwnCause c s e k past w h'
+  own_on s k e g f o = record { direct = direct_on s k e o.direct; last = λ a b. (f (rw a b) (o.last a b).0, g (rw a b) (o.last a b).1) }
+
+  -- and what is put in its place
+  pub revived_on : (s : Settings) (expired : ℕ → Option Entry) (y : Leaving) (m : Octets) → StaleFits c s expired y m h → StaleFits c s expired y m h'
+  revived_on s expired y m f = record { unstored = f.unstored; error = f.error; is = f.is; fails = f.fails; old = f.old; server = f.server; first = f.first; request = f.request; message = f.message; age = f.age; supplied = supplies_on s y.request f.first f.request f.message f.age f.supplied; parts = f.parts; valid = f.valid; says = f.says }
+
+  was_on : (s : Settings) (k n : ℕ) (y : Result Octets Error) → WasReply c s k n h y → WasReply c s k n h' y
+  was_on s k n (Ok m) q = (on.ever (IsFreshReply c s k m n) q.0, q.1)
+  was_on s k n (Err e) q = (on.ever (IsErrorReply c s k e n) q.0, q.1)
+
+  pub entry_on : (s : Settings) (e : Entry) (n : ℕ) → EntryFits c s e n h → EntryFits c s e n h'
+  entry_on s e n f = record { cacheable = f.cacheable; covers = f.covers; below = f.below; asked = (f.asked.0, asked_on e.number (f.asked.0) e.first f.asked.1); moment = subst (λ n. e.moment ≤ n) (sym on.clock) f.moment; was = was_on s e.number e.moment e.result f.was }
+
+  pub old_on : (s : Settings) (k : ℕ) (e : Entry) (n : ℕ) → OldFits c s k e n h → OldFits c s k e n h'
+  old_on s k e n f = record { fits = entry_on s e k f.fits; below = f.below; covers = λ r t a. f.covers r t (sym (on.asked k) ∙ a); server = f.server }
 
 pub cites : ⊥ → ⊥
 cites x = x

@@ -68,6 +68,14 @@ differ_but x (y ∷ xs) ys d =
 
 -- the first message of a longer list
 
+-- one that is put in the place of another of the same request
+pub leaves_swap : (k : ℕ) (y z : Leaving) → y.request ≡ z.request → (xs ys : List Leaving) → Leaves k (xs ++ y ∷ ys) → Leaves k (xs ++ z ∷ ys)
+leaves_swap k y z same xs ys l = elim (in_but (l.0) y xs ys l.1) [ inl is ↦ (z, in_here z xs ys, sym same ∙ (ap (λ (x : Leaving). x.request) is ∙ l.2)) | inr n ↦ (l.0, in_more (l.0) z xs ys n, l.2) ]
+
+pub differ_swap : (y z : Leaving) → y.request ≡ z.request → (xs ys : List Leaving) → AllDiffer (xs ++ y ∷ ys) → AllDiffer (xs ++ z ∷ ys)
+differ_swap y z same [] ys d = (λ l. d.0 (l.0, l.1, l.2 ∙ sym same), d.1)
+differ_swap y z same (x ∷ xs) ys d = (λ l. d.0 (leaves_swap x.request z y (sym same) xs ys l), differ_swap y z same xs ys d.1)
+
 pub first_none : (xs ys : List Given) → first_message (xs ++ ys) ≡ None → first_message xs ≡ None
 first_none [] ys e = refl
 first_none (x ∷ xs) ys e = go x.result e (first_none xs ys)

@@ -5,16 +5,16 @@ use Rattle.std.proofs.lemmas.Bool.{or_right}
 use Rattle.std.proofs.lemmas.Bool.Decides.{nat_tests}
 use Rattle.client_request.specs.declared.event.What.{What}
 use Rattle.client_request.specs.declared.event.Out.{Out}
-use Rattle.client_request.specs.declared.event.Out.TheVariants.{Start, OpenDgram, OpenStream, Send, Write, Resume, Close, Reply}
+use Rattle.client_request.specs.declared.event.Out.TheVariants.{Start, OpenDgram, OpenStream, Send, Write, Resume, Close, Stale, Reply}
 use Rattle.client_request.specs.declared.event.Via.{Via}
 use Rattle.client_request.specs.declared.event.Via.TheVariants.{Dgram, Stream}
 use Rattle.right_trace.specs.Trace.{History, Conf, Use, ByDatagrams, ByStreams, Put, put_all}
 use Rattle.right_trace.specs.Time.{now}
-use Rattle.right_trace.specs.Requests.{replied, is_reply, start, started, is_start, same_via, handed}
+use Rattle.right_trace.specs.Requests.{replied, is_reply, is_mark, is_marked, start, started, is_start, same_via, handed}
 use Rattle.right_trace.specs.Places.{Site, site, is_site, opens_as}
 use Rattle.right_trace.specs.Orderly.{use_at, MayStart, FirstDatagram, FirstStream, AfterCutAnswer}
 use Rattle.right_trace.specs.Settings.{Settings}
-use Rattle.right_trace.specs.Right.{OutRight, ServerOutRight, ServerOutsRight, OutsRight}
+use Rattle.right_trace.specs.Right.{OutRight, ServerOutRight, ServerOutsRight, OutsRight, MarksStand}
 use Rattle.proof_right.specs.machine.Part.{Post, Act, IsPosted}
 use Rattle.proof_right.proofs.PartLaws.{Later, Part, none_more, this_one, or_this}
 use Rattle.proof_right.specs.machine.Client.{Waiting, Upper, with_held, moved, hand, handing}
@@ -71,12 +71,42 @@ beyond_one c past w h end (OpenStream q i) t le r n = record { no_place = λ p. 
 beyond_one c past w h end (Send p k id o) t le r n = record { no_place = n.no_place; no_start = n.no_start }
 beyond_one c past w h end (Write p k id o) t le r n = record { no_place = n.no_place; no_start = n.no_start }
 beyond_one c past w h end (Resume p o) t le r n = record { no_place = n.no_place; no_start = n.no_start }
+beyond_one c past w h end (Stale l) t le r n = record { no_place = n.no_place; no_start = n.no_start }
 beyond_one c past w h end (Close p) t le r n = record { no_place = n.no_place; no_start = n.no_start }
 beyond_one c past w h end (Reply k x) t le r n = absurd r
 
 pub beyond_all : (c : Conf) (past : History) (w : What) (end : History) (xs : List Out) (h : History) (t : ℕ) → length c.servers ≤ t → ServerOutsRight c past w end h xs → Nothing t h → Nothing t (put_all xs h)
 beyond_all c past w end [] h t le r n = n
 beyond_all c past w end (x ∷ xs) h t le r n = beyond_all c past w end xs (Put x ∷ h) t le r.1 (beyond_one c past w h end x t le r.0 n)
+
+-- no mark stands last behind them
+mark_one : (c : Conf) (past : History) (w : What) (h end : History) (o : Out) → ServerOutRight c past w h end o → (k : ℕ) → is_mark k o ≡ false
+mark_one c past w h end (Start i j v) r k = refl
+mark_one c past w h end (OpenDgram q i) r k = refl
+mark_one c past w h end (OpenStream q i) r k = refl
+mark_one c past w h end (Send p i id o) r k = refl
+mark_one c past w h end (Write p i id o) r k = refl
+mark_one c past w h end (Resume p o) r k = refl
+mark_one c past w h end (Close p) r k = refl
+mark_one c past w h end (Stale i) r k = absurd r
+mark_one c past w h end (Reply i x) r k = absurd r
+
+pub mark_all : (c : Conf) (past : History) (w : What) (end : History) (xs : List Out) (h : History) → ServerOutsRight c past w end h xs → ((k : ℕ) → is_marked k h ≡ false) → (k : ℕ) → is_marked k (put_all xs h) ≡ false
+mark_all c past w end [] h r none = none
+mark_all c past w end (x ∷ xs) h r none = mark_all c past w end xs (Put x ∷ h) r.1 (mark_one c past w h end x r.0)
+
+-- and none stands among them
+pub marks_stand : (c : Conf) (past : History) (w : What) (end : History) (xs : List Out) (h : History) → ServerOutsRight c past w end h xs → MarksStand xs
+marks_stand c past w end [] h r = tt
+marks_stand c past w end (Start i j v ∷ xs) h r = marks_stand c past w end xs (Put (Start i j v) ∷ h) r.1
+marks_stand c past w end (OpenDgram q i ∷ xs) h r = marks_stand c past w end xs (Put (OpenDgram q i) ∷ h) r.1
+marks_stand c past w end (OpenStream q i ∷ xs) h r = marks_stand c past w end xs (Put (OpenStream q i) ∷ h) r.1
+marks_stand c past w end (Send p i id o ∷ xs) h r = marks_stand c past w end xs (Put (Send p i id o) ∷ h) r.1
+marks_stand c past w end (Write p i id o ∷ xs) h r = marks_stand c past w end xs (Put (Write p i id o) ∷ h) r.1
+marks_stand c past w end (Resume p o ∷ xs) h r = marks_stand c past w end xs (Put (Resume p o) ∷ h) r.1
+marks_stand c past w end (Close p ∷ xs) h r = marks_stand c past w end xs (Put (Close p) ∷ h) r.1
+marks_stand c past w end (Stale i ∷ xs) h r = absurd r.0
+marks_stand c past w end (Reply i x ∷ xs) h r = absurd r.0
 
 -- what a server's outs owe is what outs owe
 out_right : (c : Conf) (s : Settings) (past : History) (w : What) (h end : History) (o : Out) → ServerOutRight c past w h end o → OutRight c s past w h end o
@@ -86,6 +116,7 @@ out_right c s past w h end (OpenStream q i) r = r
 out_right c s past w h end (Send p k id o) r = r
 out_right c s past w h end (Write p k id o) r = r
 out_right c s past w h end (Resume p o) r = r
+out_right c s past w h end (Stale l) r = absurd r
 out_right c s past w h end (Close p) r = r
 out_right c s past w h end (Reply k x) r = absurd r
 
@@ -135,6 +166,7 @@ module _ (c : Conf) (s : Settings) (P : Part c) (past : History) (w : What) (x :
         over = g.over;
         stays_over = λ k t f no. g.stays_over k t (λ e. (f e).0) no;
         beyond = λ t le n. beyond_all c past w (put_all d.outs h) d.outs h t le r n;
+        unmarked = mark_all c past w (put_all d.outs h) d.outs h r;
         late = P.acts_late i x.place past w (x.ups i) h d lt (kept.parts i lt) kept.place act;
         goes = λ p k m is. P.acts_goes i x.place past w (x.ups i) h d p k m lt (kept.parts i lt) kept.place act;
       }
@@ -185,6 +217,7 @@ module _ (c : Conf) (s : Settings) (P : Part c) (past : History) (w : What) (x :
           over = g.over;
           stays_over = λ j t q no. g.stays_over j t (λ e. (let z = q e in or_this_not k j i (P.holds (x.ups i)) z.0 z.1)) no;
           beyond = λ t le n. beyond_all c past w (put_all d.outs h) d.outs h t le r n;
+          unmarked = mark_all c past w (put_all d.outs h) d.outs h r;
           late = P.starts_late i x.place k a.moment a.request past w (x.ups i) h d lt (kept.parts i lt) kept.place f.octets f.asked unhanded st;
           goes = λ p j m is. P.starts_goes i x.place k a.moment a.request past w (x.ups i) h d p j m lt (kept.parts i lt) kept.place f.octets f.asked unhanded st;
         }
@@ -231,6 +264,7 @@ module _ (c : Conf) (s : Settings) (P : Part c) (past : History) (w : What) (x :
           over = λ y p q. no_post y p;
           stays_over = λ j t f no. P.cancels_over i x.place k past w (x.ups i) h d lt (kept.parts i lt) kept.place holds can j t (λ e. (f e).0) no;
           beyond = λ t le n. beyond_all c past w end d.outs h t le r n;
+          unmarked = mark_all c past w end d.outs h r;
           late = P.cancels_late i x.place k past w (x.ups i) h d lt (kept.parts i lt) kept.place holds can;
           goes = λ p j m is. P.cancels_goes i x.place k past w (x.ups i) h d p j m lt (kept.parts i lt) kept.place holds can (λ same. clash (is_some (x.held j)) is (ap is_some (subst (λ j. x.held j ≡ None) (sym same) held)));
         }

@@ -18,9 +18,9 @@ use Rattle.right_trace.specs.Owed.{IsOwed, AllAreDone}
 use Rattle.right_trace.specs.Coming.{IsExcused, CameFor, CameFirst, NoneCame}
 use Rattle.right_trace.specs.Replies.{IsFresh, InThisRow, Deferred, Supplies, Fresh, View}
 use Rattle.right_trace.specs.Causes.{ServerCause, NotOpened, NotSent, SentShort, NotReceived, NoAnswer, WrongReply, StreamSilence, NotRead, NotComposed}
-use Rattle.right_trace.specs.Errors.{HereOrEarlier, Here, Earlier, CameWithoutValidity, InTime, Derived, DirectCause, NoServer, ByServer, NoValidity, ViewNotKnown, is_deadline, is_of_server, HasCause, Own, Kept as KeptError}
+use Rattle.right_trace.specs.Errors.{HereOrEarlier, Here, Earlier, CameWithoutValidity, DirectCause, NoServer, ByServer, NoValidity, is_deadline, is_of_server, is_failure, OwnCause, HasCause, Own, Kept as KeptError}
 use Rattle.right_trace.specs.Right.{ReplyRight}
-use Rattle.proof_right.specs.machine.Client.{Given, Waiting, Leaving, Entry, Upper, best, first_message, first_result, or_else, outcome, outcome_of, IsOutcome, Caches, Passes, AtOnce, Refused, Viewed, Unread, Repeated, Nowhere, NoneOf}
+use Rattle.proof_right.specs.machine.Client.{Given, Waiting, Leaving, Entry, Upper, best, first_message, first_result, or_else, validity_of, outcome, outcome_of, IsOutcome, Caches, Passes, AtOnce, Refused, Viewed, Repeated, Nowhere, NoneOf}
 use Rattle.right_trace.specs.Parts.{IsIn}
 use Rattle.proof_right.proofs.client.Kept.{needs_all, MayStore, WasReply, IsTold, IsExpected, IsPosted, IsKeptBack, IsPassedOver, Kept}
 use Rattle.proof_right.proofs.client.Lists.{best_message, best_error, no_message}
@@ -129,11 +129,11 @@ module _ (c : Conf) (s : Settings) (past : History) (w : What) (h : History) (k 
   concluded (Err e) on (Earlier q x) d all b = error_outcome e (ByServer e (Earlier d (ever_cause c k e h x))) (ever_not_deadline c k e h (ever_cause c k e h x)) (λ a q. (all, b)) (is_cacheable r) refl
 
   -- a message that has no validity, where no cache looks at it
-  passed : (m : Octets) → IsFresh c s k m past w h → (is_deferred s m ≡ true → AllAreDone c k past w h × CameFirst c k m past w h) → validity_of_message s m ≡ None → OutcomeFits c s past w h k r (record { request = k; asked = r; result = Ok m; is_stored = false })
+  passed : (m : Octets) → IsFresh c s k m past w h → (is_deferred s m ≡ true → AllAreDone c k past w h × CameFirst c k m past w h) → validity_of_message s m ≡ None → OutcomeFits c s past w h k r (record { request = k; asked = r; result = Ok m; is_stored = false; stale = None })
   passed m fresh done none = record { request = refl; asked = refl; right = Fresh fresh done; stores = λ e. absurd (cc); unstored = λ e q same ca n p l. absurd (let z : m ≡ q = cc in let v : Path (Option ℕ) None (Some n) = sym none ∙ (ap (validity_of_message s) z ∙ p) in cc) }
 
-  as_it_is : (y : Result Octets Error) (m : Octets) → y ≡ Ok m → OutcomeFits c s past w h k r (record { request = k; asked = r; result = Ok m; is_stored = false }) → OutcomeFits c s past w h k r (record { request = k; asked = r; result = y; is_stored = false })
-  as_it_is y m e o = subst (λ y. OutcomeFits c s past w h k r (record { request = k; asked = r; result = y; is_stored = false })) (sym e) o
+  as_it_is : (y : Result Octets Error) (m : Octets) → y ≡ Ok m → OutcomeFits c s past w h k r (record { request = k; asked = r; result = Ok m; is_stored = false; stale = None }) → OutcomeFits c s past w h k r (record { request = k; asked = r; result = y; is_stored = false; stale = None })
+  as_it_is y m e o = subst (λ y. OutcomeFits c s past w h k r (record { request = k; asked = r; result = y; is_stored = false; stale = None })) (sym e) o
 
   pub delivered_so : (y : Result Octets Error) (z : Leaving) → IsOutcome s k r y z → ((a : Asking) → asking k past ≡ Some a → asking k h ≡ Some a) → PostRight c k y past w h → waits_for_others s y ≡ false → OutcomeFits c s past w h k r z
   delivered_so y _ Caches on x final = delivered y on x final
@@ -153,6 +153,57 @@ module _ (c : Conf) (s : Settings) (past : History) (w : What) (h : History) (k 
       fresh : HereOrEarlier true (PostRight c k (Ok m)) past w h → waits_for_others s (Ok m) ≡ true → IsFresh c s k m past w h
       fresh (Here x) d = InThisRow x
       fresh (Earlier q x) d = Deferred d x
+
+-- nothing is put in the place of an outcome
+pub outcome_plain : (s : Settings) (k : ℕ) (r : Request) (y : Result Octets Error) (z : Leaving) → IsOutcome s k r y z → z.stale ≡ None
+outcome_plain s k r y _ Caches = go (is_cacheable r) (validity_of s y)
+  where
+    go : (b : Bool) (v : Option ℕ) → (outcome_of b v k r y).stale ≡ None
+    go false v = refl
+    go true (Some n) = refl
+    go true None = refl
+outcome_plain s k r y _ (Passes m is none) = refl
+
+-- nor of an answer at once
+pub at_once_plain : (c : Conf) (s : Settings) (compose : Request → Result Octets Error) (n k : ℕ) (es : List Entry) (r : Request) (y : Leaving) → AtOnce c s compose n k es r y → y.stale ≡ None
+at_once_plain c s compose n k es r _ (Refused e q) = refl
+at_once_plain c s compose n k es r _ (Viewed e m y parts age composed j q cover is valid says) = refl
+at_once_plain c s compose n k es r _ (Repeated e v composed j q cover le) = refl
+at_once_plain c s compose n k es r _ (Nowhere composed none) = outcome_plain s k r (Err errors.NoTransportAvailable) (outcome s k r (Err errors.NoTransportAvailable)) Caches
+
+-- an outcome that fails is an error that was given
+fails_so : (s : Settings) (k : ℕ) (r : Request) (y : Result Octets Error) (z : Leaving) → IsOutcome s k r y z → (e : Error) → z.result ≡ Err e → is_failure e ≡ true → y ≡ Err e
+fails_so s k r (Ok m) _ Caches e q fails = absurd (go (is_cacheable r) (validity_of_message s m) q)
+  where
+    go : (b : Bool) (v : Option ℕ) → (outcome_of b v k r (Ok m)).result ≡ Err e → ⊥
+    go false v q = (let z : Path (Result Octets Error) (Ok m) (Err e) = q in absurd (cc))
+    go true (Some n) q = (let z : Path (Result Octets Error) (Ok m) (Err e) = q in absurd (cc))
+    go true None q = (let z : Path (Result Octets Error) (Err errors.MessageParseError) (Err e) = q in let same : errors.MessageParseError ≡ e = cc in clash (is_failure e) fails (ap is_failure (sym same)))
+fails_so s k r (Err x) _ Caches e q fails = go (is_cacheable r) q
+  where
+    go : (b : Bool) → (outcome_of b (Some s.transport_failure_duration) k r (Err x)).result ≡ Err e → Path (Result Octets Error) (Err x) (Err e)
+    go false q = q
+    go true q = q
+fails_so s k r y _ (Passes m is none) e q fails = q
+
+-- and has a cause of its own
+pub delivered_own : (c : Conf) (s : Settings) (past : History) (w : What) (h : History) (k j : ℕ) (r : Request) (y : Result Octets Error) (z : Leaving) → IsOutcome s j r y z → PostRight c k y past w h → waits_for_others s y ≡ false → (e : Error) → z.result ≡ Err e → is_failure e ≡ true → OwnCause c s e k past w h
+delivered_own c s past w h k j r y z out x final e q fails =
+    let is = fails_so s j r y z out e q fails in
+    let x' : PostRight c k (Err e) past w h = subst (λ y. PostRight c k y past w h) is x in
+    let final' : waits_for_others s (Err e) ≡ false = subst (λ y. waits_for_others s y ≡ false) is final in
+    record { direct = ByServer e (Here x'.0); last = λ a d. absurd (clash s.defers_errors d final') }
+
+pub concluded_own : (c : Conf) (s : Settings) (past : History) (w : What) (h : History) (k t : ℕ) (r : Request) (asked : asking k h ≡ Some (record { request = r; moment = t })) (y : Result Octets Error) (z : Leaving) → IsOutcome s k r y z → HereOrEarlier true (PostRight c k y) past w h → waits_for_others s y ≡ true → AllAreDone c k past w h → IsBest c s past w h k t r asked y
+    → (e : Error) → z.result ≡ Err e → is_failure e ≡ true → OwnCause c s e k past w h
+concluded_own c s past w h k t r asked y z out x d all b e q fails = go (fails_so s k r y z out e q fails)
+  where
+    cause : HereOrEarlier true (PostRight c k (Err e)) past w h → waits_for_others s (Err e) ≡ true → DirectCause c s k past w h e
+    cause (Here x) d = ByServer e (Here x.0)
+    cause (Earlier u x) d = ByServer e (Earlier d (ever_cause c k e h x))
+
+    go : y ≡ Err e → OwnCause c s e k past w h
+    go is = record { direct = cause (subst (λ y. HereOrEarlier true (PostRight c k y) past w h) is x) (subst (λ y. waits_for_others s y ≡ true) is d); last = λ a f. (all, subst (IsBest c s past w h k t r asked) is b) }
 
 -- what an outcome needs all servers for is what was kept back
 pub outcome_needs : (s : Settings) (k : ℕ) (r : Request) (y : Result Octets Error) → needs_all s (outcome s k r y).result ≡ true → waits_for_others s y ≡ true
@@ -257,25 +308,6 @@ module _ (c : Conf) (s : Settings) (compose : Request → Result Octets Error) (
     right = View (record { asked_here = (kept.pending r pend).here; first = e.first; request = r; message = m; age = age; supplied = supplied r e m age pend j q cover is; parts = parts; valid = valid; says = says });
     stores = λ e. absurd (cc);
     unstored = λ z q t ca o p l. (kept.pending r pend).here;
-  }
-  at_once r _ pend (Unread e m parts age composed j q cover is unknown read must) = record {
-    request = refl;
-    asked = refl;
-    right = Own (ViewNotKnown (record {
-      asked_here = (kept.pending r pend).here;
-      first = e.first;
-      request = r;
-      message = m;
-      age = age;
-      supplied = supplied r e m age pend j q cover is;
-      unknown = unknown;
-      parts = parts;
-      is_parts = read;
-      kept = (let v = (message_was e m q ((kept.entries e j).was)).1 in ap is_above v.1 ∙ above (v.0) v.2);
-      must = elim must [ inl le ↦ InTime le | inr d ↦ Derived (do_back (key_of e.first).flags (e.under).flags ((kept.entries e j).covers.flags) d.0) d.1 ];
-    })) (λ a. absurd (cc));
-    stores = λ e. absurd (cc);
-    unstored = λ e q r ca o p l. absurd (cc);
   }
   at_once r _ pend (Repeated e v composed j q cover le) = record {
     request = refl;

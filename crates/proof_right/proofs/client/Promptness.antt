@@ -1,6 +1,6 @@
 -- A final message that comes for a request is its reply in the same row.
 use Rattle.proof_right.proofs.PartLaws.{machine_of, IsByOpening, PostRight, Late, Part, or_this}
-use Rattle.std.proofs.Common.{◌≡◌, ℕ, suc, ◌+◌, ◌<◌, ◌≤◌, ◌≢◌, Bool, true, false, ◌⊎◌, inl, inr, Option, Some, None, List, [], ◌∷◌, ◌++◌, length, is_some, refl, arith, sym, ◌∙◌, ap, subst, ◌==◌, ◌&&◌, ◌||◌, take}
+use Rattle.std.proofs.Common.{◌≡◌, ℕ, suc, ◌+◌, ◌<◌, ◌≤◌, ◌≢◌, Bool, true, false, ◌⊎◌, inl, inr, Option, Some, None, List, [], ◌∷◌, ◌++◌, length, is_some, refl, arith, sym, ◌∙◌, ap, ap₂, subst, ◌==◌, ◌&&◌, ◌||◌, take}
 use Rattle.std.specs.Prelude.{Result, Ok, Err, if◌then◌else◌, not, nat_le}
 use Rattle.std.proofs.lemmas.Bool.{cases_eq}
 use Rattle.std.proofs.lemmas.Bool.Decides.{nat_tests}
@@ -11,7 +11,7 @@ use Rattle.client_request.specs.declared.fault.Fault.{Fault}
 use Rattle.client_request.specs.declared.event.What.{What}
 use Rattle.client_request.specs.declared.event.What.TheVariants.{Ask, Opened, OpenFailed, SendFailed, ShortSend, Datagram, RecvFailed, Wrote, WriteFailed, Bytes, ReadFailed, Ended, Tick}
 use Rattle.client_request.specs.declared.event.Out.{Out}
-use Rattle.client_request.specs.declared.event.Out.TheVariants.{Start, OpenDgram, OpenStream, Send, Write, Resume, Close, Reply}
+use Rattle.client_request.specs.declared.event.Out.TheVariants.{Start, OpenDgram, OpenStream, Send, Write, Resume, Close, Stale, Reply}
 use Rattle.client_request.specs.declared.event.Via.{Via}
 use Rattle.client_request.specs.declared.event.Via.TheVariants.{Dgram, Stream}
 use Rattle.right_trace.specs.Trace.{History, Conf, Came, Put, put_all}
@@ -28,11 +28,11 @@ use Rattle.right_trace.specs.Keys.{is_cacheable}
 use Rattle.right_trace.specs.Validity.{validity_of_message, is_deferred, is_final, waits_for_others}
 use Rattle.right_trace.specs.Coming.{CameFor, IsExcused}
 use Rattle.proof_right.specs.machine.Part.{Act}
-use Rattle.proof_right.specs.machine.Client.{Posted, Given, Waiting, Leaving, Upper, Made, with_up, with_held, moved, handing, keeping, leave, newcomer, validity_of, outcome, outcome_of, IsOutcome, Caches, Passes, Move, Server_moves, Hands_on, Gives_up, Drops, Keeps_back, Delivers, Concludes, Times_out, Replies, Forgets, Derives, Answers, Takes_on, Moves, Rests, Goes, IsDone, row_begins, NoneOf, hand}
+use Rattle.proof_right.specs.machine.Client.{Posted, Given, Waiting, Leaving, Upper, Made, with_up, with_held, moved, handing, keeping, leave, newcomer, validity_of, outcome, outcome_of, IsOutcome, Caches, Passes, Move, Server_moves, Hands_on, Gives_up, Drops, Keeps_back, Delivers, Concludes, Times_out, Revives, told_of, is_failing, revive, Replies, Forgets, Derives, Answers, Takes_on, Moves, Rests, Goes, IsDone, row_begins, NoneOf, hand}
 use Rattle.right_trace.specs.Parts.{IsIn}
 use Rattle.proof_right.proofs.client.Kept.{IsTold, IsExpected, IsPosted as OnBoard, IsKeptBack, IsPassedOver, Kept}
-use Rattle.proof_right.proofs.client.Later.{now_all, put_more, excused_on, matches_reply, comes_all}
-use Rattle.proof_right.proofs.client.Lists.{decide, in_left, in_right, in_here, in_but}
+use Rattle.proof_right.proofs.client.Later.{now_all, put_more, excused_on, matches_reply, matches_mark, comes_all}
+use Rattle.proof_right.proofs.client.Lists.{decide, in_left, in_right, in_here, in_more, in_but}
 use Rattle.proof_right.proofs.client.Serving.{clash, has_some}
 use Rattle.proof_right.proofs.client.Beginning.{waits_tried, waits_of}
 use Rattle.proof_right.proofs.client.Steps.{move_does, moves_do}
@@ -114,6 +114,7 @@ six_before k i t (Put o ∷ h) e le pos = go (six_before k i t h) (is_send_to k 
     sent_now (OpenStream a b) s q = absurd (cc)
     sent_now (Write a b d x) s q = absurd (cc)
     sent_now (Resume a x) s q = absurd (cc)
+    sent_now (Stale l) s q = absurd (cc)
     sent_now (Close a) s q = absurd (cc)
     sent_now (Reply a x) s q = absurd (cc)
 
@@ -179,6 +180,10 @@ module _ (c : Conf) (s : Settings) (compose : Request → Result Octets Error) (
   reply_back : (l : ℕ) (u : Result Octets Error) (h : History) → Came_by (Put (Reply l u) ∷ h) → Came_by h
   reply_back l u h z = matches_reply c r v i p k id m past w l u h z
 
+  told_back : (l : ℕ) (u : Result Octets Error) (o : Option Octets) (h : History) → Came_by (put_all (told_of l u o) h) → Came_by h
+  told_back l u None h z = reply_back l u h z
+  told_back l u (Some n) h z = matches_mark c r v i p k id m past w l h (reply_back l (Ok n) (Put (Stale l) ∷ h) z)
+
   record FreeStep (h : History) (d : Made P.State) : Type 0 where
     pub free : Free d.state
     pub back : Came_by (put_all d.outs h) → Came_by h
@@ -209,11 +214,12 @@ module _ (c : Conf) (s : Settings) (compose : Request → Result Octets Error) (
   move_free x h kept _ (Delivers before after y a l is held waits out) f = record { free = record { unheld = f_left x.held (l.request) f.unheld; below = f.below; free = f.free }; back = λ z. z }
   move_free x h kept _ (Concludes k' a y l held tried free none is out) f = record { free = record { unheld = f_left x.held (l.request) f.unheld; below = f.below; free = f.free }; back = λ z. z }
   move_free x h kept _ (Times_out l a held late) f = record { free = record { unheld = f_left x.held l f.unheld; below = f.below; free = f.free }; back = λ z. z }
-  move_free x h kept _ (Replies before after y is) f = record { free = record { unheld = f.unheld; below = f.below; free = f.free }; back = reply_back y.request y.result h }
+  move_free x h kept _ (Replies before after y is) f = record { free = record { unheld = f.unheld; below = f.below; free = f.free }; back = told_back y.request y.result y.stale h }
+  move_free x h kept _ (Revives before after y g o is fails old revived) f = record { free = record { unheld = f.unheld; below = f.below; free = f.free }; back = λ z. z }
   move_free x h kept _ (Forgets before after z is) f = record { free = record { unheld = f.unheld; below = f.below; free = f.free }; back = λ z. z }
   move_free x h kept _ (Derives z l j co) f = record { free = record { unheld = f.unheld; below = f.below; free = f.free }; back = λ z. z }
   move_free x h kept _ (Answers q y pend at) f = record { free = record { unheld = f.unheld; below = (let lt = f.below in omega arith); free = f.free }; back = λ z. z }
-  move_free x h kept _ (Takes_on q o pend composed lt) f = record { free = record { unheld = f_other x.held x.asked (Some (newcomer q x.now)) (λ same. (let b = f.below in omega arith)) f.unheld; below = (let b = f.below in omega arith); free = f.free }; back = λ z. z }
+  move_free x h kept _ (Takes_on q o old pend composed lt there) f = record { free = record { unheld = f_other x.held x.asked (Some (newcomer q x.now)) (λ same. (let b = f.below in omega arith)) f.unheld; below = (let b = f.below in omega arith); free = f.free }; back = λ z. z }
 
   free_back : (x : Upper P.State) (h : History) (d : Made P.State) → Kept c s P past w x h → Moves c s compose (machine_of P) x d → Free x → Came_by (put_all d.outs h) → Came_by h
   free_back _ h _ kept (Rests x done) f z = z
@@ -437,10 +443,11 @@ module _ (c : Conf) (s : Settings) (compose : Request → Result Octets Error) (
         overdue : (am xn hn en : ℕ) → am ≡ t → xn ≡ hn → hn ≡ en → am + c.timeout ≤ xn → t + c.timeout ≤ en
         overdue am xn hn en p q r le = omega arith
     move_tracks n _ (Replies before after y is) f more kept' z counts (IsTried tr) = inl (IsTried (record { waiting = tr.waiting; held = tr.held; request = tr.request; moment = tr.moment }))
+    move_tracks n _ (Revives before after y g o is fails old revived) f more kept' z counts (IsTried tr) = inl (IsTried (record { waiting = tr.waiting; held = tr.held; request = tr.request; moment = tr.moment }))
     move_tracks n _ (Forgets before after y is) f more kept' z counts (IsTried tr) = inl (IsTried (record { waiting = tr.waiting; held = tr.held; request = tr.request; moment = tr.moment }))
     move_tracks n _ (Derives y q j co) f more kept' z counts (IsTried tr) = inl (IsTried (record { waiting = tr.waiting; held = tr.held; request = tr.request; moment = tr.moment }))
     move_tracks n _ (Answers q y pend at) f more kept' z counts (IsTried tr) = inl (IsTried (record { waiting = tr.waiting; held = tr.held; request = tr.request; moment = tr.moment }))
-    move_tracks n _ (Takes_on q o pend composed l) f more kept' z counts (IsTried tr) =
+    move_tracks n _ (Takes_on q o old pend composed l there) f more kept' z counts (IsTried tr) =
         let g = kept.reqs k tr.waiting tr.held in
         inl (IsTried (record { waiting = tr.waiting; held = other x.asked (Some (newcomer q x.now)) (λ same. (let b = g.below in omega arith)) ∙ tr.held; request = tr.request; moment = tr.moment }))
     move_tracks n _ (Server_moves j d l act) f more kept' z counts (IsLeaving y q a b) = inl (IsLeaving y q a b)
@@ -450,15 +457,23 @@ module _ (c : Conf) (s : Settings) (compose : Request → Result Octets Error) (
     move_tracks n _ (Keeps_back before after u g is held waits) f more kept' z counts (IsLeaving y q a b) = inl (IsLeaving y q a b)
     move_tracks n _ (Delivers before after u g l is held waits out) f more kept' z counts (IsLeaving y q a b) = inl (IsLeaving y (in_left y x.leaving (l ∷ []) q) a b)
     move_tracks n _ (Concludes k' g u l held tried free none is out) f more kept' z counts (IsLeaving y q a b) = inl (IsLeaving y (in_left y x.leaving (l ∷ []) q) a b)
-    move_tracks n _ (Times_out k' g held late) f more kept' z counts (IsLeaving y q a b) = inl (IsLeaving y (in_left y x.leaving (record { request = k'; asked = g.request; result = Err errors.TimedOut; is_stored = false } ∷ []) q) a b)
+    move_tracks n _ (Times_out k' g held late) f more kept' z counts (IsLeaving y q a b) = inl (IsLeaving y (in_left y x.leaving (record { request = k'; asked = g.request; result = Err errors.TimedOut; is_stored = false; stale = None } ∷ []) q) a b)
     move_tracks n _ (Replies before after u is) f more kept' z counts (IsLeaving y q a b) = elim (in_but y u before after (subst (IsIn y) is q)) [
-      | inl same ↦ inr (inl (subst (λ k. Reply u.request u.result ≡ Reply k (Ok m)) a (subst (λ v. Reply u.request u.result ≡ Reply y.request v) b (ap (λ (z : Leaving). Reply z.request z.result) same))))
+      | inl same ↦ inr (told u.stale refl (subst (λ v. Path (Result Octets Error) u.result v) b (ap (λ (z : Leaving). z.result) same)) (subst (λ k. u.request ≡ k) a (ap (λ (z : Leaving). z.request) same)))
       | inr l ↦ inl (IsLeaving y l a b)
+    ]
+      where
+        told : (o : Option Octets) → u.stale ≡ o → u.result ≡ Ok m → u.request ≡ k → Among (Reply k (Ok m)) (told_of u.request u.result o)
+        told None e res who = inl (ap₂ (λ k v. Reply k v) who res)
+        told (Some o) e res who = absurd (let g = kept.revived u o (subst (IsIn u) (sym is) (in_here u before after)) e in let z : Path (Result Octets Error) (Err g.error) (Ok m) = sym g.is ∙ res in cc)
+    move_tracks n _ (Revives before after u g o is fails old revived) f more kept' z counts (IsLeaving y q a b) = elim (in_but y u before after (subst (IsIn y) is q)) [
+      | inl same ↦ absurd (clash (is_failing u.result) fails (ap is_failing (ap (λ (z : Leaving). z.result) same ∙ b)))
+      | inr l ↦ inl (IsLeaving y (in_more y (revive o u) before after l) a b)
     ]
     move_tracks n _ (Forgets before after u is) f more kept' z counts (IsLeaving y q a b) = inl (IsLeaving y q a b)
     move_tracks n _ (Derives u l j co) f more kept' z counts (IsLeaving y q a b) = inl (IsLeaving y q a b)
     move_tracks n _ (Answers u g pend at) f more kept' z counts (IsLeaving y q a b) = inl (IsLeaving y (in_left y x.leaving (g ∷ []) q) a b)
-    move_tracks n _ (Takes_on u o pend composed l) f more kept' z counts (IsLeaving y q a b) = inl (IsLeaving y q a b)
+    move_tracks n _ (Takes_on u o old pend composed l there) f more kept' z counts (IsLeaving y q a b) = inl (IsLeaving y q a b)
 
   -- all moves of a row
   moves_track : (x : Upper P.State) (h : History) (d : Made P.State) → Kept c s P past w x h → now h ≡ now (Came e ∷ past) → Tracked x → Moves c s compose (machine_of P) x d → Matches c r v i p k id m past w (put_all d.outs h) → (IsExcused p past w (put_all d.outs h) → ⊥) → Among (Reply k (Ok m)) d.outs

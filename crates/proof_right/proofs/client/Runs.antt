@@ -44,6 +44,7 @@ module _ (c : Conf) (s : Settings) (compose : Request → Result Octets Error) (
           prompt = λ r v i p j id m matches final in_time no_excuse.
               (let st = matches.comes.is_open.stands in
               message_is_reply c s compose composes P past row.event r v i p j id (st.asked.0) m end matches final st.asked.1 in_time old u x d kept done st.waiting k step.moves matches no_excuse);
+          marks = a.marks;
           one_fault = λ quiet. row_faults c s compose composes P past w quiet (row_begins c s compose (machine_of P) row.event x) h d k done.board done.leaving step.moves;
         };
         kept = a.leaves;

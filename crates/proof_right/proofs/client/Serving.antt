@@ -9,21 +9,19 @@ use Rattle.client_request.specs.declared.error.Error.{Error}
 use Rattle.client_request.specs.declared.event.What.{What}
 use Rattle.right_trace.specs.Trace.{History, Conf, put_all}
 use Rattle.right_trace.specs.Messages.{Octets}
-use Rattle.right_trace.specs.Requests.{asking, replied, waits, handed}
+use Rattle.right_trace.specs.Requests.{asking, is_marked, replied, waits, handed}
 use Rattle.right_trace.specs.Exchanges.{Matches}
 use Rattle.client_request.specs.declared.event.Via.{Via}
 use Rattle.right_trace.specs.Settings.{Settings}
 use Rattle.right_trace.specs.Time.{OfRow}
-use Rattle.right_trace.specs.Owed.{IsOwed}
-use Rattle.right_trace.specs.Replies.{IsFreshReply}
+use Rattle.right_trace.specs.Owed.{IsOwed, AllAreDone}
 use Rattle.right_trace.specs.Coming.{SomeCame, NoneCame}
-use Rattle.right_trace.specs.Errors.{IsErrorReply}
 use Rattle.proof_right.specs.machine.Part.{Post, Act, IsPosted}
 use Rattle.proof_right.proofs.PartLaws.{PostRight, Keeps, Goes, Late, Part}
 use Rattle.proof_right.specs.machine.Client.{Posted, Given, Waiting, Leaving, Entry, Upper, with_up, first_message, tag, moved}
 use Rattle.right_trace.specs.Parts.{IsIn}
-use Rattle.proof_right.proofs.client.Kept.{RequestFits, IsOnBoard, HasGiven, MayStore, WasReply, EntryFits, ToCome, Nothing, HeldFits, PostFits, GivenFits, LeavingFits, IsFirstOf, IsTold, IsExpected, IsPosted as OnBoard, IsKeptBack, IsPassedOver, Kept}
-use Rattle.proof_right.proofs.client.Later.{Carried, post_on, asked_on, fresh_stays, direct_on, given_on, first_on, excused_on, reply_on}
+use Rattle.proof_right.proofs.client.Kept.{RequestFits, IsOnBoard, HasGiven, needs_all, MayStore, EntryFits, ToCome, Nothing, HeldFits, PostFits, GivenFits, LeavingFits, IsFirstOf, IsTold, IsExpected, IsPosted as OnBoard, IsKeptBack, IsPassedOver, Kept}
+use Rattle.proof_right.proofs.client.Later.{Carried, post_on, asked_on, fresh_stays, direct_on, given_on, first_on, excused_on, reply_on, own_on, revived_on, entry_on, old_on}
 use Rattle.proof_right.proofs.client.Lists.{decide, in_left, in_right, in_either, in_tagged, tagged_in}
 
 pub no_some : {A : Type 0} (x : Option A) (b : Bool) → is_some x ≡ b → b ≡ false → x ≡ None
@@ -63,6 +61,7 @@ module _ (c : Conf) (s : Settings) (P : Part c) where
     pub over : (y : Post) → IsPosted y d.posts → IsOwed c i y.request past w (put_all d.outs h) → ⊥
     pub stays_over : (k t : ℕ) → (t ≡ i → (P.holds (x.ups i) k ≡ false) × (hands k i ≡ false)) → (IsOwed c t k past w h → ⊥) → IsOwed c t k past w (put_all d.outs h) → ⊥
     pub beyond : (t : ℕ) → length c.servers ≤ t → Nothing t h → Nothing t (put_all d.outs h)
+    pub unmarked : ((k : ℕ) → is_marked k h ≡ false) → (k : ℕ) → is_marked k (put_all d.outs h) ≡ false
     pub late : Late c P.State P.holds P.Expects i past w h d
     pub goes : (p k : ℕ) (m : Octets) → is_some (x.held k) ≡ true → Goes P.State P.Expects past w h (x.ups i) d p k m
 
@@ -285,6 +284,14 @@ module _ (c : Conf) (s : Settings) (P : Part c) where
       before = λ e. nc.before (sv.on.earlier_back (OfRow (SomeCame c k)) e);
     }
 
+    done_still : (y : Leaving) → IsIn y x.leaving → needs_all s y.result ≡ true → AllAreDone c y.request past w h → AllAreDone c y.request past w h'
+    done_still y j needs a =
+        let f = kept.leaves y j in
+        record {
+          handed = λ t lt. handed_still y.request t (a.handed t lt);
+          over = λ t lt. sv.stays_over y.request t (λ is. (subst (λ t. P.holds (x.ups t) y.request ≡ false) is (f.free needs t lt), hands_none y.request f.unheld i)) (a.over t lt);
+        }
+
     leaves : (y : Leaving) → IsIn y x.leaving → LeavingFits c s P past w held x'.ups x.asked y h'
     leaves y j =
         let f = kept.leaves y j in
@@ -294,30 +301,14 @@ module _ (c : Conf) (s : Settings) (P : Part c) where
           below = f.below;
           asked = (f.asked.0, asked_on c past w h h' sv.on y.request (f.asked.0) y.asked f.asked.1);
           unreplied = no_reply y.request false f.unreplied;
-          right = reply_on c past w h h' sv.on s y.request y.result (λ needs nc. none_still y.request f.unheld (λ t lt. f.free needs t lt) nc) (λ needs a. record {
-            handed = λ t lt. handed_still y.request t (a.handed t lt);
-            over = λ t lt. sv.stays_over y.request t (λ is. (subst (λ t. P.holds (x.ups t) y.request ≡ false) is (f.free needs t lt), none i)) (a.over t lt);
-          }) f.right;
+          right = reply_on c past w h h' sv.on s y.request y.result (λ needs nc. none_still y.request f.unheld (λ t lt. f.free needs t lt) nc) (λ needs a. done_still y j needs a) f.right;
           free = λ needs t lt. unheld_still t y.request (λ is. none i) (f.free needs t lt);
           stores = λ e. (let q = f.stores e in (q.0, stored_on y.request y.result q.1));
           unstored = λ e m r ca n v p. sv.on.here y.request ∙ f.unstored e m r ca n v p;
         }
 
-    was_on : (k n : ℕ) (y : Result Octets Error) → WasReply c s k n h y → WasReply c s k n h' y
-    was_on k n (Ok m) q = (sv.on.ever (IsFreshReply c s k m n) q.0, q.1)
-    was_on k n (Err e) q = (sv.on.ever (IsErrorReply c s k e n) q.0, q.1)
-
     entries : (e : Entry) → IsIn e x.stored → EntryFits c s e x.asked h'
-    entries e j =
-        let f = kept.entries e j in
-        record {
-          cacheable = f.cacheable;
-          covers = f.covers;
-          below = f.below;
-          asked = (f.asked.0, asked_on c past w h h' sv.on e.number (f.asked.0) e.first f.asked.1);
-          moment = subst (λ n. e.moment ≤ n) (sym sv.on.clock) f.moment;
-          was = was_on e.number e.moment e.result f.was;
-        }
+    entries e j = entry_on c past w h h' sv.on s e x.asked (kept.entries e j)
 
     parts : (t : ℕ) → t < length c.servers → P.Fits t past w (x'.ups t) h'
     parts t lt = elim (cases_eq t i) [
@@ -347,6 +338,13 @@ module _ (c : Conf) (s : Settings) (P : Part c) where
       differ = kept.differ;
       waited = λ k e. elim (kept.waited k (sym (waits_same k h h' (sv.on.asked k) (sv.keeps.silent k)) ∙ e)) [ inl a ↦ inl (sv.same_held k ∙ a) | inr b ↦ inr b ];
       entries = entries;
+      olds = λ k e o. old_on c past w h h' sv.on s k e x.asked (kept.olds k e o);
+      own = λ y j some e is fails.
+          (let f = kept.leaves y j in
+          let all : needs_all s (Err e) ≡ true → needs_all s y.result ≡ true = λ n. subst (λ v. needs_all s v ≡ true) (sym is) n in
+          own_on c past w h h' sv.on s y.request e (λ needs nc. none_still y.request f.unheld (λ t lt. f.free (all needs) t lt) nc) (λ needs a. done_still y j (all needs) a) (kept.own y j some e is fails));
+      revived = λ y m j e. revived_on c past w h h' sv.on s x.expired y m (kept.revived y m j e);
+      unmarked = sv.unmarked kept.unmarked;
       parts = parts;
       beyond = λ t le. sv.beyond t le (kept.beyond t le);
     }

@@ -1,6 +1,6 @@
 -- Moves that change the state alone: a result is dropped, kept back or delivered, a request times out, what is stored changes.
-use Rattle.std.proofs.Common.{◌≡◌, ℕ, suc, ◌+◌, ◌<◌, ◌≢◌, Bool, true, false, ◌⊎◌, inl, inr, Option, Some, None, List, [], ◌∷◌, ◌++◌, length, is_some, refl, arith, sym, ◌∙◌, ap, subst, ◌==◌}
-use Rattle.std.specs.Prelude.{Ok, if◌then◌else◌}
+use Rattle.std.proofs.Common.{◌≡◌, ℕ, suc, ◌+◌, ◌<◌, ◌≢◌, Bool, true, false, ◌⊎◌, inl, inr, Option, Some, None, List, [], ◌∷◌, ◌++◌, length, is_some, refl, arith, sym, ◌∙◌, ap, subst, subst₂, ◌==◌}
+use Rattle.std.specs.Prelude.{Result, Ok, Err, if◌then◌else◌}
 use Rattle.std.proofs.lemmas.Bool.{cases_eq}
 use Rattle.std.proofs.lemmas.Bool.Decides.{nat_tests}
 use Rattle.client_request.specs.Request.{Request}
@@ -12,18 +12,22 @@ use Rattle.right_trace.specs.Time.{one_if, EarlierRow, OfRow}
 use Rattle.right_trace.specs.Messages.{Octets}
 use Rattle.right_trace.specs.Requests.{asks, Asking, asking, is_ask, is_asked_here, replied, waits, handed}
 use Rattle.right_trace.specs.Settings.{Settings}
-use Rattle.right_trace.specs.Keys.{is_cacheable}
+use Rattle.right_trace.specs.Keys.{KeyCovers, is_cacheable}
 use Rattle.right_trace.specs.Validity.{validity_of_message, waits_for_others}
-use Rattle.right_trace.specs.Errors.{Here}
+use Rattle.right_trace.specs.Errors.{Here, OwnCause, is_failure}
+use Rattle.client_request.specs.declared.error.Error.{Error}
 use Rattle.right_trace.specs.Coming.{SomeCame, FirstHere}
 use Rattle.right_trace.proofs.Asked.{asking_below, here_asks, earlier_known}
-use Rattle.right_trace.specs.Right.{ReplyRight}
+use Rattle.right_trace.specs.Right.{ReplyRight, HasServer}
 use Rattle.proof_right.proofs.PartLaws.{PostRight, Part}
-use Rattle.proof_right.specs.machine.Client.{Posted, Given, Waiting, Leaving, Entry, Upper, with_held, keeping, leave, answer, newcomer, take_on}
+use Rattle.proof_right.specs.machine.Client.{Posted, Given, Waiting, Leaving, Entry, Upper, with_held, with_expired, revive, keeping, leave, answer, newcomer, take_on}
 use Rattle.right_trace.specs.Parts.{IsIn}
-use Rattle.proof_right.proofs.client.Kept.{needs_all, RequestFits, Leaves, IsOnBoard, HasGiven, MayStore, EntryFits, GivenFits, LeavingFits, IsFirstOf, IsTold, IsExpected, IsPosted, IsKeptBack, IsPassedOver, Kept}
-use Rattle.proof_right.proofs.client.Lists.{decide, in_left, in_either, in_more, in_but, leaves_left, leaves_last, differ_last, first_none, first_last}
-use Rattle.proof_right.proofs.client.Serving.{clash}
+use Rattle.proof_right.proofs.client.Kept.{needs_all, RequestFits, Leaves, AllDiffer, IsOnBoard, HasGiven, MayStore, EntryFits, OldFits, StaleFits, GivenFits, LeavingFits, IsFirstOf, IsTold, IsExpected, IsPosted, IsKeptBack, IsPassedOver, Kept}
+use Rattle.proof_right.proofs.client.Lists.{decide, in_left, in_either, in_more, in_but, leaves_left, leaves_last, leaves_swap, differ_swap, in_here, differ_last, first_none, first_last}
+use Rattle.proof_right.proofs.client.Serving.{clash, has_some}
+
+same_request : (r q : Request) (t u : ℕ) → Path (Option Asking) (Some (record { request = r; moment = t })) (Some (record { request = q; moment = u })) → r ≡ q
+same_request r q t u e = (let z : record { request = r; moment = t } ≡ record { request = q; moment = u } = cc in ap (λ (x : Asking). x.request) z)
 
 module _ (c : Conf) (s : Settings) (P : Part c) (past : History) (w : What) (x : Upper P.State) (h : History) (kept : Kept c s P past w x h) where
   -- what is stored changes
@@ -49,6 +53,10 @@ module _ (c : Conf) (s : Settings) (P : Part c) (past : History) (w : What) (x :
     differ = kept.differ;
     waited = kept.waited;
     entries = fits;
+    olds = kept.olds;
+    own = kept.own;
+    revived = kept.revived;
+    unmarked = kept.unmarked;
     parts = kept.parts;
     beyond = kept.beyond;
   }
@@ -76,6 +84,10 @@ module _ (c : Conf) (s : Settings) (P : Part c) (past : History) (w : What) (x :
     differ = kept.differ;
     waited = kept.waited;
     entries = kept.entries;
+    olds = kept.olds;
+    own = kept.own;
+    revived = kept.revived;
+    unmarked = kept.unmarked;
     parts = kept.parts;
     beyond = kept.beyond;
   }
@@ -153,6 +165,10 @@ module _ (c : Conf) (s : Settings) (P : Part c) (past : History) (w : What) (x :
         differ = kept.differ;
         waited = λ k e. elim (kept.waited k e) [ inl q ↦ inl (some k q) | inr q ↦ inr q ];
         entries = kept.entries;
+        olds = kept.olds;
+        own = kept.own;
+        revived = kept.revived;
+        unmarked = kept.unmarked;
         parts = kept.parts;
         beyond = kept.beyond;
       }
@@ -197,8 +213,10 @@ module _ (c : Conf) (s : Settings) (P : Part c) (past : History) (w : What) (x :
       → (needs_all s y.result ≡ true → (i : ℕ) → i < length c.servers → P.holds (x.ups i) y.request ≡ false)
       → (y.is_stored ≡ true → (is_cacheable y.asked ≡ true) × MayStore c s y.request past w h y.result)
       → (y.is_stored ≡ false → (m : Octets) → y.result ≡ Ok m → is_cacheable y.asked ≡ true → (n : ℕ) → validity_of_message s m ≡ Some n → 0 < n → is_asked_here y.request h ≡ true)
+      → ((e : Error) → y.result ≡ Err e → is_failure e ≡ true → OwnCause c s e y.request past w h)
+      → y.stale ≡ None
       → Kept c s P past w (leave y x) h
-  leave_kept y a held is right free stores unstored = record {
+  leave_kept y a held is right free stores unstored own_cause fresh = record {
     clock = kept.clock;
     place = kept.place;
     count = kept.count;
@@ -228,6 +246,10 @@ module _ (c : Conf) (s : Settings) (P : Part c) (past : History) (w : What) (x :
       | inr q ↦ inr (elim q [ inl l ↦ inl (leaves_left k x.leaving (y ∷ []) l) | inr p ↦ inr p ])
     ];
     entries = kept.entries;
+    olds = kept.olds;
+    own = λ z l. elim (in_either z x.leaving (y ∷ []) l) [ inl o ↦ kept.own z o | inr n ↦ elim n [ inl e ↦ subst (λ (z : Leaving). is_some (x.expired z.request) ≡ true → (e : Error) → z.result ≡ Err e → is_failure e ≡ true → OwnCause c s e z.request past w h) e (λ some. own_cause) | inr z ↦ absurd z ] ];
+    revived = λ z m l e. elim (in_either z x.leaving (y ∷ []) l) [ inl o ↦ kept.revived z m o e | inr n ↦ elim n [ inl is ↦ absurd (not_stale z m is e) | inr z ↦ absurd z ] ];
+    unmarked = kept.unmarked;
     parts = kept.parts;
     beyond = kept.beyond;
   }
@@ -252,11 +274,63 @@ module _ (c : Conf) (s : Settings) (P : Part c) (past : History) (w : What) (x :
         | inr ne ↦ inl (ap is_some (held_other y.request k None ne) ∙ e)
       ]
 
+      not_stale : (z : Leaving) (m : Octets) → y ≡ z → z.stale ≡ Some m → ⊥
+      not_stale z m is e = (let n : Path (Option Octets) None (Some m) = sym fresh ∙ (ap (λ (z : Leaving). z.stale) is ∙ e) in cc)
+
       no_wait : (k : ℕ) → waits k h ≡ true → replied k h ≡ true → ⊥
       no_wait k e r = grind arith
 
       new : LeavingFits c s P past w (with_held y.request None x.held) x.ups x.asked y h
       new = (let f = kept.reqs y.request a held in record { unheld = held_this y.request y.request None refl; below = f.below; asked = (a.moment, subst (λ q. asking y.request h ≡ Some (record { request = q; moment = a.moment })) (sym is) f.asked); unreplied = f.unreplied; right = right; free = free; stores = stores; unstored = unstored })
+
+  -- what an expired message says is put in the place of a result that fails
+  pub revive_kept : (before after : List Leaving) (y : Leaving) (m : Octets) → x.leaving ≡ before ++ y ∷ after → StaleFits c s x.expired (revive m y) m h → Kept c s P past w (record x { leaving = before ++ revive m y ∷ after }) h
+  revive_kept before after y m is new = record {
+    clock = kept.clock;
+    place = kept.place;
+    count = kept.count;
+    pending = kept.pending;
+    newest = kept.newest;
+    row = kept.row;
+    before = kept.before;
+    known = kept.known;
+    to_come = kept.to_come;
+    reqs = kept.reqs;
+    holders = λ i k lt e. (let f = kept.holders i k lt e in record { handed_over = f.handed_over; not_before = f.not_before; known = elim f.known [ inl q ↦ inl q | inr q ↦ inr (elim q [ inl l ↦ inl (on k l) | inr r ↦ inr r ]) ] });
+    gave = kept.gave;
+    posts = kept.posts;
+    back = kept.back;
+    firsts = kept.firsts;
+    told = kept.told;
+    leaves = λ z l. elim (was z l) [ inl e ↦ subst (λ z. LeavingFits c s P past w x.held x.ups x.asked z h) e here | inr o ↦ kept.leaves z o ];
+    differ = differ_swap y (revive m y) refl before after (subst AllDiffer is kept.differ);
+    waited = λ k e. elim (kept.waited k e) [ inl q ↦ inl q | inr q ↦ inr (elim q [ inl l ↦ inl (on k l) | inr p ↦ inr p ]) ];
+    entries = kept.entries;
+    olds = kept.olds;
+    own = λ z l. elim (was z l) [ inl e ↦ subst (λ (z : Leaving). is_some (x.expired z.request) ≡ true → (e : Error) → z.result ≡ Err e → is_failure e ≡ true → OwnCause c s e z.request past w h) e (kept.own y there) | inr o ↦ kept.own z o ];
+    revived = λ z o l e. elim (was z l) [ inl is_new ↦ subst₂ (λ z o. StaleFits c s x.expired z o h) is_new (same o (ap (λ (z : Leaving). z.stale) is_new ∙ e)) new | inr old ↦ kept.revived z o old e ];
+    unmarked = kept.unmarked;
+    parts = kept.parts;
+    beyond = kept.beyond;
+  }
+    where
+      there : IsIn y x.leaving
+      there = subst (IsIn y) (sym is) (in_here y before after)
+
+      on : (k : ℕ) → Leaves k x.leaving → Leaves k (before ++ revive m y ∷ after)
+      on k l = leaves_swap k y (revive m y) refl before after (subst (Leaves k) is l)
+
+      was : (z : Leaving) → IsIn z (before ++ revive m y ∷ after) → (revive m y ≡ z) ⊎ IsIn z x.leaving
+      was z l = elim (in_but z (revive m y) before after l) [ inl e ↦ inl e | inr n ↦ inr (subst (IsIn z) (sym is) (in_more z y before after n)) ]
+
+      same : (o : Octets) → Path (Option Octets) (Some m) (Some o) → m ≡ o
+      same o e = cc
+
+      here : LeavingFits c s P past w x.held x.ups x.asked (revive m y) h
+      here = (let f = kept.leaves y there in record { unheld = f.unheld; below = f.below; asked = f.asked; unreplied = f.unreplied; right = f.right; free = f.free; stores = λ e. absurd (cc); unstored = λ e n q. absurd (failing n (sym new.is ∙ q)) })
+        where
+          failing : (n : Octets) → Path (Result Octets Error) (Err new.error) (Ok n) → ⊥
+          failing n e = cc
 
   -- the asking is answered at once, or taken on
   no_ask : (r : Request) → x.pending ≡ Ask r → suc x.asked + 0 ≡ asks h
@@ -267,8 +341,9 @@ module _ (c : Conf) (s : Settings) (P : Part c) (past : History) (w : What) (x :
 
   pub answer_kept : (r : Request) (y : Leaving) → x.pending ≡ Ask r → y.request ≡ x.asked → y.asked ≡ r → ReplyRight c s past w h y.request y.result
       → (y.is_stored ≡ true → (is_cacheable y.asked ≡ true) × MayStore c s y.request past w h y.result)
+      → y.stale ≡ None
       → Kept c s P past w (answer y x) h
-  answer_kept r y pend is asks_r right stores = record {
+  answer_kept r y pend is asks_r right stores fresh = record {
     clock = kept.clock;
     place = kept.place;
     count = no_ask r pend;
@@ -295,10 +370,20 @@ module _ (c : Conf) (s : Settings) (P : Part c) (past : History) (w : What) (x :
       | inr q ↦ inr (inl (elim q [ inl l ↦ leaves_left k x.leaving (y ∷ []) l | inr p ↦ subst (λ k. Leaves k (x.leaving ++ y ∷ [])) (is ∙ sym p.1) (leaves_last y x.leaving) ]))
     ];
     entries = λ e j. (let f = kept.entries e j in record { cacheable = f.cacheable; covers = f.covers; below = (let lt = f.below in omega arith); asked = f.asked; moment = f.moment; was = f.was });
+    olds = λ k e o. (let f = kept.olds k e o in record { fits = f.fits; below = (let lt = f.below in omega arith); covers = f.covers; server = f.server });
+    own = λ z l. elim (in_either z x.leaving (y ∷ []) l) [ inl o ↦ kept.own z o | inr n ↦ elim n [ inl e ↦ (λ some. absurd (none_old (subst (λ (z : Leaving). is_some (x.expired z.request) ≡ true) (sym e) some))) | inr z ↦ absurd z ] ];
+    revived = λ z m l e. elim (in_either z x.leaving (y ∷ []) l) [ inl o ↦ kept.revived z m o e | inr n ↦ elim n [ inl is ↦ absurd (not_stale z m is e) | inr z ↦ absurd z ] ];
+    unmarked = kept.unmarked;
     parts = kept.parts;
     beyond = kept.beyond;
   }
     where
+      not_stale : (z : Leaving) (m : Octets) → y ≡ z → z.stale ≡ Some m → ⊥
+      not_stale z m is e = (let n : Path (Option Octets) None (Some m) = sym fresh ∙ (ap (λ (z : Leaving). z.stale) is ∙ e) in cc)
+
+      none_old : is_some (x.expired y.request) ≡ true → ⊥
+      none_old some = (let e = has_some (x.expired y.request) some in let lt = (kept.olds y.request (e.0) e.1).below in omega arith)
+
       new : LeavingFits c s P past w x.held x.ups (suc x.asked) y h
       new = (let p = kept.pending r pend in let t = kept.to_come x.asked (omega arith) in record {
         unheld = subst (λ k. x.held k ≡ None) (sym is) t.unheld;
@@ -311,8 +396,8 @@ module _ (c : Conf) (s : Settings) (P : Part c) (past : History) (w : What) (x :
         unstored = λ e m q ca n v p. subst (λ k. is_asked_here k h ≡ true) (sym is) ((kept.pending r pend).here);
       })
 
-  pub take_kept : (r : Request) → x.pending ≡ Ask r → Kept c s P past w (take_on r x) h
-  take_kept r pend = record {
+  pub take_kept : (r : Request) (old : Option Entry) → x.pending ≡ Ask r → HasServer c → ((e : Entry) → old ≡ Some e → IsIn e x.stored × KeyCovers e.under r) → Kept c s P past w (take_on r old x) h
+  take_kept r old pend server there = record {
     clock = kept.clock;
     place = kept.place;
     count = no_ask r pend;
@@ -357,10 +442,34 @@ module _ (c : Conf) (s : Settings) (P : Part c) (past : History) (w : What) (x :
       | inr q ↦ elim q [ inl l ↦ inr (inl l) | inr p ↦ inl (ap is_some (held_this x.asked k (Some (newcomer r x.now)) (sym p.1))) ]
     ];
     entries = λ e j. (let f = kept.entries e j in record { cacheable = f.cacheable; covers = f.covers; below = (let lt = f.below in omega arith); asked = f.asked; moment = f.moment; was = f.was });
+    olds = λ k e o. elim (cases_eq x.asked k) [ inl is ↦ new_old k e is (sym (old_this k old is) ∙ o) | inr ne ↦ (let f = kept.olds k e (sym (old_other k old ne) ∙ o) in record { fits = f.fits; below = (let lt = f.below in omega arith); covers = f.covers; server = f.server }) ];
+    own = λ z l some. kept.own z l (subst (λ v. is_some v ≡ true) (old_other z.request old (not_asked z l)) some);
+    revived = λ z m l e. (let f = kept.revived z m l e in record { unstored = f.unstored; error = f.error; is = f.is; fails = f.fails; old = subst (λ v. is_some v ≡ true) (sym (old_other z.request old (not_asked z l))) f.old; server = f.server; first = f.first; request = f.request; message = f.message; age = f.age; supplied = f.supplied; parts = f.parts; valid = f.valid; says = f.says });
+    unmarked = kept.unmarked;
     parts = kept.parts;
     beyond = kept.beyond;
   }
     where
+      old_other : (k : ℕ) (v : Option Entry) → x.asked ≢ k → with_expired x.asked v x.expired k ≡ x.expired k
+      old_other k v ne = (let e : (x.asked == k) ≡ false = grind (arith, nat_tests) in ap (λ b. if b then v else x.expired k) e)
+
+      old_this : (k : ℕ) (v : Option Entry) → x.asked ≡ k → with_expired x.asked v x.expired k ≡ v
+      old_this k v is = (let e : (x.asked == k) ≡ true = grind (arith, nat_tests) in ap (λ b. if b then v else x.expired k) e)
+
+      not_asked : (z : Leaving) → IsIn z x.leaving → x.asked ≢ z.request
+      not_asked z l e = (let lt = (kept.leaves z l).below in omega arith)
+
+      new_old : (k : ℕ) (e : Entry) → x.asked ≡ k → old ≡ Some e → OldFits c s k e (suc x.asked) h
+      new_old k e is o =
+          let t = there e o in
+          let p = kept.pending r pend in
+          record {
+            fits = subst (λ k. EntryFits c s e k h) is (kept.entries e t.0);
+            below = omega arith;
+            covers = λ q u a. subst (KeyCovers e.under) (same_request r q x.now u (sym p.asked ∙ (ap (λ k. asking k h) is ∙ a))) t.1;
+            server = server;
+          }
+
       not_before : (a : Asking) → asking x.asked past ≡ Some a → ⊥
       not_before a q = (let lt = asking_below x.asked a past q in let n : asks past ≡ x.asked = subst (λ g. asks g ≡ x.asked) kept.row (here_asks x.asked h ((kept.pending r pend).here)) in omega arith)
 

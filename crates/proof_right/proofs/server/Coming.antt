@@ -7,7 +7,7 @@ use Rattle.client_request.specs.Request.{Request}
 use Rattle.client_request.specs.declared.event.What.{What}
 use Rattle.client_request.specs.declared.event.What.TheVariants.{Bytes, Tick}
 use Rattle.client_request.specs.declared.event.Out.{Out}
-use Rattle.client_request.specs.declared.event.Out.TheVariants.{Start, OpenDgram, OpenStream, Send, Write, Resume, Close, Reply}
+use Rattle.client_request.specs.declared.event.Out.TheVariants.{Start, OpenDgram, OpenStream, Send, Write, Resume, Close, Stale, Reply}
 use Rattle.client_request.specs.declared.event.Via.{Via}
 use Rattle.client_request.specs.declared.event.Via.TheVariants.{Dgram, Stream}
 use Rattle.right_trace.specs.Trace.{History, Conf, Came, Put, put_all}
@@ -50,6 +50,7 @@ site_kept p (OpenStream q s) z = go (q == p)
 site_kept p (Send q k i o) z = refl
 site_kept p (Write q k i o) z = refl
 site_kept p (Resume q o) z = refl
+site_kept p (Stale l) z = refl
 site_kept p (Close q) z = refl
 site_kept p (Reply k x) z = refl
 

@@ -4,7 +4,7 @@ use Rattle.client_request.specs.declared.event.What.{What}
 use Rattle.client_request.specs.declared.event.What.TheVariants.{Tick}
 use Rattle.client_request.specs.declared.event.Event.{Event}
 use Rattle.client_request.specs.declared.event.Out.{Out}
-use Rattle.client_request.specs.declared.event.Out.TheVariants.{Reply}
+use Rattle.client_request.specs.declared.event.Out.TheVariants.{Stale, Reply}
 use Rattle.client_request.specs.declared.event.Via.{Via}
 use Rattle.client_request.specs.declared.event.Via.TheVariants.{Dgram, Stream}
 use Rattle.right_trace.specs.Trace.{History, Conf, Came, Put, put_all}
@@ -25,8 +25,8 @@ use Rattle.client_request.specs.Request.{Request}
 use Rattle.client_request.specs.declared.error.Error.{Error}
 use Rattle.right_trace.specs.Messages.{Octets}
 use Rattle.proof_right.proofs.client.Runs.{run_right}
-use Rattle.proof_right.proofs.client.Hitting.{cached_run_hits}
-use Rattle.proof_right.specs.Theorem.{EveryRunIsRight, EveryCachedRunHits}
+use Rattle.proof_right.proofs.client.Hitting.{cached_run_hits, cached_run_serves_stale}
+use Rattle.proof_right.specs.Theorem.{EveryRunIsRight, EveryCachedRunHits, EveryCachedRunServesStale}
 use Rattle.proof_right.proofs.server.OwedFits.{OwedFits}
 use Rattle.proof_right.proofs.server.Owing.{others_owed, acts_owed, starts_owed, starts_were, cancels_owed, cancels_were}
 use Rattle.proof_right.proofs.server.Hearing.{HeardFits, heard_none, begins_heard, others_heard, acts_heard, starts_heard, cancels_heard}
@@ -121,6 +121,9 @@ whole_begins c s old past w e u f r = record { fits = rows_begin.begins c s old 
 whole_replies : (c : Conf) (s k : ℕ) (x : Result Octets Error) (past : History) (w : What) (u : Served) (h : History) → Whole c s past w u h → Whole c s past w u (Put (Reply k x) ∷ h)
 whole_replies c s k x past w u h f = other_whole c s past w u (Reply k x ∷ []) h (moved.replies c s k x past w u h f.fits) (λ j e. e) (λ j o. mute_put c s past w u h f.fits (Reply k x) tt tt j s o) (λ r p j id m y. comes_out c r Stream s p j id m past w (Reply k x) h tt y) f
 
+whole_marks : (c : Conf) (s k : ℕ) (past : History) (w : What) (u : Served) (h : History) → Whole c s past w u h → Whole c s past w u (Put (Stale k) ∷ h)
+whole_marks c s k past w u h f = other_whole c s past w u (Stale k ∷ []) h (moved.marks c s k past w u h f.fits) (λ j e. e) (λ j o. mute_put c s past w u h f.fits (Stale k) tt tt j s o) (λ r p j id m y. comes_out c r Stream s p j id m past w (Stale k) h tt y) f
+
 whole_acts : (c : Conf) (s place : ℕ) (past : History) (w : What) (u : Served) (h : History) (d : Act Served) → s < length c.servers → Whole c s past w u h → place ≡ reach h → Acts s place u d → Keeps Served (Whole c) none_more s past w h d
 whole_acts c s place past w u h d lt f is act =
     let k = acts_keeps c s place past w u h d lt f.fits is act in
@@ -181,6 +184,7 @@ part c = record {
   begins_expecting = λ s p k id q v m old past w e u f r x. rows_begin.begins_expecting c s old past w e u f.fits r p k id q v m x;
   one_id = λ s p k i j q r m n past w u h f x y. rows_begin.one_id c s p k i j q r m n past w u h f.fits x y;
   replies = λ s k x past w u h f. whole_replies c s k x past w u h f;
+  marks = λ s k past w u h f. whole_marks c s k past w u h f;
   acts_keeps = whole_acts c;
   acts_right = λ s place past w u h d lt f is act un end later. acts_right c s place past w u h d lt f.fits is act un end;
   acts_gives = λ s place past w u h d lt f is act. (let g = giving.acts_held c s place past w u h f.fits d act in record { no_more = g.no_more; given = g.given; was_held = g.was_held; let_go = g.let_go; once = g.once; right = giving.acts_post c s past w u h f.fits place is lt d act; over = over.acts_over c s past w u h f.fits f.owed place is d act; stays_over = staying.acts_stay c s past w u h f.fits place is d act });
@@ -217,3 +221,8 @@ every_run c s compose rows composes octets run = run_right c s compose (part c) 
 pub every_hit : EveryCachedRunHits
 unfolding part
 every_hit c s compose eq cap rows composes tells octets run cached = cached_run_hits c s compose (part c) eq cap rows composes tells octets run cached
+
+-- and what expired serves where servers fail
+pub every_stale : EveryCachedRunServesStale
+unfolding part
+every_stale c s compose eq cap rows composes tells octets run cached = cached_run_serves_stale c s compose (part c) eq cap rows composes tells octets run cached

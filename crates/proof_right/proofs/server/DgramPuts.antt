@@ -5,7 +5,7 @@ use Rattle.client_request.specs.Request.{Request}
 use Rattle.client_request.specs.declared.error.Error.{Error}
 use Rattle.client_request.specs.declared.event.What.{What}
 use Rattle.client_request.specs.declared.event.Out.{Out}
-use Rattle.client_request.specs.declared.event.Out.TheVariants.{Start, OpenDgram, OpenStream, Send, Write, Resume, Close, Reply}
+use Rattle.client_request.specs.declared.event.Out.TheVariants.{Start, OpenDgram, OpenStream, Send, Write, Resume, Close, Reply, Stale}
 use Rattle.client_request.specs.declared.event.Via.{Via}
 use Rattle.client_request.specs.declared.event.Via.TheVariants.{Dgram, Stream}
 use Rattle.right_trace.specs.Trace.{History, Conf, Put}
@@ -52,6 +52,7 @@ dgram_same q (OpenStream p t) h e = record { stand = rw e refl; untold = rw e re
 dgram_same q (Send p k i o) h e = record { stand = refl; untold = refl; at = refl; sent = rw e refl; names = λ k. rw e refl; exchange = λ r j i n. rw e refl }
 dgram_same q (Write p k i o) h e = record { stand = refl; untold = refl; at = refl; sent = refl; names = λ k. refl; exchange = λ r j i n. refl }
 dgram_same q (Resume p o) h e = record { stand = refl; untold = refl; at = refl; sent = refl; names = λ k. refl; exchange = λ r j i n. refl }
+dgram_same q (Stale l) h e = record { stand = refl; untold = refl; at = refl; sent = refl; names = λ k. refl; exchange = λ r j i n. refl }
 dgram_same q (Close p) h e = record { stand = rw e refl; untold = rw e refl; at = refl; sent = refl; names = λ k. refl; exchange = λ r j i n. refl }
 dgram_same q (Reply k x) h e = record { stand = refl; untold = refl; at = refl; sent = refl; names = λ k. refl; exchange = λ r j i n. refl }
 
@@ -74,6 +75,7 @@ tryer_same s k (OpenStream p t) h e = record { starts = λ v. refl; tries = refl
 tryer_same s k (Send p j i o) h e = record { starts = λ v. refl; tries = rw e refl; last = rw e refl }
 tryer_same s k (Write p j i o) h e = record { starts = λ v. refl; tries = refl; last = refl }
 tryer_same s k (Resume p o) h e = record { starts = λ v. refl; tries = refl; last = refl }
+tryer_same s k (Stale l) h e = record { starts = λ v. refl; tries = refl; last = refl }
 tryer_same s k (Close p) h e = record { starts = λ v. refl; tries = refl; last = refl }
 tryer_same s k (Reply j x) h e = record { starts = λ v. refl; tries = refl; last = refl }
 
@@ -90,6 +92,7 @@ gone_stays w (OpenStream q s) p = if_gone (q == p)
 gone_stays w (Send q k i o) p = refl
 gone_stays w (Write q k i o) p = refl
 gone_stays w (Resume q o) p = refl
+gone_stays w (Stale l) p = refl
 gone_stays w (Close q) p = if_gone (q == p)
 gone_stays w (Reply k x) p = refl
 
@@ -127,6 +130,7 @@ silent_on k o h e = record { tries = λ s. (tryer_same s k o h e).tries; last = 
     unstarted (Send p j i o) e s = refl
     unstarted (Write p j i o) e s = refl
     unstarted (Resume p o) e s = refl
+    unstarted (Stale l) e s = refl
     unstarted (Close p) e s = refl
     unstarted (Reply j x) e s = refl
 
@@ -142,6 +146,7 @@ among_longer k true (OpenDgram p t) n x ws i = i
 among_longer k true (OpenStream p t) n x ws i = i
 among_longer k true (Send p j id o) n x ws i = i
 among_longer k true (Resume p o) n x ws i = i
+among_longer k true (Stale l) n x ws i = i
 among_longer k true (Close p) n x ws i = i
 among_longer k true (Reply j y) n x ws i = i
 

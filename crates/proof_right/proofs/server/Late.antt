@@ -7,7 +7,7 @@ use Rattle.client_request.specs.Request.{Request}
 use Rattle.client_request.specs.declared.event.What.{What}
 use Rattle.client_request.specs.declared.event.What.TheVariants.{Bytes}
 use Rattle.client_request.specs.declared.event.Out.{Out}
-use Rattle.client_request.specs.declared.event.Out.TheVariants.{Start, OpenDgram, OpenStream, Send, Write, Resume, Close, Reply}
+use Rattle.client_request.specs.declared.event.Out.TheVariants.{Start, OpenDgram, OpenStream, Send, Write, Resume, Close, Reply, Stale}
 use Rattle.client_request.specs.declared.event.Via.{Via}
 use Rattle.client_request.specs.declared.event.Via.TheVariants.{Dgram, Stream}
 use Rattle.right_trace.specs.Trace.{History, Conf, Put, put_all}
@@ -49,6 +49,7 @@ waits_same (OpenStream r s) q p id h = refl
 waits_same (Send r k i o) q p id h = refl
 waits_same (Write r k i o) q p id h = absurd q
 waits_same (Resume r o) q p id h = refl
+waits_same (Stale l) q p id h = refl
 waits_same (Close r) q p id h = refl
 waits_same (Reply k x) q p id h = refl
 
@@ -59,6 +60,7 @@ starts_same (OpenStream r t) q k s h = refl
 starts_same (Send r j i o) q k s h = refl
 starts_same (Write r j i o) q k s h = absurd q
 starts_same (Resume r o) q k s h = refl
+starts_same (Stale l) q k s h = refl
 starts_same (Close r) q k s h = refl
 starts_same (Reply j x) q k s h = refl
 

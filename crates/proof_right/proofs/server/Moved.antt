@@ -6,7 +6,7 @@ use Rattle.std.proofs.lemmas.Bool.{cases_lt, eqb-true}
 use Rattle.std.proofs.lemmas.Bool.Decides.{nat_tests}
 use Rattle.client_request.specs.declared.event.What.{What}
 use Rattle.client_request.specs.declared.event.Out.{Out}
-use Rattle.client_request.specs.declared.event.Out.TheVariants.{Start, OpenDgram, OpenStream, Send, Write, Resume, Close, Reply}
+use Rattle.client_request.specs.declared.event.Out.TheVariants.{Start, OpenDgram, OpenStream, Send, Write, Resume, Close, Stale, Reply}
 use Rattle.client_request.specs.declared.event.Via.{Via}
 use Rattle.client_request.specs.declared.event.Via.TheVariants.{Dgram, Stream}
 use Rattle.right_trace.specs.Trace.{History, Conf, ByDatagrams, Came, Put, put_all}
@@ -95,6 +95,7 @@ IsOf s (OpenStream p i) h = (i ≡ s) × (p ≡ reach h)
 IsOf s (Send p k id o) h = site p h ≡ Some (dgram_site s)
 IsOf s (Write p k id o) h = site p h ≡ Some (stream_site s)
 IsOf s (Resume p o) h = Unit {0}
+IsOf s (Stale l) h = Unit {0}
 IsOf s (Close p) h = (v : Via) × (site p h ≡ Some (record { via = v; server = s }))
 IsOf s (Reply k x) h = Unit {0}
 
@@ -165,6 +166,7 @@ module _ (c : Conf) (s t : ℕ) (past : History) (w : What) (v : Served) (h : Hi
     elsewhere = λ q e g. absurd (let z : p ≡ q = eqb-true p q e in let at : site q h ≡ Some (stream_site s) = ap (λ q. site q h) (sym z) ∙ is in let y : is_site Stream t (Some (stream_site s)) ≡ true = subst (λ x. is_site Stream t x ≡ true) at g in let b = none_of s t Stream Stream ne in let z : true ≡ false = sym y ∙ b in cc);
   }
   foreign (Resume p o) is = record { conns = λ q x e. refl; opening = λ q e. refl; below = λ q e. absurd (cc); asks = λ j a e. refl; elsewhere = λ q e g. absurd (cc) }
+  foreign (Stale l) is = record { conns = λ q x e. refl; opening = λ q e. refl; below = λ q e. absurd (cc); asks = λ j a e. refl; elsewhere = λ q e g. absurd (cc) }
   foreign (Close p) is = record {
     conns = λ q x e. at_place p q (is.0) Stream is.1 (conn_site q x e);
     opening = λ q e. at_place p q (is.0) Stream is.1 (open_site q e);
@@ -201,6 +203,7 @@ module _ (c : Conf) (s t : ℕ) (past : History) (w : What) (v : Served) (h : Hi
   same_tryer k (Send p j id o) is = (let z = not_sent p j k id o is in record { starts = λ x. refl; tries = ap (λ b. if b then suc (sends k t h) else sends k t h) z; last = ap (λ b. if b then try_of (Send p j id o) (now h) else last_try k t h) z })
   same_tryer k (Write p j id o) is = record { starts = λ x. refl; tries = refl; last = refl }
   same_tryer k (Resume p o) is = record { starts = λ x. refl; tries = refl; last = refl }
+  same_tryer k (Stale l) is = record { starts = λ x. refl; tries = refl; last = refl }
   same_tryer k (Close p) is = record { starts = λ x. refl; tries = refl; last = refl }
   same_tryer k (Reply j y) is = record { starts = λ x. refl; tries = refl; last = refl }
 
@@ -241,6 +244,7 @@ module _ (c : Conf) (s t : ℕ) (past : History) (w : What) (v : Served) (h : Hi
   }
   other (Write p k id o) is = record { held = λ j a e. record { same = same_tryer j (Write p k id o) is; short = short j a (Write p k id o) e }; places = λ q j e. refl; below = λ q e. absurd (cc); elsewhere = λ q e. absurd (cc); next = inl refl }
   other (Resume p o) is = record { held = λ j a e. record { same = same_tryer j (Resume p o) is; short = short j a (Resume p o) e }; places = λ q j e. refl; below = λ q e. absurd (cc); elsewhere = λ q e. absurd (cc); next = inl refl }
+  other (Stale l) is = record { held = λ j a e. record { same = same_tryer j (Stale l) is; short = short j a (Stale l) e }; places = λ q j e. refl; below = λ q e. absurd (cc); elsewhere = λ q e. absurd (cc); next = inl refl }
   other (Close p) is = record {
     held = λ j a e. record { same = same_tryer j (Close p) is; short = short j a (Close p) e };
     places = λ q j e. at_place p q (is.0) Dgram is.1 (slot_site q j e);
@@ -279,6 +283,7 @@ module _ (c : Conf) (s t : ℕ) (past : History) (w : What) (v : Served) (h : Hi
       less : (q l i : ℕ) (x : Octets) → (p == q) ≡ false → IsAmong x (octets_for l (waiting_with [] q i (Put (Write p k id o) ∷ h))) → IsAmong x (octets_for l (waiting_with [] q i h))
       less q l i x n a = subst (λ ws. IsAmong x (octets_for l ws)) (let z : waiting_with [] q i (Put (Write p k id o) ∷ h) ≡ waiting_with [] q i h = rw n refl in z) a
   one_id_put (Resume p o) is = f.one_id
+  one_id_put (Stale l) is = f.one_id
   one_id_put (Close p) is = f.one_id
   one_id_put (Reply k x) is = f.one_id
 
@@ -311,6 +316,7 @@ module _ (c : Conf) (s t : ℕ) (past : History) (w : What) (v : Served) (h : Hi
       less : (q l i : ℕ) (x : Octets) → (p == q) ≡ false → IsAmong x (octets_for l (waiting_with [] q i (Put (Write p k id o) ∷ h))) → IsAmong x (octets_for l (waiting_with [] q i h))
       less q l i x n a = subst (λ ws. IsAmong x (octets_for l ws)) (let z : waiting_with [] q i (Put (Write p k id o) ∷ h) ≡ waiting_with [] q i h = rw n refl in z) a
   begun_put (Resume p o) is = f.begun
+  begun_put (Stale l) is = f.begun
   begun_put (Close p) is = f.begun
   begun_put (Reply k x) is = f.begun
 
@@ -345,3 +351,7 @@ others_all c s t past w v (o ∷ os) h ne are f = others_all c s t past w v os (
 -- a reply is nothing to it
 pub replies : (c : Conf) (s k : ℕ) (x : Result Octets Error) (past : History) (w : What) (u : Served) (h : History) → Fits c s past w u h → Fits c s past w u (Put (Reply k x) ∷ h)
 replies c s k x past w u h f = others_put c (suc s) s past w u h f (λ e. (omega arith)) (Reply k x) tt
+
+-- nor is the mark of one
+pub marks : (c : Conf) (s k : ℕ) (past : History) (w : What) (u : Served) (h : History) → Fits c s past w u h → Fits c s past w u (Put (Stale k) ∷ h)
+marks c s k past w u h f = others_put c (suc s) s past w u h f (λ e. (omega arith)) (Stale k) tt

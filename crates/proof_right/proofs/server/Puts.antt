@@ -5,7 +5,7 @@ use Rattle.std.proofs.lemmas.Bool.Decides.{nat_tests}
 use Rattle.client_request.specs.Request.{Request}
 use Rattle.client_request.specs.declared.event.What.{What}
 use Rattle.client_request.specs.declared.event.Out.{Out}
-use Rattle.client_request.specs.declared.event.Out.TheVariants.{Start, OpenDgram, OpenStream, Send, Write, Resume, Close, Reply}
+use Rattle.client_request.specs.declared.event.Out.TheVariants.{Start, OpenDgram, OpenStream, Send, Write, Resume, Close, Stale, Reply}
 use Rattle.client_request.specs.declared.event.Via.TheVariants.{Stream}
 use Rattle.right_trace.specs.Trace.{History, Put}
 use Rattle.right_trace.specs.Time.{now}
@@ -38,6 +38,7 @@ put_same s q (OpenStream p t) h e = record { stand = grind (arith, nat_tests); a
 put_same s q (Send p k i o) h e = record { stand = refl; at = refl; waiting = λ ms id. refl; idle = λ ms. refl; quiet = λ ms. refl; writing = refl; reading = refl; came = refl; ended = refl; clock = refl; asking = λ k. refl; starts = λ j. starts_more j s (Send p k i o) h }
 put_same s q (Write p k i o) h e = record { stand = refl; at = refl; waiting = λ ms id. rw e refl; idle = λ ms. refl; quiet = λ ms. refl; writing = rw e refl; reading = refl; came = refl; ended = refl; clock = refl; asking = λ k. refl; starts = λ j. starts_more j s (Write p k i o) h }
 put_same s q (Resume p o) h e = record { stand = refl; at = refl; waiting = λ ms id. refl; idle = λ ms. refl; quiet = λ ms. refl; writing = refl; reading = refl; came = refl; ended = refl; clock = refl; asking = λ k. refl; starts = λ j. starts_more j s (Resume p o) h }
+put_same s q (Stale l) h e = record { stand = refl; at = refl; waiting = λ ms id. refl; idle = λ ms. refl; quiet = λ ms. refl; writing = refl; reading = refl; came = refl; ended = refl; clock = refl; asking = λ k. refl; starts = λ j. starts_more j s (Stale l) h }
 put_same s q (Close p) h e = record { stand = rw e refl; at = refl; waiting = λ ms id. refl; idle = λ ms. refl; quiet = λ ms. refl; writing = refl; reading = refl; came = refl; ended = refl; clock = refl; asking = λ k. refl; starts = λ j. starts_more j s (Close p) h }
 put_same s q (Reply k x) h e = record { stand = refl; at = refl; waiting = λ ms id. refl; idle = λ ms. refl; quiet = λ ms. refl; writing = refl; reading = refl; came = refl; ended = refl; clock = refl; asking = λ k. refl; starts = λ j. starts_more j s (Reply k x) h }
 
@@ -86,6 +87,7 @@ reach_put (OpenStream p t) h = grind arith
 reach_put (Send p k i o) h = omega arith
 reach_put (Write p k i o) h = omega arith
 reach_put (Resume p o) h = omega arith
+reach_put (Stale l) h = omega arith
 reach_put (Close p) h = omega arith
 reach_put (Reply k x) h = omega arith
 

@@ -6,7 +6,7 @@ use Rattle.std.proofs.lemmas.Bool.Decides.{nat_tests}
 use Rattle.client_request.specs.Request.{Request}
 use Rattle.client_request.specs.declared.event.What.{What}
 use Rattle.client_request.specs.declared.event.Out.{Out}
-use Rattle.client_request.specs.declared.event.Out.TheVariants.{Start, OpenDgram, OpenStream, Send, Write, Resume, Close, Reply}
+use Rattle.client_request.specs.declared.event.Out.TheVariants.{Start, OpenDgram, OpenStream, Send, Write, Resume, Close, Stale, Reply}
 use Rattle.client_request.specs.declared.event.Via.{Via}
 use Rattle.client_request.specs.declared.event.Via.TheVariants.{Dgram, Stream}
 use Rattle.right_trace.specs.Trace.{History, Conf, Put, put_all}
@@ -147,6 +147,11 @@ module _ (c : Conf) (s : ℕ) (past : History) (w : What) (h : History) (empty :
       back : (v : Via) → IsAmong x.octets (waited_for v x.request t x.place k x.id (now h) (came_here x.place h) (Put (Resume p o) ∷ h) (Put (Resume p o) ∷ h)) → IsAmong x.octets (waited_for v x.request t x.place k x.id (now h) (came_here x.place h) h h)
       back Dgram a = a
       back Stream a = a
+  owed_put (Stale l) next k t x = inl (record { request = x.request; via = x.via; place = x.place; id = x.id; asked = x.asked; alive = x.alive; at = x.at; octets = x.octets; sent = back x.via x.sent; carries = x.carries }, refl, refl)
+    where
+      back : (v : Via) → IsAmong x.octets (waited_for v x.request t x.place k x.id (now h) (came_here x.place h) (Put (Stale l) ∷ h) (Put (Stale l) ∷ h)) → IsAmong x.octets (waited_for v x.request t x.place k x.id (now h) (came_here x.place h) h h)
+      back Dgram a = a
+      back Stream a = a
   owed_put (Close p) next k t x = inl (record { request = x.request; via = x.via; place = x.place; id = x.id; asked = x.asked; alive = elim x.alive [ inl e ↦ inl (still_alive (p == x.place) _ e) | inr e ↦ inr e ]; at = x.at; octets = x.octets; sent = back x.via x.sent; carries = x.carries }, refl, refl)
     where
       back : (v : Via) → IsAmong x.octets (waited_for v x.request t x.place k x.id (now h) (came_here x.place h) (Put (Close p) ∷ h) (Put (Close p) ∷ h)) → IsAmong x.octets (waited_for v x.request t x.place k x.id (now h) (came_here x.place h) h h)
@@ -189,6 +194,7 @@ module _ (c : Conf) (s : ℕ) (past : History) (w : What) (u : Served) (h : Hist
   none_sent (Send q j id o) m k p v e = m
   none_sent (Write q j id o) m k p v e = m
   none_sent (Resume q o) m k p v e = e
+  none_sent (Stale l) m k p v e = e
   none_sent (Close q) m k p v e = e
   none_sent (Reply j y) m k p v e = e
 

@@ -20,15 +20,16 @@ use Rattle.proof_right.specs.machine.Streams.{Puts, Nothing}
 use Rattle.proof_right.specs.machine.Dgrams.{Dgrams, Tryer}
 use Rattle.proof_right.specs.machine.Served.{Served, served, holds, has_moved, does, Acts, AsItIs, WithResult, IsGivenUp}
 use Rattle.proof_right.specs.machine.Client.{Waiting, Leaving, Upper, Server_moves, Gives_up, Delivers, Times_out, Replies, moved, leave, store, outcome, outcome_of, IsOutcome, Caches, Passes}
-use Rattle.proof_right.specs.machine.Dgrams as dgrams
-use Rattle.proof_right.specs.machine.Served as served_by
-use Rattle.proof_right.specs.machine.Server as server
 use Rattle.proof_right.specs.machine.Single.{Stage, Queued, Loose, Trying, Sent, Held, State, Done, staged, loosen, try, forget, lose, put_back, give_held, give_to, give, settle, finish, retry, expire, act_at, act, Pick, IsDue, Quiet, Fires, Rests, Fires_one}
 use Rattle.right_trace.specs.Updates.{with_at}
 use Rattle.proof_right.proofs.client.Beginning.{waits_not}
 use Rattle.proof_right.proofs.single.Standing.{placed, Standing, here, there, stands_so, gives_on, leaves_queue}
-use Rattle.proof_right.proofs.single.Standing as standing
 use Rattle.proof_right.proofs.single.Alike.{stage_in, tryer_of, waiting_of, Follows, both_at, one_at, Mirrors, IsTold, Told, others_stay, Alike, settled_all, Leads, Stays, Then, Does, then_does, by_one, does_so, leads_on, takes_place, gives, replies}
+use Rattle.proof_right.proofs.client.Outcomes.{outcome_plain}
+use Rattle.proof_right.specs.machine.Dgrams as dgrams
+use Rattle.proof_right.specs.machine.Served as served_by
+use Rattle.proof_right.specs.machine.Server as server
+use Rattle.proof_right.proofs.single.Standing as standing
 use Rattle.client_request.specs.declared.error.Error.TheVariants as errors
 use Rattle.client_request.specs.declared.error.QueryError.TheVariants as query
 
@@ -98,7 +99,7 @@ left_so st k q (Ok m) = go (validity_of_message st m) refl
     as_it_is false n = refl
 
     go : (v : Option ℕ) → validity_of_message st m ≡ v → IsLeft st k q (Ok m)
-    go None e = record { leaving = record { request = k; asked = q; result = Ok m; is_stored = false }; is = Passes m refl e; request = refl; result = refl }
+    go None e = record { leaving = record { request = k; asked = q; result = Ok m; is_stored = false; stale = None }; is = Passes m refl e; request = refl; result = refl }
     go (Some n) e = record { leaving = outcome st k q (Ok m); is = Caches; request = rw e (number (is_cacheable q) n); result = rw e (as_it_is (is_cacheable q) n) }
 
 -- a place of a request that is gone
@@ -133,7 +134,7 @@ module _ (c : Conf) (st : Settings) (compose : Request → Result Octets Error) 
         settled_so n s inv (λ S o. Does c st compose t' [] x S (outs ++ (o ++ Reply k r ∷ []))) (λ S o f e d. does_so c st compose t' [] x S (outs ++ (o ++ Reply k r ∷ [])) f e d) p k a r held at
         (then_does c st compose t' t' (z.leaving ∷ []) [] x (lose p k s) (give (lose p k s)).state outs ((give (lose p k s)).outs ++ Reply k r ∷ []) given
         (λ y al. then_does c st compose t' t' (z.leaving ∷ []) [] y (give (lose p k s)).state (give (lose p k s)).state (give (lose p k s)).outs (Reply k r ∷ []) (gives c st compose t' (z.leaving ∷ []) y (lose p k s) some waits (let f = inv.few in omega arith) al)
-        (λ y al. subst (λ o. Does c st compose t' [] y (give (lose p k s)).state (o ∷ [])) reply_is (replies c st compose t' y (give (lose p k s)).state z.leaving al))))
+        (λ y al. subst (λ o. Does c st compose t' [] y (give (lose p k s)).state (o ∷ [])) reply_is (replies c st compose t' y (give (lose p k s)).state z.leaving (outcome_plain st k a.request r z.leaving z.is) al))))
       where
         t' : Told
         t' = record t { first = first; taken = taken }
@@ -248,7 +249,7 @@ module _ (c : Conf) (st : Settings) (compose : Request → Result Octets Error) 
 
     -- The timeout of a request has passed: its reply is put out.
     abbrev late_leaving : (k : ℕ) → Held → Leaving
-    late_leaving k a = record { request = k; asked = a.request; result = Err errors.TimedOut; is_stored = false }
+    late_leaving k a = record { request = k; asked = a.request; result = Err errors.TimedOut; is_stored = false; stale = None }
 
     abbrev replied : (k : ℕ) → Held → Upper Served
     replied k a = record (leave (late_leaving k a) x) { leaving = []; stored = store x.now (late_leaving k a) x.stored }

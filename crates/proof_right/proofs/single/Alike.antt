@@ -15,7 +15,7 @@ use Rattle.right_trace.specs.Parts.{IsIn}
 use Rattle.proof_right.specs.machine.Streams.{Multi, Puts}
 use Rattle.proof_right.specs.machine.Dgrams.{Dgrams, Tryer}
 use Rattle.proof_right.specs.machine.Served.{Served, served, has_moved, does, IsSettled, AsItIs}
-use Rattle.proof_right.specs.machine.Client.{Waiting, Leaving, Upper, Made, Move, Moves, Rests, Goes, IsDone, Server_moves, Replies, moved, with_up, store}
+use Rattle.proof_right.specs.machine.Client.{Waiting, Leaving, Upper, Made, Move, Moves, Rests, Goes, IsDone, Server_moves, Replies, told_of, moved, with_up, store}
 use Rattle.proof_right.specs.machine.Dgrams as dgrams
 use Rattle.proof_right.specs.machine.Served as served_by
 use Rattle.proof_right.specs.machine.Single.{Stage, Queued, Loose, Trying, Sent, Held, State, staged, try, put_back, give_held, give_to, give}
@@ -241,7 +241,7 @@ module _ (c : Conf) (st : Settings) (compose : Request → Result Octets Error) 
           subst (λ o. Does t l x (give_held k o (put_back q s)).state (give_held k o (put_back q s)).outs) (sym a.1) (takes_place t l x (put_back q s) k a.0 some (none q) a.1 (ap stage_in a.2) free)
 
   -- the one result that is to be put out is
-  pub replies : (t : Told) (x : Upper Served) (s : State) (z : Leaving) → Alike t (z ∷ []) x s → Does t [] x s (Reply z.request z.result ∷ [])
-  replies t x s z alike =
-      by_one t [] x (record { state = record x { leaving = []; stored = store x.now z x.stored }; outs = Reply z.request z.result ∷ [] }) s (Replies [] [] z alike.leaving)
+  pub replies : (t : Told) (x : Upper Served) (s : State) (z : Leaving) → z.stale ≡ None → Alike t (z ∷ []) x s → Does t [] x s (Reply z.request z.result ∷ [])
+  replies t x s z plain alike =
+      by_one t [] x (record { state = record x { leaving = []; stored = store x.now z x.stored }; outs = Reply z.request z.result ∷ [] }) s (subst (λ o. Move c st compose (served c) x (record { state = record x { leaving = []; stored = store x.now z x.stored }; outs = told_of z.request z.result o })) plain (Replies [] [] z alike.leaving))
       (record { now = alike.now; asked = alike.asked; place = alike.place; held = alike.held; first = alike.first; told = alike.told; others = alike.others; pending = alike.pending; board = alike.board; leaving = refl })

@@ -22,17 +22,18 @@ use Rattle.proof_right.specs.machine.Streams.{Multi, Puts, Nothing, IsForeign}
 use Rattle.proof_right.specs.machine.Dgrams.{Dgrams, Tryer, TriesAt, SentAt, IsIgnored}
 use Rattle.proof_right.specs.machine.Served.{Served, has_moved, has_taken_it, does, place_after, outs_of, AsItIs, WithResult, TellsDgrams, IsInTime, IsHanded}
 use Rattle.proof_right.specs.machine.Client.{Waiting, Leaving, Upper, Made, Move, Server_moves, Hands_on, Answers, Takes_on, moved, hand, handing, take_on, answer, outcome, AtOnce, Refused, Nowhere}
-use Rattle.proof_right.specs.machine.Streams as multi
-use Rattle.proof_right.specs.machine.Dgrams as dgrams
-use Rattle.proof_right.specs.machine.Server as server
-use Rattle.proof_right.specs.machine.Client as upper
 use Rattle.proof_right.specs.machine.Single.{Stage, Queued, Loose, Trying, Sent, Held, State, Done, staged, nothing, loosen, try, settle, finish, Quiet, with_held, with_owner, dispatched, dispatch, send_composed, failed_at, broken_at, message_at, newcomer, admit, line_up, settle_in, enter, refuse, refusal_of, enter_or_refuse, opened_at, content}
 use Rattle.right_trace.specs.Updates.{with_at}
 use Rattle.proof_right.proofs.Carried.{carried_by}
 use Rattle.proof_right.proofs.single.Standing.{placed, Standing, here, there, stands_so, gives_on}
-use Rattle.proof_right.proofs.single.Standing as standing
 use Rattle.proof_right.proofs.single.Alike.{stage_in, tryer_of, waiting_of, Follows, both_at, one_at, Still, Told, others_stay, Alike, settled_all, Leads, Stays, Then, Does, then_does, by_one, takes_place, replies}
 use Rattle.proof_right.proofs.single.Acting.{settled_so, gone, settles, error_so}
+use Rattle.proof_right.proofs.client.Outcomes.{at_once_plain}
+use Rattle.proof_right.specs.machine.Streams as multi
+use Rattle.proof_right.specs.machine.Dgrams as dgrams
+use Rattle.proof_right.specs.machine.Server as server
+use Rattle.proof_right.specs.machine.Client as upper
+use Rattle.proof_right.proofs.single.Standing as standing
 use Rattle.client_request.specs.declared.error.Error.TheVariants as errors
 use Rattle.client_request.specs.declared.error.QueryError.TheVariants as query
 use Rattle.client_request.specs.declared.fault.Fault.TheVariants as fault
@@ -317,7 +318,7 @@ module _ (c : Conf) (st : Settings) (compose : Request → Result Octets Error) 
         does = then_does c st compose asked asked (z ∷ []) [] x (record s { asked = suc s.asked }) (record s { asked = suc s.asked }) [] (Reply s.asked (Err e) ∷ [])
             (by_one c st compose asked (z ∷ []) x (record { state = answer z x; outs = [] }) (record s { asked = suc s.asked }) (Answers r z alike.pending now)
             (record { now = alike.now; asked = ap suc alike.asked; place = alike.place; held = alike.held; first = (let u = alike.first in record { clock = u.clock; held = u.held; at = u.at; used = u.used; still = u.still; frames = u.frames }); told = record { pending = alike.told.pending; taken = alike.told.taken }; others = alike.others; pending = refl; board = alike.board; leaving = ap (λ l. l ++ z ∷ []) alike.leaving }))
-            (λ y al. subst (λ o. Does c st compose asked [] y (record s { asked = suc s.asked }) (o ∷ [])) (ap (λ k. Reply k z.result) (number ∙ alike.asked) ∙ ap (Reply s.asked) result) (replies c st compose asked y (record s { asked = suc s.asked }) z al));
+            (λ y al. subst (λ o. Does c st compose asked [] y (record s { asked = suc s.asked }) (o ∷ [])) (ap (λ k. Reply k z.result) (number ∙ alike.asked) ∙ ap (Reply s.asked) result) (replies c st compose asked y (record s { asked = suc s.asked }) z (at_once_plain c st compose x.now x.asked x.stored r z now) al));
         answered = refl;
         stands = standing.refuses (length c.servers) s inv;
         ignores = λ g. tt;
@@ -332,7 +333,7 @@ module _ (c : Conf) (st : Settings) (compose : Request → Result Octets Error) 
         v = record (x.ups 0).server { by_dgram = record (x.ups 0).server.by_dgram { held = with_at x.asked (Some fresh_one) (x.ups 0).server.by_dgram.held } }
 
         abbrev x1 : Upper Served
-        x1 = take_on r x
+        x1 = take_on r None x
 
         abbrev x2 : Upper Served
         x2 = moved 0 (does (has_moved v (x.ups 0)) x1.place (Puts (Start x.asked 0 Dgram))) (hand x.asked 0 (upper.newcomer r x.now) x1)
@@ -366,7 +367,7 @@ module _ (c : Conf) (st : Settings) (compose : Request → Result Octets Error) 
         admits = record {
           end = x2;
           leads = subst (λ k. Leads c st compose x (Start k 0 Dgram ∷ []) x2) alike.asked
-              (Then x (record { state = x1; outs = [] }) _ x2 (Takes_on r o alike.pending composed some)
+              (Then x (record { state = x1; outs = [] }) _ x2 (Takes_on r o None alike.pending composed some (λ e q. absurd (cc)))
               (Then x1 (record { state = x2; outs = Start x.asked 0 Dgram ∷ [] }) [] x2
               (Hands_on 0 x.asked (upper.newcomer r x.now) (does (has_moved v (x.ups 0)) x1.place (Puts (Start x.asked 0 Dgram))) some (here x.asked (Some (upper.newcomer r x.now)) x.held) refl (IsHanded ByDatagrams (Puts (Start x.asked 0 Dgram)) v used_so (server.ToDgrams refl unheld)))
               (Stays x2)));
@@ -424,7 +425,7 @@ module _ (c : Conf) (st : Settings) (compose : Request → Result Octets Error) 
       asks is octets = by_composing (compose r) refl has refl
         where
           by_composing : (o : Result Octets Error) → compose r ≡ o → (b : Bool) → has ≡ b → Meets (Ask r) x s (enter_or_refuse r s (refusal_of b o))
-          by_composing (Err e) composed b h = refuses e (record { request = x.asked; asked = r; result = Err e; is_stored = false }) (Refused e composed) refl refl
+          by_composing (Err e) composed b h = refuses e (record { request = x.asked; asked = r; result = Err e; is_stored = false; stale = None }) (Refused e composed) refl refl
           by_composing (Ok o) composed true h = enters o composed octets (ltb-true 0 (length c.servers) (sym is ∙ h))
           by_composing (Ok o) composed false h =
               let z = error_so st x.asked r errors.NoTransportAvailable in

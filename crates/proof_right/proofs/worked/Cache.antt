@@ -8,8 +8,6 @@ use Rattle.dns_base.specs.Knowing.{knows}
 use Rattle.dns_base.specs.OptRecord.{opt_of, opt_rcode}
 use Rattle.dns_base.specs.Answering.{is_answer}
 use Rattle.client_request.specs.Carries.{contents_of}
-use Rattle.client_request.specs.declared.error.Error.TheVariants as errors
-use Rattle.client_request.specs.declared.error.QueryError.TheVariants as query
 use Rattle.client_request.specs.declared.fault.Fault.TheVariants.{Refused}
 use Rattle.client_request.specs.declared.event.What.TheVariants.{OpenFailed, Datagram}
 use Rattle.client_request.specs.declared.event.Out.TheVariants.{Close}
@@ -30,6 +28,8 @@ use Rattle.right_trace.specs.Settings.{first_settings}
 use Rattle.proof_right.specs.examples.Rows.{so_far, by_datagrams}
 use Rattle.proof_right.specs.examples.Cache.{asked_again, refused_twice, WorkedCache}
 use Rattle.right_trace.proofs.Asked.{covers_refl}
+use Rattle.client_request.specs.declared.error.Error.TheVariants as errors
+use Rattle.client_request.specs.declared.error.QueryError.TheVariants as query
 
 -- the requests as they are sent
 pub carried : CarriesBy Dgram (as_datagram 18 52) plain_request 4660
@@ -49,10 +49,10 @@ pub whole_answer : truncated (answer 18 52 100) ≡ false
 unfolding truncated
 whole_answer = refl
 
-abbrev answered : History
+abbrev pub answered : History
 answered = Put (Close 0) ∷ Came (record { moment = record { 0 = 0 }; what = Datagram 0 (answer 18 52 100) }) ∷ so_far 2 asked_again
 
-came_it : CameFor by_datagrams 0 (answer 18 52 100) (so_far 2 asked_again) (Datagram 0 (answer 18 52 100)) answered
+pub came_it : CameFor by_datagrams 0 (answer 18 52 100) (so_far 2 asked_again) (Datagram 0 (answer 18 52 100)) answered
 unfolding read_timeout
 came_it = record {
   request = plain_request;
@@ -68,7 +68,7 @@ came_it = record {
 }
 
 pub fresh : IsFreshReply by_datagrams first_settings 0 (answer 18 52 100) 0 (so_far 3 asked_again)
-fresh = record { before = answered; put = refl; fresh = InThisRow came_it; at = refl }
+fresh = record { before = answered; put = refl; unmarked = refl; fresh = InThisRow came_it; at = refl }
 
 pub cacheable : is_cacheable plain_request ≡ true
 unfolding name_at walk head_at data_at data_spelling question_at record_at list_at items_at questions_of answer_of authority_of additional_of answer_items authority_items additional_items first_question sole_question reads knows opt_of opt_rcode contents_of base_is_read is_cacheable

@@ -19,21 +19,16 @@ use Rattle.dns_base.specs.Knowing.{knows}
 use Rattle.dns_base.specs.OptRecord.{opt_of, opt_rcode}
 use Rattle.dns_base.specs.Answering.{is_answer}
 use Rattle.client_request.specs.Carries.{contents_of}
-use Rattle.client_request.specs.declared.error.Error.TheVariants as errors
 use Rattle.client_request.specs.declared.event.Row.{Row}
 use Rattle.client_request.specs.declared.event.Out.{Out}
 use Rattle.right_trace.specs.Trace.{ByDatagrams}
-use Rattle.proof_right.specs.machine.Streams as multi
-use Rattle.proof_right.specs.machine.Dgrams as dgrams
 use Rattle.proof_right.specs.machine.Dgrams.{Tryer, Dgrams}
 use Rattle.proof_right.specs.machine.Part.{ServerPart, Act as Step}
 use Rattle.proof_right.specs.machine.Streams.{Act, Puts, Gives, Nothing, Asker, Conn, Multi}
 use Rattle.right_trace.specs.Updates.{with_at}
 use Rattle.client_request.specs.declared.event.What.{What}
 use Rattle.client_request.specs.declared.event.Event.{Event}
-use Rattle.proof_right.specs.machine.Server as server
 use Rattle.proof_right.specs.machine.Server.{Server}
-use Rattle.proof_right.specs.machine.Served as served
 use Rattle.proof_right.specs.machine.Served.{Served, RestsNow, served, does, has_moved, has_taken_it, AsItIs, WithResult}
 use Rattle.proof_right.specs.machine.Client.{Caches, Waiting, Leaving, Entry, entry_of, answer as answer_at_once, Viewed, outcome, leave, store, unmade, Upper, Move, moved, hand, handing, newcomer, take_on, row_begins, Moves, Goes, Rests, Takes_on, Hands_on, Server_moves, Delivers, Replies, Answers, IsRun, Ends, begun}
 use Rattle.proof_right.specs.examples.Messages.{plain_request, as_datagram, as_frame, frame, cut_answer, answer}
@@ -48,6 +43,11 @@ use Rattle.right_trace.proofs.Asked.{keys_refl}
 use Rattle.proof_right.specs.examples.Runs.{IsARun}
 use Rattle.proof_right.proofs.worked.Resting.{only, nobody, away, gone, away_held, gone_held, away_every, away_unheard, not_held, not_octets, wrote_plain, below, at_most, StageSettled, trying_settled, cut_settled, sent_settled, StageInTime, in_time_by, tick_foreign, ask_foreign, datagram_foreign, opens_nothing, nobody_tries, nobody_sent, StageRests, PhaseRests, ModeRests, rests_by, done_with, done_with_none, next}
 use Rattle.proof_right.proofs.worked.Cache.{carried, carried_in_frame, answers_it, whole_answer, cacheable, computed, viewable_30, viewable_100}
+use Rattle.client_request.specs.declared.error.Error.TheVariants as errors
+use Rattle.proof_right.specs.machine.Streams as multi
+use Rattle.proof_right.specs.machine.Dgrams as dgrams
+use Rattle.proof_right.specs.machine.Server as server
+use Rattle.proof_right.specs.machine.Served as served
 
 abbrev P : ServerPart by_datagrams
 P = served by_datagrams
@@ -104,7 +104,7 @@ module _ (compose : Request → Result Octets Error) (o : Octets) (r : Request) 
   x0 = begun by_datagrams first_settings compose P
 
   abbrev y1 : Upper Served
-  y1 = take_on r (begins 0 (Ask r) x0)
+  y1 = take_on r None (begins 0 (Ask r) x0)
 
   abbrev y2 : Upper Served
   y2 = goes_to (with_dgrams d1 (server_in y1)) (Puts (Start 0 0 Dgram)) (hand 0 0 (newcomer r 0) y1)
@@ -120,7 +120,7 @@ module _ (compose : Request → Result Octets Error) (o : Octets) (r : Request) 
 
   row1 : Goes_to x0 0 (Ask r) x1 (Start 0 0 Dgram ∷ OpenDgram 0 0 ∷ [])
   row1 =
-      Goes (begins 0 (Ask r) x0) _ _ (Takes_on r o refl composed (below 0 1 refl))
+      Goes (begins 0 (Ask r) x0) _ _ (Takes_on r o None refl composed (below 0 1 refl) (λ e q. absurd (cc)))
       (Goes y1 _ _ (Hands_on 0 0 (newcomer r 0) _ (below 0 1 refl) refl refl (served.IsHanded ByDatagrams (Puts (Start 0 0 Dgram)) (with_dgrams d1 (server_in y1)) refl (server.ToDgrams refl refl)))
       (Goes y2 _ _ (Server_moves 0 _ (below 0 1 refl) (served.ByDgram (Puts (OpenDgram 0 0)) d2 _ (dgrams.Opens 0 queued refl refl (below 0 100 refl)) (AsItIs (only (λ k (a : Tryer). StageSettled a.stage) 0 trying d2.held refl others2 (trying_settled 0)))))
       (Rests x1 (done_with compose x1 0 waiting refl refl refl
@@ -129,7 +129,7 @@ module _ (compose : Request → Result Octets Error) (o : Octets) (r : Request) 
 
   -- A cut answer goes on by stream.
   module _ (o1 m1 m0 w b m2 : Octets) (carries : CarriesBy Dgram o1 r 4660) (long : 12 ≤ length (take 2000 m1)) (answers1 : answers r 4660 (take 2000 m1) ≡ true) (cut : truncated (take 2000 m1) ≡ true) (in_frame : CarriesInFrame w r 0) (some : 0 < length w) (few : length w ≤ 46) (frames : (fed Length b).frames ≡ m2 ∷ []) (good : is_bad m2 ≡ false) (id0 : id_in m2 ≡ 0) (answers2 : answers r 0 m2 ≡ true)
-      (stays : 20004 < 20004 + told_idle (keepalive_of m2) idle_timeout) (kept : outcome first_settings 0 r (Ok m2) ≡ record { request = 0; asked = r; result = Ok m2; is_stored = true }) (final : waits_for_others first_settings (Ok m2) ≡ false) where
+      (stays : 20004 < 20004 + told_idle (keepalive_of m2) idle_timeout) (kept : outcome first_settings 0 r (Ok m2) ≡ record { request = 0; asked = r; result = Ok m2; is_stored = true; stale = None }) (final : waits_for_others first_settings (Ok m2) ≡ false) where
     -- it is sent
     abbrev sent : Tryer
     sent = record { request = r; tries = 1; stage = dgrams.Sent 0 4660 10 }
@@ -322,7 +322,7 @@ module _ (compose : Request → Result Octets Error) (o : Octets) (r : Request) 
     v7 = moved 0 (does (served.frames_left [] s8 (y7.ups 0)) y7.place (Gives 0 (multi.result_of r (id_in m2) m2))) y7
 
     abbrev leaving : Leaving
-    leaving = record { request = 0; asked = r; result = Ok m2; is_stored = true }
+    leaving = record { request = 0; asked = r; result = Ok m2; is_stored = true; stale = None }
 
     abbrev u7 : Upper Served
     u7 = leave leaving (record v7 { board = [] })
@@ -378,7 +378,7 @@ module _ (compose : Request → Result Octets Error) (o : Octets) (r : Request) 
     cut_run = row _ 0 _ _ x1 _ row1 (row x1 10 _ _ x2 _ row2 (row x2 20000 _ _ x3 _ row3 (row x3 20001 _ _ x4 _ row4 (row x4 20002 _ _ x5 _ row5 (row x5 20003 _ _ x6 _ row6 (row x6 20004 _ _ x7 _ row7 (Ends x7)))))))
 
   -- An answer is given again as a view, and then no more.
-  module _ (o1 m v30 v100 : Octets) (x : Parts Data) (carries : CarriesBy Dgram o1 r 4660) (long : 12 ≤ length (take 2000 m)) (answers1 : answers r 4660 (take 2000 m) ≡ true) (whole : truncated (take 2000 m) ≡ false) (kept : outcome first_settings 0 r (Ok (take 2000 m)) ≡ record { request = 0; asked = r; result = Ok (take 2000 m); is_stored = true }) (final : waits_for_others first_settings (Ok (take 2000 m)) ≡ false)
+  module _ (o1 m v30 v100 : Octets) (x : Parts Data) (carries : CarriesBy Dgram o1 r 4660) (long : 12 ≤ length (take 2000 m)) (answers1 : answers r 4660 (take 2000 m) ≡ true) (whole : truncated (take 2000 m) ≡ false) (kept : outcome first_settings 0 r (Ok (take 2000 m)) ≡ record { request = 0; asked = r; result = Ok (take 2000 m); is_stored = true; stale = None }) (final : waits_for_others first_settings (Ok (take 2000 m)) ≡ false)
       (covers : KeyCovers (key_of r) r) (valid30 : IsValidView first_settings r r (take 2000 m) x 30000000) (says30 : Says v30 (view_of r r 30000000 x)) (valid100 : IsValidView first_settings r r (take 2000 m) x 100000000) (says100 : Says v100 (view_of r r 100000000 x)) where
     -- it is sent at once
     abbrev sent0 : Tryer
@@ -422,7 +422,7 @@ module _ (compose : Request → Result Octets Error) (o : Octets) (r : Request) 
     a3 = moved 0 act t3
 
     abbrev first : Leaving
-    first = record { request = 0; asked = r; result = Ok (take 2000 m); is_stored = true }
+    first = record { request = 0; asked = r; result = Ok (take 2000 m); is_stored = true; stale = None }
 
     abbrev b3 : Upper Served
     b3 = leave first (record a3 { board = [] })
@@ -458,7 +458,7 @@ module _ (compose : Request → Result Octets Error) (o : Octets) (r : Request) 
     stored = entry_of 0 first
 
     abbrev viewed : ℕ → Octets → Leaving
-    viewed k y = record { request = k; asked = r; result = Ok y; is_stored = false }
+    viewed k y = record { request = k; asked = r; result = Ok y; is_stored = false; stale = None }
 
     abbrev t4 : Upper Served
     t4 = begins 30000000 (Ask r) w3
@@ -500,7 +500,7 @@ module _ (compose : Request → Result Octets Error) (o : Octets) (r : Request) 
     t6 = begins 101000000 (Ask r) w5
 
     abbrev a6 : Upper Served
-    a6 = take_on r t6
+    a6 = take_on r None t6
 
     abbrev newest : Waiting
     newest = newcomer r 101000000
@@ -525,7 +525,7 @@ module _ (compose : Request → Result Octets Error) (o : Octets) (r : Request) 
 
     after_101 : Goes_to w5 101000000 (Ask r) w6 (Start 3 0 Dgram ∷ OpenDgram 1 0 ∷ [])
     after_101 =
-        Goes t6 _ _ (Takes_on r o refl composed (below 0 1 refl))
+        Goes t6 _ _ (Takes_on r o None refl composed (below 0 1 refl) (λ e q. absurd (cc)))
         (Goes a6 _ _ (Hands_on 0 3 newest _ (below 0 1 refl) refl refl (served.IsHanded ByDatagrams (Puts (Start 3 0 Dgram)) (with_dgrams e5 (server_in a6)) refl (server.ToDgrams refl refl)))
         (Goes b6 _ _ (Server_moves 0 _ (below 0 1 refl) (served.ByDgram (Puts (OpenDgram 1 0)) e6 _ (dgrams.Opens 3 queued refl refl (below 0 100 refl)) (AsItIs (only (λ k (a : Tryer). StageSettled a.stage) 3 (dgrams.staged queued (dgrams.Trying 1)) e6.held refl away6 (trying_settled 1)))))
         (Rests w6 (done_with compose w6 3 (handing 0 newest) refl refl refl
@@ -552,12 +552,12 @@ keeps : 20004 < 20004 + told_idle (keepalive_of (answer 0 0 100)) idle_timeout
 unfolding name_at walk head_at data_at data_spelling question_at record_at list_at items_at questions_of answer_of authority_of additional_of answer_items authority_items additional_items first_question sole_question reads knows opt_of opt_rcode contents_of keepalive_of idle_timeout
 keeps = below 20004 10020004 refl
 
-kept_answer : outcome first_settings 0 plain_request (Ok (answer 0 0 100)) ≡ record { request = 0; asked = plain_request; result = Ok (answer 0 0 100); is_stored = true }
-unfolding name_at walk head_at data_at data_spelling question_at record_at list_at items_at questions_of answer_of authority_of additional_of answer_items authority_items additional_items first_question sole_question reads knows opt_of opt_rcode contents_of base_is_read truncated question_of key_of is_cacheable read_parts second validity_of_message
+kept_answer : outcome first_settings 0 plain_request (Ok (answer 0 0 100)) ≡ record { request = 0; asked = plain_request; result = Ok (answer 0 0 100); is_stored = true; stale = None }
+unfolding name_at walk head_at data_at data_spelling question_at record_at list_at items_at questions_of answer_of authority_of additional_of answer_items authority_items additional_items first_question sole_question reads knows opt_of opt_rcode contents_of base_is_read truncated question_of key_of is_cacheable read_parts known_parts second validity_of_message
 kept_answer = refl
 
-kept_first : outcome first_settings 0 plain_request (Ok (answer 18 52 100)) ≡ record { request = 0; asked = plain_request; result = Ok (answer 18 52 100); is_stored = true }
-unfolding name_at walk head_at data_at data_spelling question_at record_at list_at items_at questions_of answer_of authority_of additional_of answer_items authority_items additional_items first_question sole_question reads knows opt_of opt_rcode contents_of base_is_read truncated question_of key_of is_cacheable read_parts second validity_of_message
+kept_first : outcome first_settings 0 plain_request (Ok (answer 18 52 100)) ≡ record { request = 0; asked = plain_request; result = Ok (answer 18 52 100); is_stored = true; stale = None }
+unfolding name_at walk head_at data_at data_spelling question_at record_at list_at items_at questions_of answer_of authority_of additional_of answer_items authority_items additional_items first_question sole_question reads knows opt_of opt_rcode contents_of base_is_read truncated question_of key_of is_cacheable read_parts known_parts second validity_of_message
 kept_first = refl
 
 is_final : (m : Octets) → waits_for_others first_settings (Ok m) ≡ false

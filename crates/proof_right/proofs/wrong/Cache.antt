@@ -8,8 +8,6 @@ use Rattle.dns_base.specs.Knowing.{knows}
 use Rattle.dns_base.specs.OptRecord.{opt_of, opt_rcode}
 use Rattle.client_request.specs.Request.{Request}
 use Rattle.client_request.specs.declared.error.Error.{Error}
-use Rattle.client_request.specs.declared.error.Error.TheVariants as errors
-use Rattle.client_request.specs.declared.error.QueryError.TheVariants as query
 use Rattle.client_request.specs.declared.fault.Fault.TheVariants.{Refused}
 use Rattle.client_request.specs.declared.event.What.TheVariants.{Ask, OpenFailed, SendFailed, ShortSend, RecvFailed, Datagram}
 use Rattle.client_request.specs.declared.event.Out.TheVariants.{Close, Reply}
@@ -24,7 +22,7 @@ use Rattle.right_trace.specs.Validity.{second}
 use Rattle.right_trace.specs.Views.{view_of, view_validity}
 use Rattle.right_trace.specs.Replies.{InThisRow, Deferred, OkIsRight, Fresh, View, IsView, IsFreshReply}
 use Rattle.right_trace.specs.Causes.{ServerCause, NotOpened, NotSent, SentShort, NotReceived, NoAnswer, WrongReply, StreamSilence, NotRead, NotComposed}
-use Rattle.right_trace.specs.Errors.{DirectCause, Deadline, NoServer, ByServer, NoValidity, ViewNotKnown, Here, Earlier, IsErrorReply, HasCause, Own, Kept}
+use Rattle.right_trace.specs.Errors.{DirectCause, Deadline, NoServer, ByServer, NoValidity, Here, Earlier, IsErrorReply, HasCause, Own, Kept}
 use Rattle.right_trace.specs.Right.{Right}
 use Rattle.proof_right.specs.examples.Messages.{plain_request, ad_request, answer, answer_with_z, failing}
 use Rattle.proof_right.specs.examples.Rows.{so_far, two_servers, deferring}
@@ -34,6 +32,9 @@ use Rattle.proof_right.specs.examples.Wrong.{invented, asked_then, refused_again
 use Rattle.proof_right.proofs.client.Promptness.{none_first}
 use Rattle.proof_right.proofs.wrong.Dgrams.{same_asked}
 use Rattle.proof_right.proofs.worked.Servers.{defers_it}
+use Rattle.proof_right.proofs.wrong.Marks.{unmarked}
+use Rattle.client_request.specs.declared.error.Error.TheVariants as errors
+use Rattle.client_request.specs.declared.error.QueryError.TheVariants as query
 
 -- A message that nobody got before
 
@@ -44,7 +45,7 @@ not_invented c s r m (Fresh (Deferred d (inr z)) g) = z
 not_invented c s r m (View v) = (let lt = v.supplied.earlier.below in omega arith)
 
 pub invents : (c : Conf) (s : Settings) (r : Request) (m : Octets) → Right c s (invented r m) → ⊥
-invents c s r m h = not_invented c s r m h.0.outs.0.1
+invents c s r m h = not_invented c s r m (unmarked c s 0 m _ _ _ refl h.0.outs.0.1)
 
 -- Views of the answer of 100 seconds
 
@@ -105,7 +106,7 @@ module _ (c : Conf) (s : Settings) (n : ℕ) (r : Request) (m : Octets) where
       }
 
   pub is_of_it : Right c s (asked_then n r m) → IsOfIt
-  is_of_it h = of_it (is_view h.1.1.1.0.outs.0.1)
+  is_of_it h = of_it (is_view (unmarked c s 1 m _ _ _ refl h.1.1.1.0.outs.0.1))
 
 -- the TTL of the first record, as it is read
 abbrev first_ttl : List (Entry Data) → ℕ
@@ -202,7 +203,6 @@ no_direct c k past h _ e (NoServer n x) = absurd (cc)
 no_direct c k past h _ e (ByServer v (Here x)) = not_opened_by_ask c k past h v e x
 no_direct c k past h _ e (ByServer v (Earlier q x)) = absurd (cc)
 no_direct c k past h _ e (NoValidity m x) = absurd (cc)
-no_direct c k past h _ e (ViewNotKnown x) = absurd (cc)
 
 abbrev then_refused : ℕ → History
 then_refused n = Came (record { moment = record { 0 = n }; what = Ask plain_request }) ∷ so_far 2 refused_twice
@@ -263,4 +263,4 @@ not_before_all (Fresh x d) = (let z = (d defers_it).0.handed 0 (omega arith) in 
 not_before_all (View x) = (let z : false ≡ true = x.asked_here in absurd (cc))
 
 pub before_all_failed : Right two_servers deferring failing_at_once → ⊥
-before_all_failed h = not_before_all h.1.1.0.outs.1.0.1
+before_all_failed h = not_before_all (unmarked two_servers deferring 0 failing _ _ _ refl h.1.1.0.outs.1.0.1)

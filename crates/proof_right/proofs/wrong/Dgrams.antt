@@ -11,6 +11,7 @@ use Rattle.client_request.specs.declared.event.What.TheVariants.{Ask, Opened, Da
 use Rattle.client_request.specs.declared.event.Out.TheVariants.{Start, OpenDgram, Send, Close}
 use Rattle.client_request.specs.declared.event.Via.{Via}
 use Rattle.client_request.specs.declared.event.Via.TheVariants.{Dgram, Stream}
+use Rattle.proof_right.proofs.wrong.Marks.{unmarked}
 use Rattle.right_trace.specs.Trace.{History, Conf, Came, Put}
 use Rattle.right_trace.specs.Time.{read_timeout, one_if, EarlierRow, OfRow}
 use Rattle.right_trace.specs.Messages.{Octets, CarriesBy, answers, truncated, is_valid}
@@ -23,7 +24,7 @@ use Rattle.right_trace.specs.Validity.{is_final}
 use Rattle.right_trace.specs.Coming.{CameFor, IsExcused}
 use Rattle.right_trace.specs.Replies.{InThisRow, Deferred, OkIsRight, Fresh, View}
 use Rattle.right_trace.specs.Causes.{sends, ServerCause, NotOpened, NotSent, SentShort, NotReceived, NoAnswer, WrongReply, StreamSilence, NotRead, NotComposed}
-use Rattle.right_trace.specs.Errors.{Deadline, NoServer, ByServer, NoValidity, ViewNotKnown, Here, Earlier, HasCause, Own, Kept}
+use Rattle.right_trace.specs.Errors.{Deadline, NoServer, ByServer, NoValidity, Here, Earlier, HasCause, Own, Kept}
 use Rattle.right_trace.specs.Orderly.{Sending, MayCloseDgram, ItsFault, ItsAnswer, ItsTimeout, ItsReply, ReplyBeforeItsSend, InvalidBeforeItsSend, MayClose, OfDgram, OfStream}
 use Rattle.right_trace.specs.Busy.{IsBusy, Exchanging, PlaceIsOpening, PlacesAreTaken, StreamIsOpening, StreamIsWriting, BackingOff}
 use Rattle.right_trace.specs.Right.{Right, OutRight, IsOverdue, PastDeadline, PastTries, PastStream}
@@ -125,7 +126,7 @@ module _ (c : Conf) (s : Settings) (r : Request) (o m : Octets) where
 
   pub not_an_answer : answers r 7 (take 2000 m) ≡ false → Right c s (taken 0 r o m) → ⊥
   not_an_answer wrong h =
-      let f = is_here 0 h.1.1.0.outs.1.0.1 in
+      let f = is_here 0 (unmarked c s 0 (take 2000 m) _ _ _ refl h.1.1.0.outs.1.0.1) in
       let e = matched f.request f.via f.server f.place f.id (Datagram 0 m) (answered_history 0) (take 2000 m) f.matches in
       let a : answers r 7 (take 2000 m) ≡ true = subst₂ (λ r id. answers r id (take 2000 m) ≡ true) e.1 e.2 f.matches.agrees in
       absurd (cc)
@@ -135,7 +136,7 @@ module _ (c : Conf) (s : Settings) (r : Request) (o m : Octets) where
   not_cut cut h = whole f.via (matched f.request f.via f.server f.place f.id (Datagram 0 m) (answered_history 0) (take 2000 m) f.matches).0 f.matches
     where
       f : CameFor c 0 (take 2000 m) (sent_history r o) (Datagram 0 m) (answered_history 0)
-      f = is_here 0 h.1.1.0.outs.1.0.1
+      f = is_here 0 (unmarked c s 0 (take 2000 m) _ _ _ refl h.1.1.0.outs.1.0.1)
 
       whole : (v : Via) → v ≡ Dgram → Matches c f.request v f.server f.place 0 f.id (take 2000 m) (sent_history r o) (Datagram 0 m) (answered_history 0) → ⊥
       whole Stream e x = absurd (cc)
@@ -151,7 +152,7 @@ module _ (c : Conf) (s : Settings) (r : Request) (o m : Octets) where
 
   pub too_late : Right c s (taken 5000000 r o m) → ⊥
   too_late h =
-      let f = is_here 5000000 h.1.1.0.outs.1.0.1 in
+      let f = is_here 5000000 (unmarked c s 0 (take 2000 m) _ _ _ refl h.1.1.0.outs.1.0.1) in
       late_match f.request f.via f.server f.place f.id (take 2000 m) (matched f.request f.via f.server f.place f.id (Datagram 0 m) (answered_history 5000000) (take 2000 m) f.matches).0 f.matches
 
   -- place 0 was closed, and the next one opens
@@ -177,7 +178,7 @@ module _ (c : Conf) (s : Settings) (r : Request) (o m : Octets) where
   not_there (View v) = (let z : false ≡ true = v.asked_here in absurd (cc))
 
   pub not_when_closed : Right c s (taken_when_closed r o m) → ⊥
-  not_when_closed h = not_there h.1.1.1.0.outs.0.1
+  not_when_closed h = not_there (unmarked c s 0 (take 2000 m) _ _ _ refl h.1.1.1.0.outs.0.1)
 
   hasty : 10 < c.timeout → (e : Error) → e ≡ TimedOut → HasCause c s e 0 (sent_history r o) Tick (Put (Close 0) ∷ Came (record { moment = record { 0 = 10 }; what = Tick }) ∷ sent_history r o) → ⊥
   hasty later _ is (Own (Deadline d) g) =
@@ -189,7 +190,6 @@ module _ (c : Conf) (s : Settings) (r : Request) (o m : Octets) where
   hasty later e is (Own (ByServer _ (Here x)) g) = not_timed_out c 0 (sent_history r o) Tick (Put (Close 0) ∷ Came (record { moment = record { 0 = 10 }; what = Tick }) ∷ sent_history r o) e is x
   hasty later e is (Own (ByServer _ (Earlier w x)) g) = not_timed_out_before c 0 (Put (Close 0) ∷ Came (record { moment = record { 0 = 10 }; what = Tick }) ∷ sent_history r o) e is x
   hasty later _ is (Own (NoValidity x y) g) = absurd (cc)
-  hasty later _ is (Own (ViewNotKnown x) g) = absurd (cc)
   hasty later e is (Kept x) = (let z : false ≡ true = x.asked_here in absurd (cc))
 
   pub early : 10 < c.timeout → Right c s (timed_out_early r o) → ⊥

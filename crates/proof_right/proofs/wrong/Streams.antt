@@ -26,13 +26,14 @@ use Rattle.right_trace.specs.Validity.{is_final}
 use Rattle.right_trace.specs.Coming.{CameFor, IsExcused}
 use Rattle.right_trace.specs.Replies.{InThisRow, Deferred, OkIsRight, Fresh, View}
 use Rattle.right_trace.specs.Causes.{ServerCause, NotOpened, NotSent, SentShort, NotReceived, NoAnswer, WrongReply, StreamSilence, NotRead, NotComposed}
-use Rattle.right_trace.specs.Errors.{Deadline, NoServer, ByServer, NoValidity, ViewNotKnown, Here, Earlier, HasCause, Own, Kept}
+use Rattle.right_trace.specs.Errors.{Deadline, NoServer, ByServer, NoValidity, Here, Earlier, HasCause, Own, Kept}
 use Rattle.right_trace.specs.Orderly.{MayCloseStream, StreamFault, BadFrame, ReadTimer, IdleTimer, MayClose, OfDgram, OfStream}
 use Rattle.right_trace.specs.Busy.{IsBusy, BreaksOff, OpeningFailed, OpeningFailedAtOnce, IdsAreUsed, ConnectionEnded, Exchanging, PlaceIsOpening, PlacesAreTaken, StreamIsOpening, StreamIsWriting, BackingOff}
 use Rattle.right_trace.specs.Right.{Right, IsOverdue, PastDeadline, PastTries, PastStream}
 use Rattle.proof_right.specs.examples.Wrong.{written, frame_taken, taken_unwritten, frame_passed_over, nothing_written, stream_closed_for_nothing, wrong_without_frame, second_while_opening, second_while_open}
 use Rattle.proof_right.proofs.client.Promptness.{none_first}
 use Rattle.proof_right.proofs.wrong.Dgrams.{same_asked}
+use Rattle.proof_right.proofs.wrong.Marks.{unmarked}
 
 -- the first two octets of a frame are the length of the rest
 length_told : (a b : ℕ) (rest : Octets) (r : Request) (id : ℕ) → CarriesInFrame (a ∷ b ∷ rest) r id → 256 * a + b ≡ length rest
@@ -111,7 +112,7 @@ module _ (c : Conf) (s : Settings) (r : Request) (o : Octets) where
 
   -- what is taken from octets is the first frame with the id, an answer, in time
   pub is_taken : (n : ℕ) (piece m : Octets) → Right c s (frame_taken n r o piece m) → IsTheAnswer n piece m
-  is_taken n piece m h = (let f = is_here n piece m h.1.1.0.outs.0.1 in matched n piece m f.request f.via f.server f.place f.id f.matches)
+  is_taken n piece m h = (let f = is_here n piece m (unmarked c s 0 m _ _ _ refl h.1.1.0.outs.0.1) in matched n piece m f.request f.via f.server f.place f.id f.matches)
 
   pub not_with_another_id : (piece g m : Octets) → (fed Length piece).frames ≡ g ∷ [] → id_in g ≢ 7 → Right c s (frame_taken 1 r o piece m) → ⊥
   not_with_another_id piece g m is ne h = go (is_bad g) (id_in g == 7) refl (subst (λ ms. first_with 7 ms ≡ Some m) is (is_taken 1 piece m h).first)
@@ -148,7 +149,7 @@ module _ (c : Conf) (s : Settings) (r : Request) (o : Octets) where
   unwritten piece m (View v) = (let z : false ≡ true = v.asked_here in cc)
 
   pub not_before_its_write : (piece m : Octets) → Right c s (taken_unwritten r piece m) → ⊥
-  not_before_its_write piece m h = unwritten piece m h.1.1.0.outs.0.1
+  not_before_its_write piece m h = unwritten piece m (unmarked c s 0 m _ _ _ refl h.1.1.0.outs.0.1)
 
   -- two octets of length that are not the length of the rest
   pub wrong_length : (a b : ℕ) (rest : Octets) → 256 * a + b ≢ length rest → o ≡ a ∷ b ∷ rest → Right c s (written r o []) → ⊥
@@ -269,7 +270,6 @@ module _ (c : Conf) (s : Settings) (r : Request) (o : Octets) where
   no_cause v e (Own (ByServer _ (Earlier w (inr (inr (inl x))))) g) = no_wrong [] Tick [] (λ p. refl) v e x
   no_cause v e (Own (ByServer _ (Earlier w (inr (inr (inr x))))) g) = x
   no_cause _ e (Own (NoValidity x y) g) = cc
-  no_cause _ e (Own (ViewNotKnown x) g) = cc
   no_cause v e (Kept x) = (let z : false ≡ true = x.asked_here in cc)
 
   pub wrong_alone : Right c s (wrong_without_frame r o) → ⊥

@@ -7,7 +7,7 @@ use Rattle.client_request.specs.declared.event.Event.{Event}
 use Rattle.client_request.specs.declared.event.What.{What}
 use Rattle.client_request.specs.declared.event.What.TheVariants.{Ask, Tick}
 use Rattle.client_request.specs.declared.event.Out.{Out}
-use Rattle.client_request.specs.declared.event.Out.TheVariants.{Reply}
+use Rattle.client_request.specs.declared.event.Out.TheVariants.{Stale, Reply}
 use Rattle.client_request.specs.declared.event.Row.{Row}
 use Rattle.right_trace.specs.Trace.{Conf}
 use Rattle.right_trace.specs.Messages.{Octets}
@@ -16,7 +16,8 @@ use Rattle.right_trace.specs.Settings.{Settings}
 use Rattle.right_trace.specs.Keys.{Key, KeysCover, KeyCovers, key_of, is_cacheable, is_do}
 use Rattle.right_trace.specs.Parts.{IsIn, Parts, read_parts, known_parts, Says}
 use Rattle.right_trace.specs.Validity.{validity_of_message, waits_for_others}
-use Rattle.right_trace.specs.Views.{view_of, view_validity, IsValidView}
+use Rattle.right_trace.specs.Views.{tells_of_name, view_of, stale_of, view_validity, IsValidView}
+use Rattle.right_trace.specs.Errors.{is_failure}
 use Rattle.proof_right.specs.machine.Part.{Post, Act, ServerPart}
 use Rattle.client_request.specs.declared.error.Error.TheVariants as errors
 
@@ -38,12 +39,13 @@ pub record Waiting : Type 0 where
   pub tried : ℕ → Bool
   pub kept_back : List Given
 
--- a result that is to be put out as a reply, and whether it is then stored
+-- a result that is to be put out as a reply, and whether it is then stored; or what is put in its place, marked as stale
 pub record Leaving : Type 0 where
   pub request : ℕ
   pub asked : Request
   pub result : Result Octets Error
   pub is_stored : Bool
+  pub stale : Option Octets
 
 -- What is stored under a key: the first reply, whose it was, and when.
 pub record Entry : Type 0 where
@@ -53,6 +55,7 @@ pub record Entry : Type 0 where
   pub result : Result Octets Error
   pub moment : ℕ
 
+-- `expired` is what was stored for a request when it was asked, and had expired.
 pub record Upper (U : Type 0) : Type 0 where
   pub now : ℕ
   pub asked : ℕ
@@ -63,6 +66,7 @@ pub record Upper (U : Type 0) : Type 0 where
   pub board : List Posted
   pub leaving : List Leaving
   pub stored : List Entry
+  pub expired : ℕ → Option Entry
 
 pub record Made (U : Type 0) : Type 0 where
   pub state : Upper U
@@ -73,6 +77,9 @@ with_up s u f t = if s == t then u else f t
 
 abbrev pub with_held : ℕ → Option Waiting → (ℕ → Option Waiting) → ℕ → Option Waiting
 with_held k a f j = if k == j then a else f j
+
+abbrev pub with_expired : ℕ → Option Entry → (ℕ → Option Entry) → ℕ → Option Entry
+with_expired k a f j = if k == j then a else f j
 
 abbrev pub tag : ℕ → Post → Posted
 tag s x = record { server = s; request = x.request; result = x.result }
@@ -114,9 +121,9 @@ validity_of s (Err e) = Some s.transport_failure_duration
 
 -- what the cache makes of a result: a message without a validity is no result for a request that it keeps
 abbrev pub outcome_of : (cacheable : Bool) → Option ℕ → (k : ℕ) → Request → Result Octets Error → Leaving
-outcome_of false v k r x = record { request = k; asked = r; result = x; is_stored = false }
-outcome_of true (Some n) k r x = record { request = k; asked = r; result = x; is_stored = nat_lt 0 n }
-outcome_of true None k r x = record { request = k; asked = r; result = Err errors.MessageParseError; is_stored = false }
+outcome_of false v k r x = record { request = k; asked = r; result = x; is_stored = false; stale = None }
+outcome_of true (Some n) k r x = record { request = k; asked = r; result = x; is_stored = nat_lt 0 n; stale = None }
+outcome_of true None k r x = record { request = k; asked = r; result = Err errors.MessageParseError; is_stored = false; stale = None }
 
 abbrev pub outcome : Settings → (k : ℕ) → Request → Result Octets Error → Leaving
 outcome s k r x = outcome_of (is_cacheable r) (validity_of s x) k r x
@@ -124,7 +131,7 @@ outcome s k r x = outcome_of (is_cacheable r) (validity_of s x) k r x
 -- What a result becomes: what the cache makes of it; or, where a message has no validity and no cache looks at it, itself.
 pub data IsOutcome (s : Settings) (k : ℕ) (r : Request) (x : Result Octets Error) : Leaving → Type 0 where
   Caches : IsOutcome s k r x (outcome s k r x)
-  Passes : (m : Octets) → x ≡ Ok m → validity_of_message s m ≡ None → IsOutcome s k r x (record { request = k; asked = r; result = x; is_stored = false })
+  Passes : (m : Octets) → x ≡ Ok m → validity_of_message s m ≡ None → IsOutcome s k r x (record { request = k; asked = r; result = x; is_stored = false; stale = None })
 
 -- a request leaves with this result
 abbrev pub leave : {U : Type 0} → Leaving → Upper U → Upper U
@@ -140,12 +147,39 @@ store n x es = if x.is_stored then entry_of n x ∷ es else es
 abbrev pub answer : {U : Type 0} → Leaving → Upper U → Upper U
 answer x u = record u { asked = suc u.asked; pending = Tick; leaving = u.leaving ++ x ∷ [] }
 
+-- it is failing: an error of a server or of the deadline
+abbrev pub is_failing : Result Octets Error → Bool
+is_failing (Ok m) = false
+is_failing (Err e) = is_failure e
+
+-- Octets are what an expired entry says for request r at this moment.
+pub record Revived (s : Settings) (now : ℕ) (e : Entry) (r : Request) (y : Octets) : Type 0 where
+  pub message : Octets
+  pub is : e.result ≡ Ok message
+  pub parts : Parts Data
+  pub known : known_parts message ≡ Some parts
+  pub tells : tells_of_name parts.code ≡ true
+  pub age : ℕ
+  pub is_age : e.moment + age ≡ now
+  pub allowed : 0 < s.stale_for
+  pub in_time : age ≤ view_validity s e.first r parts + s.stale_for
+  pub says : Says y (stale_of e.first r parts)
+
+-- it is put in the place of the result, and nothing is stored
+abbrev pub revive : Octets → Leaving → Leaving
+revive m y = record { request = y.request; asked = y.asked; result = y.result; is_stored = false; stale = Some m }
+
+-- what is put of a result that leaves
+abbrev pub told_of : (k : ℕ) → Result Octets Error → Option Octets → List Out
+told_of k x None = Reply k x ∷ []
+told_of k x (Some m) = Stale k ∷ Reply k (Ok m) ∷ []
+
 -- the request is tried
 abbrev pub newcomer : Request → (now : ℕ) → Waiting
 newcomer r n = record { request = r; moment = n; tried = λ s. false; kept_back = [] }
 
-abbrev pub take_on : {U : Type 0} → Request → Upper U → Upper U
-take_on r u = record u { asked = suc u.asked; pending = Tick; held = with_held u.asked (Some (newcomer r u.now)) u.held }
+abbrev pub take_on : {U : Type 0} → Request → Option Entry → Upper U → Upper U
+take_on r old u = record u { asked = suc u.asked; pending = Tick; held = with_held u.asked (Some (newcomer r u.now)) u.held; expired = with_expired u.asked old u.expired }
 
 abbrev pub unmade : {U : Type 0} → Upper U → Made U
 unmade x = record { state = x; outs = [] }
@@ -153,12 +187,10 @@ unmade x = record { state = x; outs = [] }
 module _ (c : Conf) (s : Settings) (compose : Request → Result Octets Error) where
   -- How a request may be answered at once: it can't be composed; what is stored serves it; or there is no server.
   pub data AtOnce (now k : ℕ) (stored : List Entry) (r : Request) : Leaving → Type 0 where
-    Refused : (e : Error) → compose r ≡ Err e → AtOnce now k stored r (record { request = k; asked = r; result = Err e; is_stored = false })
+    Refused : (e : Error) → compose r ≡ Err e → AtOnce now k stored r (record { request = k; asked = r; result = Err e; is_stored = false; stale = None })
     Viewed : (e : Entry) (m y : Octets) (x : Parts Data) (age : ℕ) → (o : Octets) × (compose r ≡ Ok o) → IsIn e stored → e.result ≡ Ok m → KeyCovers e.under r → e.moment + age ≡ now → IsValidView s e.first r m x age → Says y (view_of e.first r age x)
-        → AtOnce now k stored r (record { request = k; asked = r; result = Ok y; is_stored = false })
-    Unread : (e : Entry) (m : Octets) (x : Parts Octets) (age : ℕ) → (o : Octets) × (compose r ≡ Ok o) → IsIn e stored → e.result ≡ Ok m → KeyCovers e.under r → e.moment + age ≡ now → known_parts m ≡ None → read_parts m ≡ Some x
-        → (age ≤ view_validity s e.first r x) ⊎ ((is_do (e.under).flags ≡ true) × (is_do (key_of r).flags ≡ false)) → AtOnce now k stored r (record { request = k; asked = r; result = Err errors.MessageParseError; is_stored = false })
-    Repeated : (e : Entry) (x : Error) → (o : Octets) × (compose r ≡ Ok o) → IsIn e stored → e.result ≡ Err x → KeyCovers e.under r → now ≤ e.moment + s.transport_failure_duration → AtOnce now k stored r (record { request = k; asked = r; result = Err x; is_stored = false })
+        → AtOnce now k stored r (record { request = k; asked = r; result = Ok y; is_stored = false; stale = None })
+    Repeated : (e : Entry) (x : Error) → (o : Octets) × (compose r ≡ Ok o) → IsIn e stored → e.result ≡ Err x → KeyCovers e.under r → now ≤ e.moment + s.transport_failure_duration → AtOnce now k stored r (record { request = k; asked = r; result = Err x; is_stored = false; stale = None })
     Nowhere : (o : Octets) × (compose r ≡ Ok o) → length c.servers ≡ 0 → AtOnce now k stored r (outcome s k r (Err errors.NoTransportAvailable))
 
   module _ (P : ServerPart c) where
@@ -177,12 +209,13 @@ module _ (c : Conf) (s : Settings) (compose : Request → Result Octets Error) w
           → Move x (unmade (leave z (record x { board = before ++ after })))
       Concludes : (k : ℕ) (a : Waiting) (y : Result Octets Error) (z : Leaving) → x.held k ≡ Some a → ((i : ℕ) → i < length c.servers → a.tried i ≡ true) → ((i : ℕ) → i < length c.servers → P.holds (x.ups i) k ≡ false) → NoneOf k x.board → best a.kept_back ≡ Some y → IsOutcome s k a.request y z
           → Move x (unmade (leave z x))
-      Times_out : (k : ℕ) (a : Waiting) → x.held k ≡ Some a → a.moment + c.timeout ≤ x.now → Move x (unmade (leave (record { request = k; asked = a.request; result = Err errors.TimedOut; is_stored = false }) x))
-      Replies : (before after : List Leaving) (y : Leaving) → x.leaving ≡ before ++ y ∷ after → Move x (record { state = record x { leaving = before ++ after; stored = store x.now y x.stored }; outs = Reply y.request y.result ∷ [] })
+      Times_out : (k : ℕ) (a : Waiting) → x.held k ≡ Some a → a.moment + c.timeout ≤ x.now → Move x (unmade (leave (record { request = k; asked = a.request; result = Err errors.TimedOut; is_stored = false; stale = None }) x))
+      Revives : (before after : List Leaving) (y : Leaving) (e : Entry) (m : Octets) → x.leaving ≡ before ++ y ∷ after → is_failing y.result ≡ true → x.expired y.request ≡ Some e → Revived s x.now e y.asked m → Move x (unmade (record x { leaving = before ++ revive m y ∷ after }))
+      Replies : (before after : List Leaving) (y : Leaving) → x.leaving ≡ before ++ y ∷ after → Move x (record { state = record x { leaving = before ++ after; stored = store x.now y x.stored }; outs = told_of y.request y.result y.stale })
       Forgets : (before after : List Entry) (e : Entry) → x.stored ≡ before ++ e ∷ after → Move x (unmade (record x { stored = before ++ after }))
       Derives : (e : Entry) (k : Key) → IsIn e x.stored → KeysCover e.under k → Move x (unmade (record x { stored = record e { under = k } ∷ x.stored }))
       Answers : (r : Request) (y : Leaving) → x.pending ≡ Ask r → AtOnce x.now x.asked x.stored r y → Move x (unmade (answer y x))
-      Takes_on : (r : Request) (o : Octets) → x.pending ≡ Ask r → compose r ≡ Ok o → 0 < length c.servers → Move x (unmade (take_on r x))
+      Takes_on : (r : Request) (o : Octets) (old : Option Entry) → x.pending ≡ Ask r → compose r ≡ Ok o → 0 < length c.servers → ((e : Entry) → old ≡ Some e → IsIn e x.stored × KeyCovers e.under r) → Move x (unmade (take_on r old x))
 
     -- A row is done when nothing is due: the asking is answered or taken on, each result is taken, each reply is put, each server rests and holds no request but those that are tried, each of these is held by a server, and none is at its timeout.
     pub record IsDone (x : Upper P.State) : Type 0 where
@@ -212,4 +245,4 @@ module _ (c : Conf) (s : Settings) (compose : Request → Result Octets Error) w
       Goes_on : (x : Upper P.State) (row : Row) (x' : Upper P.State) (rows : List Row) → IsStep x row x' → IsRun x' rows → IsRun x (row ∷ rows)
 
     abbrev pub begun : Upper P.State
-    begun = record { now = 0; asked = 0; place = 0; pending = Tick; held = λ k. None; ups = λ i. P.fresh; board = []; leaving = []; stored = [] }
+    begun = record { now = 0; asked = 0; place = 0; pending = Tick; held = λ k. None; ups = λ i. P.fresh; board = []; leaving = []; stored = []; expired = λ k. None }

@@ -1,5 +1,5 @@
 -- The cache exactly as it is kept beside the moves: which entry is used and stored, and when an asking must be answered from one.
-use Rattle.std.specs.Prelude.{◌≡◌, ℕ, ◌+◌, ◌≤◌, Bool, true, if◌then◌else◌, Some, None, List, Result, Ok, Err}
+use Rattle.std.specs.Prelude.{◌≡◌, ℕ, ◌+◌, ◌<◌, ◌≤◌, Bool, true, false, if◌then◌else◌, Option, Some, None, List, Result, Ok, Err}
 use Rattle.std.specs.Map.{lookup}
 use Rattle.lru.specs.LruCache.{lru_cache, put_entries}
 use Rattle.dns_base.specs.Data.{Data}
@@ -11,9 +11,9 @@ use Rattle.right_trace.specs.Messages.{Octets}
 use Rattle.right_trace.specs.Settings.{Settings}
 use Rattle.right_trace.specs.Keys.{Key, key_of, is_cacheable}
 use Rattle.right_trace.specs.Parts.{Parts, read_parts, known_parts, Says}
-use Rattle.right_trace.specs.Views.{view_of, view_validity}
+use Rattle.right_trace.specs.Views.{tells_of_name, view_of, view_validity}
 use Rattle.proof_right.specs.machine.Part.{ServerPart}
-use Rattle.proof_right.specs.machine.Client.{Leaving, Upper, Made, Move, Server_moves, Hands_on, Gives_up, Drops, Keeps_back, Delivers, Concludes, Times_out, Replies, Forgets, Derives, Answers, Takes_on, Moves, Rests, Goes, IsRun, Ends, Goes_on, row_begins}
+use Rattle.proof_right.specs.machine.Client.{Leaving, Entry, Upper, Made, is_failing, Move, Server_moves, Hands_on, Gives_up, Drops, Keeps_back, Delivers, Concludes, Times_out, Revives, Replies, Forgets, Derives, Answers, Takes_on, Moves, Rests, Goes, IsRun, Ends, Goes_on, row_begins}
 use Rattle.proof_right.specs.machine.Cache.{Op, AskDoes, after_ops}
 use Rattle.client_request.specs.declared.error.Error.TheVariants as errors
 
@@ -40,7 +40,26 @@ pub record Serves (s : Settings) (v : Value) (r : Request) (now : ℕ) : Type 0 
 -- what is then given
 pub data ServedBy (v : Value) (r : Request) (now : ℕ) : Result Octets Error → Type 0 where
   Viewing : (m y : Octets) (x : Parts Data) (age : ℕ) → v.result ≡ Ok m → known_parts m ≡ Some x → v.moment + age ≡ now → Says y (view_of v.first r age x) → ServedBy v r now (Ok y)
-  NotReading : (m : Octets) → v.result ≡ Ok m → known_parts m ≡ None → ServedBy v r now (Err errors.MessageParseError)
+
+-- an entry under this key
+abbrev pub entry_under : Key → Value → Entry
+entry_under k v = record { under = k; first = v.first; number = v.number; result = v.result; moment = v.moment }
+
+-- What had expired when r was asked may be given to it now: its age is at most the validity of its view and the time for which it may serve.
+pub record MayRevive (s : Settings) (now : ℕ) (r : Request) (old : Option Entry) : Type 0 where
+  pub entry : Entry
+  pub there : old ≡ Some entry
+  pub message : Octets
+  pub is : entry.result ≡ Ok message
+  pub parts : Parts Octets
+  pub read : read_parts message ≡ Some parts
+  pub known : Parts Data
+  pub is_known : known_parts message ≡ Some known
+  pub tells : tells_of_name known.code ≡ true
+  pub age : ℕ
+  pub is_age : entry.moment + age ≡ now
+  pub allowed : 0 < s.stale_for
+  pub in_time : age ≤ view_validity s entry.first r parts + s.stale_for
 
 module _ (c : Conf) (s : Settings) (compose : Request → Result Octets Error) (P : ServerPart c) (eq : Key → Key → Bool) (cap : ℕ) where
   -- an asking looks, or leaves all as it was
@@ -52,6 +71,11 @@ module _ (c : Conf) (s : Settings) (compose : Request → Result Octets Error) (
   abbrev pub OwnServes : (r : Request) (now : ℕ) → List (Key × Value) → (Value → Type 0) → Type 0
   OwnServes r n es Q = is_cacheable r ≡ true → (v : Value) → lookup (eq (key_of r)) es ≡ Some v → Serves s v r n → Q v
 
+  -- the message under the own key, if one is there
+  abbrev pub OwnMessage : (r : Request) → List (Key × Value) → (Value → Type 0) → Type 0
+  OwnMessage r es Q = is_cacheable r ≡ true → (v : Value) (m : Octets) → lookup (eq (key_of r)) es ≡ Some v → v.result ≡ Ok m → Q v
+
+  -- What an asking and a reply do. Where a message is under the own key, no server's error is given at once, and it stays with a request that is tried; a reply that fails had nothing that may serve.
   abbrev pub Cached : (x : Upper P.State) (d : Made P.State) → Move c s compose P x d → (es fs : List (Key × Value)) → Type 0
   Cached x _ (Server_moves i d lt act) es fs = fs ≡ es
   Cached x _ (Hands_on i k a d lt held untried st) es fs = fs ≡ es
@@ -61,11 +85,12 @@ module _ (c : Conf) (s : Settings) (compose : Request → Result Octets Error) (
   Cached x _ (Delivers before after y a z is held waits out) es fs = fs ≡ es
   Cached x _ (Concludes k a y z held tried free none is out) es fs = fs ≡ es
   Cached x _ (Times_out k a held late) es fs = fs ≡ es
-  Cached x _ (Replies before after y is) es fs = fs ≡ (if y.is_stored then put_entries eq (lru_cache es cap) (key_of y.asked) (value_of x.now y) else es)
+  Cached x _ (Revives before after y e m is fails old revived) es fs = fs ≡ es
+  Cached x _ (Replies before after y is) es fs = (fs ≡ (if y.is_stored then put_entries eq (lru_cache es cap) (key_of y.asked) (value_of x.now y) else es)) × (y.stale ≡ None → is_failing y.result ≡ true → MayRevive s x.now y.asked (x.expired y.request) → ⊥)
   Cached x _ (Forgets before after e is) es fs = fs ≡ es
   Cached x _ (Derives e k j covers) es fs = fs ≡ es
-  Cached x _ (Answers r y pend at) es fs = Looks r es fs × ((o : Octets) → compose r ≡ Ok o → OwnServes r x.now es (λ v. ServedBy v r x.now y.result))
-  Cached x _ (Takes_on r o pend composed lt) es fs = Looks r es fs × OwnServes r x.now es (λ v. ⊥)
+  Cached x _ (Answers r y pend at) es fs = Looks r es fs × ((o : Octets) → compose r ≡ Ok o → OwnServes r x.now es (λ v. ServedBy v r x.now y.result)) × OwnMessage r es (λ v. is_failing y.result ≡ false)
+  Cached x _ (Takes_on r o old pend composed lt there) es fs = Looks r es fs × OwnServes r x.now es (λ v. ⊥) × OwnMessage r es (λ v. old ≡ Some (entry_under (key_of r) v))
 
   abbrev pub AllCached : (x : Upper P.State) (d : Made P.State) → Moves c s compose P x d → (es fs : List (Key × Value)) → Type 0
   AllCached _ _ (Rests x done) es fs = fs ≡ es

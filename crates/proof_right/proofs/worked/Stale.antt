@@ -1,0 +1,64 @@
+-- An expired message serves, computed.
+use Rattle.std.proofs.Common.{◌≡◌, ◌+◌, ◌≤◌, true, Some, ◌∷◌, inl, inr, refl, arith}
+use Rattle.dns_names.specs.Name.{name_at, walk, head_at}
+use Rattle.dns_base.specs.Data.{Data, data_at, data_spelling}
+use Rattle.dns_base.specs.Message.{question_at, record_at, list_at, items_at, questions_of, answer_of, authority_of, additional_of, answer_items, authority_items, additional_items, first_question, sole_question, reads}
+use Rattle.dns_base.specs.Knowing.{knows}
+use Rattle.dns_base.specs.OptRecord.{opt_of, opt_rcode}
+use Rattle.client_request.specs.Carries.{contents_of}
+use Rattle.client_request.specs.declared.error.Error.TheVariants as errors
+use Rattle.client_request.specs.declared.error.QueryError.TheVariants as query
+use Rattle.client_request.specs.declared.fault.Fault.TheVariants.{Refused}
+use Rattle.client_request.specs.declared.event.What.TheVariants.{OpenFailed}
+use Rattle.right_trace.specs.Trace.{Came}
+use Rattle.right_trace.specs.Messages.{base_is_read, truncated}
+use Rattle.right_trace.specs.Settings.{Settings}
+use Rattle.right_trace.specs.Keys.{question_of, key_of}
+use Rattle.right_trace.specs.Parts.{Parts, Says, read_parts, known_parts}
+use Rattle.right_trace.specs.Validity.{second, validity_of_message}
+use Rattle.right_trace.specs.Views.{stale_of, tells_of_name, view_validity}
+use Rattle.right_trace.specs.Replies.{IsFreshReply, InThisRow}
+use Rattle.right_trace.specs.Causes.{NotOpened}
+use Rattle.right_trace.specs.Errors.{Here, ByServer}
+use Rattle.proof_right.specs.examples.Messages.{plain_request, answer}
+use Rattle.proof_right.specs.examples.Rows.{so_far, by_datagrams}
+use Rattle.proof_right.specs.examples.Cache.{asked_again}
+use Rattle.proof_right.specs.examples.Stale.{serving_stale, served_stale, IsServedStale}
+use Rattle.right_trace.proofs.Asked.{covers_refl}
+use Rattle.proof_right.proofs.worked.Cache.{answered, came_it, cacheable}
+
+pub fresh_so : (s : Settings) → IsFreshReply by_datagrams s 0 (answer 18 52 100) 0 (so_far 3 asked_again)
+fresh_so s = record { before = answered; put = refl; unmarked = refl; fresh = InThisRow came_it; at = refl }
+
+pub valid_so : validity_of_message serving_stale (answer 18 52 100) ≡ Some 100000000
+unfolding name_at walk head_at data_at data_spelling question_at record_at list_at items_at questions_of answer_of authority_of additional_of answer_items authority_items additional_items first_question sole_question reads knows opt_of opt_rcode contents_of base_is_read truncated question_of key_of read_parts known_parts second validity_of_message
+valid_so = refl
+
+-- what it is as an expired one
+pub record Revivable : Type 0 where
+  pub parts : Parts Data
+  pub known : known_parts (answer 18 52 100) ≡ Some parts
+  pub tells : tells_of_name parts.code ≡ true
+  pub in_time : 200000100 ≤ view_validity serving_stale plain_request plain_request parts + 3600000000
+  pub says : Says (answer 18 52 30) (stale_of plain_request plain_request parts)
+
+pub revivable : Revivable
+unfolding name_at walk head_at data_at data_spelling question_at record_at list_at items_at questions_of answer_of authority_of additional_of answer_items authority_items additional_items first_question sole_question reads knows opt_of opt_rcode contents_of base_is_read question_of key_of known_parts second
+revivable = record { parts = _; known = refl; tells = refl; in_time = omega arith; says = refl }
+
+pub is_served_stale : IsServedStale
+is_served_stale = record {
+  before = Came (record { moment = record { 0 = 200000100 }; what = OpenFailed 1 Refused }) ∷ so_far 4 served_stale;
+  marked = refl;
+  error = errors.Dgram (query.Connect Refused);
+  fails = refl;
+  cause = record { direct = ByServer (errors.Dgram (query.Connect Refused)) (Here (NotOpened Refused (record { place = 1; server = 0; told = refl; was = inl refl; at = refl; has_it = refl }))); last = λ a d. absurd (cc) };
+  first = plain_request;
+  request = plain_request;
+  message = answer 18 52 100;
+  age = 200000100;
+  supplied = record { number = 0; earlier = record { asked = (200000000, refl); below = omega arith; first_asked = (0, refl); covering = covers_refl plain_request cacheable }; moment = 0; got = inr (inr (inr (inr (inl (fresh_so serving_stale))))); is_age = refl };
+  parts = revivable.parts;
+  valid = record { known = revivable.known; validity = 100000000; is_validity = valid_so; kept = omega arith; tells = revivable.tells; allowed = omega arith; in_time = revivable.in_time };
+  says = revivable.says;
+}
