@@ -1,5 +1,5 @@
 -- A kept message is copied into a draft without a limit until its data can't be read: no section has more than 65535 entries, so no push is refused.
-use Rattle.std.proofs.Common.{◌≡◌, ℕ, zero, suc, ◌+◌, ◌-◌, ◌<◌, ◌≤◌, ◌⊎◌, Bool, true, false, inl, inr, List, [], ◌∷◌, ◌++◌, length, refl, ap, ap₂, sym, subst, ◌∙◌, arith, ◌&&◌, ◌==◌, append_assoc, append-nil}
+use Rattle.std.proofs.Common.{◌≡◌, ℕ, zero, suc, ◌+◌, ◌-◌, ◌<◌, ◌≤◌, ◌⊎◌, Bool, true, false, inl, inr, List, [], ◌∷◌, ◌++◌, length, refl, ap, ap₂, sym, subst, ◌∙◌, arith, ◌&&◌, ◌==◌, append_assoc, append-nil, ◌^◌}
 use Rattle.std.specs.Prelude.{Option, Some, None, Result, Ok, Err, map, option_map, option_and_then, if◌then◌else◌}
 use Rattle.std.specs.List.{AllByRecursion}
 use Rattle.dns_names.specs.Name.{Labels, IsLegal}
@@ -26,7 +26,9 @@ use Rattle.right_trace.specs.Messages.{Octets}
 use Rattle.right_trace.specs.Keys.{is_signing}
 use Rattle.right_trace.specs.Views.{with_name}
 use Rattle.right_trace.proofs.Copying.{number_small, room_left}
-use Rattle.cache_rules.specs.Viewing.{ttl_then, written_then, asks_under, carries_data, carries, carries_found, carries_section, carries_all}
+use Rattle.cache_rules.specs.declared.copying.Ttls.{Ttls}
+use Rattle.cache_rules.specs.declared.copying.Ttls.TheVariants.{Lessened, Stale}
+use Rattle.cache_rules.specs.Viewing.{ttl_by, ttl_then, written_then, asks_under, carries_data, carries, carries_found, carries_section, carries_all}
 use Rattle.cache_rules.proofs.DataBack.{Lies, record_lies, Comes}
 
 -- what is read of a list of items has a property
@@ -132,7 +134,7 @@ asking name (Ok q ∷ items) d c legal good unlimited order few h =
 -- records
 
 -- the records that are given of these
-abbrev pub given : Section → (drops : Bool) → (seconds : ℕ) → List Written → List Written
+abbrev pub given : Section → (drops : Bool) → (ttls : Ttls) → List Written → List Written
 given s b n [] = []
 given s b n (w ∷ ws) = if b && is_signing w.rtype then given s b n ws else record w { ttl = ttl_then s n w.rtype w.ttl } ∷ given s b n ws
 
@@ -201,7 +203,7 @@ none_of_items k items h = go (all_read items) refl
     go (Some ks) e = h ks e
 
 -- all these records are read by their types, and those that are given are in the draft
-pub record CarriesAll (s : Section) (b : Bool) (n : ℕ) (items : List (Result Known ParseError)) (c : Contents) (o : Copied) : Type 0 where
+pub record CarriesAll (s : Section) (b : Bool) (n : Ttls) (items : List (Result Known ParseError)) (c : Contents) (o : Copied) : Type 0 where
   pub draft : Draft
   pub done : o ≡ Ok draft
   pub records : List Known
@@ -218,30 +220,35 @@ record IsSound (m : Octets) (k : Known) : Type 0 where
   writable : IsWritable (written_from k)
   lies : Lies m k
 
-less_ttl : (s : Section) (n t ttl : ℕ) → ttl_then s n t ttl ≤ ttl
-less_ttl Answer n t ttl = omega arith
-less_ttl Authority n t ttl = omega arith
-less_ttl Additional n t ttl = go (t == 41)
+short_ttl : (n : Ttls) (ttl : ℕ) → ttl < 2 ^ 32 → ttl_by n ttl < 2 ^ 32
+short_ttl (Lessened n) ttl lt = omega arith
+short_ttl Stale ttl lt = omega arith
+
+-- it is written in 32 bits
+ttl_short : (s : Section) (n : Ttls) (t ttl : ℕ) → ttl < 2 ^ 32 → ttl_then s n t ttl < 2 ^ 32
+ttl_short Answer n t ttl lt = short_ttl n ttl lt
+ttl_short Authority n t ttl lt = short_ttl n ttl lt
+ttl_short Additional n t ttl lt = go (t == 41)
   where
-    go : (b : Bool) → (if b then ttl else ttl - n) ≤ ttl
-    go true = omega arith
-    go false = omega arith
+    go : (b : Bool) → (if b then ttl else ttl_by n ttl) < 2 ^ 32
+    go true = lt
+    go false = short_ttl n ttl lt
 
 read_writable : (k : Known) (x : Data) → k.says ≡ Some x → IsWritable (written_from k) → IsWritable (as_read k.entry x)
 read_writable k x e h = subst (λ o. IsWritable (as_read k.entry (content_of k.entry o))) e h
 
-then_writable : (s : Section) (n : ℕ) (e : Entry) (x : Data) → IsWritable (as_read e x) → IsWritable (written_then s n e x)
+then_writable : (s : Section) (n : Ttls) (e : Entry) (x : Data) → IsWritable (as_read e x) → IsWritable (written_then s n e x)
 then_writable s n e x h = record {
   owner = h.owner;
   rtype = h.rtype;
   class = h.class;
-  ttl = omega (arith, less_ttl s n e.rtype e.ttl, h.ttl);
+  ttl = ttl_short s n e.rtype e.ttl h.ttl;
   typed = h.typed;
   short = h.short;
   content = h.content;
 }
 
-module _ (s : Section) (b : Bool) (n : ℕ) (m : Octets) where
+module _ (s : Section) (b : Bool) (n : Ttls) (m : Octets) where
   -- one record more in front
   in_front : (k : Known) (x : Data) (items : List (Result Known ParseError)) (c : Contents) (o : Copied) → k.says ≡ Some x → IsSound m k
       → (a : CarriesAll s b n items c o) → (p : Copied) → p ≡ o → (f : Contents) → Holds a.draft (with_all s (given s b n (as_read k.entry x ∷ a.written)) f) → CarriesAll s b n (Ok k ∷ items) f p
@@ -323,7 +330,7 @@ module _ (s : Section) (b : Bool) (n : ℕ) (m : Octets) where
 abbrev pub section_means : Section → Octets → Option (List Written)
 section_means s m = option_and_then meanings_in (section_items s m)
 
-pub record CarriesSection (s : Section) (b : Bool) (n : ℕ) (m : Octets) (c : Contents) (o : Copied) : Type 0 where
+pub record CarriesSection (s : Section) (b : Bool) (n : Ttls) (m : Octets) (c : Contents) (o : Copied) : Type 0 where
   pub items : List (Result Known ParseError)
   pub are : section_items s m ≡ Some items
   pub all : CarriesAll s b n items c o
@@ -331,7 +338,7 @@ pub record CarriesSection (s : Section) (b : Bool) (n : ℕ) (m : Octets) (c : C
 record_sound : (m : Octets) → AreOctets m → (at end : ℕ) (k : Known) → record_at m at ≡ Some (k, end) → IsSound m k
 record_sound m octets at end k e = record { writable = record_writable m at end k octets e; lies = record_lies m at end k e }
 
-section_carries : (s : Section) (b : Bool) (n : ℕ) (m : Octets) (d : Draft) (c : Contents) → AreOctets m → limit_of d ≡ None → HasNoneAfter s (counts_in d) → entries_in s (counts_in d) ≡ 0 → Holds d c
+section_carries : (s : Section) (b : Bool) (n : Ttls) (m : Octets) (d : Draft) (c : Contents) → AreOctets m → limit_of d ≡ None → HasNoneAfter s (counts_in d) → entries_in s (counts_in d) ≡ 0 → Holds d c
     → Stopped (section_means s m) (carries_section s b n m d) ⊎ CarriesSection s b n m c (carries_section s b n m d)
 section_carries s b n m d c octets unlimited order empty h = found (section_items s m) refl
   where
@@ -353,7 +360,7 @@ pub record Means (s : Section) (m : Octets) : Type 0 where
   pub mean : meanings_of records ≡ Some written
   pub comes : AllByRecursion (λ (w : Written). Comes w.rtype w.content) written
 
-abbrev means_of : (s : Section) (b : Bool) (n : ℕ) (m : Octets) (c : Contents) (o : Copied) → CarriesSection s b n m c o → Means s m
+abbrev means_of : (s : Section) (b : Bool) (n : Ttls) (m : Octets) (c : Contents) (o : Copied) → CarriesSection s b n m c o → Means s m
 means_of s b n m c o x = record {
   records = x.all.records;
   read = ap (option_and_then all_read) x.are ∙ x.all.read;
@@ -363,7 +370,7 @@ means_of s b n m c o x = record {
 }
 
 -- all is read, and given
-pub record AllCarried (name : Labels) (b : Bool) (n : ℕ) (m : Octets) (o : Copied) : Type 0 where
+pub record AllCarried (name : Labels) (b : Bool) (n : Ttls) (m : Octets) (o : Copied) : Type 0 where
   pub draft : Draft
   pub done : o ≡ Ok draft
   pub questions : List Asked
@@ -397,7 +404,7 @@ fresh_empty = ap (λ (n : Counts). n.questions) (draft_steps.counts.fresh None)
 questions_few : (m : Octets) → AreOctets m → length (question_items m) ≤ 65535
 questions_few m octets = omega (arith, items_few (question_at m) (u16_at m 4) 12, number_small m 4 octets)
 
-pub carrying_all : (name : Labels) (b : Bool) (n : ℕ) (m : Octets) → IsLegal name → AreOctets m → NotCarried m (carries_all name b n m (fresh None)) ⊎ AllCarried name b n m (carries_all name b n m (fresh None))
+pub carrying_all : (name : Labels) (b : Bool) (n : Ttls) (m : Octets) → IsLegal name → AreOctets m → NotCarried m (carries_all name b n m (fresh None)) ⊎ AllCarried name b n m (carries_all name b n m (fresh None))
 carrying_all name b n m legal octets =
     elim (asking name (question_items m) (fresh None) no_contents legal (items_good IsAskable (question_at m) (λ at end q e. question_askable m at end q octets e) (u16_at m 4) 12)
     (draft_steps.limits.fresh None) fresh_order (omega (arith, fresh_empty, questions_few m octets)) (draft_laws.holds_nothing None)) [

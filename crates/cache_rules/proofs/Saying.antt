@@ -29,8 +29,10 @@ use Rattle.client_request.specs.Composing.{IsComposed}
 use Rattle.right_trace.specs.Messages.{Octets}
 use Rattle.right_trace.specs.Keys.{FlagClass, Key, is_signing}
 use Rattle.right_trace.specs.Parts.{Header, Item, Parts, typed, flags_in, known_parts, lowered_item, lowered_parts, Says}
-use Rattle.right_trace.specs.Views.{viewed_header, with_name, leaves_out, lessened, mostly_lessened, without_signing, viewed}
-use Rattle.cache_rules.specs.Viewing.{ttl_then, carries_all, carried, view_octets, header_between, drops_signing, under_header, IsViewable, SaysEntries, SaysView, IsRefusedView}
+use Rattle.right_trace.specs.Views.{viewed_header, with_name, leaves_out, lessened, mostly_lessened, with_ttl, mostly_with_ttl, all_with_ttl, without_signing, viewed}
+use Rattle.cache_rules.specs.declared.copying.Ttls.{Ttls}
+use Rattle.cache_rules.specs.declared.copying.Ttls.TheVariants.{Lessened, Stale}
+use Rattle.cache_rules.specs.Viewing.{ttl_by, ttl_then, aged, mostly_aged, viewed_by, carries_all, carried, octets_by, header_between, drops_signing, under_header, IsViewable, SaysEntries, SaysView, SaysExpired, IsRefusedView}
 use Rattle.cache_rules.proofs.Headers.{header_viewed}
 use Rattle.cache_rules.proofs.WhatIsMet.{some_inside, header_is}
 use Rattle.cache_rules.proofs.DataBack.{Lies, record_lies, Comes, meant}
@@ -142,7 +144,7 @@ back y (k ∷ ks) (w ∷ ws) lie come zip =
 
 -- records that are given
 
-given_come : (s : Section) (b : Bool) (n : ℕ) (ws : List Written) → AllByRecursion (λ (w : Written). Comes w.rtype w.content) ws → AllByRecursion (λ (w : Written). Comes w.rtype w.content) (given s b n ws)
+given_come : (s : Section) (b : Bool) (n : Ttls) (ws : List Written) → AllByRecursion (λ (w : Written). Comes w.rtype w.content) ws → AllByRecursion (λ (w : Written). Comes w.rtype w.content) (given s b n ws)
 given_come s b n [] h = tt
 given_come s b n (w ∷ ws) h = go (b && is_signing w.rtype) (given_come s b n ws h.1)
   where
@@ -150,7 +152,7 @@ given_come s b n (w ∷ ws) h = go (b && is_signing w.rtype) (given_come s b n w
     go true ih = ih
     go false ih = (h.0, ih)
 
-module _ (s : Section) (b : Bool) (n : ℕ) (f : Item Data → Item Data) (is : (w : Written) → typed (record w { ttl = ttl_then s n w.rtype w.ttl }) ≡ f (typed w)) where
+module _ (s : Section) (b : Bool) (n : Ttls) (f : Item Data → Item Data) (is : (w : Written) → typed (record w { ttl = ttl_then s n w.rtype w.ttl }) ≡ f (typed w)) where
   given_items : (ws : List Written) → map typed (given s b n ws) ≡ map f (without_signing b (map typed ws))
   given_items [] = refl
   given_items (w ∷ ws) = go (b && is_signing w.rtype) (given_items ws)
@@ -159,12 +161,21 @@ module _ (s : Section) (b : Bool) (n : ℕ) (f : Item Data → Item Data) (is : 
       go true ih = ih
       go false ih = ap₂ (λ x xs. x ∷ xs) (is w) ih
 
-mostly : (n : ℕ) (w : Written) → typed (record w { ttl = ttl_then Additional n w.rtype w.ttl }) ≡ mostly_lessened n (typed w)
-mostly n w = go (w.rtype == 41)
+mostly : (n : Ttls) (w : Written) → typed (record w { ttl = ttl_then Additional n w.rtype w.ttl }) ≡ mostly_aged n (typed w)
+mostly (Lessened n) w = go (w.rtype == 41)
   where
     go : (z : Bool) → typed (record w { ttl = (if z then w.ttl else w.ttl - n) }) ≡ (if z then typed w else lessened n (typed w))
     go true = refl
     go false = refl
+mostly Stale w = go (w.rtype == 41)
+  where
+    go : (z : Bool) → typed (record w { ttl = (if z then w.ttl else 30) }) ≡ (if z then typed w else with_ttl 30 (typed w))
+    go true = refl
+    go false = refl
+
+each_aged : (n : Ttls) (w : Written) → typed (record w { ttl = ttl_by n w.ttl }) ≡ aged n (typed w)
+each_aged (Lessened n) w = refl
+each_aged Stale w = refl
 
 -- the response code
 
@@ -178,27 +189,27 @@ unfolding ext_of
 ext_lowered [] = refl
 ext_lowered (x ∷ xs) = ap (λ n. if x.rtype == 41 then x.ttl / 2 ^ 24 else n) (ext_lowered xs)
 
-ext_given : (b : Bool) (n : ℕ) (ws : List Written) → ext_of (map typed (given Additional b n ws)) ≡ ext_of (map typed ws)
+ext_given : (b : Bool) (n : Ttls) (ws : List Written) → ext_of (map typed (given Additional b n ws)) ≡ ext_of (map typed ws)
 unfolding ext_of
 ext_given b n [] = refl
 ext_given b n (w ∷ ws) = go (w.rtype == 41) refl b (ext_given b n ws)
   where
     go : (z : Bool) → (w.rtype == 41) ≡ z → (b : Bool) → ext_of (map typed (given Additional b n ws)) ≡ ext_of (map typed ws)
-        → ext_of (map typed (if b && is_signing w.rtype then given Additional b n ws else record w { ttl = (if w.rtype == 41 then w.ttl else w.ttl - n) } ∷ given Additional b n ws)) ≡ (if w.rtype == 41 then w.ttl / 2 ^ 24 else ext_of (map typed ws))
+        → ext_of (map typed (if b && is_signing w.rtype then given Additional b n ws else record w { ttl = (if w.rtype == 41 then w.ttl else ttl_by n w.ttl) } ∷ given Additional b n ws)) ≡ (if w.rtype == 41 then w.ttl / 2 ^ 24 else ext_of (map typed ws))
     go true e b ih =
         let is : w.rtype ≡ 41 = eqb-true w.rtype 41 e in
         let none : (b && is_signing w.rtype) ≡ false = ap (λ t. b && is_signing t) is ∙ never b in
-        ap (λ z. ext_of (map typed (if z then given Additional b n ws else record w { ttl = (if w.rtype == 41 then w.ttl else w.ttl - n) } ∷ given Additional b n ws))) none
-        ∙ (ap (λ z. if z then (if z then w.ttl else w.ttl - n) / 2 ^ 24 else ext_of (map typed (given Additional b n ws))) e ∙ sym (ap (λ z. if z then w.ttl / 2 ^ 24 else ext_of (map typed ws)) e))
+        ap (λ z. ext_of (map typed (if z then given Additional b n ws else record w { ttl = (if w.rtype == 41 then w.ttl else ttl_by n w.ttl) } ∷ given Additional b n ws))) none
+        ∙ (ap (λ z. if z then (if z then w.ttl else ttl_by n w.ttl) / 2 ^ 24 else ext_of (map typed (given Additional b n ws))) e ∙ sym (ap (λ z. if z then w.ttl / 2 ^ 24 else ext_of (map typed ws)) e))
       where
         never : (b : Bool) → (b && is_signing 41) ≡ false
         never true = refl
         never false = refl
     go false e b ih = by (b && is_signing w.rtype) ∙ sym (ap (λ z. if z then w.ttl / 2 ^ 24 else ext_of (map typed ws)) e)
       where
-        by : (y : Bool) → ext_of (map typed (if y then given Additional b n ws else record w { ttl = (if w.rtype == 41 then w.ttl else w.ttl - n) } ∷ given Additional b n ws)) ≡ ext_of (map typed ws)
+        by : (y : Bool) → ext_of (map typed (if y then given Additional b n ws else record w { ttl = (if w.rtype == 41 then w.ttl else ttl_by n w.ttl) } ∷ given Additional b n ws)) ≡ ext_of (map typed ws)
         by true = ih
-        by false = ap (λ z. if z then (if z then w.ttl else w.ttl - n) / 2 ^ 24 else ext_of (map typed (given Additional b n ws))) e ∙ ih
+        by false = ap (λ z. if z then (if z then w.ttl else ttl_by n w.ttl) / 2 ^ 24 else ext_of (map typed (given Additional b n ws))) e ∙ ih
 
 first_ext : (items : List (Result Known ParseError)) (ks : List Known) (ws : List Written) → all_read items ≡ Some ks → meanings_of ks ≡ Some ws → option_map_or (λ opt. opt.ext_rcode) (first_opt items) 0 ≡ ext_of (map typed ws)
 unfolding ext_of
@@ -247,7 +258,7 @@ same_parts : {h1 h2 : Header} {c1 c2 : ℕ} {q1 q2 : List Asked} {a1 a2 u1 u2 d1
     → Path (Parts Data) (record { header = h1; code = c1; questions = q1; answer = a1; authority = u1; additional = d1 }) (record { header = h2; code = c2; questions = q2; answer = a2; authority = u2; additional = d2 })
 same_parts h c q a u d = cc
 
-module _ (h : List ℕ) (name : Labels) (b : Bool) (n : ℕ) (m : Octets) (ok : IsViewable h name m) (all : AllCarried name b n m (carries_all name b n m (fresh None))) where
+module _ (h : List ℕ) (name : Labels) (b : Bool) (n : Ttls) (m : Octets) (ok : IsViewable h name m) (all : AllCarried name b n m (carries_all name b n m (fresh None))) where
   -- the message as it is read by type
   kept : Parts Data
   kept = record { header = flags_in (header_of m); code = opt_rcode m; questions = all.questions; answer = map typed all.answer.written; authority = map typed all.authority.written; additional = map typed all.additional.written }
@@ -260,7 +271,7 @@ module _ (h : List ℕ) (name : Labels) (b : Bool) (n : ℕ) (m : Octets) (ok : 
       (record { questions_are = all.asked; answer_is = all.answer.read; authority_is = all.authority.read; additional_is = all.additional.read }))
       all.answer.mean all.authority.mean all.additional.mean
 
-  says_view : (q r : Key) → leaves_out q r ≡ b → rcode_of h ≡ rcode_of m → Says (finished (with_header h all.draft)) (under_header h (viewed q r name n kept))
+  says_view : (q r : Key) → leaves_out q r ≡ b → rcode_of h ≡ rcode_of m → Says (finished (with_header h all.draft)) (under_header h (viewed_by q r name n kept))
   unfolding kept
   says_view q r drops code =
       let y : Octets = finished (with_header h all.draft) in
@@ -275,24 +286,24 @@ module _ (h : List ℕ) (name : Labels) (b : Bool) (n : ℕ) (m : Octets) (ok : 
       let ext : ext_of (map typed d.written) ≡ ext_of (map typed all.additional.written) = sym (ext_lowered (map typed d.written)) ∙ (ap ext_of d.same ∙ (ext_lowered (map typed c.additional) ∙ ext_given b n all.additional.written)) in
       let rcode : rcode_of y ≡ rcode_of m = sym (rcode_kept y) ∙ (ap rcode_of (sym (header_is y read.reading read.read) ∙ head) ∙ code) in
       let codes : opt_rcode y ≡ opt_rcode m = code_is y read.reading.additional d.written items.additional_is d.mean ∙ (ap₂ (λ i j. 16 * i + j) ext rcode ∙ sym (code_is m all.additional.records all.additional.written all.additional.read all.additional.mean)) in
-      let one : (s : Section) → ((w : Written) → typed (record w { ttl = ttl_then s n w.rtype w.ttl }) ≡ lessened n (typed w)) → (ws : List Written) → map typed (given s b n ws) ≡ map (lessened n) (without_signing (leaves_out q r) (map typed ws)) =
-      λ s is ws. given_items s b n (lessened n) is ws ∙ ap (λ z. map (lessened n) (without_signing z (map typed ws))) (sym drops) in
-      let most : map typed (given Additional b n all.additional.written) ≡ map (mostly_lessened n) (without_signing (leaves_out q r) (map typed all.additional.written)) =
-      given_items Additional b n (mostly_lessened n) (mostly n) all.additional.written ∙ ap (λ z. map (mostly_lessened n) (without_signing z (map typed all.additional.written))) (sym drops) in
+      let one : (s : Section) → ((w : Written) → typed (record w { ttl = ttl_then s n w.rtype w.ttl }) ≡ aged n (typed w)) → (ws : List Written) → map typed (given s b n ws) ≡ map (aged n) (without_signing (leaves_out q r) (map typed ws)) =
+      λ s is ws. given_items s b n (aged n) is ws ∙ ap (λ z. map (aged n) (without_signing z (map typed ws))) (sym drops) in
+      let most : map typed (given Additional b n all.additional.written) ≡ map (mostly_aged n) (without_signing (leaves_out q r) (map typed all.additional.written)) =
+      given_items Additional b n (mostly_aged n) (mostly n) all.additional.written ∙ ap (λ z. map (mostly_aged n) (without_signing z (map typed all.additional.written))) (sym drops) in
       ap (option_map lowered_parts) known
       ∙ ap Some (same_parts (ap flags_in head) codes (zipped lowered_asked read.reading.questions c.questions read.is.agree.questions)
-      (a.same ∙ ap (map lowered_item) (one Answer (λ w. refl) all.answer.written))
-      (u.same ∙ ap (map lowered_item) (one Authority (λ w. refl) all.authority.written))
+      (a.same ∙ ap (map lowered_item) (one Answer (each_aged n) all.answer.written))
+      (u.same ∙ ap (map lowered_item) (one Authority (each_aged n) all.authority.written))
       (d.same ∙ ap (map lowered_item) most))
 
 -- What comes of a kept message: octets that say its view, or no message where its data can't be read.
-pub record IsViewMade (h : List ℕ) (name : Labels) (b : Bool) (n : ℕ) (m octets : Octets) : Type 0 where
+pub record IsViewMade (h : List ℕ) (name : Labels) (b : Bool) (n : Ttls) (m octets : Octets) : Type 0 where
   pub parts : Parts Data
   pub known : known_parts m ≡ Some parts
-  pub says : (q r : Key) → leaves_out q r ≡ b → rcode_of h ≡ rcode_of m → Says octets (under_header h (viewed q r name n parts))
+  pub says : (q r : Key) → leaves_out q r ≡ b → rcode_of h ≡ rcode_of m → Says octets (under_header h (viewed_by q r name n parts))
 
-pub view_made : (h : List ℕ) (name : Labels) (b : Bool) (n : ℕ) (m octets : Octets) → IsViewable h name m → view_octets h name b n m ≡ Ok octets → IsViewMade h name b n m octets
-unfolding view_octets carried
+pub view_made : (h : List ℕ) (name : Labels) (b : Bool) (n : Ttls) (m octets : Octets) → IsViewable h name m → octets_by h name b n m ≡ Ok octets → IsViewMade h name b n m octets
+unfolding octets_by carried
 view_made h name b n m octets ok e = elim (carrying_all name b n m ok.legal ok.octets) [
   | inl stop ↦ (let z : Err (error_of (Parse stop.error)) ≡ Ok octets = sym (ap (λ o. message_of (o >> (λ all. Ok (with_header h all)))) stop.at) ∙ e in absurd (cc))
   | inr all ↦
@@ -301,11 +312,11 @@ view_made h name b n m octets ok e = elim (carrying_all name b n m ok.legal ok.o
       record {
         parts = kept h name b n m ok all;
         known = kept_is h name b n m ok all;
-        says = λ q r drops code. subst (λ o. Says o (under_header h (viewed q r name n (kept h name b n m ok all)))) same (says_view h name b n m ok all q r drops code);
+        says = λ q r drops code. subst (λ o. Says o (under_header h (viewed_by q r name n (kept h name b n m ok all)))) same (says_view h name b n m ok all q r drops code);
       }
 ]
 
-pub view_refused : (h : List ℕ) (name : Labels) (b : Bool) (n : ℕ) (m : Octets) (x : CopyRecordsError) → IsViewable h name m → carries_all name b n m (fresh None) ≡ Err x → (error_of x ≡ errors.MessageParseError) × (known_parts m ≡ None)
+pub view_refused : (h : List ℕ) (name : Labels) (b : Bool) (n : Ttls) (m : Octets) (x : CopyRecordsError) → IsViewable h name m → carries_all name b n m (fresh None) ≡ Err x → (error_of x ≡ errors.MessageParseError) × (known_parts m ≡ None)
 view_refused h name b n m x ok e = elim (carrying_all name b n m ok.legal ok.octets) [
   | inl stop ↦ (let same : Path Copied (Err x) (Err (Parse stop.error)) = sym e ∙ stop.at in let is : x ≡ Parse stop.error = cc in (ap error_of is, unknown m stop.unread))
   | inr all ↦ (let done : Path Copied (Err x) (Ok all.draft) = sym e ∙ all.done in absurd (cc))
@@ -313,22 +324,22 @@ view_refused h name b n m x ok e = elim (carrying_all name b n m ok.legal ok.oct
 
 -- what the results of the calls that make views say
 
-pub says_entries : (h : List ℕ) (from to : FlagClass) (name : Labels) (n : ℕ) (m : Octets) (result : Result Octets Error) → IsViewable h name m → IsComposed (view_octets h name (drops_signing from to) n m) result
+pub says_entries : (h : List ℕ) (from to : FlagClass) (name : Labels) (n : Ttls) (m : Octets) (result : Result Octets Error) → IsViewable h name m → IsComposed (octets_by h name (drops_signing from to) n m) result
     → IfOk result (SaysEntries h from to name n m)
 says_entries h from to name n m (Err e) ok made = tt
 says_entries h from to name n m (Ok octets) ok made =
     let v = view_made h name (drops_signing from to) n m octets ok made in
     record { parts = v.parts; known = v.known; says = λ q r first second code. v.says q r (ap₂ drops_signing first second) code }
 
-refused_octets : (h : List ℕ) (name : Labels) (b : Bool) (n : ℕ) (m : Octets) (e : Error) → IsViewable h name m → view_octets h name b n m ≡ Err e → IsRefusedView m e
-unfolding view_octets carried
+refused_octets : (h : List ℕ) (name : Labels) (b : Bool) (n : Ttls) (m : Octets) (e : Error) → IsViewable h name m → octets_by h name b n m ≡ Err e → IsRefusedView m e
+unfolding octets_by carried
 refused_octets h name b n m e ok is = go (carries_all name b n m (fresh None)) refl is
   where
     go : (o : Copied) → carries_all name b n m (fresh None) ≡ o → message_of (o >> (λ all. Ok (with_header h all))) ≡ Err e → IsRefusedView m e
     go (Ok d) q f = absurd (cc)
     go (Err x) q f = let why = view_refused h name b n m x ok q in let same : error_of x ≡ e = cc in inr (sym same ∙ why.0, why.1)
 
-pub refused_view : (h : List ℕ) (name : Labels) (b : Bool) (n : ℕ) (m : Octets) (result : Result Octets Error) → IsViewable h name m → IsComposed (view_octets h name b n m) result → IfErr result (IsRefusedView m)
+pub refused_view : (h : List ℕ) (name : Labels) (b : Bool) (n : Ttls) (m : Octets) (result : Result Octets Error) → IsViewable h name m → IsComposed (octets_by h name b n m) result → IfErr result (IsRefusedView m)
 refused_view h name b n m (Ok octets) ok made = tt
 refused_view h name b n m (Err e) ok (inl memory) = inl memory
 refused_view h name b n m (Err e) ok (inr is) = refused_octets h name b n m e ok is
@@ -336,7 +347,7 @@ refused_view h name b n m (Err e) ok (inr is) = refused_octets h name b n m e ok
 pub header_between_same : (f1 f2 t1 t2 : FlagClass) (b1 b2 : Bool) (h : List ℕ) → f1 ≡ f2 → t1 ≡ t2 → b1 ≡ b2 → header_between f1 t1 b1 h ≡ header_between f2 t2 b2 h
 header_between_same f1 f2 t1 t2 b1 b2 h f t b = cc
 
-pub says_message : (from to : FlagClass) (b : Bool) (name : Labels) (n : ℕ) (m : Octets) (result : Result Octets Error) → IsViewable (header_of m) name m
+pub says_message : (from to : FlagClass) (b : Bool) (name : Labels) (n : Ttls) (m : Octets) (result : Result Octets Error) → IsViewable (header_of m) name m
     → IfOk result (SaysEntries (header_between from to b (header_of m)) from to name n m) → IfOk result (SaysView from to b name n m)
 says_message from to b name n m (Err e) ok says = tt
 says_message from to b name n m (Ok octets) ok said = record {
@@ -349,5 +360,29 @@ says_message from to b name n m (Ok octets) ok said = record {
       ap flags_in (sym (header_between_same q.flags from r.flags to (q.rd && not r.rd) b (header_of m) between.first between.second between.recursion)) ∙ header_viewed q r (header_of m) ok.header_is in
       let code : rcode_of h ≡ rcode_of m = ap (λ (v : Header). v.rcode) flags ∙ rcode_kept m in
       let its : flags_in (header_of m) ≡ said.parts.header = ap flags_in (sym (header_is m k.reading k.read)) ∙ ap (λ (p : Parts Data). p.header) k.parts_are in
-      subst (λ (v : Header). Says octets (record (viewed q r name n said.parts) { header = v })) (flags ∙ ap (viewed_header q r) its) (said.says q r between.first between.second code);
+      subst (λ (v : Header). Says octets (record (viewed_by q r name n said.parts) { header = v })) (flags ∙ ap (viewed_header q r) its) (said.says q r between.first between.second code);
 }
+
+-- a message that has expired
+
+set_twice : (xs : List (Item Data)) → map (with_ttl 30) (map (lessened 0) xs) ≡ map (with_ttl 30) xs
+set_twice [] = refl
+set_twice (x ∷ xs) = ap (λ ys. with_ttl 30 x ∷ ys) (set_twice xs)
+
+mostly_twice : (xs : List (Item Data)) → map (mostly_with_ttl 30) (map (mostly_lessened 0) xs) ≡ map (mostly_with_ttl 30) xs
+mostly_twice [] = refl
+mostly_twice (x ∷ xs) = ap₂ (λ y ys. y ∷ ys) (go (x.rtype == 41) refl) (mostly_twice xs)
+  where
+    go : (z : Bool) → (x.rtype == 41) ≡ z → mostly_with_ttl 30 (if z then x else lessened 0 x) ≡ (if z then x else with_ttl 30 x)
+    go true e = ap (λ z. if z then x else with_ttl 30 x) e
+    go false e = ap (λ z. if z then lessened 0 x else with_ttl 30 x) e
+
+expired_view : (q r : Key) (name : Labels) (x : Parts Data) → viewed_by q r name Stale x ≡ all_with_ttl 30 (viewed q r name 0 x)
+expired_view q r name x = same_parts refl refl refl (sym (set_twice (without_signing (leaves_out q r) x.answer))) (sym (set_twice (without_signing (leaves_out q r) x.authority))) (sym (mostly_twice (without_signing (leaves_out q r) x.additional)))
+
+pub says_expired : (h : List ℕ) (flags : FlagClass) (name : Labels) (m : Octets) (result : Result Octets Error) → IsViewable h name m → IsComposed (octets_by h name (drops_signing flags flags) Stale m) result
+    → IfOk result (SaysExpired h flags name m)
+says_expired h flags name m (Err e) ok made = tt
+says_expired h flags name m (Ok octets) ok made =
+    let v = view_made h name (drops_signing flags flags) Stale m octets ok made in
+    record { parts = v.parts; known = v.known; says = λ k first code. subst (λ x. Says octets (under_header h x)) (expired_view k k name v.parts) (v.says k k (ap₂ drops_signing first first) code) }

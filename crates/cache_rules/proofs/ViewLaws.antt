@@ -1,6 +1,6 @@
 -- Views of views: what is given of a message that was derived is the view of the first.
 use Rattle.std.proofs.Common.{◌≡◌, ℕ, Bool, true, false, List, [], ◌∷◌, length, refl, sym, ◌∙◌, ap, ap₂, ◌==◌, ◌&&◌, ◌||◌}
-use Rattle.std.specs.Prelude.{Some, if◌then◌else◌, not, map, ◌*◌, min, option_map}
+use Rattle.std.specs.Prelude.{Some, is_some, if◌then◌else◌, not, map, ◌*◌, min, option_map}
 use Rattle.dns_names.specs.Name.{Labels}
 use Rattle.dns_base.specs.Header.{tc_of}
 use Rattle.dns_base.specs.Data.{Data}
@@ -11,7 +11,7 @@ use Rattle.right_trace.specs.Messages.{Octets, truncated}
 use Rattle.right_trace.specs.Settings.{Settings}
 use Rattle.right_trace.specs.Keys.{FlagClass, Do, Ad, Plain, Key, KeysCover, flags_cover, is_do, is_signing}
 use Rattle.right_trace.specs.Parts.{Header, Item, Parts, raw, flags_in, read_parts, known_parts, lowered_item, lowered_parts, Says}
-use Rattle.right_trace.specs.Validity.{second, has_item, least, without_opt, good_limit, limit, validity_of_parts, validity_read, validity_of_message}
+use Rattle.right_trace.specs.Validity.{second, has_item, least, without_opt, good_limit, absent_limit, limit, validity_of_parts, validity_read, validity_of_message}
 use Rattle.right_trace.specs.Views.{viewed_header, with_name, leaves_out, lessened, mostly_lessened, without_signing, viewed}
 use Rattle.right_trace.proofs.Deriving.{viewed_twice}
 use Rattle.right_trace.proofs.Said.{known_validity}
@@ -140,15 +140,17 @@ opt_lowered n (x ∷ xs) = go (x.rtype == 41) (λ n. opt_lowered n xs)
     go false i = i (min n (x.ttl * second))
 
 limit_lowered : (s : Settings) (x : Parts Data) → limit s (lowered_parts x) ≡ limit s x
-limit_lowered s x = go x.questions (x.code == 0)
+limit_lowered s x = go x.questions (x.code == 0) (x.code == 3)
   where
-    go : (qs : List Asked) (b : Bool) → (if b then good_limit s (lowered_parts x) (map lowered_asked qs) else (if x.code == 3 then s.max_nxdomain_validity else s.misc_error_duration))
-        ≡ (if b then good_limit s x qs else (if x.code == 3 then s.max_nxdomain_validity else s.misc_error_duration))
-    go [] true = refl
-    go (q ∷ qs) true =
+    go : (qs : List Asked) (b d : Bool) → (if b then good_limit s (lowered_parts x) (map lowered_asked qs) else (if d then absent_limit s (lowered_parts x) (map lowered_asked qs) else s.misc_error_duration))
+        ≡ (if b then good_limit s x qs else (if d then absent_limit s x qs else s.misc_error_duration))
+    go [] true d = refl
+    go (q ∷ qs) true d =
         ap₂ (λ a b. if a then s.max_validity else b) (has_lowered q.rtype q.class x.answer)
         (ap₂ (λ a b. if a then s.max_nodata_validity else (if b then s.max_delegation_validity else 0)) (has_lowered 6 q.class x.authority) (has_lowered 2 q.class x.authority))
-    go qs false = refl
+    go [] false true = refl
+    go (q ∷ qs) false true = ap (λ a. if a then s.max_nxdomain_validity else 0) (has_lowered 6 q.class x.authority)
+    go qs false false = refl
 
 pub validity_lowered : (s : Settings) (x : Parts Data) → validity_of_parts s (lowered_parts x) ≡ validity_of_parts s x
 validity_lowered s x = ap (λ n. if x.header.tc && not s.cache_truncated then 0 else n)
@@ -158,22 +160,22 @@ validity_lowered s x = ap (λ n. if x.header.tc && not s.cache_truncated then 0 
     ∙ ap (λ n. least n x.authority) (least_lowered (min s.max_validity (limit s (lowered_parts x))) x.answer ∙ ap (λ l. least (min s.max_validity l) x.answer) (limit_lowered s x))))
 
 -- the validity of a message is that of its parts
-of_parts : (s : Settings) (m : Octets) (y : Parts Octets) → read_parts m ≡ Some y → validity_of_message s m ≡ Some (validity_of_parts s y)
+of_parts : (s : Settings) (m : Octets) (y : Parts Octets) → is_some (known_parts m) ≡ true → read_parts m ≡ Some y → validity_of_message s m ≡ Some (validity_of_parts s y)
 unfolding validity_of_message truncated read_parts
-of_parts s m y e =
+of_parts s m y known e =
     let r = some_inside (λ (r : Reading). record { header = flags_in r.header; code = opt_rcode m; questions = r.questions; answer = map raw r.answer; authority = map raw r.authority; additional = map raw r.additional }) (reads m) y e in
     let tc : y.header.tc ≡ tc_of m = sym (ap (λ (p : Parts Octets). p.header.tc) r.2) ∙ header_tc m r.0 r.1 in
     go (tc_of m && not s.cache_truncated) (ap (λ b. b && not s.cache_truncated) tc) e
   where
-    go : (b : Bool) → (y.header.tc && not s.cache_truncated) ≡ b → read_parts m ≡ Some y → (if b then Some 0 else validity_read s (read_parts m)) ≡ Some (validity_of_parts s y)
+    go : (b : Bool) → (y.header.tc && not s.cache_truncated) ≡ b → read_parts m ≡ Some y → (if b then Some 0 else validity_read s (is_some (known_parts m)) (read_parts m)) ≡ Some (validity_of_parts s y)
     go true is f = sym (ap (λ b. Some (if b then 0 else least (least (least (min s.max_validity (limit s y)) y.answer) y.authority) (without_opt y.additional))) is)
-    go false is f = ap (validity_read s) f
+    go false is f = ap₂ (validity_read s) known f
 
 pub validity : (s : Settings) (x : Parts Data) (octets : Octets) → Says octets x → validity_of_message s octets ≡ Some (validity_of_parts s x)
 validity s x octets says =
     let d = some_inside lowered_parts (known_parts octets) (lowered_parts x) says in
     let y = known_validity s octets d.0 d.1 in
-    of_parts s octets y.0 y.1
+    of_parts s octets y.0 (ap is_some d.1) y.1
     ∙ ap Some (y.2 ∙ (sym (validity_lowered s d.0) ∙ (ap (validity_of_parts s) d.2 ∙ validity_lowered s x)))
 
 pub view_laws : ViewLaws

@@ -1,6 +1,6 @@
 -- What is met of a message, section by section, is its validity.
 use Rattle.std.proofs.Common.{◌≡◌, ℕ, suc, zero, ◌≤◌, Bool, true, false, List, [], ◌∷◌, length, refl, ap, ap₂, sym, ◌∙◌, arith, inl, inr, ◌&&◌, ◌||◌, ◌==◌}
-use Rattle.std.specs.Prelude.{Option, Some, None, option_map, option_and_then, if◌then◌else◌, Result, Ok, Err, map, min, not, nat_lt}
+use Rattle.std.specs.Prelude.{Option, Some, None, is_some, option_map, option_and_then, if◌then◌else◌, Result, Ok, Err, map, min, not, nat_lt}
 use Rattle.std.specs.Option.{option_map_or}
 use Rattle.std.proofs.lemmas.Bool.{ne_eqb}
 use Rattle.std.proofs.lemmas.List.{get_or-take}
@@ -10,17 +10,20 @@ use Rattle.dns_values.specs.declared.numbers.Section.{Section}
 use Rattle.dns_values.specs.declared.numbers.Section.TheVariants.{Answer, Authority, Additional}
 use Rattle.dns_base.specs.Numbers.{u16_at}
 use Rattle.dns_base.specs.Header.{has_bit, tc_of}
-use Rattle.dns_base.specs.Message.{Asked, Known, Reading, reads, header_of, question_at, record_at, list_at, items_at, item_then, all_read, first_question, questions_of, answer_of, authority_of, additional_of, answer_items, authority_items, additional_items}
+use Rattle.dns_base.specs.Message.{Asked, Known, Written, Reading, reads, header_of, question_at, record_at, list_at, items_at, item_then, all_read, first_question, questions_of, answer_of, authority_of, additional_of, answer_items, authority_items, additional_items}
 use Rattle.dns_base.specs.Answering.{question_items}
+use Rattle.dns_base.specs.Data.{Data}
+use Rattle.dns_base.specs.Knowing.{Knowing, meaning_of, meanings_of, knows}
+use Rattle.dns_base.specs.Numbers.{◌>>=◌}
 use Rattle.dns_base.specs.OptRecord.{opt_rcode}
 use Rattle.dns_base.specs.ReadingLaws.{ItemsAre}
 use Rattle.dns_base.proofs.Lists.{items_are_list}
 use Rattle.dns_base.proofs.Readings.{reading_laws}
 use Rattle.client_settings.specs.Settings.{CacheSettings, seconds}
 use Rattle.right_trace.specs.Messages.{Octets, truncated}
-use Rattle.right_trace.specs.Parts.{Item, Parts, raw, flags_in, read_parts}
-use Rattle.right_trace.specs.Validity.{second, has_item, least, without_opt, good_limit, limit, validity_read, validity_of_message}
-use Rattle.cache_rules.specs.Validity.{cached_by, meets, section_meets, limit_asked, limit_met, least_with, least_met, least_in, least_of, validity_met}
+use Rattle.right_trace.specs.Parts.{Item, Parts, raw, typed, flags_in, read_parts, known_parts}
+use Rattle.right_trace.specs.Validity.{second, has_item, least, without_opt, good_limit, absent_limit, limit, validity_read, validity_of_message}
+use Rattle.cache_rules.specs.Validity.{cached_by, meets, section_meets, limit_asked, limit_absent, limit_met, least_with, least_met, least_in, least_of, are_known, section_is_known, is_known, if_known, validity_met}
 
 pub some_inside : {A B : Type 0} → (f : A → B) (o : Option A) (y : B) → option_map f o ≡ Some y → (x : A) × (o ≡ Some x) × (f x ≡ y)
 some_inside f None y e = none_some e
@@ -118,10 +121,17 @@ limit_asked_is c m r (q ∷ qs) a u =
     ap₂ (λ x y. if x then c.max_validity else y) (met_in q.rtype q.class (answer_items m) r.answer a)
     (ap₂ (λ x y. if x then c.max_nodata_validity else (if y then c.max_delegation_validity else 0)) (met_in 6 q.class (authority_items m) r.authority u) (met_in 2 q.class (authority_items m) r.authority u))
 
+limit_absent_is : (c : CacheSettings) (m : Octets) (r : Reading) (qs : List Asked) → option_and_then all_read (authority_items m) ≡ Some r.authority → limit_absent c m (first_in qs) ≡ absent_limit (cached_by c) (parts_of m r) qs
+unfolding first_in
+limit_absent_is c m r [] u = refl
+limit_absent_is c m r (q ∷ qs) u = ap (λ x. if x then c.max_nxdomain_validity else 0) (met_in 6 q.class (authority_items m) r.authority u)
+
 limit_is : (c : CacheSettings) (m : Octets) (r : Reading) → ItemsAre m r.questions r.answer r.authority r.additional → limit_met c m ≡ limit (cached_by c) (parts_of m r)
 limit_is c m r items =
-    ap (λ n. if opt_rcode m == 0 then n else (if opt_rcode m == 3 then c.max_nxdomain_validity else c.misc_error_duration))
-    (ap (limit_asked c m) (first_is m r.questions items.questions_are) ∙ limit_asked_is c m r r.questions items.answer_is items.authority_is)
+    let first = first_is m r.questions items.questions_are in
+    ap₂ (λ n a. if opt_rcode m == 0 then n else (if opt_rcode m == 3 then a else c.misc_error_duration))
+    (ap (limit_asked c m) first ∙ limit_asked_is c m r r.questions items.answer_is items.authority_is)
+    (ap (limit_absent c m) first ∙ limit_absent_is c m r r.questions items.authority_is)
 
 -- a message that is read
 
@@ -148,6 +158,45 @@ least_is m r n items =
     ∙ (ap (option_and_then (least_in Additional (additional_items m))) (found_in Authority (authority_items m) r.authority (least n (map raw r.answer)) items.authority_is)
     ∙ found_in Additional (additional_items m) r.additional (least (least n (map raw r.answer)) (map raw r.authority)) items.additional_is)
 
+-- the data of records that is read by type
+
+meaning_known : (k : Known) → is_some k.says ≡ is_some (meaning_of k)
+meaning_known k = go k.says
+  where
+    go : (o : Option Data) → is_some o ≡ is_some (option_map (λ content. record { owner = k.entry.owner; rtype = k.entry.rtype; class = k.entry.class; ttl = k.entry.ttl; content = content }) o)
+    go None = refl
+    go (Some x) = refl
+
+both_meant : (o : Option Written) (p : Option (List Written)) → (is_some o && is_some p) ≡ is_some (option_and_then (λ w. option_and_then (λ ws. Some (w ∷ ws)) p) o)
+both_meant None p = refl
+both_meant (Some w) None = refl
+both_meant (Some w) (Some ws) = refl
+
+known_meant : (items : List (Result Known ParseError)) (ks : List Known) → all_read items ≡ Some ks → are_known items ≡ is_some (meanings_of ks)
+known_meant [] ks e = let is : [] ≡ ks = cc in ap (λ ks. is_some (meanings_of ks)) is
+known_meant (Err x ∷ items) ks e = none_some e
+known_meant (Ok k ∷ items) ks e =
+    let rest = some_inside (λ ks. k ∷ ks) (all_read items) ks e in
+    ap₂ (λ a b. a && b) (meaning_known k) (known_meant items rest.0 rest.1)
+    ∙ (both_meant (meaning_of k) (meanings_of rest.0) ∙ ap (λ ks. is_some (meanings_of ks)) rest.2)
+
+section_meant : (section : Option (List (Result Known ParseError))) (ks : List Known) → option_and_then all_read section ≡ Some ks → section_is_known section ≡ is_some (meanings_of ks)
+section_meant section ks e = let x = section_read section ks e in ap section_is_known x.is ∙ known_meant x.items ks x.read
+
+known_is : (m : Octets) (r : Reading) → ItemsAre m r.questions r.answer r.authority r.additional → reads m ≡ Some r → is_known m ≡ is_some (known_parts m)
+unfolding known_parts knows
+known_is m r items e =
+    ap₂ (λ a b. a && b) (section_meant (answer_items m) r.answer items.answer_is)
+    (ap₂ (λ a b. a && b) (section_meant (authority_items m) r.authority items.authority_is) (section_meant (additional_items m) r.additional items.additional_is))
+    ∙ rw e (all_meant (meanings_of r.answer) (meanings_of r.authority) (meanings_of r.additional))
+  where
+    all_meant : (a u d : Option (List Written)) → (is_some a && (is_some u && is_some d)) ≡ is_some (option_map (λ (x : Knowing). record { header = flags_in x.header; code = opt_rcode m; questions = x.questions; answer = map typed x.answer; authority = map typed x.authority; additional = map typed x.additional })
+        (a >>= (λ answer. u >>= (λ authority. d >>= (λ additional. Some (record { header = r.header; questions = r.questions; answer = answer; authority = authority; additional = additional }))))))
+    all_meant None u d = refl
+    all_meant (Some a) None d = refl
+    all_meant (Some a) (Some u) None = refl
+    all_meant (Some a) (Some u) (Some d) = refl
+
 met_of_read : (c : CacheSettings) (m : Octets) (r : Reading) → reads m ≡ Some r → validity_met c m ≡ validity_of_message (cached_by c) m
 unfolding validity_of_message truncated read_parts
 met_of_read c m r e = go (tc_of m && not c.cache_truncated) refl
@@ -158,14 +207,20 @@ met_of_read c m r e = go (tc_of m && not c.cache_truncated) refl
     start : limit_met c m ≡ limit (cached_by c) (parts_of m r)
     start = limit_is c m r items
 
-    go : (b : Bool) → (tc_of m && not c.cache_truncated) ≡ b → (if b then Some 0 else least_of m (min c.max_validity (limit_met c m))) ≡ (if b then Some 0 else validity_read (cached_by c) (option_map (parts_of m) (reads m)))
+    start_at : ℕ
+    start_at = min c.max_validity (limit (cached_by c) (parts_of m r))
+
+    least_then : ℕ
+    least_then = least (least (least start_at (map raw r.answer)) (map raw r.authority)) (without_opt (map raw r.additional))
+
+    go : (b : Bool) → (tc_of m && not c.cache_truncated) ≡ b → (if b then Some 0 else option_map (if_known (is_known m)) (least_of m (min c.max_validity (limit_met c m)))) ≡ (if b then Some 0 else validity_read (cached_by c) (is_some (known_parts m)) (option_map (parts_of m) (reads m)))
     go true is = refl
     go false is =
         let tc : ((flags_in r.header).tc && not c.cache_truncated) ≡ false = ap (λ b. b && not c.cache_truncated) (header_tc m r e) ∙ is in
-        ap (λ l. least_of m (min c.max_validity l)) start
-        ∙ (least_is m r (min c.max_validity (limit (cached_by c) (parts_of m r))) items
-        ∙ (ap (λ b. Some (if b then 0 else least (least (least (min c.max_validity (limit (cached_by c) (parts_of m r))) (map raw r.answer)) (map raw r.authority)) (without_opt (map raw r.additional)))) (sym tc)
-        ∙ ap (λ o. validity_read (cached_by c) (option_map (parts_of m) o)) (sym e)))
+        ap (λ l. option_map (if_known (is_known m)) (least_of m (min c.max_validity l))) start
+        ∙ (ap (option_map (if_known (is_known m))) (least_is m r start_at items)
+        ∙ (ap₂ (λ k b. Some (if_known k (if b then 0 else least_then))) (known_is m r items e) (sym tc)
+        ∙ ap (λ o. validity_read (cached_by c) (is_some (known_parts m)) (option_map (parts_of m) o)) (sym e)))
 
 -- a message that is not read
 
@@ -200,9 +255,10 @@ met_of_unread c m long e = go (tc_of m && not c.cache_truncated)
     none n None is = refl
     none n (Some v) is = let r = read_of_all m n v long is in none_some (sym e ∙ r.1)
 
-    go : (b : Bool) → (if b then Some 0 else least_of m (min c.max_validity (limit_met c m))) ≡ (if b then Some 0 else validity_read (cached_by c) (option_map (parts_of m) (reads m)))
+    go : (b : Bool) → (if b then Some 0 else option_map (if_known (is_known m)) (least_of m (min c.max_validity (limit_met c m)))) ≡ (if b then Some 0 else validity_read (cached_by c) (is_some (known_parts m)) (option_map (parts_of m) (reads m)))
     go true = refl
-    go false = none (min c.max_validity (limit_met c m)) (least_of m (min c.max_validity (limit_met c m))) refl ∙ ap (λ o. validity_read (cached_by c) (option_map (parts_of m) o)) (sym e)
+    go false = ap (option_map (if_known (is_known m))) (none (min c.max_validity (limit_met c m)) (least_of m (min c.max_validity (limit_met c m))) refl)
+        ∙ ap (λ o. validity_read (cached_by c) (is_some (known_parts m)) (option_map (parts_of m) o)) (sym e)
 
 -- The least of what is met is the validity.
 pub met_is : (c : CacheSettings) (m : Octets) → 12 ≤ length m → validity_met c m ≡ validity_of_message (cached_by c) m

@@ -1,5 +1,5 @@
 -- How long a result may be kept by the settings of a cache, in microseconds, and what is met of a message to tell it.
-use Rattle.std.specs.Prelude.{ℕ, min, Bool, true, false, not, ◌&&◌, ◌||◌, ◌==◌, if◌then◌else◌, Option, Some, None, option_and_then, List, [], ◌∷◌, Result, Ok, Err}
+use Rattle.std.specs.Prelude.{ℕ, min, Bool, true, false, not, ◌&&◌, ◌||◌, ◌==◌, if◌then◌else◌, Option, Some, None, option_and_then, option_map, is_some, List, [], ◌∷◌, Result, Ok, Err}
 use Rattle.dns_values.specs.declared.error.ParseError.{ParseError}
 use Rattle.dns_values.specs.declared.numbers.Section.{Section}
 use Rattle.dns_values.specs.declared.numbers.Section.TheVariants.{Answer, Authority, Additional}
@@ -23,6 +23,7 @@ with_cache c s = record s {
   max_nodata_validity = c.max_nodata_validity;
   max_delegation_validity = c.max_delegation_validity;
   cache_truncated = c.cache_truncated;
+  stale_for = c.stale_for;
 }
 
 -- the settings of a client with this cache that defers nothing
@@ -38,6 +39,7 @@ cached_by c = record {
   max_nodata_validity = c.max_nodata_validity;
   max_delegation_validity = c.max_delegation_validity;
   cache_truncated = c.cache_truncated;
+  stale_for = c.stale_for;
 }
 
 -- what is read, or that it is not
@@ -71,11 +73,16 @@ limit_asked c m (Some q) =
     else (if section_meets 6 q.class (authority_items m) then c.max_nodata_validity
     else (if section_meets 2 q.class (authority_items m) then c.max_delegation_validity else 0))
 
+-- the limit of a message that says that the name is not there, by its first question: there is none without an SOA
+abbrev pub limit_absent : CacheSettings → Octets → Option Asked → ℕ
+limit_absent c m None = 0
+limit_absent c m (Some q) = if section_meets 6 q.class (authority_items m) then c.max_nxdomain_validity else 0
+
 -- the limit of a message, by its response code
 abbrev pub limit_met : CacheSettings → Octets → ℕ
 limit_met c m =
     if opt_rcode m == 0 then limit_asked c m (first_question m)
-    else (if opt_rcode m == 3 then c.max_nxdomain_validity else c.misc_error_duration)
+    else (if opt_rcode m == 3 then limit_absent c m (first_question m) else c.misc_error_duration)
 
 -- an OPT record of the additional section has no TTL
 abbrev pub has_ttl : Section → (rtype : ℕ) → Bool
@@ -100,5 +107,24 @@ least_in s (Some items) n = least_met s items n
 abbrev pub least_of : Octets → ℕ → Option ℕ
 least_of m n = option_and_then (least_in Additional (additional_items m)) (option_and_then (least_in Authority (authority_items m)) (least_in Answer (answer_items m) n))
 
+-- these records are read, and their data by type
+abbrev pub are_known : List (Result Known ParseError) → Bool
+are_known [] = true
+are_known (Err e ∷ items) = false
+are_known (Ok k ∷ items) = is_some k.says && are_known items
+
+-- the same of a section, where those before it are read
+abbrev pub section_is_known : Option (List (Result Known ParseError)) → Bool
+section_is_known None = false
+section_is_known (Some items) = are_known items
+
+-- the same of a message
+abbrev pub is_known : Octets → Bool
+is_known m = section_is_known (answer_items m) && (section_is_known (authority_items m) && section_is_known (additional_items m))
+
+-- this; or 0, where the data of a record can't be read
+abbrev pub if_known : Bool → ℕ → ℕ
+if_known b n = if b then n else 0
+
 abbrev pub validity_met : CacheSettings → Octets → Option ℕ
-validity_met c m = if tc_of m && not c.cache_truncated then Some 0 else least_of m (min c.max_validity (limit_met c m))
+validity_met c m = if tc_of m && not c.cache_truncated then Some 0 else option_map (if_known (is_known m)) (least_of m (min c.max_validity (limit_met c m)))

@@ -4,7 +4,7 @@ ghost use Rattle.std.specs.Prelude.{◌≡◌, ◌&&◌};
 ghost use Rattle.dns_base.specs.Sections.{HasNoRecords, HasNoneAfter};
 ghost use Rattle.dns_base.specs.Draft.{counts_in, cleared};
 ghost use Rattle.client_request.specs.Composed.{each, IsCopied};
-ghost use Rattle.cache_rules.specs.Viewing.{asks_under, carries, carries_section, ttl_then};
+ghost use Rattle.cache_rules.specs.Viewing.{asks_under, carries, carries_section, ttl_by, ttl_then};
 
 use crate::keeping::{has_ttl, section_of};
 use crate::key::is_signing;
@@ -13,13 +13,22 @@ use dns_base::{
     Builder, Message, Name, Question, QuestionSection, Record, RecordSection, Section, Ttl,
 };
 
+/// With which TTL a record is copied.
+#[derive(Clone, Copy)]
+pub enum Ttls {
+    /// Its own, less by so many seconds, 0 at least.
+    Lessened(u32),
+    /// 30 seconds, as that of a message that has expired (RFC 8767 5).
+    Stale,
+}
+
 /// How a record is copied.
 #[derive(Clone, Copy)]
 pub(crate) struct Manner {
     /// Whether RRSIG, NSEC and NSEC3 are left out.
     pub(crate) drops_signing: bool,
-    /// How many seconds went by.
-    pub(crate) seconds: u32,
+    /// With which TTL.
+    pub(crate) ttls: Ttls,
 }
 
 fn copy_question(
@@ -51,12 +60,22 @@ pub(crate) fn copy_questions(
     Ok(())
 }
 
-/// What is left of the TTL of a record, 0 at least.
+/// A TTL as it is given.
+fn ttl_by(ttls: Ttls, ttl: Ttl) -> Ttl
+    ensures { result.0 ≡ ttl_by ttls ttl.0 }
+{
+    match ttls {
+        Ttls::Lessened(seconds) => Ttl(ttl.0.saturating_sub(seconds)),
+        Ttls::Stale => Ttl(30),
+    }
+}
+
+/// The TTL with which a record is given.
 fn ttl_then(section: Section, manner: Manner, source: &Record<'_>) -> Ttl
-    ensures { result.0 ≡ ttl_then section manner.seconds source.now.entry.rtype source.now.entry.ttl }
+    ensures { result.0 ≡ ttl_then section manner.ttls source.now.entry.rtype source.now.entry.ttl }
 {
     if has_ttl(section, source.rtype()) {
-        Ttl(source.ttl().0.saturating_sub(manner.seconds))
+        ttl_by(manner.ttls, source.ttl())
     } else {
         source.ttl()
     }
@@ -69,7 +88,7 @@ fn copy_record(
     target: &mut Builder,
 ) -> Result<(), CopyRecordsError>
     requires { HasNoneAfter section (counts_in target.old) }
-    ensures copied { IsCopied (carries section manner.drops_signing manner.seconds source.now target.old) result target.new }
+    ensures copied { IsCopied (carries section manner.drops_signing manner.ttls source.now target.old) result target.new }
     ensures order { HasNoneAfter section (counts_in target.new) }
 {
     let content = source.data()?;
@@ -94,7 +113,7 @@ fn copy_records(
     target: &mut Builder,
 ) -> Result<(), CopyRecordsError>
     requires { HasNoneAfter section (counts_in target.old) }
-    ensures copied { IsCopied (each (carries section manner.drops_signing manner.seconds) records.entry target.old) result target.new }
+    ensures copied { IsCopied (each (carries section manner.drops_signing manner.ttls) records.entry target.old) result target.new }
     ensures order { HasNoneAfter section (counts_in target.new) }
 {
     for source in records {
@@ -111,7 +130,7 @@ pub(crate) fn copy_section(
     target: &mut Builder,
 ) -> Result<(), CopyRecordsError>
     requires { HasNoneAfter section (counts_in target.old) }
-    ensures copied { IsCopied (carries_section section manner.drops_signing manner.seconds message.now target.old) result target.new }
+    ensures copied { IsCopied (carries_section section manner.drops_signing manner.ttls message.now target.old) result target.new }
     ensures order { HasNoneAfter section (counts_in target.new) }
 {
     copy_records(section, manner, section_of(message, section)?, target)

@@ -89,13 +89,29 @@ fn limit_without_error(message: &Message, config: &cache::Config) -> Duration
     }
 }
 
+/// The limit of a message that says that the name is not there, by its first question: without an SOA it is not kept
+/// (RFC 2308 5).
+fn limit_of_absence(message: &Message, config: &cache::Config) -> Duration
+    ensures { result ≡ spec.limit_absent config.now message.now (first_question message.now) }
+{
+    let question = match message.first_question() {
+        None => return Duration::ZERO,
+        Some(question) => question,
+    };
+    if section_meets(message, Section::Authority, Rtype::SOA, question.qclass()) {
+        config.max_nxdomain_validity()
+    } else {
+        Duration::ZERO
+    }
+}
+
 /// The limit of a message, by its response code with the bits of its OPT record.
 fn limit_of(message: &Message, config: &cache::Config) -> Duration
     ensures { result ≡ spec.limit_met config.now message.now }
 {
     match message.opt_rcode() {
         OptRcode(0) => limit_without_error(message, config),
-        OptRcode(3) => config.max_nxdomain_validity(),
+        OptRcode(3) => limit_of_absence(message, config),
         _ => config.misc_error_duration(),
     }
 }
@@ -158,6 +174,41 @@ fn least_of(message: &Message, before: Duration) -> Result<Duration, ParseError>
     least_in(message, Section::Additional, least)
 }
 
+/// Whether each of these records is read, and its data by its type.
+fn are_known(records: RecordSection<'_>) -> bool
+    ensures { result ≡ spec.are_known records.entry }
+{
+    for record in records {
+        let record = match record {
+            Err(_) => return false,
+            Ok(record) => record,
+        };
+        if record.data().is_err() {
+            return false;
+        }
+    }
+    true
+}
+
+/// The same of a section, where those before it are read.
+fn section_is_known(message: &Message, section: Section) -> bool
+    ensures { result ≡ spec.section_is_known (section_items section message.now) }
+{
+    match section_of(message, section) {
+        Err(_) => false,
+        Ok(records) => are_known(records),
+    }
+}
+
+/// Whether the data of each record of a message is read by its type.
+fn is_known(message: &Message) -> bool
+    ensures { result ≡ spec.is_known message.now }
+{
+    section_is_known(message, Section::Answer)
+        && section_is_known(message, Section::Authority)
+        && section_is_known(message, Section::Additional)
+}
+
 /// How long a message may be kept. Refused exactly where it can't be read, unless it is truncated and those are not kept.
 fn message_validity(message: &Message, config: &cache::Config) -> Result<Duration, Error>
     ensures met { result ≡ spec.or_unread (spec.validity_met config.now message.now) }
@@ -169,7 +220,11 @@ fn message_validity(message: &Message, config: &cache::Config) -> Result<Duratio
     }
     let start = shorter(config.max_validity(), limit_of(message, config));
     let validity = least_of(message, start)?;
-    Ok(validity)
+    if is_known(message) {
+        Ok(validity)
+    } else {
+        Ok(Duration::ZERO)
+    }
 }
 
 /// The validity of a message.
@@ -180,7 +235,8 @@ fn validity_of(message: &Message, config: &cache::Config) -> Result<Duration, Er
 }
 
 /// How long a result may be kept, in whole microseconds: an error for a time of its own, a truncated message not at all
-/// where those are not kept, and any other for the least of its TTLs and of the limit of its kind (RFC 2308 3, 5).
+/// where those are not kept, nor one with a record whose data can't be read by its type, and any other for the least of its
+/// TTLs and of the limit of its kind (RFC 2308 3, 5).
 /// `MessageParseError` exactly where a message is neither truncated so nor read. It takes no memory.
 pub fn validity(outcome: &Result<Message, Error>, config: &cache::Config) -> Result<Duration, Error>
     ensures { result ≡ spec.kept_for config.now outcome.now }

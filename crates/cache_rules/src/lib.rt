@@ -10,7 +10,8 @@ mod key;
 mod laws;
 mod viewing;
 
+pub use copying::Ttls;
 pub use keeping::validity;
 pub use key::{AdDo, Key, is_signing};
 pub use laws::{keys_are_of_requests, keys_are_told_apart, view_laws};
-pub use viewing::{derived_header, view, view_under};
+pub use viewing::{derived_header, stale_under, view, view_under};

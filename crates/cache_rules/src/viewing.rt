@@ -7,9 +7,10 @@ ghost use Rattle.dns_base.specs.Sections.{HasNoRecords};
 ghost use Rattle.client_request.specs.Composed.{IsCopied};
 ghost use Rattle.client_request.specs.Composing.{IsComposed};
 ghost use Rattle.cache_rules.specs.Key.{flag_class};
-ghost use Rattle.cache_rules.specs.Viewing.{header_between, drops_signing, carries_all, view_octets, IsViewable, SaysView, SaysEntries, IsRefusedView};
+ghost use Rattle.cache_rules.specs.Viewing.{header_between, drops_signing, carries_all, octets_by, view_octets, IsViewable, SaysView, SaysEntries, SaysExpired, IsRefusedView};
+ghost use Rattle.cache_rules.specs.declared.copying.Ttls.TheVariants.{Lessened, Stale};
 
-use crate::copying::{Manner, copy_questions, copy_section};
+use crate::copying::{Manner, Ttls, copy_questions, copy_section};
 use crate::key::AdDo;
 use client_request::{CopyRecordsError, Error};
 use dns_base::{Builder, Header, Message, Name, Section};
@@ -45,7 +46,7 @@ fn carry_all(
     target: &mut Builder,
 ) -> Result<(), CopyRecordsError>
     requires { HasNoRecords (counts_in target.old) }
-    ensures { IsCopied (carries_all name.now manner.drops_signing manner.seconds message.now target.old) result target.new }
+    ensures { IsCopied (carries_all name.now manner.drops_signing manner.ttls message.now target.old) result target.new }
 {
     copy_questions(message.question(), name, target)?;
     copy_section(Section::Answer, manner, message, target)?;
@@ -70,7 +71,7 @@ fn is_viewable(header: Header, msg: &Message, question: &Name)
 }
 
 /// The entries of a kept message under a header. Where an entry can't be read, what was copied is dropped.
-#[tactic(auto, unfolding(crate::specs::Viewing::carried, crate::specs::Viewing::view_octets))]
+#[tactic(auto, unfolding(crate::specs::Viewing::carried, crate::specs::Viewing::octets_by))]
 fn copied(
     alloc: Global,
     header: Header,
@@ -78,14 +79,14 @@ fn copied(
     from: AdDo,
     to: AdDo,
     question: &Name,
-    secs: u32,
+    ttls: Ttls,
 ) -> Result<Message, Error>
-    ensures { IsComposed (view_octets header question.now (drops_signing (flag_class from) (flag_class to)) secs msg.now) result }
+    ensures { IsComposed (octets_by header question.now (drops_signing (flag_class from) (flag_class to)) ttls msg.now) result }
 {
     let mut target = Builder::new(alloc, None)?;
     let manner = Manner {
         drops_signing: drops_signing(from, to),
-        seconds: secs,
+        ttls,
     };
     carry_all(msg, question, manner, &mut target)?;
     target.set_header(header);
@@ -111,11 +112,28 @@ pub fn view_under(
     secs: u32,
 ) -> Result<Message, Error>
     ensures made { IsComposed (view_octets header question.now (drops_signing (flag_class from) (flag_class to)) secs msg.now) result }
-    ensures says { IfOk result (SaysEntries header (flag_class from) (flag_class to) question.now secs msg.now) }
+    ensures says { IfOk result (SaysEntries header (flag_class from) (flag_class to) question.now (Lessened secs) msg.now) }
     ensures refused { IfErr result (IsRefusedView msg.now) }
 {
     is_viewable(header, msg, question);
-    copied(alloc, header, msg, from, to, question, secs)
+    copied(alloc, header, msg, from, to, question, Ttls::Lessened(secs))
+}
+
+/// The entries of a kept message that has expired, under a header of its own, as they are given to a request with the
+/// same flags: as by [`view_under`], but with 30 seconds in the place of each TTL (RFC 8767 5).
+pub fn stale_under(
+    alloc: Global,
+    header: Header,
+    msg: &Message,
+    class: AdDo,
+    question: &Name,
+) -> Result<Message, Error>
+    ensures made { IsComposed (octets_by header question.now (drops_signing (flag_class class) (flag_class class)) Stale msg.now) result }
+    ensures says { IfOk result (SaysExpired header (flag_class class) question.now msg.now) }
+    ensures refused { IfErr result (IsRefusedView msg.now) }
+{
+    is_viewable(header, msg, question);
+    copied(alloc, header, msg, class, class, question, Ttls::Stale)
 }
 
 /// A message that was asked for with the first flags as it is given to a request with the second, so many seconds
@@ -130,7 +148,7 @@ pub fn view(
     secs: u32,
 ) -> Result<Message, Error>
     ensures made { IsComposed (view_octets (header_between (flag_class from) (flag_class to) clear_rd (header_of msg.now)) question.now (drops_signing (flag_class from) (flag_class to)) secs msg.now) result }
-    ensures says { IfOk result (SaysView (flag_class from) (flag_class to) clear_rd question.now secs msg.now) }
+    ensures says { IfOk result (SaysView (flag_class from) (flag_class to) clear_rd question.now (Lessened secs) msg.now) }
     ensures refused { IfErr result (IsRefusedView msg.now) }
 {
     let header = msg.header();

@@ -24,6 +24,7 @@ pub record CacheSettings : Type 0 where
   pub max_nodata_validity : ℕ
   pub max_delegation_validity : ℕ
   pub cache_truncated : Bool
+  pub stale_for : ℕ
 
 -- a week at most; half a minute for failures, an hour for what is not there
 abbrev pub default_cache : CacheSettings
@@ -36,4 +37,5 @@ default_cache = record {
   max_nodata_validity = seconds 3600;
   max_delegation_validity = seconds 1000000;
   cache_truncated = false;
+  stale_for = seconds 0;
 }

@@ -62,6 +62,12 @@ fn max_delegation_validity_limits() -> DefMinMax<Duration>
     limits(1_000_000, 60, 1_000_000_000)
 }
 
+fn stale_for_limits() -> DefMinMax<Duration>
+    ensures { result ≡ record { def = seconds 0; min = seconds 0; max = seconds 604800 } }
+{
+    limits(0, 0, 604_800)
+}
+
 /// How many answers are kept, and for how long at most.
 #[derive(Clone, Debug, PartialEq, Eq, Drop)]
 pub struct Config {
@@ -73,6 +79,7 @@ pub struct Config {
     max_nodata_validity: Duration,
     max_delegation_validity: Duration,
     cache_truncated: bool,
+    stale_for: Duration,
 }
 
 impl Model for Config {
@@ -90,6 +97,7 @@ impl Model for Config {
       max_nodata_validity = c.max_nodata_validity;
       max_delegation_validity = c.max_delegation_validity;
       cache_truncated = c.cache_truncated;
+      stale_for = c.stale_for;
     } };
 
     ghost inverse = { λ s. record {
@@ -101,6 +109,7 @@ impl Model for Config {
       max_nodata_validity = s.max_nodata_validity;
       max_delegation_validity = s.max_delegation_validity;
       cache_truncated = s.cache_truncated;
+      stale_for = s.stale_for;
     } };
 
     ghost invariant = { λ c. c.max_validity ≤ seconds 6048000 };
@@ -115,7 +124,7 @@ impl Config {
     }
 
     /// 1000 answers, a week at most; failures for half a minute, names and data that are not there for
-    /// an hour, delegations for 1000000 seconds; truncated answers not at all.
+    /// an hour, delegations for 1000000 seconds; truncated answers not at all, and none once it has expired.
     pub fn new() -> Config
         ensures { result ≡ default_cache }
     {
@@ -128,6 +137,7 @@ impl Config {
             max_nodata_validity: max_nodata_validity_limits().default(),
             max_delegation_validity: max_delegation_validity_limits().default(),
             cache_truncated: false,
+            stale_for: stale_for_limits().default(),
         }
     }
 
@@ -241,6 +251,20 @@ impl Config {
         ensures { self.new ≡ record self.old { cache_truncated = value } }
     {
         self.cache_truncated = value;
+    }
+
+    /// For how long an answer that has expired is given where the servers fail (RFC 8767).
+    pub fn stale_for(&self) -> Duration
+        ensures { result ≡ self.now.stale_for }
+    {
+        self.stale_for
+    }
+
+    /// 0 to 604800 seconds.
+    pub fn set_stale_for(&mut self, value: Duration)
+        ensures { self.new ≡ record self.old { stale_for = limited nat_cmp (seconds 0) (seconds 604800) value } }
+    {
+        self.stale_for = stale_for_limits().limit(value);
     }
 
     /// The same settings. It takes no memory.

@@ -9,6 +9,6 @@ abbrev pub invariant-loop-source : goal.invariant-loop-source
 invariant-loop-source l = record {
   can_next : (goal.iterator-loop-source).can_next l.source-iterator;
   is_finite : (goal.iterator-loop-source).is_finite l.source-iterator;
-  same : each (carries l.section l.manner.drops_signing l.manner.seconds) l.fn.records l.initial.target ≡ each (carries l.section l.manner.drops_signing l.manner.seconds) l.source-iterator l.target;
+  same : each (carries l.section l.manner.drops_signing l.manner.ttls) l.fn.records l.initial.target ≡ each (carries l.section l.manner.drops_signing l.manner.ttls) l.source-iterator l.target;
   order : HasNoneAfter l.section (counts_in l.target);
 }
