@@ -16,7 +16,10 @@ use Rattle.cache_rules.specs.declared.key.AdDo.{AdDo}
 use Rattle.cache_rules.specs.declared.key.AdDo.TheVariants as classes
 use Rattle.cache_rules.specs.Key.{flag_class, key_in, same_key}
 use Rattle.cache_rules.specs.Validity.{kept_for}
-use Rattle.cache_rules.specs.Viewing.{header_between, drops_signing, view_octets}
+use Rattle.cache_rules.specs.Viewing.{header_between, drops_signing, octets_by, view_octets}
+use Rattle.cache_rules.specs.declared.copying.Ttls.TheVariants.{Stale}
+use Rattle.dns_base.specs.OptRecord.{opt_rcode}
+use Rattle.right_trace.specs.Views.{tells_of_name}
 use Rattle.client_cache.specs.declared.table.Flags.{Flags}
 
 -- a message, or why there is none
@@ -248,3 +251,46 @@ keeps_for k now outcome t (Ok n) =
 -- the same by how long the result may be kept
 abbrev pub keeps : CacheSettings → Key → (now : ℕ) → Outcome → Table → Outcome × Table
 keeps s k now outcome t = keeps_for k now outcome t (kept_for s outcome)
+
+-- ---- what stands in for a result where servers fail (RFC 8767)
+
+-- An entry that had expired when a request was asked, and for whom it may stand in: its class, and the name as it is spelled.
+pub record Spare : Type 0 where
+  pub class : FlagClass
+  pub name : Labels
+  pub entry : Entry
+
+-- the entries of a message under its header, with the TTL of one that has expired
+abbrev pub expired : FlagClass → Labels → Stored → Outcome
+expired class name m = octets_by m.header name (drops_signing class class) Stale m.message
+
+-- a message, if it is one
+abbrev pub message_in : Outcome → Option (List ℕ)
+message_in (Ok message) = Some message
+message_in (Err e) = None
+
+abbrev pub expired_of : FlagClass → Labels → Result Stored Error → Option (List ℕ)
+expired_of class name (Err e) = None
+expired_of class name (Ok m) = message_in (expired class name m)
+
+-- It stands in while its age is at most its validity and the time that is set; not for no time, and only a message whose data is read.
+abbrev pub stands_in : CacheSettings → (now : ℕ) → Spare → Option (List ℕ)
+stands_in s now x =
+    if s.stale_for == 0 then None
+    else (if nat_le (now - x.entry.moment - x.entry.validity) s.stale_for then expired_of x.class x.name x.entry.outcome else None)
+
+abbrev pub spare_stands_in : CacheSettings → (now : ℕ) → Option Spare → Option (List ℕ)
+spare_stands_in s now None = None
+spare_stands_in s now (Some x) = stands_in s now x
+
+-- What a request has to spare of the entry under its own key: a message that tells of a name, and is no failure of a server.
+abbrev pub spare_of : Asked → Entry → Result Stored Error → Option Spare
+spare_of a e (Err x) = None
+spare_of a e (Ok m) = if tells_of_name (opt_rcode m.message) then Some (record { class = a.key.flags; name = a.name; entry = e }) else None
+
+abbrev pub spare_from : Asked → Option Entry → Option Spare
+spare_from a None = None
+spare_from a (Some e) = spare_of a e e.outcome
+
+abbrev pub spare_in : CacheSettings → Asked → Table → Option Spare
+spare_in s a t = if s.stale_for == 0 then None else spare_from a (entry_under a.key t)

@@ -3,23 +3,27 @@
 --   send ──► composed ──► not to be kept, or nothing serves it ──► handed on ──► its result, kept and given
 --                │ refused         │ an entry serves it
 --                └──► result ◄─────┘
-use Rattle.std.specs.Prelude.{ℕ, ◌+◌, ◌||◌, max, Bool, false, List, [], ◌∷◌, Option, Some, None, option_map, option_and_then, Ok, Err}
+use Rattle.std.specs.Prelude.{ℕ, ◌+◌, ◌||◌, if◌then◌else◌, max, Bool, false, List, [], ◌∷◌, Option, Some, None, option_map, option_and_then, Ok, Err}
 use Rattle.client_request.specs.Board.{Part}
 use Rattle.client_request.specs.Numbered.{puts, frees, entry_at}
 use Rattle.client_request.specs.Requests.{Requests}
-use Rattle.client_request.specs.View.{View, Heard, Transport, answers, draws_ticket}
+use Rattle.client_request.specs.View.{View, Heard, Transport, answers, answers_stale, draws_ticket}
 use Rattle.client_request.specs.declared.board.Posted.{Posted}
 use Rattle.client_settings.specs.Settings.{CacheSettings}
 use Rattle.lru.specs.LruCache.{lru_cache}
 use Rattle.right_trace.specs.Keys.{Key}
 use Rattle.client_cache.specs.declared.steps.Way.{Way}
 use Rattle.client_cache.specs.declared.steps.Way.TheVariants.{Given, Asks}
-use Rattle.client_cache.specs.Keeping.{Outcome, Table, Asked, Found, asked_in, looks_up, keeps}
+use Rattle.client_cache.specs.Keeping.{Outcome, Table, Asked, Found, Spare, asked_in, first_kept, takes, keeps, spare_in, spare_stands_in}
+use Rattle.client_cache.specs.declared.table.Flags.{Flags}
+use Rattle.client_request.specs.declared.error.Error.{Error}
+use Rattle.right_trace.specs.Errors.{is_failure}
 
--- A request that was handed on: its ticket here, and the key under which its result is kept, if it is.
+-- A request that was handed on: its ticket here, the key under which its result is kept, if it is, and what may stand in for that.
 pub record Job : Type 0 where
   pub ticket : ℕ
   pub key : Option Key
+  pub spare : Option Spare
 
 -- The settings, the table, and what was handed on, by the ticket there.
 pub record Kept : Type 0 where
@@ -50,21 +54,32 @@ gives_kept ticket k v x = (with_table k x.1, answers ticket (part_of x.0) v)
 abbrev pub gives_outcome : (ticket : ℕ) → Key → Kept → View → Outcome → Kept × View
 gives_outcome ticket key k v outcome = gives_kept ticket k v (keeps k.settings key v.now outcome k.table)
 
+-- An error is kept and given; but what stands in for it is given in its place, as stale, and nothing is kept.
+abbrev pub gives_instead : (ticket : ℕ) → Key → Kept → View → Error → Option (List ℕ) → Kept × View
+gives_instead ticket key k v error None = gives_outcome ticket key k v (Err error)
+gives_instead ticket key k v error (Some message) = (k, answers_stale ticket message v)
+
+-- only for an error for which an expired message may stand
+abbrev pub gives_error : (ticket : ℕ) → Key → Option Spare → Kept → View → Error → Kept × View
+gives_error ticket key spare k v error =
+    if is_failure error then gives_instead ticket key k v error (spare_stands_in k.settings v.now spare)
+    else gives_outcome ticket key k v (Err error)
+
 -- an end of a transfer is given as it is
-abbrev pub gives_part : (ticket : ℕ) → Key → Kept → View → Part → Kept × View
-gives_part ticket key k v (Ok None) = (k, answers ticket (Ok None) v)
-gives_part ticket key k v (Ok (Some message)) = gives_outcome ticket key k v (Ok message)
-gives_part ticket key k v (Err error) = gives_outcome ticket key k v (Err error)
+abbrev pub gives_part : (ticket : ℕ) → Key → Option Spare → Kept → View → Part → Kept × View
+gives_part ticket key spare k v (Ok None) = (k, answers ticket (Ok None) v)
+gives_part ticket key spare k v (Ok (Some message)) = gives_outcome ticket key k v (Ok message)
+gives_part ticket key spare k v (Err error) = gives_error ticket key spare k v error
 
 -- A result is given; first it is kept, where it is to be.
-abbrev pub gives : (ticket : ℕ) → Option Key → Kept → View → Part → Kept × View
-gives ticket None k v part = (k, answers ticket part v)
-gives ticket (Some key) k v part = gives_part ticket key k v part
+abbrev pub gives : (ticket : ℕ) → Option Key → Option Spare → Kept → View → Part → Kept × View
+gives ticket None spare k v part = (k, answers ticket part v)
+gives ticket (Some key) spare k v part = gives_part ticket key spare k v part
 
 -- A result for a ticket that nothing waits for is handed on as it is.
 abbrev pub settles_for : Posted → Kept → View → Option Job → Kept × View
 settles_for p k v None = (k, answers p.ticket p.part v)
-settles_for p k v (Some job) = gives job.ticket job.key k v p.part
+settles_for p k v (Some job) = gives job.ticket job.key job.spare k v p.part
 
 -- what waited for it waits no more
 abbrev pub settles : Posted → Kept → View → Kept × View
@@ -77,19 +92,24 @@ settles_all (p ∷ ps) k v = settles_all ps (settles p k v).0 (settles p k v).1
 
 -- ---- requests
 
--- What serves a request is its result; else it is handed on.
-abbrev pub way_found : Key → Option Outcome → Way
-way_found key (Some outcome) = Given outcome
-way_found key None = Asks (Some key)
+-- What serves a request is its result; else it is handed on, with what it has to spare.
+abbrev pub way_found : CacheSettings → Asked → Table → Option Outcome → Way
+way_found s a t (Some outcome) = Given outcome
+way_found s a t None = Asks (Some a.key) (spare_in s a t)
 
 -- the same, with the table
-abbrev pub found_way : Key → Found → Way × Table
-found_way key f = (way_found key f.answer, f.table)
+abbrev pub found_way : CacheSettings → Asked → Found → Way × Table
+found_way s a f = (way_found s a f.table f.answer, f.table)
+
+-- where no entry is there it has nothing to spare
+abbrev pub way_looked : CacheSettings → Asked → (now : ℕ) → Table → Option Flags → Way × Table
+way_looked s a now t None = (Asks (Some a.key) None, t)
+way_looked s a now t (Some f) = found_way s a (takes s a now t (Some f))
 
 -- a request whose results are not kept is handed on
 abbrev pub way_asked : CacheSettings → (now : ℕ) → Table → Option Asked → Way × Table
-way_asked s now t None = (Asks None, t)
-way_asked s now t (Some a) = found_way a.key (looks_up s a now t)
+way_asked s now t None = (Asks None None, t)
+way_asked s now t (Some a) = way_looked s a now t (first_kept t a.key)
 
 -- a request with this header and this DO, of which a message is composed or not
 abbrev pub way_of : CacheSettings → (header : List ℕ) → (dnssec_ok : Bool) → (now : ℕ) → Table → Outcome → Way × Table
@@ -99,7 +119,7 @@ way_of s header dnssec_ok now t (Ok message) = way_asked s now t (asked_in heade
 -- a request that no entry serves is handed on, if a message can be composed of it
 abbrev pub way_unserved : Option Key → Outcome → Way
 way_unserved key (Err error) = Given (Err error)
-way_unserved key (Ok message) = Asks key
+way_unserved key (Ok message) = Asks key None
 
 -- what a transport asks of requests of a type, as far as a cache goes
 pub record Reading (R : Type 0) : Type 0 where
@@ -160,20 +180,20 @@ ticked v = record v { ticket = v.ticket + 1 }
 
 module _ {R U P : Type 0} (below : Transport R U P) where
   -- A request is handed on.
-  abbrev pub hands_on : (ticket : ℕ) → Option Key → R → U → Kept → View → After U
-  hands_on ticket key request u k v =
+  abbrev pub hands_on : (ticket : ℕ) → Option Key → Option Spare → R → U → Kept → View → After U
+  hands_on ticket key spare request u k v =
       settled_after
-      (record k { waiting = puts v.ticket (record { ticket = ticket; key = key }) k.waiting })
+      (record k { waiting = puts v.ticket (record { ticket = ticket; key = key; spare = spare }) k.waiting })
       v
       (below.send request u (onto [] v))
 
   abbrev pub goes : (ticket : ℕ) → R → U → Kept → View → Way → After U
   goes ticket request u k v (Given outcome) = Some ((u, k), answers ticket (part_of outcome) v)
-  goes ticket request u k v (Asks key) = hands_on ticket key request u k v
+  goes ticket request u k v (Asks key spare) = hands_on ticket key spare request u k v
 
   abbrev pub response_below : R → U → View → Way → Option P
   response_below request u v (Given outcome) = None
-  response_below request u v (Asks key) = Some (below.response request u (onto [] v))
+  response_below request u v (Asks key spare) = Some (below.response request u (onto [] v))
 
   -- The transport below hears what happened.
   abbrev pub hears : Heard → U → Kept → View → After U
@@ -206,6 +226,18 @@ module _ {R U P : Type 0} (reading : Reading R) (below : Transport R U P) where
 
   abbrev pub response_of : R → U → Kept → View → Response P
   response_of request u k v = record { ticket = v.ticket; given = false; below = response_to request u k (ticked v) }
+
+-- What stands in at a moment for the result of a request that still waits, by its ticket below.
+abbrev pub job_stands_in : Kept → (now : ℕ) → Option Job → Option (List ℕ)
+job_stands_in k now None = None
+job_stands_in k now (Some job) = spare_stands_in k.settings now job.spare
+
+abbrev pub stands_in_below : Kept → (now : ℕ) → (lower : Option ℕ) → Option (List ℕ)
+stands_in_below k now None = None
+stands_in_below k now (Some lower) = job_stands_in k now (entry_at lower k.waiting)
+
+abbrev pub stale : {U P : Type 0} → (P → ℕ) → Response P → Cached U → View → Option (List ℕ)
+stale ticket_of r c v = stands_in_below c.kept v.now (option_map ticket_of r.below)
 
 -- the whole machine over a transport, whose responses have tickets
 abbrev pub transport : {R U P : Type 0} → Reading R → (P → ℕ) → Transport R U P → Transport R (Cached U) (Response P)

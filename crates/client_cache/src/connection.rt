@@ -6,13 +6,17 @@
 //!                      └──nothing does──► the transport below ──its result──► kept ──► result
 //! ```
 
-ghost use Rattle.std.specs.Prelude.{◌≡◌, IfOk};
+ghost use Rattle.std.specs.Prelude.{◌≡◌, IfOk, OnOk, OnErr, IfErr, IsErrOf, true};
+ghost use Rattle.client_request.specs.Calls.{AnswersFailed};
+ghost use Rattle.client_request.specs.Cx.{view_of, LendsTheSame};
+ghost use Rattle.client_request.specs.Response.{IsRefusal};
+ghost use Rattle.client_request.specs.declared.error.Error.TheVariants as errors;
 ghost use Rattle.std.specs.Borrow.{Lends, sem};
 ghost use Rattle.client_settings.specs.Settings.{default_cache};
 ghost use Rattle.client_cache.specs.Plain as plain;
 
 use crate::settling::Kept;
-use crate::steps::{give_up, hear, take_on};
+use crate::steps::{give_up, hear, stale_for, take_on};
 use client_request::{
     Board, ComposeRequest, Cx, Error, GetResponse, Latch, Poll, SendRequest, Signal, Words,
     take_response,
@@ -98,6 +102,35 @@ impl<CR, U: SendRequest<CR>> Connection<CR, U> {
         ensures value { result.now ≡ self.old.upstream }
     {
         &mut self.upstream
+    }
+}
+
+impl<CR: ComposeRequest, U: SendRequest<CR>> Connection<CR, U> {
+    /// What stands in now for the result of a request that waits: the message that had expired when it was asked, with
+    /// TTLs of 30 seconds, while it may serve (RFC 8767). None where there is no such message, or the result was given.
+    ///
+    /// `NoMemory` after which, as after each error, this answers `Failed`.
+    pub fn stale<W: Words>(
+        &mut self,
+        cx: &mut Cx<'_, W>,
+        response: &Request<U::Response>,
+    ) -> Result<Option<Message>, Error>
+        ensures lends { LendsTheSame cx.old cx.new }
+        ensures ok { IfOk result (λ m. m ≡ plain.stale U.Response.ticket_of response.now self.old (view_of W.stream cx.old)) }
+        ensures same { OnOk result (self.new ≡ self.old) }
+        ensures view { view_of W.stream cx.new ≡ view_of W.stream cx.old }
+        ensures refused { IfErr result IsRefusal }
+        ensures numbers { IsErrOf result errors.NumbersUsed → ⊥ }
+        ensures failed_only { IsErrOf result errors.Failed → self.old.failed ≡ true }
+        ensures err { OnErr result (self.new.failed ≡ true) }
+        ensures failed { self.old.failed ≡ true → AnswersFailed result (self.old, view_of W.stream cx.old) (self.new, view_of W.stream cx.new) }
+    {
+        self.failed.check()?;
+        let Ok(message) = stale_for(&self.kept, cx.now.0, &response.below) else {
+            self.failed.set();
+            return Err(Error::NoMemory);
+        };
+        Ok(message)
     }
 }
 

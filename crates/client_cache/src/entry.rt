@@ -1,14 +1,16 @@
 //! What is kept of a result, and what a request is given of it.
 
 ghost use Rattle.std.specs.Prelude.{◌≡◌, IfOk, Ok};
+ghost use Rattle.dns_base.specs.OptRecord.{opt_rcode};
 ghost use Rattle.right_trace.specs.Keys as keys;
+ghost use Rattle.right_trace.specs.Views.{tells_of_name};
 ghost use Rattle.cache_rules.specs.Key.{flag_class};
 ghost use Rattle.client_cache.specs.Keeping as plain;
 
-use cache_rules::{AdDo, Key, derived_header, validity, view_under};
+use cache_rules::{AdDo, Key, derived_header, stale_under, validity, view_under};
 use client_request::Error;
 use client_settings::cache::Config;
-use dns_base::{Duration, Header, Message, Name, NoMemory};
+use dns_base::{Duration, Header, Message, Name, NoMemory, OptRcode};
 use std::alloc::Global;
 use std::marker::Model;
 
@@ -107,6 +109,26 @@ impl Stored {
             Err(Error::NoMemory) => Err(NoMemory),
             Err(error) => Ok(Err(error)),
         }
+    }
+}
+
+impl Stored {
+    /// What is given of it to a request of its class once it has expired, if its data can be read.
+    fn expire(&self, alloc: Global, class: AdDo, name: &Name) -> Result<Option<Message>, NoMemory>
+        ensures { IfOk result (λ m. m ≡ plain.message_in (plain.expired (flag_class class) name.now self.now)) }
+    {
+        match stale_under(alloc, self.header, &self.message, class, name) {
+            Ok(message) => Ok(Some(message)),
+            Err(Error::NoMemory) => Err(NoMemory),
+            Err(_) => Ok(None),
+        }
+    }
+
+    /// Whether it says what a name has, or that the name is not there: any other response code tells of a server.
+    fn tells_of_name(&self) -> bool
+        ensures { result ≡ tells_of_name (opt_rcode self.now.message) }
+    {
+        matches!(self.message.opt_rcode(), OptRcode(0) | OptRcode(3))
     }
 }
 
@@ -325,6 +347,73 @@ impl Entry {
                 let stored = stored.reflag(from, asked.key.addo(), false)?;
                 self.derive_message(alloc, config, from, asked, stored)
             }
+        }
+    }
+}
+
+/// An entry that had expired when a request was asked, and what it may stand in for: a request of this class, and its
+/// name as it is spelled.
+#[derive(Drop)]
+pub struct Spare {
+    class: AdDo,
+    name: Name,
+    entry: Entry,
+}
+
+impl Model for Spare {
+    ghost use Rattle.cache_rules.specs.Key.{flag_class};
+    ghost use Rattle.client_cache.specs.Keeping.{Spare};
+
+    ghost Value = { Spare };
+
+    ghost view = { λ s. record { class = flag_class s.class; name = s.name; entry = s.entry } };
+}
+
+impl Spare {
+    /// What a request has to spare of an entry: a message alone, and only one that tells of a name. The message shares
+    /// its octets.
+    pub(crate) fn of(entry: &Entry, asked: &Asked, alloc: Global) -> Result<Option<Spare>, NoMemory>
+        ensures { IfOk result (λ s. s ≡ plain.spare_of asked.now entry.now entry.now.outcome) }
+    {
+        match &entry.outcome {
+            Err(_) => Ok(None),
+            Ok(stored) => {
+                if !stored.tells_of_name() {
+                    return Ok(None);
+                }
+                let name = asked.name.try_clone(alloc)?;
+                let entry = entry.copy()?;
+                Ok(Some(Spare {
+                    class: asked.key.addo(),
+                    name,
+                    entry,
+                }))
+            }
+        }
+    }
+
+    /// What stands in for a result where servers fail: its message, while its age is at most its validity and the time
+    /// that is set (RFC 8767).
+    pub(crate) fn stand_in(
+        &self,
+        alloc: Global,
+        config: &Config,
+        now: u64,
+    ) -> Result<Option<Message>, NoMemory>
+        ensures { IfOk result (λ m. m ≡ plain.stands_in config.now now self.now) }
+    {
+        let longest = config.stale_for().as_micros();
+        if longest == 0 {
+            return Ok(None);
+        }
+        let age = u128::from(now.saturating_sub(self.entry.moment));
+        if age.saturating_sub(self.entry.validity.as_micros()) <= longest {
+            match &self.entry.outcome {
+                Err(_) => Ok(None),
+                Ok(stored) => stored.expire(alloc, self.class, &self.name),
+            }
+        } else {
+            Ok(None)
         }
     }
 }

@@ -2,8 +2,11 @@
 
 ghost use Rattle.std.specs.Prelude.{◌≡◌, IfOk, OnOk, Ok, Err};
 ghost use Rattle.client_request.specs.Cx.{view_of, LendsTheSame};
+ghost use Rattle.right_trace.specs.Errors.{is_failure};
+ghost use Rattle.client_cache.specs.Keeping as keeping;
 ghost use Rattle.client_cache.specs.Plain as plain;
 
+use crate::entry::Spare;
 use crate::keeping::keep;
 use crate::table::{Table, new_table};
 use cache_rules::Key;
@@ -21,6 +24,8 @@ pub struct Job {
     pub(crate) ticket: u64,
     /// The key under which its result is kept, if it is.
     pub(crate) key: Option<Key>,
+    /// What may stand in for its result.
+    pub(crate) spare: Option<Spare>,
 }
 
 impl Model for Job {
@@ -28,7 +33,7 @@ impl Model for Job {
 
     ghost Value = { Job };
 
-    ghost view = { λ j. record { ticket = j.ticket; key = j.key } };
+    ghost view = { λ j. record { ticket = j.ticket; key = j.key; spare = j.spare } };
 }
 
 /// The settings, the table, and what was handed on, by the ticket there.
@@ -88,6 +93,52 @@ fn give_kept<W: Words>(
     cx.board.put(ticket, part_of(given))
 }
 
+/// Whether an expired message may stand for an error: one of a server, or that of a deadline.
+fn is_failure(error: Error) -> bool
+    ensures { result ≡ is_failure error }
+{
+    matches!(
+        error,
+        Error::TimedOut | Error::Dgram(_) | Error::WrongReplyForQuery | Error::StreamReadTimeout
+    )
+}
+
+/// What stands in for a result, if there is something to spare.
+pub(crate) fn stand_in(
+    alloc: Global,
+    config: &Config,
+    spare: &Option<Spare>,
+    now: u64,
+) -> Result<Option<Message>, NoMemory>
+    ensures { IfOk result (λ m. m ≡ keeping.spare_stands_in config.now now spare.now) }
+{
+    match spare {
+        None => Ok(None),
+        Some(spare) => spare.stand_in(alloc, config, now),
+    }
+}
+
+/// Gives a request the error that came for it, which is kept first; or what stands in for that, as stale.
+fn give_error<W: Words>(
+    kept: &mut Kept,
+    cx: &mut Cx<'_, W>,
+    ticket: u64,
+    key: Key,
+    spare: Option<Spare>,
+    error: Error,
+) -> Result<(), NoMemory>
+    ensures lends { LendsTheSame cx.old cx.new }
+    ensures ok { OnOk result ((kept.new, view_of W.stream cx.new) ≡ plain.gives_error ticket key spare kept.old (view_of W.stream cx.old) error) }
+{
+    if !is_failure(error) {
+        return give_kept(kept, cx, ticket, key, Err(error));
+    }
+    match stand_in(kept.alloc, &kept.config, &spare, cx.now.0)? {
+        None => give_kept(kept, cx, ticket, key, Err(error)),
+        Some(message) => cx.board.put_stale(ticket, message),
+    }
+}
+
 /// Gives a request its result; first it is kept, where it is to be.
 fn give<W: Words>(
     kept: &mut Kept,
@@ -96,16 +147,16 @@ fn give<W: Words>(
     part: Result<Option<Message>, Error>,
 ) -> Result<(), NoMemory>
     ensures lends { LendsTheSame cx.old cx.new }
-    ensures ok { OnOk result ((kept.new, view_of W.stream cx.new) ≡ plain.gives job.ticket job.key kept.old (view_of W.stream cx.old) part) }
+    ensures ok { OnOk result ((kept.new, view_of W.stream cx.new) ≡ plain.gives job.ticket job.key job.spare kept.old (view_of W.stream cx.old) part) }
 {
-    let Job { ticket, key } = job;
+    let Job { ticket, key, spare } = job;
     let Some(key) = key else {
         return cx.board.put(ticket, part);
     };
     match part {
         Ok(None) => cx.board.put(ticket, Ok(None)),
         Ok(Some(message)) => give_kept(kept, cx, ticket, key, Ok(message)),
-        Err(error) => give_kept(kept, cx, ticket, key, Err(error)),
+        Err(error) => give_error(kept, cx, ticket, key, spare, error),
     }
 }
 
@@ -115,7 +166,7 @@ fn settle<W: Words>(kept: &mut Kept, cx: &mut Cx<'_, W>, posted: Posted) -> Resu
     ensures lends { LendsTheSame cx.old cx.new }
     ensures ok { OnOk result ((kept.new, view_of W.stream cx.new) ≡ plain.settles posted kept.old (view_of W.stream cx.old)) }
 {
-    let Posted { ticket, part } = posted;
+    let Posted { ticket, part, .. } = posted;
     match kept.waiting.remove(ticket) {
         None => cx.board.put(ticket, part),
         Some(job) => give(kept, cx, job, part),

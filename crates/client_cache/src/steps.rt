@@ -1,6 +1,6 @@
 //! What each call of a cache does.
 
-ghost use Rattle.std.specs.Prelude.{◌≡◌, OnOk, IfOk, [], Some, Ok, Err};
+ghost use Rattle.std.specs.Prelude.{◌≡◌, OnOk, IfOk, [], Some, Ok, Err, option_map};
 ghost use Rattle.client_request.specs.Calls.{Holds};
 ghost use Rattle.client_request.specs.Cx.{view_of, heard};
 ghost use Rattle.dns_base.specs.Message.{sole_question};
@@ -11,9 +11,9 @@ ghost use Rattle.client_cache.specs.Plain as plain;
 ghost use Rattle.client_cache.specs.Plain.{read};
 
 use crate::connection::Request;
-use crate::entry::Asked;
+use crate::entry::{Asked, Spare};
 use crate::finding::{first_kept, take};
-use crate::settling::{Job, Kept, part_of, settle_all};
+use crate::settling::{Job, Kept, part_of, settle_all, stand_in};
 use crate::table::{Flags, Table};
 use cache_rules::Key;
 use client_request::{
@@ -29,8 +29,8 @@ use std::alloc::Global;
 pub enum Way {
     /// It has its result.
     Given(Result<Message, Error>),
-    /// It is handed on; its result is kept under the key, if there is one.
-    Asks(Option<Key>),
+    /// It is handed on; its result is kept under the key, if there is one, and this may stand in for it.
+    Asks(Option<Key>, Option<Spare>),
 }
 
 /// The key of a request, unless its results are not kept.
@@ -51,6 +51,24 @@ fn name_in(alloc: Global, message: &Message) -> Result<Name, NoMemory>
     }
 }
 
+/// What a request has to spare of the entry under its own key.
+fn spare_in(
+    table: &Table,
+    alloc: Global,
+    config: &Config,
+    asked: &Asked,
+) -> Result<Option<Spare>, NoMemory>
+    ensures { IfOk result (λ s. s ≡ keeping.spare_in config.now asked.now table.now) }
+{
+    if config.stale_for().as_micros() == 0 {
+        return Ok(None);
+    }
+    match table.peek(&asked.key) {
+        None => Ok(None),
+        Some(entry) => Spare::of(entry, asked, alloc),
+    }
+}
+
 /// How a request goes on for which an entry with these flags is there.
 fn way_taken(
     table: &mut Table,
@@ -66,7 +84,10 @@ fn way_taken(
 {
     match take(table, alloc, config, &asked, flags, now)? {
         Some(outcome) => Ok(Way::Given(outcome)),
-        None => Ok(Way::Asks(Some(asked.key))),
+        None => {
+            let spare = spare_in(&*table, alloc, config, &asked)?;
+            Ok(Way::Asks(Some(asked.key), spare))
+        }
     }
 }
 
@@ -100,7 +121,7 @@ fn way_unserved<CR: ComposeRequest>(request: &CR, key: Option<Key>) -> Way
     ensures { result ≡ plain.way_unserved key (CR.requests.composed request.now) }
 {
     match request.check_message() {
-        Ok(()) => Way::Asks(key),
+        Ok(()) => Way::Asks(key, None),
         Err(error) => Way::Given(Err(error)),
     }
 }
@@ -133,14 +154,15 @@ fn hand_on<CR: ComposeRequest, U: SendRequest<CR>, W: Words>(
     cx: &mut Cx<'_, W>,
     ticket: u64,
     key: Option<Key>,
+    spare: Option<Spare>,
     request: CR,
 ) -> Result<U::Response, Error>
-    ensures holds { Holds W.stream cx.old cx.new result (plain.hands_on U.transport ticket key request below.old kept.old) (below.new, kept.new) U.holds_failed below.old below.new }
+    ensures holds { Holds W.stream cx.old cx.new result (plain.hands_on U.transport ticket key spare request below.old kept.old) (below.new, kept.new) U.holds_failed below.old below.new }
     ensures response { IfOk result (λ r. r ≡ U.transport.response request below.old (plain.onto [] (view_of W.stream cx.old))) }
 {
     board.clear();
     let response = send_below(below, board, cx, request)?;
-    let job = Job { ticket, key };
+    let job = Job { ticket, key, spare };
     kept.waiting.insert(response.ticket(), job)?;
     settle_all(kept, cx, board)?;
     Ok(response)
@@ -164,8 +186,8 @@ fn go_on<CR: ComposeRequest, U: SendRequest<CR>, W: Words>(
             cx.board.put(ticket, part_of(outcome))?;
             Ok(None)
         }
-        Way::Asks(key) => {
-            let response = hand_on(below, kept, board, cx, ticket, key, request)?;
+        Way::Asks(key, spare) => {
+            let response = hand_on(below, kept, board, cx, ticket, key, spare, request)?;
             Ok(Some(response))
         }
     }
@@ -249,4 +271,21 @@ pub(crate) fn give_up<CR: ComposeRequest, U: SendRequest<CR>, W: Words>(
     cancel_below(below, board, cx, response)?;
     settle_all(kept, cx, board)?;
     Ok(())
+}
+
+/// What stands in at a moment for the result of a request that still waits.
+pub(crate) fn stale_for<P: GetResponse>(
+    kept: &Kept,
+    now: u64,
+    response: &Option<P>,
+) -> Result<Option<Message>, NoMemory>
+    ensures { IfOk result (λ m. m ≡ plain.stands_in_below kept.now now (option_map P.ticket_of response.now)) }
+{
+    let Some(response) = response else {
+        return Ok(None);
+    };
+    let Some(job) = kept.waiting.get(response.ticket()) else {
+        return Ok(None);
+    };
+    stand_in(kept.alloc, &kept.config, &job.spare, now)
 }

@@ -179,6 +179,7 @@ fn settle<Req: ComposeRequest, U: SendRequest<Req>, W: Words>(
     let Posted {
         ticket: lower,
         part,
+        ..
     } = posted;
     let Some(ticket) = disown(choice, server, lower) else {
         cx.board.put(lower, part)?;

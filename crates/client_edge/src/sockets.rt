@@ -66,7 +66,7 @@ impl<R: Net<Listener = TcpListener, Stream = TcpStream> + Copy> Sockets<R> {
     pub fn act(&mut self, out: &Out) -> Result<(), NoMemory> {
         self.happened.reserve(1)?;
         let what = match out {
-            Out::Start { .. } | Out::Reply { .. } => None,
+            Out::Start { .. } | Out::Stale { .. } | Out::Reply { .. } => None,
             Out::OpenDgram { place, server } => self.open_dgram(*place, *server)?,
             Out::OpenStream { place, server } => self.open_stream(*place, *server)?,
             Out::Send { place, octets, .. }

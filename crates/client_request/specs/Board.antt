@@ -1,5 +1,5 @@
 -- The board: parts for tickets, in the order in which they were put.
-use Rattle.std.specs.Prelude.{◌≡◌, ℕ, ◌==◌, List, [], ◌∷◌, ◌++◌, Option, Some, None, option_map, option_and_then, Result, slice_get}
+use Rattle.std.specs.Prelude.{◌≡◌, ℕ, ◌==◌, true, false, List, [], ◌∷◌, ◌++◌, Option, Some, None, option_map, option_and_then, Result, Ok, slice_get}
 use Rattle.std.specs.List.{position, remove}
 use Rattle.client_request.specs.declared.error.Error.{Error}
 use Rattle.client_request.specs.declared.board.Posted.{Posted}
@@ -8,7 +8,11 @@ abbrev pub Part : Type 0
 Part = Result (Option (List ℕ)) Error
 
 abbrev pub posted : ℕ → Part → List Posted → List Posted
-posted ticket part ps = ps ++ record { ticket = ticket; part = part } ∷ []
+posted ticket part ps = ps ++ record { ticket = ticket; part = part; is_stale = false } ∷ []
+
+-- an expired message, which stands in for an error
+abbrev pub posted_stale : ℕ → List ℕ → List Posted → List Posted
+posted_stale ticket message ps = ps ++ record { ticket = ticket; part = Ok (Some message); is_stale = true } ∷ []
 
 abbrev pub place_of : ℕ → List Posted → Option ℕ
 place_of ticket ps = position (λ p. p.ticket == ticket) ps

@@ -1,6 +1,6 @@
 -- What a transport sees of the world at a call, and leaves of it.
 use Rattle.std.specs.Prelude.{ℕ, ◌+◌, Bool, if◌then◌else◌, List, [], ◌∷◌, ◌++◌, Option, Some, None}
-use Rattle.client_request.specs.Board.{Part, posted}
+use Rattle.client_request.specs.Board.{Part, posted, posted_stale}
 use Rattle.client_request.specs.Timers.{TimerList, with_timer, cancelled, can_draw}
 use Rattle.client_request.specs.Words.{rest_of}
 use Rattle.client_request.specs.declared.board.Posted.{Posted}
@@ -40,6 +40,9 @@ asks out v = record v { outs = v.outs ++ out ∷ [] }
 
 abbrev pub answers : ℕ → Part → View → View
 answers ticket part v = record v { board = posted ticket part v.board }
+
+abbrev pub answers_stale : ℕ → List ℕ → View → View
+answers_stale ticket message v = record v { board = posted_stale ticket message v.board }
 
 -- a timer is set, where a number can be drawn for it
 abbrev pub sets_timer : ℕ → View → Option View

@@ -1,7 +1,7 @@
 //! Results by ticket.
 
 ghost use Rattle.std.specs.Prelude.{◌≡◌, ◌==◌, ◌<◌, [], length, position, OnOk, OnErr, IfSome};
-ghost use Rattle.client_request.specs.Board.{part_of, without_part, posted, TakesFirst};
+ghost use Rattle.client_request.specs.Board.{part_of, without_part, posted, posted_stale, TakesFirst};
 
 use crate::error::Error;
 use dns_base::{Message, NoMemory};
@@ -19,6 +19,8 @@ pub struct Posted {
     pub ticket: u64,
     /// The result, or a part of it.
     pub part: Part,
+    /// Whether it is an expired message, which stands in for an error (RFC 8767).
+    pub is_stale: bool,
 }
 
 /// The parts that were put and not taken, in the order in which they were put.
@@ -58,7 +60,25 @@ impl Board {
         ensures ok { OnOk result (self.new ≡ posted ticket part self.old) }
         ensures err { OnErr result (self.new ≡ self.old) }
     {
-        self.posted.push_back(Posted { ticket, part })?;
+        self.posted.push_back(Posted {
+            ticket,
+            part,
+            is_stale: false,
+        })?;
+        Ok(())
+    }
+
+    /// Puts an expired message for a ticket behind all parts: it stands in for an error. After want of memory nothing was
+    /// put.
+    pub fn put_stale(&mut self, ticket: u64, message: Message) -> Result<(), NoMemory>
+        ensures ok { OnOk result (self.new ≡ posted_stale ticket message self.old) }
+        ensures err { OnErr result (self.new ≡ self.old) }
+    {
+        self.posted.push_back(Posted {
+            ticket,
+            part: Ok(Some(message)),
+            is_stale: true,
+        })?;
         Ok(())
     }
 
@@ -86,7 +106,7 @@ impl Board {
         let i = place_of(&self.posted, ticket)?;
         match self.posted.remove(i) {
             Some(posted) => {
-                let Posted { ticket: _, part } = posted;
+                let Posted { part, .. } = posted;
                 Some(part)
             }
             None => None,

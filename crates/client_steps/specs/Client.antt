@@ -1,5 +1,5 @@
 -- The plain client over any transport: deadlines, replies, and one step for each event.
-use Rattle.std.specs.Prelude.{ℕ, zero, suc, ◌+◌, ◌-◌, ◌^◌, max, false, List, [], ◌∷◌, length, if◌then◌else◌, Option, Some, None, option_and_then, option_map, Result, Ok, Err}
+use Rattle.std.specs.Prelude.{ℕ, zero, suc, ◌+◌, ◌-◌, ◌^◌, max, Bool, true, false, List, [], ◌∷◌, length, if◌then◌else◌, Option, Some, None, option_and_then, option_map, Result, Ok, Err}
 use Rattle.client_request.specs.Board.{Part}
 use Rattle.client_request.specs.Numbered.{puts, frees, entry_at}
 use Rattle.client_request.specs.Request.{Request}
@@ -9,7 +9,7 @@ use Rattle.client_request.specs.declared.board.Posted.{Posted}
 use Rattle.client_request.specs.declared.error.Error.{Error}
 use Rattle.client_request.specs.declared.error.Error.TheVariants.{TimedOut, ConnectionClosed}
 use Rattle.client_request.specs.declared.event.Event.{Event}
-use Rattle.client_request.specs.declared.event.Out.TheVariants.{Reply}
+use Rattle.client_request.specs.declared.event.Out.TheVariants.{Stale, Reply}
 use Rattle.client_request.specs.declared.event.Row.{Row}
 use Rattle.client_request.specs.declared.event.What.{What}
 use Rattle.client_request.specs.declared.event.What.TheVariants.{Ask, Bytes, Tick}
@@ -22,19 +22,30 @@ pub record Asked (P : Type 0) : Type 0 where
   pub deadlines : List (ℕ × ℕ)
   pub next : ℕ
 
--- a transport as plain functions
+-- a transport as plain functions, and what stands in for the result of a request that waits: a message that has expired
 pub record Machine (U P : Type 0) : Type 0 where
   pub send : Request → Step U
   pub step : Heard → Step U
   pub cancel : P → Step U
   pub response : Request → U → View → P
   pub ticket : P → ℕ
+  pub stale : P → U → View → Option (List ℕ)
 
 -- a result of one message
 abbrev pub result_of : Part → Result (List ℕ) Error
 result_of (Ok (Some message)) = Ok message
 result_of (Ok None) = Err ConnectionClosed
 result_of (Err error) = Err error
+
+-- The reply that follows to this request is stale, or not.
+abbrev pub marks : Bool → (number : ℕ) → View → View
+marks true number v = asks (Stale number) v
+marks false number v = v
+
+-- the reply to a request whose deadline passed: what stands in for it, or that it timed out
+abbrev pub late_reply : (number : ℕ) → Option (List ℕ) → View → View
+late_reply number None v = asks (Reply number (Err TimedOut)) v
+late_reply number (Some message) v = asks (Reply number (Ok message)) (asks (Stale number) v)
 
 module _ {P : Type 0} where
   abbrev pub nothing_asked : Asked P
@@ -54,18 +65,18 @@ module _ {P : Type 0} where
   abbrev pub waits : ℕ → ℕ → Waiting P → Asked P → Asked P
   waits ticket timer w a = record { waiting = puts ticket w a.waiting; deadlines = puts timer ticket a.deadlines; next = w.number + 1 }
 
-  -- A request that has its result gets its reply, and its deadline goes.
-  abbrev pub replies_to : ℕ → Part → Asked P → View → Option (Waiting P) → Asked P × View
-  replies_to ticket part a v None = (without_request ticket None a, v)
-  replies_to ticket part a v (Some w) = (
-    without_request ticket (Some w) a,
-    asks (Reply w.number (result_of part)) (drops_timer w.timer v),
+  -- A request that has its result gets its reply, marked where that is stale, and its deadline goes.
+  abbrev pub replies_to : Posted → Asked P → View → Option (Waiting P) → Asked P × View
+  replies_to p a v None = (without_request p.ticket None a, v)
+  replies_to p a v (Some w) = (
+    without_request p.ticket (Some w) a,
+    asks (Reply w.number (result_of p.part)) (marks p.is_stale w.number (drops_timer w.timer v)),
   )
 
   -- the result that was put first, of those on the board
   abbrev pub replies_one : Asked P → View → List Posted → Asked P × View
   replies_one a v [] = (a, v)
-  replies_one a v (first ∷ rest) = replies_to first.ticket first.part a (record v { board = rest }) (entry_at first.ticket a.waiting)
+  replies_one a v (first ∷ rest) = replies_to first a (record v { board = rest }) (entry_at first.ticket a.waiting)
 
   abbrev pub replies_first : Asked P × View → Asked P × View
   replies_first x = replies_one x.0 x.1 x.1.board
@@ -121,12 +132,12 @@ module _ {U P : Type 0} where
     abbrev pub hears : Heard → Client U P → Option (Client U P)
     hears h c = settles c.asked (m.step h c.layer c.view)
 
-    -- A request whose deadline passed: its reply is that it timed out, and it is given up.
+    -- A request whose deadline passed gets what stands in for its result, or that it timed out, and is given up.
     abbrev pub times_out : Client U P → Option (Waiting P) → Option (Client U P)
     times_out c None = Some c
     times_out c (Some w) =
         option_and_then (λ x. Some (client_of x.0 (c.asked, x.1)))
-        (m.cancel w.response c.layer (asks (Reply w.number (Err TimedOut)) c.view))
+        (m.cancel w.response c.layer (late_reply w.number (m.stale w.response c.layer c.view) c.view))
 
     abbrev pub fires_at : ℕ → Client U P → Option ℕ → Option (Client U P)
     fires_at timer c (Some ticket) = times_out (record c { asked = without_late timer (Some ticket) c.asked }) (entry_at ticket c.asked.waiting)

@@ -27,4 +27,5 @@ settings_of redundant cache = record {
   max_nodata_validity = cache.max_nodata_validity;
   max_delegation_validity = cache.max_delegation_validity;
   cache_truncated = cache.cache_truncated;
+  stale_for = cache.stale_for;
 }

@@ -50,7 +50,7 @@ abbrev pub reading : Reading Request
 reading = read for_one (λ r. r.header) is_dnssec_ok
 
 abbrev pub machine : Machine Layer Response
-machine = machine_of (caching.transport reading (λ r. r.ticket) choice) (λ r. r.ticket)
+machine = machine_of (caching.transport reading (λ r. r.ticket) choice) (λ r. r.ticket) (caching.stale (λ r. r.ticket))
 
 -- The client between two rows: its timeout is in microseconds. It has `count` servers; those that are added are asked by streams alone where `use_vc` says so.
 pub record Whole : Type 0 where

@@ -107,18 +107,30 @@ impl<P: Drop> Asked<P> {
     }
 }
 
-/// The request whose result was put first gets its reply.
+/// The request whose result was put first gets its reply, marked where that is an expired message.
 fn reply_first<P: Drop, W: Words>(asked: &mut Asked<P>, cx: &mut Cx<'_, W>) -> Result<(), NoMemory>
     ensures lends { LendsTheSame cx.old cx.new }
     ensures ok { OnOk result ((asked.new, view_of W.stream cx.new) ≡ plain.replies_first (asked.old, view_of W.stream cx.old)) }
 {
-    let Some(Posted { ticket, part }) = cx.board.take_first() else {
+    let Some(
+        Posted {
+            ticket,
+            part,
+            is_stale,
+        },
+    ) = cx.board.take_first()
+    else {
         return Ok(());
     };
     let Some(waiting) = asked.take(ticket) else {
         return Ok(());
     };
     cx.timers.cancel(TimerId(waiting.timer));
+    if is_stale {
+        cx.outs.push(Out::Stale {
+            request: waiting.number,
+        })?;
+    }
     cx.outs.push(Out::Reply {
         request: waiting.number,
         result: result_of(part),

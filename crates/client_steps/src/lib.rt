@@ -7,8 +7,10 @@
 
 mod asked;
 mod calls;
+mod stale;
 mod upstream;
 
 pub use asked::{Asked, Waiting};
 pub use calls::take_in;
+pub use stale::ServesStale;
 pub use upstream::{Handed, Upstream};

@@ -69,6 +69,7 @@ out_read (out.Write place request id octets) rest h =
     rw (u64_read place (decimal request ∷ decimal id ∷ hex_word octets ∷ rest) h.0, u64_read request (decimal id ∷ hex_word octets ∷ rest) h.1, u16_read id (hex_word octets ∷ rest) h.2, octets_read octets rest h.3) refl
 out_read (out.Resume place octets) rest h = rw (u64_read place (hex_word octets ∷ rest) h.0, octets_read octets rest h.1) refl
 out_read (out.Close place) rest h = rw (u64_read place rest h) refl
+out_read (out.Stale request) rest h = rw (u64_read request rest h) refl
 out_read (out.Reply request result) rest h = rw (u64_read request (result_words result ++ rest) h.0, result_read result rest h.1) refl
 
 what_read : (w : What) (rest : List (List ℕ)) → IsWhat w → what_at (what_words w ++ rest) ≡ Some (w, rest)
@@ -132,6 +133,7 @@ out_is_words (out.Write place request id octets) h =
     (is_word (codes "write") refl, (decimal_is_word place h.0, (decimal_is_word request h.1, (decimal_is_word id (let s = h.2 in omega arith), (hex_is_word octets, tt)))))
 out_is_words (out.Resume place octets) h = (is_word (codes "resume") refl, (decimal_is_word place h.0, (hex_is_word octets, tt)))
 out_is_words (out.Close place) h = (is_word (codes "close") refl, (decimal_is_word place h, tt))
+out_is_words (out.Stale request) h = (is_word (codes "stale") refl, (decimal_is_word request h, tt))
 out_is_words (out.Reply request result) h = (is_word (codes "reply") refl, (decimal_is_word request h.0, result_is_words result))
 
 what_is_words : (w : What) → IsWhat w → AreWords (what_words w)

@@ -166,6 +166,7 @@ gives_out_behind out_name.Send = gives_four out.Send u64_at u64_at u16_at octets
 gives_out_behind out_name.Write = gives_four out.Write u64_at u64_at u16_at octets_at IsU64 IsU64 IsU16 AreOctets IsOut gives_u64 gives_u64 gives_u16 gives_octets (λ a b c d h k m n. (h, k, m, n))
 gives_out_behind out_name.Resume = gives_two out.Resume u64_at octets_at IsU64 AreOctets IsOut gives_u64 gives_octets (λ a b h k. (h, k))
 gives_out_behind out_name.Close = gives_one out.Close u64_at IsU64 IsOut gives_u64 (λ a h. h)
+gives_out_behind out_name.Stale = gives_one out.Stale u64_at IsU64 IsOut gives_u64 (λ a h. h)
 gives_out_behind out_name.Reply = gives_two out.Reply u64_at result_at IsU64 IsReply IsOut gives_u64 gives_result (λ a b h k. (h, k))
 
 gives_out : Gives out_at IsOut

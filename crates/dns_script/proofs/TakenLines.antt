@@ -189,6 +189,7 @@ out_word out_name.Send = codes "send"
 out_word out_name.Write = codes "write"
 out_word out_name.Resume = codes "resume"
 out_word out_name.Close = codes "close"
+out_word out_name.Stale = codes "stale"
 out_word out_name.Reply = codes "reply"
 
 takes_out_behind : (n : OutName) → Takes (out_word n ∷ []) (out_behind n) out_words
@@ -205,11 +206,12 @@ takes_out_behind out_name.Write =
 takes_out_behind out_name.Resume =
     takes_two out.Resume u64_at octets_at (λ n. decimal n ∷ []) (λ o. hex_word o ∷ []) (codes "resume" ∷ []) out_words takes_u64 takes_octets (λ a b. refl)
 takes_out_behind out_name.Close = takes_one out.Close u64_at (λ n. decimal n ∷ []) (codes "close" ∷ []) out_words takes_u64 (λ a. refl)
+takes_out_behind out_name.Stale = takes_one out.Stale u64_at (λ n. decimal n ∷ []) (codes "stale" ∷ []) out_words takes_u64 (λ a. refl)
 takes_out_behind out_name.Reply =
     takes_two out.Reply u64_at result_at (λ n. decimal n ∷ []) result_words (codes "reply" ∷ []) out_words takes_u64 takes_result (λ a b. refl)
 
 pub takes_out : Takes [] out_at out_words
-takes_out = takes_named out_names out_word out_behind out_words (refl, (refl, (refl, (refl, (refl, (refl, (refl, (refl, tt)))))))) takes_out_behind
+takes_out = takes_named out_names out_word out_behind out_words (refl, (refl, (refl, (refl, (refl, (refl, (refl, (refl, (refl, tt))))))))) takes_out_behind
 
 abbrev event_word : EventName → List ℕ
 event_word event_name.Ask = codes "ask"

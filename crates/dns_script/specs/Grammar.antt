@@ -108,6 +108,7 @@ out_behind out_name.Send words = four out.Send u64_at u64_at u16_at octets_at wo
 out_behind out_name.Write words = four out.Write u64_at u64_at u16_at octets_at words
 out_behind out_name.Resume words = two out.Resume u64_at octets_at words
 out_behind out_name.Close words = one out.Close u64_at words
+out_behind out_name.Stale words = one out.Stale u64_at words
 out_behind out_name.Reply words = two out.Reply u64_at result_at words
 
 abbrev pub out_at : Reader Out

@@ -62,6 +62,7 @@ out_words (out.Send place request id octets) = codes "send" ∷ decimal place �
 out_words (out.Write place request id octets) = codes "write" ∷ decimal place ∷ decimal request ∷ decimal id ∷ hex_word octets ∷ []
 out_words (out.Resume place octets) = codes "resume" ∷ decimal place ∷ hex_word octets ∷ []
 out_words (out.Close place) = codes "close" ∷ decimal place ∷ []
+out_words (out.Stale request) = codes "stale" ∷ decimal request ∷ []
 out_words (out.Reply request result) = codes "reply" ∷ decimal request ∷ result_words result
 
 abbrev pub event_line : Event → List ℕ

@@ -99,6 +99,7 @@ out_names =
     ∷ (codes "write", out.Write)
     ∷ (codes "resume", out.Resume)
     ∷ (codes "close", out.Close)
+    ∷ (codes "stale", out.Stale)
     ∷ (codes "reply", out.Reply)
     ∷ []
 

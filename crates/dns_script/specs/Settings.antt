@@ -24,6 +24,7 @@ setting_names =
     ∷ (codes "max-nxdomain-validity", Time time.MaxNxdomainValidity)
     ∷ (codes "max-nodata-validity", Time time.MaxNodataValidity)
     ∷ (codes "max-delegation-validity", Time time.MaxDelegationValidity)
+    ∷ (codes "stale-for", Time time.StaleFor)
     ∷ (codes "cache-truncated", Switch switch.CacheTruncated)
     ∷ []
 
@@ -49,6 +50,7 @@ with_time time.MiscErrorDuration t s = record s { cache = record s.cache { misc_
 with_time time.MaxNxdomainValidity t s = record s { cache = record s.cache { max_nxdomain_validity = limited nat_cmp (seconds 60) (seconds 86400) t } }
 with_time time.MaxNodataValidity t s = record s { cache = record s.cache { max_nodata_validity = limited nat_cmp (seconds 60) (seconds 86400) t } }
 with_time time.MaxDelegationValidity t s = record s { cache = record s.cache { max_delegation_validity = limited nat_cmp (seconds 60) (seconds 1000000000) t } }
+with_time time.StaleFor t s = record s { cache = record s.cache { stale_for = limited nat_cmp (seconds 0) (seconds 604800) t } }
 
 abbrev pub u64_of : List ℕ → Option ℕ
 u64_of word = number_of 18446744073709551615 word

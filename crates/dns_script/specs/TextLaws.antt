@@ -76,6 +76,7 @@ IsOut (out.Send place request id octets) = IsU64 place × IsU64 request × IsU16
 IsOut (out.Write place request id octets) = IsU64 place × IsU64 request × IsU16 id × AreOctets octets
 IsOut (out.Resume place octets) = IsU64 place × AreOctets octets
 IsOut (out.Close place) = IsU64 place
+IsOut (out.Stale request) = IsU64 request
 IsOut (out.Reply request result) = IsU64 request × IsReply result
 
 pub record IsRow (row : Row) : Type 0 where

@@ -71,6 +71,9 @@ fn out_is_in_range(out: &Out)
         Out::Close { place } => {
             let _number = *place;
         }
+        Out::Stale { request } => {
+            let _number = *request;
+        }
         Out::Reply { request, result } => {
             let _number = *request;
             match result {

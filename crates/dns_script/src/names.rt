@@ -43,6 +43,7 @@ pub(crate) enum OutName {
     Write,
     Resume,
     Close,
+    Stale,
     Reply,
 }
 
@@ -252,6 +253,9 @@ pub(crate) fn out_named(word: &[u8]) -> Option<OutName>
     }
     if word == b"close".as_slice() {
         return Some(OutName::Close);
+    }
+    if word == b"stale".as_slice() {
+        return Some(OutName::Stale);
     }
     if word == b"reply".as_slice() {
         return Some(OutName::Reply);

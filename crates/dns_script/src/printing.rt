@@ -173,6 +173,10 @@ fn push_out(text: &mut Vec<u8>, out: &Out) -> Result<(), NoMemory>
             text.extend_from_slice(b"> close ")?;
             push_number(text, *place, b'\n')
         }
+        Out::Stale { request } => {
+            text.extend_from_slice(b"> stale ")?;
+            push_number(text, *request, b'\n')
+        }
         Out::Reply { request, result } => {
             text.extend_from_slice(b"> ")?;
             push_reply(text, *request, result)

@@ -120,6 +120,9 @@ fn out_behind(alloc: Global, name: OutName, words: &mut Words<'_>) -> Result<Out
         OutName::Close => Out::Close {
             place: words.u64()?,
         },
+        OutName::Stale => Out::Stale {
+            request: words.u64()?,
+        },
         OutName::Reply => Out::Reply {
             request: words.u64()?,
             result: result(alloc, words)?,

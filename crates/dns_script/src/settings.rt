@@ -27,6 +27,7 @@ pub(crate) enum TimeName {
     MaxNxdomainValidity,
     MaxNodataValidity,
     MaxDelegationValidity,
+    StaleFor,
 }
 
 /// The settings, as a line names them.
@@ -78,6 +79,9 @@ fn setting_named(word: &[u8]) -> Option<SettingName>
     }
     if word == b"max-delegation-validity".as_slice() {
         return Some(SettingName::Time(TimeName::MaxDelegationValidity));
+    }
+    if word == b"stale-for".as_slice() {
+        return Some(SettingName::Time(TimeName::StaleFor));
     }
     if word == b"cache-truncated".as_slice() {
         return Some(SettingName::Switch(SwitchName::CacheTruncated));
@@ -140,6 +144,7 @@ impl Settings {
             TimeName::MaxNxdomainValidity => self.cache.set_max_nxdomain_validity(value),
             TimeName::MaxNodataValidity => self.cache.set_max_nodata_validity(value),
             TimeName::MaxDelegationValidity => self.cache.set_max_delegation_validity(value),
+            TimeName::StaleFor => self.cache.set_stale_for(value),
         }
     }
 

@@ -5,7 +5,7 @@ use Rattle.client_request.specs.Timers.{cancelled}
 use Rattle.client_request.specs.View.{View, told, more_at, due_timer}
 use Rattle.client_request.specs.declared.board.Posted.{Posted}
 use Rattle.client_request.specs.declared.event.What.{What}
-use Rattle.proof_right.specs.machine.Client.{Waiting}
+use Rattle.proof_right.specs.machine.Client.{Waiting, Entry}
 use Rattle.right_trace.specs.Updates.{with_at}
 use Rattle.proof_parts.specs.ClientTie as client
 use Rattle.proof_parts.specs.ClientTie.{IsWithout}
@@ -17,7 +17,7 @@ use Rattle.proof_parts.proofs.Keys.{was_there}
 use Rattle.client_cache.specs.Plain.{Cached, Job, Kept, Response, onto, settles_all, with_parts, drops_below, drops_job}
 use Rattle.proof_cache.specs.Caching.{Caching, its, State, cached, Listed, room, IsHanded, names, Owns, all_stored, AreJobs, IsTied}
 use Rattle.proof_cache.specs.Listed.{listed}
-use Rattle.proof_cache.specs.Listing.{AreAlike, all_listed}
+use Rattle.proof_cache.specs.Listing.{AreAlike, AreListed, all_listed}
 use Rattle.proof_cache.specs.Standing.{TableStands}
 use Rattle.proof_cache.proofs.Calls.{Leaves, Calling, calling_at, call_leaves, more_stays, led_up}
 use Rattle.proof_cache.proofs.Results.{sanely_without}
@@ -71,12 +71,18 @@ module _ (g : Caching) where
 
   -- what is as before once a request is tried no more
 
-  jobs_without : (k : ℕ) (a b : State g) → IsWithout k a b → (named : ℕ → Option ℕ) (waiting : List (ℕ × Job)) → AreJobs named a.held waiting → AreJobs named b.held waiting
-  jobs_without k a b i named waiting h = record {
-    jobs = λ n j e. (let m = h.jobs n j e in record { request = m.request; named = m.named; next = m.next; key = λ x is. m.key x (was_there k a.held m.request x (sym (ap (λ (h : ℕ → Option Waiting). h m.request) i.held) ∙ is)).1 });
-    waits = h.waits;
-    sorted = h.sorted;
-  }
+  jobs_without : (k : ℕ) (a b : State g) → IsWithout k a b → (named : ℕ → Option ℕ) (waiting : List (ℕ × Job)) → AreJobs g a.now a.expired named a.held waiting → AreJobs g b.now b.expired named b.held waiting
+  jobs_without k a b i named waiting h =
+      subst (λ n. AreJobs g n b.expired named b.held waiting) (sym i.now)
+      (subst (λ x. AreJobs g a.now x named b.held waiting) (sym i.expired)
+      (record {
+        jobs = λ n j e.
+            (let m = h.jobs n j e in
+            let was : (x : Waiting) → b.held m.request ≡ Some x → a.held m.request ≡ Some x = λ x is. (was_there k a.held m.request x (sym (ap (λ (h : ℕ → Option Waiting). h m.request) i.held) ∙ is)).1 in
+            record { request = m.request; named = m.named; next = m.next; key = λ x is. m.key x (was x is); keyless = m.keyless; spare = λ x is. m.spare x (was x is) });
+        waits = h.waits;
+        sorted = h.sorted;
+      }))
 
   nothing_behind : (xs ys : List Posted) → xs ≡ xs ++ ys → ys ≡ []
   nothing_behind [] ys e = sym e
@@ -107,7 +113,9 @@ module _ (g : Caching) where
           (subst (λ zs. TableStands (its g) a.now (all_stored a.now zs a.stored) c.kept.table) none t.stands));
       alike = subst (λ n. AreAlike (its g) n e c.kept.table.entries) (sym i.now) (subst (λ zs. AreAlike (its g) a.now (all_listed (room g) a.now zs e) c.kept.table.entries) none t.alike);
       cap = t.cap;
-      jobs = one_less g (g.number q) (g.names c.upstream) b.held c.kept.waiting (jobs_without k a b i (g.names c.upstream) c.kept.waiting t.jobs);
+      listed = subst (λ es. AreListed es e) (sym i.stored) (subst (λ zs. AreListed (all_stored a.now zs a.stored) (all_listed (room g) a.now zs e)) none t.listed);
+      unasked = λ n le. ap (λ (x : ℕ → Option Entry). x n) i.expired ∙ t.unasked n (subst (λ m. m ≤ n) i.asked le);
+      jobs = one_less g b.now b.expired (g.number q) (g.names c.upstream) b.held c.kept.waiting (jobs_without k a b i (g.names c.upstream) c.kept.waiting t.jobs);
     }
 
     one_gone : (u : g.V) (y : View) → QuietBelow u y → Quiet (record c { upstream = u; kept = (settles_all y.board fewer (onto v.board y)).0 }) (settles_all y.board fewer (onto v.board y)).1

@@ -3,6 +3,7 @@ use Rattle.std.proofs.Common.{◌≡◌, ℕ, true, List, [], map, sym, subst}
 use Rattle.client_request.specs.Composed.{composed}
 use Rattle.client_request.specs.declared.event.Row.{Row}
 use Rattle.right_trace.specs.Hit.{AllHit}
+use Rattle.right_trace.specs.StaleServed.{AllServeStale}
 use Rattle.right_trace.specs.Settings.{Settings}
 use Rattle.right_trace.specs.Timely.{AllAskedInOctets}
 use Rattle.right_trace.specs.Trace.{Conf}
@@ -11,11 +12,11 @@ use Rattle.proof_right.specs.machine.Exact.{AllCached, RunCached}
 use Rattle.proof_right.specs.machine.Part.{ServerPart}
 use Rattle.proof_right.specs.machine.Served.{served}
 use Rattle.proof_right.proofs.Composing.{composed_composes}
-use Rattle.proof_right.proofs.server.Concrete.{every_hit}
+use Rattle.proof_right.proofs.server.Concrete.{every_hit, every_stale}
 use Rattle.proof_parts.specs.ClientTie.{AllBeside, RunBeside}
 use Rattle.cache_rules.specs.Key.{same_key, same_itself, same_is_equal}
 use Rattle.proof_cache.specs.Caching.{Caching, its, State, Listed, room}
-use Rattle.proof_cache.specs.Listed.{listed, RunsAreCached, CachedRunsHit, KeysAreTold}
+use Rattle.proof_cache.specs.Listed.{listed, RunsAreCached, CachedRunsHit, CachedRunsServeStale, KeysAreTold}
 
 module _ (g : Caching) where
   all_cached : (x : State g) (d : Made g.P.State) (moves : Moves g.c (its g) composed g.P x d) (e f : Listed g) → AllBeside (its g) g.P (listed g) x d moves e f → AllCached g.c (its g) composed g.P same_key (room g) x d moves e f
@@ -46,3 +47,12 @@ hits_of c s cap rows P is octets =
 
 pub cached_runs_hit : CachedRunsHit
 cached_runs_hit g rows is octets run h = hits_of g.c (its g) (room g) rows g.P is octets run (run_cached g (begun g.c (its g) composed g.P) rows run [] h)
+
+stale_of : (c : Conf) (s : Settings) (cap : ℕ) (rows : List Row) (P : ServerPart c) → P ≡ served c → AllAskedInOctets (map (λ row. row.event) rows) → (run : IsRun c s composed P (begun c s composed P) rows)
+    → RunCached c s composed P same_key cap (begun c s composed P) rows run [] → AllServeStale c s cap [] rows
+stale_of c s cap rows P is octets =
+    subst (λ (P : ServerPart c). (run : IsRun c s composed P (begun c s composed P) rows) → RunCached c s composed P same_key cap (begun c s composed P) rows run [] → AllServeStale c s cap [] rows) (sym is)
+    (every_stale c s composed same_key cap rows composed_composes keys_are_told octets)
+
+pub cached_runs_serve_stale : CachedRunsServeStale
+cached_runs_serve_stale g rows is octets run h = stale_of g.c (its g) (room g) rows g.P is octets run (run_cached g (begun g.c (its g) composed g.P) rows run [] h)

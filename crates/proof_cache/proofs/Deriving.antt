@@ -19,13 +19,14 @@ use Rattle.proof_right.specs.machine.Served.{served}
 use Rattle.proof_right.specs.machine.Client as machine
 use Rattle.cache_rules.specs.Validity.{with_cache, cached_by, or_unread}
 use Rattle.cache_rules.specs.Viewing.{header_between, view_octets, IsViewable}
+use Rattle.cache_rules.specs.declared.copying.Ttls.TheVariants.{Lessened}
 use Rattle.cache_rules.proofs.Headers.{header_long}
 use Rattle.cache_rules.proofs.Saying.{view_made}
 use Rattle.cache_rules.proofs.ViewLaws.{view_laws}
 use Rattle.client_cache.specs.Keeping.{Stored, Entry, Asked, Outcome, same_class, reflagged, derived, derived_outcome, derived_message, rewritten, revalued, rd_cleared, without_rd}
 use Rattle.proof_cache.specs.Standing.{Anew, KeepsMessage, KeepsResult, Message, Fault, Stands, Derived, Nothing, More}
 use Rattle.proof_cache.specs.Laws.{DerivingIsMoving}
-use Rattle.proof_cache.proofs.Views.{none_out, rd_stays, rd_itself, covers_itself, covers_on, parts_header, one_rcode, is_view, is_unread, keeps_for}
+use Rattle.proof_cache.proofs.Views.{none_out, rd_stays, rd_itself, covers_itself, covers_on, parts_header, one_rcode, is_view, known_now, keeps_for}
 use Rattle.proof_cache.proofs.Serving.{refused}
 use Rattle.proof_cache.proofs.Messages.{AreBytes, between_octets, view_is_message}
 
@@ -39,13 +40,6 @@ same_is Ad Plain e = absurd cc
 same_is Plain Do e = absurd cc
 same_is Plain Ad e = absurd cc
 same_is Plain Plain e = refl
-
-other_out : (c d : FlagClass) → same_class c d ≡ false → is_do c ≡ true → is_do d ≡ false
-other_out Do Do e f = absurd cc
-other_out Do Ad e f = refl
-other_out Do Plain e f = refl
-other_out Ad d e f = absurd cc
-other_out Plain d e f = absurd cc
 
 not_do : (c d : FlagClass) → is_do c ≡ false → (is_do c && not (is_do d)) ≡ false
 not_do Do d e = absurd cc
@@ -66,19 +60,10 @@ module _ (cache : CacheSettings) (s : Settings) (now : ℕ) (a : Asked) (legal :
   on : KeysCover there own
   on = record { name = refl; rtype = refl; class = refl; cd = refl; rd = rd_itself rd; flags = flags; signing = signing }
 
-  -- Why deriving fails: what DO added is to be left out, and the data of the first message is not read.
-  pub record Fails (first : machine.Entry) (x : Error) : Type 0 where
-    pub message : Octets
-    pub is : first.result ≡ Ok message
-    pub unknown : known_parts message ≡ None
-    pub read : (n : ℕ) × (validity_of_message its message ≡ Some n) × (0 < n)
-    pub error : x ≡ errors.MessageParseError
-    pub added : is_do from ≡ true
-    pub left : is_do a.key.flags ≡ false
-
+  -- What is derived stands for the same under the own flags. Deriving never fails.
   abbrev pub DerivesAs : machine.Entry → Result Entry Error → Type 0
   DerivesAs first (Ok e) = Stands its now own e (record first { under = own })
-  DerivesAs first (Err x) = Fails first x
+  DerivesAs first (Err x) = ⊥
 
   as_own : (e : Entry) (first : machine.Entry) → Stands its now there e first → from ≡ a.key.flags → Stands its now own e (record first { under = own })
   as_own e first st same =
@@ -126,7 +111,7 @@ module _ (cache : CacheSettings) (s : Settings) (now : ℕ) (a : Asked) (legal :
       -- another is written anew
       anew : (y : Octets) → view_octets header a.name (leaves_out there own) 0 x.message ≡ Ok y → DerivesAs first (revalued e header y (or_unread (validity_of_message (cached_by cache) y)))
       anew y made =
-          let v = view_made header a.name (leaves_out there own) 0 x.message y viewable made in
+          let v = view_made header a.name (leaves_out there own) (Lessened 0) x.message y viewable made in
           let w = is_view its q there m e.validity x keeps st.covers header v.parts v.known in
           let says = v.says there own refl one_code in
           let view = w.is own a.name 0 y on (header_is ∙ ap (viewed_header q own) (sym (parts_header m w.first w.known))) says in
@@ -135,28 +120,22 @@ module _ (cache : CacheSettings) (s : Settings) (now : ℕ) (a : Asked) (legal :
           (subst (λ r. KeepsResult its q own (validity_of_parts its (viewed q own a.name 0 w.first)) r (Ok (record { header = header; message = y }))) (sym is)
           (Message m (record { header = header; message = y }) (record {
             valid = keeps.valid;
-            own = view_is_message header a.name (leaves_out there own) 0 x.message y long bytes legal octets keeps.own made;
+            own = view_is_message header a.name (leaves_out there own) (Lessened 0) x.message y long bytes legal octets keeps.own made;
             header = long;
             octets = bytes;
             flags = header_is;
             kept = Anew own a.name w.first onto (covers_itself own) (none_out a.key.flags) w.known view refl;
           }))))
 
-      fails : (f : Error) → is_do from ≡ true → is_do a.key.flags ≡ false → view_octets header a.name (leaves_out there own) 0 x.message ≡ Err f → Fails first f
-      fails f added left made =
-          let why = refused header a.name (leaves_out there own) 0 x.message f viewable made in
-          let u = is_unread its q there m e.validity x keeps st.covers why.1 in
-          record { message = m; is = is; unknown = u.unknown; read = keeps.valid; error = why.0; added = added; left = left }
-
-      written : is_do from ≡ true → is_do a.key.flags ≡ false → (v : Outcome) → view_octets header a.name (leaves_out there own) 0 x.message ≡ v → DerivesAs first (rewritten cache e header v)
-      written added left (Ok y) made = anew y made
-      written added left (Err f) made = fails f added left made
+      written : (v : Outcome) → view_octets header a.name (leaves_out there own) 0 x.message ≡ v → DerivesAs first (rewritten cache e header v)
+      written (Ok y) made = anew y made
+      written (Err f) made = known_now its q there m e.validity x keeps st.covers (refused header a.name (leaves_out there own) (Lessened 0) x.message f viewable made).1
 
       message_so : same_class from a.key.flags ≡ false → DerivesAs first (derived_message cache from a e (reflagged from a.key.flags false x))
       message_so other = go (is_do from) refl
         where
           go : (b : Bool) → is_do from ≡ b → DerivesAs first (if b then rewritten cache e header (view_octets header a.name (leaves_out there own) 0 x.message) else Ok (record e { outcome = Ok (record x { header = header }) }))
-          go true added = written added (other_out from a.key.flags other added) _ refl
+          go true added = written _ refl
           go false bare = header_alone bare
 
     outcome_so : same_class from a.key.flags ≡ false → (f : Outcome) (o : Result Stored Error) → first.result ≡ f → e.outcome ≡ o → KeepsResult its q there e.validity f o → DerivesAs first (derived_outcome cache from a e o)

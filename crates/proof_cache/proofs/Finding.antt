@@ -11,8 +11,7 @@ use Rattle.right_trace.specs.Settings.{Settings}
 use Rattle.right_trace.specs.Keys.{FlagClass, Do, Ad, Plain, Key, KeysCover, KeyCovers, key_of, flags_cover, is_do, is_signing}
 use Rattle.right_trace.specs.Parts.{IsIn}
 use Rattle.proof_right.specs.machine.Client as machine
-use Rattle.proof_right.specs.machine.Client.{AtOnce, Refused, Unread}
-use Rattle.right_trace.proofs.Valid.{valid_is_read}
+use Rattle.proof_right.specs.machine.Client.{AtOnce, Refused}
 use Rattle.cache_rules.specs.declared.key.AdDo.{AdDo}
 use Rattle.cache_rules.specs.declared.key.AdDo.TheVariants as classes
 use Rattle.cache_rules.specs.Key.{flag_class}
@@ -142,15 +141,6 @@ module _ (c : Conf) (cache : CacheSettings) (s : Settings) (compose : Request �
       abbrev at_key : machine.Entry
       at_key = record first { under = a.key }
 
-      -- what DO added can't be left out
-      unread_so : (x : Error) → Derives (Err x) → AtOnce c its compose now number stored r (unstored number r (Err x))
-      unread_so x d =
-          let y = valid_is_read its d.message d.read.0 d.read.1 d.read.2 in
-          let cover : KeyCovers first.under r = record { cacheable = asked.cacheable; keys = subst (λ k. KeysCover k (key_of r)) (sym stands.under) (subst (λ k. KeysCover there k) asked.key covering) } in
-          subst (λ x. AtOnce c its compose now number stored r (unstored number r (Err x))) (sym d.error)
-          (Unread first d.message y.0 (now - e.moment) composed is_in d.is cover (let p = stands.past in let m = stands.moment in omega (arith, p, m)) d.unknown y.1
-          (inr (subst (λ (k : Key). is_do k.flags ≡ true) (sym stands.under) d.added, subst (λ (k : Key). is_do k.flags ≡ false) asked.key d.left)))
-
       -- what is derived is stored under the request's own key
       stored_so : (e' : Entry) → Derives (Ok e') → clears_rd (flags class rd) a.key ≡ false → Finds (stores_and_serves a now e' t)
       stored_so e' d uncut =
@@ -193,12 +183,7 @@ module _ (c : Conf) (cache : CacheSettings) (s : Settings) (compose : Request �
           }
 
       keeps_so : (x : Result Entry Error) → Derives x → Finds (keeps_derived a (flags class rd) now t x)
-      keeps_so (Err x) d = record {
-        after = stored;
-        derived = Nothing stored;
-        stands = st;
-        answers = λ o is. (let same : Err x ≡ o = cc in subst (λ o. AtOnce c its compose now number stored r (unstored number r o)) same (unread_so x d));
-      }
+      keeps_so (Err x) d = absurd d
       keeps_so (Ok e') d = go (clears_rd (flags class rd) a.key) refl
         where
           go : (b : Bool) → clears_rd (flags class rd) a.key ≡ b

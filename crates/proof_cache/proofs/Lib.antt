@@ -11,6 +11,7 @@ pub mod Views
 pub mod Serving
 pub mod Deriving
 pub mod Finding
+pub mod Sparing
 pub mod Listed
 pub mod Keeping
 pub mod ResultsServed

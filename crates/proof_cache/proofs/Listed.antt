@@ -1,38 +1,45 @@
 -- What a request does to the table, it does to a list that is alike.
-use Rattle.std.proofs.Common.{◌≡◌, ℕ, ◌-◌, ◌≤◌, Bool, true, false, not, is_some, List, [], ◌∷◌, Option, Some, None, Result, Ok, Err, inl, inr, refl, arith, sym, ◌∙◌, ap, subst, ◌&&◌}
-use Rattle.std.specs.Prelude.{option_map, if◌then◌else◌}
+use Rattle.std.proofs.Common.{◌≡◌, ℕ, ◌-◌, ◌≤◌, Bool, true, false, not, is_some, cond, List, [], ◌∷◌, Option, Some, None, Result, Ok, Err, inl, inr, refl, arith, sym, ◌∙◌, ap, ap₂, subst, ◌&&◌, ◌==◌}
+use Rattle.std.specs.Prelude.{nat_le, option_map, if◌then◌else◌}
 use Rattle.std.specs.List.{AllByRecursion}
-use Rattle.std.specs.Map.{lookup}
-use Rattle.std.proofs.lemmas.Bool.{le-leb}
+use Rattle.std.specs.Option.{option_map_or}
+use Rattle.std.specs.Map.{lookup, lookup_entry, remove_entry}
+use Rattle.std.proofs.lemmas.Bool.{le-leb, leb-true}
 use Rattle.lru.specs.LruCache.{lru_cache, promoted, put_entries}
 use Rattle.client_request.specs.Request.{Request, is_dnssec_ok}
 use Rattle.client_request.specs.declared.error.Error.{Error}
 use Rattle.client_settings.specs.Settings.{CacheSettings, seconds}
 use Rattle.right_trace.specs.Messages.{Octets}
 use Rattle.right_trace.specs.Settings.{Settings}
-use Rattle.right_trace.specs.Keys.{FlagClass, Do, Ad, Plain, Key, key_of, spelled_name, is_cacheable, question_or}
+use Rattle.right_trace.specs.Keys.{FlagClass, Do, Ad, Plain, Key, KeysCover, KeyCovers, key_of, spelled_name, is_cacheable, question_or}
 use Rattle.dns_base.specs.Message.{sole_question}
 use Rattle.right_trace.specs.Trace.{Conf}
 use Rattle.right_trace.specs.Validity.{validity_of_parts}
 use Rattle.right_trace.specs.Views.{viewed}
 use Rattle.proof_right.specs.machine.Cache.{Op, Uses, Stores, AskDoes, Misses, Takes, TakesFlags, TakesRd, TakesBoth, First, NoneThere, tried, in_block, after_ops}
 use Rattle.proof_right.specs.machine.Client as machine
-use Rattle.proof_right.specs.machine.Exact.{Value, Serves, ServedBy, Viewing, NotReading}
+use Rattle.proof_right.specs.machine.Exact.{Value, Serves, ServedBy, Viewing}
+use Rattle.proof_right.specs.machine.Exact as exact
+use Rattle.proof_parts.specs.ClientTie.{StandsIn}
 use Rattle.cache_rules.specs.declared.key.AdDo.{AdDo}
 use Rattle.cache_rules.specs.declared.key.AdDo.TheVariants as classes
 use Rattle.cache_rules.specs.Key.{same_key, same_is_equal, flag_class, key_in}
 use Rattle.cache_rules.specs.Validity.{with_cache}
 use Rattle.cache_rules.proofs.KeyLaws.{keys_are_of_requests}
-use Rattle.client_cache.specs.Keeping.{Stored, Entry, Table, Asked, Outcome, asked_in, entry_under, with_flags, flags, if_kept, or_else, first_above_ad, first_from_ad, first_of_class, first_class, same_class, is_own, shown, serves, gives_own, takes_own, takes_other, takes, uses, looks_up}
+use Rattle.client_cache.specs.Keeping.{Stored, Entry, Table, Asked, Outcome, Spare, spare_from, spare_in, first_kept, asked_in, entry_under, with_flags, flags, if_kept, or_else, first_above_ad, first_from_ad, first_of_class, first_class, same_class, is_own, shown, serves, gives_own, takes_own, takes_other, takes, uses, looks_up}
 use Rattle.proof_cache.proofs.LookUps.{look_ups_are_askings}
-use Rattle.proof_cache.specs.Laws.{ListsAs, LookUpsAreListed, RequestsAreListed, found_asking, found_for}
-use Rattle.proof_cache.specs.Listing.{Agree, AreAlike, StandsFor}
-use Rattle.proof_cache.specs.Standing.{KeepsMessage, KeepsResult, Message, Fault, StandsForStored, IsAskedBy}
+use Rattle.proof_cache.specs.Laws.{ListsAs, LookUpsAreListed, RequestsAreListed, SparesAs, found_asking, found_for, spare_asking, spare_for, spare_looked}
+use Rattle.proof_cache.specs.Listing.{Agree, AreAlike, AreListed, StandsFor, all_stored_as, stored_as}
+use Rattle.right_trace.specs.Parts.{IsIn}
+use Rattle.proof_cache.specs.Standing.{KeepsMessage, KeepsResult, Message, Fault, StandsForStored, IsAskedBy, Nothing}
 use Rattle.proof_cache.proofs.Asking.{asked_are_of_requests}
 use Rattle.proof_cache.proofs.Finding.{look_ups_are_answers}
-use Rattle.proof_cache.proofs.Listing.{used_alike, stored_alike, seen_alike, there_alike, agree_more, all_stored_as, alike_stands, listed_for, alone_alike, put_first, put_both}
+use Rattle.proof_cache.proofs.Listing.{listed_at, used_alike, stored_alike, seen_alike, there_alike, agree_more, alike_stands, listed_for, alone_alike, put_first, put_both, listed_more, all_listed_so, derived_more, agree_listed, listed_agree}
 use Rattle.proof_cache.proofs.Serving.{shows, unshown}
-use Rattle.proof_cache.proofs.Views.{rd_stays, read_valid, is_unread}
+use Rattle.proof_cache.proofs.Sparing.{spare_is}
+use Rattle.proof_cache.proofs.Tables.{looked}
+use Rattle.client_cache.specs.declared.table.Flags.{Flags}
+use Rattle.proof_cache.proofs.Views.{covers_itself, rd_stays, read_valid, known_now}
 
 -- ---- the same entry is used
 
@@ -46,20 +53,20 @@ module _ (R : Key → Value → Entry → Type 0) (es : List (Key × Value)) (ts
   first_there (j ∷ js) k (inl p) = inl (there_alike R j es ts agree ∙ p.0, p.1)
   first_there (j ∷ js) k (inr p) = inr (there_alike R j es ts agree ∙ p.0, first_there js k p.1)
 
-module _ (s : Settings) (now cap : ℕ) (own : Key) (es : List (Key × Value)) (ts : List (Key × Entry)) (alike : AreAlike s now es ts) (after : List machine.Entry) where
+module _ (s : Settings) (now cap : ℕ) (own : Key) (es : List (Key × Value)) (ts : List (Key × Entry)) (after : List machine.Entry) (alike : Agree (λ k v e. StandsFor s now k v e × IsIn (stored_as k v) after) es ts) where
   -- An asking of the table is one of the list, which is alike again.
   record Carried (left : List (Key × Entry)) : Type 0 where
     ops : List (Op Value)
     asks : AskDoes same_key own es ops
-    alike_after : AreAlike s now (after_ops same_key cap ops es) left
+    alike_after : Agree (λ k v e. StandsFor s now k v e × IsIn (stored_as k v) after) (after_ops same_key cap ops es) left
 
   abbrev R : Key → Value → Entry → Type 0
-  R = StandsFor s now
+  R k v e = StandsFor s now k v e × IsIn (stored_as k v) after
 
   abbrev Stood : Key × Entry → Type 0
   Stood = StandsForStored s now after
 
-  used : (k : Key) → AreAlike s now (promoted (same_key k) es) (promoted (same_key k) ts)
+  used : (k : Key) → Agree R (promoted (same_key k) es) (promoted (same_key k) ts)
   used k = used_alike R (same_key k) es ts alike
 
   first : (k : Key) → First same_key ts (tried own) k → First same_key es (tried own) k
@@ -79,22 +86,22 @@ module _ (s : Settings) (now cap : ℕ) (own : Key) (es : List (Key × Value)) (
     | inl p ↦ (let w = listed_for s now after j u p in record {
       ops = Uses k ∷ Stores j w.0 ∷ Stores own last.0 ∷ [];
       asks = TakesBoth k w.0 last.0 (first k at) flags rd;
-      alike_after = stored_alike R cap own last.0 e (put_entries same_key (lru_cache (promoted (same_key k) es) cap) j w.0) (put_entries same_key (lru_cache (promoted (same_key k) ts) cap) j u) last.1
-          (stored_alike R cap j w.0 u (promoted (same_key k) es) (promoted (same_key k) ts) w.1 (used k));
+      alike_after = stored_alike R cap own last.0 e (put_entries same_key (lru_cache (promoted (same_key k) es) cap) j w.0) (put_entries same_key (lru_cache (promoted (same_key k) ts) cap) j u) (last.1, last.2)
+          (stored_alike R cap j w.0 u (promoted (same_key k) es) (promoted (same_key k) ts) (w.1, w.2) (used k));
     })
     | inr p ↦ record {
       ops = Uses k ∷ Stores j last.0 ∷ Stores own last.0 ∷ [];
       asks = TakesBoth k last.0 last.0 (first k at) flags rd;
       alike_after = alone_alike R cap own last.0 e (put_entries same_key (lru_cache (promoted (same_key k) es) cap) j last.0) (put_entries same_key (lru_cache (promoted (same_key k) ts) cap) j u)
           (stored_alike (λ k v e. Unit {0}) cap j last.0 u (promoted (same_key k) es) (promoted (same_key k) ts) tt (agree_more R (λ k v e. Unit {0}) (λ k v e r. tt) (promoted (same_key k) es) (promoted (same_key k) ts) (used k)))
-          p.0 p.1 last.1;
+          p.0 p.1 (last.1, last.2);
     }
   ]
     where
       j : Key
       j = in_block own k.rd own.flags
 
-      last : (v : Value) × StandsFor s now own v e
+      last : (v : Value) × StandsFor s now own v e × IsIn (stored_as own v) after
       last = listed_for s now after own e (put_first Stood cap own e (put_entries same_key (lru_cache (promoted (same_key k) ts) cap) j u) all)
 
   carried : (ops : List (Op Entry)) → AskDoes same_key own ts ops → AllByRecursion Stood (after_ops same_key cap ops ts) → Carried (after_ops same_key cap ops ts)
@@ -106,14 +113,14 @@ module _ (s : Settings) (now cap : ℕ) (own : Key) (es : List (Key × Value)) (
       record {
         ops = Uses k ∷ Stores j v.0 ∷ [];
         asks = TakesFlags k v.0 (first k at) flags;
-        alike_after = stored_alike R cap j v.0 e (promoted (same_key k) es) (promoted (same_key k) ts) v.1 (used k);
+        alike_after = stored_alike R cap j v.0 e (promoted (same_key k) es) (promoted (same_key k) ts) (v.1, v.2) (used k);
       }
   carried _ (TakesRd k e at rd) all =
       let v = listed_for s now after own e (put_first Stood cap own e (promoted (same_key k) ts) all) in
       record {
         ops = Uses k ∷ Stores own v.0 ∷ [];
         asks = TakesRd k v.0 (first k at) rd;
-        alike_after = stored_alike R cap own v.0 e (promoted (same_key k) es) (promoted (same_key k) ts) v.1 (used k);
+        alike_after = stored_alike R cap own v.0 e (promoted (same_key k) es) (promoted (same_key k) ts) (v.1, v.2) (used k);
       }
   carried _ (TakesBoth k u e at flags rd) all = carried_both k u e at flags rd all
 
@@ -182,10 +189,7 @@ module _ (cache : CacheSettings) (s : Settings) (now : ℕ) (r : Request) (a : A
 
     served_by : (y : Outcome) → shown a sv.age (Ok x) ≡ y → ServedBy v r now y
     served_by (Ok y) made = let w = shows its r a asked limited v.first sv.message sv.age e.validity x in_time st.covers keeps y made in Viewing sv.message y w.parts sv.age sv.is w.known sv.is_age w.says
-    served_by (Err f) made =
-        let why = unshown its r a asked limited v.first sv.message sv.age e.validity x in_time st.covers keeps f made in
-        let u = is_unread its (key_of v.first) a.key sv.message e.validity x keeps st.covers why.1 in
-        subst (λ f. ServedBy v r now (Err f)) (sym why.0) (NotReading sv.message sv.is u.unknown)
+    served_by (Err f) made = absurd (known_now its (key_of v.first) a.key sv.message e.validity x keeps st.covers (unshown its r a asked limited v.first sv.message sv.age e.validity x in_time st.covers keeps f made).1)
 
     answered_so : Answered
     answered_so = (shown a sv.age (Ok x), own_answers cache a now t e is ∙ shown_now, served_by (shown a sv.age (Ok x)) refl)
@@ -199,6 +203,123 @@ module _ (cache : CacheSettings) (s : Settings) (now : ℕ) (r : Request) (a : A
           answered_so x outcome (subst (λ m. KeepsMessage its (key_of v.first) a.key m e.validity x) same keeps)
       by _ _ its_result outcome (Fault f valid) = absurd (let p = sv.is in cc)
 
+-- ---- and gives no error that fails
+
+module _ (cache : CacheSettings) (s : Settings) (now : ℕ) (r : Request) (a : Asked) (asked : IsAskedBy r a) (limited : cache.max_validity ≤ seconds 4294967295) (t : Table) (v : Value) (e : Entry) (is : entry_under a.key t ≡ Some e)
+    (st : StandsFor (with_cache cache s) now a.key v e) (m : Octets) (message : v.result ≡ Ok m) where
+  mild_own : (y : Outcome) → (looks_up cache a now t).answer ≡ Some y → machine.is_failing y ≡ false
+  mild_own y given = by v.result e.outcome refl refl st.result
+    where
+      by : (f : Outcome) (o : Result Stored Error) → v.result ≡ f → e.outcome ≡ o → KeepsResult (with_cache cache s) (key_of v.first) a.key e.validity f o → machine.is_failing y ≡ false
+      by _ _ its_result outcome (Message n x keeps) = tested (nat_le (now - e.moment) e.validity) refl (sym (own_answers cache a now t e is) ∙ given)
+        where
+          shown_so : now - e.moment ≤ e.validity → (o : Outcome) → shown a (now - e.moment) (Ok x) ≡ o → machine.is_failing o ≡ false
+          shown_so in_time (Ok z) made = refl
+          shown_so in_time (Err f) made = absurd (known_now (with_cache cache s) (key_of v.first) a.key n e.validity x keeps st.covers
+              (unshown (with_cache cache s) r a asked limited v.first n (now - e.moment) e.validity x in_time st.covers keeps f made).1)
+
+          tested : (b : Bool) → nat_le (now - e.moment) e.validity ≡ b → (if b then Some (shown a (now - e.moment) e.outcome) else None) ≡ Some y → machine.is_failing y ≡ false
+          tested false late f = absurd (cc)
+          tested true early f =
+              let same : shown a (now - e.moment) e.outcome ≡ y = cc in
+              subst (λ o. machine.is_failing o ≡ false) (ap (shown a (now - e.moment)) (sym outcome) ∙ same) (shown_so (leb-true (now - e.moment) e.validity early) (shown a (now - e.moment) (Ok x)) refl)
+      by _ _ its_result outcome (Fault f valid) = absurd (let p = message in cc)
+
+-- ---- what a request has to spare
+
+nothing_spared : (s : Settings) (then : ℕ) (r : Request) → StandsIn s then r None None
+nothing_spared s then r y = none_there y.entry y.there
+  where
+    none_there : (e : machine.Entry) → None ≡ Some e → ⊥
+    none_there e p = cc
+
+-- an entry that is found passes
+found_passes : (test : Key → Bool) (es : List (Key × Entry)) (x : Key × Entry) → lookup_entry test es ≡ Some x → (test x.0 ≡ true) × (lookup test es ≡ Some x.1)
+found_passes test [] x e = absurd cc
+found_passes test (y ∷ es) x e = go (test y.0) refl (found_passes test es x) e
+  where
+    go : (b : Bool) → test y.0 ≡ b → (lookup_entry test es ≡ Some x → (test x.0 ≡ true) × (lookup test es ≡ Some x.1)) → cond b (Some y) (lookup_entry test es) ≡ Some x → (test x.0 ≡ true) × (cond b (Some y.1) (lookup test es) ≡ Some x.1)
+    go true is ih f = let same : y ≡ x = cc in (ap (λ (z : Key × Entry). test z.0) (sym same) ∙ is, ap (λ (z : Key × Entry). Some z.1) same)
+    go false is ih f = ih f
+
+-- what is used is still there
+used_there : (test : Key → Bool) (es : List (Key × Entry)) → lookup test (promoted test es) ≡ lookup test es
+used_there test es = go (lookup_entry test es) refl
+  where
+    go : (o : Option (Key × Entry)) → lookup_entry test es ≡ o → lookup test (option_map_or (λ e. e ∷ remove_entry test es) o es) ≡ lookup test es
+    go None e = refl
+    go (Some x) e = let f = found_passes test es x e in ap (λ b. cond b (Some x.1) (lookup test (remove_entry test es))) f.0 ∙ sym f.1
+
+module _ (cache : CacheSettings) (s : Settings) (now : ℕ) (r : Request) (a : Asked) (asked : IsAskedBy r a) (es : List (Key × Value)) (t : Table) (alike : AreAlike (with_cache cache s) now es t.entries)
+    (after : List machine.Entry) (listed : AreListed after es) (stands : AllByRecursion (StandsForStored (with_cache cache s) now after) (looks_up cache a now t).table.entries) where
+  abbrev Spares : Option Spare → Type 0
+  Spares spare = SparesAs (with_cache cache s) cache now r es after spare
+
+  covering : (k : Key) → k ≡ a.key → KeyCovers k r
+  covering k is = record { cacheable = asked.cacheable; keys = subst (λ k. KeysCover k (key_of r)) (sym (is ∙ asked.key)) (covers_itself (key_of r)) }
+
+  -- something is listed under the own key
+  own_spared : (v : Value) → lookup (same_key a.key) es ≡ Some v → Spares (spare_looked cache a now t (first_kept t a.key))
+  own_spared v is =
+      let f = seen_alike (StandsFor (with_cache cache s) now) a.key es t.entries v alike is in
+      let first = own_first cache a now t f.0 f.1 in
+      let left : Table = (takes_own a now t).table in
+      let own : entry_under a.key left ≡ Some f.0 = ap (λ (u : Table). entry_under a.key u) (own_table (entry_under a.key t)) ∙ (used_there (same_key a.key) t.entries ∙ f.1) in
+      subst Spares (sym (ap (λ o. spare_looked cache a now t (or_else o (if a.key.rd then None else first_class t a.key true))) first.found
+      ∙ (ap (λ b. spare_in cache a (if b then takes_own a now t else takes_other cache a (flags first.class a.key.rd) now t).table) (is_own_class cache a now t f.0 f.1)
+      ∙ ap (λ o. if cache.stale_for == 0 then None else spare_from a o) own)))
+      (record {
+        old = Some (stored_as a.key v);
+        there = λ e same. (let one : stored_as a.key v ≡ e = cc in (subst (λ e. IsIn e after) one (listed_at after a.key es v listed is), covering e.under (ap (λ (e : machine.Entry). e.under) (sym one))));
+        own = λ cacheable w m there message.
+            let two : v ≡ w = same_value v w is (subst (λ k. lookup (same_key k) es ≡ Some w) (sym asked.key) there) in
+            ap₂ (λ (k : Key) (v : Value). Some (exact.entry_under k v)) asked.key two;
+        is = spare_is cache s now r a asked f.0 (stored_as a.key v) f.2;
+      })
+    where
+      own_table : (o : Option Entry) → (gives_own a now (uses a.key t) o).table ≡ uses a.key t
+      own_table None = refl
+      own_table (Some e) = refl
+
+      same_value : (v w : Value) → lookup (same_key a.key) es ≡ Some v → lookup (same_key a.key) es ≡ Some w → v ≡ w
+      same_value v w p q = let both : Some v ≡ Some w = sym p ∙ q in cc
+
+  -- nothing is, but there may be what was derived
+  other_spared : lookup (same_key a.key) es ≡ None → (o : Option Flags) → first_kept t a.key ≡ o → Spares (spare_looked cache a now t o)
+  other_spared none None is = record { old = None; there = λ e f. absurd (cc); own = λ cacheable v m there message. absurd (not_there v there); is = λ then on. nothing_spared (with_cache cache s) then r }
+    where
+      not_there : (v : Value) → lookup (same_key (key_of r)) es ≡ Some v → ⊥
+      not_there v there = let p : None ≡ Some v = sym none ∙ subst (λ k. lookup (same_key k) es ≡ Some v) (sym asked.key) there in cc
+  other_spared none (Some f) is = by (entry_under a.key left) refl
+    where
+      left : Table
+      left = (takes cache a now t (Some f)).table
+
+      not_there : (v : Value) → lookup (same_key (key_of r)) es ≡ Some v → ⊥
+      not_there v there = let p : None ≡ Some v = sym none ∙ subst (λ k. lookup (same_key k) es ≡ Some v) (sym asked.key) there in cc
+
+      none_spared : (b : Bool) → Spares (if b then None else None)
+      none_spared true = record { old = None; there = λ e f. absurd (cc); own = λ cacheable v m there message. absurd (not_there v there); is = λ then on. nothing_spared (with_cache cache s) then r }
+      none_spared false = record { old = None; there = λ e f. absurd (cc); own = λ cacheable v m there message. absurd (not_there v there); is = λ then on. nothing_spared (with_cache cache s) then r }
+
+      by : (o : Option Entry) → entry_under a.key left ≡ o → Spares (if cache.stale_for == 0 then None else spare_from a o)
+      by None gone = none_spared (cache.stale_for == 0)
+      by (Some e) there =
+          let p = looked (StandsForStored (with_cache cache s) now after) a.key left.entries e (subst (λ o. AllByRecursion (StandsForStored (with_cache cache s) now after) (takes cache a now t o).table.entries) is stands) there in
+          record {
+            old = Some p.0;
+            there = λ x same. (let one : p.0 ≡ x = cc in (subst (λ e. IsIn e after) one p.1, covering x.under (ap (λ (e : machine.Entry). e.under) (sym one) ∙ (p.2).under)));
+            own = λ cacheable v m own message. absurd (not_there v own);
+            is = spare_is cache s now r a asked e p.0 p.2;
+          }
+
+  looked_spares : Spares (spare_looked cache a now t (first_kept t a.key))
+  looked_spares = by (lookup (same_key a.key) es) refl
+    where
+      by : (o : Option Value) → lookup (same_key a.key) es ≡ o → Spares (spare_looked cache a now t (first_kept t a.key))
+      by None none = other_spared none (first_kept t a.key) refl
+      by (Some v) is = own_spared v is
+
 -- ---- what is found
 
 -- some client, and some way to compose: what the table stands to is the same for all
@@ -209,15 +330,25 @@ pub look_ups_are_listed : LookUpsAreListed
 look_ups_are_listed cache s compose now r a es t limited asked alike =
     let does = look_ups_are_askings cache a now t in
     let finds = look_ups_are_answers no_servers cache s (λ r. Ok []) now 0 r a (all_stored_as es) t limited asked ([], refl) (alike_stands (with_cache cache s) now es t.entries alike) in
-    let c = carried (with_cache cache s) now t.cap a.key es t.entries alike finds.after does.0 does.1 (subst (λ (u : Table). AllByRecursion (StandsForStored (with_cache cache s) now finds.after) u.entries) does.2 finds.stands) in
+    let listed = listed_more (all_stored_as es) finds.after (derived_more (all_stored_as es) finds.after finds.derived) es (all_listed_so es) in
+    let agree = listed_agree (StandsFor (with_cache cache s) now) finds.after es t.entries alike listed in
+    let c = carried (with_cache cache s) now t.cap a.key es t.entries finds.after agree does.0 does.1 (subst (λ (u : Table). AllByRecursion (StandsForStored (with_cache cache s) now finds.after) u.entries) does.2 finds.stands) in
+    let both : Key → Value → Entry → Type 0 = λ k v e. StandsFor (with_cache cache s) now k v e × IsIn (stored_as k v) finds.after in
     record {
       ops = c.ops;
       asks = inl (subst (λ k. AskDoes same_key k es c.ops) asked.key c.asks);
-      alike = subst (λ (u : Table). AreAlike (with_cache cache s) now (after_ops same_key t.cap c.ops es) u.entries) (sym does.2) c.alike_after;
+      alike = subst (λ (u : Table). AreAlike (with_cache cache s) now (after_ops same_key t.cap c.ops es) u.entries) (sym does.2) (agree_more both (StandsFor (with_cache cache s) now) (λ k v e p. p.0) (after_ops same_key t.cap c.ops es) (after_ops same_key t.cap does.0 t.entries) c.alike_after);
+      after = finds.after;
+      derived = finds.derived;
+      spares = λ o made. looked_spares cache s now r a asked es t alike finds.after listed finds.stands;
+      listed = agree_listed finds.after (after_ops same_key t.cap c.ops es) (after_ops same_key t.cap does.0 t.entries) (agree_more both (λ k v e. IsIn (stored_as k v) finds.after) (λ k v e p. p.1) (after_ops same_key t.cap c.ops es) (after_ops same_key t.cap does.0 t.entries) c.alike_after);
       room = ap (λ (u : Table). u.cap) does.2;
       serves = λ o made cacheable v is sv.
           let f = seen_alike (StandsFor (with_cache cache s) now) a.key es t.entries v alike (subst (λ k. lookup (same_key k) es ≡ Some v) (sym asked.key) is) in
           answered cache s now r a asked limited t v f.0 f.1 f.2 sv;
+      mild = λ o made cacheable v m is message y given.
+          let f = seen_alike (StandsFor (with_cache cache s) now) a.key es t.entries v alike (subst (λ k. lookup (same_key k) es ≡ Some v) (sym asked.key) is) in
+          mild_own cache s now r a asked limited t v f.0 f.1 f.2 m message y given;
     }
 
 -- what a message asks, by its key
@@ -236,10 +367,10 @@ requests_are_listed cache s compose now r es t limited octets says alike = go (c
         some_asked None e f = cc
         some_asked (Some k) e f = cc
 
-    asking : (m : Octets) → compose r ≡ Ok m → (o : Option Asked) → asked_in r.header (is_dnssec_ok r) m ≡ o → ListsAs (with_cache cache s) compose now t.cap r es (found_asking cache now t o)
-    asking m made None is = record { ops = []; asks = inr refl; alike = alike; room = refl; serves = λ o composed cacheable v there sv. absurd (not_kept m made is cacheable) }
+    asking : (m : Octets) → compose r ≡ Ok m → (o : Option Asked) → asked_in r.header (is_dnssec_ok r) m ≡ o → ListsAs (with_cache cache s) cache compose now t.cap r es (spare_asking cache now t o) (found_asking cache now t o)
+    asking m made None is = record { ops = []; asks = inr refl; alike = alike; after = all_stored_as es; derived = Nothing (all_stored_as es); listed = all_listed_so es; spares = λ o composed. record { old = None; there = λ e f. absurd (cc); own = λ cacheable v n there message. absurd (not_kept m made is cacheable); is = λ then on. nothing_spared (with_cache cache s) then r }; room = refl; serves = λ o composed cacheable v there sv. absurd (not_kept m made is cacheable); mild = λ o composed cacheable v n there message y given. absurd (not_kept m made is cacheable) }
     asking m made (Some a) is = look_ups_are_listed cache s compose now r a es t limited (asked_are_of_requests r m a octets (says m made) is) alike
 
-    go : (o : Outcome) → compose r ≡ o → ListsAs (with_cache cache s) compose now t.cap r es (found_for cache r.header (is_dnssec_ok r) now t o)
-    go (Err e) made = record { ops = []; asks = inr refl; alike = alike; room = refl; serves = λ o composed cacheable v there sv. absurd (let p = composed in let q = made in cc) }
+    go : (o : Outcome) → compose r ≡ o → ListsAs (with_cache cache s) cache compose now t.cap r es (spare_for cache r.header (is_dnssec_ok r) now t o) (found_for cache r.header (is_dnssec_ok r) now t o)
+    go (Err e) made = record { ops = []; asks = inr refl; alike = alike; after = all_stored_as es; derived = Nothing (all_stored_as es); listed = all_listed_so es; spares = λ o composed. absurd (let p = composed in let q = made in cc); room = refl; serves = λ o composed cacheable v there sv. absurd (let p = composed in let q = made in cc); mild = λ o composed cacheable v n there message y given. absurd (let p = composed in let q = made in cc) }
     go (Ok m) made = asking m made (asked_in r.header (is_dnssec_ok r) m) refl

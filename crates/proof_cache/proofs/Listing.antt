@@ -1,20 +1,22 @@
 -- Lists and tables that agree still do, as both are used and stored into, and as time passes.
 use Rattle.std.proofs.Common.{◌≡◌, ℕ, ◌-◌, ◌≤◌, ◌⊎◌, Bool, true, false, cond, is_some, List, [], ◌∷◌, map, take, Option, Some, None, inl, inr, refl, sym, ap, subst, arith}
-use Rattle.std.specs.Prelude.{suc, zero}
+use Rattle.std.specs.Prelude.{suc, zero, if◌then◌else◌}
 use Rattle.std.specs.List.{AllByRecursion}
 use Rattle.std.specs.Option.{option_map_or}
 use Rattle.std.specs.Map.{lookup, lookup_entry, remove_entry}
 use Rattle.lru.specs.LruCache.{lru_cache, promoted, put_entries}
-use Rattle.right_trace.specs.Keys.{Key}
+use Rattle.right_trace.specs.Keys.{Key, key_of}
 use Rattle.right_trace.specs.Settings.{Settings}
 use Rattle.proof_right.specs.machine.Client as machine
-use Rattle.proof_right.specs.machine.Exact.{Value}
+use Rattle.proof_right.specs.machine.Exact.{Value, value_of}
 use Rattle.proof_right.specs.machine.Cache.{is_there}
 use Rattle.cache_rules.specs.Key.{same_key, same_is_equal}
 use Rattle.client_cache.specs.Keeping.{Entry}
-use Rattle.proof_cache.specs.Listing.{Agree, AreAlike, StandsFor, stored_as}
-use Rattle.proof_cache.specs.Standing.{Stands, StandsForStored}
-use Rattle.proof_cache.proofs.Tables.{each_more, key_found}
+use Rattle.proof_cache.specs.Listing.{Agree, AreAlike, AreListed, StandsFor, all_listed, all_stored_as, lists, stored_as}
+use Rattle.proof_cache.specs.Caching.{all_stored}
+use Rattle.right_trace.specs.Parts.{IsIn}
+use Rattle.proof_cache.specs.Standing.{Stands, StandsForStored, Derived, Nothing, More}
+use Rattle.proof_cache.proofs.Tables.{each_more, key_found, looked, put}
 
 module _ (R : Key → Value → Entry → Type 0) where
   -- pairs that agree, and where there may be none
@@ -125,10 +127,6 @@ agree_more R Q f (e ∷ es) (t ∷ ts) h = (h.0, f t.0 e.1 t.1 h.1, agree_more R
 pub alike_later : (s : Settings) (now then : ℕ) (es : List (Key × Value)) (ts : List (Key × Entry)) → now ≤ then → AreAlike s now es ts → AreAlike s then es ts
 alike_later s now then es ts le h = agree_more (StandsFor s now) (StandsFor s then) (λ k v e st. record { under = refl; covers = st.covers; moment = st.moment; past = (let q = st.past in omega (arith, q, le)); result = st.result }) es ts h
 
--- what is listed, as it is stored
-abbrev pub all_stored_as : List (Key × Value) → List machine.Entry
-all_stored_as es = map (λ e. stored_as e.0 e.1) es
-
 -- the table stands to that
 pub alike_stands : (s : Settings) (now : ℕ) (es : List (Key × Value)) (ts : List (Key × Entry)) → AreAlike s now es ts → AllByRecursion (StandsForStored s now (all_stored_as es)) ts
 alike_stands s now [] [] h = tt
@@ -140,10 +138,69 @@ alike_stands s now (e ∷ es) (t ∷ ts) h = (
 )
 
 -- what stands for something that is stored stands for it as it may be listed
-pub listed_for : (s : Settings) (now : ℕ) (stored : List machine.Entry) (k : Key) (e : Entry) → StandsForStored s now stored (k, e) → (v : Value) × StandsFor s now k v e
+pub listed_for : (s : Settings) (now : ℕ) (stored : List machine.Entry) (k : Key) (e : Entry) → StandsForStored s now stored (k, e) → (v : Value) × StandsFor s now k v e × IsIn (stored_as k v) stored
 listed_for s now stored k e p =
-    let f = p.0 in
-    (record { first = f.first; number = f.number; result = f.result; moment = f.moment }, record { under = refl; covers = (p.2).covers; moment = (p.2).moment; past = (p.2).past; result = (p.2).result })
+    let f = p.0 in (
+      record { first = f.first; number = f.number; result = f.result; moment = f.moment },
+      record { under = refl; covers = (p.2).covers; moment = (p.2).moment; past = (p.2).past; result = (p.2).result },
+      subst (λ (j : Key). IsIn (record { under = j; first = f.first; number = f.number; result = f.result; moment = f.moment }) stored) (p.2).under p.1,
+    )
+
+-- what is stored still is, where more is
+pub listed_more : (xs ys : List machine.Entry) → ((e : machine.Entry) → IsIn e xs → IsIn e ys) → (es : List (Key × Value)) → AreListed xs es → AreListed ys es
+listed_more xs ys f es h = each_more (λ (x : Key × Value). IsIn (stored_as x.0 x.1) xs) (λ (x : Key × Value). IsIn (stored_as x.0 x.1) ys) (λ x is. f (stored_as x.0 x.1) is) es h
+
+-- what is listed is among all that is
+pub all_listed_so : (es : List (Key × Value)) → AreListed (all_stored_as es) es
+all_listed_so [] = tt
+all_listed_so (e ∷ es) = (inl refl, listed_more (all_stored_as es) (all_stored_as (e ∷ es)) (λ x is. inr is) es (all_listed_so es))
+
+-- what derives leaves what was stored
+pub derived_more : (xs ys : List machine.Entry) → Derived xs ys → (e : machine.Entry) → IsIn e xs → IsIn e ys
+derived_more _ _ (Nothing xs) e is = is
+derived_more _ _ (More f k xs ys there covers d) e is = derived_more (record f { under = k } ∷ xs) ys d e (inr is)
+
+-- The same is derived where more is stored.
+pub record DerivedToo (from after : List machine.Entry) : Type 0 where
+  pub stored : List machine.Entry
+  pub derived : Derived from stored
+  pub among : (e : machine.Entry) → IsIn e after → IsIn e stored
+
+pub derived_too : (xs after ys : List machine.Entry) → Derived xs after → ((e : machine.Entry) → IsIn e xs → IsIn e ys) → DerivedToo ys after
+derived_too _ _ ys (Nothing xs) f = record { stored = ys; derived = Nothing ys; among = f }
+derived_too _ _ ys (More e k xs after is covers d) f =
+    let y : machine.Entry = record e { under = k } in
+    let t = derived_too (y ∷ xs) after (y ∷ ys) d (λ z at. elim at [ inl here ↦ inl here | inr there ↦ inr (f z there) ]) in
+    record { stored = t.stored; derived = More e k ys t.stored (f e is) covers t.derived; among = t.among }
+
+-- what is found in a list is stored
+pub listed_at : (stored : List machine.Entry) (k : Key) (es : List (Key × Value)) (v : Value) → AreListed stored es → lookup (same_key k) es ≡ Some v → IsIn (stored_as k v) stored
+listed_at stored k es v h e = looked (λ (x : Key × Value). IsIn (stored_as x.0 x.1) stored) k es v h e
+
+-- a reply that leaves is listed, where it is stored
+pub lists_listed : (cap now : ℕ) (z : machine.Leaving) (stored : List machine.Entry) (es : List (Key × Value)) → AreListed stored es → AreListed (machine.store now z stored) (lists cap now z es)
+lists_listed cap now z stored es h = by z.is_stored
+  where
+    by : (b : Bool) → AreListed (if b then machine.entry_of now z ∷ stored else stored) (if b then put_entries same_key (lru_cache es cap) (key_of z.asked) (value_of now z) else es)
+    by true = put (λ (x : Key × Value). IsIn (stored_as x.0 x.1) (machine.entry_of now z ∷ stored)) (key_of z.asked) (value_of now z) (lru_cache es cap) (listed_more stored (machine.entry_of now z ∷ stored) (λ e is. inr is) es h) (inl refl)
+    by false = h
+
+pub all_lists_listed : (cap now : ℕ) (zs : List machine.Leaving) (stored : List machine.Entry) (es : List (Key × Value)) → AreListed stored es → AreListed (all_stored now zs stored) (all_listed cap now zs es)
+all_lists_listed cap now [] stored es h = h
+all_lists_listed cap now (z ∷ zs) stored es h = all_lists_listed cap now zs (machine.store now z stored) (lists cap now z es) (lists_listed cap now z stored es h)
+
+-- what agrees, and is stored, is listed
+pub agree_listed : (stored : List machine.Entry) (es : List (Key × Value)) (ts : List (Key × Entry)) → Agree (λ k v e. IsIn (stored_as k v) stored) es ts → AreListed stored es
+agree_listed stored [] [] h = tt
+agree_listed stored [] (t ∷ ts) h = absurd h
+agree_listed stored (e ∷ es) [] h = absurd h
+agree_listed stored (e ∷ es) (t ∷ ts) h = (subst (λ (k : Key). IsIn (stored_as k e.1) stored) (sym h.0) h.1, agree_listed stored es ts h.2)
+
+pub listed_agree : (R : Key → Value → Entry → Type 0) (stored : List machine.Entry) (es : List (Key × Value)) (ts : List (Key × Entry)) → Agree R es ts → AreListed stored es → Agree (λ k v e. R k v e × IsIn (stored_as k v) stored) es ts
+listed_agree R stored [] [] h l = tt
+listed_agree R stored [] (t ∷ ts) h l = absurd h
+listed_agree R stored (e ∷ es) [] h l = absurd h
+listed_agree R stored (e ∷ es) (t ∷ ts) h l = (h.0, (h.1, subst (λ (k : Key). IsIn (stored_as k e.1) stored) h.0 l.0), listed_agree R stored es ts h.2 l.1)
 
 -- where there is room for one entry alone, and none is there under the key, what is stored is alone in both
 pub alone_alike : (R : Key → Value → Entry → Type 0) (cap : ℕ) (k : Key) (v : Value) (e : Entry) (es : List (Key × Value)) (ts : List (Key × Entry)) → Agree (λ k v e. Unit {0}) es ts → lookup_entry (same_key k) ts ≡ None → cap - 1 ≡ 0 → R k v e

@@ -18,7 +18,8 @@ use Rattle.client_request.specs.Composed.{Copied, ◌>>◌, unless, adds, each, 
 use Rattle.right_trace.specs.Messages.{Octets}
 use Rattle.right_trace.specs.Keys.{FlagClass, is_plain, is_signing}
 use Rattle.right_trace.specs.Views.{with_name}
-use Rattle.cache_rules.specs.Viewing.{header_between, written_then, asks_under, carries_data, carries, carries_found, carries_section, carries_all, carried, view_octets}
+use Rattle.cache_rules.specs.Viewing.{header_between, written_then, asks_under, carries_data, carries, carries_found, carries_section, carries_all, carried, octets_by}
+use Rattle.cache_rules.specs.declared.copying.Ttls.{Ttls}
 use Rattle.cache_rules.proofs.Carrying.{Each, section_good}
 use Rattle.proof_cache.specs.Standing.{IsMessage}
 use Rattle.proof_cache.proofs.Octets.{OfOctets, by_index, at_index, taken}
@@ -78,7 +79,7 @@ module _ {A : Type 0} (P : A → Type 0) (one : A → Draft → Copied) (good : 
   each_keeps (Ok x ∷ items) d all h = after (one x d) (each one items) (good x d all.0 h) (λ e. each_keeps items e all.1)
   each_keeps (Err x ∷ items) d all h = stopped (Parse x)
 
-module _ (name : Labels) (spelled : OfOctets (spelling name)) (b : Bool) (n : ℕ) (m : Octets) (octets : OfOctets m) where
+module _ (name : Labels) (spelled : OfOctets (spelling name)) (b : Bool) (n : Ttls) (m : Octets) (octets : OfOctets m) where
   asked : (q : Asked) (d : Draft) → HoldsOctets d → Keeps (asks_under name q d)
   asked q d h = unless_refused _ (pushed_question (with_name name q) d) (question_octets (with_name name q) d h spelled)
 
@@ -112,8 +113,8 @@ module _ (name : Labels) (spelled : OfOctets (spelling name)) (b : Bool) (n : �
 -- ---- messages
 
 -- What is written has twelve octets at least: the header, and four counts.
-pub view_is_message : (header : List ℕ) (name : Labels) (b : Bool) (n : ℕ) (m y : Octets) → length header ≡ 4 → AreBytes header → IsLegal name → AreOctets name → IsMessage m → view_octets header name b n m ≡ Ok y → IsMessage y
-unfolding view_octets carried
+pub view_is_message : (header : List ℕ) (name : Labels) (b : Bool) (n : Ttls) (m y : Octets) → length header ≡ 4 → AreBytes header → IsLegal name → AreOctets name → IsMessage m → octets_by header name b n m ≡ Ok y → IsMessage y
+unfolding octets_by carried
 view_is_message header name b n m y four bytes legal octets own made = go (carries_all name b n m (fresh None)) refl made
   where
     go : (o : Copied) → carries_all name b n m (fresh None) ≡ o → message_of (o >> (λ all. Ok (with_header header all))) ≡ Ok y → IsMessage y

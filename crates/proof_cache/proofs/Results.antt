@@ -101,8 +101,8 @@ module _ {U : Type 0} (Sane : U → Type 0) where
       (record { ups = sane.ups; board = sane.board; held = held_at k None x.held kept_none sane.held })
 
   -- a request is taken on
-  pub sanely_taken_on : (r : Request) (x : Upper U) → Sanely Sane x → Sanely Sane (take_on r x)
-  sanely_taken_on r x sane = record {
+  pub sanely_taken_on : (r : Request) (old : Option Entry) (x : Upper U) → Sanely Sane x → Sanely Sane (take_on r old x)
+  sanely_taken_on r old x sane = record {
     ups = sane.ups;
     board = sane.board;
     held = held_at x.asked (Some (newcomer r x.now)) x.held (kept_some (newcomer r x.now) (λ g i. absurd i)) sane.held;
@@ -224,11 +224,12 @@ module _ {c : Conf} (st : Settings) (compose : Request → Result Octets Error) 
   move_sanely x _ (Concludes k a y z held tried free none best is) below sane =
       leaves_on Sane k x x a z refl refl sane held (outcome_made st k a.request y z (best_result a.kept_back y (sane.held k a held) best) is)
   move_sanely x _ (Times_out k a held late) below sane = leaves_on Sane k x x a _ refl refl sane held (record { request = refl; asked = refl; result = tt })
+  move_sanely x _ (Revives before after y e m leaving fails there may) below sane = absurd below
   move_sanely x _ (Replies before after y leaving) below sane = absurd below
   move_sanely x _ (Forgets before after e stored) below sane = record { sane = record { ups = sane.ups; board = sane.board; held = sane.held }; requests = λ k b e. (b, e, refl); leaving = λ z is. inl is }
   move_sanely x _ (Derives e k is covers) below sane = record { sane = record { ups = sane.ups; board = sane.board; held = sane.held }; requests = λ k b e. (b, e, refl); leaving = λ z is. inl is }
   move_sanely x _ (Answers r y pending at_once) below sane = absurd below
-  move_sanely x _ (Takes_on r o pending composes some) below sane = absurd below
+  move_sanely x _ (Takes_on r o old pending composes some there) below sane = absurd below
 
   pub leads_sanely : (x : Upper P.State) (outs : List Out) (y : Upper P.State) → Leads st compose P x outs y → Sanely Sane x → WentOn Sane x y
   leads_sanely x _ _ (Arrives _) sane = stays Sane x sane

@@ -21,13 +21,15 @@ use Rattle.right_trace.specs.Parts.{IsIn, Parts, flags_in, known_parts, lowered_
 use Rattle.right_trace.specs.Validity.{second, validity_of_parts}
 use Rattle.right_trace.specs.Views.{viewed_header, with_name, leaves_out, viewed, view_of}
 use Rattle.proof_right.specs.machine.Client as machine
-use Rattle.proof_right.specs.machine.Client.{AtOnce, Viewed, Unread, Repeated}
-use Rattle.cache_rules.specs.Viewing.{carries_all, carried, view_octets, IsViewable}
+use Rattle.proof_right.specs.machine.Client.{AtOnce, Viewed, Repeated}
+use Rattle.cache_rules.specs.Viewing.{carries_all, carried, octets_by, view_octets, IsViewable}
+use Rattle.cache_rules.specs.declared.copying.Ttls.{Ttls}
+use Rattle.cache_rules.specs.declared.copying.Ttls.TheVariants.{Lessened}
 use Rattle.cache_rules.proofs.Saying.{view_made, view_refused}
 use Rattle.client_cache.specs.Keeping.{Stored, Entry, Asked, Outcome, serves, shown, seconds_of}
 use Rattle.proof_cache.specs.Standing.{KeepsMessage, KeepsResult, Message, Fault, Stands, IsAskedBy}
 use Rattle.proof_cache.specs.Laws.{unstored}
-use Rattle.proof_cache.proofs.Views.{covers_itself, parts_header, one_rcode, is_view, view_valid, kept_limited, is_unread}
+use Rattle.proof_cache.proofs.Views.{covers_itself, parts_header, one_rcode, is_view, view_valid, kept_limited, known_now}
 
 -- ---- names and seconds
 
@@ -35,7 +37,7 @@ names_alike : (n o : Labels) (qs : List message.Asked) → lowered n ≡ lowered
 names_alike n o [] e = refl
 names_alike n o (q ∷ qs) e = ap₂ (λ (l : Labels) (t : List message.Asked). record { name = l; rtype = q.rtype; class = q.class } ∷ t) e (names_alike n o qs e)
 
-view_alike : (q k : Key) (n o : Labels) (t : ℕ) (x : Parts Data) → lowered n ≡ lowered o → lowered_parts (viewed q k n t x) ≡ lowered_parts (viewed q k o t x)
+pub view_alike : (q k : Key) (n o : Labels) (t : ℕ) (x : Parts Data) → lowered n ≡ lowered o → lowered_parts (viewed q k n t x) ≡ lowered_parts (viewed q k o t x)
 view_alike q k n o t x e = ap (λ (z : List message.Asked). record (lowered_parts (viewed q k n t x)) { questions = z }) (names_alike n o x.questions e)
 
 second_is : second ≡ 1000000
@@ -50,8 +52,8 @@ seconds_are age le = least_is (age / 1000000) 4294967295 (omega (arith, le)) ∙
 
 -- ---- what can't be read
 
-pub refused : (h : List ℕ) (name : Labels) (b : Bool) (n : ℕ) (m : Octets) (e : Error) → IsViewable h name m → view_octets h name b n m ≡ Err e → (e ≡ errors.MessageParseError) × (known_parts m ≡ None)
-unfolding view_octets carried
+pub refused : (h : List ℕ) (name : Labels) (b : Bool) (n : Ttls) (m : Octets) (e : Error) → IsViewable h name m → octets_by h name b n m ≡ Err e → (e ≡ errors.MessageParseError) × (known_parts m ≡ None)
+unfolding octets_by carried
 refused h name b n m e ok is = go (carries_all name b n m (fresh None)) refl is
   where
     go : (o : Copied) → carries_all name b n m (fresh None) ≡ o → message_of (o >> (λ all. Ok (with_header h all))) ≡ Err e → (e ≡ errors.MessageParseError) × (known_parts m ≡ None)
@@ -77,7 +79,7 @@ module _ (s : Settings) (r : Request) (a : Asked) (asked : IsAskedBy r a) (limit
   pub shows : (y : Octets) → seen ≡ Ok y → IsShown first r m age y
   shows y made =
       let q = key_of first in
-      let v = view_made x.header a.name (leaves_out a.key a.key) (seconds_of age) x.message y viewable made in
+      let v = view_made x.header a.name (leaves_out a.key a.key) (Lessened (seconds_of age)) x.message y viewable made in
       let w = is_view s q a.key m validity x keeps covers x.header v.parts v.known in
       let says = v.says a.key a.key refl (one_rcode s q a.key m validity x keeps covers) in
       let flags : flags_in x.header ≡ viewed_header q a.key w.first.header = keeps.flags ∙ ap (viewed_header q a.key) (sym (parts_header m w.first w.known)) in
@@ -88,7 +90,7 @@ module _ (s : Settings) (r : Request) (a : Asked) (asked : IsAskedBy r a) (limit
       record { parts = w.first; known = w.known; says = subst (λ k. Says y (viewed q k (spelled_name r) (age / second) w.first)) asked.key aged }
 
   pub unshown : (e : Error) → seen ≡ Err e → (e ≡ errors.MessageParseError) × (known_parts x.message ≡ None)
-  unshown e made = refused x.header a.name (leaves_out a.key a.key) (seconds_of age) x.message e viewable made
+  unshown e made = refused x.header a.name (leaves_out a.key a.key) (Lessened (seconds_of age)) x.message e viewable made
 
 -- ---- what is given
 
@@ -110,13 +112,10 @@ module _ (c : Conf) (s : Settings) (compose : Request → Outcome) (now number :
         (record { known = w.known; validity = n.0; is_validity = n.1; kept = n.2; in_time = subst (λ v. age ≤ v) (sym valid) in_time })
         w.says
 
+    -- its data is read
     unread : (e : Error) → view_octets x.header a.name (leaves_out a.key a.key) (seconds_of age) x.message ≡ Err e → Gives (Err e)
     unread e made =
-        let why = unshown s r a asked limited first.first m age validity x in_time covers keeps e made in
-        let u = is_unread s q a.key m validity x keeps covers why.1 in
-        let valid = subst (λ k. validity_of_parts s (viewed q k (spelled_name r) 0 u.parts) ≡ validity) asked.key (u.valid (spelled_name r)) in
-        subst (λ f. Gives (Err f)) (sym why.0)
-        (Unread first m u.parts age composed there its covering is_age u.unknown u.read (inl (subst (λ v. age ≤ v) (sym valid) in_time)))
+        absurd (known_now s q a.key m validity x keeps covers (unshown s r a asked limited first.first m age validity x in_time covers keeps e made).1)
 
     shown_so : (o v : Outcome) → view_octets x.header a.name (leaves_out a.key a.key) (seconds_of age) x.message ≡ v → v ≡ o → Gives o
     shown_so o (Ok y) made is = subst Gives is (given y made)

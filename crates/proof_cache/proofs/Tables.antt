@@ -4,7 +4,7 @@ use Rattle.std.specs.Prelude.{suc, zero}
 use Rattle.std.specs.List.{AllByRecursion}
 use Rattle.std.specs.Option.{option_map_or}
 use Rattle.std.specs.Map.{lookup, lookup_entry, remove_entry}
-use Rattle.lru.specs.LruCache.{promoted, put_entries}
+use Rattle.lru.specs.LruCache.{LruCache, promoted, put_entries}
 use Rattle.right_trace.specs.Keys.{Key}
 use Rattle.right_trace.specs.Settings.{Settings}
 use Rattle.proof_right.specs.machine.Client as machine
@@ -14,19 +14,19 @@ use Rattle.proof_cache.specs.Standing.{StandsForStored, TableStands}
 use Rattle.proof_cache.specs.Laws.{StandingLaws}
 
 -- the key that is looked up, as it is in the table
-pub key_found : (k : Key) (es : List (Key × Entry)) (x : Key × Entry) → lookup_entry (same_key k) es ≡ Some x → k ≡ x.0
+pub key_found : {V : Type 0} (k : Key) (es : List (Key × V)) (x : Key × V) → lookup_entry (same_key k) es ≡ Some x → k ≡ x.0
 key_found k [] x e = absurd cc
 key_found k (y ∷ es) x e = go (same_key k y.0) refl (λ f. key_found k es x f) e
   where
     go : (b : Bool) → same_key k y.0 ≡ b → (lookup_entry (same_key k) es ≡ Some x → k ≡ x.0) → cond b (Some y) (lookup_entry (same_key k) es) ≡ Some x → k ≡ x.0
-    go true is ih f = let same : y ≡ x = cc in same_is_equal k y.0 is ∙ ap (λ (z : Key × Entry). z.0) same
+    go true is ih f = let same : y ≡ x = cc in same_is_equal k y.0 is ∙ ap (λ z. z.0) same
     go false is ih f = ih f
 
-module _ (P : Key × Entry → Type 0) where
-  abbrev Each : List (Key × Entry) → Type 0
+module _ {V : Type 0} (P : Key × V → Type 0) where
+  abbrev Each : List (Key × V) → Type 0
   Each es = AllByRecursion P es
 
-  removed : (test : Key → Bool) (es : List (Key × Entry)) → Each es → Each (remove_entry test es)
+  removed : (test : Key → Bool) (es : List (Key × V)) → Each es → Each (remove_entry test es)
   removed test [] h = tt
   removed test (e ∷ es) h = go (test e.0) (removed test es h.1)
     where
@@ -34,7 +34,7 @@ module _ (P : Key × Entry → Type 0) where
       go true ih = h.1
       go false ih = (h.0, ih)
 
-  one_found : (test : Key → Bool) (es : List (Key × Entry)) (x : Key × Entry) → Each es → lookup_entry test es ≡ Some x → P x
+  one_found : (test : Key → Bool) (es : List (Key × V)) (x : Key × V) → Each es → lookup_entry test es ≡ Some x → P x
   one_found test [] x h e = absurd cc
   one_found test (y ∷ es) x h e = go (test y.0) (λ f. one_found test es x h.1 f) e
     where
@@ -42,41 +42,42 @@ module _ (P : Key × Entry → Type 0) where
       go true ih f = let same : y ≡ x = cc in subst P same h.0
       go false ih f = ih f
 
-  few : (n : ℕ) (es : List (Key × Entry)) → Each es → Each (take n es)
+  few : (n : ℕ) (es : List (Key × V)) → Each es → Each (take n es)
   few zero es h = tt
   few (suc n) [] h = tt
   few (suc n) (e ∷ es) h = (h.0, few n es h.1)
 
-  used : (test : Key → Bool) (es : List (Key × Entry)) → Each es → Each (promoted test es)
+  used : (test : Key → Bool) (es : List (Key × V)) → Each es → Each (promoted test es)
   used test es h = go (lookup_entry test es) refl
     where
-      go : (o : Option (Key × Entry)) → lookup_entry test es ≡ o → Each (option_map_or (λ e. e ∷ remove_entry test es) o es)
+      go : (o : Option (Key × V)) → lookup_entry test es ≡ o → Each (option_map_or (λ e. e ∷ remove_entry test es) o es)
       go None e = h
       go (Some x) e = (one_found test es x h e, removed test es h)
 
-  put : (k : Key) (v : Entry) (t : Table) → Each t.entries → P (k, v) → Each (put_entries same_key t k v)
+  pub put : (k : Key) (v : V) (t : LruCache Key V) → Each t.entries → P (k, v) → Each (put_entries same_key t k v)
   put k v t h p = go (lookup_entry (same_key k) t.entries) refl
     where
-      go : (o : Option (Key × Entry)) → lookup_entry (same_key k) t.entries ≡ o → Each (option_map_or (λ e. (e.0, v) ∷ remove_entry (same_key k) t.entries) o ((k, v) ∷ take (t.cap - 1) t.entries))
+      go : (o : Option (Key × V)) → lookup_entry (same_key k) t.entries ≡ o → Each (option_map_or (λ e. (e.0, v) ∷ remove_entry (same_key k) t.entries) o ((k, v) ∷ take (t.cap - 1) t.entries))
       go None e = (p, few (t.cap - 1) t.entries h)
       go (Some x) e = (subst (λ (j : Key). P (j, v)) (key_found k t.entries x e) p, removed (same_key k) t.entries h)
 
   -- an entry that is found is one of these
-  pub looked : (k : Key) (es : List (Key × Entry)) (v : Entry) → Each es → lookup (same_key k) es ≡ Some v → P (k, v)
+  pub looked : (k : Key) (es : List (Key × V)) (v : V) → Each es → lookup (same_key k) es ≡ Some v → P (k, v)
   looked k [] v h e = absurd cc
   looked k (y ∷ es) v h e = go (same_key k y.0) refl (λ f. looked k es v h.1 f) e
     where
       go : (b : Bool) → same_key k y.0 ≡ b → (lookup (same_key k) es ≡ Some v → P (k, v)) → cond b (Some y.1) (lookup (same_key k) es) ≡ Some v → P (k, v)
       go true is ih f =
           let same : y.1 ≡ v = cc in
-          subst (λ (j : Key). P (j, v)) (sym (same_is_equal k y.0 is)) (subst (λ (w : Entry). P (y.0, w)) same h.0)
+          subst (λ (j : Key). P (j, v)) (sym (same_is_equal k y.0 is)) (subst (λ (w : V). P (y.0, w)) same h.0)
       go false is ih f = ih f
 
-  pub after_use : (k : Key) (t : Table) → Each t.entries → Each (uses k t).entries
-  after_use k t h = used (same_key k) t.entries h
+module _ (P : Key × Entry → Type 0) where
+  pub after_use : (k : Key) (t : Table) → AllByRecursion P t.entries → AllByRecursion P (uses k t).entries
+  after_use k t h = used P (same_key k) t.entries h
 
-  pub after_store : (k : Key) (v : Entry) (t : Table) → Each t.entries → P (k, v) → Each (stores k v t).entries
-  after_store k v t h p = put k v t h p
+  pub after_store : (k : Key) (v : Entry) (t : Table) → AllByRecursion P t.entries → P (k, v) → AllByRecursion P (stores k v t).entries
+  after_store k v t h p = put P k v t h p
 
 pub each_more : {A : Type 0} (P Q : A → Type 0) → ((x : A) → P x → Q x) → (xs : List A) → AllByRecursion P xs → AllByRecursion Q xs
 each_more P Q f [] h = tt

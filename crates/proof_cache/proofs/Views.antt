@@ -15,7 +15,7 @@ use Rattle.right_trace.specs.Validity.{second, least, without_opt, limit, validi
 use Rattle.right_trace.specs.Views.{viewed_header, with_name, leaves_out, lessened, mostly_lessened, without_signing, viewed}
 use Rattle.right_trace.proofs.Deriving.{viewed_twice}
 use Rattle.right_trace.proofs.Said.{known_validity}
-use Rattle.right_trace.proofs.Valid.{own_view_valid, valid_is_read}
+use Rattle.right_trace.proofs.Valid.{own_view_valid, valid_is_known, valid_is_read}
 use Rattle.cache_rules.specs.Viewing.{header_between, under_header}
 use Rattle.cache_rules.proofs.Headers.{header_long}
 use Rattle.cache_rules.proofs.Saying.{what_is_known}
@@ -242,27 +242,16 @@ module _ (s : Settings) (q k : Key) (m : Octets) (validity : ℕ) (x : Stored) (
           subst (λ v. v ≤ s.max_validity) (y.2 ∙ same_some (validity_of_message s m) n.0 validity n.1 valid) (validity_limited s y.0)
       go (Anew w spelled its to_w from_w none its_known says valid) = subst (λ v. v ≤ s.max_validity) (sym valid) (validity_limited s (viewed q w spelled 0 its))
 
-  -- Where what is kept is not read by type, it is the first message, which is read, and whose view is valid as long.
-  pub record IsUnread : Type 0 where
-    pub unknown : known_parts m ≡ None
-    pub parts : Parts Octets
-    pub read : read_parts m ≡ Some parts
-    pub valid : (name : Labels) → validity_of_parts s (viewed q k name 0 parts) ≡ validity
-
-  pub is_unread : known_parts x.message ≡ None → IsUnread
-  is_unread unknown = go keeps.kept
+  -- what is kept is read by type
+  pub known_now : known_parts x.message ≡ None → ⊥
+  known_now unknown = go keeps.kept
     where
-      go : IsKept s q k m validity x → IsUnread
-      go (Whole same none valid) =
-          let n = keeps.valid in
-          let y = valid_is_read s m n.0 n.1 n.2 in
-          record {
-            unknown = subst (λ o. known_parts o ≡ None) same unknown;
-            parts = y.0;
-            read = y.1;
-            valid = λ name. whole_valid s q k name y.0 none ∙ (y.2 ∙ same_some (validity_of_message s m) n.0 validity n.1 valid);
-          }
+      go : IsKept s q k m validity x → ⊥
+      go (Whole same none valid) = let n = keeps.valid in not_none (known_parts m) (valid_is_known s m n.0 n.1 n.2) (subst (λ o. known_parts o ≡ None) same unknown)
       go (Anew w spelled its to_w from_w none its_known says valid) = let d = said_parts x.message (viewed q w spelled 0 its) says in none_some (sym unknown ∙ d.1)
+
+      not_none : (o : Option (Parts Data)) → is_some o ≡ true → o ≡ None → ⊥
+      not_none o p q = cc
 
   -- A first message that is read is valid for a view of it as long as what is kept, though its data may not be read by type.
   pub read_valid : (name : Labels) (parts : Parts Octets) → read_parts m ≡ Some parts → validity_of_parts s (viewed q k name 0 parts) ≡ validity

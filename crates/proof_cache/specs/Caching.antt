@@ -1,7 +1,7 @@
 -- A cache above a transport that is tied to the whole of a client, and how it stands beside the machine.
 --
 --   the client's ticket t ──► the cache's job under the ticket below, which is t + 1 ──► the transport's request, and its number
-use Rattle.std.specs.Prelude.{◌≡◌, ℕ, suc, ◌≤◌, List, [], ◌∷◌, length, Option, Some, option_map, Err}
+use Rattle.std.specs.Prelude.{◌≡◌, ℕ, suc, ◌≤◌, List, [], ◌∷◌, length, Option, Some, None, option_map, Err}
 use Rattle.client_request.specs.Numbered.{entry_at}
 use Rattle.client_request.specs.Request.{Request, is_dnssec_ok}
 use Rattle.client_request.specs.Requests.{for_one}
@@ -9,19 +9,22 @@ use Rattle.client_request.specs.View.{View, Transport, answers, draws_ticket}
 use Rattle.client_request.specs.declared.error.Error.TheVariants.{NoTransportAvailable}
 use Rattle.client_settings.specs.Settings.{CacheSettings, seconds}
 use Rattle.right_trace.specs.Keys.{Key}
+use Rattle.right_trace.specs.Parts.{IsIn}
 use Rattle.right_trace.specs.Settings.{Settings}
 use Rattle.right_trace.specs.Trace.{Conf}
 use Rattle.proof_right.specs.machine.Part.{ServerPart}
 use Rattle.proof_right.specs.machine.Client.{Waiting, Leaving, Entry, Upper, store}
 use Rattle.proof_right.specs.machine.Exact.{Value}
+use Rattle.proof_parts.specs.ClientTie.{StandsIn, IsTold}
 use Rattle.proof_parts.specs.Lines.{Sorted}
 use Rattle.proof_parts.specs.PartTie.{Phase}
 use Rattle.proof_parts.specs.Sights.{Sight, sight}
 use Rattle.proof_parts.specs.WholeTie.{IsWholeTie}
 use Rattle.cache_rules.specs.Laws.{kept_key}
 use Rattle.cache_rules.specs.Validity.{with_cache}
-use Rattle.client_cache.specs.Plain.{Job, Cached, Response, Reading, read, room_of, started, transport}
-use Rattle.proof_cache.specs.Listing.{AreAlike, all_listed}
+use Rattle.client_cache.specs.Keeping.{Spare, spare_stands_in}
+use Rattle.client_cache.specs.Plain.{Job, Cached, Response, Reading, read, room_of, stale as stale_below, started, transport}
+use Rattle.proof_cache.specs.Listing.{AreAlike, AreListed, all_listed}
 use Rattle.proof_cache.specs.Results.{GivesMessages, Sanely}
 use Rattle.proof_cache.specs.Standing.{TableStands}
 
@@ -80,6 +83,10 @@ module _ (g : Caching) where
   abbrev pub ticket_of : Response g.Q → ℕ
   ticket_of r = r.ticket
 
+  -- what stands in for the result of a request that waits
+  abbrev pub stale : Response g.Q → Cached g.V → View → Option (List ℕ)
+  stale = stale_below g.number
+
   -- what stands for the result of a request that was handed on
   abbrev pub IsHanded : Response g.Q → Type 0
   IsHanded r = (q : g.Q) × (r.below ≡ Some q) × (g.number q ≡ suc r.ticket)
@@ -90,18 +97,25 @@ module _ (g : Caching) where
   abbrev pub Owns : Cached g.V → (timer : ℕ) → Type 0
   Owns c i = g.Owns c.upstream i
 
--- A job stands for a request that was handed on, under the next ticket, and has its key, if that is tried still.
-pub record IsJob (numbers : ℕ → Option ℕ) (held : ℕ → Option Waiting) (i : ℕ) (j : Job) : Type 0 where
-  pub request : ℕ
-  pub named : numbers i ≡ Some request
-  pub next : i ≡ suc j.ticket
-  pub key : (b : Waiting) → held request ≡ Some b → j.key ≡ kept_key b.request
+-- What a request has to spare stands in, from a moment on, exactly where what the machine has for it may.
+abbrev pub IsSpare : Settings → CacheSettings → (from : ℕ) → Request → Option Spare → (expired : Option Entry) → Type 0
+IsSpare s cache from r spare expired = (now : ℕ) → from ≤ now → StandsIn s now r expired (spare_stands_in cache now spare)
 
--- There is one for each result that is to come.
-pub record AreJobs (numbers : ℕ → Option ℕ) (held : ℕ → Option Waiting) (waiting : List (ℕ × Job)) : Type 0 where
-  pub jobs : (i : ℕ) (j : Job) → entry_at i waiting ≡ Some j → IsJob numbers held i j
-  pub waits : (i k : ℕ) → numbers i ≡ Some k → (j : Job) × (entry_at i waiting ≡ Some j)
-  pub sorted : (hi : ℕ) × Sorted 0 hi waiting
+module _ (g : Caching) (now : ℕ) (expired : ℕ → Option Entry) where
+  -- A job stands for a request that was handed on, under the next ticket, and has its key, and what it has to spare, if that is tried still.
+  pub record IsJob (numbers : ℕ → Option ℕ) (held : ℕ → Option Waiting) (i : ℕ) (j : Job) : Type 0 where
+    pub request : ℕ
+    pub named : numbers i ≡ Some request
+    pub next : i ≡ suc j.ticket
+    pub key : (b : Waiting) → held request ≡ Some b → j.key ≡ kept_key b.request
+    pub keyless : j.key ≡ None → j.spare ≡ None
+    pub spare : (b : Waiting) → held request ≡ Some b → IsSpare (its g) g.cache now b.request j.spare (expired request)
+
+  -- There is one for each result that is to come.
+  pub record AreJobs (numbers : ℕ → Option ℕ) (held : ℕ → Option Waiting) (waiting : List (ℕ × Job)) : Type 0 where
+    pub jobs : (i : ℕ) (j : Job) → entry_at i waiting ≡ Some j → IsJob numbers held i j
+    pub waits : (i k : ℕ) → numbers i ≡ Some k → (j : Job) × (entry_at i waiting ≡ Some j)
+    pub sorted : (hi : ℕ) × Sorted 0 hi waiting
 
 module _ (g : Caching) where
   -- The cache beside the machine and the list, when all that leaves will have been stored.
@@ -113,4 +127,7 @@ module _ (g : Caching) where
     pub stands : TableStands (its g) a.now (all_stored a.now a.leaving a.stored) c.kept.table
     pub alike : AreAlike (its g) a.now (all_listed (room g) a.now a.leaving e) c.kept.table.entries
     pub cap : c.kept.table.cap ≡ room g
-    pub jobs : AreJobs (g.names c.upstream) a.held c.kept.waiting
+    pub listed : AreListed (all_stored a.now a.leaving a.stored) (all_listed (room g) a.now a.leaving e)
+    pub told : (z : Leaving) → IsIn z a.leaving → IsTold (its g) a z
+    pub unasked : (k : ℕ) → a.asked ≤ k → a.expired k ≡ None
+    pub jobs : AreJobs g a.now a.expired (g.names c.upstream) a.held c.kept.waiting

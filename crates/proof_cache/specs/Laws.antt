@@ -7,17 +7,20 @@ use Rattle.client_settings.specs.Settings.{CacheSettings, seconds}
 use Rattle.right_trace.specs.Trace.{Conf}
 use Rattle.right_trace.specs.Messages.{Octets}
 use Rattle.right_trace.specs.Settings.{Settings}
-use Rattle.right_trace.specs.Keys.{Key, key_of, is_cacheable}
+use Rattle.right_trace.specs.Keys.{Key, KeyCovers, key_of, is_cacheable}
+use Rattle.right_trace.specs.Parts.{IsIn}
 use Rattle.proof_right.specs.machine.Cache.{Op, AskDoes, after_ops}
 use Rattle.proof_right.specs.machine.Served.{served}
 use Rattle.proof_right.specs.machine.Client as machine
-use Rattle.proof_right.specs.machine.Exact.{Value, Serves, ServedBy}
+use Rattle.proof_right.specs.machine.Exact.{Value, Serves, ServedBy, entry_under}
+use Rattle.proof_parts.specs.ClientTie.{StandsIn}
 use Rattle.cache_rules.specs.Key.{same_key}
 use Rattle.cache_rules.specs.Laws.{kept_key}
 use Rattle.cache_rules.specs.Validity.{with_cache}
-use Rattle.client_cache.specs.Keeping.{Table, Asked, Found, Outcome, asked_in, found, looks_up, keeps}
+use Rattle.client_cache.specs.declared.table.Flags.{Flags}
+use Rattle.client_cache.specs.Keeping.{Table, Asked, Found, Outcome, Spare, spare_stands_in, asked_in, first_kept, found, looks_up, keeps, spare_in, takes}
 use Rattle.client_cache.specs.Plain.{empty}
-use Rattle.proof_cache.specs.Listing.{AreAlike, lists}
+use Rattle.proof_cache.specs.Listing.{AreAlike, AreListed, all_stored_as, lists}
 use Rattle.proof_cache.specs.Standing.{IsResult, TableStands, IsAskedBy, Derived}
 
 -- What a composed message asks is what its request asks.
@@ -35,7 +38,7 @@ AnswersAtOnce gives x = (o : Outcome) → x.answer ≡ Some o → gives o
 
 -- a reply that is not stored
 abbrev pub unstored : (number : ℕ) → Request → Outcome → machine.Leaving
-unstored number r o = record { request = number; asked = r; result = o; is_stored = false }
+unstored number r o = record { request = number; asked = r; result = o; is_stored = false; stale = None }
 
 -- What a request finds: the machine derives, the table stands to what is then stored, and the answer is one of what is then stored.
 pub record FindsAs (c : Conf) (s : Settings) (compose : Request → Outcome) (now number : ℕ) (r : Request) (stored : List machine.Entry) (x : Found) : Type 0 where
@@ -67,24 +70,49 @@ RequestsAreAnswered = (c : Conf) (cache : CacheSettings) (s : Settings) (compose
     → TableStands (with_cache cache s) now stored t
     → FindsAs c (with_cache cache s) compose now number r stored (found_for cache r.header (is_dnssec_ok r) now t (compose r))
 
+-- what a request has to spare once it has looked the table up: nothing where no entry may serve it
+abbrev pub spare_looked : CacheSettings → Asked → (now : ℕ) → Table → Option Flags → Option Spare
+spare_looked s a now t None = None
+spare_looked s a now t (Some f) = spare_in s a (takes s a now t (Some f)).table
+
+abbrev pub spare_asking : CacheSettings → (now : ℕ) → Table → Option Asked → Option Spare
+spare_asking s now t None = None
+spare_asking s now t (Some a) = spare_looked s a now t (first_kept t a.key)
+
+abbrev pub spare_for : CacheSettings → (header : List ℕ) → (dnssec_ok : Bool) → (now : ℕ) → Table → (composed : Outcome) → Option Spare
+spare_for cache header dnssec_ok now t (Err e) = None
+spare_for cache header dnssec_ok now t (Ok m) = spare_asking cache now t (asked_in header dnssec_ok m)
+
+-- What a request has to spare is something that is stored; where a message is listed under its own key, it is that.
+pub record SparesAs (s : Settings) (cache : CacheSettings) (now : ℕ) (r : Request) (es : List (Key × Value)) (after : List machine.Entry) (spare : Option Spare) : Type 0 where
+  pub old : Option machine.Entry
+  pub there : (e : machine.Entry) → old ≡ Some e → IsIn e after × KeyCovers e.under r
+  pub own : is_cacheable r ≡ true → (v : Value) (m : Octets) → lookup (same_key (key_of r)) es ≡ Some v → v.result ≡ Ok m → old ≡ Some (entry_under (key_of r) v)
+  pub is : (then : ℕ) → now ≤ then → StandsIn s then r old (spare_stands_in cache then spare)
+
 -- What an asking does to a list that is alike to the table that it looks up: it uses and stores as an exact asking does, or leaves all as it was. Where the entry under its own key serves it, it is answered from that.
-pub record ListsAs (s : Settings) (compose : Request → Outcome) (now cap : ℕ) (r : Request) (es : List (Key × Value)) (x : Found) : Type 0 where
+pub record ListsAs (s : Settings) (cache : CacheSettings) (compose : Request → Outcome) (now cap : ℕ) (r : Request) (es : List (Key × Value)) (spare : Option Spare) (x : Found) : Type 0 where
   pub ops : List (Op Value)
   pub asks : AskDoes same_key (key_of r) es ops ⊎ (ops ≡ [])
   pub alike : AreAlike s now (after_ops same_key cap ops es) x.table.entries
+  pub after : List machine.Entry
+  pub derived : Derived (all_stored_as es) after
+  pub listed : AreListed after (after_ops same_key cap ops es)
+  pub spares : (o : Octets) → compose r ≡ Ok o → SparesAs s cache now r es after spare
   pub room : x.table.cap ≡ cap
   pub serves : (o : Octets) → compose r ≡ Ok o → is_cacheable r ≡ true → (v : Value) → lookup (same_key (key_of r)) es ≡ Some v → Serves s v r now → (y : Outcome) × (x.answer ≡ Some y) × ServedBy v r now y
+  pub mild : (o : Octets) → compose r ≡ Ok o → is_cacheable r ≡ true → (v : Value) (m : Octets) → lookup (same_key (key_of r)) es ≡ Some v → v.result ≡ Ok m → (y : Outcome) → x.answer ≡ Some y → machine.is_failing y ≡ false
 
 -- A request that looks the table up; a TTL has 32 bits, and so has what the settings allow in seconds.
 abbrev pub LookUpsAreListed : Type 0
 LookUpsAreListed = (cache : CacheSettings) (s : Settings) (compose : Request → Outcome) (now : ℕ) (r : Request) (a : Asked) (es : List (Key × Value)) (t : Table)
-    → cache.max_validity ≤ seconds 4294967295 → IsAskedBy r a → AreAlike (with_cache cache s) now es t.entries → ListsAs (with_cache cache s) compose now t.cap r es (looks_up cache a now t)
+    → cache.max_validity ≤ seconds 4294967295 → IsAskedBy r a → AreAlike (with_cache cache s) now es t.entries → ListsAs (with_cache cache s) cache compose now t.cap r es (spare_looked cache a now t (first_kept t a.key)) (looks_up cache a now t)
 
 -- The same for each request, as it is composed.
 abbrev pub RequestsAreListed : Type 0
 RequestsAreListed = (cache : CacheSettings) (s : Settings) (compose : Request → Outcome) (now : ℕ) (r : Request) (es : List (Key × Value)) (t : Table)
     → cache.max_validity ≤ seconds 4294967295 → IsOfOctets r → ((m : Octets) → compose r ≡ Ok m → SaysRequest m r) → AreAlike (with_cache cache s) now es t.entries
-    → ListsAs (with_cache cache s) compose now t.cap r es (found_for cache r.header (is_dnssec_ok r) now t (compose r))
+    → ListsAs (with_cache cache s) cache compose now t.cap r es (spare_for cache r.header (is_dnssec_ok r) now t (compose r)) (found_for cache r.header (is_dnssec_ok r) now t (compose r))
 
 -- What is given and kept of a result that came is what the machine's reply gives and stores; a list that is alike to the table still is.
 pub record KeepsAs (s : Settings) (now : ℕ) (stored : List machine.Entry) (z : machine.Leaving) (t : Table) (x : Outcome × Table) : Type 0 where

@@ -5,16 +5,17 @@ use Rattle.lru.specs.LruCache.{lru_cache, put_entries}
 use Rattle.client_request.specs.Composed.{composed}
 use Rattle.client_request.specs.declared.event.Row.{Row}
 use Rattle.right_trace.specs.Hit.{AllHit}
+use Rattle.right_trace.specs.StaleServed.{AllServeStale}
 use Rattle.right_trace.specs.Keys.{key_of, TellsKeys}
 use Rattle.right_trace.specs.Timely.{AllAskedInOctets}
-use Rattle.proof_right.specs.machine.Client.{Made, Move, Server_moves, Hands_on, Gives_up, Drops, Keeps_back, Delivers, Concludes, Times_out, Replies, Forgets, Derives, Answers, Takes_on, IsRun, begun}
+use Rattle.proof_right.specs.machine.Client.{Made, Move, Server_moves, Hands_on, Gives_up, Drops, Keeps_back, Delivers, Concludes, Times_out, Revives, Replies, Forgets, Derives, Answers, Takes_on, IsRun, begun}
 use Rattle.proof_right.specs.machine.Exact as exact
 use Rattle.proof_right.specs.machine.Exact.{value_of, RunCached}
 use Rattle.proof_right.specs.machine.Served.{served}
 use Rattle.proof_parts.specs.ClientTie.{Beside, RunBeside, IsClientTie}
 use Rattle.proof_parts.specs.Leading.{IsBelow}
 use Rattle.cache_rules.specs.Key.{same_key}
-use Rattle.proof_cache.specs.Caching.{Caching, its, State, Listed, room, cached, first, ticket_of, IsHanded, names, Owns, IsTied}
+use Rattle.proof_cache.specs.Caching.{Caching, its, State, Listed, room, cached, first, ticket_of, IsHanded, stale, names, Owns, IsTied}
 
 module _ (g : Caching) where
   -- what a move makes of it
@@ -31,11 +32,12 @@ module _ (g : Caching) where
   below_keeps x _ (Delivers before after y a z is held waits out) e below = refl
   below_keeps x _ (Concludes k a y z held tried free none is out) e below = refl
   below_keeps x _ (Times_out k a held late) e below = refl
+  below_keeps x _ (Revives before after y old m is fails there may) e below = absurd below
   below_keeps x _ (Replies before after y is) e below = absurd below
   below_keeps x _ (Forgets before after y is) e below = absurd below
   below_keeps x _ (Derives y k j covers) e below = absurd below
   below_keeps x _ (Answers r y pend at) e below = absurd below
-  below_keeps x _ (Takes_on r o pend composed lt) e below = absurd below
+  below_keeps x _ (Takes_on r o old pend composed lt there) e below = absurd below
 
   abbrev pub listed : Beside (its g) g.P
   listed = record {
@@ -44,12 +46,13 @@ module _ (g : Caching) where
     Does = Does;
     below = below_keeps;
     derives = λ x y k is covers e. refl;
-    unstored = λ x before after y is e no. subst (λ b. e ≡ (if b then put_entries same_key (lru_cache e (room g)) (key_of y.asked) (value_of x.now y) else e)) (sym no) refl;
+    unstored = λ x before after y is e no told. (subst (λ b. e ≡ (if b then put_entries same_key (lru_cache e (room g)) (key_of y.asked) (value_of x.now y) else e)) (sym no) refl, told);
+    revives = λ x before after y old m is fails there may e. refl;
   }
 
 -- A cache above a transport that is tied to the whole of a client is tied to a client, with this list beside it.
 abbrev pub CachesAreTied : Type 1
-CachesAreTied = (g : Caching) → IsClientTie (its g) g.P (listed g) (cached g) (ticket_of g) (IsHanded g) (first g) (IsTied g) (names g) (Owns g)
+CachesAreTied = (g : Caching) → IsClientTie (its g) g.P (listed g) (cached g) (ticket_of g) (stale g) (IsHanded g) (first g) (IsTied g) (names g) (Owns g)
 
 -- A run of the machine with this list beside it is one with its exact cache.
 abbrev pub RunsAreCached : Type 1
@@ -64,3 +67,8 @@ KeysAreTold = TellsKeys same_key
 abbrev pub CachedRunsHit : Type 1
 CachedRunsHit = (g : Caching) (rows : List Row) → g.P ≡ served g.c → AllAskedInOctets (map (λ row. row.event) rows) → (run : IsRun g.c (its g) composed g.P (begun g.c (its g) composed g.P) rows)
     → RunBeside (its g) g.P (listed g) (begun g.c (its g) composed g.P) rows run (listed g).first → AllHit g.c (its g) composed (room g) [] rows
+
+-- And a request for which a message that is kept had expired has no error of a server and none of its deadline while that message may serve.
+abbrev pub CachedRunsServeStale : Type 1
+CachedRunsServeStale = (g : Caching) (rows : List Row) → g.P ≡ served g.c → AllAskedInOctets (map (λ row. row.event) rows) → (run : IsRun g.c (its g) composed g.P (begun g.c (its g) composed g.P) rows)
+    → RunBeside (its g) g.P (listed g) (begun g.c (its g) composed g.P) rows run (listed g).first → AllServeStale g.c (its g) (room g) [] rows

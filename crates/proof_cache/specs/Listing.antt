@@ -2,10 +2,12 @@
 --
 --   the list:   a first result, whose it was, and when ──► under each key for which it was stored
 --   the table:  what stands for it ──► under the same key, at the same place
-use Rattle.std.specs.Prelude.{◌≡◌, ℕ, if◌then◌else◌, List, [], ◌∷◌}
+use Rattle.std.specs.Prelude.{◌≡◌, ℕ, if◌then◌else◌, List, [], ◌∷◌, map}
+use Rattle.std.specs.List.{AllByRecursion}
 use Rattle.lru.specs.LruCache.{lru_cache, put_entries}
 use Rattle.right_trace.specs.Settings.{Settings}
 use Rattle.right_trace.specs.Keys.{Key, key_of}
+use Rattle.right_trace.specs.Parts.{IsIn}
 use Rattle.proof_right.specs.machine.Client as machine
 use Rattle.proof_right.specs.machine.Exact.{Value, value_of}
 use Rattle.cache_rules.specs.Key.{same_key}
@@ -29,6 +31,14 @@ StandsFor s now k v e = Stands s now k e (stored_as k v)
 
 abbrev pub AreAlike : Settings → (now : ℕ) → List (Key × Value) → List (Key × Entry) → Type 0
 AreAlike s now = Agree (StandsFor s now)
+
+-- each that is listed is stored
+abbrev pub AreListed : (stored : List machine.Entry) → List (Key × Value) → Type 0
+AreListed stored = AllByRecursion (λ (x : Key × Value). IsIn (stored_as x.0 x.1) stored)
+
+-- what is listed, as it is stored
+abbrev pub all_stored_as : List (Key × Value) → List machine.Entry
+all_stored_as es = map (λ e. stored_as e.0 e.1) es
 
 -- the list once a reply that leaves is stored, where it is
 abbrev pub lists : (cap now : ℕ) → machine.Leaving → List (Key × Value) → List (Key × Value)

@@ -39,7 +39,7 @@ module _ (g : Choosing) (beside : Beside) (phase : ℕ → Phase) (current : ℕ
     pub request : gave.request ≡ k
     pub result : part ≡ part_of gave.result
     pub board : end.board ≡ rest
-    pub put : w.board ≡ v.board ++ record { ticket = t; part = part } ∷ []
+    pub put : w.board ≡ v.board ++ record { ticket = t; part = part; is_stale = false } ∷ []
     pub more : w.more ≡ v.more
     pub same_there : (i : ℕ) → named' current i ≡ named current i
 
@@ -130,7 +130,7 @@ module _ (g : Choosing) (beside : Beside) (phase : ℕ → Phase) (current : ℕ
           request = numbered;
           result = refl;
           board = l.board;
-          put = l.put ∙ ap (λ bs. bs ++ record { ticket = t; part = part_of z.result } ∷ []) (board_of job.timer v);
+          put = l.put ∙ ap (λ bs. bs ++ record { ticket = t; part = part_of z.result; is_stale = false } ∷ []) (board_of job.timer v);
           more = l.more ∙ more_of job.timer v;
           same_there = l.same_there;
         }

@@ -50,7 +50,7 @@ module _ (g : Choosing) (beside : Beside) (phase : ℕ → Phase) (current : ℕ
     where
       by : HasCome g beside phase current t k w y d u h.end → HasCome g beside phase current t k v x d u h.end
       by (WaitsOn job is number put left) = WaitsOn job is number (put ∙ board) (left ∙ leaving)
-      by (Goes z gone left request put) = Goes z gone (left ∙ ap (λ zs. zs ++ leaving_of g.st z ∷ []) leaving) request (put ∙ ap (λ bs. bs ++ record { ticket = t; part = part_of z.result } ∷ []) board)
+      by (Goes z gone left request put) = Goes z gone (left ∙ ap (λ zs. zs ++ leaving_of g.st z ∷ []) leaving) request (put ∙ ap (λ bs. bs ++ record { ticket = t; part = part_of z.result; is_stale = false } ∷ []) board)
 
   -- what ended is done
   pub ended_done : (t k : ℕ) (tab : ℕ → Option (Work g)) (part : Part) (rest : List Posted) (named : ℕ → ℕ → Option ℕ) (c : Choice Request g.U g.R) (v : View) (x : State g) (d : Choice Request g.U g.R) (w : View)
@@ -65,7 +65,7 @@ module _ (g : Choosing) (beside : Beside) (phase : ℕ → Phase) (current : ℕ
     board = h.board;
     more = h.more;
     same_there = h.same_there;
-    come = Goes h.gave (ap (λ (f : ℕ → Option (Work g)). f t) (sym table) ∙ new) h.leaves h.request (h.put ∙ ap (λ p. v.board ++ record { ticket = t; part = p } ∷ []) h.result);
+    come = Goes h.gave (ap (λ (f : ℕ → Option (Work g)). f t) (sym table) ∙ new) h.leaves h.request (h.put ∙ ap (λ p. v.board ++ record { ticket = t; part = p; is_stale = false } ∷ []) h.result);
   }
     where
       table : tab ≡ (λ j. entry_at j d.jobs)

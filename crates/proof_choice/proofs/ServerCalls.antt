@@ -39,7 +39,7 @@ no_posts named (p ∷ ps) (q ∷ qs) left e gives = absurd (cc)
 
 -- a board with the one result of a ticket
 abbrev only : (lower : ℕ) → board.Part → List Posted
-only lower part = record { ticket = lower; part = part } ∷ []
+only lower part = record { ticket = lower; part = part; is_stale = false } ∷ []
 
 abbrev place_at : Bool → Option ℕ
 place_at b = cond (nat_lt (cond (not b) (1 + 0) 0) (suc 0)) (Some (cond (not b) (1 + 0) 0)) None

@@ -89,7 +89,7 @@ numbers_are_tied c s = record {
       may = Calls (closed_at_once s v.place v.request) _ refl (Stays v.place tt);
       outs = refl;
       place = refl;
-      board = record { ticket = v.ticket; part = Err ConnectionClosed } ∷ [];
+      board = record { ticket = v.ticket; part = Err ConnectionClosed; is_stale = false } ∷ [];
       put = refl;
       gives = (here v.ticket v.request, refl, back_again v.ticket v.request);
       tied = is;

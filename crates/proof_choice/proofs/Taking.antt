@@ -77,7 +77,7 @@ module _ (g : Choosing) (beside : Beside) (phase : ℕ → Phase) (current : ℕ
         answers = λ j. each_number (λ j. numbers_of g d.jobs j ≡ numbers j) t (ap number_in is ∙ (ap (λ n. Some n) same ∙ sym was)) (λ j ne. kept j ne) j;
       }
       by (Goes z gone left request put) = record {
-        given = record { ticket = t; part = part_of z.result } ∷ [];
+        given = record { ticket = t; part = part_of z.result; is_stale = false } ∷ [];
         gave = z ∷ [];
         put = put;
         leaves = left;

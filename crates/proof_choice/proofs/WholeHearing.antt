@@ -10,7 +10,7 @@ use Rattle.client_request.specs.Composed.{composed}
 use Rattle.client_choice.specs.Choice.{Choice, hears_some, hears_one, settles_all, hears_all}
 use Rattle.client_choice.specs.Servers.{Server, onto}
 use Rattle.proof_right.specs.machine.Part.{Act}
-use Rattle.proof_right.specs.machine.Client.{Made, Move, Server_moves, Hands_on, Gives_up, Drops, Keeps_back, Delivers, Concludes, Times_out, Replies, Forgets, Derives, Answers, Takes_on, moved, hand, with_up}
+use Rattle.proof_right.specs.machine.Client.{Made, Move, Server_moves, Hands_on, Gives_up, Drops, Keeps_back, Delivers, Concludes, Times_out, Revives, Replies, Forgets, Derives, Answers, Takes_on, moved, hand, with_up}
 use Rattle.proof_parts.specs.Leading as moves
 use Rattle.proof_parts.specs.PartTie.{Phase, Untold, Passed, Leads, place_in}
 use Rattle.proof_parts.specs.Sharing.{Opens}
@@ -146,11 +146,12 @@ module _ (g : Choosing) where
   move_opens x _ (Delivers before after y a z on held waits is) = nothing_opens x.ups x.place
   move_opens x _ (Concludes k a y z held tried holds none best is) = nothing_opens x.ups x.place
   move_opens x _ (Times_out k a held late) = nothing_opens x.ups x.place
+  move_opens x _ (Revives before after y e m on fails there may) = nothing_opens x.ups x.place
   move_opens x _ (Replies before after y on) = nothing_opens x.ups x.place
   move_opens x _ (Forgets before after e on) = nothing_opens x.ups x.place
   move_opens x _ (Derives e k is covers) = nothing_opens x.ups x.place
   move_opens x _ (Answers r y is at) = nothing_opens x.ups x.place
-  move_opens x _ (Takes_on r o is composes some) = nothing_opens x.ups x.place
+  move_opens x _ (Takes_on r o old is composes some stored) = nothing_opens x.ups x.place
 
   moves_open : (x : State g) (outs : List Out) (y : State g) → moves.Leads g.st composed g.P x outs y → OpensNone x y
   moves_open _ _ _ (moves.Arrives x) = nothing_opens x.ups x.place

@@ -29,7 +29,7 @@ module _ (g : Choosing) (beside : Beside) (phase : ℕ → Phase) (current : ℕ
   -- What becomes of a request that was in hand: it waits in the table, or its result stands on the board, and leaves in the machine as a cache makes it.
   pub data HasCome (t k : ℕ) (v : View) (x : State g) (d : Choice Request g.U g.R) (w : View) (y : State g) : Type 0 where
     WaitsOn : (job : Work g) → entry_at t d.jobs ≡ Some job → job.number ≡ k → w.board ≡ v.board → y.leaving ≡ x.leaving → HasCome t k v x d w y
-    Goes : (z : Gave) → entry_at t d.jobs ≡ None → y.leaving ≡ x.leaving ++ leaving_of g.st z ∷ [] → z.request ≡ k → w.board ≡ v.board ++ record { ticket = t; part = part_of z.result } ∷ [] → HasCome t k v x d w y
+    Goes : (z : Gave) → entry_at t d.jobs ≡ None → y.leaving ≡ x.leaving ++ leaving_of g.st z ∷ [] → z.request ≡ k → w.board ≡ v.board ++ record { ticket = t; part = part_of z.result; is_stale = false } ∷ [] → HasCome t k v x d w y
 
   pub record HasDone (t k : ℕ) (table : ℕ → Option (Work g)) (rest : List Posted) (named : ℕ → ℕ → Option ℕ) (v : View) (x : State g) (d : Choice Request g.U g.R) (w : View) : Type 0 where
     pub named' : ℕ → ℕ → Option ℕ

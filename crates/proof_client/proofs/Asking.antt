@@ -108,7 +108,7 @@ module _ (g : Tying) where
 
     -- as the machine has it
     abbrev taken_on : State g
-    taken_on = take_on r x
+    taken_on = take_on r None x
 
     abbrev newest : Held
     newest = newcomer r x.now
@@ -174,7 +174,7 @@ module _ (g : Tying) where
           put = c.put;
         }
 
-    accepted : IfSome g (Happened v x b) (sends (machine_of g.T g.ticket) r (client_of u (a, v)) v.timers.next timed)
+    accepted : IfSome g (Happened v x b) (sends (machine_of g.T g.ticket g.stale) r (client_of u (a, v)) v.timers.next timed)
     accepted = by (g.T.send r u timed)
         (left_on Left After (g.T.send r u timed)
         (λ w y l. subst (λ n. Happened v x b (client_of w (replies (waits n v.timers.next waiting a, y)))) (sym is_numbered) (accepted_so w y l))
@@ -183,17 +183,17 @@ module _ (g : Tying) where
         After : g.V → View → Type 0
         After w y = Happened v x b (client_of w (replies (waits (g.ticket response) v.timers.next waiting a, y)))
 
-        by : (s : Option (g.V × View)) → IfLeft After s → IfSome g (Happened v x b) (option_and_then (λ z. Some (accepts (machine_of g.T g.ticket) v.timers.next a.next response a z)) s)
+        by : (s : Option (g.V × View)) → IfLeft After s → IfSome g (Happened v x b) (option_and_then (λ z. Some (accepts (machine_of g.T g.ticket g.stale) v.timers.next a.next response a z)) s)
         by None l = tt
         by (Some z) l = l
 
-    pub asks_it : IfSome g (Happened v x b) (asks_request (machine_of g.T g.ticket) (g.c).timeout r (client_of u (a, v)))
+    pub asks_it : IfSome g (Happened v x b) (asks_request (machine_of g.T g.ticket g.stale) (g.c).timeout r (client_of u (a, v)))
     asks_it = by_next (can_draw a.next)
       where
-        by_timer : (s : Bool) → IfSome g (Happened v x b) (option_and_then (sends (machine_of g.T g.ticket) r (client_of u (a, v)) v.timers.next) (if s then Some timed else None))
+        by_timer : (s : Bool) → IfSome g (Happened v x b) (option_and_then (sends (machine_of g.T g.ticket g.stale) r (client_of u (a, v)) v.timers.next) (if s then Some timed else None))
         by_timer false = tt
         by_timer true = accepted
 
-        by_next : (s : Bool) → IfSome g (Happened v x b) (if s then option_and_then (sends (machine_of g.T g.ticket) r (client_of u (a, v)) v.timers.next) (sets_timer (v.now + (g.c).timeout) (record v { request = a.next })) else None)
+        by_next : (s : Bool) → IfSome g (Happened v x b) (if s then option_and_then (sends (machine_of g.T g.ticket g.stale) r (client_of u (a, v)) v.timers.next) (sets_timer (v.now + (g.c).timeout) (record v { request = a.next })) else None)
         by_next false = tt
         by_next true = by_timer (can_draw v.timers.next)

@@ -85,7 +85,7 @@ module _ (g : Tying) where
     pub after_call : Called phase e w v y.more start x b (replies (a, y))
     after_call =
         subst (λ (o : List OnBoard). Called phase e w v y.more start x b (replies_many (length o) (a, record y { board = o }))) (sym (l.posted ∙ ap (λ (o : List OnBoard). o ++ l.board) board))
-        (called_on (settles_all g phase e named w l.board l.leaving a y l.end l.kept fits_on l.gives))
+        (called_on (settles_all g phase e named w l.board l.leaving a y l.end l.kept fits_on l.gives l.marked))
 
   -- The client
 

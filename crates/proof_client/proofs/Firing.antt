@@ -1,21 +1,23 @@
 -- A timer fires: a deadline, or one of the transport.
-use Rattle.std.proofs.Common.{◌≡◌, ℕ, ◌+◌, ◌<◌, ◌≤◌, true, false, is_some, List, [], ◌∷◌, ◌++◌, length, map, Option, Some, None, Err, refl, sym, ap, ap₂, subst, subst₂, ◌∙◌, arith}
+use Rattle.std.proofs.Common.{◌≡◌, ℕ, ◌+◌, ◌<◌, ◌≤◌, true, false, is_some, List, [], ◌∷◌, ◌++◌, length, map, Option, Some, None, Ok, Err, refl, sym, ap, ap₂, subst, subst₂, ◌∙◌, arith, append_assoc}
 use Rattle.std.specs.Prelude.{option_and_then}
 use Rattle.client_request.specs.Composed.{composed}
 use Rattle.client_request.specs.Numbered.{entry_at, frees}
 use Rattle.client_request.specs.Timers.{cancelled, without_timer}
-use Rattle.client_request.specs.View.{View, asks, due_timer}
+use Rattle.client_request.specs.View.{View, due_timer}
 use Rattle.client_request.specs.declared.board.Posted.{Posted as OnBoard}
 use Rattle.client_request.specs.declared.error.Error.TheVariants.{TimedOut}
-use Rattle.client_request.specs.declared.event.Out.TheVariants.{Reply}
+use Rattle.client_request.specs.declared.event.Out.{Out}
+use Rattle.client_request.specs.declared.event.Out.TheVariants.{Stale, Reply}
 use Rattle.client_request.specs.declared.event.What.{What}
-use Rattle.proof_right.specs.machine.Client.{Leaving, Waiting as Held, Move, Times_out, Replies, leave, store, unmade}
+use Rattle.right_trace.specs.Messages.{Octets}
+use Rattle.proof_right.specs.machine.Client.{Leaving, Waiting as Held, Move, Times_out, Revives, Replies, leave, revive, unmade, with_held}
 use Rattle.right_trace.specs.Updates.{with_at}
-use Rattle.proof_parts.specs.ClientTie.{LeadsBeside, Then, Leaves, LeavesQuietly, reply_of}
+use Rattle.proof_parts.specs.ClientTie.{StandsIn, LeadsBeside, Then, Leaves, LeavesQuietly, reply_of}
 use Rattle.proof_parts.specs.PartTie.{Phase, Untold, Told, Passed as IsPassed, Leads as IfLeft}
 use Rattle.proof_parts.specs.Sights.{sight, due_of, IsFair}
 use Rattle.proof_client.specs.Above.{Tying}
-use Rattle.client_steps.specs.Client.{client_of, settles, hears, times_out, fire, fires_at, without_late, replies, replies_many}
+use Rattle.client_steps.specs.Client.{client_of, late_reply, settles, hears, times_out, fire, fires_at, without_late, replies, replies_many}
 use Rattle.client_steps.specs.Machines.{machine_of}
 use Rattle.client_steps.specs.declared.asked.Waiting.{Waiting}
 use Rattle.client_steps.proofs.Tables.{frees_nothing}
@@ -35,6 +37,15 @@ left_on A B (Some x) f l = f x.0 x.1 l
 pub there : {A : Type 0} → (o : Option A) → is_some o ≡ true → (a : A) × (o ≡ Some a)
 there None e = absurd (cc)
 there (Some a) e = (a, refl)
+
+-- what is put out of a request whose deadline passed
+abbrev pub late_outs : (number : ℕ) → Option Octets → List Out
+late_outs n None = Reply n (Err TimedOut) ∷ []
+late_outs n (Some m) = Stale n ∷ Reply n (Ok m) ∷ []
+
+late_is : (n : ℕ) (o : Option Octets) (v : View) → late_reply n o v ≡ record v { outs = v.outs ++ late_outs n o }
+late_is n None v = refl
+late_is n (Some m) v = ap (λ (os : List Out). record v { outs = os }) (append_assoc v.outs (Stale n ∷ []) (Reply n (Ok m) ∷ []))
 
 module _ (g : Tying) where
   -- C holds of the client that comes, if one does
@@ -71,7 +82,7 @@ module _ (g : Tying) where
 
   module _ (phase : Phase) (e : What) (u : g.V) (a : Requests g) (v : View) (x : State g) (b : Kept g) (f : Fits g phase e (g.names u) u [] a v x b) (board : v.board ≡ []) (i due : ℕ) (set : due_of i v.timers.set ≡ Some due) (passed : due ≤ v.now) where
     -- the transport's own timer
-    own_fires : entry_at i a.deadlines ≡ None → IfSome (Comes g phase e (record v { timers = cancelled i v.timers }) x b) (hears (machine_of g.T g.ticket) (due_timer i) (client_of u (a, record v { timers = cancelled i v.timers })))
+    own_fires : entry_at i a.deadlines ≡ None → IfSome (Comes g phase e (record v { timers = cancelled i v.timers }) x b) (hears (machine_of g.T g.ticket g.stale) (due_timer i) (client_of u (a, record v { timers = cancelled i v.timers })))
     own_fires none =
         heard (Comes g phase e after x b) a (g.T.step (due_timer i) u after)
         (left_on (Leaves g.st g.P g.B g.T g.IsHanded g.Tied g.names g.Owns (g.names u) x x b u after phase) (λ w y. Comes g phase e after x b (client_of w (replies (a, y)))) (g.T.step (due_timer i) u after)
@@ -122,14 +133,21 @@ module _ (g : Tying) where
     abbrev asking : (a : Held) × (x.held w.number ≡ Some a)
     asking = ask (Untold row) e u a v x b f board i due set passed k is w waits timer
 
+    abbrev after : View
+    after = record v { timers = cancelled i v.timers }
+
+    -- what stands in for its result
+    abbrev instead : Option Octets
+    instead = g.stale w.response u after
+
     abbrev reply : View
-    reply = asks (Reply w.number (Err TimedOut)) (record v { timers = cancelled i v.timers })
+    reply = record after { outs = v.outs ++ late_outs w.number instead }
 
     abbrev late : Leaving
-    late = record { request = w.number; asked = (asking.0).request; result = Err TimedOut; is_stored = false }
+    late = record { request = w.number; asked = (asking.0).request; result = Err TimedOut; is_stored = false; stale = None }
 
     abbrev left : State g
-    left = record (leave late x) { leaving = []; stored = store x.now late x.stored }
+    left = record x { held = with_held w.number None x.held; leaving = [] }
 
     -- it times out, and its reply is put out
 
@@ -139,9 +157,25 @@ module _ (g : Tying) where
     leaves_it : (leave late x).leaving ≡ [] ++ late ∷ []
     leaves_it = ap (λ (l : List Leaving). l ++ late ∷ []) f.leaving
 
-    leads_there : LeadsBeside g.st g.P g.B x b (Reply w.number (Err TimedOut) ∷ []) left b
-    leads_there = Then x b (unmade (leave late x)) b (Reply w.number (Err TimedOut) ∷ []) left b times_it ((g.B).below x (unmade (leave late x)) times_it b tt)
-        (one_move g.st g.P g.B (leave late x) b (record { state = left; outs = Reply w.number (Err TimedOut) ∷ [] }) b (Replies [] [] late leaves_it) ((g.B).unstored (leave late x) [] [] late leaves_it b refl))
+    told_so : StandsIn g.st x.now (asking.0).request (x.expired w.number) instead
+    told_so =
+        g.tie.expires u after x b row w.response w.number asking.0 (tied_without g (Untold row) e (g.names u) u a v x b i k f.fair f.holds is f.tied)
+        (subst (λ n. g.names u n ≡ Some w.number) (sym (own.response).0) own.named) ((own.response).1 w.number own.named) asking.1
+
+    late_leads : (o : Option Octets) → StandsIn g.st x.now (asking.0).request (x.expired w.number) o → LeadsBeside g.st g.P g.B x b (late_outs w.number o) left b
+    late_leads None none = Then x b (unmade (leave late x)) b (late_outs w.number None) left b times_it ((g.B).below x (unmade (leave late x)) times_it b tt)
+        (one_move g.st g.P g.B (leave late x) b (record { state = left; outs = late_outs w.number None }) b (Replies [] [] late leaves_it) ((g.B).unstored (leave late x) [] [] late leaves_it b refl (λ n fails. none)))
+    late_leads (Some m) old = Then x b (unmade (leave late x)) b (late_outs w.number (Some m)) left b times_it ((g.B).below x (unmade (leave late x)) times_it b tt)
+        (Then (leave late x) b (unmade (record (leave late x) { leaving = revive m late ∷ [] })) b (late_outs w.number (Some m)) left b
+        (Revives [] [] late old.0 m leaves_it refl old.1 old.2) ((g.B).revives (leave late x) [] [] late old.0 m leaves_it refl old.1 old.2 b)
+        (one_move g.st g.P g.B (record (leave late x) { leaving = revive m late ∷ [] }) b (record { state = left; outs = late_outs w.number (Some m) }) b (Replies [] [] (revive m late) refl)
+        ((g.B).unstored (record (leave late x) { leaving = revive m late ∷ [] }) [] [] (revive m late) refl b refl (λ n. absurd (not_none m n)))))
+      where
+        not_none : (m : Octets) → Some m ≡ None → ⊥
+        not_none m e = cc
+
+    leads_there : LeadsBeside g.st g.P g.B x b (late_outs w.number instead) left b
+    leads_there = late_leads instead told_so
 
     holds_left : Holds g e (with_at (g.ticket w.response) None (g.names u)) u (without_late i (Some k) a) reply left
     holds_left =
@@ -160,43 +194,44 @@ module _ (g : Tying) where
     is_cancelled : (w' : g.V) (y : View) → LeavesQuietly g.st g.P g.B g.T g.IsHanded g.Tied g.names g.Owns (with_at (g.ticket w.response) None (g.names u)) left b u reply (Untold row) w' y
         → Comes g (Untold row) e (record v { timers = cancelled i v.timers }) x b (client_of w' (without_late i (Some k) a, y))
     is_cancelled w' y l =
-        comes_then g (Untold row) e (record v { timers = cancelled i v.timers }) reply x b (client_of w' (without_late i (Some k) a, y)) left b (Reply w.number (Err TimedOut) ∷ []) leads_there refl refl
+        comes_then g (Untold row) e (record v { timers = cancelled i v.timers }) reply x b (client_of w' (without_late i (Some k) a, y)) left b (late_outs w.number instead) leads_there refl refl
         (comes_of g (Untold row) e w' reply y.more left b (without_late i (Some k) a, y)
         (subst (λ r. Called g (Untold row) e w' reply y.more left left b r) (nothing_to_reply (without_late i (Some k) a) y (l.leaves.posted ∙ ap₂ (λ (c d : List OnBoard). c ++ d) board l.nothing))
         (after_call g (Untold row) e (with_at (g.ticket w.response) None (g.names u)) u (without_late i (Some k) a) reply left left b w' y holds_left refl fair_left board l.leaves
         (stand_on g (without_late i (Some k) a) u w' (λ j n named. (was_there (g.ticket w.response) (g.names u) j n
         (named_before (with_at (g.ticket w.response) None (g.names u)) l.leaves.board (map reply_of l.leaves.leaving) (g.names w') l.leaves.gives j n named)).1)))))
 
-    times_it_out : IfSome (Comes g (Untold row) e (record v { timers = cancelled i v.timers }) x b) (times_out (machine_of g.T g.ticket) (client_of u (without_late i (Some k) a, record v { timers = cancelled i v.timers })) (Some w))
+    times_it_out : IfSome (Comes g (Untold row) e (record v { timers = cancelled i v.timers }) x b) (times_out (machine_of g.T g.ticket g.stale) (client_of u (without_late i (Some k) a, record v { timers = cancelled i v.timers })) (Some w))
     times_it_out =
-        given_up (Comes g (Untold row) e (record v { timers = cancelled i v.timers }) x b) (without_late i (Some k) a) (g.T.cancel w.response u reply)
+        subst (λ y. IfSome (Comes g (Untold row) e (record v { timers = cancelled i v.timers }) x b) (option_and_then (λ z. Some (client_of z.0 (without_late i (Some k) a, z.1))) (g.T.cancel w.response u y))) (sym (late_is w.number instead after))
+        (given_up (Comes g (Untold row) e (record v { timers = cancelled i v.timers }) x b) (without_late i (Some k) a) (g.T.cancel w.response u reply)
         (left_on (LeavesQuietly g.st g.P g.B g.T g.IsHanded g.Tied g.names g.Owns (with_at (g.ticket w.response) None (g.names u)) left b u reply (Untold row))
         (λ w' y. Comes g (Untold row) e (record v { timers = cancelled i v.timers }) x b (client_of w' (without_late i (Some k) a, y))) (g.T.cancel w.response u reply)
         is_cancelled
         (g.tie.cancels u reply x left b row w.response w.number (tied_without g (Untold row) e (g.names u) u a v x b i k f.fair f.holds is f.tied) f.leaving fair_left
         (subst (λ n. g.names u n ≡ Some w.number) (sym (own.response).0) own.named) ((own.response).1 w.number own.named)
-        (record { held = refl; ups = refl; place = refl; board = refl; now = refl; leaving = sym f.leaving; stored = refl })))
+        (record { held = refl; ups = refl; place = refl; board = refl; now = refl; asked = refl; leaving = sym f.leaving; stored = refl; expired = refl }))))
 
   module _ (phase : Phase) (e : What) (u : g.V) (a : Requests g) (v : View) (x : State g) (b : Kept g) (f : Fits g phase e (g.names u) u [] a v x b) (board : v.board ≡ []) (i due : ℕ) (set : due_of i v.timers.set ≡ Some due) (passed : due ≤ v.now) (may : MayFire phase x) where
     -- what one timer does
     abbrev Fired : Option (PlainClient g) → Type 0
     Fired o = IfSome (Comes g phase e (record v { timers = cancelled i v.timers }) x b) o
 
-    deadline_fires : (k : ℕ) (w : Waiting g.Q) → entry_at i a.deadlines ≡ Some k → entry_at k a.waiting ≡ Some w → w.timer ≡ i → Fired (times_out (machine_of g.T g.ticket) (client_of u (without_late i (Some k) a, record v { timers = cancelled i v.timers })) (Some w))
+    deadline_fires : (k : ℕ) (w : Waiting g.Q) → entry_at i a.deadlines ≡ Some k → entry_at k a.waiting ≡ Some w → w.timer ≡ i → Fired (times_out (machine_of g.T g.ticket g.stale) (client_of u (without_late i (Some k) a, record v { timers = cancelled i v.timers })) (Some w))
     deadline_fires k w is waits timer = by phase f may
       where
-        by : (phase : Phase) → Fits g phase e (g.names u) u [] a v x b → MayFire phase x → IfSome (Comes g phase e (record v { timers = cancelled i v.timers }) x b) (times_out (machine_of g.T g.ticket) (client_of u (without_late i (Some k) a, record v { timers = cancelled i v.timers })) (Some w))
+        by : (phase : Phase) → Fits g phase e (g.names u) u [] a v x b → MayFire phase x → IfSome (Comes g phase e (record v { timers = cancelled i v.timers }) x b) (times_out (machine_of g.T g.ticket g.stale) (client_of u (without_late i (Some k) a, record v { timers = cancelled i v.timers })) (Some w))
         by (Untold row) f may = times_it_out row e u a v x b f board i due set passed k is w waits timer
         by (Told p left) f may = absurd (none_late (Told p left) e u a v x b f board i due set passed k is w waits timer may)
         by (IsPassed row) f may = absurd (none_late (IsPassed row) e u a v x b f board i due set passed k is w waits timer may)
 
-    pub one_fires : Fired (fire (machine_of g.T g.ticket) i (client_of u (a, record v { timers = cancelled i v.timers })))
+    pub one_fires : Fired (fire (machine_of g.T g.ticket g.stale) i (client_of u (a, record v { timers = cancelled i v.timers })))
     one_fires = by (entry_at i a.deadlines) refl
       where
-        by : (o : Option ℕ) → entry_at i a.deadlines ≡ o → Fired (fires_at (machine_of g.T g.ticket) i (client_of u (a, record v { timers = cancelled i v.timers })) o)
-        by None none = subst (λ ds. Fired (hears (machine_of g.T g.ticket) (due_timer i) (client_of u (record a { deadlines = ds }, record v { timers = cancelled i v.timers }))))
+        by : (o : Option ℕ) → entry_at i a.deadlines ≡ o → Fired (fires_at (machine_of g.T g.ticket g.stale) i (client_of u (a, record v { timers = cancelled i v.timers })) o)
+        by None none = subst (λ ds. Fired (hears (machine_of g.T g.ticket g.stale) (due_timer i) (client_of u (record a { deadlines = ds }, record v { timers = cancelled i v.timers }))))
             (sym (frees_nothing i a.deadlines none)) (own_fires phase e u a v x b f board i due set passed none)
         by (Some k) is =
             let l = f.holds.kept.late i k is in
-            subst (λ o. Fired (times_out (machine_of g.T g.ticket) (client_of u (without_late i (Some k) a, record v { timers = cancelled i v.timers })) o)) (sym l.1)
+            subst (λ o. Fired (times_out (machine_of g.T g.ticket g.stale) (client_of u (without_late i (Some k) a, record v { timers = cancelled i v.timers })) o)) (sym l.1)
             (deadline_fires k l.0 is l.1 l.2)

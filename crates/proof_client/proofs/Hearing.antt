@@ -46,7 +46,7 @@ module _ (g : Tying) where
   module _ (e : What) where
     hears_it : (h : Heard) (phase : Phase) (MayBe : (place left : ℕ) → Type 0) (d : PlainClient g) (x : State g) (b : Kept g) (t : IsTied g phase e d x b)
         → IfLeft (Tells g.st g.P g.B g.T g.IsHanded g.Tied g.names g.Owns x b d.layer (record d.view { more = false }) MayBe) (g.T.step h d.layer (record d.view { more = false }))
-        → IfSome g (IsHeard e MayBe d.view x b) (hears (machine_of g.T g.ticket) h (calm d))
+        → IfSome g (IsHeard e MayBe d.view x b) (hears (machine_of g.T g.ticket g.stale) h (calm d))
     hears_it h phase MayBe d x b t l =
         heard g (IsHeard e MayBe d.view x b) d.asked (g.T.step h u v)
         (left_on (Tells g.st g.P g.B g.T g.IsHanded g.Tied g.names g.Owns x b u v MayBe) (λ w y. IsHeard e MayBe d.view x b (client_of w (replies (d.asked, y)))) (g.T.step h u v)
@@ -70,12 +70,12 @@ module _ (g : Tying) where
         v = record d.view { more = false }
 
     -- it is told
-    pub tells_it : (w : What) (p : ℕ) (d : PlainClient g) (x : State g) (b : Kept g) → place_in w ≡ Some p → IsTied g (Untold w) e d x b → IsEarly d.view → IfSome g (IsHeard e (MayLeave w) d.view x b) (tells (machine_of g.T g.ticket) w d)
+    pub tells_it : (w : What) (p : ℕ) (d : PlainClient g) (x : State g) (b : Kept g) → place_in w ≡ Some p → IsTied g (Untold w) e d x b → IsEarly d.view → IfSome g (IsHeard e (MayLeave w) d.view x b) (tells (machine_of g.T g.ticket g.stale) w d)
     tells_it w p d x b at t early = hears_it (told w) (Untold w) (MayLeave w) d x b t
         (g.tie.tells d.layer (record d.view { more = false }) x b w p t.fits.tied t.fits.leaving (as_fair d t.fits.fair) early refl at)
 
     -- a frame is taken
-    takes_it : (p n : ℕ) (d : PlainClient g) (x : State g) (b : Kept g) → IsTied g (Told p (suc n)) e d x b → IfSome g (IsHeard e (λ q left. (q ≡ p) × (left ≤ n)) d.view x b) (next_frame (machine_of g.T g.ticket) p d)
+    takes_it : (p n : ℕ) (d : PlainClient g) (x : State g) (b : Kept g) → IsTied g (Told p (suc n)) e d x b → IfSome g (IsHeard e (λ q left. (q ≡ p) × (left ≤ n)) d.view x b) (next_frame (machine_of g.T g.ticket g.stale) p d)
     takes_it p n d x b t = hears_it (more_at p) (Told p (suc n)) (λ q left. (q ≡ p) × (left ≤ n)) d x b t
         (g.tie.takes d.layer (record d.view { more = false }) x b p n t.fits.tied t.fits.leaving (as_fair d t.fits.fair) refl)
 
@@ -87,26 +87,26 @@ module _ (g : Tying) where
       pub comes : Comes g (Told p left) e v from b d
 
     -- the frames behind the first
-    pub frames_do : (p n left : ℕ) (d : PlainClient g) (x : State g) (b : Kept g) → IsTied g (Told p left) e d x b → AreInTime g x → left ≤ n → d.view.more ≡ nat_lt 0 left → IfSome g (Comes g (Told p 0) e d.view x b) (more_frames (machine_of g.T g.ticket) p n d)
+    pub frames_do : (p n left : ℕ) (d : PlainClient g) (x : State g) (b : Kept g) → IsTied g (Told p left) e d x b → AreInTime g x → left ≤ n → d.view.more ≡ nat_lt 0 left → IfSome g (Comes g (Told p 0) e d.view x b) (more_frames (machine_of g.T g.ticket g.stale) p n d)
     frames_do p zero left d x b t early le more = stays g (Told p 0) e d x b (subst (λ l. IsTied g (Told p l) e d x b) (none left le) t)
       where
         none : (l : ℕ) → l ≤ 0 → l ≡ 0
         none l le = omega arith
     frames_do p (suc n) zero d x b t early le more =
-        subst (λ (s : Bool). IfSome g (Comes g (Told p 0) e d.view x b) (if s then option_and_then (more_frames (machine_of g.T g.ticket) p n) (option_and_then (next_frame (machine_of g.T g.ticket) p) (fires_all (machine_of g.T g.ticket) d)) else Some d)) (sym more)
+        subst (λ (s : Bool). IfSome g (Comes g (Told p 0) e d.view x b) (if s then option_and_then (more_frames (machine_of g.T g.ticket g.stale) p n) (option_and_then (next_frame (machine_of g.T g.ticket g.stale) p) (fires_all (machine_of g.T g.ticket g.stale) d)) else Some d)) (sym more)
         (stays g (Told p 0) e d x b t)
     frames_do p (suc n) (suc l) d x b t early le more =
-        subst (λ (s : Bool). IfSome g (Comes g (Told p 0) e d.view x b) (if s then option_and_then (more_frames (machine_of g.T g.ticket) p n) (option_and_then (next_frame (machine_of g.T g.ticket) p) (fires_all (machine_of g.T g.ticket) d)) else Some d)) (sym (more ∙ some l))
-        (some_then g (IsTaken p l d.view x b) (Comes g (Told p 0) e d.view x b) (more_frames (machine_of g.T g.ticket) p n) (option_and_then (next_frame (machine_of g.T g.ticket) p) (fires_all (machine_of g.T g.ticket) d))
-        (some_then g (Rested g (Told p (suc l)) e d.view x b) (IsTaken p l d.view x b) (next_frame (machine_of g.T g.ticket) p) (fires_all (machine_of g.T g.ticket) d) (all_fire g (Told p (suc l)) e d x b t early)
-        (λ d1 r. some_on g (IsHeard e (λ q left. (q ≡ p) × (left ≤ l)) d1.view r.comes.end r.comes.beside) (IsTaken p l d.view x b) (next_frame (machine_of g.T g.ticket) p d1) (takes_it p l d1 r.comes.end r.comes.beside r.comes.tied)
+        subst (λ (s : Bool). IfSome g (Comes g (Told p 0) e d.view x b) (if s then option_and_then (more_frames (machine_of g.T g.ticket g.stale) p n) (option_and_then (next_frame (machine_of g.T g.ticket g.stale) p) (fires_all (machine_of g.T g.ticket g.stale) d)) else Some d)) (sym (more ∙ some l))
+        (some_then g (IsTaken p l d.view x b) (Comes g (Told p 0) e d.view x b) (more_frames (machine_of g.T g.ticket g.stale) p n) (option_and_then (next_frame (machine_of g.T g.ticket g.stale) p) (fires_all (machine_of g.T g.ticket g.stale) d))
+        (some_then g (Rested g (Told p (suc l)) e d.view x b) (IsTaken p l d.view x b) (next_frame (machine_of g.T g.ticket g.stale) p) (fires_all (machine_of g.T g.ticket g.stale) d) (all_fire g (Told p (suc l)) e d x b t early)
+        (λ d1 r. some_on g (IsHeard e (λ q left. (q ≡ p) × (left ≤ l)) d1.view r.comes.end r.comes.beside) (IsTaken p l d.view x b) (next_frame (machine_of g.T g.ticket g.stale) p d1) (takes_it p l d1 r.comes.end r.comes.beside r.comes.tied)
         (λ d2 h. record {
           left = h.left;
           few = h.may_be.1;
           stands = h.stands;
           comes = comes_then g (Told p h.left) e d.view d1.view x b d2 r.comes.end r.comes.beside r.comes.outs r.comes.leads r.comes.asked r.comes.put (subst (λ q. Comes g (Told q h.left) e d1.view r.comes.end r.comes.beside d2) h.may_be.0 h.comes);
         })))
-        (λ d2 k. some_on g (Comes g (Told p 0) e d2.view k.comes.end k.comes.beside) (Comes g (Told p 0) e d.view x b) (more_frames (machine_of g.T g.ticket) p n d2)
+        (λ d2 k. some_on g (Comes g (Told p 0) e d2.view k.comes.end k.comes.beside) (Comes g (Told p 0) e d.view x b) (more_frames (machine_of g.T g.ticket g.stale) p n d2)
         (frames_do p n k.left d2 k.comes.end k.comes.beside k.comes.tied (keeps_time g (Told p k.left) e d.view x b d2 k.comes early) (fewer k.left l n k.few le) k.stands)
         (λ d3 c. comes_then g (Told p 0) e d.view d2.view x b d3 k.comes.end k.comes.beside k.comes.outs k.comes.leads k.comes.asked k.comes.put c)))
       where
@@ -117,10 +117,10 @@ module _ (g : Tying) where
         fewer a l n le lt = omega arith
 
     -- octets come at a place
-    pub bytes_do : (p : ℕ) (o : List ℕ) (d : PlainClient g) (x : State g) (b : Kept g) → IsTied g (Untold (Bytes p o)) e d x b → IsEarly d.view → AreInTime g x → IfSome g (Comes g (Told p 0) e d.view x b) (brings (machine_of g.T g.ticket) p o d)
+    pub bytes_do : (p : ℕ) (o : List ℕ) (d : PlainClient g) (x : State g) (b : Kept g) → IsTied g (Untold (Bytes p o)) e d x b → IsEarly d.view → AreInTime g x → IfSome g (Comes g (Told p 0) e d.view x b) (brings (machine_of g.T g.ticket g.stale) p o d)
     bytes_do p o d x b t early in_time =
-        some_then g (IsHeard e (MayLeave (Bytes p o)) d.view x b) (Comes g (Told p 0) e d.view x b) (more_frames (machine_of g.T g.ticket) p (length o)) (tells (machine_of g.T g.ticket) (Bytes p o) d) (tells_it (Bytes p o) p d x b refl t early)
+        some_then g (IsHeard e (MayLeave (Bytes p o)) d.view x b) (Comes g (Told p 0) e d.view x b) (more_frames (machine_of g.T g.ticket g.stale) p (length o)) (tells (machine_of g.T g.ticket g.stale) (Bytes p o) d) (tells_it (Bytes p o) p d x b refl t early)
         (λ d1 h. (let c = subst (λ q. Comes g (Told q h.left) e d.view x b d1) (sym h.may_be.0) h.comes in
-        some_on g (Comes g (Told p 0) e d1.view c.end c.beside) (Comes g (Told p 0) e d.view x b) (more_frames (machine_of g.T g.ticket) p (length o) d1)
+        some_on g (Comes g (Told p 0) e d1.view c.end c.beside) (Comes g (Told p 0) e d.view x b) (more_frames (machine_of g.T g.ticket g.stale) p (length o) d1)
         (frames_do p (length o) h.left d1 c.end c.beside c.tied (keeps_time g (Told p h.left) e d.view x b d1 c in_time) h.may_be.1 h.stands)
         (λ d2 k. comes_then g (Told p 0) e d.view d1.view x b d2 c.end c.beside c.outs c.leads c.asked c.put k)))

@@ -5,7 +5,7 @@ use Rattle.client_request.specs.declared.event.Out.{Out}
 use Rattle.right_trace.specs.Trace.{Conf}
 use Rattle.right_trace.specs.Settings.{Settings}
 use Rattle.proof_right.specs.machine.Part.{ServerPart}
-use Rattle.proof_right.specs.machine.Client.{Waiting, Upper, Made, Move, Moves, IsDone, Server_moves, Hands_on, Gives_up, Drops, Keeps_back, Delivers, Concludes, Times_out, Replies, Forgets, Derives, Answers, Takes_on}
+use Rattle.proof_right.specs.machine.Client.{Waiting, Upper, Made, Move, Moves, IsDone, Server_moves, Hands_on, Gives_up, Drops, Keeps_back, Delivers, Concludes, Times_out, Revives, Replies, Forgets, Derives, Answers, Takes_on}
 use Rattle.proof_parts.specs.ClientTie.{Beside, LeadsBeside, Arrives, Then, AllBeside, WereTried}
 use Rattle.proof_client.proofs.Desk.{as_before, was_there, is_or_was}
 
@@ -82,11 +82,12 @@ module _ {c : Conf} (st : Settings) (P : ServerPart c) (B : Beside st P) where
   move_later x _ (Delivers before after y a z board held final is) = stays_so x _ refl refl (goes z.request x.held _ (λ j b e. was_there z.request x.held j b e))
   move_later x _ (Concludes k a y z held tried free none best is) = stays_so x _ refl refl (goes z.request x.held _ (λ j b e. was_there z.request x.held j b e))
   move_later x _ (Times_out k a held late) = stays_so x _ refl refl (goes k x.held _ (λ j b e. was_there k x.held j b e))
+  move_later x _ (Revives before after y e m leaving fails there may) = stays_so x _ refl refl (as_before x.held)
   move_later x _ (Replies before after y leaving) = stays_so x _ refl refl (as_before x.held)
   move_later x _ (Forgets before after e stored) = stays_so x _ refl refl (as_before x.held)
   move_later x _ (Derives e k is covers) = stays_so x _ refl refl (as_before x.held)
   move_later x _ (Answers r y pending at_once) = takes_one x _ refl refl
-  move_later x _ (Takes_on r o pending composes some) = takes_one x _ refl refl
+  move_later x _ (Takes_on r o old pending composes some stored) = takes_one x _ refl refl
 
   -- what many leave
   pub leads_later : (x : Upper P.State) (e : B.Kept) (outs : List Out) (y : Upper P.State) (f : B.Kept) → LeadsBeside st P B x e outs y f → IsLater x y

@@ -44,13 +44,13 @@ module _ (g : Tying) where
   module _ (phase : Phase) (e : What) where
     -- what comes of so many timers
     abbrev FiresDo : ℕ → Type 0
-    FiresDo n = (d : PlainClient g) (x : State g) (b : Kept g) → IsTied g phase e d x b → MayFire g phase x → IfSome g (Rested phase e d.view x b) (fires (machine_of g.T g.ticket) n d)
+    FiresDo n = (d : PlainClient g) (x : State g) (b : Kept g) → IsTied g phase e d x b → MayFire g phase x → IfSome g (Rested phase e d.view x b) (fires (machine_of g.T g.ticket g.stale) n d)
 
     fires_do : (n : ℕ) → FiresDo n
     fires_do zero d x b tied may = tt
     fires_do (suc n) d x b tied may = by (due_now d.view.now d.view.timers.set) refl (fires_do n)
       where
-        by : (y : Option Timer) → due_now d.view.now d.view.timers.set ≡ y → FiresDo n → IfSome g (Rested phase e d.view x b) (fires_first (machine_of g.T g.ticket) (fires (machine_of g.T g.ticket) n) d y)
+        by : (y : Option Timer) → due_now d.view.now d.view.timers.set ≡ y → FiresDo n → IfSome g (Rested phase e d.view x b) (fires_first (machine_of g.T g.ticket g.stale) (fires (machine_of g.T g.ticket g.stale) n) d y)
         by None none ih = record {
           comes = stays phase e d x b tied;
           early = λ i due s. (let l = listed_due i due d.view.timers.set s in subst (λ due. d.view.now < due) l.2 (rests_now d.view.now d.view.timers.set none l.0 l.1));
@@ -59,14 +59,14 @@ module _ (g : Tying) where
             let first = fires_now d.view.now d.view.timers.set t some in
             let is = due_listed t 0 d.view.timers.next d.view.timers.set tied.fits.fair.order first.0 in
             let v0 : View = record d.view { timers = cancelled t.id d.view.timers } in
-            subst (λ y. IfSome g (Rested phase e d.view x b) (option_and_then (fires (machine_of g.T g.ticket) n) (fire (machine_of g.T g.ticket) t.id (record d { view = record d.view { timers = fired_at d.view.timers y } })))) (sym some)
-            (some_then g (Comes g phase e v0 x b) (Rested phase e d.view x b) (fires (machine_of g.T g.ticket) n) (fire (machine_of g.T g.ticket) t.id (record d { view = v0 }))
+            subst (λ y. IfSome g (Rested phase e d.view x b) (option_and_then (fires (machine_of g.T g.ticket g.stale) n) (fire (machine_of g.T g.ticket g.stale) t.id (record d { view = record d.view { timers = fired_at d.view.timers y } })))) (sym some)
+            (some_then g (Comes g phase e v0 x b) (Rested phase e d.view x b) (fires (machine_of g.T g.ticket g.stale) n) (fire (machine_of g.T g.ticket g.stale) t.id (record d { view = v0 }))
             (one_fires g phase e d.layer d.asked d.view x b tied.fits tied.board t.id t.due is first.1 may)
-            (λ d1 c. some_on g (Rested phase e d1.view c.end c.beside) (Rested phase e d.view x b) (fires (machine_of g.T g.ticket) n d1)
+            (λ d1 c. some_on g (Rested phase e d1.view c.end c.beside) (Rested phase e d.view x b) (fires (machine_of g.T g.ticket g.stale) n d1)
             (ih d1 c.end c.beside c.tied (may_fire phase e v0 x b d1 c may))
             (λ d2 r. record { comes = comes_then g phase e d.view d1.view x b d2 c.end c.beside c.outs c.leads c.asked c.put r.comes; early = r.early })))
 
-    pub all_fire : (d : PlainClient g) (x : State g) (b : Kept g) → IsTied g phase e d x b → MayFire g phase x → IfSome g (Rested phase e d.view x b) (fires_all (machine_of g.T g.ticket) d)
+    pub all_fire : (d : PlainClient g) (x : State g) (b : Kept g) → IsTied g phase e d x b → MayFire g phase x → IfSome g (Rested phase e d.view x b) (fires_all (machine_of g.T g.ticket g.stale) d)
     all_fire d x b tied may = fires_do most_timers d x b tied may
 
   -- where no timer is due, those who are tried are in time

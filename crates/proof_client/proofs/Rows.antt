@@ -62,11 +62,11 @@ module _ (g : Tying) where
   }
 
   -- what an event does
-  happens_do : (w : What) (d : PlainClient g) (x : State g) (b : Kept g) → IsAskedInOctets w → IsTied g (Untold w) w d x b → IsEarly d.view → IfSome g (Happened g d.view x b) (happens (machine_of g.T g.ticket) (g.c).timeout w d)
+  happens_do : (w : What) (d : PlainClient g) (x : State g) (b : Kept g) → IsAskedInOctets w → IsTied g (Untold w) w d x b → IsEarly d.view → IfSome g (Happened g d.view x b) (happens (machine_of g.T g.ticket g.stale) (g.c).timeout w d)
   happens_do (Ask r) d x b octets t early = asks_it g r d.layer d.asked d.view x b t.fits octets t.board
   happens_do (Bytes p o) d x b octets t early =
       let in_time : AreInTime g x = are_in_time g (Untold (Bytes p o)) (Bytes p o) d x b t early in
-      some_on g (Comes g (Told p 0) (Bytes p o) d.view x b) (Happened g d.view x b) (brings (machine_of g.T g.ticket) p o d) (bytes_do g (Bytes p o) p o d x b t early in_time)
+      some_on g (Comes g (Told p 0) (Bytes p o) d.view x b) (Happened g d.view x b) (brings (machine_of g.T g.ticket g.stale) p o d) (bytes_do g (Bytes p o) p o d x b t early in_time)
       (λ d1 c. happened_of p (Bytes p o) d.view x b d1 refl in_time c)
   happens_do Tick d x b octets t early = record {
     phase = Untold Tick;
@@ -83,7 +83,7 @@ module _ (g : Tying) where
   }
   happens_do w d x b octets t early =
       let in_time : AreInTime g x = are_in_time g (Untold w) w d x b t early in
-      some_on g (IsHeard g w (MayLeave w) d.view x b) (Happened g d.view x b) (tells (machine_of g.T g.ticket) w d) (tells_it g w w (about w) d x b refl t early)
+      some_on g (IsHeard g w (MayLeave w) d.view x b) (Happened g d.view x b) (tells (machine_of g.T g.ticket g.stale) w d) (tells_it g w w (about w) d x b refl t early)
       (λ d1 h. happened_of h.at w d.view x b d1 refl in_time (subst (λ l. Comes g (Told h.at l) w d.view x b d1) h.may_be h.comes))
 
   -- A row is done when no timer is due.
@@ -144,14 +144,14 @@ module _ (g : Tying) where
 
   -- Timers fire, the event happens, and timers fire again.
   pub steps_do : (e : Event) (phase : Phase) (w : What) (d : PlainClient g) (x : State g) (b : Kept g) → IsAskedInOctets e.what → IsInOctets e.what → MayEnd phase → IsTied g phase w d x b → d.view.outs ≡ []
-      → IfSome g (IsStepped e x b) (client_step (machine_of g.T g.ticket) (g.c).timeout e d)
+      → IfSome g (IsStepped e x b) (client_step (machine_of g.T g.ticket g.stale) (g.c).timeout e d)
   steps_do e phase w d x b asked octets end t none =
       let d0 : PlainClient g = at_moment e.moment.0 d in
       let x0 : State g = row_begins g.c g.st composed g.P e x in
-      some_then g (Happened g d0.view x0 b) (IsStepped e x b) (fires_all (machine_of g.T g.ticket)) (option_and_then (happens (machine_of g.T g.ticket) (g.c).timeout e.what) (fires_all (machine_of g.T g.ticket) d0))
-      (some_then g (Rested g (Untold e.what) e.what d0.view x0 b) (Happened g d0.view x0 b) (happens (machine_of g.T g.ticket) (g.c).timeout e.what) (fires_all (machine_of g.T g.ticket) d0)
+      some_then g (Happened g d0.view x0 b) (IsStepped e x b) (fires_all (machine_of g.T g.ticket g.stale)) (option_and_then (happens (machine_of g.T g.ticket g.stale) (g.c).timeout e.what) (fires_all (machine_of g.T g.ticket g.stale) d0))
+      (some_then g (Rested g (Untold e.what) e.what d0.view x0 b) (Happened g d0.view x0 b) (happens (machine_of g.T g.ticket g.stale) (g.c).timeout e.what) (fires_all (machine_of g.T g.ticket g.stale) d0)
       (all_fire g (Untold e.what) e.what d0 x0 b (begins_so e phase w d x b end octets t) tt)
-      (λ d1 r. some_on g (Happened g d1.view r.comes.end r.comes.beside) (Happened g d0.view x0 b) (happens (machine_of g.T g.ticket) (g.c).timeout e.what d1) (happens_do e.what d1 r.comes.end r.comes.beside asked r.comes.tied r.early)
+      (λ d1 r. some_on g (Happened g d1.view r.comes.end r.comes.beside) (Happened g d0.view x0 b) (happens (machine_of g.T g.ticket g.stale) (g.c).timeout e.what d1) (happens_do e.what d1 r.comes.end r.comes.beside asked r.comes.tied r.early)
       (λ d2 h. record {
         phase = h.phase;
         may_end = h.may_end;
@@ -165,7 +165,7 @@ module _ (g : Tying) where
         tied = h.tied;
         put = h.put ∙ (ap (λ (o : List Out). o ++ h.outs) r.comes.put ∙ append_assoc d0.view.outs r.comes.outs h.outs);
       })))
-      (λ d2 h. some_on g (Rested g h.phase h.pending d2.view h.end h.beside) (IsStepped e x b) (fires_all (machine_of g.T g.ticket) d2) (all_fire g h.phase h.pending d2 h.end h.beside h.tied h.may_fire)
+      (λ d2 h. some_on g (Rested g h.phase h.pending d2.view h.end h.beside) (IsStepped e x b) (fires_all (machine_of g.T g.ticket g.stale) d2) (all_fire g h.phase h.pending d2 h.end h.beside h.tied h.may_fire)
       (λ d3 r. (let l = leads_on g.st g.P g.B x0 b h.outs h.end h.beside r.comes.outs r.comes.end r.comes.beside h.leads r.comes.leads in
       let m = all_moves g.st g.P g.B x0 b (h.outs ++ r.comes.outs) r.comes.end r.comes.beside l (is_done h.phase h.pending d3 r.comes.end r.comes.beside h.may_end h.taken r.comes.tied r.early) in
       record {
@@ -194,15 +194,15 @@ module _ (g : Tying) where
 
   -- a client that ended a row
   abbrev GoesOn : List Event → Type 0
-  GoesOn es = (phase : Phase) (w : What) (d : PlainClient g) (x : State g) (b : Kept g) → MayEnd phase → IsTied g phase w d x b → d.view.outs ≡ [] → RunsFrom x b (plain_rows (machine_of g.T g.ticket) (g.c).timeout es d)
+  GoesOn es = (phase : Phase) (w : What) (d : PlainClient g) (x : State g) (b : Kept g) → MayEnd phase → IsTied g phase w d x b → d.view.outs ≡ [] → RunsFrom x b (plain_rows (machine_of g.T g.ticket g.stale) (g.c).timeout es d)
 
   rows_run : (es : List Event) → AllAskedInOctets es → AllInOctets es → GoesOn es
   rows_run [] asked octets phase w d x b end t none = (Ends x, tt)
-  rows_run (e ∷ es) asked octets phase w d x b end t none = by (client_step (machine_of g.T g.ticket) (g.c).timeout e d) (steps_do e phase w d x b asked.0 octets.0 end t none) (rows_run es asked.1 octets.1)
+  rows_run (e ∷ es) asked octets phase w d x b end t none = by (client_step (machine_of g.T g.ticket g.stale) (g.c).timeout e d) (steps_do e phase w d x b asked.0 octets.0 end t none) (rows_run es asked.1 octets.1)
     where
-      by : (o : Option (PlainClient g)) → IfSome g (IsStepped e x b) o → GoesOn es → RunsFrom x b (option_and_then (then_rows (plain_rows (machine_of g.T g.ticket) (g.c).timeout es)) (option_map (row_and_rest e) o))
+      by : (o : Option (PlainClient g)) → IfSome g (IsStepped e x b) o → GoesOn es → RunsFrom x b (option_and_then (then_rows (plain_rows (machine_of g.T g.ticket g.stale) (g.c).timeout es)) (option_map (row_and_rest e) o))
       by None s ih = tt
-      by (Some d1) s ih = rest (plain_rows (machine_of g.T g.ticket) (g.c).timeout es (rested d1)) (ih s.phase s.pending (rested d1) s.end s.kept s.may_end s.tied refl)
+      by (Some d1) s ih = rest (plain_rows (machine_of g.T g.ticket g.stale) (g.c).timeout es (rested d1)) (ih s.phase s.pending (rested d1) s.end s.kept s.may_end s.tied refl)
         where
           rest : (o : Option (List Row)) → RunsFrom s.end s.kept o → RunsFrom x b (option_map (λ rows. row_of e d1 ∷ rows) o)
           rest None r = tt
@@ -243,7 +243,7 @@ module _ (g : Tying) where
 
   -- Every list of rows is a run.
   tied_clients_run : (words : ℕ → ℕ) (events : List Event) (rows : List Row) → AreWords words → AllAskedInOctets events → AllInOctets events
-      → plain_rows (machine_of g.T g.ticket) (g.c).timeout events (begins_with words g.first) ≡ Some rows → IsRunOf (begun g.c g.st composed g.P) (g.B).first rows
+      → plain_rows (machine_of g.T g.ticket g.stale) (g.c).timeout events (begins_with words g.first) ≡ Some rows → IsRunOf (begun g.c g.st composed g.P) (g.B).first rows
   tied_clients_run words events rows small asked octets e =
       subst (RunsFrom (begun g.c g.st composed g.P) (g.B).first) e (rows_run events asked octets (Told 0 0) Tick (begins_with words g.first) (begun g.c g.st composed g.P) (g.B).first refl (starts words small) refl)
 

@@ -19,14 +19,14 @@ use Rattle.proof_cache.specs.Caching as cache
 use Rattle.proof_cache.specs.Listed.{listed}
 use Rattle.proof_cache.specs.Results.{SaneServed}
 use Rattle.proof_cache.proofs.CachedTie.{cached_is_tied}
-use Rattle.proof_cache.proofs.CachedRuns.{cached_runs_hit}
+use Rattle.proof_cache.proofs.CachedRuns.{cached_runs_hit, cached_runs_serve_stale}
 use Rattle.proof_cache.proofs.ResultsServed.{served_gives_messages}
 use Rattle.proof_parts.specs.ClientTie.{RunBeside}
 use Rattle.proof_choice.specs.Whole.{with_all}
 use Rattle.proof_choice.specs.Whole as whole
 use Rattle.proof_choice.proofs.Whole.{choices_are_whole, choices_without_servers}
 use Rattle.proof_client.specs.Above.{Tying, begins_with}
-use Rattle.proof_client.specs.Ties.{AreHandedIn, EveryPlainTraceRuns, EveryPlainTraceIsRight, EveryPlainTraceHits, PlainTracesKeepTheirEvents}
+use Rattle.proof_client.specs.Ties.{AreHandedIn, EveryPlainTraceRuns, EveryPlainTraceIsRight, EveryPlainTraceHits, EveryPlainTraceServesStale, PlainTracesKeepTheirEvents}
 use Rattle.client_steps.specs.Client.{plain_rows}
 use Rattle.client_steps.specs.Headline.{use_of, conf_of, settings_of}
 use Rattle.client_steps.specs.Upstream as upstream
@@ -75,6 +75,7 @@ tying g = record {
   Q = Response g.Q;
   T = cache.cached g;
   ticket = cache.ticket_of g;
+  stale = cache.stale g;
   IsHanded = cache.IsHanded g;
   first = cache.first g;
   Tied = cache.IsTied g;
@@ -106,6 +107,11 @@ pub every_plain_trace_hits : EveryPlainTraceHits
 every_plain_trace_hits redundant settings conf words events rows plain h =
     (let r = cached_run redundant settings conf words events rows plain h in
     cached_runs_hit (above_servers (conf_of conf) redundant settings h.limited) rows refl (rows_asked redundant settings conf words events rows plain h) r.0 r.1)
+
+pub every_plain_trace_serves_stale : EveryPlainTraceServesStale
+every_plain_trace_serves_stale redundant settings conf words events rows plain h =
+    (let r = cached_run redundant settings conf words events rows plain h in
+    cached_runs_serve_stale (above_servers (conf_of conf) redundant settings h.limited) rows refl (rows_asked redundant settings conf words events rows plain h) r.0 r.1)
 
 pub plain_traces_keep_events : PlainTracesKeepTheirEvents
 plain_traces_keep_events redundant settings conf words events rows plain = rows_of_events machine conf.options.timeout events (client_with words (started redundant settings conf)) rows plain

@@ -2,7 +2,7 @@
 use Rattle.std.specs.Prelude.{◌≡◌, ℕ, ◌<◌, ◌^◌, false, Option, Some, List, []}
 use Rattle.client_request.specs.Composed.{composed}
 use Rattle.client_request.specs.Request.{Request}
-use Rattle.client_request.specs.View.{Transport}
+use Rattle.client_request.specs.View.{View, Transport}
 use Rattle.client_request.specs.declared.event.Event.{Event}
 use Rattle.client_request.specs.declared.event.Row.{Row}
 use Rattle.right_trace.specs.Settings.{Settings}
@@ -27,12 +27,13 @@ pub record Tying : Type 1 where
   pub Q : Type 0
   pub T : Transport Request V Q
   pub ticket : Q → ℕ
+  pub stale : Q → V → View → Option (List ℕ)
   pub IsHanded : Q → Type 0
   pub first : V
   pub Tied : Phase → V → Sight → Upper P.State → B.Kept → Type 0
   pub names : V → (ticket : ℕ) → Option ℕ
   pub Owns : V → (timer : ℕ) → Type 0
-  pub tie : IsClientTie st P B T ticket IsHanded first Tied names Owns
+  pub tie : IsClientTie st P B T ticket stale IsHanded first Tied names Owns
 
 -- the client as it begins, with the words that come
 abbrev pub begins_with : {V Q : Type 0} → (ℕ → ℕ) → V → Client V Q
@@ -49,5 +50,5 @@ AreWords words = (i : ℕ) → words i < 2 ^ 64
 -- Every list of rows that the client makes above a tied transport is a run of the client of small moves, and each of its moves makes what it may of what is kept beside.
 abbrev pub ClientsAboveTiesRun : Type 1
 ClientsAboveTiesRun = (g : Tying) (words : ℕ → ℕ) (events : List Event) (rows : List Row) → AreWords words → AllAskedInOctets events → AllInOctets events
-    → plain_rows (machine_of g.T g.ticket) (g.c).timeout events (begins_with words g.first) ≡ Some rows
+    → plain_rows (machine_of g.T g.ticket g.stale) (g.c).timeout events (begins_with words g.first) ≡ Some rows
     → (run : IsRun g.c g.st composed g.P (begun g.c g.st composed g.P) rows) × RunBeside g.st g.P g.B (begun g.c g.st composed g.P) rows run (g.B).first

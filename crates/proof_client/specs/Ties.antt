@@ -8,6 +8,7 @@ use Rattle.right_trace.specs.Timely.{AllAskedInOctets, Timely}
 use Rattle.client_cache.specs.Plain.{room_of}
 use Rattle.right_trace.specs.Hit.{AllHit}
 use Rattle.right_trace.specs.Right.{Right}
+use Rattle.right_trace.specs.StaleServed.{AllServeStale}
 use Rattle.proof_right.specs.machine.Client.{begun, IsRun}
 use Rattle.proof_right.specs.machine.Served.{served}
 use Rattle.right_trace.specs.InOctets.{AllInOctets}
@@ -37,6 +38,11 @@ EveryPlainTraceIsRight = (redundant : RedundantSettings) (cache : CacheSettings)
 abbrev pub EveryPlainTraceHits : Type 0
 EveryPlainTraceHits = (redundant : RedundantSettings) (cache : CacheSettings) (conf : ResolvConf) (words : ℕ → ℕ) (events : List Event) (rows : List Row) → plain_trace redundant cache conf words events ≡ Some rows → AreHandedIn cache words events
     → AllHit (conf_of conf) (settings_of redundant cache) composed (room_of cache) [] rows
+
+-- In every plain trace a request for which a message that is kept had expired has no error of a server and none of its deadline while that message may serve.
+abbrev pub EveryPlainTraceServesStale : Type 0
+EveryPlainTraceServesStale = (redundant : RedundantSettings) (cache : CacheSettings) (conf : ResolvConf) (words : ℕ → ℕ) (events : List Event) (rows : List Row) → plain_trace redundant cache conf words events ≡ Some rows → AreHandedIn cache words events
+    → AllServeStale (conf_of conf) (settings_of redundant cache) (room_of cache) [] rows
 
 -- A plain trace has a row for each event, in order.
 abbrev pub PlainTracesKeepTheirEvents : Type 0

@@ -1,7 +1,7 @@
 //! What holds of clients above tied transports.
 
 ghost use Rattle.proof_client.specs.Fallbacks.{FallbacksAreShared, FallbacksAreTied};
-ghost use Rattle.proof_client.specs.Ties.{EveryPlainTraceHits, EveryPlainTraceIsRight, EveryPlainTraceRuns, PlainTracesKeepTheirEvents};
+ghost use Rattle.proof_client.specs.Ties.{EveryPlainTraceHits, EveryPlainTraceIsRight, EveryPlainTraceRuns, EveryPlainTraceServesStale, PlainTracesKeepTheirEvents};
 
 /// The transport of each server that is asked by datagrams, and by stream where an answer was cut, is tied to its part.
 #[tactic(auto, using(crate::proofs::Datagrams::fallbacks_are_tied))]
@@ -34,4 +34,11 @@ pub fn every_plain_trace_is_right()
 #[tactic(auto, using(crate::proofs::Traces::every_plain_trace_hits))]
 pub fn every_plain_trace_hits()
     ensures { EveryPlainTraceHits }
+{}
+
+/// What has expired serves where servers fail: a request for the same gets no error of a server, and none of its deadline,
+/// as long as the message may serve and few enough requests and replies came since (RFC 8767).
+#[tactic(auto, using(crate::proofs::Traces::every_plain_trace_serves_stale))]
+pub fn every_plain_trace_serves_stale()
+    ensures { EveryPlainTraceServesStale }
 {}

@@ -135,12 +135,12 @@ module _ (s : Tables Request) (d : Dgrams) (v : View) (f : AreSlots 0 s d (sight
     }
 
 -- A result is on the board, and nothing else.
-pub one_post : (server : ℕ) (s : Tables Request) (d : Dgrams) (v : View) (first : Act Dgrams) (s1 : Tables Request) (v1 : View) (t : Tables Request) (w : View) (ticket k : ℕ) (y : Result Octets Error) → names_of s ticket ≡ Some k → first.posts ≡ record { request = k; result = y } ∷ [] → v1.board ≡ v.board ++ record { ticket = ticket; part = part_of y } ∷ [] → ((i : ℕ) → names_of s1 i ≡ with_at ticket None (names_of s) i)
+pub one_post : (server : ℕ) (s : Tables Request) (d : Dgrams) (v : View) (first : Act Dgrams) (s1 : Tables Request) (v1 : View) (t : Tables Request) (w : View) (ticket k : ℕ) (y : Result Octets Error) → names_of s ticket ≡ Some k → first.posts ≡ record { request = k; result = y } ∷ [] → v1.board ≡ v.board ++ record { ticket = ticket; part = part_of y; is_stale = false } ∷ [] → ((i : ℕ) → names_of s1 i ≡ with_at ticket None (names_of s) i)
     → (g : Goes_on server s d v first s1 v1 t w) → Posts (names_of s) v (then_act first g.made) t w
 one_post server s d v first s1 v1 t w ticket k y named posts board names g = record {
-  board = record { ticket = ticket; part = part_of y } ∷ [];
+  board = record { ticket = ticket; part = part_of y; is_stale = false } ∷ [];
   put = g.board ∙ board;
-  gives = subst (λ xs. Gives (names_of s) (record { ticket = ticket; part = part_of y } ∷ []) (xs ++ g.made.posts) (names_of t)) (sym posts) (subst (λ xs. Gives (names_of s) (record { ticket = ticket; part = part_of y } ∷ []) (record { request = k; result = y } ∷ xs) (names_of t)) (sym g.nothing) (named, refl, λ i. g.names i ∙ names i));
+  gives = subst (λ xs. Gives (names_of s) (record { ticket = ticket; part = part_of y; is_stale = false } ∷ []) (xs ++ g.made.posts) (names_of t)) (sym posts) (subst (λ xs. Gives (names_of s) (record { ticket = ticket; part = part_of y; is_stale = false } ∷ []) (record { request = k; result = y } ∷ xs) (names_of t)) (sym g.nothing) (named, refl, λ i. g.names i ∙ names i));
 }
 
 module _ (server : ℕ) (what : What) (s : Tables Request) (d : Dgrams) (v : View) (f : AreSlots 0 s d (sight v)) (fair : IsFair v) (t p : ℕ) (j : Job Request) (is : entry_at t s.jobs ≡ Some j) (y : Result Octets Error) where

@@ -370,7 +370,7 @@ module _ (b c : Conf) (s : ℕ) {S : Type 0} (t : Transport Request S stream.Ask
     by_streams (Some o) l k = ends o.0 o.1 l k.0 k.1
 
     abbrev post : Posted
-    post = record { ticket = h.ticket; part = Ok (Some h.message) }
+    post = record { ticket = h.ticket; part = Ok (Some h.message); is_stale = false }
 
     follows_so : settles f.server t post parts [] (onto v.board q) ≡ follows f.server t u k r (with_tables fewer parts) [] (onto v.board q)
     follows_so =

@@ -89,8 +89,8 @@ module _ {Q : Type 0} (ticket_of : Q → ℕ) (s : Tables Request dgram.Asked Q)
     numbered = ap (λ o. option_and_then (number_in by_stream) o) is ∙ named
 
     -- it is found by its ticket below
-    found : (p : Posted) → p.ticket ≡ lower → (board : List Posted) → gives p s board ≡ (without t lower, board ++ record { ticket = t; part = p.part } ∷ [])
-    found p same board = subst (λ i. gives_at p.part (without_below i s) board (waiting_below i s) ≡ (without t lower, board ++ record { ticket = t; part = p.part } ∷ [])) (sym same) (ap (λ o. gives_at p.part (without_at o (record s { tickets = frees lower s.tickets })) board (waiting_at s o)) (f.below t (Stream lower x) is) ∙ ap (λ o. gives_at p.part (without t lower) board (option_map (λ job. (t, job)) o)) is)
+    found : (p : Posted) → p.ticket ≡ lower → (board : List Posted) → gives p s board ≡ (without t lower, board ++ record { ticket = t; part = p.part; is_stale = false } ∷ [])
+    found p same board = subst (λ i. gives_at p.part (without_below i s) board (waiting_below i s) ≡ (without t lower, board ++ record { ticket = t; part = p.part; is_stale = false } ∷ [])) (sym same) (ap (λ o. gives_at p.part (without_at o (record s { tickets = frees lower s.tickets })) board (waiting_at s o)) (f.below t (Stream lower x) is) ∙ ap (λ o. gives_at p.part (without t lower) board (option_map (λ job. (t, job)) o)) is)
 
 -- all of them, one after another
 module _ {Q : Type 0} (ticket_of : Q → ℕ) (d : Dgrams) (by_dgram left : ℕ → Option ℕ) (ticket : ℕ) where
@@ -129,11 +129,11 @@ module _ {Q : Type 0} (ticket_of : Q → ℕ) (d : Dgrams) (by_dgram left : ℕ 
       let t = y.0 in
       let s1 : Tables Request dgram.Asked Q = record { jobs = frees t s.jobs; tickets = frees p.ticket s.tickets } in
       let less = streams_less ticket_of s d by_dgram by_stream ticket f t p.ticket x.request (y.1) y.2 g.0 in
-      let board1 = board ++ record { ticket = t; part = p.part } ∷ [] in
+      let board1 = board ++ record { ticket = t; part = p.part; is_stale = false } ∷ [] in
       let rest = all_given ps s1 (with_at p.ticket None by_stream) board1 xs less g.2 in
       subst (λ z. Given s by_stream board (x ∷ xs) (gives_all ps z.0 z.1)) (sym (found ticket_of s d by_dgram by_stream ticket f t p.ticket x.request (y.1) y.2 g.0 p refl board)) (record {
-        posted = record { ticket = t; part = p.part } ∷ rest.posted;
-        put = rest.put ∙ append_assoc board (record { ticket = t; part = p.part } ∷ []) rest.posted;
+        posted = record { ticket = t; part = p.part; is_stale = false } ∷ rest.posted;
+        put = rest.put ∙ append_assoc board (record { ticket = t; part = p.part; is_stale = false } ∷ []) rest.posted;
         gives = (numbered ticket_of s d by_dgram by_stream ticket f t p.ticket x.request (y.1) y.2 g.0, g.1, gives_as (numbers_of s1 (with_at p.ticket None by_stream)) (with_at t None (numbers_of s by_stream)) _ rest.posted xs (numbers_less ticket_of s d by_dgram by_stream ticket f t p.ticket x.request (y.1) y.2 g.0) rest.gives);
         waiting = rest.waiting;
       })

@@ -51,7 +51,7 @@ module _ (server : ℕ) {S : Type 0} (t : Transport Request S stream.Asked) wher
         let r = h.1 in
         let z = h.2 in
         let fewer : Tables Request dgram.Asked stream.Asked = record { jobs = frees u p.tables.jobs; tickets = frees q.ticket p.tables.tickets } in
-        let first : Posted = record { ticket = u; part = q.part } in
+        let first : Posted = record { ticket = u; part = q.part; is_stale = false } in
         let one : settles server t q p board v ≡ Some ((with_tables fewer p, board), answers u q.part v) =
         ap (λ o. settles_at server t q.part (with_tables (without_at o (record p.tables { tickets = frees q.ticket p.tables.tickets })) p) board v (waiting_at p.tables o)) (f.below u _ h.3)
         ∙ (ap (λ o. settles_at server t q.part (with_tables fewer p) board v (option_map (λ job. (u, job)) o)) h.3

@@ -115,7 +115,7 @@ pub record HasCut (server : ℕ) (what : What) (s : Tables Request) (d : Dgrams)
   pub is_cut : made.state.held request ≡ Some (staged tryer Cut)
   pub nothing : made.posts ≡ []
   pub leaves : Leaves s d v (then_act (made_by v.place (multi.Puts (Close at)) d) (record made { state = forget request made.state })) t w
-  pub put : w.board ≡ v.board ++ record { ticket = ticket; part = Ok (Some message) } ∷ []
+  pub put : w.board ≡ v.board ++ record { ticket = ticket; part = Ok (Some message); is_stale = false } ∷ []
   pub names : (i : ℕ) → names_of t i ≡ with_at ticket None (names_of s) i
 
 -- What an event does: nothing; a move that may give a result, and others behind it; or that a cut answer came.

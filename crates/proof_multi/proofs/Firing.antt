@@ -113,8 +113,8 @@ module _ (server : ℕ) (frames : ℕ → List Octets) (s : Server) (m : Multi) 
           runs = runs_one server v0.now v0.place m (GivesIt k (Err errors.StreamReadTimeout)) (drop k m) (TimesOut k its.ask its.is is_over);
           outs = g.outs ∙ sym (append-nil v0.outs);
           place = g.place;
-          board = record { ticket = t; part = Err errors.StreamReadTimeout } ∷ [];
-          put = ap (λ (b : List Posted). b ++ record { ticket = t; part = Err errors.StreamReadTimeout } ∷ []) g.board;
+          board = record { ticket = t; part = Err errors.StreamReadTimeout; is_stale = false } ∷ [];
+          put = ap (λ (b : List Posted). b ++ record { ticket = t; part = Err errors.StreamReadTimeout; is_stale = false } ∷ []) g.board;
           gives = (ap (option_map (λ (job : Job Request). job.number)) is, refl, g.named);
           more = g.more;
           stands = record { server = g.stands.server; order = g.stands.order; fair = record { order = g.stands.fair.order; words = g.stands.fair.words } };

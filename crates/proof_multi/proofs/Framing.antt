@@ -375,7 +375,7 @@ module _ (server p : ℕ) (l : Link Request) (x : Conn) (s : Server) (m : Multi)
       runs = g.runs;
       outs = g.outs;
       place = g.place;
-      board = record { ticket = t0; part = part_of r } ∷ [];
+      board = record { ticket = t0; part = part_of r; is_stale = false } ∷ [];
       put = refl;
       gives = (ap (option_map (λ (j : Job Request). j.number)) found.3 ∙ ap Some found.4, refl, gives_none (with_at t0 None (numbers d)) (numbers (desk_of R)) g.made.posts g.posts (λ u. g.named u ∙ numbers_gone u));
       more = refl;
@@ -406,7 +406,7 @@ module _ (server p : ℕ) (l : Link Request) (x : Conn) (s : Server) (m : Multi)
             not_there (inl o) = (timer_back j o.0 o.1).0 e
             not_there (inr o) = let b = a.watched o.0 o.1 j o.2 o.3 in let z : None ≡ Some t0 = sym b.1 ∙ (ap (λ j. entry_at j s.timers) (sym e) ∙ T0.end) in cc
 
-    gave_result : Turned s2 m2 next → u.board ≡ record { ticket = i; part = part_of r } ∷ [] → Leads (FrameDone server p f fs d m v b (has_ended c.line.stage)) (returns (one_stream for_one) p (taken (one_stream for_one) p l s) v (c, w))
+    gave_result : Turned s2 m2 next → u.board ≡ record { ticket = i; part = part_of r; is_stale = false } ∷ [] → Leads (FrameDone server p f fs d m v b (has_ended c.line.stage)) (returns (one_stream for_one) p (taken (one_stream for_one) p l s) v (c, w))
     gave_result t board = subst (λ (ps : List Posted). Leads (FrameDone server p f fs d m v b (has_ended c.line.stage)) (collects ps (with_connection (one_stream for_one) p c (taken (one_stream for_one) p l s)) z0)) (sym board)
         (let called = call_so server p [] frames fs nothing_under_way s2 l m2 t.n vb w vb.request vb.ticket c refl same_frames tables2 links2 watched2 order2 fair_b a.is t.left next v.outs t.made t.state t.runs t.nothing t.outs (heard.at_place ∙ sym t.at_place) refl (le_refl v.ticket) t.quiet in
         by (has_ended c.line.stage) called.0 (λ e. ap (λ (x : Act Multi). (x.state).conns p) called.1 ∙ (ap (λ (n : Multi). n.conns p) t.state ∙ t.closed e)))
@@ -415,7 +415,7 @@ module _ (server p : ℕ) (l : Link Request) (x : Conn) (s : Server) (m : Multi)
         is_part = result_is v.now p f m (GivesIt k r) next k r takes refl
 
         one : (R : Server) → (g : Went server fs nothing_under_way (desk_of s2) next vb (record R { inner = frees i s.inner; jobs = frees t0 s.jobs; timers = frees job.end s.timers }) (taken_back vb w)) → (has_ended c.line.stage ≡ true → (g.made.state).conns p ≡ None) → R.inner ≡ s.inner → R.jobs ≡ s.jobs → R.timers ≡ s.timers
-            → Leads (FrameDone server p f fs d m v b (has_ended c.line.stage)) (collects (record { ticket = i; part = part_of r } ∷ []) R z0)
+            → Leads (FrameDone server p f fs d m v b (has_ended c.line.stage)) (collects (record { ticket = i; part = part_of r; is_stale = false } ∷ []) R z0)
         one R g closed inner jobs timers =
             subst (λ (es : List (ℕ × ℕ)). Leads (FrameDone server p f fs d m v b (has_ended c.line.stage)) (option_and_then (λ y. Some y) (gets_at (part_of r) (record R { inner = frees i es }) z0 (entry_at i es)))) (sym inner)
             (subst (λ (o : Option ℕ). Leads (FrameDone server p f fs d m v b (has_ended c.line.stage)) (option_and_then (λ y. Some y) (gets_at (part_of r) (record R { inner = frees i s.inner }) z0 o))) (sym found.2)
@@ -430,7 +430,7 @@ module _ (server p : ℕ) (l : Link Request) (x : Conn) (s : Server) (m : Multi)
             gets_with es (Some j) = gets_part (is_result (part_of r)) t0 j (part_of r) (record R { inner = frees i s.inner; jobs = frees t0 es }) z0
 
         by : (e : Bool) → (g : Went server fs nothing_under_way (desk_of s2) next vb (if e then taken (one_stream for_one) p l s2 else keeps (one_stream for_one) p c (taken (one_stream for_one) p l s2)) (taken_back vb w)) → (has_ended c.line.stage ≡ true → (g.made.state).conns p ≡ None)
-            → Leads (FrameDone server p f fs d m v b (has_ended c.line.stage)) (collects (record { ticket = i; part = part_of r } ∷ []) (if e then taken (one_stream for_one) p l s else keeps (one_stream for_one) p c (taken (one_stream for_one) p l s)) z0)
+            → Leads (FrameDone server p f fs d m v b (has_ended c.line.stage)) (collects (record { ticket = i; part = part_of r; is_stale = false } ∷ []) (if e then taken (one_stream for_one) p l s else keeps (one_stream for_one) p c (taken (one_stream for_one) p l s)) z0)
         by true g closed = one (taken (one_stream for_one) p l s) g closed refl refl refl
         by false g closed = one (keeps (one_stream for_one) p c (taken (one_stream for_one) p l s)) g closed refl refl refl
 

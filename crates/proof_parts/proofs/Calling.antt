@@ -90,7 +90,7 @@ module _ (server p : ℕ) (settings : Settings) (set : settings.response_timeout
     queues_so = by (can_draw v.ticket) (has_ended s.stage) (is_open (dues v) s.idle_time s.stage x.mode line.fits.stage)
       where
         by : (b e : Bool) → e ≡ false → Leads (HasPumped server p (with_at v.ticket (Some k) names) (move k a (Lined p) m) x lined drawn)
-            (option_and_then (λ w. if e then Some (s, record w { board = w.board ++ record { ticket = v.ticket; part = Err errors.ConnectionClosed } ∷ [] }) else pumps for_one for_several p settings (puts v.ticket waiting s.queue) lined w) (if b then Some drawn else None))
+            (option_and_then (λ w. if e then Some (s, record w { board = w.board ++ record { ticket = v.ticket; part = Err errors.ConnectionClosed; is_stale = false } ∷ [] }) else pumps for_one for_several p settings (puts v.ticket waiting s.queue) lined w) (if b then Some drawn else None))
         by false e f = tt
         by true true f = absurd (cc)
         by true false f = pumps_so server p settings set (with_at v.ticket (Some k) names) (puts v.ticket waiting s.queue) (move k a (Lined p) m) x lined drawn line_lined fair_drawn refl heard

@@ -125,11 +125,11 @@ module _ (p : ℕ) (names : ℕ → Option ℕ) (m : Multi) (x : Seats) (is_asks
         ];
       }
   holder_fails error right e es board (IsWaiter j k w is nm sent) ih =
-      let rest = ih (board ++ record { ticket = j; part = Err error } ∷ []) in
+      let rest = ih (board ++ record { ticket = j; part = Err error; is_stale = false } ∷ []) in
       let b = sent_breaks k e.0 w sent in
       record {
-        posts = record { ticket = j; part = Err error } ∷ rest.posts;
-        put = ap (λ h. fails_holders error (map (λ e. e.1) es) (fails_holder error board h)) is ∙ (rest.put ∙ append_assoc board (record { ticket = j; part = Err error } ∷ []) rest.posts);
+        posts = record { ticket = j; part = Err error; is_stale = false } ∷ rest.posts;
+        put = ap (λ h. fails_holders error (map (λ e. e.1) es) (fails_holder error board h)) is ∙ (rest.put ∙ append_assoc board (record { ticket = j; part = Err error; is_stale = false } ∷ []) rest.posts);
         failing = ((error, refl, right), (k, b.0, nm, b.1, b.2), rest.failing);
         reached = λ i h. elim (first_or_behind e.0 h.0 e.1 (Waits i h.1) (entry_at h.0 es) h.2) [
           | inl f ↦ inl (let z : Waits j w ≡ Waits i h.1 = sym is ∙ f.1 in cc)
@@ -147,12 +147,12 @@ module _ (p : ℕ) (names : ℕ → Option ℕ) (m : Multi) (x : Seats) (is_asks
   queued_fail : (es : List (ℕ × QueuedRequest Request Request)) → AreEntries x.queue es → (board : List Posted) → Fails names (end_at p m).asks board (fails_queued es board) (HasQueued es)
   queued_fail [] a board = record { posts = []; put = sym (append-nil board); failing = tt; reached = λ i h. (let z = h.1 in cc) }
   queued_fail (e ∷ es) a board =
-      let rest = queued_fail es a.1 (board ++ record { ticket = e.0; part = Err errors.StreamReceiveError } ∷ []) in
+      let rest = queued_fail es a.1 (board ++ record { ticket = e.0; part = Err errors.StreamReceiveError; is_stale = false } ∷ []) in
       let q = seated.queued e.0 e.1 a.0 in
       let b = lined_breaks q.0 e.1 q.2 in
       record {
-        posts = record { ticket = e.0; part = Err errors.StreamReceiveError } ∷ rest.posts;
-        put = rest.put ∙ append_assoc board (record { ticket = e.0; part = Err errors.StreamReceiveError } ∷ []) rest.posts;
+        posts = record { ticket = e.0; part = Err errors.StreamReceiveError; is_stale = false } ∷ rest.posts;
+        put = rest.put ∙ append_assoc board (record { ticket = e.0; part = Err errors.StreamReceiveError; is_stale = false } ∷ []) rest.posts;
         failing = ((errors.StreamReceiveError, refl, λ e. cc), (q.0, b.0, q.1, b.1, b.2), rest.failing);
         reached = λ i h. elim (first_or_behind e.0 i e.1 h.0 (entry_at i es) h.1) [ inl f ↦ inl f.0 | inr f ↦ inr (rest.reached i (h.0, f)) ];
       }

@@ -147,7 +147,7 @@ module _ (p : ℕ) (names : ℕ → Option ℕ) (m : Multi) (x : Conn) (s : Sing
         (λ j a e. (was_there y.request m.asks j a e).1)
         (λ mode l. multi.IsResult x y mode sent.ask line.conn good wr (ap m.asks rq ∙ sent.is) sent.phase l)
         (λ next u asks board. GaveResult i y.request (result_of sent.ask.request id f) refl (named ∙ ap Some (sym rq))
-        (board ∙ (ap (λ (b : List Posted). b ++ record { ticket = i; part = part_of for_one for_several f q } ∷ []) r.alike.board ∙ ap (λ part. v.board ++ record { ticket = i; part = part } ∷ []) (part_so f q sent.ask.request id (sent.answered f)))) asks)
+        (board ∙ (ap (λ (b : List Posted). b ++ record { ticket = i; part = part_of for_one for_several f q; is_stale = false } ∷ []) r.alike.board ∙ ap (λ part. v.board ++ record { ticket = i; part = part; is_stale = false } ∷ []) (part_so f q sent.ask.request id (sent.answered f)))) asks)
         (subst (AreSeated p names)
         (same_seats (record { held = with_at id None (table s.held.held); ids = with_at i None (table s.ids); queue = table s.queue; asks = with_at k None m.asks; written = with_at id None x.ids })
         (seats_of (record now_active { held = freed; ids = frees i s.ids }) (drop y.request m).asks (with_at id None x.ids)) (sym freed_path) (sym (frees_path i 0 v.ticket s.ids line.fits.ids)) refl (ap (λ k. with_at k None m.asks) (sym rq)) refl)

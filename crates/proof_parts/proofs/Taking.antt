@@ -141,8 +141,8 @@ module _ (server p : ℕ) (settings : Settings) (set : settings.response_timeout
         nothing = refl;
         place = refl;
         outs = wk.alike.outs ∙ sym (append-nil v.outs);
-        posts = record { ticket = i; part = Err e } ∷ [];
-        put = ap (λ b. b ++ record { ticket = i; part = Err e } ∷ []) wk.alike.board;
+        posts = record { ticket = i; part = Err e; is_stale = false } ∷ [];
+        put = ap (λ b. b ++ record { ticket = i; part = Err e; is_stale = false } ∷ []) wk.alike.board;
         failing = ((e, refl, not_wrong), (k, moved a Broken, named, ap (λ (f : ℕ → Option Asker). f k) asks ∙ with_here k (Some (moved a Broken)) m.asks, refl), tt);
         conn = y;
         line = record {

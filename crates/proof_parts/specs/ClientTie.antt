@@ -1,11 +1,12 @@
 -- What a plain transport owes to be all that a client has below it, its cache too: it takes each asking as the client's machine does, and whatever a call leaves of it is reached by moves of that machine, which put out and give the same.
-use Rattle.std.specs.Prelude.{◌≡◌, ℕ, suc, ◌<◌, ◌≤◌, ◌⊎◌, max, true, false, is_some, nat_lt, List, [], ◌∷◌, ◌++◌, length, map, Option, Some, None}
+use Rattle.std.specs.Prelude.{◌≡◌, ℕ, suc, ◌<◌, ◌≤◌, ◌⊎◌, max, true, false, is_some, nat_lt, List, [], ◌∷◌, ◌++◌, length, map, Option, Some, None, Result, Ok}
 use Rattle.client_request.specs.Carries.{IsOfOctets}
 use Rattle.client_request.specs.Composed.{composed}
 use Rattle.client_request.specs.Request.{Request}
 use Rattle.client_request.specs.Timers.{cancelled}
 use Rattle.client_request.specs.View.{View, Transport, told, more_at, due_timer}
 use Rattle.client_request.specs.declared.board.Posted.{Posted}
+use Rattle.client_request.specs.declared.error.Error.{Error}
 use Rattle.client_request.specs.declared.event.Event.{Event}
 use Rattle.client_request.specs.declared.event.Out.{Out}
 use Rattle.client_request.specs.declared.event.Row.{Row}
@@ -16,7 +17,9 @@ use Rattle.right_trace.specs.Trace.{Conf}
 use Rattle.proof_right.specs.machine.Part.{Post, ServerPart}
 use Rattle.right_trace.specs.Keys.{Key, KeysCover}
 use Rattle.right_trace.specs.Parts.{IsIn}
-use Rattle.proof_right.specs.machine.Client.{Waiting, Leaving, Entry, Upper, Made, Move, Replies, Derives, Moves, Rests, Goes, IsRun, Ends, Goes_on, store, take_on, row_begins, begun}
+use Rattle.proof_right.specs.machine.Client.{Waiting, Leaving, Entry, Upper, Made, is_failing, Revived, Move, Revives, Replies, Derives, Moves, Rests, Goes, IsRun, Ends, Goes_on, store, take_on, row_begins, begun}
+use Rattle.proof_right.specs.machine.Exact.{MayRevive}
+use Rattle.right_trace.specs.Messages.{Octets}
 use Rattle.right_trace.specs.Updates.{with_at}
 use Rattle.proof_parts.specs.Chains.{Gives}
 use Rattle.proof_parts.specs.Leading.{IsBelow}
@@ -25,6 +28,15 @@ use Rattle.proof_parts.specs.Sights.{Sight, sight, due_of, IsFair, IsEarly}
 use Rattle.proof_parts.specs.WholeTie.{Follows}
 use Rattle.right_trace.specs.InOctets.{IsInOctets}
 
+-- What stands in for a result of request r that fails: what had expired when it was asked, as it may be given now; or nothing, where nothing may.
+abbrev pub StandsIn : Settings → (now : ℕ) → Request → (expired : Option Entry) → Option Octets → Type 0
+StandsIn st now r expired (Some m) = (old : Entry) × (expired ≡ Some old) × Revived st now old r m
+StandsIn st now r expired None = MayRevive st now r expired → ⊥
+
+-- It is so of a result that leaves.
+abbrev pub IsTold : {U : Type 0} → Settings → (x : Upper U) → Leaving → Type 0
+IsTold st x z = z.stale ≡ None → is_failing z.result ≡ true → StandsIn st x.now z.asked (x.expired z.request) None
+
 -- Something that is kept beside the machine, and what each move may make of it. Only askings and stored replies change it.
 pub record Beside {c : Conf} (st : Settings) (P : ServerPart c) : Type 1 where
   pub Kept : Type 0
@@ -32,11 +44,21 @@ pub record Beside {c : Conf} (st : Settings) (P : ServerPart c) : Type 1 where
   pub Does : (x : Upper P.State) (d : Made P.State) → Move c st composed P x d → (before after : Kept) → Type 0
   pub below : (x : Upper P.State) (d : Made P.State) (m : Move c st composed P x d) (e : Kept) → IsBelow st composed P x d m → Does x d m e e
   pub derives : (x : Upper P.State) (y : Entry) (k : Key) (is : IsIn y x.stored) (covers : KeysCover y.under k) (e : Kept) → Does x _ (Derives y k is covers) e e
-  pub unstored : (x : Upper P.State) (before after : List Leaving) (y : Leaving) (is : x.leaving ≡ before ++ y ∷ after) (e : Kept) → y.is_stored ≡ false → Does x _ (Replies before after y is) e e
+  pub unstored : (x : Upper P.State) (before after : List Leaving) (y : Leaving) (is : x.leaving ≡ before ++ y ∷ after) (e : Kept) → y.is_stored ≡ false → IsTold st x y → Does x _ (Replies before after y is) e e
+  pub revives : (x : Upper P.State) (before after : List Leaving) (y : Leaving) (old : Entry) (m : Octets) (is : x.leaving ≡ before ++ y ∷ after) (fails : is_failing y.result ≡ true) (there : x.expired y.request ≡ Some old) (may : Revived st x.now old y.asked m) (e : Kept) → Does x _ (Revives before after y old m is fails there may) e e
 
--- what a client gives with a request that leaves
+-- what a client gives with a request that leaves: its result, or what stands in for it
+abbrev pub told_with : Result Octets Error → Option Octets → Result Octets Error
+told_with x None = x
+told_with x (Some m) = Ok m
+
 abbrev pub reply_of : Leaving → Post
-reply_of z = record { request = z.request; result = z.result }
+reply_of z = record { request = z.request; result = told_with z.result z.stale }
+
+-- Each result on the board is stale exactly where something stands in for the one that leaves.
+abbrev pub AreMarked : List Posted → List Leaving → Type 0
+AreMarked (p ∷ ps) (z ∷ zs) = (p.is_stale ≡ is_some z.stale) × AreMarked ps zs
+AreMarked _ _ = Unit {0}
 
 -- who is tried was tried before, since the same moment
 abbrev pub WereTried : (before after : ℕ → Option Waiting) → Type 0
@@ -49,8 +71,10 @@ pub record IsWithout {U : Type 0} (k : ℕ) (x y : Upper U) : Type 0 where
   pub place : y.place ≡ x.place
   pub board : y.board ≡ x.board
   pub now : y.now ≡ x.now
+  pub asked : y.asked ≡ x.asked
   pub leaving : y.leaving ≡ x.leaving
   pub stored : y.stored ≡ x.stored
+  pub expired : y.expired ≡ x.expired
 
 module _ {c : Conf} (st : Settings) (P : ServerPart c) (B : Beside st P) where
   -- moves, one after another, with what is beside the machine, and what they put out
@@ -80,6 +104,7 @@ module _ {c : Conf} (st : Settings) (P : ServerPart c) (B : Beside st P) where
       pub leaving : List Leaving
       pub leaves : end.leaving ≡ from.leaving ++ leaving
       pub gives : Gives named board (map reply_of leaving) (names w)
+      pub marked : AreMarked board leaving
       pub now : end.now ≡ from.now
       pub asked : end.asked ≡ from.asked
       pub pending : end.pending ≡ from.pending
@@ -105,11 +130,11 @@ module _ {c : Conf} (st : Settings) (P : ServerPart c) (B : Beside st P) where
 
     -- A request was asked: it was answered, or it is tried, and then what stands for its result was handed on.
     pub record HasAsked (r : Request) (from : Upper P.State) (e : B.Kept) (u : U) (v : View) (w : U) (y : View) : Type 0 where
-      pub leaves : Leaves (with_at v.ticket (Some v.request) (names u)) from (take_on r from) e u v (Untold (Ask r)) w y
+      pub leaves : Leaves (with_at v.ticket (Some v.request) (names u)) from (take_on r None from) e u v (Untold (Ask r)) w y
       pub handed : (k : ℕ) → names w v.ticket ≡ Some k → IsHanded (t.response r u v)
 
--- The tie of a transport to a client: `Tied` relates what it is, and what is seen, to the client's state and what is beside that. `names` has the number of the request of each ticket whose result is to come, and it owns the timers that it set. A timer that fires is taken out before. Nothing leaves while a call is made.
-pub record IsClientTie {c : Conf} (st : Settings) (P : ServerPart c) (B : Beside st P) {U R : Type 0} (t : Transport Request U R) (ticket : R → ℕ) (IsHanded : R → Type 0) (first : U) (Tied : Phase → U → Sight → Upper P.State → B.Kept → Type 0) (names : U → (ticket : ℕ) → Option ℕ) (Owns : U → (timer : ℕ) → Type 0) : Type 0 where
+-- The tie of a transport to a client: `Tied` relates what it is, and what is seen, to the client's state and what is beside that. `names` has the number of the request of each ticket whose result is to come, `stale` what stands in for it, and it owns the timers that it set. A timer that fires is taken out before. Nothing leaves while a call is made.
+pub record IsClientTie {c : Conf} (st : Settings) (P : ServerPart c) (B : Beside st P) {U R : Type 0} (t : Transport Request U R) (ticket : R → ℕ) (stale : R → U → View → Option Octets) (IsHanded : R → Type 0) (first : U) (Tied : Phase → U → Sight → Upper P.State → B.Kept → Type 0) (names : U → (ticket : ℕ) → Option ℕ) (Owns : U → (timer : ℕ) → Type 0) : Type 0 where
   pub fresh : (x : Sight) → x.now ≡ 0 → x.place ≡ 0 → Tied (Told 0 0) first x (begun c st composed P) B.first
   -- it looks at no timer of others, and at numbers only from below
   pub same : (phase : Phase) (u : U) (x y : Sight) (a : Upper P.State) (e : B.Kept) → Tied phase u x a e → y.now ≡ x.now → ((i : ℕ) → Owns u i → y.dues i ≡ x.dues i) → x.timer ≤ y.timer → x.ticket ≤ y.ticket → y.place ≡ x.place → Tied phase u y a e
@@ -132,6 +157,8 @@ pub record IsClientTie {c : Conf} (st : Settings) (P : ServerPart c) (B : Beside
       → Leads (Leaves st P B t IsHanded Tied names Owns (names u) a a e u (record v { timers = cancelled i v.timers }) phase) (t.step (due_timer i) u (record v { timers = cancelled i v.timers }))
   pub asks : (u : U) (v : View) (a : Upper P.State) (e : B.Kept) (r : Request) → Tied (Untold (Ask r)) u (sight v) a e → a.leaving ≡ [] → IsFair v → IsOfOctets r → a.pending ≡ Ask r → a.asked ≡ v.request → a.held v.request ≡ None
       → Leads (HasAsked st P B t IsHanded Tied names Owns r a e u v) (t.send r u v)
+  -- what stands in for a request that is tried, when its deadline passes
+  pub expires : (u : U) (v : View) (a : Upper P.State) (e : B.Kept) (w : What) (r : R) (k : ℕ) (b : Waiting) → Tied (Untold w) u (sight v) a e → names u (ticket r) ≡ Some k → IsHanded r → a.held k ≡ Some b → StandsIn st a.now b.request (a.expired k) (stale r u v)
   pub cancels : (u : U) (v : View) (a b : Upper P.State) (e : B.Kept) (w : What) (r : R) (k : ℕ) → Tied (Untold w) u (sight v) a e → a.leaving ≡ [] → IsFair v → names u (ticket r) ≡ Some k → IsHanded r → IsWithout k a b
       → Leads (LeavesQuietly st P B t IsHanded Tied names Owns (with_at (ticket r) None (names u)) b e u v (Untold w)) (t.cancel r u v)
   pub tells : (u : U) (v : View) (a : Upper P.State) (e : B.Kept) (w : What) (p : ℕ) → Tied (Untold w) u (sight v) a e → a.leaving ≡ [] → IsFair v → IsEarly v → v.more ≡ false → place_in w ≡ Some p

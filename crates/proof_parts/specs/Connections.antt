@@ -95,7 +95,7 @@ pub record HasEnded (p : ℕ) (names : ℕ → Option ℕ) (m : Multi) (s : Sing
 -- What a frame gives: nothing, or the result of one request, which is no more.
 pub data Gave (names : ℕ → Option ℕ) (m next : Multi) (v w : View) (act : multi.Act) : Type 0 where
   GaveNothing : act ≡ Nothing → w.board ≡ v.board → next.asks ≡ m.asks → Gave names m next v w act
-  GaveResult : (i k : ℕ) (r : Result Octets Error) → act ≡ Gives k r → names i ≡ Some k → w.board ≡ v.board ++ record { ticket = i; part = part_of r } ∷ [] → next.asks ≡ with_at k None m.asks → Gave names m next v w act
+  GaveResult : (i k : ℕ) (r : Result Octets Error) → act ≡ Gives k r → names i ≡ Some k → w.board ≡ v.board ++ record { ticket = i; part = part_of r; is_stale = false } ∷ [] → next.asks ≡ with_at k None m.asks → Gave names m next v w act
 
 -- What a frame leaves of its connection: it goes on; it is closed as it is bad; or nothing is waited for and it has no idle time, and it is closed behind it.
 pub data FrameLeft (p : ℕ) (names : ℕ → Option ℕ) (m : Multi) (x : Conn) (s : SingleLine) (v : View) (f : Octets) (t : SingleLine) (w : View) : Type 0 where

@@ -7,7 +7,7 @@ use Rattle.right_trace.specs.Trace.{Conf}
 use Rattle.right_trace.specs.Messages.{Octets}
 use Rattle.right_trace.specs.Settings.{Settings}
 use Rattle.proof_right.specs.machine.Part.{Act, ServerPart}
-use Rattle.proof_right.specs.machine.Client.{Upper, Made, Move, Server_moves, Hands_on, Gives_up, Drops, Keeps_back, Delivers, Concludes, Times_out, Replies, Forgets, Derives, Answers, Takes_on, tag}
+use Rattle.proof_right.specs.machine.Client.{Upper, Made, Move, Server_moves, Hands_on, Gives_up, Drops, Keeps_back, Delivers, Concludes, Times_out, Revives, Replies, Forgets, Derives, Answers, Takes_on, tag}
 
 module _ {c : Conf} (st : Settings) (compose : Request → Result Octets Error) (P : ServerPart c) where
   -- a move that takes no asking, puts no reply out, and leaves what is stored as it is
@@ -20,11 +20,12 @@ module _ {c : Conf} (st : Settings) (compose : Request → Result Octets Error) 
   IsBelow x _ (Delivers before after y a z board held final is) = Unit {0}
   IsBelow x _ (Concludes k a y z held tried free none best is) = Unit {0}
   IsBelow x _ (Times_out k a held late) = Unit {0}
+  IsBelow x _ (Revives before after y e m leaving fails there may) = ⊥
   IsBelow x _ (Replies before after y leaving) = ⊥
   IsBelow x _ (Forgets before after e stored) = ⊥
   IsBelow x _ (Derives e k is covers) = ⊥
   IsBelow x _ (Answers r y pending at_once) = ⊥
-  IsBelow x _ (Takes_on r o pending composes some) = ⊥
+  IsBelow x _ (Takes_on r o old pending composes some stored) = ⊥
 
   -- such moves, one after another, and what they put out
   pub data Leads : Upper P.State → List Out → Upper P.State → Type 0 where

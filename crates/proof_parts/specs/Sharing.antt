@@ -26,7 +26,7 @@ pub record OpensNext {c : Conf} (P : ServerPart c) (has : P.State → (place : �
 
 -- a board has one result more at most, which is that of this ticket
 abbrev pub HasOneMore : (ticket : ℕ) → (old new : List Posted) → Type 0
-HasOneMore ticket old new = (new ≡ old) ⊎ ((part : Part) × (new ≡ old ++ record { ticket = ticket; part = part } ∷ []))
+HasOneMore ticket old new = (new ≡ old) ⊎ ((part : Part) × (new ≡ old ++ record { ticket = ticket; part = part; is_stale = false } ∷ []))
 
 -- What a transport owes that is one of several, where `has` says which places its part has.
 pub record IsShared {c : Conf} (P : ServerPart c) (has : P.State → (place : ℕ) → Bool) {U R : Type 0} (t : Transport Request U R)

@@ -127,7 +127,7 @@ fn run(
 
 /// The result that stands first, with its ticket. It is taken.
 fn first_given(board: &mut Board) -> Option<(u64, Found)> {
-    let Posted { ticket, part } = board.take_first()?;
+    let Posted { ticket, part, .. } = board.take_first()?;
     match part {
         Ok(Some(message)) => Some((ticket, Some(Ok(message.header().id())))),
         Ok(None) => Some((ticket, None)),

@@ -280,7 +280,7 @@ pub fn are_put_out(world: &World, deeds: &[Deed]) -> bool {
 
 /// The result that stands first on the board, which is taken.
 fn first_given(world: &mut World) -> Option<Given> {
-    let Posted { ticket, part } = world.board.take_first()?;
+    let Posted { ticket, part, .. } = world.board.take_first()?;
     let number = world.tickets.iter().position(|own| *own == ticket)?;
     match part {
         Ok(Some(message)) => Some((number, Ok(message.header().id()))),

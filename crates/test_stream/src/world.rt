@@ -297,7 +297,7 @@ pub fn are_put_out(world: &World, deeds: &[Deed]) -> bool {
 
 /// The result that stands first on the board, which is taken.
 fn first_given(world: &mut World) -> Option<Given> {
-    let Posted { ticket, part } = world.board.take_first()?;
+    let Posted { ticket, part, .. } = world.board.take_first()?;
     match part {
         Ok(Some(message)) => Some((ticket, Ok(message.header().id()))),
         Ok(None) => Some((ticket, END)),

@@ -11,7 +11,7 @@ pub type Given = (usize, Result<Head, Error>);
 
 /// The result that stands first on the board, which is taken.
 pub fn first_given<T: SendRequest<RequestMessage>>(world: &mut World<T>) -> Option<Given> {
-    let Posted { ticket, part } = world.lent.board.take_first()?;
+    let Posted { ticket, part, .. } = world.lent.board.take_first()?;
     let number = world.tickets.iter().position(|own| *own == ticket)?;
     match part {
         Ok(Some(message)) => Some((number, Ok(message.header().to_octets()))),

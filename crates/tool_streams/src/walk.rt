@@ -187,7 +187,7 @@ fn reply(walk: &mut Walk) -> Result<(), NoMemory> {
         let Some(posted) = walk.board.take_first() else {
             return Ok(());
         };
-        let Posted { ticket, part } = posted;
+        let Posted { ticket, part, .. } = posted;
         let result = match part {
             Ok(Some(message)) => Ok(message),
             Ok(None) => Err(END),

@@ -60,6 +60,7 @@ fn settle<Req: ComposeRequest, D: SendRequest<Req>, S: SendRequest<Req>, W: Word
     let Posted {
         ticket: lower,
         part,
+        ..
     } = posted;
     let Some((ticket, job)) = parts.tables.take_below(lower) else {
         return Ok(());
@@ -106,6 +107,7 @@ fn give<Req: Drop, P: Drop, Q: Drop>(
     let Posted {
         ticket: lower,
         part,
+        ..
     } = posted;
     match tables.take_below(lower) {
         None => Ok(()),

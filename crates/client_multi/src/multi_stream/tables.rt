@@ -181,6 +181,7 @@ fn collect_one<Req: ComposeRequest, S: OneStream<Req>, W: Words>(
     let Posted {
         ticket: inner,
         part,
+        ..
     } = posted;
     let Some(ticket) = tables.inner.remove(inner) else {
         return Ok(());

@@ -8,14 +8,14 @@ use Rattle.client_steps.proofs.calls.fire_all.Goals as goal
 pub loop-count-init : goal.loop-count-init
 loop-count-init g c = record {
   lends = search rules;
-  same = fires_begin (machine_of g.L.SendRequest.transport g.L.Response.GetResponse.ticket_of) (client_of c.args.layer.now (c.args.asked.now, view_of g.W.Words.stream c.args.cx.now));
+  same = fires_begin (machine_of g.L.SendRequest.transport g.L.Response.GetResponse.ticket_of g.L.ServesStale.stale) (client_of c.args.layer.now (c.args.asked.now, view_of g.W.Words.stream c.args.cx.now));
   keeps = search rules;
 }
 
 pub loop-count-preserved : goal.loop-count-preserved
 loop-count-preserved g c =
     let layer = g.L.SendRequest in
-    let m = machine_of layer.transport g.L.Response.GetResponse.ticket_of in
+    let m = machine_of layer.transport g.L.Response.GetResponse.ticket_of g.L.ServesStale.stale in
     let before = client_of c.loop-count.layer (c.loop-count.asked, view_of g.W.Words.stream c.loop-count.cx) in
     let after = client_of c.fire-in-loop-count.new.layer (c.fire-in-loop-count.new.asked, view_of g.W.Words.stream c.fire-in-loop-count.new.cx) in
     record {
@@ -28,7 +28,7 @@ loop-count-preserved g c =
 
 pub returns-in_default : goal.returns-in_default
 returns-in_default g c =
-    let m = machine_of g.L.SendRequest.transport g.L.Response.GetResponse.ticket_of in
+    let m = machine_of g.L.SendRequest.transport g.L.Response.GetResponse.ticket_of g.L.ServesStale.stale in
     let before = client_of c.loop-count.layer (c.loop-count.asked, view_of g.W.Words.stream c.loop-count.cx) in
     record {
       holds = record {
@@ -43,7 +43,7 @@ returns-in_default g c =
 
 pub returns-in_err-fire : goal.returns-in_err-fire
 returns-in_err-fire g c =
-    let m = machine_of g.L.SendRequest.transport g.L.Response.GetResponse.ticket_of in
+    let m = machine_of g.L.SendRequest.transport g.L.Response.GetResponse.ticket_of g.L.ServesStale.stale in
     let before = client_of c.loop-count.layer (c.loop-count.asked, view_of g.W.Words.stream c.loop-count.cx) in
     record {
       holds = record {
@@ -59,7 +59,7 @@ returns-in_err-fire g c =
 
 pub returns : goal.returns
 returns g c =
-    let m = machine_of g.L.SendRequest.transport g.L.Response.GetResponse.ticket_of in
+    let m = machine_of g.L.SendRequest.transport g.L.Response.GetResponse.ticket_of g.L.ServesStale.stale in
     let before = client_of c.loop-count.layer (c.loop-count.asked, view_of g.W.Words.stream c.loop-count.cx) in
     record {
       holds = record {

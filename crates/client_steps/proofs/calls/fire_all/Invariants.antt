@@ -9,7 +9,7 @@ use Rattle.client_steps.proofs.calls.fire_all.Given as goal
 abbrev pub invariant-loop-count : goal.invariant-loop-count
 invariant-loop-count g l =
     let layer = g.L.SendRequest in
-    let m = machine_of layer.transport g.L.Response.GetResponse.ticket_of in
+    let m = machine_of layer.transport g.L.Response.GetResponse.ticket_of g.L.ServesStale.stale in
     record {
       lends : LendsTheSame l.fn.cx l.cx;
       same : plain.fires_all m (client_of l.fn.layer (l.fn.asked, view_of g.W.Words.stream l.fn.cx)) ≡ fires_from m l.count (client_of l.layer (l.asked, view_of g.W.Words.stream l.cx));

@@ -8,7 +8,7 @@ use Rattle.client_steps.proofs.calls.take_frames.Goals as goal
 pub loop-left-preserved : goal.loop-left-preserved
 loop-left-preserved g c =
     let layer = g.L.SendRequest in
-    let m = machine_of layer.transport g.L.Response.GetResponse.ticket_of in
+    let m = machine_of layer.transport g.L.Response.GetResponse.ticket_of g.L.ServesStale.stale in
     let before = client_of c.loop-left.layer (c.loop-left.asked, view_of g.W.Words.stream c.loop-left.cx) in
     let fired = client_of c.fire_all.new.layer (c.fire_all.new.asked, view_of g.W.Words.stream c.fire_all.new.cx) in
     let after = client_of c.take_frame.new.layer (c.take_frame.new.asked, view_of g.W.Words.stream c.take_frame.new.cx) in

@@ -8,7 +8,7 @@ use Rattle.client_steps.proofs.calls.take_frames.Given as goal
 abbrev pub invariant-loop-left : goal.invariant-loop-left
 invariant-loop-left g l =
     let layer = g.L.SendRequest in
-    let m = machine_of layer.transport g.L.Response.GetResponse.ticket_of in
+    let m = machine_of layer.transport g.L.Response.GetResponse.ticket_of g.L.ServesStale.stale in
     record {
       lends : LendsTheSame l.fn.cx l.cx;
       same : plain.more_frames m l.fn.place l.fn.most (client_of l.fn.layer (l.fn.asked, view_of g.W.Words.stream l.fn.cx))
