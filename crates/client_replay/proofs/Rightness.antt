@@ -1,4 +1,4 @@
--- What a replay has made when no event is left is right and timely, and hits, and its events may be cut.
+-- What a replay has made when no event is left is right and timely, hits and serves stale, and its events may be cut.
 use Rattle.std.proofs.Common.{◌≡◌, ℕ, ◌≤◌, List, [], ◌++◌, length, drop, Some, ap, ◌∙◌, append-nil}
 use Rattle.std.proofs.lemmas.List.{drop_all}
 use Rattle.std.specs.Prelude.{option_map}
@@ -6,7 +6,7 @@ use Rattle.client_request.specs.declared.event.Event.{Event}
 use Rattle.client_request.specs.declared.event.Row.{Row}
 use Rattle.client_steps.specs.Client.{plain_rows}
 use Rattle.proof_cutting.specs.Cuts.{EveryPlainTraceMayBeCut, MayBeCut}
-use Rattle.proof_client.specs.Ties.{AreHandedIn, EveryPlainTraceHits, EveryPlainTraceIsRight}
+use Rattle.proof_client.specs.Ties.{AreHandedIn, EveryPlainTraceHits, EveryPlainTraceIsRight, EveryPlainTraceServesStale}
 use Rattle.client_settings.specs.Settings.{CacheSettings, RedundantSettings}
 use Rattle.client_steps.specs.Headline.{conf_of, settings_of}
 use Rattle.client_steps.specs.Whole.{Client, machine, plain_trace}
@@ -14,6 +14,7 @@ use Rattle.client_cache.specs.Plain.{room_of}
 use Rattle.client_request.specs.Composed.{composed}
 use Rattle.right_trace.specs.Hit.{AllHit}
 use Rattle.right_trace.specs.Right.{Right}
+use Rattle.right_trace.specs.StaleServed.{AllServeStale}
 use Rattle.right_trace.specs.Timely.{Timely}
 use Rattle.resolv_conf.specs.declared.conf.ResolvConf.{ResolvConf}
 
@@ -31,6 +32,10 @@ module _ (redundant : RedundantSettings) (cache : CacheSettings) (conf : ResolvC
   pub hits_at_the_end : EveryPlainTraceHits → plain_trace redundant cache conf words events ≡ option_map (λ rest. rows ++ rest) (plain_rows machine timeout (drop i events) client)
       → length events ≤ i → AreHandedIn cache words events → AllHit (conf_of conf) (settings_of redundant cache) composed (room_of cache) [] rows
   hits_at_the_end law same le handed = law redundant cache conf words events rows (plain_at_the_end same le) handed
+
+  pub serves_at_the_end : EveryPlainTraceServesStale → plain_trace redundant cache conf words events ≡ option_map (λ rest. rows ++ rest) (plain_rows machine timeout (drop i events) client)
+      → length events ≤ i → AreHandedIn cache words events → AllServeStale (conf_of conf) (settings_of redundant cache) (room_of cache) [] rows
+  serves_at_the_end law same le handed = law redundant cache conf words events rows (plain_at_the_end same le) handed
 
   pub cut_at_the_end : EveryPlainTraceMayBeCut → plain_trace redundant cache conf words events ≡ option_map (λ rest. rows ++ rest) (plain_rows machine timeout (drop i events) client)
       → length events ≤ i → AreHandedIn cache words events → MayBeCut redundant cache conf words events rows

@@ -11,5 +11,8 @@
 
 mod replaying;
 
-pub use proof_client::{every_plain_trace_hits, every_plain_trace_is_right, plain_traces_are_runs};
+pub use proof_client::{
+    every_plain_trace_hits, every_plain_trace_is_right, every_plain_trace_serves_stale,
+    plain_traces_are_runs,
+};
 pub use replaying::Replay;

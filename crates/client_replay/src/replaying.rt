@@ -9,11 +9,14 @@ ghost use Rattle.client_cache.specs.Plain.{room_of};
 ghost use Rattle.client_request.specs.Composed.{composed};
 ghost use Rattle.right_trace.specs.Hit.{AllHit};
 ghost use Rattle.right_trace.specs.Right.{Right};
+ghost use Rattle.right_trace.specs.StaleServed.{AllServeStale};
 ghost use Rattle.right_trace.specs.Timely.{Timely};
 
 use client_core::{Client, all_asked_in_octets, all_in_octets, cache, redundant};
 use client_request::{Error, Event, Rows, Trace, Words};
-use proof_client::{every_plain_trace_hits, every_plain_trace_is_right};
+use proof_client::{
+    every_plain_trace_hits, every_plain_trace_is_right, every_plain_trace_serves_stale,
+};
 use proof_cutting::every_plain_trace_may_be_cut;
 use resolv_conf::ResolvConf;
 use std::alloc::Global;
@@ -24,7 +27,8 @@ pub trait Replay {
     /// order. `NoMemory`, or `NumbersUsed` where a number would pass the greatest `u64`.
     ///
     /// The trace is right and timely whatever the events are; and what is kept is given: a request with the key of a message that is kept is answered from the cache in its own row, few enough requests
-    /// and replies later. Where the octets that one event brings to a stream come in several, one behind another at one moment,
+    /// and replies later. A request for which a message that is kept had expired gets that message, marked as stale, in place of
+    /// an error of a server or of its deadline, for as long as the settings say. Where the octets that one event brings to a stream come in several, one behind another at one moment,
     /// the same is put out in the same order, and the same client is left.
     fn replay<W: Words>(
         alloc: Global,
@@ -39,6 +43,7 @@ pub trait Replay {
         ensures right { IfOk result (λ t. Right (conf_of conf.now) (settings_of redundant cache) t.rows) }
         ensures timely { IfOk result (λ t. Timely (conf_of conf.now) t.rows) }
         ensures hits { IfOk result (λ t. AllHit (conf_of conf.now) (settings_of redundant cache) composed (room_of cache) [] t.rows) }
+        ensures stale { IfOk result (λ t. AllServeStale (conf_of conf.now) (settings_of redundant cache) (room_of cache) [] t.rows) }
         ensures cut { IfOk result (λ t. MayBeCut redundant cache conf.now (W.stream words.old) events.now t.rows) }
         ensures numbers { IsErrOf result Error.NumbersUsed → plain_trace redundant cache conf.now (W.stream words.old) events.now ≡ None }
         ensures refused { IfErr result IsWant };
@@ -65,6 +70,7 @@ impl Replay for Client {
         all_in_octets(events);
         every_plain_trace_is_right();
         every_plain_trace_hits();
+        every_plain_trace_serves_stale();
         every_plain_trace_may_be_cut();
         Ok(Trace { rows })
     }

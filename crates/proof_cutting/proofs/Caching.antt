@@ -6,13 +6,16 @@ use Rattle.client_request.specs.Numbered.{puts, frees, entry_at}
 use Rattle.client_request.specs.Timers.{TimerList, can_draw}
 use Rattle.client_request.specs.View.{View, Transport, more_at, due_timer, answers}
 use Rattle.client_request.specs.declared.board.Posted.{Posted}
+use Rattle.client_request.specs.declared.error.Error.{Error}
 use Rattle.client_request.specs.declared.event.Out.{Out}
 use Rattle.client_cache.specs.Plain as caching
-use Rattle.client_cache.specs.Plain.{Cached, Kept, Job, Reading, Response, onto, gives, gives_part, settles_for, settles, settles_all, settled, settled_after, with_parts, with_table, with_upstream, way_for, goes, hands_on, drops_job, drops_below, response_below, send, takes, hears, ticked, response_of}
+use Rattle.client_cache.specs.Keeping.{Spare, spare_stands_in}
+use Rattle.client_cache.specs.Plain.{Cached, Kept, Job, Reading, Response, onto, gives, gives_part, gives_instead, gives_outcome, gives_error, settles_for, settles, settles_all, settled, settled_after, with_parts, with_table, with_upstream, way_for, goes, hands_on, drops_job, drops_below, response_below, send, takes, hears, ticked, response_of}
 use Rattle.client_cache.specs.declared.steps.Way.{Way}
 use Rattle.client_cache.specs.declared.steps.Way.TheVariants.{Given, Asks}
+use Rattle.right_trace.specs.Errors.{is_failure}
 use Rattle.right_trace.specs.Keys.{Key}
-use Rattle.proof_cutting.specs.Pieces.{like, IsReady, Both, Neither, Each, Stays, MayClose, Takes, IsCuttable, CancelsQuietly}
+use Rattle.proof_cutting.specs.Pieces.{like, IsReady, Both, Neither, Each, Stays, MayClose, Takes, IsCuttable, CancelsQuietly, StandsInAlike}
 use Rattle.proof_cutting.specs.Choices.{cached_octets, longer_cached, IsFitCached}
 use Rattle.proof_cutting.proofs.Boards.{KeepsBoard, keeps_map, keeps_left}
 use Rattle.proof_cutting.proofs.Views.{map_both, weaker}
@@ -21,18 +24,33 @@ use Rattle.proof_cutting.proofs.Views.{map_both, weaker}
 
 -- it is settled alike in a view alike, and leaves a view as it is, but for its board
 module _ (before : List Out) (more : Bool) (request : ℕ) where
-  gives_part_like : (ticket : ℕ) (key : Key) (k : Kept) (v : View) (part : Part) → gives_part ticket key k (like before more request v) part ≡ ((gives_part ticket key k v part).0, like before more request (gives_part ticket key k v part).1)
-  gives_part_like ticket key k v (Ok None) = refl
-  gives_part_like ticket key k v (Ok (Some message)) = refl
-  gives_part_like ticket key k v (Err error) = refl
+  gives_instead_like : (ticket : ℕ) (key : Key) (k : Kept) (v : View) (error : Error) (o : Option (List ℕ))
+      → gives_instead ticket key k (like before more request v) error o ≡ ((gives_instead ticket key k v error o).0, like before more request (gives_instead ticket key k v error o).1)
+  gives_instead_like ticket key k v error None = refl
+  gives_instead_like ticket key k v error (Some message) = refl
+
+  gives_error_like : (ticket : ℕ) (key : Key) (spare : Option Spare) (k : Kept) (v : View) (error : Error)
+      → gives_error ticket key spare k (like before more request v) error ≡ ((gives_error ticket key spare k v error).0, like before more request (gives_error ticket key spare k v error).1)
+  gives_error_like ticket key spare k v error = by (is_failure error)
+    where
+      by : (b : Bool) → (if b then gives_instead ticket key k (like before more request v) error (spare_stands_in k.settings v.now spare) else gives_outcome ticket key k (like before more request v) (Err error))
+          ≡ ((if b then gives_instead ticket key k v error (spare_stands_in k.settings v.now spare) else gives_outcome ticket key k v (Err error)).0, like before more request (if b then gives_instead ticket key k v error (spare_stands_in k.settings v.now spare) else gives_outcome ticket key k v (Err error)).1)
+      by true = gives_instead_like ticket key k v error (spare_stands_in k.settings v.now spare)
+      by false = refl
+
+  gives_part_like : (ticket : ℕ) (key : Key) (spare : Option Spare) (k : Kept) (v : View) (part : Part)
+      → gives_part ticket key spare k (like before more request v) part ≡ ((gives_part ticket key spare k v part).0, like before more request (gives_part ticket key spare k v part).1)
+  gives_part_like ticket key spare k v (Ok None) = refl
+  gives_part_like ticket key spare k v (Ok (Some message)) = refl
+  gives_part_like ticket key spare k v (Err error) = gives_error_like ticket key spare k v error
 
   settles_for_like : (p : Posted) (k : Kept) (v : View) (o : Option Job) → settles_for p k (like before more request v) o ≡ ((settles_for p k v o).0, like before more request (settles_for p k v o).1)
   settles_for_like p k v None = refl
   settles_for_like p k v (Some job) = by job.key
     where
-      by : (key : Option Key) → gives job.ticket key k (like before more request v) p.part ≡ ((gives job.ticket key k v p.part).0, like before more request (gives job.ticket key k v p.part).1)
+      by : (key : Option Key) → gives job.ticket key job.spare k (like before more request v) p.part ≡ ((gives job.ticket key job.spare k v p.part).0, like before more request (gives job.ticket key job.spare k v p.part).1)
       by None = refl
-      by (Some key) = gives_part_like job.ticket key k v p.part
+      by (Some key) = gives_part_like job.ticket key job.spare k v p.part
 
   settles_all_like : (ps : List Posted) (k : Kept) (v : View) → settles_all ps k (like before more request v) ≡ ((settles_all ps k v).0, like before more request (settles_all ps k v).1)
   settles_all_like [] k v = refl
@@ -40,18 +58,32 @@ module _ (before : List Out) (more : Bool) (request : ℕ) where
       ap (λ (x : Kept × View). settles_all ps x.0 x.1) (settles_for_like p (record k { waiting = frees p.ticket k.waiting }) v (entry_at p.ticket k.waiting))
       ∙ settles_all_like ps (settles p k v).0 (settles p k v).1
 
-gives_part_onto : (ticket : ℕ) (key : Key) (k : Kept) (v : View) (part : Part) → (gives_part ticket key k v part).1 ≡ onto (gives_part ticket key k v part).1.board v
-gives_part_onto ticket key k v (Ok None) = refl
-gives_part_onto ticket key k v (Ok (Some message)) = refl
-gives_part_onto ticket key k v (Err error) = refl
+gives_instead_onto : (ticket : ℕ) (key : Key) (k : Kept) (v : View) (error : Error) (o : Option (List ℕ)) → (gives_instead ticket key k v error o).1 ≡ onto (gives_instead ticket key k v error o).1.board v
+gives_instead_onto ticket key k v error None = refl
+gives_instead_onto ticket key k v error (Some message) = refl
+
+gives_error_onto : (ticket : ℕ) (key : Key) (spare : Option Spare) (k : Kept) (v : View) (error : Error) → (gives_error ticket key spare k v error).1 ≡ onto (gives_error ticket key spare k v error).1.board v
+gives_error_onto ticket key spare k v error = by (is_failure error)
+  where
+    given : Bool → Kept × View
+    given b = if b then gives_instead ticket key k v error (spare_stands_in k.settings v.now spare) else gives_outcome ticket key k v (Err error)
+
+    by : (b : Bool) → (given b).1 ≡ onto (given b).1.board v
+    by true = gives_instead_onto ticket key k v error (spare_stands_in k.settings v.now spare)
+    by false = refl
+
+gives_part_onto : (ticket : ℕ) (key : Key) (spare : Option Spare) (k : Kept) (v : View) (part : Part) → (gives_part ticket key spare k v part).1 ≡ onto (gives_part ticket key spare k v part).1.board v
+gives_part_onto ticket key spare k v (Ok None) = refl
+gives_part_onto ticket key spare k v (Ok (Some message)) = refl
+gives_part_onto ticket key spare k v (Err error) = gives_error_onto ticket key spare k v error
 
 settles_for_onto : (p : Posted) (k : Kept) (v : View) (o : Option Job) → (settles_for p k v o).1 ≡ onto (settles_for p k v o).1.board v
 settles_for_onto p k v None = refl
 settles_for_onto p k v (Some job) = by job.key
   where
-    by : (key : Option Key) → (gives job.ticket key k v p.part).1 ≡ onto (gives job.ticket key k v p.part).1.board v
+    by : (key : Option Key) → (gives job.ticket key job.spare k v p.part).1 ≡ onto (gives job.ticket key job.spare k v p.part).1.board v
     by None = refl
-    by (Some key) = gives_part_onto job.ticket key k v p.part
+    by (Some key) = gives_part_onto job.ticket key job.spare k v p.part
 
 settles_all_onto : (ps : List Posted) (k : Kept) (v : View) → (settles_all ps k v).1 ≡ onto (settles_all ps k v).1.board v
 settles_all_onto [] k v = refl
@@ -106,8 +138,8 @@ module _ {R U P : Type 0} (place : ℕ) (below : Transport R U P) (octets : U �
   goes_alike : (piece : List ℕ) (before : List Out) (more : Bool) (ticket : ℕ) (request : R) (u : U) (k : Kept) (v : View) (way : Way) → IsFit u v.timers.next
       → Both (Over piece) before (λ x w. Stays octets IsFit u v x.0 w) (goes below ticket request u k v way) (goes below ticket request (longer piece u) k (like before more v.request v) way)
   goes_alike piece before more ticket request u k v (Given outcome) fit = Each _ _ more v.request (stays_here u v (answers ticket (caching.part_of outcome) v) fit refl refl refl)
-  goes_alike piece before more ticket request u k v (Asks key) fit =
-      settled_alike piece before (Stays octets IsFit u (onto [] v)) (Stays octets IsFit u v) (record k { waiting = puts v.ticket (record { ticket = ticket; key = key }) k.waiting }) v more v.request _ _ (stays_on u v)
+  goes_alike piece before more ticket request u k v (Asks key spare) fit =
+      settled_alike piece before (Stays octets IsFit u (onto [] v)) (Stays octets IsFit u v) (record k { waiting = puts v.ticket (record { ticket = ticket; key = key; spare = spare }) k.waiting }) v more v.request _ _ (stays_on u v)
       (cut.sends piece before more request u (onto [] v) fit)
 
   sends : (piece : List ℕ) (before : List Out) (more : Bool) (request : R) (c : Cached U) (v : View) → IsFit c.upstream v.timers.next
@@ -160,7 +192,7 @@ module _ {R U P : Type 0} (place : ℕ) (below : Transport R U P) (octets : U �
     where
       by : (way : Way) → response_below below r (longer piece c.upstream) (like before more request (ticked v)) way ≡ response_below below r c.upstream (ticked v) way
       by (Given outcome) = refl
-      by (Asks key) = ap Some (cut.response piece before more request r c.upstream (onto [] (ticked v)))
+      by (Asks key spare) = ap Some (cut.response piece before more request r c.upstream (onto [] (ticked v)))
 
   pub caches_are_cuttable : IsCuttable place (caching.transport reading ticket_of below) (cached_octets octets) (longer_cached longer) (IsFitCached IsFit)
   caches_are_cuttable = record {
@@ -178,6 +210,12 @@ module _ {R U P : Type 0} (place : ℕ) (below : Transport R U P) (octets : U �
     fires = fires;
     takes = hears_frame;
   }
+
+-- ---- what stands in for a result
+
+-- It is told by what is kept and the moment.
+pub caches_stand_in_alike : {U P : Type 0} (longer : List ℕ → U → U) (ticket_of : P → ℕ) → StandsInAlike (longer_cached longer) (caching.stale ticket_of)
+caches_stand_in_alike longer ticket_of piece before more request r c v = refl
 
 -- ---- what a request that is given up leaves of the board
 

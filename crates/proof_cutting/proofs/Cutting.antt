@@ -3,13 +3,13 @@ use Rattle.std.proofs.Common.{◌≡◌, ℕ, zero, suc, ◌⊎◌, inl, inr, ma
 use Rattle.std.specs.Prelude.{option_and_then}
 use Rattle.client_request.specs.Request.{Request}
 use Rattle.client_request.specs.Timers.{due_now}
-use Rattle.client_request.specs.View.{Transport}
+use Rattle.client_request.specs.View.{View, Transport}
 use Rattle.client_request.specs.declared.event.Event.{Event}
 use Rattle.client_request.specs.declared.event.Moment.{Moment}
 use Rattle.client_request.specs.declared.event.Out.{Out}
 use Rattle.client_steps.specs.Client.{Client, rested, most_timers, fires_all, next_frame, more_frames}
 use Rattle.client_steps.specs.Machines.{machine_of}
-use Rattle.proof_cutting.specs.Pieces.{stands, IsCuttable, CancelsQuietly}
+use Rattle.proof_cutting.specs.Pieces.{stands, IsCuttable, GivesUpQuietly}
 use Rattle.proof_cutting.specs.Told.{bytes_at}
 use Rattle.proof_cutting.proofs.Counting.{with_more, behind_first, IsEnough, no_steps, one_less, still_stands}
 use Rattle.proof_cutting.proofs.Beside.{beside, Meet, Any, first_also, meet_same}
@@ -22,16 +22,16 @@ enough_behind : (n : ℕ) (o p : Option (List ℕ)) → IsEnough n (behind_first
 enough_behind n o p l (inl e) = subst (λ o. IsEnough n (behind_first o)) (sym e) l
 enough_behind n o p l (inr e) = subst (λ o. IsEnough n (behind_first o)) (sym e) tt
 
-module _ {U P : Type 0} {place : ℕ} {t : Transport Request U P} {octets : U → Option (List ℕ)} {longer : List ℕ → U → U} {IsFit : U → (timer : ℕ) → Type 0} (ticket : P → ℕ)
-    (cuttable : IsCuttable place t octets longer IsFit) (quiet : CancelsQuietly t IsFit) (timeout : ℕ) where
+module _ {U P : Type 0} {place : ℕ} {t : Transport Request U P} {octets : U → Option (List ℕ)} {longer : List ℕ → U → U} {IsFit : U → (timer : ℕ) → Type 0} {stale : P → U → View → Option (List ℕ)} (ticket : P → ℕ)
+    (cuttable : IsCuttable place t octets longer IsFit) (quiet : GivesUpQuietly t longer IsFit stale) (timeout : ℕ) where
   abbrev Fit : Client U P → Type 0
   Fit c = IsFit c.layer c.view.timers.next
 
   abbrev fired : Client U P → Option (Client U P)
-  fired c = fires_all (machine_of t ticket) c
+  fired c = fires_all (machine_of t ticket stale) c
 
   abbrev frames : ℕ → Client U P → Option (Client U P)
-  frames n c = more_frames (machine_of t ticket) place n c
+  frames n c = more_frames (machine_of t ticket stale) place n c
 
   longer_on : (piece : List ℕ) (u w : U) → (octets w ≡ octets u) ⊎ (octets w ≡ None) → (octets (longer piece w) ≡ octets (longer piece u)) ⊎ (octets (longer piece w) ≡ None)
   longer_on piece u w (inl e) = inl (cuttable.behind piece w ∙ ap (with_more piece) e ∙ sym (cuttable.behind piece u))
@@ -42,10 +42,10 @@ module _ {U P : Type 0} {place : ℕ} {t : Transport Request U P} {octets : U �
     calm c = IsCalm octets IsFit moment c
 
     abbrev takes : ℕ → Client U P → Option (Client U P)
-    takes n c = takes_all (machine_of t ticket) place n c
+    takes n c = takes_all (machine_of t ticket stale) place n c
 
     abbrev ends : List Event → Client U P → Option (List Out × Client U P)
-    ends es d = row_ends (machine_of t ticket) timeout es d
+    ends es d = row_ends (machine_of t ticket stale) timeout es d
 
     abbrev one : List ℕ → List Event
     one piece = bytes_at moment place piece ∷ []
@@ -59,7 +59,7 @@ module _ {U P : Type 0} {place : ℕ} {t : Transport Request U P} {octets : U �
     regroup es n (Some c) = refl
 
     regroup_next : (n : ℕ) (o : Option (Client U P))
-        → option_and_then (ends []) (option_and_then fired (option_and_then (frames n) (option_and_then (next_frame (machine_of t ticket) place) o))) ≡ option_and_then (λ c. option_and_then (ends []) (takes n c)) o
+        → option_and_then (ends []) (option_and_then fired (option_and_then (frames n) (option_and_then (next_frame (machine_of t ticket stale) place) o))) ≡ option_and_then (λ c. option_and_then (ends []) (takes n c)) o
     regroup_next n None = refl
     regroup_next n (Some c) = refl
 
@@ -98,7 +98,7 @@ module _ {U P : Type 0} {place : ℕ} {t : Transport Request U P} {octets : U �
       fired_known : (more : Bool) (request : ℕ) (c : Client U P) → Fit c
           → Meet (longer b) [] (λ d. Fired octets IsFit c d × (due_now d.view.now d.view.timers.set ≡ None)) Any (fired c) (fired (beside (longer b) [] more request c))
       fired_known more request c fit =
-          first_also (fires_beside ticket cuttable quiet b [] most_timers more request c fit) (λ d is. none_due (machine_of t ticket) most_timers c d is)
+          first_also (fires_beside ticket cuttable quiet b [] most_timers more request c fit) (λ d is. none_due (machine_of t ticket stale) most_timers c d is)
 
       is_calm : (c d : Client U P) → max c.view.now moment.0 ≡ c.view.now → stands (octets c.layer) ≡ false → Fired octets IsFit c d × (due_now d.view.now d.view.timers.set ≡ None) → calm d
       is_calm c d passed none f = record {
@@ -112,22 +112,22 @@ module _ {U P : Type 0} {place : ℕ} {t : Transport Request U P} {octets : U �
       both_end : (n k : ℕ) (more : Bool) (request : ℕ) (c : Client U P) → IsWithin n k more c → stands (octets c.layer) ≡ false → stands (octets (longer b c.layer)) ≡ false
           → rest [] k (beside (longer b) [] more request c) ≡ option_and_then (ends (one b)) (option_and_then fired (frames n c))
       both_end n k more request c w none none_too =
-          ap (λ o. option_and_then (ends []) (option_and_then fired o)) (more_idle (machine_of t ticket) place k (beside (longer b) [] more request c) (w.says_too ∙ none_too))
+          ap (λ o. option_and_then (ends []) (option_and_then fired o)) (more_idle (machine_of t ticket stale) place k (beside (longer b) [] more request c) (w.says_too ∙ none_too))
           ∙ meet_same (ends (one b)) (ends []) (fired_known more request c w.fit)
           (λ d more' request' f s. goes_no_more more' request' d (is_calm c d w.passed none f) ((f.0).board w.empty)
           (none_on (octets (longer b c.layer)) (octets (longer b d.layer)) none_too (longer_on b c.layer d.layer (f.0).octets)))
-          ∙ sym (ap (λ o. option_and_then (ends (one b)) (option_and_then fired o)) (more_idle (machine_of t ticket) place n c (w.says ∙ none)))
+          ∙ sym (ap (λ o. option_and_then (ends (one b)) (option_and_then fired o)) (more_idle (machine_of t ticket stale) place n c (w.says ∙ none)))
 
       -- the longer octets have one
       first_ends : (n k : ℕ) (more : Bool) (request : ℕ) (c : Client U P) → IsWithin n (suc k) more c → stands (octets c.layer) ≡ false → stands (octets (longer b c.layer)) ≡ true
           → rest [] (suc k) (beside (longer b) [] more request c) ≡ option_and_then (ends (one b)) (option_and_then fired (frames n c))
       first_ends n k more request c w none one_more =
-          ap (λ o. option_and_then (ends []) (option_and_then fired o)) (more_going (machine_of t ticket) place k (beside (longer b) [] more request c) (w.says_too ∙ one_more))
+          ap (λ o. option_and_then (ends []) (option_and_then fired o)) (more_going (machine_of t ticket stale) place k (beside (longer b) [] more request c) (w.says_too ∙ one_more))
           ∙ regroup_next k (fired (beside (longer b) [] more request c))
           ∙ meet_same (ends (one b)) (λ x. option_and_then (ends []) (takes k x)) (fired_known more request c w.fit)
           (λ d more' request' f s. goes_on k more' request' d (is_calm c d w.passed none f)
           (enough_behind k (octets (longer b c.layer)) (octets (longer b d.layer)) (one_less k (octets (longer b c.layer)) w.enough_too one_more) (longer_on b c.layer d.layer (f.0).octets)))
-          ∙ sym (ap (λ o. option_and_then (ends (one b)) (option_and_then fired o)) (more_idle (machine_of t ticket) place n c (w.says ∙ none)))
+          ∙ sym (ap (λ o. option_and_then (ends (one b)) (option_and_then fired o)) (more_idle (machine_of t ticket stale) place n c (w.says ∙ none)))
 
       none_left : (n k : ℕ) (more : Bool) (request : ℕ) (c : Client U P) → IsWithin n k more c → stands (octets c.layer) ≡ false
           → rest [] k (beside (longer b) [] more request c) ≡ option_and_then (ends (one b)) (option_and_then fired (frames n c))
@@ -146,8 +146,8 @@ module _ {U P : Type 0} {place : ℕ} {t : Transport Request U P} {octets : U �
           → rest [] (suc k) (beside (longer b) [] more request c) ≡ option_and_then (ends (one b)) (option_and_then fired (frames (suc n) c))
       one_left n k ih more request c w h =
           let h' = stands_too c.layer h in
-          ap (λ o. option_and_then (ends []) (option_and_then fired o)) (more_going (machine_of t ticket) place k (beside (longer b) [] more request c) (w.says_too ∙ h'))
-          ∙ regroup [] k (go_on (machine_of t ticket) place (beside (longer b) [] more request c))
+          ap (λ o. option_and_then (ends []) (option_and_then fired o)) (more_going (machine_of t ticket stale) place k (beside (longer b) [] more request c) (w.says_too ∙ h'))
+          ∙ regroup [] k (go_on (machine_of t ticket stale) place (beside (longer b) [] more request c))
           ∙ meet_same (rest (one b) n) (rest [] k) (on_both ticket cuttable quiet b [] more request c w.fit h)
           (λ d more' request' f s. ih more' request' d (record {
             fit = f.fit;
@@ -158,7 +158,7 @@ module _ {U P : Type 0} {place : ℕ} {t : Transport Request U P} {octets : U �
             enough = enough_on n (octets c.layer) (octets d.layer) (one_less n (octets c.layer) w.enough h) f.octets;
             enough_too = enough_on k (octets (longer b c.layer)) (octets (longer b d.layer)) (one_less k (octets (longer b c.layer)) w.enough_too h') s.octets;
           }))
-          ∙ sym (ap (λ o. option_and_then (ends (one b)) (option_and_then fired o)) (more_going (machine_of t ticket) place n c (w.says ∙ h)) ∙ regroup (one b) n (go_on (machine_of t ticket) place c))
+          ∙ sym (ap (λ o. option_and_then (ends (one b)) (option_and_then fired o)) (more_going (machine_of t ticket stale) place n c (w.says ∙ h)) ∙ regroup (one b) n (go_on (machine_of t ticket stale) place c))
 
       cuts_alike : (n k : ℕ) → CutsAlike n k
       cuts_alike zero k more request c w = none_left zero k more request c w (no_steps (octets c.layer) w.enough)
@@ -175,7 +175,7 @@ module _ {U P : Type 0} {place : ℕ} {t : Transport Request U P} {octets : U �
 
       module _ (a : List ℕ) where
         abbrev comes_with : List ℕ → Client U P → Option (Client U P)
-        comes_with piece c = comes (machine_of t ticket) place piece c
+        comes_with piece c = comes (machine_of t ticket stale) place piece c
 
         abbrev with_first : Client U P → Client U P
         with_first c = brought longer a c
@@ -188,7 +188,7 @@ module _ {U P : Type 0} {place : ℕ} {t : Transport Request U P} {octets : U �
             → option_and_then (ends []) (takes (length (a ++ b)) (beside (longer b) [] c.view.more c.view.request (with_first c))) ≡ option_and_then (ends (one b)) (takes (length a) (with_first c))
         first_takes c k h =
             let e : Client U P = with_first c in
-            regroup [] (length (a ++ b)) (next_frame (machine_of t ticket) place (beside (longer b) [] c.view.more c.view.request e))
+            regroup [] (length (a ++ b)) (next_frame (machine_of t ticket stale) place (beside (longer b) [] c.view.more c.view.request e))
             ∙ meet_same (rest (one b) (length a)) (rest [] (length (a ++ b)))
             (next_both ticket cuttable quiet b [] c.view.more c.view.request e (cuttable.fits a c.layer c.view.timers.next k.fit) h)
             (λ d more' request' f s. cuts_alike (length a) (length (a ++ b)) more' request' d (record {
@@ -200,7 +200,7 @@ module _ {U P : Type 0} {place : ℕ} {t : Transport Request U P} {octets : U �
               enough = enough_on (length a) (octets e.layer) (octets d.layer) (new_enough ticket cuttable quiet a c.layer k.none) f.octets;
               enough_too = enough_on (length (a ++ b)) (octets (longer b e.layer)) (octets (longer b d.layer)) (enough_whole c k) s.octets;
             }))
-            ∙ sym (regroup (one b) (length a) (next_frame (machine_of t ticket) place e))
+            ∙ sym (regroup (one b) (length a) (next_frame (machine_of t ticket stale) place e))
 
         -- none stands yet
         first_rests : (c : Client U P) → calm c → c.view.board ≡ [] → c.view.more ≡ false → stands (octets (longer a c.layer)) ≡ false

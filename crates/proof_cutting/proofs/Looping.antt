@@ -8,7 +8,7 @@ use Rattle.client_request.specs.declared.event.Out.{Out}
 use Rattle.client_steps.specs.Client.{Asked, Client, Machine, client_of, settles, replies, most_timers, fires_all, next_frame, more_frames}
 use Rattle.client_steps.specs.Machines.{machine_of}
 use Rattle.client_steps.proofs.Fuel.{none_fires}
-use Rattle.proof_cutting.specs.Pieces.{like, stands, IsReady, Both, Each, Takes, IsCuttable, CancelsQuietly}
+use Rattle.proof_cutting.specs.Pieces.{like, stands, IsReady, Both, Each, Takes, IsCuttable, GivesUpQuietly}
 use Rattle.proof_cutting.proofs.Views.{same_both}
 use Rattle.proof_cutting.proofs.Counting.{with_more, behind_first, IsEnough, no_steps, one_less, still_stands, is_ready, none_behind}
 use Rattle.proof_cutting.proofs.Replying.{nothing_to_reply, replies_keep, replies_empty}
@@ -101,8 +101,8 @@ module _ {U P : Type 0} (m : Machine U P) (place : ℕ) where
   pub more_going : (n : ℕ) (c : Client U P) → c.view.more ≡ true → more_frames m place (suc n) c ≡ option_and_then (more_frames m place n) (go_on c)
   more_going n c e = ap (λ (b : Bool). if b then option_and_then (more_frames m place n) (go_on c) else Some c) e
 
-module _ {U P : Type 0} {place : ℕ} {t : Transport Request U P} {octets : U → Option (List ℕ)} {longer : List ℕ → U → U} {IsFit : U → (timer : ℕ) → Type 0} (ticket : P → ℕ)
-    (cuttable : IsCuttable place t octets longer IsFit) (quiet : CancelsQuietly t IsFit) where
+module _ {U P : Type 0} {place : ℕ} {t : Transport Request U P} {octets : U → Option (List ℕ)} {longer : List ℕ → U → U} {IsFit : U → (timer : ℕ) → Type 0} {stale : P → U → View → Option (List ℕ)} (ticket : P → ℕ)
+    (cuttable : IsCuttable place t octets longer IsFit) (quiet : GivesUpQuietly t longer IsFit stale) where
   abbrev pub Fit : Client U P → Type 0
   Fit c = IsFit c.layer c.view.timers.next
 
@@ -110,13 +110,13 @@ module _ {U P : Type 0} {place : ℕ} {t : Transport Request U P} {octets : U �
   Goes piece before First Second first second = Meet (longer piece) before First Second first second
 
   abbrev on : Client U P → Option (Client U P)
-  on c = go_on (machine_of t ticket) place c
+  on c = go_on (machine_of t ticket stale) place c
 
   abbrev next : Client U P → Option (Client U P)
-  next c = next_frame (machine_of t ticket) place c
+  next c = next_frame (machine_of t ticket stale) place c
 
   abbrev frames : ℕ → Client U P → Option (Client U P)
-  frames n c = more_frames (machine_of t ticket) place n c
+  frames n c = more_frames (machine_of t ticket stale) place n c
 
   pub same_octets : (u : U) → octets (longer [] u) ≡ octets u
   same_octets u = cuttable.behind [] u ∙ nothing_more (octets u)
@@ -157,14 +157,14 @@ module _ {U P : Type 0} {place : ℕ} {t : Transport Request U P} {octets : U �
   none_left : (n k : ℕ) (before : List Out) (more : Bool) (request : ℕ) (c : Client U P) → Fit c → c.view.more ≡ stands (octets c.layer) → more ≡ stands (octets c.layer) → c.view.board ≡ []
       → stands (octets c.layer) ≡ false → Goes [] before (Done octets IsFit c) Any (frames n c) (frames k (beside (longer []) before more request c))
   none_left n k before more request c fit e e' board h =
-      same_meet (more_idle (machine_of t ticket) place n c (e ∙ h)) (more_idle (machine_of t ticket) place k (beside (longer []) before more request c) (e' ∙ h))
+      same_meet (more_idle (machine_of t ticket stale) place n c (e ∙ h)) (more_idle (machine_of t ticket stale) place k (beside (longer []) before more request c) (e' ∙ h))
       (There c more request (record { fit = fit; none = h; now = refl; board = board }) tt)
 
   one_left : (n k : ℕ) → TakesAlike n k → (before : List Out) (more : Bool) (request : ℕ) (c : Client U P) → Fit c → c.view.more ≡ stands (octets c.layer) → more ≡ stands (octets c.layer)
       → IsEnough (suc n) (octets c.layer) → IsEnough (suc k) (octets c.layer) → stands (octets c.layer) ≡ true
       → Goes [] before (Done octets IsFit c) Any (frames (suc n) c) (frames (suc k) (beside (longer []) before more request c))
   one_left n k ih before more request c fit e e' l l' h =
-      same_meet (more_going (machine_of t ticket) place n c (e ∙ h)) (more_going (machine_of t ticket) place k (beside (longer []) before more request c) (e' ∙ h))
+      same_meet (more_going (machine_of t ticket stale) place n c (e ∙ h)) (more_going (machine_of t ticket stale) place k (beside (longer []) before more request c) (e' ∙ h))
       (then_meet (frames n) (frames k) (on_both [] before more request c fit h)
       (λ d more' request' f s. first_less
       (ih before more' request' d f.fit f.more (s.more ∙ ap stands (same_octets d.layer)) f.board
@@ -207,9 +207,9 @@ module _ {U P : Type 0} {place : ℕ} {t : Transport Request U P} {octets : U �
 
   -- All frames are taken alike, whatever was put out before.
   pub all_beside : (n k : ℕ) (before : List Out) (more : Bool) (request : ℕ) (c : Client U P) → Fit c → IsEnough n (behind_first (octets c.layer)) → IsEnough k (behind_first (octets c.layer))
-      → Goes [] before (Done octets IsFit c) Any (takes_all (machine_of t ticket) place n c) (takes_all (machine_of t ticket) place k (beside (longer []) before more request c))
+      → Goes [] before (Done octets IsFit c) Any (takes_all (machine_of t ticket stale) place n c) (takes_all (machine_of t ticket stale) place k (beside (longer []) before more request c))
   all_beside n k before more request c fit l l' =
-      then_meet (fires_all (machine_of t ticket)) (fires_all (machine_of t ticket))
+      then_meet (fires_all (machine_of t ticket stale)) (fires_all (machine_of t ticket stale))
       (then_meet (frames n) (frames k) (first_both before more request c fit)
       (λ d more' request' f s. first_less
       (frames_beside n k before more' request' d f.fit f.more (s.more ∙ ap stands (same_octets d.layer)) f.board
@@ -226,7 +226,7 @@ module _ {U P : Type 0} {place : ℕ} {t : Transport Request U P} {octets : U �
       ∙ ap (λ (b : Bool). Some (record c { view = record c.view { more = b } })) (sym e)
 
   pub all_rest : (n : ℕ) (c : Client U P) → Fit c → stands (octets c.layer) ≡ false → c.view.more ≡ false → c.view.board ≡ [] → due_now c.view.now c.view.timers.set ≡ None
-      → takes_all (machine_of t ticket) place n c ≡ Some c
+      → takes_all (machine_of t ticket stale) place n c ≡ Some c
   all_rest n c fit h e board due =
-      ap (option_and_then (fires_all (machine_of t ticket))) (ap (option_and_then (frames n)) (next_rests c fit h e board) ∙ more_idle (machine_of t ticket) place n c e)
-      ∙ none_fires (machine_of t ticket) c due
+      ap (option_and_then (fires_all (machine_of t ticket stale))) (ap (option_and_then (frames n)) (next_rests c fit h e board) ∙ more_idle (machine_of t ticket stale) place n c e)
+      ∙ none_fires (machine_of t ticket stale) c due

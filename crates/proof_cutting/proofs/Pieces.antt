@@ -3,13 +3,13 @@ use Rattle.std.proofs.Common.{◌≡◌, ℕ, max, false, Option, Some, None, Li
 use Rattle.std.specs.List.{concat}
 use Rattle.std.specs.Prelude.{option_and_then}
 use Rattle.client_request.specs.Request.{Request}
-use Rattle.client_request.specs.View.{Transport}
+use Rattle.client_request.specs.View.{View, Transport}
 use Rattle.client_request.specs.declared.event.Event.{Event}
 use Rattle.client_request.specs.declared.event.Moment.{Moment}
 use Rattle.client_request.specs.declared.event.Out.{Out}
 use Rattle.client_steps.specs.Client.{Client, at_moment, rested, most_timers, fires_all}
 use Rattle.client_steps.specs.Machines.{machine_of}
-use Rattle.proof_cutting.specs.Pieces.{stands, IsCuttable, CancelsQuietly}
+use Rattle.proof_cutting.specs.Pieces.{stands, IsCuttable, GivesUpQuietly}
 use Rattle.proof_cutting.specs.Told.{bytes_at, told_all}
 use Rattle.proof_cutting.proofs.Beside.{first_is}
 use Rattle.proof_cutting.proofs.Firing.{Fired, none_due, fires_beside}
@@ -34,29 +34,29 @@ module _ {U P : Type 0} (octets_at : U → Option (List ℕ)) (IsFit : U → (ti
     pub rested : (c.view.outs ≡ []) × (c.view.request ≡ 0) × (c.view.more ≡ false)
     pub board : c.view.board ≡ []
 
-module _ {U P : Type 0} (place : ℕ) (t : Transport Request U P) (ticket : P → ℕ) (octets : U → Option (List ℕ)) (longer : List ℕ → U → U) (IsFit : U → (timer : ℕ) → Type 0)
-    (cuttable : IsCuttable place t octets longer IsFit) (quiet : CancelsQuietly t IsFit) (timeout : ℕ) where
+module _ {U P : Type 0} {stale : P → U → View → Option (List ℕ)} (place : ℕ) (t : Transport Request U P) (ticket : P → ℕ) (octets : U → Option (List ℕ)) (longer : List ℕ → U → U) (IsFit : U → (timer : ℕ) → Type 0)
+    (cuttable : IsCuttable place t octets longer IsFit) (quiet : GivesUpQuietly t longer IsFit stale) (timeout : ℕ) where
   module _ (moment : Moment) where
     abbrev calm : Client U P → Type 0
     calm c = IsCalm octets IsFit moment c
 
     abbrev ends : List Event → Client U P → Option (List Out × Client U P)
-    ends es d = row_ends (machine_of t ticket) timeout es d
+    ends es d = row_ends (machine_of t ticket stale) timeout es d
 
     abbrev one : List ℕ → List Event
     one piece = bytes_at moment place piece ∷ []
 
     abbrev begun : Client U P → Option (Client U P)
-    begun c = fires_all (machine_of t ticket) (at_moment moment.0 c)
+    begun c = fires_all (machine_of t ticket stale) (at_moment moment.0 c)
 
     abbrev told_of : List Event → Client U P → Option (List Out × Client U P)
-    told_of es c = told_all (machine_of t ticket) timeout es c
+    told_of es c = told_all (machine_of t ticket stale) timeout es c
 
     -- where the timers of before have fired
     has_begun : (c d : Client U P) → IsReadyFor octets IsFit c → begun c ≡ Some d → calm d × (d.view.board ≡ []) × (d.view.more ≡ false)
     has_begun c d r is =
         let f : Fired octets IsFit (at_moment moment.0 c) d = first_is d (fires_beside ticket cuttable quiet [] [] most_timers false 0 (at_moment moment.0 c) r.fit) is in
-        let due = none_due (machine_of t ticket) most_timers (at_moment moment.0 c) d is in (
+        let due = none_due (machine_of t ticket stale) most_timers (at_moment moment.0 c) d is in (
           record {
             fit = f.fit;
             none = none_on (octets c.layer) (octets d.layer) r.none f.octets;
@@ -68,10 +68,10 @@ module _ {U P : Type 0} (place : ℕ) (t : Transport Request U P) (ticket : P �
         )
 
     -- The next row begins at a client that is ready too.
-    ready_after : (piece : List ℕ) (c d : Client U P) → IsReadyFor octets IsFit c → option_and_then (comes (machine_of t ticket) place piece) (begun c) ≡ Some d → IsReadyFor octets IsFit (rested d)
+    ready_after : (piece : List ℕ) (c d : Client U P) → IsReadyFor octets IsFit c → option_and_then (comes (machine_of t ticket stale) place piece) (begun c) ≡ Some d → IsReadyFor octets IsFit (rested d)
     ready_after piece c d r is = by (begun c) refl is
       where
-        by : (o : Option (Client U P)) → begun c ≡ o → option_and_then (comes (machine_of t ticket) place piece) o ≡ Some d → IsReadyFor octets IsFit (rested d)
+        by : (o : Option (Client U P)) → begun c ≡ o → option_and_then (comes (machine_of t ticket stale) place piece) o ≡ Some d → IsReadyFor octets IsFit (rested d)
         by None e is = absurd (cc)
         by (Some b) e is =
             let k = (has_begun c b r e).0 in
@@ -85,23 +85,23 @@ module _ {U P : Type 0} (place : ℕ) (t : Transport Request U P) (ticket : P �
     -- Two pieces do what they do in one.
     two_do : (a b : List ℕ) (c : Client U P) → IsReadyFor octets IsFit c → told_of (bytes_at moment place a ∷ one b) c ≡ told_of (one (a ++ b)) c
     two_do a b c r =
-        told_first (machine_of t ticket) timeout place moment a (one b) c
+        told_first (machine_of t ticket stale) timeout place moment a (one b) c
         ∙ by (begun c) (λ d is. has_begun c d r is)
-        ∙ sym (told_first (machine_of t ticket) timeout place moment (a ++ b) [] c)
+        ∙ sym (told_first (machine_of t ticket stale) timeout place moment (a ++ b) [] c)
       where
         by : (o : Option (Client U P)) → ((d : Client U P) → o ≡ Some d → calm d × (d.view.board ≡ []) × (d.view.more ≡ false))
-            → option_and_then (ends (one b)) (option_and_then (comes (machine_of t ticket) place a) o) ≡ option_and_then (ends []) (option_and_then (comes (machine_of t ticket) place (a ++ b)) o)
+            → option_and_then (ends (one b)) (option_and_then (comes (machine_of t ticket stale) place a) o) ≡ option_and_then (ends []) (option_and_then (comes (machine_of t ticket stale) place (a ++ b)) o)
         by None h = refl
         by (Some d) h = let k = h d refl in sym (two_come ticket cuttable quiet timeout moment b a d k.0 k.1 k.2)
 
   -- Octets that come in pieces do what they do in one.
   pub pieces_do : (moment : Moment) (first : List ℕ) (more : List (List ℕ)) (c : Client U P) → IsReadyFor octets IsFit c
-      → told_all (machine_of t ticket) timeout (map (bytes_at moment place) (first ∷ more)) c ≡ told_all (machine_of t ticket) timeout (bytes_at moment place (concat (first ∷ more)) ∷ []) c
+      → told_all (machine_of t ticket stale) timeout (map (bytes_at moment place) (first ∷ more)) c ≡ told_all (machine_of t ticket stale) timeout (bytes_at moment place (concat (first ∷ more)) ∷ []) c
   pieces_do moment first [] c r = ap (λ piece. told_of moment (one moment piece) c) (sym (append-nil first))
   pieces_do moment first (second ∷ more) c r =
-      told_first (machine_of t ticket) timeout place moment first (map (bytes_at moment place) (second ∷ more)) c
+      told_first (machine_of t ticket stale) timeout place moment first (map (bytes_at moment place) (second ∷ more)) c
       ∙ then_same (ends moment (map (bytes_at moment place) (second ∷ more))) (ends moment (one moment (concat (second ∷ more))))
-      (option_and_then (comes (machine_of t ticket) place first) (begun moment c))
+      (option_and_then (comes (machine_of t ticket stale) place first) (begun moment c))
       (λ d is. ap (after_outs d.view.outs) (pieces_do moment second more (rested d) (ready_after moment first c d r is)))
-      ∙ sym (told_first (machine_of t ticket) timeout place moment first (one moment (concat (second ∷ more))) c)
+      ∙ sym (told_first (machine_of t ticket stale) timeout place moment first (one moment (concat (second ∷ more))) c)
       ∙ two_do moment first (concat (second ∷ more)) c r

@@ -61,14 +61,14 @@ module _ (g : Tying) where
   IfTold (Some y) = IsReached y.1
 
   abbrev pub told : List Event → PlainClient g → Option (List Out × PlainClient g)
-  told es d = told_all (machine_of g.T g.ticket) (g.c).timeout es d
+  told es d = told_all (machine_of g.T g.ticket g.stale) (g.c).timeout es d
 
   pub reached_by_events : (es : List Event) → AllAskedInOctets es → AllInOctets es → (d : PlainClient g) → IsReached d → IfTold (told es d)
   reached_by_events [] asked octets d r = r
   reached_by_events (e ∷ es) asked octets d r =
-      by (client_step (machine_of g.T g.ticket) (g.c).timeout e d) (steps_do g e r.phase r.pending d r.state r.kept asked.0 octets.0 r.may_end r.tied r.outs) (reached_by_events es asked.1 octets.1)
+      by (client_step (machine_of g.T g.ticket g.stale) (g.c).timeout e d) (steps_do g e r.phase r.pending d r.state r.kept asked.0 octets.0 r.may_end r.tied r.outs) (reached_by_events es asked.1 octets.1)
     where
-      by : (o : Option (PlainClient g)) → IfSome g (IsStepped g e r.state r.kept) o → ((d : PlainClient g) → IsReached d → IfTold (told es d)) → IfTold (option_and_then (then_told (machine_of g.T g.ticket) (g.c).timeout (told es)) (option_map (row_and_rest e) o))
+      by : (o : Option (PlainClient g)) → IfSome g (IsStepped g e r.state r.kept) o → ((d : PlainClient g) → IsReached d → IfTold (told es d)) → IfTold (option_and_then (then_told (machine_of g.T g.ticket g.stale) (g.c).timeout (told es)) (option_map (row_and_rest e) o))
       by None s ih = tt
       by (Some d1) s ih = rest (told es (rested d1)) (ih (rested d1) (reached_by_row e r.state r.kept d1 s))
         where

@@ -1,12 +1,12 @@
 -- Replies are the same whatever was put out before.
-use Rattle.std.proofs.Common.{◌≡◌, ℕ, zero, suc, Bool, Option, Some, None, List, [], ◌∷◌, length, refl, ◌∙◌, ap, arith}
-use Rattle.client_request.specs.Board.{Part}
+use Rattle.std.proofs.Common.{◌≡◌, ℕ, zero, suc, Bool, true, false, Option, Some, None, List, [], ◌∷◌, length, Ok, Err, refl, ◌∙◌, ap, arith}
 use Rattle.client_request.specs.Numbered.{entry_at}
-use Rattle.client_request.specs.View.{View, drops_timer}
+use Rattle.client_request.specs.View.{View, asks, drops_timer}
 use Rattle.client_request.specs.declared.board.Posted.{Posted}
 use Rattle.client_request.specs.declared.event.Out.{Out}
-use Rattle.client_request.specs.declared.event.Out.TheVariants.{Reply}
-use Rattle.client_steps.specs.Client.{Asked, result_of, without_request, replies_to, replies_one, replies_first, replies_many, replies}
+use Rattle.client_request.specs.declared.error.Error.TheVariants.{TimedOut}
+use Rattle.client_request.specs.declared.event.Out.TheVariants.{Stale, Reply}
+use Rattle.client_steps.specs.Client.{Asked, result_of, marks, late_reply, without_request, replies_to, replies_one, replies_first, replies_many, replies}
 use Rattle.client_steps.specs.declared.asked.Waiting.{Waiting}
 use Rattle.proof_cutting.specs.Pieces.{like}
 use Rattle.proof_cutting.proofs.Views.{asks_like}
@@ -15,17 +15,32 @@ use Rattle.proof_cutting.proofs.Views.{asks_like}
 pub nothing_to_reply : {P : Type 0} (a : Asked P) (v : View) → v.board ≡ [] → replies (a, v) ≡ (a, v)
 nothing_to_reply a v none = ap (λ (board : List Posted). replies_many (length board) (a, v)) none
 
+module _ (before : List Out) (more : Bool) (request : ℕ) where
+  -- a reply is marked alike
+  marks_like : (stale : Bool) (number : ℕ) (v : View) → marks stale number (like before more request v) ≡ like before more request (marks stale number v)
+  marks_like true number v = asks_like before more request (Stale number) v
+  marks_like false number v = refl
+
+  -- what is put out where a deadline passed
+  pub late_like : (number : ℕ) (instead : Option (List ℕ)) (v : View) → late_reply number instead (like before more request v) ≡ like before more request (late_reply number instead v)
+  late_like number None v = asks_like before more request (Reply number (Err TimedOut)) v
+  late_like number (Some message) v =
+      ap (asks (Reply number (Ok message))) (asks_like before more request (Stale number) v)
+      ∙ asks_like before more request (Reply number (Ok message)) (asks (Stale number) v)
+
 module _ {P : Type 0} (before : List Out) (more : Bool) (request : ℕ) where
   abbrev pub asked_like : Asked P × View → Asked P × View
   asked_like x = (x.0, like before more request x.1)
 
-  replied : (ticket : ℕ) (part : Part) (a : Asked P) (v : View) (w : Option (Waiting P)) → replies_to ticket part a (like before more request v) w ≡ asked_like (replies_to ticket part a v w)
-  replied ticket part a v None = refl
-  replied ticket part a v (Some w) = ap (λ (y : View). (without_request ticket (Some w) a, y)) (asks_like before more request (Reply w.number (result_of part)) (drops_timer w.timer v))
+  replied : (p : Posted) (a : Asked P) (v : View) (w : Option (Waiting P)) → replies_to p a (like before more request v) w ≡ asked_like (replies_to p a v w)
+  replied p a v None = refl
+  replied p a v (Some w) =
+      ap (λ (y : View). (without_request p.ticket (Some w) a, y))
+      (ap (asks (Reply w.number (result_of p.part))) (marks_like before more request p.is_stale w.number (drops_timer w.timer v)) ∙ asks_like before more request (Reply w.number (result_of p.part)) (marks p.is_stale w.number (drops_timer w.timer v)))
 
   one_replied : (a : Asked P) (v : View) (ps : List Posted) → replies_one a (like before more request v) ps ≡ asked_like (replies_one a v ps)
   one_replied a v [] = refl
-  one_replied a v (first ∷ rest) = replied first.ticket first.part a (record v { board = rest }) (entry_at first.ticket a.waiting)
+  one_replied a v (first ∷ rest) = replied first a (record v { board = rest }) (entry_at first.ticket a.waiting)
 
   many_replied : (n : ℕ) (x : Asked P × View) → replies_many n (asked_like x) ≡ asked_like (replies_many n x)
   many_replied zero x = refl
@@ -41,18 +56,31 @@ pub record Kept (v w : View) : Type 0 where
   pub now : w.now ≡ v.now
   pub more : w.more ≡ v.more
 
+-- So does what is put out where a deadline passed, and the board too.
+pub late_keeps : (number : ℕ) (instead : Option (List ℕ)) (v : View) → Kept v (late_reply number instead v)
+late_keeps number None v = record { timer = refl; now = refl; more = refl }
+late_keeps number (Some message) v = record { timer = refl; now = refl; more = refl }
+
+pub late_board : (number : ℕ) (instead : Option (List ℕ)) (v : View) → (late_reply number instead v).board ≡ v.board
+late_board number None v = refl
+late_board number (Some message) v = refl
+
 empty : (ps : List Posted) → length ps ≡ zero → ps ≡ []
 empty [] e = refl
 empty (first ∷ rest) e = absurd (omega arith)
 
 module _ {P : Type 0} where
-  one_keeps : (ticket : ℕ) (part : Part) (a : Asked P) (v : View) (w : Option (Waiting P)) → Kept v (replies_to ticket part a v w).1
-  one_keeps ticket part a v None = record { timer = refl; now = refl; more = refl }
-  one_keeps ticket part a v (Some w) = record { timer = refl; now = refl; more = refl }
+  one_keeps : (p : Posted) (a : Asked P) (v : View) (w : Option (Waiting P)) → Kept v (replies_to p a v w).1
+  one_keeps p a v None = record { timer = refl; now = refl; more = refl }
+  one_keeps p a v (Some w) = by p.is_stale
+    where
+      by : (stale : Bool) → Kept v (asks (Reply w.number (result_of p.part)) (marks stale w.number (drops_timer w.timer v)))
+      by true = record { timer = refl; now = refl; more = refl }
+      by false = record { timer = refl; now = refl; more = refl }
 
   first_keeps : (a : Asked P) (v : View) (ps : List Posted) → Kept v (replies_one a v ps).1
   first_keeps a v [] = record { timer = refl; now = refl; more = refl }
-  first_keeps a v (first ∷ rest) = let k = one_keeps first.ticket first.part a (record v { board = rest }) (entry_at first.ticket a.waiting) in record { timer = k.timer; now = k.now; more = k.more }
+  first_keeps a v (first ∷ rest) = let k = one_keeps first a (record v { board = rest }) (entry_at first.ticket a.waiting) in record { timer = k.timer; now = k.now; more = k.more }
 
   many_keep : (n : ℕ) (x : Asked P × View) → Kept x.1 (replies_many n x).1
   many_keep zero x = record { timer = refl; now = refl; more = refl }
@@ -64,13 +92,17 @@ module _ {P : Type 0} where
   pub replies_keep : (x : Asked P × View) → Kept x.1 (replies x).1
   replies_keep x = many_keep (length x.1.board) x
 
-  one_taken : (ticket : ℕ) (part : Part) (a : Asked P) (v : View) (w : Option (Waiting P)) → (replies_to ticket part a v w).1.board ≡ v.board
-  one_taken ticket part a v None = refl
-  one_taken ticket part a v (Some w) = refl
+  one_taken : (p : Posted) (a : Asked P) (v : View) (w : Option (Waiting P)) → (replies_to p a v w).1.board ≡ v.board
+  one_taken p a v None = refl
+  one_taken p a v (Some w) = by p.is_stale
+    where
+      by : (stale : Bool) → (marks stale w.number (drops_timer w.timer v)).board ≡ v.board
+      by true = refl
+      by false = refl
 
   first_taken : (n : ℕ) (a : Asked P) (v : View) (ps : List Posted) → length ps ≡ suc n → length (replies_one a v ps).1.board ≡ n
   first_taken n a v [] e = absurd (omega arith)
-  first_taken n a v (first ∷ rest) e = ap (λ (b : List Posted). length b) (one_taken first.ticket first.part a (record v { board = rest }) (entry_at first.ticket a.waiting)) ∙ less
+  first_taken n a v (first ∷ rest) e = ap (λ (b : List Posted). length b) (one_taken first a (record v { board = rest }) (entry_at first.ticket a.waiting)) ∙ less
     where
       less : length rest ≡ n
       less = omega arith

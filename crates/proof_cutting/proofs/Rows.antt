@@ -3,7 +3,7 @@ use Rattle.std.proofs.Common.{◌≡◌, ℕ, max, Bool, false, Option, Some, No
 use Rattle.std.specs.Prelude.{option_and_then, option_map}
 use Rattle.client_request.specs.Request.{Request}
 use Rattle.client_request.specs.Timers.{due_now}
-use Rattle.client_request.specs.View.{Transport}
+use Rattle.client_request.specs.View.{View, Transport}
 use Rattle.client_request.specs.declared.event.Event.{Event}
 use Rattle.client_request.specs.declared.event.Moment.{Moment}
 use Rattle.client_request.specs.declared.event.Out.{Out}
@@ -11,7 +11,7 @@ use Rattle.client_request.specs.declared.event.Row.{Row}
 use Rattle.client_steps.specs.Client.{Client, Machine, at_moment, rested, row_and_rest, settles, fires_all, more_frames, brings}
 use Rattle.client_steps.specs.Machines.{machine_of}
 use Rattle.client_steps.proofs.Fuel.{none_fires}
-use Rattle.proof_cutting.specs.Pieces.{stands, IsCuttable, CancelsQuietly}
+use Rattle.proof_cutting.specs.Pieces.{stands, IsCuttable, GivesUpQuietly}
 use Rattle.proof_cutting.specs.Told.{bytes_at, told_all}
 use Rattle.proof_cutting.proofs.Counting.{behind_first, IsEnough, new_steps}
 use Rattle.proof_cutting.proofs.Beside.{beside, Meet, Nowhere, There, Any, first_also, same_layer}
@@ -57,15 +57,15 @@ module _ {U P : Type 0} (m : Machine U P) where
         by None = refl
         by (Some c) = then_ends (comes place piece c)
 
-module _ {U P : Type 0} {place : ℕ} {t : Transport Request U P} {octets : U → Option (List ℕ)} {longer : List ℕ → U → U} {IsFit : U → (timer : ℕ) → Type 0} (ticket : P → ℕ)
-    (cuttable : IsCuttable place t octets longer IsFit) (quiet : CancelsQuietly t IsFit) where
+module _ {U P : Type 0} {place : ℕ} {t : Transport Request U P} {octets : U → Option (List ℕ)} {longer : List ℕ → U → U} {IsFit : U → (timer : ℕ) → Type 0} {stale : P → U → View → Option (List ℕ)} (ticket : P → ℕ)
+    (cuttable : IsCuttable place t octets longer IsFit) (quiet : GivesUpQuietly t longer IsFit stale) where
   abbrev all : ℕ → Client U P → Option (Client U P)
-  all n c = takes_all (machine_of t ticket) place n c
+  all n c = takes_all (machine_of t ticket stale) place n c
 
   -- Octets that come stand behind the others, and all frames are taken.
-  pub comes_is : (piece : List ℕ) (c : Client U P) → IsFit c.layer c.view.timers.next → comes (machine_of t ticket) place piece c ≡ all (length piece) (brought longer piece c)
+  pub comes_is : (piece : List ℕ) (c : Client U P) → IsFit c.layer c.view.timers.next → comes (machine_of t ticket stale) place piece c ≡ all (length piece) (brought longer piece c)
   comes_is piece c fit =
-      ap (λ r. option_and_then (fires_all (machine_of t ticket)) (option_and_then (more_frames (machine_of t ticket) place (length piece)) (settles c.asked r)))
+      ap (λ r. option_and_then (fires_all (machine_of t ticket stale)) (option_and_then (more_frames (machine_of t ticket stale) place (length piece)) (settles c.asked r)))
       (cuttable.bytes piece c.layer (record c.view { more = false }) fit refl)
 
   pub new_enough : (piece : List ℕ) (u : U) → stands (octets u) ≡ false → IsEnough (length piece) (behind_first (octets (longer piece u)))
@@ -79,20 +79,20 @@ module _ {U P : Type 0} {place : ℕ} {t : Transport Request U P} {octets : U �
 
   module _ (timeout : ℕ) where
     abbrev over : Client U P → Option (List Out × Client U P)
-    over d = ends (machine_of t ticket) timeout [] d
+    over d = ends (machine_of t ticket stale) timeout [] d
 
     -- the row that begins at a calm client
     pub next_row : (moment : Moment) (piece : List ℕ) (c : Client U P) → IsCalm octets IsFit moment c
-        → told_all (machine_of t ticket) timeout (bytes_at moment place piece ∷ []) (rested c) ≡ option_and_then over (all (length piece) (brought longer piece (rested c)))
+        → told_all (machine_of t ticket stale) timeout (bytes_at moment place piece ∷ []) (rested c) ≡ option_and_then over (all (length piece) (brought longer piece (rested c)))
     next_row moment piece c calm =
-        told_first (machine_of t ticket) timeout place moment piece [] (rested c)
-        ∙ ap (λ o. option_and_then over (option_and_then (comes (machine_of t ticket) place piece) o)) again
+        told_first (machine_of t ticket stale) timeout place moment piece [] (rested c)
+        ∙ ap (λ o. option_and_then over (option_and_then (comes (machine_of t ticket stale) place piece) o)) again
         ∙ ap (option_and_then over) (comes_is piece (rested c) calm.fit)
       where
-        again : fires_all (machine_of t ticket) (at_moment moment.0 (rested c)) ≡ Some (rested c)
+        again : fires_all (machine_of t ticket stale) (at_moment moment.0 (rested c)) ≡ Some (rested c)
         again =
-            ap (λ (n : ℕ). fires_all (machine_of t ticket) (record (rested c) { view = record (rested c).view { now = n } })) calm.passed
-            ∙ none_fires (machine_of t ticket) (rested c) calm.due
+            ap (λ (n : ℕ). fires_all (machine_of t ticket stale) (record (rested c) { view = record (rested c).view { now = n } })) calm.passed
+            ∙ none_fires (machine_of t ticket stale) (rested c) calm.due
 
     -- The outs of a row stand behind those of the row before, as if it were one.
     pub joined : (n k : ℕ) (outs : List Out) (more : Bool) (request : ℕ) (c : Client U P) → IsFit c.layer c.view.timers.next → longer [] c.layer ≡ c.layer

@@ -17,9 +17,9 @@ use Rattle.resolv_conf.specs.declared.conf.ResolvConf.{ResolvConf}
 use Rattle.proof_cutting.specs.Cuts.{all_told, PiecesDoTheSame}
 use Rattle.proof_cutting.specs.Choices.{choice_octets, longer_choice, IsFitChoice}
 use Rattle.proof_cutting.specs.Layers.{server_octets, longer_server, IsFitServer, layer_octets, longer_layer, IsFitLayer}
-use Rattle.proof_cutting.specs.Pieces.{IsCuttable, CancelsQuietly}
+use Rattle.proof_cutting.specs.Pieces.{IsCuttable, GivesUpQuietly}
 use Rattle.proof_cutting.specs.Told.{bytes_at, IsCut, Here, Later}
-use Rattle.proof_cutting.proofs.Caching.{caches_are_cuttable, caches_cancel_quietly}
+use Rattle.proof_cutting.proofs.Caching.{caches_are_cuttable, caches_cancel_quietly, caches_stand_in_alike}
 use Rattle.proof_cutting.proofs.Choices.{choices_are_cuttable, choices_cancel_quietly}
 use Rattle.proof_cutting.proofs.OneServer.{servers_are_cuttable, servers_post_nothing}
 use Rattle.proof_cutting.proofs.Pieces.{pieces_do}
@@ -49,8 +49,11 @@ module _ (place : ℕ) where
   layers_cut : IsCuttable place layer (layer_octets place) (longer_layer place) (IsFitLayer place)
   layers_cut = caches_are_cuttable place choice (choice_octets (server_octets place)) (longer_choice (longer_server place)) (IsFitChoice (server_octets place) IsFitServer) reading (λ r. r.ticket) choices_cut
 
-  cancels_quietly : CancelsQuietly layer (IsFitLayer place)
-  cancels_quietly = caches_cancel_quietly choice (IsFitChoice (server_octets place) IsFitServer) reading (λ r. r.ticket) (choices_cancel_quietly (upstream.transport for_one) (server_octets place) IsFitServer)
+  gives_up_quietly : GivesUpQuietly layer (longer_layer place) (IsFitLayer place) (caching.stale (λ r. r.ticket))
+  gives_up_quietly = record {
+    cancelled = caches_cancel_quietly choice (IsFitChoice (server_octets place) IsFitServer) reading (λ r. r.ticket) (choices_cancel_quietly (upstream.transport for_one) (server_octets place) IsFitServer);
+    alike = caches_stand_in_alike (longer_choice (longer_server place)) (λ r. r.ticket);
+  }
 
 module _ (redundant : RedundantSettings) (cache : CacheSettings) (conf : ResolvConf) (words : ℕ → ℕ) where
   abbrev told : List Event → Option (List Out × Client)
@@ -61,7 +64,7 @@ module _ (redundant : RedundantSettings) (cache : CacheSettings) (conf : ResolvC
   cut_among before _ _ (Here moment place first more after) h =
       cut_is machine conf.options.timeout before (map (bytes_at moment place) (first ∷ more)) after (bytes_at moment place (concat (first ∷ more))) (client_with words (started redundant cache conf))
       (λ outs d is. (let r = reached redundant cache conf words before outs d place (handed_before cache words before (bytes_at moment place (concat (first ∷ more)) ∷ after) h) is in
-      pieces_do place layer (λ r. r.ticket) (layer_octets place) (longer_layer place) (IsFitLayer place) (layers_cut place) (cancels_quietly place) conf.options.timeout moment first more d
+      pieces_do place layer (λ r. r.ticket) (layer_octets place) (longer_layer place) (IsFitLayer place) (layers_cut place) (gives_up_quietly place) conf.options.timeout moment first more d
       (record { fit = r.0; none = r.1; rested = (r.2, r.3, r.4); board = r.5 })))
   cut_among before _ _ (Later e events cut is) h =
       subst₂ (λ (one other : List Event). told one ≡ told other) (append_assoc before (e ∷ []) cut) (append_assoc before (e ∷ []) events)

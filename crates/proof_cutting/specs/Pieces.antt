@@ -77,6 +77,15 @@ pub record IsCuttable {R U P : Type 0} (place : ℕ) (t : Transport R U P) (octe
 abbrev pub CancelsQuietly : {R U P : Type 0} → Transport R U P → (U → (timer : ℕ) → Type 0) → Type 0
 CancelsQuietly {R} {U} {P} t IsFit = (r : P) (u : U) (v : View) (w : U) (x : View) → IsFit u v.timers.next → t.cancel r u v ≡ Some (w, x) → x.board ≡ v.board
 
+-- What stands in for a result turns neither on the octets nor on what was put out.
+abbrev pub StandsInAlike : {U P : Type 0} → (longer : List ℕ → U → U) → (stale : P → U → View → Option (List ℕ)) → Type 0
+StandsInAlike {U} {P} longer stale = (piece : List ℕ) (before : List Out) (more : Bool) (request : ℕ) (r : P) (u : U) (v : View) → stale r (longer piece u) (like before more request v) ≡ stale r u v
+
+-- Of a request that is given up nothing is posted at once, and what stands in for its result is alike.
+pub record GivesUpQuietly {R U P : Type 0} (t : Transport R U P) (longer : List ℕ → U → U) (IsFit : U → (timer : ℕ) → Type 0) (stale : P → U → View → Option (List ℕ)) : Type 0 where
+  pub cancelled : CancelsQuietly t IsFit
+  pub alike : StandsInAlike longer stale
+
 -- Of a request that is sent or given up nothing is posted at once.
 pub record PostsNothing {R U P : Type 0} (t : Transport R U P) (IsFit : U → (timer : ℕ) → Type 0) : Type 0 where
   pub sent : (r : R) (u : U) (v : View) (w : U) (x : View) → IsFit u v.timers.next → t.send r u v ≡ Some (w, x) → x.board ≡ v.board

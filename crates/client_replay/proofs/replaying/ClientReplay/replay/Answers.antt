@@ -5,7 +5,7 @@ use Rattle.client_request.specs.declared.event.Row.{Row}
 use Rattle.client_steps.specs.Client.{plain_rows, row_step}
 use Rattle.client_steps.specs.Whole.{machine, client_with}
 use Rattle.client_core.proofs.Replaying.{drop_next, events_more, next_row, no_row, row_event}
-use Rattle.client_replay.proofs.Rightness.{cut_at_the_end, hits_at_the_end, right_at_the_end}
+use Rattle.client_replay.proofs.Rightness.{cut_at_the_end, hits_at_the_end, right_at_the_end, serves_at_the_end}
 use Rattle.client_replay.proofs.replaying.ClientReplay.replay.Goals as goal
 
 pub loop-event-preserved : goal.loop-event-preserved
@@ -36,6 +36,9 @@ returns-clause-right g c = (right_at_the_end c.args.redundant c.args.cache c.arg
 
 pub returns-clause-hits : goal.returns-clause-hits
 returns-clause-hits g c = hits_at_the_end c.args.redundant c.args.cache c.args.conf.now (g.W.Words.stream c.args.words.now) c.args.events.now c.loop-event.rows c.loop-event.event-index c.args.conf.now.options.timeout (client_with (g.W.Words.stream c.loop-event.words) c.loop-event.client) c.every_plain_trace_hits.ensures c.loop-event.invariant.same c.loop-event-test.false (record { limited = c.max_validity_is_limited.ensures; small = g.met.W.Words.words_fit c.args.words.now; asked = c.all_asked_in_octets.ensures; octets = c.all_in_octets.ensures })
+
+pub returns-clause-stale : goal.returns-clause-stale
+returns-clause-stale g c = serves_at_the_end c.args.redundant c.args.cache c.args.conf.now (g.W.Words.stream c.args.words.now) c.args.events.now c.loop-event.rows c.loop-event.event-index c.args.conf.now.options.timeout (client_with (g.W.Words.stream c.loop-event.words) c.loop-event.client) c.every_plain_trace_serves_stale.ensures c.loop-event.invariant.same c.loop-event-test.false (record { limited = c.max_validity_is_limited.ensures; small = g.met.W.Words.words_fit c.args.words.now; asked = c.all_asked_in_octets.ensures; octets = c.all_in_octets.ensures })
 
 pub returns-clause-cut : goal.returns-clause-cut
 returns-clause-cut g c = cut_at_the_end c.args.redundant c.args.cache c.args.conf.now (g.W.Words.stream c.args.words.now) c.args.events.now c.loop-event.rows c.loop-event.event-index c.args.conf.now.options.timeout (client_with (g.W.Words.stream c.loop-event.words) c.loop-event.client) c.every_plain_trace_may_be_cut.ensures c.loop-event.invariant.same c.loop-event-test.false (record { limited = c.max_validity_is_limited.ensures; small = g.met.W.Words.words_fit c.args.words.now; asked = c.all_asked_in_octets.ensures; octets = c.all_in_octets.ensures })
