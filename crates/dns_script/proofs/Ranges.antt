@@ -1,5 +1,5 @@
 -- What is read is in range: numbers, octets and messages are such as the code's types have, and requests may be asked.
-use Rattle.std.proofs.Common.{◌≡◌, ℕ, Bool, true, false, cond, nat_lt, eqb, length, List, [], ◌∷◌, ◌++◌, Option, Some, None, Ok, Err, IfSome, codes, refl, sym, subst, arith, option_map, bytes_eq}
+use Rattle.std.proofs.Common.{◌≡◌, ℕ, Bool, true, false, not, ◌&&◌, ◌||◌, if◌then◌else◌, cond, nat_lt, eqb, length, List, [], ◌∷◌, ◌++◌, Option, Some, None, Ok, Err, IfSome, codes, refl, sym, subst, arith, option_map, bytes_eq}
 use Rattle.std.specs.List.{AllByRecursion}
 use Rattle.std.specs.Option.{option_to_list}
 use Rattle.std.proofs.lemmas.Bool.{eqb-true, ltb-false}
@@ -11,6 +11,7 @@ use Rattle.client_request.specs.declared.fault.Fault.{Fault}
 use Rattle.client_request.specs.declared.event.Event.{Event}
 use Rattle.client_request.specs.declared.event.What.{What}
 use Rattle.client_request.specs.declared.event.What.TheVariants as what
+use Rattle.client_request.specs.declared.event.Out.{Out}
 use Rattle.client_request.specs.declared.event.Out.TheVariants as out
 use Rattle.client_request.specs.declared.event.Row.{Row}
 use Rattle.dns_script.specs.declared.names.EventName.{EventName}
@@ -27,6 +28,8 @@ use Rattle.dns_script.specs.Reading.{◌>>=◌, Reader, one_word, named, number_
 use Rattle.dns_script.specs.Grammar.{one, two, three, four, u64_at, u32_at, u16_at, octets_at, fault_at, via_at, message_of, message_at, header_of, opt_of, request_of, request_at, error_at, result_behind, result_at, out_behind, out_at, what_behind, what_at, event_from, event_at, whole}
 use Rattle.dns_script.specs.TextLaws.{AreOctets, AreRows, IsMessage, IsOptRecord, IsOut, IsReply, IsRequest, IsRow, IsU16, IsU32, IsU64, IsWhat}
 use Rattle.dns_script.specs.TraceReading.{IsTrace, entry_behind, entry_of, line_at, nothing_read, with_entry, with_line, with_lines}
+use Rattle.dns_script.specs.TraceText.{says_stale}
+use Rattle.dns_script.proofs.Versions.{not_refused}
 use Rattle.dns_script.proofs.Decimals.{kept_unless, number_is_small}
 use Rattle.dns_script.proofs.HexWords.{octets_say, pairs_say}
 use Rattle.dns_script.proofs.OptTexts.{record_in_range}
@@ -241,19 +244,28 @@ last_row (Some row) h = (h, tt)
 abbrev IsReader : TraceReader → Type 0
 IsReader r = AreRows r.rows × IsLast r.row
 
+-- what was put out joins the row that is being read
+abbrev put_more : Out → TraceReader → Option Row → Option TraceReader
+put_more out s o = option_map {U = TraceReader} (λ row. record s { row = Some (record row { outs = row.outs ++ out ∷ [] }); has_stale = s.has_stale || says_stale out }) o
+
 entry_kept : (x : TraceEntry) (s t : TraceReader) → IsEntry x → IsReader s → with_entry x s ≡ Some t → IsReader t
 entry_kept (entry.Came event) s t h k e =
     subst IsReader (same_Some _ t e) (all_behind IsRow s.rows (option_to_list s.row) k.0 (last_row s.row k.1), record { moment = h.0; what = h.1; outs = tt })
-entry_kept (entry.Put out) s t h k e = go s.row k.1 e
+entry_kept (entry.Put out) s t h k e = go s.row k.1 (not_refused (says_stale out && not s.is_second) (put_more out s s.row) t e).1
   where
-    go : (o : Option Row) → IsLast o → option_map {U = TraceReader} (λ row. record s { row = Some (record row { outs = row.outs ++ out ∷ [] }) }) o ≡ Some t → IsReader t
+    go : (o : Option Row) → IsLast o → put_more out s o ≡ Some t → IsReader t
     go None last e = none_some e
     go (Some row) last e =
         subst IsReader (same_Some _ t e) (k.0, record { moment = last.moment; what = last.what; outs = all_behind IsOut row.outs (out ∷ []) last.outs (h, tt) })
-entry_kept entry.End s t h k e = subst IsReader (same_Some _ t e) (all_behind IsRow s.rows (option_to_list s.row) k.0 (last_row s.row k.1), tt)
+entry_kept entry.End s t h k e = subst IsReader (same_Some _ t (not_refused (s.is_second && not s.has_stale) (Some (record s { stage = stage.Ended; rows = s.rows ++ option_to_list s.row; row = None })) t e).1) (all_behind IsRow s.rows (option_to_list s.row) k.0 (last_row s.row k.1), tt)
 
 line_kept : (g : TraceStage) (l : List ℕ) (s t : TraceReader) → IsReader s → line_at g l s ≡ Some t → IsReader t
-line_kept stage.Begin l s t k e = subst IsReader (cond_some (bytes_eq l (codes "trace 1")) (record s { stage = stage.Inside }) t e).1 k
+line_kept stage.Begin l s t k e = by (bytes_eq l (codes "trace 1")) (bytes_eq l (codes "trace 2")) e
+  where
+    by : (b c : Bool) → (if b then Some (record s { stage = stage.Inside }) else (if c then Some (record s { stage = stage.Inside; is_second = true }) else None)) ≡ Some t → IsReader t
+    by true c e = subst IsReader (same_Some _ t e) k
+    by false true e = subst IsReader (same_Some _ t e) k
+    by false false e = none_some e
 line_kept stage.Inside l s t k e =
     let x = then_ok (entry_of l) (λ x. with_entry x s) t e in
     entry_kept x.0 s t (entry_in_range l x.0 x.1) k x.2

@@ -1,5 +1,5 @@
 -- The lines of a trace, as they are read.
-use Rattle.std.specs.Prelude.{◌≡◌, ℕ, ◌+◌, List, [], ◌∷◌, ◌++◌, length, Option, Some, None, Result, Ok, Err, option_map, if◌then◌else◌, codes}
+use Rattle.std.specs.Prelude.{◌≡◌, ℕ, ◌+◌, true, false, not, ◌&&◌, ◌||◌, List, [], ◌∷◌, ◌++◌, length, Option, Some, None, Result, Ok, Err, option_map, if◌then◌else◌, codes}
 use Rattle.std.specs.Option.{option_to_list}
 use Rattle.std.specs.Str.{bytes_eq}
 use Rattle.client_request.specs.declared.event.Row.{Row}
@@ -13,6 +13,7 @@ use Rattle.dns_script.specs.declared.trace_lines.TraceStage.TheVariants as stage
 use Rattle.dns_script.specs.declared.trace_lines.TraceReader.{TraceReader}
 use Rattle.dns_script.specs.Grammar.{event_at, one, out_at, whole}
 use Rattle.dns_script.specs.Reading.{◌>>=◌, Reader, one_word, parts, words_of}
+use Rattle.dns_script.specs.TraceText.{says_stale}
 
 -- an event, what was put out, or the end
 abbrev pub entry_behind : List ℕ → Reader TraceEntry
@@ -24,15 +25,22 @@ entry_behind name words =
 unfoldable pub entry_of : List ℕ → Option TraceEntry
 entry_of line = one_word (λ name. Some name) (words_of line) >>= (λ name. entry_behind name.0 name.1 >>= whole)
 
--- An event begins a row, and what was put out joins the row that is being read.
+-- An event begins a row, and what was put out joins the row that is being read. A stale reply stands in a text of the second version
+-- alone, and in each of them.
 abbrev pub with_entry : TraceEntry → TraceReader → Option TraceReader
 with_entry (entry.Came event) r = Some (record r { rows = r.rows ++ option_to_list r.row; row = Some (record { event = event; outs = [] }) })
-with_entry (entry.Put out) r = option_map (λ row. record r { row = Some (record row { outs = row.outs ++ out ∷ [] }) }) r.row
-with_entry entry.End r = Some (record r { stage = stage.Ended; rows = r.rows ++ option_to_list r.row; row = None })
+with_entry (entry.Put out) r =
+    if says_stale out && not r.is_second then None
+    else option_map (λ row. record r { row = Some (record row { outs = row.outs ++ out ∷ [] }); has_stale = r.has_stale || says_stale out }) r.row
+with_entry entry.End r =
+    if r.is_second && not r.has_stale then None
+    else Some (record r { stage = stage.Ended; rows = r.rows ++ option_to_list r.row; row = None })
 
 -- what a line makes of what was read before it
 abbrev pub line_at : TraceStage → List ℕ → TraceReader → Option TraceReader
-line_at stage.Begin line r = if bytes_eq line (codes "trace 1") then Some (record r { stage = stage.Inside }) else None
+line_at stage.Begin line r =
+    if bytes_eq line (codes "trace 1") then Some (record r { stage = stage.Inside })
+    else (if bytes_eq line (codes "trace 2") then Some (record r { stage = stage.Inside; is_second = true }) else None)
 line_at stage.Inside line r = entry_of line >>= (λ e. with_entry e r)
 line_at stage.Ended line r = None
 
@@ -45,7 +53,7 @@ with_lines (line ∷ lines) r = with_line line r >>= with_lines lines
 
 -- before the first line
 abbrev pub nothing_read : TraceReader
-nothing_read = record { stage = stage.Begin; rows = []; row = None }
+nothing_read = record { stage = stage.Begin; is_second = false; has_stale = false; rows = []; row = None }
 
 -- The text is a trace with these rows: each of its lines ends with a line feed, and the last is `end`.
 pub record IsTrace (text : List ℕ) (rows : List Row) : Type 0 where

@@ -1,12 +1,12 @@
 //! The text of a trace.
 
-ghost use Rattle.std.specs.Prelude.{◌≡◌, ◌++◌, ◌∷◌, [], OnOk, IfOk};
+ghost use Rattle.std.specs.Prelude.{◌≡◌, ◌++◌, ◌∷◌, [], ℕ, List, OnOk, IfOk};
 ghost use Rattle.std.specs.Fmt.{decimal};
 ghost use Rattle.std.specs.List.{join_with_byte};
 ghost use Rattle.dns_script.specs.Words.{error_words, fault_word, hex_word, query_error_words};
 ghost use Rattle.dns_script.specs.Lines.{event_line, line, opt_octets, out_line, out_words, request_words, result_words, what_words};
 ghost use Rattle.dns_script.specs.TraceReading.{IsTrace};
-ghost use Rattle.dns_script.specs.TraceText.{first_line, last_line, row_text, trace_text_of};
+ghost use Rattle.dns_script.specs.TraceText.{first_line, last_line, row_text, trace_text_of, says_stale, has_stale, have_stale};
 
 use crate::bounds::trace_is_in_range;
 use crate::words::{error_name, fault_word, push_digits, push_hex, push_number, via_word};
@@ -297,13 +297,47 @@ fn push_event(text: &mut Vec<u8>, event: &Event) -> Result<(), NoMemory>
     push_what(text, &event.what)
 }
 
-/// The text of a trace before its rows. `NoMemory` where memory runs out.
-pub fn begin_trace(alloc: Global) -> Result<Vec<u8>, NoMemory>
-    ensures { IfOk result (λ v. v.items ≡ first_line) }
+/// Whether this says that a reply is stale.
+pub(crate) fn says_stale(out: &Out) -> bool
+    ensures { result ≡ says_stale out.now }
+{
+    matches!(out, Out::Stale { .. })
+}
+
+/// Whether a row says that a reply is stale.
+pub fn has_stale(row: &Row) -> bool
+    ensures { result ≡ has_stale row.now }
+{
+    row.outs.as_slice().iter().any(|out| says_stale(out))
+}
+
+fn have_stale(rows: &[Row]) -> bool
+    ensures { result ≡ have_stale rows.now }
+{
+    rows.iter().any(|row| has_stale(row))
+}
+
+/// The text of a trace before its rows, one of which says that a reply is stale, or none. `NoMemory` where memory runs out.
+pub fn begin_trace(alloc: Global, is_stale: bool) -> Result<Vec<u8>, NoMemory>
+    ensures { IfOk result (λ v. v.items ≡ first_line is_stale) }
 {
     let mut text = Vec::new(alloc);
-    text.extend_from_slice(b"trace 1\n")?;
+    if is_stale {
+        text.extend_from_slice(b"trace 2\n")?;
+    } else {
+        text.extend_from_slice(b"trace 1\n")?;
+    }
     Ok(text)
+}
+
+/// Turns the text of a trace without a stale reply, as far as it is written, into that of one with a stale reply: its first
+/// line is the other one.
+pub fn announce_stale(text: &mut Vec<u8>)
+    ghost rest: { List ℕ }
+    requires { text.old.items ≡ first_line false ++ rest }
+    ensures { text.new.items ≡ first_line true ++ rest }
+{
+    text[6] = b'2';
 }
 
 /// Adds what stands behind the rows of a trace. `NoMemory` where memory runs out, and then the text stays as it was.
@@ -334,7 +368,7 @@ pub fn trace_text(alloc: Global, t: &Trace) -> Result<Vec<u8>, NoMemory>
     ensures back { IfOk result (λ v. IsTrace v.items t.now.rows) }
 {
     trace_is_in_range(t);
-    let mut text = begin_trace(alloc)?;
+    let mut text = begin_trace(alloc, have_stale(t.rows.as_slice()))?;
     for row in t.rows.as_slice() {
         push_row(&mut text, row)?;
     }

@@ -9,6 +9,7 @@ ghost use Rattle.dns_script.specs.TraceText.{trace_text_of};
 ghost use Rattle.dns_script.specs.TraceReading.{ReadsTrace, entry_behind, entry_of, line_at, nothing_read, with_entry, with_line};
 
 use crate::line::{LineFault, Words, split_first};
+use crate::printing::says_stale;
 use crate::reading::{event, out};
 use crate::script::ScriptFault;
 use client_request::{Event, Out, Outs, Row, Rows, Trace};
@@ -34,6 +35,10 @@ pub(crate) enum TraceStage {
 #[derive(Drop)]
 pub(crate) struct TraceReader {
     pub stage: TraceStage,
+    /// The first line is that of the second version.
+    pub is_second: bool,
+    /// A reply was said to be stale.
+    pub has_stale: bool,
     /// The rows that are whole.
     pub rows: Rows,
     /// The row that is being read.
@@ -72,6 +77,8 @@ impl TraceReader {
     {
         TraceReader {
             stage: TraceStage::Begin,
+            is_second: false,
+            has_stale: false,
             rows: Rows::new(alloc),
             row: None,
         }
@@ -102,14 +109,22 @@ impl TraceReader {
                 Ok(())
             }
             TraceEntry::Put(out) => {
+                let is_stale = says_stale(&out);
+                if is_stale && !self.is_second {
+                    return Err(LineFault::Refused);
+                }
                 let Some(mut row) = self.row.take() else {
                     return Err(LineFault::Refused);
                 };
                 row.outs.push(out)?;
                 self.row = Some(row);
+                self.has_stale = self.has_stale || is_stale;
                 Ok(())
             }
             TraceEntry::End => {
+                if self.is_second && !self.has_stale {
+                    return Err(LineFault::Refused);
+                }
                 if let Some(row) = self.row.take() {
                     self.rows.push(row)?;
                 }
@@ -128,6 +143,11 @@ impl TraceReader {
                 self.stage = TraceStage::Inside;
                 Ok(())
             }
+            TraceStage::Begin if line == b"trace 2".as_slice() => {
+                self.stage = TraceStage::Inside;
+                self.is_second = true;
+                Ok(())
+            }
             TraceStage::Begin => Err(LineFault::Refused),
             TraceStage::Inside => self.entry(alloc, entry_of(alloc, line)?),
             TraceStage::Ended => Err(LineFault::Refused),
@@ -137,6 +157,9 @@ impl TraceReader {
 
 /// Reads the text of a trace, as [`trace_text`](crate::trace_text) writes it: each event and each out, by
 /// datagrams and by streams, with any fault.
+///
+/// Where a reply is stale the first line is `trace 2`, else `trace 1`: a `stale` line is refused in a text of the first
+/// version, and the `end` of one of the second in which none stands.
 ///
 /// Any other text gives the first line at which no text of a trace can go on, or the line after the
 /// last whole one where the text ends early.
