@@ -114,6 +114,7 @@ text_of_lines : (rows : List Row) → flat_map ended (text_lines rows) ≡ trace
 text_of_lines rows =
     ap (λ l. l ++ flat_map ended (lines_behind rows)) (version_line (have_stale rows))
     ∙ ap (λ t. first_line (have_stale rows) ++ t) (flat_map-append ended (flat_map row_lines rows) (codes "end" ∷ []) ∙ ap (λ t. t ++ last_line) (rows_text rows))
+    ∙ sym (append_assoc (first_line (have_stale rows)) (flat_map row_text rows) last_line)
 
 entry_is_line : (x : TraceEntry) → IsEntry x → IsAbove 10 (entry_line x)
 entry_is_line x h = joined_is_line (entry_words x) (entry_is_words x h)

@@ -191,6 +191,7 @@ text_from second l lines next t first is e end =
     ap (λ w. w ++ flat_map ended lines) first
     ∙ ap (λ t. first_line second ++ t) (told lines (begun second) t end refl read)
     ∙ ap (λ b. first_line b ++ (flat_map row_text t.rows ++ last_line)) (sym (version_is second lines (begun second) t end refl (none_marked second) read))
+    ∙ sym (append_assoc (first_line (have_stale t.rows)) (flat_map row_text t.rows) last_line)
 
 lines_are_text : (lines : List (List ℕ)) (t : TraceReader) → with_lines lines nothing_read ≡ Some t → t.stage ≡ stage.Ended → flat_map ended lines ≡ trace_text_of t.rows
 lines_are_text [] t e end =

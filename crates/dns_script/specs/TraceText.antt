@@ -1,5 +1,5 @@
 -- The text of a trace.
-use Rattle.std.specs.Prelude.{ℕ, Bool, true, false, List, [], ◌∷◌, ◌++◌, codes}
+use Rattle.std.specs.Prelude.{◌≡◌, ℕ, Bool, true, false, List, [], ◌∷◌, ◌++◌, drop, codes}
 use Rattle.std.specs.List.{flat_map, list_any}
 use Rattle.client_request.specs.declared.event.Out.{Out}
 use Rattle.client_request.specs.declared.event.Out.TheVariants.{Stale}
@@ -27,6 +27,13 @@ have_stale rows = list_any has_stale rows
 abbrev pub first_line : (stale : Bool) → List ℕ
 first_line false = line (codes "trace" ∷ codes "1" ∷ [])
 first_line true = line (codes "trace" ∷ codes "2" ∷ [])
+
+-- what stands behind the first line of a text, and that the text begins with that of the first version
+abbrev pub behind_first : List ℕ → List ℕ
+behind_first text = drop 8 text
+
+abbrev pub IsOfFirst : List ℕ → Type 0
+IsOfFirst text = text ≡ first_line false ++ behind_first text
 
 abbrev pub last_line : List ℕ
 last_line = line (codes "end" ∷ [])

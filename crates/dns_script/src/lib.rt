@@ -32,7 +32,7 @@ mod words;
 pub use generating::generate;
 pub use laws::{script_laws, text_laws};
 pub use printing::{
-    announce_stale, begin_trace, end_trace, has_stale, push_reply, push_row, trace_text,
+    begin_trace, end_trace, has_stale, push_reply, push_row, set_first_line, trace_text,
 };
 pub use script::{Lanes, Script, ScriptFault};
 pub use script_lines::read_script;

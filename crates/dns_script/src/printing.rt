@@ -1,12 +1,12 @@
 //! The text of a trace.
 
-ghost use Rattle.std.specs.Prelude.{◌≡◌, ◌++◌, ◌∷◌, [], ℕ, List, OnOk, IfOk};
+ghost use Rattle.std.specs.Prelude.{◌≡◌, ◌++◌, ◌∷◌, [], OnOk, IfOk};
 ghost use Rattle.std.specs.Fmt.{decimal};
 ghost use Rattle.std.specs.List.{join_with_byte};
 ghost use Rattle.dns_script.specs.Words.{error_words, fault_word, hex_word, query_error_words};
 ghost use Rattle.dns_script.specs.Lines.{event_line, line, opt_octets, out_line, out_words, request_words, result_words, what_words};
 ghost use Rattle.dns_script.specs.TraceReading.{IsTrace};
-ghost use Rattle.dns_script.specs.TraceText.{first_line, last_line, row_text, trace_text_of, says_stale, has_stale, have_stale};
+ghost use Rattle.dns_script.specs.TraceText.{first_line, last_line, row_text, trace_text_of, says_stale, has_stale, have_stale, behind_first, IsOfFirst};
 
 use crate::bounds::trace_is_in_range;
 use crate::words::{error_name, fault_word, push_digits, push_hex, push_number, via_word};
@@ -330,14 +330,14 @@ pub fn begin_trace(alloc: Global, is_stale: bool) -> Result<Vec<u8>, NoMemory>
     Ok(text)
 }
 
-/// Turns the text of a trace without a stale reply, as far as it is written, into that of one with a stale reply: its first
-/// line is the other one.
-pub fn announce_stale(text: &mut Vec<u8>)
-    ghost rest: { List ℕ }
-    requires { text.old.items ≡ first_line false ++ rest }
-    ensures { text.new.items ≡ first_line true ++ rest }
+/// Sets the first line of a text that was begun before it was known whether a reply is stale.
+pub fn set_first_line(text: &mut Vec<u8>, is_stale: bool)
+    requires { IsOfFirst text.old.items }
+    ensures { text.new.items ≡ first_line is_stale ++ behind_first text.old.items }
 {
-    text[6] = b'2';
+    if is_stale {
+        text[6] = b'2';
+    }
 }
 
 /// Adds what stands behind the rows of a trace. `NoMemory` where memory runs out, and then the text stays as it was.

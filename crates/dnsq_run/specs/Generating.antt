@@ -10,6 +10,7 @@ use Rattle.client_settings.specs.Settings.{default_cache, default_redundant}
 use Rattle.client_steps.specs.Headline.{conf_of, settings_of}
 use Rattle.right_trace.specs.Hit.{AllHit}
 use Rattle.right_trace.specs.Right.{Right}
+use Rattle.right_trace.specs.StaleServed.{AllServeStale}
 use Rattle.right_trace.specs.Timely.{Timely}
 use Rattle.dns_script.specs.Generated.{generated, generated_conf}
 use Rattle.dns_script.specs.Reading.{number_of}
@@ -32,13 +33,14 @@ count_of (word ∷ []) = None
 count_of (word ∷ count ∷ []) = if is_word (codes "gen") word then count_in (string_bytes count) else None
 count_of (word ∷ count ∷ next ∷ words) = None
 
--- These octets are the summary of the plain trace of the generated script, which is right and timely, and gives what is kept.
+-- These octets are the summary of the plain trace of the generated script, which is right and timely, gives what is kept, and serves what has expired.
 pub record IsSummary (n : ℕ) (out : List ℕ) : Type 0 where
   pub rows : List Row
   pub plain : rows_of (generated n) ≡ Some rows
   pub right : Right (conf_of generated_conf) (settings_of default_redundant default_cache) rows
   pub timely : Timely (conf_of generated_conf) rows
   pub hits : AllHit (conf_of generated_conf) (settings_of default_redundant default_cache) composed (room_of default_cache) [] rows
+  pub stale : AllServeStale (conf_of generated_conf) (settings_of default_redundant default_cache) (room_of default_cache) [] rows
   pub says : out ≡ summary_text_of rows
 
 -- what is due for a count: the summary, or the line that tells why there is none

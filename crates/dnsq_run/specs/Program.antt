@@ -12,6 +12,7 @@ use Rattle.client_cache.specs.Plain.{room_of}
 use Rattle.client_request.specs.Composed.{composed}
 use Rattle.right_trace.specs.Hit.{AllHit}
 use Rattle.right_trace.specs.Right.{Right}
+use Rattle.right_trace.specs.StaleServed.{AllServeStale}
 use Rattle.right_trace.specs.Timely.{Timely}
 use Rattle.dns_script.specs.ScriptReading.{IsScript, RefusesLine}
 use Rattle.dns_script.specs.TraceText.{trace_text_of}
@@ -38,16 +39,17 @@ first_lane (events ∷ lanes) = events
 abbrev pub rows_of : Script → Option (List Row)
 rows_of script = plain_trace script.redundant script.cache script.conf (listed script.words) (first_lane script.lanes)
 
--- These octets are the text of the plain trace of a script, which is right and timely, and gives what is kept.
+-- These octets are the text of the plain trace of a script, which is right and timely, gives what is kept, and serves what has expired.
 pub record IsTold (script : Script) (out : List ℕ) : Type 0 where
   pub rows : List Row
   pub plain : rows_of script ≡ Some rows
   pub right : Right (conf_of script.conf) (settings_of script.redundant script.cache) rows
   pub timely : Timely (conf_of script.conf) rows
   pub hits : AllHit (conf_of script.conf) (settings_of script.redundant script.cache) composed (room_of script.cache) [] rows
+  pub stale : AllServeStale (conf_of script.conf) (settings_of script.redundant script.cache) (room_of script.cache) [] rows
   pub says : out ≡ trace_text_of rows
 
--- The text is a script, not too long, and these octets are the text of its plain trace, which is right and timely, and gives what is kept.
+-- The text is a script, not too long, and these octets are the text of its plain trace.
 pub record IsReplayed (text out : List ℕ) : Type 0 where
   pub fits : length text ≤ 16777216
   pub script : Script

@@ -7,6 +7,7 @@ ghost use Rattle.client_cache.specs.Plain.{room_of};
 ghost use Rattle.client_request.specs.Composed.{composed};
 ghost use Rattle.right_trace.specs.Hit.{AllHit};
 ghost use Rattle.right_trace.specs.Right.{Right};
+ghost use Rattle.right_trace.specs.StaleServed.{AllServeStale};
 ghost use Rattle.right_trace.specs.Timely.{Timely};
 ghost use Rattle.dns_script.specs.ScriptReading.{IsScript};
 ghost use Rattle.dnsq_run.specs.Program.{rows_of, IsReplayed, IsRefused, StopsForNumbers, IsEarly, status_of, line_of, numbers_line};
@@ -64,6 +65,7 @@ pub fn trace_of(alloc: Global, script: Script) -> Result<Trace, Ending>
     ensures right { IfOk result (λ t. Right (conf_of script.conf) (settings_of script.redundant script.cache) t.rows) }
     ensures timely { IfOk result (λ t. Timely (conf_of script.conf) t.rows) }
     ensures hits { IfOk result (λ t. AllHit (conf_of script.conf) (settings_of script.redundant script.cache) composed (room_of script.cache) [] t.rows) }
+    ensures stale { IfOk result (λ t. AllServeStale (conf_of script.conf) (settings_of script.redundant script.cache) (room_of script.cache) [] t.rows) }
     ensures early { IfErr result IsEarly }
     ensures numbers { IfErr result (λ e. status_of e ≡ 7 → rows_of script ≡ None) }
     ensures numbers_line { IfErr result (λ e. status_of e ≡ 7 → line_of e ≡ numbers_line) }
