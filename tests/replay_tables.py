@@ -10,8 +10,9 @@ two questions that share a stream. Of each there is a script for each fault, at 
 end. Of the last there is one whose octets come one by one, and one for each place at which they can be cut in two. Then come
 a moment past which there is no other, moments that go back, events for a place that is not there, writes that take nothing, a
 thousand answers under other ids before the true one, and worked scripts of answers that are errors, of streams that end, of
-several servers, and of what a cache gives: for each request by its type, its flags and DO, which others its answer serves
-(that the reference serves just those is checked by the rule, written again here), how an answer ages, and what is not kept.
+ several servers, of what a cache gives, and of what serves once it expired. Of what a cache gives there is for each request
+ by its type, its flags and DO which others its answer serves (that the reference serves just those is checked by the rule,
+ written again here), how an answer ages, and what is not kept.
 """
 
 import subprocess
@@ -202,6 +203,27 @@ def of_kept_answers():
     yield "a name in upper case", head + at(0, plain) + come(0, minute, 1) + at(0, plain, 1, loud)
 
 
+def of_what_expired():
+    head, events = DATAGRAM
+    served = [head[0], "set stale-for 3600", head[1]]
+    later = "at 200000000 " + ASK
+    fails = "at 200000100 open-failed 1 refused"
+    yield "an answer that expired, where the server fails", served + events + [later, fails]
+    yield "an answer that expired, where none may serve", head + events + [later, fails]
+    yield "an answer that expired, at the deadline", served + events + [later, "at 205000000 tick"]
+    yield "an answer that expired, at the last moment", served + events + [
+        "at 3700020000 " + ASK, "at 3700020000 open-failed 1 refused", "at 3700020000 " + ASK, "at 3700020001 open-failed 2 refused"]
+    yield "no such name, and no SOA", head + events[:2] + [
+        "at 20000 datagram 0 123481830001000000000000%s00010001" % NAME, "at 1000000 " + ASK]
+    failure = "000081820001000000000000%s00010001" % NAME
+    yield "a server's own failure, and then none that answers", served + events + [
+        later, "at 200000100 opened 1", "at 200000200 datagram 1 " + failure, "at 240000000 " + ASK, "at 240000100 open-failed 2 refused"]
+    do = ASK[:-1] + "0000290000000080000000"
+    unread = "000081a00001000100000000%s00010001c00c00010001000000640003c00002" % NAME
+    yield "an answer with three octets for an address", served[:2] + [
+        "at 0 " + do, "at 0 opened 0", "at 0 datagram 0 " + unread, "at 1000000 " + ASK, "at 1000100 open-failed 1 refused", "at 1000200 " + do]
+
+
 def scripts():
     yield "a datagram", sum(DATAGRAM, [])
     yield "truncated", sum(TRUNCATED, [])
@@ -216,10 +238,11 @@ def scripts():
     yield from of_a_cache()
     yield from of_lookups()
     yield from of_kept_answers()
+    yield from of_what_expired()
 
 
 def replayed(folder, lines):
-    ran = subprocess.run([sys.executable, "-m", "plain.dnsq", "--stage", "16", "--compress", "replay"], cwd=folder, capture_output=True,
+    ran = subprocess.run([sys.executable, "-m", "plain.dnsq", "--stage", "17", "--compress", "replay"], cwd=folder, capture_output=True,
                          input="\n".join(lines).encode() + b"\n")
     return ran.stdout.decode() + "status %d\n" % ran.returncode
 
