@@ -1,6 +1,6 @@
 -- Views of what is kept are views of the first message, and are valid as long.
 use Rattle.std.proofs.Common.{◌≡◌, ℕ, ◌≤◌, ◌*◌, Bool, true, false, List, [], ◌∷◌, refl, arith, sym, ◌∙◌, ap, subst, ◌&&◌, ◌||◌}
-use Rattle.std.specs.Prelude.{Option, Some, None, if◌then◌else◌, not, map, min, option_map, bit_and}
+use Rattle.std.specs.Prelude.{Option, Some, None, is_some, if◌then◌else◌, not, map, min, option_map, bit_and}
 use Rattle.std.proofs.lemmas.List.{get_or-take}
 use Rattle.dns_names.specs.Name.{Labels}
 use Rattle.dns_names.proofs.Heads.{none_some}
