@@ -12,7 +12,7 @@ use Rattle.right_trace.specs.Parts.{IsIn}
 use Rattle.right_trace.specs.Settings.{Settings}
 use Rattle.right_trace.specs.Keys.{is_cacheable}
 use Rattle.proof_right.specs.machine.Part.{Post, Act, ServerPart, IsPosted}
-use Rattle.proof_right.specs.machine.Client.{Posted, Given, Entry, Waiting, Leaving, Upper, Made, with_held, tag, moved, handing, hand, keeping, first_message, first_result, or_else, best, validity_of, outcome_of, IsOutcome, Caches, Passes, leave, newcomer, take_on, Move, Server_moves, Hands_on, Gives_up, Drops, Keeps_back, Delivers, Concludes, Times_out, Replies, Forgets, Derives, Answers, Takes_on, row_begins, begun}
+use Rattle.proof_right.specs.machine.Client.{Posted, Given, Entry, Waiting, Leaving, Upper, Made, with_held, tag, moved, handing, hand, keeping, first_message, first_result, or_else, best, validity_of, outcome_of, IsOutcome, Caches, Passes, leave, newcomer, take_on, Move, Server_moves, Hands_on, Gives_up, Drops, Keeps_back, Delivers, Concludes, Times_out, Revives, Replies, Forgets, Derives, Answers, Takes_on, row_begins, begun}
 use Rattle.proof_right.proofs.client.Lists.{in_either, in_here, in_more, in_tagged}
 use Rattle.right_trace.specs.InOctets.{IsInOctets}
 use Rattle.proof_cache.specs.Standing.{IsResult}
