@@ -4,7 +4,7 @@ use Rattle.std.specs.Prelude.{if◌then◌else◌}
 use Rattle.client_request.specs.declared.event.What.{What}
 use Rattle.client_request.specs.declared.event.What.TheVariants.{Ask, Opened, OpenFailed, SendFailed, ShortSend, Datagram, RecvFailed, Wrote, WriteFailed, Bytes, ReadFailed, Ended, Tick}
 use Rattle.client_request.specs.declared.event.Out.{Out}
-use Rattle.client_request.specs.declared.event.Out.TheVariants.{Start, OpenDgram, OpenStream, Send, Write, Resume, Close, Reply}
+use Rattle.client_request.specs.declared.event.Out.TheVariants.{Start, OpenDgram, OpenStream, Send, Write, Resume, Close, Reply, Stale}
 use Rattle.right_trace.specs.Trace.{History, Came, Put}
 use Rattle.right_trace.specs.Time.{newest}
 use Rattle.right_trace.specs.Places.{Stand, Unused, Opening, Alive, Gone, opened, failed, closed, on_event, begun, on_out, stand, stand_untold, is_live}
@@ -69,6 +69,7 @@ out_beside w (Send q k i o) p x y is = is
 out_beside w (Write q k i o) p x y is = is
 out_beside w (Resume q o) p x y is = is
 out_beside w (Reply k r) p x y is = is
+out_beside w (Stale k) p x y is = is
 
 stands_beside : (p : ℕ) (h : History) → Beside (stand p h) (stand_untold p h)
 stands_beside p [] = Same Unused

@@ -27,7 +27,8 @@ use Rattle.right_trace.specs.Right.{Right}
 use Rattle.right_trace.specs.Timely.{Timely}
 use Rattle.right_trace.specs.Validity.{second, validity_of_message, waits_for_others}
 use Rattle.right_trace.specs.Keys.{key_of, question_of, is_cacheable}
-use Rattle.right_trace.specs.Parts.{read_parts}
+use Rattle.dns_base.specs.Knowing.{knows}
+use Rattle.right_trace.specs.Parts.{read_parts, known_parts}
 use Rattle.proof_right.specs.machine.Streams.{Act, Puts, Nothing, Multi, IsForeign}
 use Rattle.right_trace.specs.Updates.{with_at}
 use Rattle.proof_right.specs.machine.Dgrams as dgrams
@@ -124,7 +125,7 @@ module _ (compose : Request → Result Octets Error) (o : Octets) (r : Request) 
   x0 = begun two_servers deferring compose P
 
   abbrev y1 : Upper Served
-  y1 = take_on r (begins 0 (Ask r) x0)
+  y1 = take_on r None (begins 0 (Ask r) x0)
 
   abbrev z1 : Upper Served
   z1 = goes_to 1 (with_dgrams d1 (server_at 1 y1)) (Puts (Start 0 1 Dgram)) (hand 0 1 (newcomer r 0) y1)
@@ -140,7 +141,7 @@ module _ (compose : Request → Result Octets Error) (o : Octets) (r : Request) 
 
   row1 : Goes_to x0 0 (Ask r) x1 (Start 0 1 Dgram ∷ OpenDgram 0 1 ∷ [])
   row1 =
-      Goes (begins 0 (Ask r) x0) _ _ (Takes_on r o refl composed (below 0 2 refl))
+      Goes (begins 0 (Ask r) x0) _ _ (Takes_on r o None refl composed (below 0 2 refl) (λ e q. absurd (cc)))
       (Goes y1 _ _ (Hands_on 1 0 (newcomer r 0) _ (below 1 2 refl) refl refl (served.IsHanded ByDatagrams (Puts (Start 0 1 Dgram)) (with_dgrams d1 (server_at 1 y1)) refl (server.ToDgrams refl refl)))
       (Goes z1 _ _ (Server_moves 1 _ (below 1 2 refl) (served.ByDgram (Puts (OpenDgram 0 1)) d2 _ (dgrams.Opens 0 queued refl refl (below 0 100 refl)) (AsItIs (only (λ k (a : Tryer). StageSettled a.stage) 0 trying d2.held refl others2 (trying_settled 0)))))
       (Rests x1 (tries_one x1 first 1 (below 1 2 refl) refl refl refl
@@ -150,7 +151,7 @@ module _ (compose : Request → Result Octets Error) (o : Octets) (r : Request) 
 
   -- It is sent, and what answers it is deferred.
   module _ (o1 m : Octets) (carries : CarriesBy Dgram o1 r 0) (long : 12 ≤ length (take 2000 m)) (answers_so : answers r 0 (take 2000 m) ≡ true) (uncut : truncated (take 2000 m) ≡ false) (waits : waits_for_others deferring (Ok (take 2000 m)) ≡ true)
-      (kept : outcome deferring 0 r (Ok (take 2000 m)) ≡ record { request = 0; asked = r; result = Ok (take 2000 m); is_stored = true }) where
+      (kept : outcome deferring 0 r (Ok (take 2000 m)) ≡ record { request = 0; asked = r; result = Ok (take 2000 m); is_stored = true; stale = None }) where
     abbrev sent : Tryer
     sent = record { request = r; tries = 1; stage = dgrams.Sent 0 0 0 }
 
@@ -267,7 +268,7 @@ module _ (compose : Request → Result Octets Error) (o : Octets) (r : Request) 
     v4 = record z4 { board = []; held = with_held 0 (Some tried_all) z4.held }
 
     abbrev leaving : Leaving
-    leaving = record { request = 0; asked = r; result = Ok (take 2000 m); is_stored = true }
+    leaving = record { request = 0; asked = r; result = Ok (take 2000 m); is_stored = true; stale = None }
 
     abbrev w4 : Upper Served
     w4 = leave leaving v4
@@ -311,8 +312,8 @@ module _ (compose : Request → Result Octets Error) (o : Octets) (r : Request) 
         ∷ [])
     deferred_run = row x0 0 _ _ x1 _ row1 (row x1 0 _ _ x2 _ row2 (row x2 10000 _ _ x3 _ row3 (row x3 20000 _ _ x4 _ gives_at_last (Ends x4))))
 
-kept_failing : outcome deferring 0 plain_request (Ok failing) ≡ record { request = 0; asked = plain_request; result = Ok failing; is_stored = true }
-unfolding name_at walk head_at data_at data_spelling question_at record_at list_at items_at questions_of answer_of authority_of additional_of answer_items authority_items additional_items first_question sole_question reads opt_of opt_rcode base_is_read truncated question_of key_of is_cacheable read_parts second validity_of_message
+kept_failing : outcome deferring 0 plain_request (Ok failing) ≡ record { request = 0; asked = plain_request; result = Ok failing; is_stored = true; stale = None }
+unfolding name_at walk head_at data_at data_spelling question_at record_at list_at items_at questions_of answer_of authority_of additional_of answer_items authority_items additional_items first_question sole_question reads knows opt_of opt_rcode base_is_read truncated question_of key_of is_cacheable read_parts known_parts second validity_of_message
 kept_failing = refl
 
 pub failing_server_is_right : Right two_servers deferring failing_server × Timely two_servers failing_server
