@@ -163,7 +163,7 @@ least_is m r n items =
 meaning_known : (k : Known) → is_some k.says ≡ is_some (meaning_of k)
 meaning_known k = go k.says
   where
-    go : (o : Option Data) → is_some o ≡ is_some (option_map (λ content. record { owner = k.entry.owner; rtype = k.entry.rtype; class = k.entry.class; ttl = k.entry.ttl; content = content }) o)
+    go : (o : Option Data) → is_some o ≡ is_some {T = Written} (option_map (λ content. record { owner = k.entry.owner; rtype = k.entry.rtype; class = k.entry.class; ttl = k.entry.ttl; content = content }) o)
     go None = refl
     go (Some x) = refl
 
@@ -190,7 +190,7 @@ known_is m r items e =
     (ap₂ (λ a b. a && b) (section_meant (authority_items m) r.authority items.authority_is) (section_meant (additional_items m) r.additional items.additional_is))
     ∙ rw e (all_meant (meanings_of r.answer) (meanings_of r.authority) (meanings_of r.additional))
   where
-    all_meant : (a u d : Option (List Written)) → (is_some a && (is_some u && is_some d)) ≡ is_some (option_map (λ (x : Knowing). record { header = flags_in x.header; code = opt_rcode m; questions = x.questions; answer = map typed x.answer; authority = map typed x.authority; additional = map typed x.additional })
+    all_meant : (a u d : Option (List Written)) → (is_some a && (is_some u && is_some d)) ≡ is_some {T = Parts Data} (option_map (λ (x : Knowing). record { header = flags_in x.header; code = opt_rcode m; questions = x.questions; answer = map typed x.answer; authority = map typed x.authority; additional = map typed x.additional })
         (a >>= (λ answer. u >>= (λ authority. d >>= (λ additional. Some (record { header = r.header; questions = r.questions; answer = answer; authority = authority; additional = additional }))))))
     all_meant None u d = refl
     all_meant (Some a) None d = refl

@@ -14,7 +14,7 @@ use Rattle.lru.specs.LruCache.{lru_cache}
 use Rattle.right_trace.specs.Keys.{Key}
 use Rattle.client_cache.specs.declared.steps.Way.{Way}
 use Rattle.client_cache.specs.declared.steps.Way.TheVariants.{Given, Asks}
-use Rattle.client_cache.specs.Keeping.{Outcome, Table, Asked, Found, Spare, asked_in, first_kept, takes, keeps, spare_in, spare_stands_in}
+use Rattle.client_cache.specs.Keeping.{Outcome, Table, Asked, Found, Spare, asked_in, first_kept, takes as takes_kept, keeps, spare_in, spare_stands_in}
 use Rattle.client_cache.specs.declared.table.Flags.{Flags}
 use Rattle.client_request.specs.declared.error.Error.{Error}
 use Rattle.right_trace.specs.Errors.{is_failure}
@@ -104,7 +104,7 @@ found_way s a f = (way_found s a f.table f.answer, f.table)
 -- where no entry is there it has nothing to spare
 abbrev pub way_looked : CacheSettings → Asked → (now : ℕ) → Table → Option Flags → Way × Table
 way_looked s a now t None = (Asks (Some a.key) None, t)
-way_looked s a now t (Some f) = found_way s a (takes s a now t (Some f))
+way_looked s a now t (Some f) = found_way s a (takes_kept s a now t (Some f))
 
 -- a request whose results are not kept is handed on
 abbrev pub way_asked : CacheSettings → (now : ℕ) → Table → Option Asked → Way × Table

@@ -227,8 +227,8 @@ module _ (cache : CacheSettings) (s : Settings) (now : ℕ) (r : Request) (a : A
 
 -- ---- what a request has to spare
 
-nothing_spared : (s : Settings) (then : ℕ) (r : Request) → StandsIn s then r None None
-nothing_spared s then r y = none_there y.entry y.there
+nothing_spared : (s : Settings) (later : ℕ) (r : Request) → StandsIn s later r None None
+nothing_spared s later r y = none_there y.entry y.there
   where
     none_there : (e : machine.Entry) → None ≡ Some e → ⊥
     none_there e p = cc
@@ -286,7 +286,7 @@ module _ (cache : CacheSettings) (s : Settings) (now : ℕ) (r : Request) (a : A
 
   -- nothing is, but there may be what was derived
   other_spared : lookup (same_key a.key) es ≡ None → (o : Option Flags) → first_kept t a.key ≡ o → Spares (spare_looked cache a now t o)
-  other_spared none None is = record { old = None; there = λ e f. absurd (cc); own = λ cacheable v m there message. absurd (not_there v there); is = λ then on. nothing_spared (with_cache cache s) then r }
+  other_spared none None is = record { old = None; there = λ e f. absurd (cc); own = λ cacheable v m there message. absurd (not_there v there); is = λ later on. nothing_spared (with_cache cache s) later r }
     where
       not_there : (v : Value) → lookup (same_key (key_of r)) es ≡ Some v → ⊥
       not_there v there = let p : None ≡ Some v = sym none ∙ subst (λ k. lookup (same_key k) es ≡ Some v) (sym asked.key) there in cc
@@ -299,8 +299,8 @@ module _ (cache : CacheSettings) (s : Settings) (now : ℕ) (r : Request) (a : A
       not_there v there = let p : None ≡ Some v = sym none ∙ subst (λ k. lookup (same_key k) es ≡ Some v) (sym asked.key) there in cc
 
       none_spared : (b : Bool) → Spares (if b then None else None)
-      none_spared true = record { old = None; there = λ e f. absurd (cc); own = λ cacheable v m there message. absurd (not_there v there); is = λ then on. nothing_spared (with_cache cache s) then r }
-      none_spared false = record { old = None; there = λ e f. absurd (cc); own = λ cacheable v m there message. absurd (not_there v there); is = λ then on. nothing_spared (with_cache cache s) then r }
+      none_spared true = record { old = None; there = λ e f. absurd (cc); own = λ cacheable v m there message. absurd (not_there v there); is = λ later on. nothing_spared (with_cache cache s) later r }
+      none_spared false = record { old = None; there = λ e f. absurd (cc); own = λ cacheable v m there message. absurd (not_there v there); is = λ later on. nothing_spared (with_cache cache s) later r }
 
       by : (o : Option Entry) → entry_under a.key left ≡ o → Spares (if cache.stale_for == 0 then None else spare_from a o)
       by None gone = none_spared (cache.stale_for == 0)
@@ -368,7 +368,7 @@ requests_are_listed cache s compose now r es t limited octets says alike = go (c
         some_asked (Some k) e f = cc
 
     asking : (m : Octets) → compose r ≡ Ok m → (o : Option Asked) → asked_in r.header (is_dnssec_ok r) m ≡ o → ListsAs (with_cache cache s) cache compose now t.cap r es (spare_asking cache now t o) (found_asking cache now t o)
-    asking m made None is = record { ops = []; asks = inr refl; alike = alike; after = all_stored_as es; derived = Nothing (all_stored_as es); listed = all_listed_so es; spares = λ o composed. record { old = None; there = λ e f. absurd (cc); own = λ cacheable v n there message. absurd (not_kept m made is cacheable); is = λ then on. nothing_spared (with_cache cache s) then r }; room = refl; serves = λ o composed cacheable v there sv. absurd (not_kept m made is cacheable); mild = λ o composed cacheable v n there message y given. absurd (not_kept m made is cacheable) }
+    asking m made None is = record { ops = []; asks = inr refl; alike = alike; after = all_stored_as es; derived = Nothing (all_stored_as es); listed = all_listed_so es; spares = λ o composed. record { old = None; there = λ e f. absurd (cc); own = λ cacheable v n there message. absurd (not_kept m made is cacheable); is = λ later on. nothing_spared (with_cache cache s) later r }; room = refl; serves = λ o composed cacheable v there sv. absurd (not_kept m made is cacheable); mild = λ o composed cacheable v n there message y given. absurd (not_kept m made is cacheable) }
     asking m made (Some a) is = look_ups_are_listed cache s compose now r a es t limited (asked_are_of_requests r m a octets (says m made) is) alike
 
     go : (o : Outcome) → compose r ≡ o → ListsAs (with_cache cache s) cache compose now t.cap r es (spare_for cache r.header (is_dnssec_ok r) now t o) (found_for cache r.header (is_dnssec_ok r) now t o)

@@ -124,8 +124,8 @@ agree_more R Q f (e ∷ es) [] h = absurd h
 agree_more R Q f (e ∷ es) (t ∷ ts) h = (h.0, f t.0 e.1 t.1 h.1, agree_more R Q f es ts h.2)
 
 -- time passes
-pub alike_later : (s : Settings) (now then : ℕ) (es : List (Key × Value)) (ts : List (Key × Entry)) → now ≤ then → AreAlike s now es ts → AreAlike s then es ts
-alike_later s now then es ts le h = agree_more (StandsFor s now) (StandsFor s then) (λ k v e st. record { under = refl; covers = st.covers; moment = st.moment; past = (let q = st.past in omega (arith, q, le)); result = st.result }) es ts h
+pub alike_later : (s : Settings) (now later : ℕ) (es : List (Key × Value)) (ts : List (Key × Entry)) → now ≤ later → AreAlike s now es ts → AreAlike s later es ts
+alike_later s now later es ts le h = agree_more (StandsFor s now) (StandsFor s later) (λ k v e st. record { under = refl; covers = st.covers; moment = st.moment; past = (let q = st.past in omega (arith, q, le)); result = st.result }) es ts h
 
 -- the table stands to that
 pub alike_stands : (s : Settings) (now : ℕ) (es : List (Key × Value)) (ts : List (Key × Entry)) → AreAlike s now es ts → AllByRecursion (StandsForStored s now (all_stored_as es)) ts

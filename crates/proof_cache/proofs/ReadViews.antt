@@ -8,7 +8,7 @@ use Rattle.right_trace.specs.Messages.{Octets}
 use Rattle.right_trace.specs.Settings.{Settings}
 use Rattle.right_trace.specs.Keys.{Key, is_signing}
 use Rattle.right_trace.specs.Parts.{Item, Parts, read_parts, known_parts}
-use Rattle.right_trace.specs.Validity.{second, has_item, least, without_opt, good_limit, limit, validity_of_parts}
+use Rattle.right_trace.specs.Validity.{second, has_item, least, without_opt, good_limit, absent_limit, limit, validity_of_parts}
 use Rattle.right_trace.specs.Views.{leaves_out, lessened, mostly_lessened, without_signing, viewed}
 use Rattle.right_trace.proofs.Said.{known_is_read}
 
@@ -39,10 +39,14 @@ module _ {C : Type 0} where
   limit_bare : (s : Settings) (x : Parts C) → limit s (bare_parts x) ≡ limit s x
   limit_bare s x = go x.questions (x.code == 0)
     where
-      go : (qs : List Asked) (b : Bool) → (if b then good_limit s (bare_parts x) qs else (if x.code == 3 then s.max_nxdomain_validity else s.misc_error_duration)) ≡ (if b then good_limit s x qs else (if x.code == 3 then s.max_nxdomain_validity else s.misc_error_duration))
+      absent : (qs : List Asked) → absent_limit s (bare_parts x) qs ≡ absent_limit s x qs
+      absent [] = refl
+      absent (q ∷ qs) = ap (λ b. if b then s.max_nxdomain_validity else 0) (has_bare 6 q.class x.authority)
+
+      go : (qs : List Asked) (b : Bool) → (if b then good_limit s (bare_parts x) qs else (if x.code == 3 then absent_limit s (bare_parts x) qs else s.misc_error_duration)) ≡ (if b then good_limit s x qs else (if x.code == 3 then absent_limit s x qs else s.misc_error_duration))
       go [] true = refl
       go (q ∷ qs) true = ap₂ (λ a b. if a then s.max_validity else b) (has_bare q.rtype q.class x.answer) (ap₂ (λ a b. if a then s.max_nodata_validity else (if b then s.max_delegation_validity else 0)) (has_bare 6 q.class x.authority) (has_bare 2 q.class x.authority))
-      go qs false = refl
+      go qs false = ap (λ n. if x.code == 3 then n else s.misc_error_duration) (absent qs)
 
   validity_bare : (s : Settings) (x : Parts C) → validity_of_parts s (bare_parts x) ≡ validity_of_parts s x
   validity_bare s x = ap (λ n. if x.header.tc && not s.cache_truncated then 0 else n)

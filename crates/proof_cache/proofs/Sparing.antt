@@ -124,20 +124,20 @@ module _ (cache : CacheSettings) (s : Settings) (now : ℕ) (r : Request) (a : A
 
   -- nothing may be given of it
   abbrev Never : ℕ → Type 0
-  Never then = MayRevive its then r (Some old) → ⊥
+  Never later = MayRevive its later r (Some old) → ⊥
 
   -- what it is, if it may be given
-  its_entry : (then : ℕ) (y : MayRevive its then r (Some old)) → y.entry ≡ old
-  its_entry then y = let both : Some old ≡ Some y.entry = y.there in cc
+  its_entry : (later : ℕ) (y : MayRevive its later r (Some old)) → y.entry ≡ old
+  its_entry later y = let both : Some old ≡ Some y.entry = y.there in cc
 
-  never_error : (f : Error) → old.result ≡ Err f → (then : ℕ) → Never then
-  never_error f is then y = let its : y.entry ≡ old = its_entry then y in let p : (y.entry).result ≡ Ok y.message = y.is in let both : Err f ≡ Ok y.message = sym is ∙ (ap (λ (z : machine.Entry). z.result) (sym its) ∙ p) in cc
+  never_error : (f : Error) → old.result ≡ Err f → (later : ℕ) → Never later
+  never_error f is later y = let its : y.entry ≡ old = its_entry later y in let p : (y.entry).result ≡ Ok y.message = y.is in let both : Err f ≡ Ok y.message = sym is ∙ (ap (λ (z : machine.Entry). z.result) (sym its) ∙ p) in cc
 
-  module _ (m : Octets) (is : old.result ≡ Ok m) (x : Stored) (keeps : KeepsMessage its q a.key m e.validity x) (then : ℕ) (on : now ≤ then) where
-    its_message : (y : MayRevive its then r (Some old)) → m ≡ y.message
-    its_message y = let both : Ok m ≡ Ok y.message = sym is ∙ (ap (λ (z : machine.Entry). z.result) (sym (its_entry then y)) ∙ y.is) in cc
+  module _ (m : Octets) (is : old.result ≡ Ok m) (x : Stored) (keeps : KeepsMessage its q a.key m e.validity x) (later : ℕ) (on : now ≤ later) where
+    its_message : (y : MayRevive its later r (Some old)) → m ≡ y.message
+    its_message y = let both : Ok m ≡ Ok y.message = sym is ∙ (ap (λ (z : machine.Entry). z.result) (sym (its_entry later y)) ∙ y.is) in cc
 
-    never_told : tells_of_name (opt_rcode x.message) ≡ false → Never then
+    never_told : tells_of_name (opt_rcode x.message) ≡ false → Never later
     never_told no y =
         let known : known_parts m ≡ Some y.known = subst (λ o. known_parts o ≡ Some y.known) (sym (its_message y)) y.is_known in
         not_both (ap tells_of_name (one_code its q a.key m e.validity x keeps st.covers y.known known)) y.tells no
@@ -147,34 +147,34 @@ module _ (cache : CacheSettings) (s : Settings) (now : ℕ) (r : Request) (a : A
 
     -- its age
     abbrev age : ℕ
-    age = then - e.moment
+    age = later - e.moment
 
-    past : e.moment + age ≡ then
+    past : e.moment + age ≡ later
     past = let p = st.past in omega (arith, p, on)
 
-    never_late : nat_le (then - e.moment - e.validity) cache.stale_for ≡ false → Never then
-    never_late late y = not_both (le-leb (then - e.moment - e.validity) cache.stale_for few) late
+    never_late : nat_le (later - e.moment - e.validity) cache.stale_for ≡ false → Never later
+    never_late late y = not_both (le-leb (later - e.moment - e.validity) cache.stale_for few) late
       where
         not_both : {b : Bool} → b ≡ true → b ≡ false → ⊥
         not_both p q = cc
 
         valid : view_validity its (y.entry).first r y.parts ≡ e.validity
         valid =
-            ap (λ (z : machine.Entry). view_validity its z.first r y.parts) (its_entry then y)
+            ap (λ (z : machine.Entry). view_validity its z.first r y.parts) (its_entry later y)
             ∙ (subst (λ k. validity_of_parts its (viewed q k (spelled_name r) 0 y.parts) ≡ e.validity) asked.key
             (read_valid its q a.key m e.validity x keeps st.covers (spelled_name r) y.parts (subst (λ o. read_parts o ≡ Some y.parts) (sym (its_message y)) y.read)))
 
-        few : then - e.moment - e.validity ≤ cache.stale_for
+        few : later - e.moment - e.validity ≤ cache.stale_for
         few =
             let in_time : y.age ≤ e.validity + cache.stale_for = subst (λ n. y.age ≤ n + cache.stale_for) valid y.in_time in
-            let at : e.moment + y.age ≡ then = ap (λ n. n + y.age) (sym st.moment ∙ ap (λ (z : machine.Entry). z.moment) (sym (its_entry then y))) ∙ y.is_age in
+            let at : e.moment + y.age ≡ later = ap (λ n. n + y.age) (sym st.moment ∙ ap (λ (z : machine.Entry). z.moment) (sym (its_entry later y))) ∙ y.is_age in
             omega (arith, in_time, at)
 
     viewable : IsViewable x.header a.name x.message
     viewable = record { octets = keeps.own.octets; long = keeps.own.long; header_is = keeps.header; legal = asked.legal }
 
     -- what is given says what the machine may put in the place of a result
-    gives : cache.stale_for ≢ 0 → nat_le (then - e.moment - e.validity) cache.stale_for ≡ true → tells_of_name (opt_rcode x.message) ≡ true → (y : Octets) → expired a.key.flags a.name x ≡ Ok y → Revived its then old r y
+    gives : cache.stale_for ≢ 0 → nat_le (later - e.moment - e.validity) cache.stale_for ≡ true → tells_of_name (opt_rcode x.message) ≡ true → (y : Octets) → expired a.key.flags a.name x ≡ Ok y → Revived its later old r y
     gives some few tells y made =
         let said = says_expired x.header a.key.flags a.name x.message (Ok y) viewable made in
         let w = is_expired its q a.key m e.validity x keeps st.covers a.name y said.parts said.known (said.says a.key refl (one_rcode its q a.key m e.validity x keeps st.covers)) in
@@ -189,7 +189,7 @@ module _ (cache : CacheSettings) (s : Settings) (now : ℕ) (r : Request) (a : A
           is_age = ap (λ n. n + age) st.moment ∙ past;
           allowed = above cache.stale_for some;
           in_time = subst (λ n. age ≤ n + cache.stale_for) (sym (subst (λ k. validity_of_parts its (viewed q k (spelled_name r) 0 w.first) ≡ e.validity) asked.key (view_valid its q a.key m e.validity x keeps st.covers (spelled_name r) w.first w.known)))
-              (let f = leb-true (then - e.moment - e.validity) cache.stale_for few in omega (arith, f));
+              (let f = leb-true (later - e.moment - e.validity) cache.stale_for few in omega (arith, f));
           says = subst (λ n. Says y (all_with_ttl 30 (viewed q (key_of r) (spelled_name r) n w.first))) (sym no_seconds)
               (subst (λ k. Says y (all_with_ttl 30 (viewed q k (spelled_name r) 0 w.first))) asked.key
               (w.says ∙ ap Some (ttl_same 30 (viewed q a.key a.name 0 w.first) (viewed q a.key (spelled_name r) 0 w.first) spelled)));
@@ -199,12 +199,12 @@ module _ (cache : CacheSettings) (s : Settings) (now : ℕ) (r : Request) (a : A
         above n ne = omega (arith, ne)
 
     abbrev Stood : Option Octets → Type 0
-    Stood o = StandsIn its then r (Some old) o
+    Stood o = StandsIn its later r (Some old) o
 
-    spared : e.outcome ≡ Ok x → (cache.stale_for == 0) ≡ false → tells_of_name (opt_rcode x.message) ≡ true → Stood (stands_in cache then (record { class = a.key.flags; name = a.name; entry = e }))
+    spared : e.outcome ≡ Ok x → (cache.stale_for == 0) ≡ false → tells_of_name (opt_rcode x.message) ≡ true → Stood (stands_in cache later (record { class = a.key.flags; name = a.name; entry = e }))
     spared outcome some tells =
-        subst (λ b. Stood (if b then None else (if nat_le (then - e.moment - e.validity) cache.stale_for then expired_of a.key.flags a.name e.outcome else None))) (sym some)
-        (by_age (nat_le (then - e.moment - e.validity) cache.stale_for) refl)
+        subst (λ b. Stood (if b then None else (if nat_le (later - e.moment - e.validity) cache.stale_for then expired_of a.key.flags a.name e.outcome else None))) (sym some)
+        (by_age (nat_le (later - e.moment - e.validity) cache.stale_for) refl)
       where
         not_zero : cache.stale_for ≢ 0
         not_zero zero = not_both (eq-eqb cache.stale_for 0 zero) some
@@ -212,28 +212,28 @@ module _ (cache : CacheSettings) (s : Settings) (now : ℕ) (r : Request) (a : A
             not_both : {b : Bool} → b ≡ true → b ≡ false → ⊥
             not_both p q = cc
 
-        made_so : nat_le (then - e.moment - e.validity) cache.stale_for ≡ true → (v : Outcome) → expired a.key.flags a.name x ≡ v → Stood (message_in v)
+        made_so : nat_le (later - e.moment - e.validity) cache.stale_for ≡ true → (v : Outcome) → expired a.key.flags a.name x ≡ v → Stood (message_in v)
         made_so few (Ok y) made = (old, refl, gives not_zero few tells y made)
         made_so few (Err f) made = λ y. known_now its q a.key m e.validity x keeps st.covers (refused x.header a.name (drops_signing a.key.flags a.key.flags) Stale x.message f viewable made).1
 
-        by_age : (b : Bool) → nat_le (then - e.moment - e.validity) cache.stale_for ≡ b → Stood (if b then expired_of a.key.flags a.name e.outcome else None)
+        by_age : (b : Bool) → nat_le (later - e.moment - e.validity) cache.stale_for ≡ b → Stood (if b then expired_of a.key.flags a.name e.outcome else None)
         by_age false late = never_late late
         by_age true few = subst (λ o. Stood (expired_of a.key.flags a.name o)) (sym outcome) (made_so few (expired a.key.flags a.name x) refl)
 
   -- What is spared of it is what the machine has.
   pub spare_is : IsSpare its cache now r (if cache.stale_for == 0 then None else spare_of a e e.outcome) (Some old)
-  spare_is then on = by_time (cache.stale_for == 0) refl
+  spare_is later on = by_time (cache.stale_for == 0) refl
     where
       Stands_in : Option Spare → Type 0
-      Stands_in spare = StandsIn its then r (Some old) (spare_stands_in cache then spare)
+      Stands_in spare = StandsIn its later r (Some old) (spare_stands_in cache later spare)
 
       by : (cache.stale_for == 0) ≡ false → (f : Outcome) (o : Result Stored Error) → old.result ≡ f → e.outcome ≡ o → KeepsResult its q a.key e.validity f o → Stands_in (spare_of a e o)
-      by some _ _ is outcome (Fault f valid) = never_error f is then
+      by some _ _ is outcome (Fault f valid) = never_error f is later
       by some _ _ is outcome (Message m x keeps) = by_code (tells_of_name (opt_rcode x.message)) refl
         where
           by_code : (b : Bool) → tells_of_name (opt_rcode x.message) ≡ b → Stands_in (if b then Some (record { class = a.key.flags; name = a.name; entry = e }) else None)
-          by_code false no = never_told m is x keeps then on no
-          by_code true yes = spared m is x keeps then on outcome some yes
+          by_code false no = never_told m is x keeps later on no
+          by_code true yes = spared m is x keeps later on outcome some yes
 
       never_allowed : (n : ℕ) → (n == 0) ≡ true → 0 < n → ⊥
       never_allowed n is lt = let z = eqb-true n 0 is in omega (arith, z, lt)

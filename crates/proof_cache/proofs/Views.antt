@@ -246,12 +246,12 @@ module _ (s : Settings) (q k : Key) (m : Octets) (validity : ℕ) (x : Stored) (
   pub known_now : known_parts x.message ≡ None → ⊥
   known_now unknown = go keeps.kept
     where
+      not_none : (o : Option (Parts Data)) → is_some o ≡ true → o ≡ None → ⊥
+      not_none o p q = cc
+
       go : IsKept s q k m validity x → ⊥
       go (Whole same none valid) = let n = keeps.valid in not_none (known_parts m) (valid_is_known s m n.0 n.1 n.2) (subst (λ o. known_parts o ≡ None) same unknown)
       go (Anew w spelled its to_w from_w none its_known says valid) = let d = said_parts x.message (viewed q w spelled 0 its) says in none_some (sym unknown ∙ d.1)
-
-      not_none : (o : Option (Parts Data)) → is_some o ≡ true → o ≡ None → ⊥
-      not_none o p q = cc
 
   -- A first message that is read is valid for a view of it as long as what is kept, though its data may not be read by type.
   pub read_valid : (name : Labels) (parts : Parts Octets) → read_parts m ≡ Some parts → validity_of_parts s (viewed q k name 0 parts) ≡ validity

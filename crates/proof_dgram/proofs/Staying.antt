@@ -3,7 +3,7 @@ use Rattle.std.proofs.Common.{◌≡◌, ℕ, suc, ◌≤◌, ◌⊎◌, inl, in
 use Rattle.std.specs.Prelude.{Err}
 use Rattle.client_request.specs.declared.error.Error.TheVariants as errors
 use Rattle.client_request.specs.declared.event.What.{What}
-use Rattle.client_request.specs.declared.event.Out.TheVariants.{Start, OpenDgram, OpenStream, Send, Write, Resume, Close, Reply}
+use Rattle.client_request.specs.declared.event.Out.TheVariants.{Start, OpenDgram, OpenStream, Send, Write, Resume, Close, Reply, Stale}
 use Rattle.right_trace.specs.Messages.{Octets}
 use Rattle.right_trace.specs.Trace.{Conf}
 use Rattle.proof_right.specs.machine.Part.{Act}
@@ -78,6 +78,7 @@ grows (multi.Puts (Write p k id o)) n = le_refl n
 grows (multi.Puts (Resume p o)) n = le_refl n
 grows (multi.Puts (Close p)) n = le_refl n
 grows (multi.Puts (Reply k x)) n = le_refl n
+grows (multi.Puts (Stale k)) n = le_refl n
 grows (multi.Gives k x) n = le_refl n
 grows multi.Nothing n = le_refl n
 
