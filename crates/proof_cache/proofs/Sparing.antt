@@ -1,5 +1,5 @@
 -- What a request has to spare of the entry under its own key is what the machine may put in the place of a result that fails.
-use Rattle.std.proofs.Common.{◌≡◌, ℕ, ◌+◌, ◌-◌, ◌<◌, ◌≤◌, Bool, true, false, List, [], ◌∷◌, refl, arith, sym, ◌∙◌, ap, ap₂, subst, eq-eqb, ◌==◌}
+use Rattle.std.proofs.Common.{◌≡◌, ◌≢◌, ℕ, ◌+◌, ◌-◌, ◌<◌, ◌≤◌, Bool, true, false, List, [], ◌∷◌, refl, arith, sym, ◌∙◌, ap, ap₂, subst, eq-eqb, ◌==◌}
 use Rattle.std.specs.Prelude.{◌/◌, Option, Some, None, Result, Ok, Err, if◌then◌else◌, map, nat_le, option_map}
 use Rattle.std.proofs.lemmas.Bool.{eqb-true, le-leb, leb-true}
 use Rattle.dns_names.specs.Name.{Labels, lowered}
@@ -138,12 +138,12 @@ module _ (cache : CacheSettings) (s : Settings) (now : ℕ) (r : Request) (a : A
     its_message y = let both : Ok m ≡ Ok y.message = sym is ∙ (ap (λ (z : machine.Entry). z.result) (sym (its_entry later y)) ∙ y.is) in cc
 
     never_told : tells_of_name (opt_rcode x.message) ≡ false → Never later
-    never_told no y =
+    never_told untold y =
         let known : known_parts m ≡ Some y.known = subst (λ o. known_parts o ≡ Some y.known) (sym (its_message y)) y.is_known in
-        not_both (ap tells_of_name (one_code its q a.key m e.validity x keeps st.covers y.known known)) y.tells no
+        not_both (ap tells_of_name (one_code its q a.key m e.validity x keeps st.covers y.known known)) y.tells untold
       where
         not_both : {b c : Bool} → b ≡ c → c ≡ true → b ≡ false → ⊥
-        not_both p q r = cc
+        not_both same is is_not = cc
 
     -- its age
     abbrev age : ℕ
@@ -232,8 +232,8 @@ module _ (cache : CacheSettings) (s : Settings) (now : ℕ) (r : Request) (a : A
       by some _ _ is outcome (Message m x keeps) = by_code (tells_of_name (opt_rcode x.message)) refl
         where
           by_code : (b : Bool) → tells_of_name (opt_rcode x.message) ≡ b → Stands_in (if b then Some (record { class = a.key.flags; name = a.name; entry = e }) else None)
-          by_code false no = never_told m is x keeps later on no
-          by_code true yes = spared m is x keeps later on outcome some yes
+          by_code false untold = never_told m is x keeps later on untold
+          by_code true told = spared m is x keeps later on outcome some told
 
       never_allowed : (n : ℕ) → (n == 0) ≡ true → 0 < n → ⊥
       never_allowed n is lt = let z = eqb-true n 0 is in omega (arith, z, lt)
