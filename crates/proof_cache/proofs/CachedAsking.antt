@@ -58,9 +58,9 @@ use Rattle.proof_cache.proofs.Settling.{at_next, IsAskedFor, IsRevived, AllTold,
 use Rattle.proof_cache.proofs.Ways.{Ways, Finds, Goes_on, ways}
 
 -- why a request is refused fails by no server
-mild_fault : {r : Request} (e : Error) → IsComposingFault r e → is_failing (Err e) ≡ false
-mild_fault e (inl p) = ap is_failure p.0
-mild_fault e (inr p) = ap is_failure p.0
+mild_fault : (r : Request) (e : Error) → IsComposingFault r e → is_failing (Err e) ≡ false
+mild_fault r e (inl p) = ap is_failure p.0
+mild_fault r e (inr p) = ap is_failure p.0
 
 -- what is listed is stored
 all_among : (stored : List Entry) (es : List (Key × Value)) → AreListed stored es → (e : Entry) → IsIn e (all_stored_as es) → IsIn e stored
@@ -146,8 +146,8 @@ module _ (g : Caching) where
     listed_after : AreListed finds.after left
     listed_after = listed_more lists.after finds.after among_finds left lists.listed
 
-    none_expired : (then : ℕ) → MayRevive (its g) then r (a.expired a.asked) → ⊥
-    none_expired then y = none_there y.entry (sym (t.unasked a.asked (le_refl a.asked)) ∙ y.there)
+    none_expired : (later : ℕ) → MayRevive (its g) later r (a.expired a.asked) → ⊥
+    none_expired later y = none_there y.entry (sym (t.unasked a.asked (le_refl a.asked)) ∙ y.there)
       where
         none_there : (x : Entry) → None ≡ Some x → ⊥
         none_there x p = cc
@@ -205,13 +205,13 @@ module _ (g : Caching) where
       -- where a message is listed under the own key, it does not fail
       mild : (made : Outcome) → composed r ≡ made → OwnMessage g.c (its g) composed g.P same_key (room g) r es (λ v. is_failing o ≡ false)
       mild (Ok m) made cacheable v n own message = lists.mild m made cacheable v n own message o answer_is
-      mild (Err e) made cacheable v n own message = subst (λ o. is_failing o ≡ false) error (mild_fault e (composed_composes.refused r e octets made))
+      mild (Err e) made cacheable v n own message = subst (λ o. is_failing o ≡ false) error (mild_fault r e (composed_composes.refused r e octets made))
         where
-          error : Err e ≡ o
-          error = some_same (Err e) o (ap (λ x. (found_for g.cache r.header (is_dnssec_ok r) a.now c.kept.table x).answer) (sym made) ∙ answer_is)
-
           some_same : (x y : Outcome) → Some x ≡ Some y → x ≡ y
           some_same x y p = cc
+
+          error : Err e ≡ o
+          error = some_same (Err e) o (ap (λ x. (found_for g.cache r.header (is_dnssec_ok r) a.now c.kept.table x).answer) (sym made) ∙ answer_is)
 
       gives_it : LeadsBeside (its g) g.P (listed g) a es [] answered left
       gives_it = led_on (its g) g.P (listed g) a es [] derived es [] answered left leads_there
@@ -312,10 +312,10 @@ module _ (g : Caching) where
         next = next;
         key = λ b held. ap (λ (x : Waiting). kept_key x.request) (this_one (taken.held v.request) (newcomer r a.now) b (subst (λ n. taken.held n ≡ Some (newcomer r a.now)) numbered (with_here a.asked (Some (newcomer r a.now)) a.held)) held);
         keyless = keyless;
-        spare = λ b held then on.
-            subst (λ q. StandsIn (its g) then q (taken.expired v.request) (spare_stands_in g.cache then spare))
+        spare = λ b held later on.
+            subst (λ q. StandsIn (its g) later q (taken.expired v.request) (spare_stands_in g.cache later spare))
             (ap (λ (x : Waiting). x.request) (this_one (taken.held v.request) (newcomer r a.now) b (subst (λ n. taken.held n ≡ Some (newcomer r a.now)) numbered (with_here a.asked (Some (newcomer r a.now)) a.held)) held))
-            (subst (λ o. StandsIn (its g) then r o (spare_stands_in g.cache then spare)) (sym (subst (λ n. taken.expired n ≡ spares.old) numbered (with_here a.asked spares.old a.expired))) (spares.is then on));
+            (subst (λ o. StandsIn (its g) later r o (spare_stands_in g.cache later spare)) (sym (subst (λ n. taken.expired n ≡ spares.old) numbered (with_here a.asked spares.old a.expired))) (spares.is later on));
       }
         where
           this_one : (o : Option Waiting) (x y : Waiting) → o ≡ Some x → o ≡ Some y → x ≡ y
@@ -336,11 +336,11 @@ module _ (g : Caching) where
             next = f.next;
             key = λ b held. f.key b (was f.request (not_new f.request i f.named) b held);
             keyless = f.keyless;
-            spare = λ b held then on. subst (λ o. StandsIn (its g) then b.request o (spare_stands_in g.cache then j.spare)) (sym (with_there a.asked spares.old a.expired f.request (not_new f.request i f.named))) (f.spare b (was f.request (not_new f.request i f.named) b held) then on);
+            spare = λ b held later on. subst (λ o. StandsIn (its g) later b.request o (spare_stands_in g.cache later j.spare)) (sym (with_there a.asked spares.old a.expired f.request (not_new f.request i f.named))) (f.spare b (was f.request (not_new f.request i f.named) b held) later on);
           }
         where
           was : (n : ℕ) → (a.asked ≡ n → ⊥) → (b : Waiting) → taken.held n ≡ Some b → a.held n ≡ Some b
-          was n ne b held = elim (is_or_was a.asked (Some (newcomer r a.now)) a.held n b held) [ inl it ↦ absurd (ne it.0) | inr was ↦ was.1 ]
+          was n ne b held = elim (is_or_was a.asked (Some (newcomer r a.now)) a.held n b held) [ inl here ↦ absurd (ne here.0) | inr before ↦ before.1 ]
 
       sorted : (hi : ℕ) × Sorted 0 hi with_job.waiting
       sorted = (
@@ -491,7 +491,7 @@ module _ (g : Caching) where
 
         -- nothing stands in for it
         one_fault : s.leaving ≡ fault ∷ []
-        one_fault = not_revived g a.now taken.expired fault s.leaving s.revived fault_mild
+        one_fault = not_revived a.now taken.expired fault s.leaving s.revived fault_mild
 
         abbrev kept : Kept
         kept = (settles_all posts with_job (onto v.board said_below)).0
@@ -515,18 +515,18 @@ module _ (g : Caching) where
           told = λ z is. told_of z (subst (λ zs. IsIn z (zs ++ fault ∷ [])) none is);
           unasked = unasked_on;
           jobs = record {
-            jobs = λ i j is. (let f = s.jobs.jobs i j is in record { request = f.request; named = f.named; next = f.next; key = λ b held. f.key b (with_there a.asked (Some (newcomer r a.now)) a.held f.request (not_new f.request i f.named) ∙ held); keyless = f.keyless; spare = λ b held then on. subst (λ o. StandsIn (its g) then b.request o (spare_stands_in g.cache then j.spare)) (with_there a.asked spares.old a.expired f.request (not_new f.request i f.named)) (f.spare b (with_there a.asked (Some (newcomer r a.now)) a.held f.request (not_new f.request i f.named) ∙ held) then on) });
+            jobs = λ i j is. (let f = s.jobs.jobs i j is in record { request = f.request; named = f.named; next = f.next; key = λ b held. f.key b (with_there a.asked (Some (newcomer r a.now)) a.held f.request (not_new f.request i f.named) ∙ held); keyless = f.keyless; spare = λ b held moment on. subst (λ o. StandsIn (its g) moment b.request o (spare_stands_in g.cache moment j.spare)) (with_there a.asked spares.old a.expired f.request (not_new f.request i f.named)) (f.spare b (with_there a.asked (Some (newcomer r a.now)) a.held f.request (not_new f.request i f.named) ∙ held) moment on) });
             waits = s.jobs.waits;
             sorted = s.jobs.sorted;
           };
         }
           where
+            not_both : {b : Bool} → b ≡ false → b ≡ true → ⊥
+            not_both p q = cc
+
             told_of : (z : Leaving) → IsIn z (fault ∷ []) → IsTold (its g) refused z
             told_of z (inl same) = subst (IsTold (its g) refused) same (λ n fails. absurd (not_both fault_mild fails))
             told_of z (inr none) = absurd none
-
-            not_both : {b : Bool} → b ≡ false → b ≡ true → ⊥
-            not_both p q = cc
 
         says_so : HasAsked (record c { kept = kept }) later
         says_so = record {

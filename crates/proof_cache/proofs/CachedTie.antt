@@ -42,7 +42,7 @@ module _ (g : Caching) where
     told = λ z is. absurd (subst (IsIn z) none is);
     unasked = t.unasked;
     jobs = record {
-      jobs = λ i j is. (let m = t.jobs.jobs i j is in record { request = m.request; named = m.named; next = m.next; key = m.key; keyless = m.keyless; spare = λ b held then on. m.spare b held then (longer a.now (max event.moment.0 a.now) then (greater event.moment.0 a.now) on) });
+      jobs = λ i j is. (let m = t.jobs.jobs i j is in record { request = m.request; named = m.named; next = m.next; key = m.key; keyless = m.keyless; spare = λ b held later on. m.spare b held later (longer a.now (max event.moment.0 a.now) later (greater event.moment.0 a.now) on) });
       waits = t.jobs.waits;
       sorted = t.jobs.sorted;
     };

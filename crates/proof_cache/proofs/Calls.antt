@@ -5,7 +5,7 @@ use Rattle.client_request.specs.Composed.{composed}
 use Rattle.client_request.specs.View.{View}
 use Rattle.client_request.specs.declared.board.Posted.{Posted}
 use Rattle.right_trace.specs.Parts.{IsIn}
-use Rattle.proof_right.specs.machine.Client.{Entry, Leaving, Revives, revive, unmade}
+use Rattle.proof_right.specs.machine.Client.{Entry, Leaving, Revived, Revives, revive, unmade}
 use Rattle.proof_parts.specs.Chains.{Gives}
 use Rattle.proof_parts.specs.ClientTie as client
 use Rattle.proof_parts.specs.ClientTie.{LeadsBeside}
@@ -72,17 +72,17 @@ module _ (g : Caching) where
   }
 
   -- what had expired is put in the place of results that leave
-  revives : (before zs ys : List Leaving) (x : State g) (e : Listed g) → x.leaving ≡ before ++ zs → IsRevived g x.now x.expired zs ys → LeadsBeside (its g) g.P (listed g) x e [] (record x { leaving = before ++ ys }) e
-  revives before _ _ x e is AllTold = subst (λ ls. LeadsBeside (its g) g.P (listed g) x e [] (record x { leaving = ls }) e) is (client.Arrives x e)
-  revives before _ _ x e is (Stays z zs ys h) =
+  revives : (now : ℕ) (expired : ℕ → Option Entry) (e : Listed g) (before zs ys : List Leaving) (x : State g) → x.now ≡ now → x.expired ≡ expired → x.leaving ≡ before ++ zs → IsRevived g now expired zs ys → LeadsBeside (its g) g.P (listed g) x e [] (record x { leaving = before ++ ys }) e
+  revives now expired e before _ _ x at has is AllTold = subst (λ ls. LeadsBeside (its g) g.P (listed g) x e [] (record x { leaving = ls }) e) is (client.Arrives x e)
+  revives now expired e before _ _ x at has is (Stays z zs ys h) =
       subst (λ ls. LeadsBeside (its g) g.P (listed g) x e [] (record x { leaving = ls }) e) (append_assoc before (z ∷ []) ys)
-      (revives (before ++ z ∷ []) zs ys x e (is ∙ sym (append_assoc before (z ∷ []) zs)) h)
-  revives before _ _ x e is (Changes z old m zs ys fails there may h) =
+      (revives now expired e (before ++ z ∷ []) zs ys x at has (is ∙ sym (append_assoc before (z ∷ []) zs)) h)
+  revives now expired e before _ _ x at has is (Changes z old m zs ys fails there may h) =
       let next : State g = record x { leaving = before ++ revive m z ∷ zs } in
       led_on (its g) g.P (listed g) x e [] next e [] (record x { leaving = before ++ revive m z ∷ ys }) e
-      (one_led (its g) g.P (listed g) x e (unmade next) e (Revives before zs z old m is fails there may) refl)
+      (one_led (its g) g.P (listed g) x e (unmade next) e (Revives before zs z old m is fails (ap (λ (f : ℕ → Option Entry). f z.request) has ∙ there) (subst (λ n. Revived (its g) n old z.asked m) (sym at) may)) refl)
       (subst (λ ls. LeadsBeside (its g) g.P (listed g) next e [] (record next { leaving = ls }) e) (append_assoc before (revive m z ∷ []) ys)
-      (revives (before ++ revive m z ∷ []) zs ys next e (sym (append_assoc before (revive m z ∷ []) zs)) h))
+      (revives now expired e (before ++ revive m z ∷ []) zs ys next at has (sym (append_assoc before (revive m z ∷ []) zs)) h))
 
   module _ (named : ℕ → Option ℕ) (start from : State g) (e f : Listed g) (c : Cached g.V) (k : Kept) (v : View) (phase : Phase) (h : Calling named start from e f k v) where
     module _ (w : g.V) (y : View) (l : whole.Leaves (its g) g.P g.Tied g.names g.Owns named from c.upstream (onto [] v) phase w y) where
@@ -114,7 +114,7 @@ module _ (g : Caching) where
       leads_there = subst (λ outs. LeadsBeside (its g) g.P (listed g) start e outs end f) (append-nil l.outs)
           (led_on (its g) g.P (listed g) start e l.outs l.end f [] end f
           (led_on (its g) g.P (listed g) start e [] from f l.outs l.end f h.leads (led_beside (its g) g.P (listed g) from l.outs l.end f l.leads))
-          (revives [] (map (leaving_of (its g)) l.given) s.leaving l.end f left
+          (revives l.end.now l.end.expired f [] (map (leaving_of (its g)) l.given) s.leaving l.end refl refl left
           (subst (λ n. IsRevived g n l.end.expired (map (leaving_of (its g)) l.given) s.leaving) (sym l.now)
           (subst (λ x. IsRevived g from.now x (map (leaving_of (its g)) l.given) s.leaving) (sym stays.expired) s.revived))))
 
