@@ -23,7 +23,7 @@ loop-left-preserved g c =
 pub returns-in_err-take_frame : goal.returns-in_err-take_frame
 returns-in_err-take_frame g c =
     let layer = g.L.SendRequest in
-    let m = machine_of layer.transport g.L.Response.GetResponse.ticket_of in
+    let m = machine_of layer.transport g.L.Response.GetResponse.ticket_of g.L.ServesStale.stale in
     let before = client_of c.loop-left.layer (c.loop-left.asked, view_of g.W.Words.stream c.loop-left.cx) in
     let fired = client_of c.fire_all.new.layer (c.fire_all.new.asked, view_of g.W.Words.stream c.fire_all.new.cx) in
     record {
