@@ -23,9 +23,9 @@ from definitions.messages import end_of
 from definitions.mutations import mutated
 from definitions.right import judge
 
-STAGES = {"stream1": 6, "servers": 7, "all": 16}
+STAGES = {"stream1": 6, "servers": 7, "all": 17}
 FIRST_WITH_CACHE = 8
-CLAUSES = ("Right", "Timely", "Deferred", "Hit")
+CLAUSES = ("Right", "Timely", "Deferred", "Hit", "Stale")
 
 
 def told(faults):
@@ -61,7 +61,7 @@ class Reference:
 
     def made(self, seed, events, profile, stage):
         """A script and its trace."""
-        run = self.fuzz.make(seed, events, profile, stage)
+        run = self.fuzz.make(seed, events, profile, stage, stage > 16)
         return run.text(), self.script.trace_text(run.rows)
 
     def judges(self, script, trace, stage):
@@ -200,7 +200,7 @@ def main():
     parser.add_argument("--keep")
     options = parser.parse_args()
     if options.judge:
-        return judge_files(*options.judge, options.stage or 16)
+        return judge_files(*options.judge, options.stage or 17)
     if not os.path.isdir(os.path.join(options.reference, "plain")):
         print("skipped: no reference client in", options.reference)
         return 0

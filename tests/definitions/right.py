@@ -1,20 +1,22 @@
-"""When a trace is right, when it is timely, what a deferred result owes, and what a hit is.
+"""When a trace is right, when it is timely, what a deferred result owes, what a hit is, and when what has expired serves.
 
-A judge walks over the rows of a trace. For each of the four it keeps the first row, out and definition that fail.
+A judge walks over the rows of a trace. For each of the five it keeps the first row, out and definition that fail.
 """
 
 from collections import namedtuple
 
 from . import messages as dns
 from .history import BACK_OFF, READ_TIMEOUT, STREAM_TIMEOUT, History
-from .requests import DO, covers
+from .requests import covers
 from .texts import Err
-from .views import (is_deferred, is_final, known_parts, read_parts, says, validity_of_message, view_of, view_validity)
+from .views import (is_deferred, is_final, is_valid_stale, known_parts, says, stale_of, validity_of_message, view_of,
+                    view_validity)
 
 Fault = namedtuple("Fault", "row out definition")
 FreshReply = namedtuple("FreshReply", "message moment place")
 ErrorReply = namedtuple("ErrorReply", "error moment")
-Replied = namedtuple("Replied", "request result moment asked_here in_row_of_ask row")
+Replied = namedtuple("Replied", "request result moment asked_here in_row_of_ask row is_marked")
+Watched = namedtuple("Watched", "request limit by")
 Asked = namedtuple("Asked", "request row")
 
 TIMED_OUT, NO_SERVER = Err(("TimedOut",)), Err(("NoTransportAvailable",))
@@ -26,6 +28,11 @@ NO_ANSWER = Err(("Dgram", "Timeout", "expired"))
 def is_of_server(error):
     """An error that only a server gives."""
     return error.words[0] == "Dgram" or error in (WRONG_REPLY, SILENCE)
+
+
+def is_failure(error):
+    """An error for which an expired message may stand."""
+    return error == TIMED_OUT or is_of_server(error)
 
 
 def is_fault(out):
@@ -50,6 +57,8 @@ class Judge:
         self.servers_told = set()
         self.tried_out = set()
         self.outs, self.out = [], None
+        self.marked = None          # the request whose mark was put last, in this row
+        self.watched = []           # requests that must not fail, each up to a moment
         self.defers_nothing = not (settings.defers_errors or settings.defers_refused or settings.defers_servfail)
 
     def fails(self, clause, definition):
@@ -64,7 +73,7 @@ class Judge:
     def row(self, moment, what, outs):
         h = self.h
         h.begin_row(moment, what)
-        self.outs, self.out = outs, None
+        self.outs, self.out, self.marked = outs, None, None
         self.replied_in_row = {o.request for o in outs if o.kind == "reply"}
         if what.kind == "ask":
             self.log.append(Asked(h.asks - 1, h.row))
@@ -76,11 +85,14 @@ class Judge:
             if out.kind == "reply":
                 self.note_reply(out)
             h.put(out)
+            self.marked = out.request if out.kind == "stale" else None
         self.out = None
         self.row_right()
         self.in_time()
         if what.kind == "ask" and self.has_cache:
             self.hits(h.asks - 1)
+            self.watches(h.asks - 1)
+        self.never_fails()
         self.note_row()
         h.end_row()
 
@@ -175,7 +187,11 @@ class Judge:
     def reply_right(self, k, result):
         if k not in self.h.asking or self.h.replied.get(k):
             return "IsFirst"
-        return self.has_cause(k, result) if isinstance(result, Err) else self.ok_is_right(k, result)
+        if isinstance(result, Err):
+            return self.has_cause(k, result)
+        if self.marked == k:
+            return None if self.fails_here(k) and self.is_stale(k, result) else "IsStale"
+        return self.ok_is_right(k, result)
 
     def came_for(self, k, m):
         return any(x.request == k and x.message == m for x in self.h.matching())
@@ -235,15 +251,25 @@ class Judge:
                 return True
         return False
 
-    def cant_be_viewed(self, k):
-        if not self.h.is_asked_here(k):
+    # ---- what has expired
+
+    def fails_here(self, k):
+        """Some error of a server or of the deadline has its own cause here."""
+        h, what = self.h, self.h.newest
+        told = self.told_error() or what.kind == "open-failed" and Err(("Dgram", "Connect", what.more))
+        if self.direct_cause(k, TIMED_OUT):
+            return True
+        of_server = [told, NO_ANSWER, WRONG_REPLY, SILENCE, *self.earlier.get(k, ())]
+        if not any(e and self.direct_cause(k, e) for e in of_server):
             return False
+        return not self.settings.defers_errors or h.all_are_done(k) and self.none_came(k)
+
+    def is_stale(self, k, m):
         r, settings = self.h.asking[k].request, self.settings
         for q, first, age in self.supplies(k):
-            parts = read_parts(first)
-            if parts is None or known_parts(first) is not None or not validity_of_message(settings, first):
-                continue
-            if age <= view_validity(settings, q, r, parts) or q.key.flags == DO and r.key.flags != DO:
+            parts = known_parts(first)
+            if (parts is not None and is_valid_stale(settings, q, r, first, parts, age)
+                    and says(m, stale_of(q, r, parts))):
                 return True
         return False
 
@@ -268,7 +294,7 @@ class Judge:
             return True
         if self.server_cause(k, error) or self.settings.defers_errors and error in self.earlier.get(k, ()):
             return True
-        return error == PARSE and (self.came_without_validity(k) or self.cant_be_viewed(k))
+        return error == PARSE and self.came_without_validity(k)
 
     def came_without_validity(self, k):
         if not self.h.asking[k].request.is_cacheable:
@@ -360,6 +386,11 @@ class Judge:
             if live > wanted or self.defers_nothing and live != wanted:
                 self.fails("Right", "PlacesAreMet: server %d" % s)
         self.prompt()
+        for n, out in enumerate(self.outs):
+            reply = self.outs[n + 1] if n + 1 < len(self.outs) else None
+            if out.kind == "stale" and not (reply and reply.kind == "reply" and reply.request == out.request
+                                            and not isinstance(reply.result, Err)):
+                self.fails("Right", "MarksStand: request %d" % out.request)
         if self.defers_nothing and sum(map(is_fault, self.outs)) > 1:
             self.fails("Right", "one_fault")
 
@@ -406,10 +437,10 @@ class Judge:
         h, k, result = self.h, out.request, out.result
         if k in h.asking and isinstance(result, Err) and self.direct_cause(k, result):
             self.errors.setdefault(k, []).append(ErrorReply(result, h.now))
-        elif k in h.asking and not isinstance(result, Err) and self.is_fresh(k, result):
+        elif k in h.asking and not isinstance(result, Err) and self.marked != k and self.is_fresh(k, result):
             self.fresh.setdefault(k, []).append(FreshReply(result, h.now, len(self.log)))
         self.reply_place[k] = len(self.log)
-        self.log.append(Replied(k, result, h.now, h.is_asked_here(k), h.newest.kind == "ask", h.row))
+        self.log.append(Replied(k, result, h.now, h.is_asked_here(k), h.newest.kind == "ask", h.row, self.marked == k))
 
     def note_row(self):
         """What came in the row that is done, and for what servers could give an error in it."""
@@ -443,26 +474,29 @@ class Judge:
                 self.hits_by(j, q, x, k, r)
 
     def hits_by(self, j, q, x, k, r):
-        h, settings, age = self.h, self.settings, self.h.now - x.moment
-        validity = validity_of_message(settings, x.message)
-        place = self.reply_place[j]
-        if not validity or age > validity or self.log[place].row == h.row:
-            return
-        since = self.log[place + 1:]
-        asks = self.log[place].in_row_of_ask + sum(isinstance(e, Asked) and e.request != k for e in since)
-        replies = [e for e in since if isinstance(e, Replied) and not (e.row == h.row and e.request == k)]
-        if 3 * asks + len(replies) >= settings.max_cache_entries:
-            return
-        if not all(self.out_is_view(e, q, x) for e in replies if e.request != k):
+        h, age = self.h, self.h.now - x.moment
+        validity = validity_of_message(self.settings, x.message)
+        if not validity or age > validity or not self.few_between(j, q, x, k):
             return
         if any(h.handed(k, s) for s, _ in h.starts_of.get(k, ())):
             self.fails("Hit", "Hits: handed")
         elif not self.is_hit(q, r, x.message, age, k):
             self.fails("Hit", "IsHit by request %d" % j)
 
+    def few_between(self, j, q, x, k):
+        """Few askings and replies came between, and those with the key of q are views of its message, or marked as stale."""
+        place = self.reply_place[j]
+        if self.log[place].row == self.h.row:
+            return False
+        since = self.log[place + 1:]
+        asks = self.log[place].in_row_of_ask + sum(isinstance(e, Asked) and e.request != k for e in since)
+        replies = [e for e in since if isinstance(e, Replied) and not (e.row == self.h.row and e.request == k)]
+        return 3 * asks + len(replies) < self.settings.max_cache_entries and all(
+            self.out_is_view(e, q, x) for e in replies if e.request != k)
+
     def out_is_view(self, e, q, x):
-        """A reply to a request with the key of q is a view of its message, given in its own asking's row."""
-        if e.request not in self.h.asking:
+        """A reply to a request with the key of q is a view of its message, given in its own asking's row, or marked."""
+        if e.request not in self.h.asking or e.is_marked:
             return True
         r = self.h.asking[e.request].request
         if not r.is_cacheable or r.key != q.key:
@@ -474,12 +508,33 @@ class Judge:
     def is_hit(self, q, r, m, age, k):
         parts = known_parts(m)
         mine = [o.result for o in self.outs if o.kind == "reply" and o.request == k]
-        if parts is None:
-            return PARSE in mine
-        return any(not isinstance(y, Err) and says(y, view_of(q, r, age, parts)) for y in mine)
+        if any(o.kind == "stale" and o.request == k for o in self.outs):
+            return False
+        return parts is not None and any(not isinstance(y, Err) and says(y, view_of(q, r, age, parts)) for y in mine)
+
+    # ---- what serves where servers fail
+
+    def watches(self, k):
+        """Request k must not fail while a message that had expired when it was asked may serve."""
+        h, r = self.h, self.h.asking[k].request
+        for j in list(self.fresh) if r.is_cacheable else ():
+            q = h.asking[j].request
+            if j == k or not q.is_cacheable or q.key != r.key:
+                continue
+            for x in self.fresh[j]:
+                parts, validity = known_parts(x.message), validity_of_message(self.settings, x.message)
+                if (validity and parts.code in (0, 3) and x.moment + validity < h.now
+                        and self.few_between(j, q, x, k)):
+                    self.watched.append(Watched(k, x.moment + validity + self.settings.stale_for, j))
+
+    def never_fails(self):
+        failed = {o.request for o in self.outs if o.kind == "reply" and isinstance(o.result, Err) and is_failure(o.result)}
+        for x in self.watched:
+            if self.h.now <= x.limit and x.request in failed:
+                self.fails("Stale", "NeverFails by request %d" % x.by)
 
 
 def judge(script, trace, has_cache=True):
-    """`faults` has the first of each of the clauses `Right`, `Timely`, `Deferred` and `Hit` that fails, by its name."""
+    """`faults` has the first of each of the clauses `Right`, `Timely`, `Deferred`, `Hit` and `Stale` that fails, by its name."""
     conf, settings = script
     return Judge(conf, settings, has_cache).judge(trace)

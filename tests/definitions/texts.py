@@ -20,6 +20,7 @@ DURATIONS = {
     "max-nxdomain-validity": (3600, 60, 86400),
     "max-nodata-validity": (3600, 60, 86400),
     "max-delegation-validity": (1000000, 60, 1000000000),
+    "stale-for": (0, 0, 604800),
 }
 SWITCHES = {"defer-transport-error": "defers_errors", "defer-refused": "defers_refused",
             "defer-servfail": "defers_servfail", "cache-truncated": "cache_truncated"}
@@ -95,6 +96,8 @@ def read_out(words):
         place, octets = int(words[1]), octets_of(words[2])
     elif kind == "close":
         place = int(words[1])
+    elif kind == "stale":
+        request = int(words[1])
     else:
         request = int(words[1])
         result = octets_of(words[3]) if words[2] == "ok" else Err(tuple(words[3:]))

@@ -70,10 +70,15 @@ def good_limit(settings, x):
     return settings.max_delegation_validity if has_item(2, q.class_, x.authority) else 0
 
 
+def absent_limit(settings, x):
+    has_soa = x.questions and has_item(6, x.questions[0].class_, x.authority)
+    return settings.max_nxdomain_validity if has_soa else 0
+
+
 def limit(settings, x):
     if x.code == 0:
         return good_limit(settings, x)
-    return settings.max_nxdomain_validity if x.code == 3 else settings.misc_error_duration
+    return absent_limit(settings, x) if x.code == 3 else settings.misc_error_duration
 
 
 def validity_of_parts(settings, x):
@@ -84,11 +89,13 @@ def validity_of_parts(settings, x):
 
 
 def validity_of_message(settings, m):
-    """In microseconds; nothing where the message isn't read."""
+    """In microseconds; nothing where the message isn't read, and 0 where the data of a record isn't, by its type."""
     if dns.truncated(m) and not settings.cache_truncated:
         return 0
     parts = read_parts(m)
-    return None if parts is None else validity_of_parts(settings, parts)
+    if parts is None:
+        return None
+    return 0 if known_parts(m) is None else validity_of_parts(settings, parts)
 
 
 def is_deferred(settings, m):
@@ -126,3 +133,21 @@ def view_of(q, r, age, x):
 
 def view_validity(settings, q, r, x):
     return validity_of_parts(settings, viewed(q.key, r.key, r.question.name, 0, x))
+
+
+# ---- what has expired (RFC 8767 4, 5)
+
+def stale_of(q, r, x):
+    """The view at age 0 with 30 seconds in place of each TTL but OPT's."""
+    view = view_of(q, r, 0, x)
+
+    def items(section):
+        return [i._replace(ttl=30) for i in section]
+
+    return view._replace(answer=items(view.answer), authority=items(view.authority),
+                         additional=[i if i.rtype == 41 else i._replace(ttl=30) for i in view.additional])
+
+
+def is_valid_stale(settings, q, r, m, x, age):
+    return (bool(validity_of_message(settings, m)) and x.code in (0, 3) and settings.stale_for > 0
+            and age <= view_validity(settings, q, r, x) + settings.stale_for)
