@@ -33,7 +33,7 @@ class Text:
                 self.rows[-1][1].append(words[1:])
 
     def text(self):
-        lines = ["trace 1"]
+        lines = ["trace 2" if self.outs(("stale",)) else "trace 1"]
         for event, outs in self.rows:
             lines.append(" ".join(event))
             lines += ["> " + " ".join(out) for out in outs]
@@ -238,6 +238,21 @@ def change_event(random, trace):
     return True
 
 
+def drop_stale(random, trace):
+    """A stale reply has no mark."""
+    return drop(random, trace, ("stale",))
+
+
+def add_stale(random, trace):
+    """A reply is marked that is not stale."""
+    found = some_out(random, trace, ("reply",))
+    if not found:
+        return None
+    _, n, outs = found
+    outs.insert(n, ["stale", outs[n][1]])
+    return True
+
+
 def drop_row(random, trace):
     rows = [i for i, (event, _) in enumerate(trace.rows) if event[2] != "ask"]
     return rows and trace.rows.pop(random.choice(rows))
@@ -245,7 +260,8 @@ def drop_row(random, trace):
 
 WAYS = (drop, drop_close, drop_reply, duplicate, swap, move, move, change_place, change_request, change_server, change_id,
         change_via, change_octets, change_octets, change_reply, change_reply, change_reply, change_moment, change_moment,
-        shift_moments, add_close, add_close, add_reply, change_event, drop_row)
+        shift_moments, add_close, add_close, add_reply, change_event, drop_row,
+        drop_stale, add_stale)
 
 
 def mutated(random, text):
