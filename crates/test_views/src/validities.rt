@@ -41,7 +41,7 @@ const GOOD: [Row; 10] = [
             [0, 7, 0x84, 0x80, 0, 1, 0, 1, 0, 0, 0, 0],
             &[Question, ShortAddress(300)],
         ),
-        Ok(300),
+        Ok(0),
     ),
     (
         (
