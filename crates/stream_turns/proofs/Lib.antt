@@ -1,0 +1,2 @@
+pub mod RowOfTurn
+pub mod OwnBoard

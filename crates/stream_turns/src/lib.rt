@@ -1,0 +1,24 @@
+//! The turns of one stream connection that carries a zone transfer: it is told what its edge gives, and its edge does what it
+//! puts out.
+//!
+//! A client gives each result as a reply, of which a request has one. A transfer has many, so its connection is held here by
+//! itself, and its results stand on a board of its own until they are taken.
+//!
+//! ```text
+//! let mut transfer = Transfer::new(alloc, place, opened)?;
+//! let (mut response, outs) = transfer.begin(&mut words, request)?;
+//! act_all(&mut edge, outs.as_slice())?;
+//! loop {
+//!     turn(&mut transfer, &mut edge, &mut clock, &mut words)?;
+//!     while let Poll::Ready(part) = transfer.next_part(&mut response) { .. }
+//! }
+//! ```
+#![tactic(auto)]
+
+mod apart;
+mod transfer;
+mod turning;
+
+pub use apart::{Apart, Line};
+pub use transfer::Transfer;
+pub use turning::{act_all, turn};

@@ -1,0 +1,4 @@
+pub mod Records
+pub mod Interpreting
+pub mod Folding
+pub mod Transfers

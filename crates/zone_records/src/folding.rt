@@ -1,0 +1,107 @@
+//! What updates do to a sorted set of records. SOAs stay out of it.
+
+ghost use Rattle.std.specs.Prelude.{◌≡◌, not, ◌&&◌, IfOk, OnOk};
+ghost use Rattle.std.specs.List.Sorted.{IsStrictlySortedBy};
+ghost use Rattle.zone_records.specs.Folding.{Adds, AddsPlain, Removes, Folds, FoldsOne, Holds, has};
+ghost use Rattle.zone_records.specs.Records.{record_cmp, is_soa};
+
+use crate::Update;
+use crate::record::ZoneRecord;
+use dns_base::NoMemory;
+use std::alloc::Global;
+use std::collections::BTreeSet;
+
+/// Adds a record.
+#[tactic(auto, using(crate::proofs::Folds::updated))]
+pub(crate) fn insert(set: &mut BTreeSet<ZoneRecord>, new: ZoneRecord) -> Result<(), NoMemory>
+    ensures { OnOk result (Adds set.old.keys new set.new.keys) }
+{
+    match set.insert(new) {
+        Ok(_) => Ok(()),
+        Err(_) => Err(NoMemory),
+    }
+}
+
+/// Adds a record unless it is an SOA.
+#[tactic(auto, using(crate::proofs::Folds::not_added, crate::proofs::Folds::is_added))]
+fn insert_plain(set: &mut BTreeSet<ZoneRecord>, new: ZoneRecord) -> Result<(), NoMemory>
+    ensures { OnOk result (AddsPlain set.old.keys new set.new.keys) }
+{
+    if new.is_soa() {
+        return Ok(());
+    }
+    insert(set, new)
+}
+
+/// Removes a record, and tells whether it is no SOA and wasn't there.
+#[tactic(auto, using(crate::proofs::Folds::taken_out))]
+fn remove(set: &mut BTreeSet<ZoneRecord>, gone: &ZoneRecord) -> bool
+    ensures removed { Removes set.old.keys gone.now set.new.keys }
+    ensures missed { result ≡ (not (is_soa gone.now) && not (has set.old.keys gone.now)) }
+{
+    let was_there = set.remove(gone);
+    !gone.is_soa() && !was_there
+}
+
+/// What one update does. Tells whether a record was to be deleted that wasn't there.
+#[tactic(auto, using(crate::proofs::Folds::cleared, crate::proofs::Folds::removed, crate::proofs::Folds::added, crate::proofs::Folds::batch_begun, crate::proofs::Folds::batch_added, crate::proofs::Folds::finished))]
+fn fold_one(set: &mut BTreeSet<ZoneRecord>, update: Update) -> Result<bool, NoMemory>
+    ensures { IfOk result (FoldsOne set.old.keys update set.new.keys) }
+{
+    match update {
+        Update::DeleteAllRecords => {
+            set.clear();
+            Ok(false)
+        }
+        Update::DeleteRecord(gone) => Ok(remove(set, &gone)),
+        Update::AddRecord(new) => {
+            insert_plain(set, new)?;
+            Ok(false)
+        }
+        Update::BeginBatchDelete { .. } => Ok(false),
+        Update::BeginBatchAdd { soa, .. } | Update::Finished { soa, .. } => {
+            insert_plain(set, soa)?;
+            Ok(false)
+        }
+    }
+}
+
+/// What updates do, in order. Tells how many records were to be deleted that weren't there.
+pub(crate) fn fold(set: &mut BTreeSet<ZoneRecord>, updates: Vec<Update>) -> Result<u64, NoMemory>
+    ensures { IfOk result (Folds set.old.keys updates.items set.new.keys) }
+{
+    let mut missing = 0;
+    for update in updates {
+        if fold_one(set, update)? {
+            missing += 1;
+        }
+    }
+    Ok(missing)
+}
+
+/// The records of a list that are no SOA, copied.
+#[tactic(auto, using(crate::proofs::Folds::nothing_held))]
+pub(crate) fn without_soas(
+    alloc: Global,
+    records: &[ZoneRecord],
+) -> Result<BTreeSet<ZoneRecord>, NoMemory>
+    ensures { IfOk result (λ set. Holds set.keys (has records.now)) }
+{
+    let mut set = BTreeSet::new(alloc);
+    for item in records {
+        insert_plain(&mut set, item.try_clone(alloc)?)?;
+    }
+    Ok(set)
+}
+
+/// The records of a set, in order.
+pub(crate) fn listed(alloc: Global, set: BTreeSet<ZoneRecord>) -> Result<Vec<ZoneRecord>, NoMemory>
+    ensures all { IfOk result (λ v. v.items ≡ set.keys) }
+    ensures sorted { IfOk result (λ v. IsStrictlySortedBy record_cmp v.items) }
+{
+    let mut records = Vec::with_capacity(alloc, set.len())?;
+    for item in set {
+        records.push(item)?;
+    }
+    Ok(records)
+}
