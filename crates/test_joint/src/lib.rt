@@ -1,0 +1,5 @@
+//! Tests of a history that several threads make.
+#![tactic(auto)]
+
+#[cfg(test)]
+mod notes;
