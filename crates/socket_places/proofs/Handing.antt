@@ -1,5 +1,5 @@
 -- What a socket is handed, and what waits for it, are what was put at its place.
-use Rattle.std.proofs.Common.{◌≡◌, ℕ, Bool, true, false, List, [], ◌∷◌, ◌++◌, drop, Option, None, Some, refl, ap, sym, ◌∙◌, append_assoc, rules}
+use Rattle.std.proofs.Common.{◌≡◌, ℕ, Bool, true, false, List, [], ◌∷◌, ◌++◌, Option, None, Some, refl, ap, sym, ◌∙◌, append_assoc}
 use Rattle.std.specs.Prelude.{option_map, slice_get, nat_lt, length}
 use Rattle.std.proofs.lemmas.List.{append-nil}
 use Rattle.client_request.specs.declared.event.What.{What}
@@ -9,7 +9,7 @@ use Rattle.socket_places.specs.declared.deal.Deal.{Deal}
 use Rattle.socket_places.specs.declared.deal.Deal.TheVariants.{Opened, Put, Took}
 use Rattle.socket_places.specs.declared.stage.Stage.{Stage}
 use Rattle.socket_places.specs.declared.stage.Stage.TheVariants.{Dgram, Opening, Open, Ended}
-use Rattle.socket_places.specs.Places.{HandsFirst, IsDeal, IsLook, IsPut, LooksAt, Opens, Place, PutsAt, Reads, Rests, and_waiting, still_waiting, waiting_after}
+use Rattle.socket_places.specs.Places.{HandsFirst, IsDeal, LooksAt, Opens, Place, PutsAt, Reads, Rests, and_waiting, still_waiting, waiting_after}
 use Rattle.socket_places.specs.Once.{GoOnce, handed, handed_by, in_hand, settled}
 use Rattle.socket_places.specs.Told.{after_one}
 

@@ -1,5 +1,4 @@
 use Rattle.std.proofs.Common.{rules, Some}
-use Rattle.socket_places.specs.Books.{OpensTo}
 use Rattle.socket_places.proofs.books.Books.open_to.Goals as goal
 
 -- It was not opened, for this fault.

@@ -1,5 +1,4 @@
-use Rattle.std.proofs.Common.{rules, ◌≡◌, ℕ, List, Option}
-use Rattle.socket_places.specs.Places.{HandsFirst, IsDeal}
+use Rattle.std.proofs.Common.{rules}
 use Rattle.socket_places.proofs.place.Place.go_on.Goals as goal
 
 -- What waited first was handed over, and this is what the socket answered.
