@@ -1,0 +1,63 @@
+//! What books over a network in memory do and tell.
+
+use crate::scenes::{ListBooks, books, giving, opens, opens_stream, polled, puts, slow};
+use client_request::{Fault, Out, What};
+use std::alloc::Global;
+
+fn is_opened(what: &Option<What>) -> bool {
+    matches!(what, Some(What::Opened { place: 0 }))
+}
+
+fn is_datagram(what: &Option<What>, wanted: &[u8]) -> bool {
+    matches!(what, Some(What::Datagram { place: 0, octets }) if octets.as_slice() == wanted)
+}
+
+/// Whether a datagram goes out, and another comes.
+fn there_and_back(alloc: Global, books: &mut ListBooks) -> bool {
+    opens(books, 1)
+        && is_opened(&polled(books))
+        && puts(books, alloc)
+        && is_datagram(&polled(books), &[4, 5])
+}
+
+#[test]
+fn a_datagram_goes_there_and_back(rt: HostRuntime) {
+    let books = books(rt.alloc(), giving(rt.alloc(), &[4, 5]));
+    assert!(rt; books.is_some_and(|mut books| there_and_back(rt.alloc(), &mut books)));
+}
+
+/// Whether a stream takes what it did not take at once.
+fn takes_later(alloc: Global, books: &mut ListBooks) -> bool {
+    opens_stream(books, 0)
+        && is_opened(&polled(books))
+        && puts(books, alloc)
+        && books.wait(1).is_ok()
+        && matches!(polled(books), Some(What::Wrote { place: 0, count: 2 }))
+}
+
+#[test]
+fn a_stream_takes_octets_later(rt: HostRuntime) {
+    let books = books(rt.alloc(), slow(rt.alloc()));
+    assert!(rt; books.is_some_and(|mut books| takes_later(rt.alloc(), &mut books)));
+}
+
+/// Whether nothing is told of a place that is closed, nor of a server that is not there but that.
+fn tells_no_more(books: &mut ListBooks) -> bool {
+    opens(books, 1)
+        && books.act(&Out::Close { place: 0 }).is_ok()
+        && polled(books).is_none()
+        && opens(books, 2)
+        && matches!(
+            polled(books),
+            Some(What::OpenFailed {
+                place: 0,
+                fault: Fault::Other
+            })
+        )
+}
+
+#[test]
+fn nothing_is_told_of_a_place_that_is_closed(rt: HostRuntime) {
+    let books = books(rt.alloc(), giving(rt.alloc(), &[4, 5]));
+    assert!(rt; books.is_some_and(|mut books| tells_no_more(&mut books)));
+}

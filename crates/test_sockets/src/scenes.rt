@@ -1,0 +1,89 @@
+//! Books over a network in memory, and sockets for it.
+
+use client_request::{Out, What};
+use dns_values::{IpAddr, NoMemory, Octets, Seq, SocketAddr};
+use socket_places::{Answer, Books, ListNetwork, ListSocket};
+use std::alloc::Global;
+
+pub type ListBooks = Books<ListNetwork>;
+
+/// A server's address.
+pub fn address(last: u8) -> SocketAddr {
+    SocketAddr {
+        ip: IpAddr::V4([192, 0, 2, last]),
+        port: 53,
+    }
+}
+
+/// A wait that finds something at the first place.
+fn found(alloc: Global) -> Option<Seq<bool>> {
+    let found = Vec::from_slice(alloc, &[true]).ok()?;
+    Some(Seq::from_vec(found))
+}
+
+/// So many waits of that kind.
+fn rounds(alloc: Global, count: u32) -> Option<Vec<Seq<bool>>> {
+    let mut rounds = Vec::new(alloc);
+    for _ in 0..count {
+        rounds.push(found(alloc)?).ok()?;
+    }
+    Some(rounds)
+}
+
+/// A network that opens one socket, at which each of nine waits finds something.
+fn network(alloc: Global, socket: ListSocket) -> Option<ListNetwork> {
+    let mut sockets = Vec::new(alloc);
+    sockets.push(Ok(socket)).ok()?;
+    Some(ListNetwork::new(alloc, sockets, rounds(alloc, 9)?))
+}
+
+/// Books that have learned two servers, over that network.
+pub fn books(alloc: Global, socket: Option<ListSocket>) -> Option<ListBooks> {
+    let mut books = Books::new(alloc, network(alloc, socket?)?);
+    if books.learn(address(1)).is_ok() && books.learn(address(2)).is_ok() {
+        Some(books)
+    } else {
+        None
+    }
+}
+
+/// A socket that gives these octets once.
+pub fn giving(alloc: Global, octets: &[u8]) -> Option<ListSocket> {
+    let octets = Octets::from_slice(alloc, octets).ok()?;
+    let mut takes = Vec::new(alloc);
+    takes.push(Answer::Done(octets)).ok()?;
+    Some(ListSocket::new(alloc, 7, Vec::new(alloc), Vec::new(alloc), takes))
+}
+
+/// A stream that takes nothing at first, and then two octets.
+pub fn slow(alloc: Global) -> Option<ListSocket> {
+    let mut puts = Vec::new(alloc);
+    puts.push(Answer::Later).ok()?;
+    puts.push(Answer::Done(2)).ok()?;
+    Some(ListSocket::new(alloc, 7, Vec::new(alloc), puts, Vec::new(alloc)))
+}
+
+/// Whether place 0 is to be opened to a server, for datagrams or as a stream.
+pub fn opens(books: &mut ListBooks, server: u32) -> bool {
+    books.act(&Out::OpenDgram { place: 0, server }).is_ok()
+}
+
+pub fn opens_stream(books: &mut ListBooks, server: u32) -> bool {
+    books.act(&Out::OpenStream { place: 0, server }).is_ok()
+}
+
+/// Whether three octets are put at place 0.
+pub fn puts(books: &mut ListBooks, alloc: Global) -> bool {
+    match Octets::from_slice(alloc, &[1, 2, 3]) {
+        Ok(octets) => books.act(&Out::Resume { place: 0, octets }).is_ok(),
+        Err(_) => false,
+    }
+}
+
+/// What the books tell, or nothing where they find no memory.
+pub fn polled(books: &mut ListBooks) -> Option<What> {
+    match books.poll() {
+        Ok(what) => what,
+        Err(NoMemory) => None,
+    }
+}
