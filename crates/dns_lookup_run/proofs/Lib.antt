@@ -1,0 +1,4 @@
+pub mod Bases
+pub mod Endings
+pub mod Requests
+pub mod Runs

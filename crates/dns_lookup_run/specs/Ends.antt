@@ -1,0 +1,98 @@
+-- What a lookup ends with.
+use Rattle.std.specs.Prelude.{◌≡◌, ◌≢◌, ◌⊎◌, ℕ, true, false, List, [], ◌∷◌, ◌++◌, Option, String, Ok, Err, IfSome}
+use Rattle.std.specs.List.{All}
+use Rattle.std.specs.declared.alloc.Global.{Global}
+use Rattle.client_loop.specs.Asking.{Scene, StopsForNumbers, scene}
+use Rattle.client_steps.specs.Whole.{Whole}
+use Rattle.dns_values.specs.declared.numbers.Rtype.{Rtype}
+use Rattle.dns_values.specs.Source.{Rose}
+use Rattle.command_parts.specs.Conf.{IsConfRefused}
+use Rattle.command_parts.specs.Ends.{IsSaid}
+use Rattle.dns_lookup_run.specs.Worlds.{World, begun, is_message}
+use Rattle.resolv_conf.specs.declared.conf.ResolvConf.{ResolvConf}
+use Rattle.dns_lookup_run.specs.Asking.{Answer, AreAnswered, IsAskedFor, request_for, types_at}
+use Rattle.dns_lookup_run.specs.Conf.{IsConfOf}
+use Rattle.dns_lookup_run.specs.Sentences.{answer_text, refused_text, unread_text}
+use Rattle.dns_lookup_words.specs.Sentences.{sentence}
+use Rattle.dns_lookup_words.specs.Words.{LookupGives}
+use Rattle.dns_lookup_words.specs.declared.lookup.Lookup.{Lookup}
+use Rattle.dns_lookup_words.specs.declared.wrong.Refusal.{Refusal}
+
+-- A message was answered: its page was written whole, or the sink failed.
+abbrev pub HasPage : ℕ → Type 0
+HasPage status = (status ≡ 0) ⊎ (status ≡ 4)
+
+-- the statuses of a request that was asked
+abbrev pub IsOfAsking : ℕ → Type 0
+IsOfAsking status = (status ≡ 0) ⊎ ((status ≡ 4) ⊎ ((status ≡ 5) ⊎ ((status ≡ 6) ⊎ (status ≡ 7))))
+
+-- the statuses at which a sentence tells why nothing is written
+abbrev pub TellsWhy : ℕ → Type 0
+TellsWhy status = (status ≡ 2) ⊎ ((status ≡ 3) ⊎ ((status ≡ 5) ⊎ (status ≡ 7)))
+
+-- Why there is no configuration, and the sentence that tells it: reading it failed, or what was read is refused.
+pub data HasNoConf (told : Option (List ℕ)) (faults faults_after : ℕ) (Told : List ℕ → Type 0) : Type 0 where
+  unread : Rose faults faults_after → Told unread_text → HasNoConf told faults faults_after Told
+  refused_for : (line : List ℕ) → IfSome told (λ text. IsConfRefused text line) → Told (refused_text line) → HasNoConf told faults faults_after Told
+
+-- Each type was asked for, and each answer is a message.
+pub record IsAnsweredWhole (lookup : Lookup) (conf : ResolvConf) (old new : World) : Type 0 where
+  pub answers : List Answer
+  pub asked : IsAskedFor lookup conf old new (types_at lookup.rtype) answers
+  pub messages : All (λ answer. is_message answer ≡ true) answers
+
+-- Some first of the types were asked for, and each answer is a message.
+pub record IsAnsweredInPart (lookup : Lookup) (conf : ResolvConf) (old new : World) : Type 0 where
+  pub rtypes : List Rtype
+  pub later : List Rtype
+  pub types : types_at lookup.rtype ≡ rtypes ++ later
+  pub answers : List Answer
+  pub asked : IsAskedFor lookup conf old new rtypes answers
+  pub messages : All (λ answer. is_message answer ≡ true) answers
+
+-- Some first of the types were asked for, and of the answers the last alone is no message; the sentence that tells why is told.
+pub record IsUnanswered (lookup : Lookup) (conf : ResolvConf) (Told : List ℕ → Type 0) (old new : World) : Type 0 where
+  pub rtypes : List Rtype
+  pub later : List Rtype
+  pub types : types_at lookup.rtype ≡ rtypes ++ later
+  pub answers : List Answer
+  pub last : Answer
+  pub asked : IsAskedFor lookup conf old new rtypes (answers ++ last ∷ [])
+  pub messages : All (λ answer. is_message answer ≡ true) answers
+  pub no_message : is_message last ≡ false
+  pub said : Told (answer_text last)
+
+-- Some first of the types were asked for, and while the next is, a number would pass 64 bits.
+pub record IsStopped (lookup : Lookup) (conf : ResolvConf) (old new : World) : Type 0 where
+  pub rtypes : List Rtype
+  pub rtype : Rtype
+  pub later : List Rtype
+  pub types : types_at lookup.rtype ≡ rtypes ++ rtype ∷ later
+  pub answers : List Answer
+  pub waits : Option (List ℕ)
+  pub mid : Scene
+  pub answered : AreAnswered lookup 0 rtypes answers (begun conf old waits) mid
+  pub left : Whole
+  pub later_waits : Option (List ℕ)
+  pub stops : StopsForNumbers (request_for lookup rtype) mid (scene left new.words new.deeds later_waits new.polls new.moments)
+
+-- what a lookup over a configuration ends with, by its status, where this is what is told
+pub record EndsSo (lookup : Lookup) (conf : ResolvConf) (status : ℕ) (Told : List ℕ → Type 0) (old new : World) : Type 0 where
+  pub done : status ≡ 0 → IsAnsweredWhole lookup conf old new
+  pub cut : status ≡ 4 → IsAnsweredInPart lookup conf old new
+  pub no_reply : status ≡ 5 → IsUnanswered lookup conf Told old new
+  pub numbers : status ≡ 7 → IsStopped lookup conf old new
+
+-- What words end with: they are refused, or a lookup whose configuration can't be had, or whose servers are asked.
+pub data WordsEnd (words : List (String Global)) (told : Option (List ℕ)) (status : ℕ) (Told : List ℕ → Type 0) (old new : World) : Type 0 where
+  no_memory : status ≡ 6 → WordsEnd words told status Told old new
+  refused : (refusal : Refusal) → LookupGives words (Err refusal) → status ≡ 2 → WordsEnd words told status Told old new
+  no_conf : (lookup : Lookup) → LookupGives words (Ok lookup) → status ≡ 3 → WordsEnd words told status Told old new
+  asked : (lookup : Lookup) (conf : ResolvConf) → LookupGives words (Ok lookup) → IsConfOf lookup told conf → (status ≢ 2) × (status ≢ 3)
+      → EndsSo lookup conf status Told old new → WordsEnd words told status Told old new
+
+-- The words are refused, and the sentence that says why is told.
+pub record IsRefusalTold (words : List (String Global)) (before after : Option (List ℕ)) (faults faults_after : ℕ) : Type 0 where
+  pub refusal : Refusal
+  pub refused : LookupGives words (Err refusal)
+  pub told : IsSaid (sentence words refusal) before after faults faults_after

@@ -1,0 +1,32 @@
+-- The sentences that tell why no answer is written.
+use Rattle.std.specs.Prelude.{ℕ, List, [], ◌++◌, codes, Option, None, Some, Ok, Err, Result}
+use Rattle.client_request.specs.ErrorText.{error_text}
+use Rattle.client_request.specs.declared.error.Error.{Error}
+use Rattle.command_parts.specs.declared.ending.Ending.{Ending}
+use Rattle.command_parts.specs.declared.ending.Ending.TheVariants.{Says, Silent}
+
+-- why there is no answer: an error, or none came
+abbrev pub unanswered_text : Option Error → List ℕ
+unanswered_text None = codes "dns_lookup: no answer came\n"
+unanswered_text (Some error) = codes "dns_lookup: no answer: " ++ (error_text error ++ codes "\n")
+
+-- why an answer is none; of a message nothing is told
+abbrev pub answer_text : Option (Result (List ℕ) Error) → List ℕ
+answer_text None = unanswered_text None
+answer_text (Some (Err error)) = unanswered_text (Some error)
+answer_text (Some (Ok message)) = []
+
+abbrev pub unread_text : List ℕ
+unread_text = codes "dns_lookup: /etc/resolv.conf could not be read, and no server is named by @ADDRESS\n"
+
+-- why a configuration is refused, which a line says
+abbrev pub refused_text : List ℕ → List ℕ
+refused_text line = codes "dns_lookup: /etc/resolv.conf: " ++ line
+
+-- why there is no configuration
+abbrev pub conf_text : Ending → List ℕ
+conf_text (Says status line) = refused_text line.items
+conf_text (Silent status) = unread_text
+
+abbrev pub numbers_text : List ℕ
+numbers_text = codes "dns_lookup: numbers are used up\n"

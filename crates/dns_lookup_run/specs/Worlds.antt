@@ -1,0 +1,41 @@
+-- What is around a program that asks: an edge, a clock and words.
+use Rattle.std.specs.Prelude.{ℕ, Bool, true, false, List, map, Option, None, Some, Result, Ok, Err}
+use Rattle.command_parts.specs.Ends.{IsSaid}
+use Rattle.dns_lookup_run.specs.Watched.{Seen, Times}
+use Rattle.client_core.specs.declared.deed.Deed.{Deed}
+use Rattle.client_core.specs.declared.deed.Deed.TheVariants.{Learned}
+use Rattle.client_loop.specs.Asking.{Scene, scene}
+use Rattle.client_loop.specs.Turns.{after_deeds}
+use Rattle.client_request.specs.declared.error.Error.{Error}
+use Rattle.client_settings.specs.Settings.{default_cache, default_redundant}
+use Rattle.client_steps.specs.Whole.{started}
+use Rattle.resolv_conf.specs.declared.conf.ResolvConf.{ResolvConf}
+
+-- the words that come, what the edge tells, its count of polls, and the moments that the clock tells
+pub record World : Type 0 where
+  pub words : ℕ → ℕ
+  pub deeds : Option (List Deed)
+  pub polls : ℕ
+  pub moments : Option (List ℕ)
+
+abbrev pub world : (ℕ → ℕ) → Option (List Deed) → ℕ → Option (List ℕ) → World
+world words deeds polls moments = record { words = words; deeds = deeds; polls = polls; moments = moments }
+
+-- What holds of the world before and after a call, by what a watched edge, a watched clock and words tell.
+abbrev pub around : {E C W : Type 0} {R : Type 1} → (E → Option (List Deed)) → (E → ℕ) → (C → Option (List ℕ)) → (W → ℕ → ℕ) → (old new : Seen E × Times C × W) → (World → World → R) → R
+around deeds polls given stream old new P =
+    P (world (stream old.2) (deeds old.0.edge) (polls old.0.edge) (given old.1.clock)) (world (stream new.2) (deeds new.0.edge) (polls new.0.edge) (given new.1.clock))
+
+-- what is told of by a sink: a line is written whole, or the first of it, and then its count of faults rose
+abbrev pub said : {L : Type 0} → (L → Option (List ℕ)) → (L → ℕ) → (old new : L) → (line : List ℕ) → Type 0
+said held faults old new line = IsSaid line (held old) (held new) (faults old) (faults new)
+
+-- a new client of a configuration, whose servers the edge has learned; it keeps these waits
+abbrev pub begun : ResolvConf → World → Option (List ℕ) → Scene
+begun conf old waits = scene (started default_redundant default_cache conf) old.words (after_deeds (map (λ server. Learned server) conf.servers) old.deeds) waits old.polls old.moments
+
+-- it is a message
+abbrev pub is_message : Option (Result (List ℕ) Error) → Bool
+is_message (Some (Ok message)) = true
+is_message (Some (Err error)) = false
+is_message None = false

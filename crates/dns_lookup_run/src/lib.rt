@@ -1,0 +1,22 @@
+//! What the program `dns_lookup` does, over a source, two sinks and the rest of its world.
+//!
+//! The program itself, the crate `dns_lookup`, only makes the real ones and hands them in.
+//!
+//! ```text
+//! let mut edge = WatchedEdge::new(alloc, SocketEdge::new(rt, alloc));
+//! let mut clock = WatchedClock::new(RealClock::new(rt));
+//! let status = run(alloc, &words, &mut conf_file, &mut sink, &mut errors, &mut edge, &mut clock, &mut random);
+//! ```
+#![tactic(auto)]
+
+mod asking;
+mod conf;
+mod page;
+mod program;
+mod telling;
+mod watched_clock;
+mod watched_edge;
+
+pub use program::run;
+pub use watched_clock::WatchedClock;
+pub use watched_edge::{Heard, WatchedEdge};

@@ -1,0 +1,176 @@
+//! What the program does, over a source, two sinks and the rest of its world.
+
+ghost use Rattle.std.specs.Prelude.{◌≡◌, ◌≢◌, ◌⊎◌, ◌<◌, ◌≤◌, true, false, IfOk, IsErrOf};
+ghost use Rattle.client_settings.specs.Settings.{default_cache, default_redundant};
+ghost use Rattle.client_steps.specs.Whole.{started};
+ghost use Rattle.dns_values.specs.Source.{Rose};
+ghost use Rattle.dns_values.specs.Sink.{IsFlushed};
+ghost use Rattle.dns_lookup_run.specs.Worlds.{around, is_message, said};
+ghost use Rattle.dns_lookup_run.specs.Asking.{Brought, HasBegun};
+ghost use Rattle.dns_lookup_run.specs.Ends.{EndsSo, HasNoConf, HasPage, IsOfAsking, IsRefusalTold, TellsWhy, WordsEnd};
+ghost use Rattle.dns_lookup_run.specs.Sentences.{answer_text, numbers_text};
+
+use crate::asking::{Outcome, asked};
+use crate::conf::conf_of;
+use crate::page::page;
+use crate::telling::{tell_conf, tell_refusal, tell_stop, tell_unanswered};
+use crate::watched_clock::WatchedClock;
+use crate::watched_edge::WatchedEdge;
+use client_core::{Client, Clock, Edge, cache, redundant};
+use client_loop::learn_all;
+use client_request::{Error, Words};
+use command_parts::{deliver, statuses};
+use dns_base::{NoMemory, Rtype, Status};
+use dns_lookup_words::{Fault, Lookup, lookup_of};
+use dns_values::{Sink, Source};
+use resolv_conf::{ResolvConf, ServerConf};
+use std::alloc::Global;
+
+/// Writes what a request came to: the message, or a sentence that says why there is none.
+fn write_outcome<K: Sink, L: Sink>(
+    alloc: Global,
+    is_short: bool,
+    outcome: &Outcome,
+    servers: &[ServerConf],
+    sink: &mut K,
+    errors: &mut L,
+) -> Status
+    ensures statuses { (result.0 ≡ 0) ⊎ ((result.0 ≡ 4) ⊎ ((result.0 ≡ 5) ⊎ (result.0 ≡ 6))) }
+    ensures good { HasPage result.0 → is_message outcome.now.answer ≡ true }
+    ensures bad { result.0 ≡ 5 → is_message outcome.now.answer ≡ false }
+    ensures said { result.0 ≡ 5 → said L.held L.faults errors.old errors.new (answer_text outcome.now.answer) }
+    ensures line_flushed { result.0 ≡ 5 → IsFlushed (L.held errors.new) (L.flushed errors.new) ⊎ Rose (L.faults errors.old) (L.faults errors.new) }
+    ensures quiet { HasPage result.0 → L.held errors.new ≡ L.held errors.old }
+    ensures no_fault { HasPage result.0 → L.faults errors.new ≡ L.faults errors.old }
+    ensures flushed { result.0 ≡ 0 → IsFlushed (K.held sink.new) (K.flushed sink.new) }
+    ensures sink_fault { result.0 ≡ 4 → Rose (K.faults sink.old) (K.faults sink.new) }
+    ensures count { K.faults sink.old ≤ K.faults sink.new }
+{
+    match &outcome.answer {
+        Some(Ok(message)) => match page(alloc, is_short, message, outcome, servers) {
+            Ok(text) => deliver(sink, text.as_bytes()),
+            Err(NoMemory) => statuses::NO_MEMORY,
+        },
+        Some(Err(error)) => tell_unanswered(alloc, Some(*error), errors),
+        None => tell_unanswered(alloc, None, errors),
+    }
+}
+
+/// The same, or a sentence that says why the client gave up.
+fn tell<K: Sink, L: Sink>(
+    alloc: Global,
+    is_short: bool,
+    came: Result<Outcome, Error>,
+    servers: &[ServerConf],
+    sink: &mut K,
+    errors: &mut L,
+) -> Status
+    ensures statuses { IsOfAsking result.0 }
+    ensures good { HasPage result.0 → Brought true came }
+    ensures bad { result.0 ≡ 5 → Brought false came }
+    ensures numbers { result.0 ≡ 7 → IsErrOf came Error.NumbersUsed }
+    ensures said { result.0 ≡ 5 → IfOk came (λ o. said L.held L.faults errors.old errors.new (answer_text o.answer)) }
+    ensures stops { result.0 ≡ 7 → said L.held L.faults errors.old errors.new numbers_text }
+    ensures line_flushed { (result.0 ≡ 5) ⊎ (result.0 ≡ 7) → IsFlushed (L.held errors.new) (L.flushed errors.new) ⊎ Rose (L.faults errors.old) (L.faults errors.new) }
+    ensures quiet { HasPage result.0 → L.held errors.new ≡ L.held errors.old }
+    ensures no_fault { HasPage result.0 → L.faults errors.new ≡ L.faults errors.old }
+    ensures flushed { result.0 ≡ 0 → IsFlushed (K.held sink.new) (K.flushed sink.new) }
+    ensures sink_fault { result.0 ≡ 4 → Rose (K.faults sink.old) (K.faults sink.new) }
+    ensures count { K.faults sink.old ≤ K.faults sink.new }
+{
+    match came {
+        Ok(outcome) => write_outcome(alloc, is_short, &outcome, servers, sink, errors),
+        Err(error) => tell_stop(error, errors),
+    }
+}
+
+/// A new client of a configuration, whose servers an edge learns.
+fn client_of<E: Edge>(alloc: Global, conf: &ResolvConf, edge: &mut E) -> Result<Client, Error>
+    ensures { IfOk result (λ c. HasBegun conf.now c (E.deeds edge.old) (E.deeds edge.new) (E.polls edge.old) (E.polls edge.new)) }
+{
+    learn_all(edge, conf.servers.as_slice())?;
+    Client::new(alloc, conf, redundant::Config::new(), cache::Config::new())
+}
+
+/// Asks for the type of a lookup, or for A and then AAAA, and writes what is answered. The first without an answer ends it.
+fn ask_all<K: Sink, L: Sink, E: Edge + Drop, C: Clock + Drop, W: Words>(
+    alloc: Global,
+    lookup: &Lookup,
+    conf: &ResolvConf,
+    sink: &mut K,
+    errors: &mut L,
+    edge: &mut WatchedEdge<E>,
+    clock: &mut WatchedClock<C>,
+    rng: &mut W,
+) -> Status
+    ensures statuses { IsOfAsking result.0 }
+    ensures ends { around E.deeds E.polls C.given W.stream (edge.old, clock.old, rng.old) (edge.new, clock.new, rng.new) (EndsSo lookup.now conf.now result.0 (said L.held L.faults errors.old errors.new)) }
+    ensures stops { result.0 ≡ 7 → said L.held L.faults errors.old errors.new numbers_text }
+    ensures line_flushed { (result.0 ≡ 5) ⊎ (result.0 ≡ 7) → IsFlushed (L.held errors.new) (L.flushed errors.new) ⊎ Rose (L.faults errors.old) (L.faults errors.new) }
+    ensures quiet { HasPage result.0 → L.held errors.new ≡ L.held errors.old }
+    ensures flushed { result.0 ≡ 0 → IsFlushed (K.held sink.new) (K.flushed sink.new) }
+    ensures sink_fault { result.0 ≡ 4 → Rose (K.faults sink.old) (K.faults sink.new) }
+    ensures count { K.faults sink.old ≤ K.faults sink.new }
+{
+    let Ok(mut client) = client_of(alloc, conf, edge) else {
+        return statuses::NO_MEMORY;
+    };
+    let servers = conf.servers.as_slice();
+    let first = lookup.rtype.unwrap_or(Rtype::A);
+    let came = asked(alloc, lookup, first, 0, &mut client, edge, clock, rng);
+    let status = tell(alloc, lookup.short, came, servers, sink, errors);
+    if status.0 > 0 {
+        return status;
+    }
+    if lookup.rtype.is_some() {
+        return status;
+    }
+    let came = asked(alloc, lookup, Rtype::AAAA, 1, &mut client, edge, clock, rng);
+    tell(alloc, lookup.short, came, servers, sink, errors)
+}
+
+/// Does what words ask for, and answers the exit status.
+///
+/// The servers that the words name are asked, or else those of the configuration that `source` gives. What is answered is
+/// written to `sink`, and where nothing is, one sentence to `errors` says why; the status stands whatever becomes of that, unless
+/// memory ran out there.
+pub fn run<S: Source, K: Sink, L: Sink, E: Edge + Drop, C: Clock + Drop, W: Words>(
+    alloc: Global,
+    words: &[String],
+    source: &mut S,
+    sink: &mut K,
+    errors: &mut L,
+    edge: &mut WatchedEdge<E>,
+    clock: &mut WatchedClock<C>,
+    rng: &mut W,
+) -> Status
+    ensures statuses { (result.0 ≢ 1) × (result.0 < 8) }
+
+    // The words.
+    ensures usage { result.0 ≡ 2 → IsRefusalTold words.now (L.held errors.old) (L.held errors.new) (L.faults errors.old) (L.faults errors.new) }
+
+    // What was asked, and what it came to.
+    ensures ends { around E.deeds E.polls C.given W.stream (edge.old, clock.old, rng.old) (edge.new, clock.new, rng.new) (WordsEnd words.now (S.left source.old) result.0 (said L.held L.faults errors.old errors.new)) }
+    ensures flushed { result.0 ≡ 0 → IsFlushed (K.held sink.new) (K.flushed sink.new) }
+
+    // Faults, and what they leave.
+    ensures no_conf { result.0 ≡ 3 → HasNoConf (S.left source.old) (S.faults source.old) (S.faults source.new) (said L.held L.faults errors.old errors.new) }
+    ensures silent { (result.0 ≡ 2) ⊎ (result.0 ≡ 3) → K.held sink.new ≡ K.held sink.old }
+    ensures sink_fault { result.0 ≡ 4 → Rose (K.faults sink.old) (K.faults sink.new) }
+    ensures count { K.faults sink.old ≤ K.faults sink.new }
+
+    // The sentence that tells why is handed on too; where a page is written, there is none.
+    ensures stops { result.0 ≡ 7 → said L.held L.faults errors.old errors.new numbers_text }
+    ensures line_flushed { TellsWhy result.0 → IsFlushed (L.held errors.new) (L.flushed errors.new) ⊎ Rose (L.faults errors.old) (L.faults errors.new) }
+    ensures quiet { HasPage result.0 → L.held errors.new ≡ L.held errors.old }
+{
+    let lookup = match lookup_of(alloc, words) {
+        Ok(lookup) => lookup,
+        Err(Fault::Refused(refusal)) => return tell_refusal(alloc, words, refusal, errors),
+        Err(Fault::NoMemory) => return statuses::NO_MEMORY,
+    };
+    match conf_of(alloc, &lookup, source) {
+        Ok(conf) => ask_all(alloc, &lookup, &conf, sink, errors, edge, clock, rng),
+        Err(ending) => tell_conf(alloc, ending, errors),
+    }
+}

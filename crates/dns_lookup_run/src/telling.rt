@@ -1,0 +1,110 @@
+//! The sentences that tell why no answer is written.
+
+ghost use Rattle.std.specs.Prelude.{◌≡◌, ◌≢◌, ◌⊎◌, ◌++◌, IfOk};
+ghost use Rattle.std.specs.String.{string_bytes};
+ghost use Rattle.dns_values.specs.Sink.{IsFlushed};
+ghost use Rattle.dns_values.specs.Source.{Rose};
+ghost use Rattle.command_parts.specs.Ends.{IsEarly, IsSaid, status_of};
+ghost use Rattle.dns_lookup_words.specs.Sentences.{sentence};
+ghost use Rattle.dns_lookup_run.specs.Sentences.{conf_text, numbers_text, refused_text, unanswered_text};
+
+use client_request::Error;
+use command_parts::{Ending, end_by, statuses};
+use dns_base::{NoMemory, Status};
+use dns_lookup_words::{Refusal, sentence};
+use dns_values::Sink;
+use std::alloc::Global;
+
+/// Tells which of the words is wrong.
+pub(crate) fn tell_refusal<L: Sink>(
+    alloc: Global,
+    words: &[String],
+    refusal: Refusal,
+    errors: &mut L,
+) -> Status
+    ensures status { (result.0 ≡ 2) ⊎ (result.0 ≡ 6) }
+    ensures said { result.0 ≡ 2 → IsSaid (sentence words.now refusal) (L.held errors.old) (L.held errors.new) (L.faults errors.old) (L.faults errors.new) }
+    ensures flushed { result.0 ≡ 2 → IsFlushed (L.held errors.new) (L.flushed errors.new) ⊎ Rose (L.faults errors.old) (L.faults errors.new) }
+{
+    match sentence(alloc, words, refusal) {
+        Ok(line) => end_by(errors, statuses::USAGE, line.as_bytes()),
+        Err(NoMemory) => statuses::NO_MEMORY,
+    }
+}
+
+/// What is told where there is no configuration and no server is named.
+const UNREAD_CONF: &[u8] =
+    b"dns_lookup: /etc/resolv.conf could not be read, and no server is named by @ADDRESS\n";
+
+/// Why a configuration was refused, as a sentence.
+fn refused_conf(alloc: Global, line: &[u8]) -> Result<Vec<u8>, NoMemory>
+    ensures { IfOk result (λ v. v.items ≡ refused_text line.now) }
+{
+    let mut text = Vec::from_slice(alloc, b"dns_lookup: /etc/resolv.conf: ")?;
+    text.extend_from_slice(line)?;
+    Ok(text)
+}
+
+/// Tells why no configuration was read.
+pub(crate) fn tell_conf<L: Sink>(alloc: Global, ending: Ending, errors: &mut L) -> Status
+    requires early { IsEarly ending }
+    requires no_numbers { status_of ending ≢ 7 }
+    ensures status { (result.0 ≡ 3) ⊎ (result.0 ≡ 6) }
+    ensures cause { result.0 ≡ 3 → (status_of ending ≡ 1) ⊎ (status_of ending ≡ 3) }
+    ensures said { result.0 ≡ 3 → IsSaid (conf_text ending) (L.held errors.old) (L.held errors.new) (L.faults errors.old) (L.faults errors.new) }
+    ensures flushed { result.0 ≡ 3 → IsFlushed (L.held errors.new) (L.flushed errors.new) ⊎ Rose (L.faults errors.old) (L.faults errors.new) }
+{
+    match ending {
+        Ending::Silent(status) if status == statuses::SOURCE_FAULT => {
+            end_by(errors, statuses::SOURCE_FAULT, UNREAD_CONF)
+        }
+        Ending::Silent(_) => statuses::NO_MEMORY,
+        Ending::Says(_, line) => match refused_conf(alloc, &line) {
+            Ok(line) => end_by(errors, statuses::SOURCE_FAULT, &line),
+            Err(NoMemory) => statuses::NO_MEMORY,
+        },
+    }
+}
+
+/// The sentence that says why there is no answer: the error, or that none came.
+fn unanswered(alloc: Global, error: Option<Error>) -> Result<String, NoMemory>
+    ensures { IfOk result (λ s. string_bytes s ≡ unanswered_text error) }
+{
+    match error {
+        Some(error) => Ok(format!(in alloc; "dns_lookup: no answer: {error}\n")?),
+        None => Ok(String::from_str(alloc, "dns_lookup: no answer came\n")?),
+    }
+}
+
+/// Tells why there is no answer.
+pub(crate) fn tell_unanswered<L: Sink>(
+    alloc: Global,
+    error: Option<Error>,
+    errors: &mut L,
+) -> Status
+    ensures status { (result.0 ≡ 5) ⊎ (result.0 ≡ 6) }
+    ensures said { result.0 ≡ 5 → IsSaid (unanswered_text error) (L.held errors.old) (L.held errors.new) (L.faults errors.old) (L.faults errors.new) }
+    ensures flushed { result.0 ≡ 5 → IsFlushed (L.held errors.new) (L.flushed errors.new) ⊎ Rose (L.faults errors.old) (L.faults errors.new) }
+{
+    match unanswered(alloc, error) {
+        Ok(line) => end_by(errors, statuses::NO_REPLY, line.as_bytes()),
+        Err(NoMemory) => statuses::NO_MEMORY,
+    }
+}
+
+/// Tells why the client gave up: its numbers are used up, or else memory.
+pub(crate) fn tell_stop<L: Sink>(error: Error, errors: &mut L) -> Status
+    ensures status { (result.0 ≡ 6) ⊎ (result.0 ≡ 7) }
+    ensures numbers { result.0 ≡ 7 → error ≡ Error.NumbersUsed }
+    ensures said { result.0 ≡ 7 → IsSaid numbers_text (L.held errors.old) (L.held errors.new) (L.faults errors.old) (L.faults errors.new) }
+    ensures flushed { result.0 ≡ 7 → IsFlushed (L.held errors.new) (L.flushed errors.new) ⊎ Rose (L.faults errors.old) (L.faults errors.new) }
+{
+    match error {
+        Error::NumbersUsed => end_by(
+            errors,
+            statuses::NUMBERS_USED,
+            b"dns_lookup: numbers are used up\n",
+        ),
+        _ => statuses::NO_MEMORY,
+    }
+}
