@@ -1,0 +1,9 @@
+//! Tests of zones and of the messages of their transfers, through their public calls.
+#![tactic(auto)]
+
+#[cfg(test)]
+mod changes;
+#[cfg(test)]
+mod messages;
+#[cfg(test)]
+mod readings;
