@@ -1,8 +1,10 @@
-//! Tests of what the program `dnsq` does, over sources and sinks in memory.
+//! Tests of what the programs `dnsq` and `dns_lookup` do, over sources and sinks in memory.
 #![tactic(auto)]
 
 #[cfg(test)]
 mod generated;
+#[cfg(test)]
+mod lookups;
 #[cfg(test)]
 mod queries;
 #[cfg(test)]
