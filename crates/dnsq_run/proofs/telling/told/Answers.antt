@@ -36,8 +36,8 @@ loop-event-preserved g c =
           c.loop-event.invariant.same
           ∙ ap (λ (es : List Event). option_map (text_with stale body) (plain_rows machine timeout es before)) c.in-Some.ensures.steps.0
           ∙ next_written machine timeout stale body row event rest before after stepped
-          ∙ ap (λ (b : Bool). option_map (text_with b (body ++ row_text row)) (plain_rows machine timeout rest after)) (sym c.is_stale_yet.ensures)
-          ∙ ap (λ (t : List ℕ). option_map (text_with c.is_stale_yet.result t) (plain_rows machine timeout rest after)) (sym more.1 ∙ ap behind_first (sym c.in_ok-push_row.ensures));
+          ∙ ap (λ (b : Bool). option_map (text_with b (body ++ row_text row)) (plain_rows machine timeout rest after)) (sym c.is_stale_yet-is_stale.ensures)
+          ∙ ap (λ (t : List ℕ). option_map (text_with c.is_stale_yet-is_stale.result t) (plain_rows machine timeout rest after)) (sym more.1 ∙ ap behind_first (sym c.in_ok-push_row.ensures));
       written = subst IsOfFirst (sym c.in_ok-push_row.ensures) more.0;
       timeout = search rules;
     }
