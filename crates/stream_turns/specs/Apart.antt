@@ -1,8 +1,8 @@
 -- A stream connection whose results stand on a board of its own: nobody takes them but who waits for them.
-use Rattle.std.specs.Prelude.{Bool, option_map}
+use Rattle.std.specs.Prelude.{ℕ, Bool, List, Option, None, option_map}
 use Rattle.client_request.specs.Request.{Request}
 use Rattle.client_request.specs.Requests.{for_one, for_several}
-use Rattle.client_request.specs.View.{Step, Transport}
+use Rattle.client_request.specs.View.{View, Step, Transport}
 use Rattle.client_stream.specs.Plain as stream
 use Rattle.client_stream.specs.Plain.{Asked, Stream, asked}
 use Rattle.stream_turns.specs.declared.apart.Apart.{Apart}
@@ -26,3 +26,7 @@ transport = record {
   cancel = λ asked. on_own_board (requests.cancel asked);
   response = λ request u v. asked v.ticket;
 }
+
+-- Nothing stands in for a result: a connection keeps no message.
+abbrev pub stale : Asked → Apart → View → Option (List ℕ)
+stale asked u v = None

@@ -16,7 +16,7 @@ use Rattle.client_stream.specs.Plain as stream
 use Rattle.client_stream.specs.Plain.{Asked}
 use Rattle.client_stream.specs.Settings.{default_settings}
 use Rattle.client_stream.specs.declared.request.AnyRequest.TheVariants.{Transfer}
-use Rattle.stream_turns.specs.Apart.{on_own_board, transport}
+use Rattle.stream_turns.specs.Apart.{on_own_board, transport, stale}
 use Rattle.stream_turns.specs.declared.apart.Apart.{Apart}
 
 -- the connection between two rows
@@ -65,7 +65,7 @@ started place opened = record {
 
 -- The steps are those of a client over this one connection: of due timers, the event, further frames, and due timers.
 abbrev pub machine : Machine Apart Asked
-machine = machine_of transport (λ r. r.ticket)
+machine = machine_of transport (λ r. r.ticket) stale
 
 abbrev pub steps : (ℕ → ℕ) → Event → Held → Option (Row × Client)
 steps words event t = plain.row_step machine 0 event (client_with words t)

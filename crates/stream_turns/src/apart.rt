@@ -11,7 +11,9 @@ use client_request::{
     Board, Cx, Error, Pending, RequestMessage, RequestMessageMulti, SendRequest, Signal, Words,
     cancel_below, send_below, step_below,
 };
+use client_steps::ServesStale;
 use client_stream::{Connection, RequestMulti};
+use dns_base::Message;
 use std::mem;
 
 /// A stream connection that takes requests and transfers.
@@ -69,5 +71,18 @@ impl SendRequest<RequestMessage> for Apart {
     #[tactic(auto, using(crate::proofs::OwnBoard::leaves, crate::proofs::OwnBoard::leaves_none))]
     fn cancel<W: Words>(&mut self, cx: &mut Cx<'_, W>, response: Pending) -> Result<(), Error> {
         cancel_below::<RequestMessage, Line, W>(&mut self.line, &mut self.board, cx, response)
+    }
+}
+
+impl ServesStale for Apart {
+    ghost stale = { plain.stale };
+
+    /// None: a connection keeps no message that could stand in.
+    fn stand_in<W: Words>(
+        &mut self,
+        _cx: &mut Cx<'_, W>,
+        _response: &Pending,
+    ) -> Result<Option<Message>, Error> {
+        Ok(None)
     }
 }
