@@ -3,9 +3,12 @@ pub mod AliasTables
 pub mod Compressing
 pub mod DataBack
 pub mod EntriesBack
+pub mod FirstPlaces
 pub mod Holding
 pub mod Indexed
 pub mod Lists
+pub mod NameKeys
+pub mod Neighbours
 pub mod OtherLabels
 pub mod Places
 pub mod Queries
@@ -13,7 +16,6 @@ pub mod ReadData
 pub mod Readings
 pub mod Sizes
 pub mod Stands
-pub mod SuffixKeys
 pub mod Steps
 pub mod Whole
 pub mod Worked

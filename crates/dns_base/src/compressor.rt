@@ -13,7 +13,7 @@ use crate::header::Header;
 use crate::place::{Place, found_at};
 use crate::record_data::RecordData;
 use crate::spelling::put_data;
-use crate::suffixes::{Suffixes, key_of};
+use crate::suffixes::{Search, Suffixes, key_of, label_count};
 use dns_names::ParsedName;
 use dns_values::NoMemory;
 use std::alloc::Global;
@@ -57,12 +57,20 @@ fn write_count(octets: &mut Vec<u8>, at: usize)
     octets[at..at + 2].copy_from_slice(&count.to_be_bytes());
 }
 
-/// The suffixes at places, where they are more than a few, or else of none of them.
-fn recent_suffixes(alloc: Global, octets: &[u8], places: &[Place]) -> Result<Suffixes, NoMemory>
+/// A name of no more labels has so few suffixes.
+const FEW_LABELS: usize = 8;
+
+/// The suffixes at places, where they are more than a few or a name of so many labels is long, or else of none of them.
+fn recent_suffixes(
+    alloc: Global,
+    octets: &[u8],
+    places: &[Place],
+    labels: usize,
+) -> Result<Suffixes, NoMemory>
     ensures { IfOk result (λ suffixes. IsIndex suffixes octets.now places.now) }
 {
     let mut suffixes = Suffixes::new(alloc);
-    if places.len() > FEW_NEW_PLACES {
+    if places.len() > FEW_NEW_PLACES || labels > FEW_LABELS && places.len() > 0 {
         suffixes.take_in(octets, places)?;
     }
     Ok(suffixes)
@@ -175,10 +183,16 @@ impl Compressor {
         ensures place { IfOk result (λ lead. lead.place ≡ lead_place self.now name.now) }
     {
         let key = key_of(self.alloc, name)?;
+        let count = label_count(name);
         let behind = &self.places[self.known.count()..];
-        let recent = recent_suffixes(self.alloc, &self.octets, behind)?;
-        let mut at = 0;
-        let mut count = 0;
+        let recent = recent_suffixes(self.alloc, &self.octets, behind, count)?;
+        let search = Search {
+            octets: &self.octets,
+            known: self.known.firsts_of(&key),
+            recent: recent.firsts_of(&key),
+            others: &behind[recent.count()..],
+        };
+        let mut left = count;
         let mut labels = name.labels();
         'labels: loop {
             match labels.next() {
@@ -189,21 +203,13 @@ impl Compressor {
                     });
                 }
                 Some(label) => {
-                    if let Some(place) = self.known.found_before(
-                        &recent,
-                        &self.octets,
-                        &self.places,
-                        &key[at..],
-                        label,
-                        &labels,
-                    ) {
+                    if let Some(place) = search.first(left, label, &labels) {
                         return Ok(Lead {
-                            labels: count,
+                            labels: count - left,
                             place: Some(place),
                         });
                     }
-                    at += 1 + label.len();
-                    count += 1;
+                    left -= 1;
                 }
             }
         }
