@@ -5,7 +5,7 @@ use crate::messages::{answer_to, request};
 use client_core::{Client, Event, Moment, Out, Row, What};
 use client_request::{ListWords, WordList};
 use client_settings::{cache, redundant};
-use dns_base::{IpAddr, Octets, SocketAddr};
+use dns_base::{Duration, IpAddr, Octets, SocketAddr};
 use resolv_conf::{ResolvConf, ServerConf, Transport};
 use std::alloc::Global;
 
@@ -15,8 +15,8 @@ const LEARNED: Moment = Moment(1_000_000);
 /// When what is kept is asked for: ten seconds later, so each TTL is written anew.
 const ASKED: Moment = Moment(11_000_000);
 
-/// A client of one server, which keeps as many answers as settings allow.
-fn client(alloc: Global) -> Result<Client, HitFault> {
+/// A client of one server, which keeps as many answers as settings allow, and lets expired ones serve for so many seconds.
+fn client(alloc: Global, stale_seconds: u32) -> Result<Client, HitFault> {
     let addr = SocketAddr {
         ip: IpAddr::V4([192, 0, 2, 53]),
         port: 53,
@@ -25,6 +25,7 @@ fn client(alloc: Global) -> Result<Client, HitFault> {
     conf.servers.push(ServerConf::new(addr, Transport::UdpTcp))?;
     let mut cache = cache::Config::new();
     cache.set_max_cache_entries(u64::MAX);
+    cache.set_stale_for(Duration::from_secs(u64::from(stale_seconds)));
     Ok(Client::new(alloc, &conf, redundant::Config::new(), cache)?)
 }
 
@@ -76,8 +77,8 @@ pub(crate) struct Asker {
 
 impl Asker {
     /// Nothing is asked yet. Each word is 0: what is random is not measured.
-    pub(crate) fn new(alloc: Global) -> Result<Asker, HitFault> {
-        let client = client(alloc)?;
+    pub(crate) fn new(alloc: Global, stale_seconds: u32) -> Result<Asker, HitFault> {
+        let client = client(alloc, stale_seconds)?;
         let words = ListWords::new(WordList::new(alloc));
         Ok(Asker {
             alloc,

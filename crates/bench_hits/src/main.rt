@@ -2,7 +2,8 @@
 //!
 //! `bench_hits N M` lets a client keep the answers of N names, asks M times for one of them, and prints how many of these
 //! were answered at once. There is no socket: the client is stepped by hand, and what it sends is answered here. So the
-//! times of two runs that differ in M alone tell what it takes to ask for what is kept.
+//! times of two runs that differ in M alone tell what it takes to ask for what is kept. `bench_hits N M S` sets for how many
+//! seconds expired answers may serve; without it they don't.
 #![tactic(auto)]
 
 mod asker;
@@ -34,14 +35,26 @@ fn count_hits(asker: &mut Asker, names: u32, requests: u32) -> Result<u32, HitFa
     Ok(hits)
 }
 
-/// The number that the next word is.
-fn number(words: &mut env::Args) -> Result<u32, HitFault> {
-    let Some(word) = words.next() else {
-        return Err(HitFault::Usage);
-    };
-    match word.as_str().parse::<u32>() {
+fn parsed(word: &str) -> Result<u32, HitFault> {
+    match word.parse::<u32>() {
         Ok(number) => Ok(number),
         Err(_) => Err(HitFault::Usage),
+    }
+}
+
+/// The number that the next word is.
+fn number(words: &mut env::Args) -> Result<u32, HitFault> {
+    match words.next() {
+        Some(word) => parsed(word.as_str()),
+        None => Err(HitFault::Usage),
+    }
+}
+
+/// The number that the next word is, or 0 where there is none.
+fn number_or_zero(words: &mut env::Args) -> Result<u32, HitFault> {
+    match words.next() {
+        Some(word) => parsed(word.as_str()),
+        None => Ok(0),
     }
 }
 
@@ -50,7 +63,8 @@ fn main(rt: HostRuntime) -> Result<(), HitFault> {
     let _name = words.next();
     let names = number(&mut words)?;
     let requests = number(&mut words)?;
-    let mut asker = Asker::new(rt.alloc())?;
+    let stale_seconds = number_or_zero(&mut words)?;
+    let mut asker = Asker::new(rt.alloc(), stale_seconds)?;
     for name in 0..names {
         asker.learn(name)?;
     }

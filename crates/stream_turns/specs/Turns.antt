@@ -77,6 +77,10 @@ begun_of t x = (x.1.outs, plain.rested (plain.client_of x.0 (t.asked, x.1)))
 abbrev pub begins : (ℕ → ℕ) → Request → Held → Option (List Out × Client)
 begins words request t = option_map (begun_of t) (on_own_board (stream.plain_send for_one for_several (Transfer request)) t.layer (view_with words t))
 
+-- the results that were not taken
+abbrev pub results_of : Held → List Posted
+results_of t = t.layer.board
+
 -- with these results that were not taken
 abbrev pub with_board : List Posted → Held → Held
 with_board board t = record t { layer = record t.layer { board = board } }

@@ -191,8 +191,8 @@ impl Transfer {
 
     /// The oldest result of a transfer that stands, which is then taken. It takes no memory.
     pub fn next_part(&mut self, response: &mut RequestMulti) -> Poll<Part>
-        ensures value { result ≡ part_response_of response.old.ended response.old.ticket self.old.layer.board }
-        ensures taken { self.new ≡ plain.with_board (board_after response.old.ended response.old.ticket self.old.layer.board) self.old }
+        ensures value { result ≡ part_response_of response.old.ended response.old.ticket (plain.results_of self.old) }
+        ensures taken { self.new ≡ plain.with_board (board_after response.old.ended response.old.ticket (plain.results_of self.old)) self.old }
         ensures ended { response.new.ended ≡ ended_after response.old.ended result }
         ensures ticket { response.new.ticket ≡ response.old.ticket }
     {
