@@ -5,6 +5,7 @@ ghost use Rattle.std.specs.Vec.{vec_capacity};
 ghost use Rattle.client_request.specs.Timers.{IsWant};
 ghost use Rattle.client_shared.specs.Drawn.{AreDrawn};
 ghost use Rattle.client_shared.specs.History.{history, opened, IsLegal, IsSubmitted, IsRefused, IsStopped, IsBehind, IsSettled, IsKeeping, Puts, EndsLost, Stands, IsDesk};
+ghost use Rattle.joint_history.specs.Words.{word_of};
 
 use crate::entry::{Entry, Item, Receipt};
 use crate::key::ClientKey;
@@ -29,6 +30,7 @@ pub(crate) struct Desk<L: ClientKey, W: Words + Drop> {
 }
 
 impl<L: ClientKey, W: Words + Drop> Model for Desk<L, W> {
+    ghost use Rattle.joint_history.specs.Words.{word_of};
     ghost use Rattle.std.specs.Prelude.{List};
     ghost use Rattle.client_shared.specs.declared.entry.Item.{Item};
     ghost use Rattle.client_shared.specs.History.{history, IsDesk};
@@ -56,7 +58,7 @@ fn put<L: ClientKey>(
     entries: &mut Vec<Entry>,
     entry: Entry,
 ) -> u64
-    requires table { joint.now.table.shared.table_id ≡ L.table }
+    requires table { word_of joint.now ≡ L.table }
     requires desk { IsKeeping L.table (history entries.old.items None) desk.old }
     requires caller { entry.caller ≡ pass.old.number }
     requires room { vec_len entries.old < vec_capacity entries.old }
@@ -83,7 +85,7 @@ fn lose<L: ClientKey>(
     pass: &mut Pass<L>,
     entries: &Vec<Entry>,
 )
-    requires table { joint.now.table.shared.table_id ≡ L.table }
+    requires table { word_of joint.now ≡ L.table }
     requires desk { IsKeeping L.table (history entries.now.items None) desk.old }
     requires room { vec_len entries.now < vec_capacity entries.now }
     requires legal { IsLegal L.opening (history entries.now.items None ++ Item.Lost pass.old.number ∷ []) }
@@ -108,7 +110,7 @@ fn step_and_put<L: ClientKey, W: Words + Drop>(
     event: Event,
     copy: Event,
 ) -> (W, Result<Receipt, Error>)
-    requires table { joint.now.table.shared.table_id ≡ L.table }
+    requires table { word_of joint.now ≡ L.table }
     requires desk { IsKeeping L.table (history entries.old.items None) desk.old }
     requires room { vec_len entries.old < vec_capacity entries.old }
     requires copied { copy ≡ event }
@@ -167,7 +169,7 @@ impl<L: ClientKey, W: Words + Drop> Desk<L, W> {
 
     /// A pass sees the loss of an earlier call.
     fn fall_behind(&mut self, joint: &Joint<Item>, pass: &mut Pass<L>)
-        requires table { joint.now.table.shared.table_id ≡ L.table }
+        requires table { word_of joint.now ≡ L.table }
         requires lost { EndsLost self.old }
         ensures same { self.new ≡ self.old }
         ensures behind { IsBehind pass.old pass.new }
@@ -182,7 +184,7 @@ impl<L: ClientKey, W: Words + Drop> Desk<L, W> {
         pass: &mut Pass<L>,
         event: Event,
     ) -> Result<Receipt, Error>
-        requires { joint.now.table.shared.table_id ≡ L.table }
+        requires { word_of joint.now ≡ L.table }
         ensures ok { IfOk result (λ r. IsSubmitted pass.old pass.new event r) }
         ensures behind { IsErrOf result Error.Failed → IsBehind pass.old pass.new }
         ensures refused { IfErr result (λ e. e ≢ Error.Failed → IsWant e × ((pass.new ≡ pass.old) ⊎ IsRefused pass.old pass.new)) }
@@ -225,7 +227,7 @@ impl<L: ClientKey, W: Words + Drop> Desk<L, W> {
 
     /// The pass of a caller has seen all of the history.
     pub(crate) fn settle(&mut self, joint: &Joint<Item>, pass: &mut Pass<L>)
-        requires { joint.now.table.shared.table_id ≡ L.table }
+        requires { word_of joint.now ≡ L.table }
         ensures same { self.new ≡ self.old }
         ensures settled { IsSettled self.old pass.old }
     {

@@ -2,6 +2,7 @@
 
 ghost use Rattle.std.specs.Prelude.{◌≡◌, [], IfOk};
 ghost use Rattle.joint_history.specs.Views.{first};
+ghost use Rattle.joint_history.specs.Words.{word_of};
 
 use crate::entry::Item;
 use dns_base::NoMemory;
@@ -34,7 +35,7 @@ pub struct Opened {
     pub joint: Joint<Item>,
     pub seat: Seat<Item>,
     pub ghost fresh: { seat.me ≡ (first, []) },
-    pub ghost same: { seat.table_id ≡ joint.table.shared.table_id },
+    pub ghost same: { seat.table_id ≡ word_of joint },
 }
 
 impl Opened {

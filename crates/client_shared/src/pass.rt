@@ -3,6 +3,7 @@
 ghost use Rattle.std.specs.Prelude.{◌≡◌, ◌<◌};
 ghost use mathlib.Core.List.{IsPrefix};
 ghost use Rattle.client_shared.specs.History.{IsLegal, AreOfCallers, calls, is_lost};
+ghost use Rattle.joint_history.specs.Words.{word_of};
 
 use crate::entry::Item;
 use crate::key::ClientKey;
@@ -47,7 +48,7 @@ impl<L: ClientKey> Pass<L> {
 
 /// Each of two callers has then seen what both had.
 pub(crate) fn meet<L: ClientKey>(joint: &Joint<Item>, one: &mut Pass<L>, other: &mut Pass<L>)
-    requires { joint.now.table.shared.table_id ≡ L.table }
+    requires { word_of joint.now ≡ L.table }
     ensures same { one.new.seen ≡ other.new.seen }
     ensures numbers { (one.new.number ≡ one.old.number) × (other.new.number ≡ other.old.number) }
     ensures begins { IsPrefix one.old.seen one.new.seen × IsPrefix other.old.seen other.new.seen }

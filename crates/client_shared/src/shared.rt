@@ -5,6 +5,7 @@ ghost use mathlib.Core.List.{IsPrefix};
 ghost use Rattle.client_request.specs.Timers.{IsWant};
 ghost use Rattle.client_shared.specs.Drawn.{AreDrawn};
 ghost use Rattle.client_shared.specs.History.{history, opening_of, numbered, newcomer, calls, is_lost, IsLegal, IsFresh, IsSubmitted, IsRefused, IsStopped, IsBehind, IsSettled, IsClosed};
+ghost use Rattle.joint_history.specs.Words.{word_of};
 
 use crate::desk::{Desk, Parts};
 use crate::entry::{Item, Journal, Receipt};
@@ -27,6 +28,7 @@ pub struct SharedClient<L: ClientKey, W: Words + Drop> {
 }
 
 impl<L: ClientKey, W: Words + Drop> Model for SharedClient<L, W> {
+    ghost use Rattle.joint_history.specs.Words.{word_of};
     ghost use Rattle.std.specs.Prelude.{◌≡◌};
     ghost use Rattle.client_shared.specs.History.{Shared};
 
@@ -34,7 +36,7 @@ impl<L: ClientKey, W: Words + Drop> Model for SharedClient<L, W> {
 
     ghost view = { λ s. record { callers = s.callers } };
 
-    ghost invariant = { λ s. (s.joint.table.shared.table_id ≡ L.table) × (s.callers ≡ L.opening.callers) };
+    ghost invariant = { λ s. (word_of s.joint ≡ L.table) × (s.callers ≡ L.opening.callers) };
 }
 
 /// What a shared client did, its words as they were left, and the number of the caller whose call was lost, if one was.
@@ -56,7 +58,7 @@ pub struct CloseFault<L: ClientKey, W: Words + Drop> {
 
 /// The pass of the next caller.
 fn pass_of<L: ClientKey>(joint: &Joint<Item>, seat: &mut Seat<Item>, number: u32) -> Pass<L>
-    requires table { joint.now.table.shared.table_id ≡ L.table }
+    requires table { word_of joint.now ≡ L.table }
     requires fresh { IsFresh L.table number seat.old }
     requires below { number < L.opening.callers }
     ensures pass { result ≡ newcomer number }
@@ -76,7 +78,7 @@ pub(crate) fn passes_of<L: ClientKey>(
     seat: &mut Seat<Item>,
     callers: u32,
 ) -> Result<Vec<Pass<L>>, AllocError>
-    requires table { joint.now.table.shared.table_id ≡ L.table }
+    requires table { word_of joint.now ≡ L.table }
     requires fresh { IsFresh L.table 0 seat.old }
     requires count { callers ≡ L.opening.callers }
     ensures passes { IfOk result (λ v. v.items ≡ numbered callers) }
@@ -101,7 +103,7 @@ impl<L: ClientKey, W: Words + Drop> SharedClient<L, W> {
         words: W,
         callers: u32,
     ) -> Result<(SharedClient<L, W>, Vec<Pass<L>>), Error>
-        requires table { opened.joint.table.shared.table_id ≡ L.table }
+        requires table { word_of opened.joint ≡ L.table }
         requires opening { L.opening ≡ opening_of redundant cache conf.now (W.stream words) callers }
         ensures shared { IfOk result (λ r. r.0.callers ≡ callers) }
         ensures passes { IfOk result (λ r. r.1.items ≡ numbered callers) }

@@ -5,6 +5,7 @@ ghost use mathlib.Core.List.{IsPrefix};
 ghost use Rattle.client_request.specs.Timers.{IsWant};
 ghost use Rattle.client_shared.specs.History.{opened, opening_of, numbered, calls, is_lost, IsLegal, IsSubmitted, IsRefused, IsStopped, IsBehind, IsKeeping, Puts, EndsLost};
 ghost use Rattle.client_shared.specs.Unjournaled.{IsCounting, IsCounted, IsFull};
+ghost use Rattle.joint_history.specs.Words.{word_of};
 
 use crate::entry::{Entry, Item, Receipt};
 use crate::key::{ClientKey, Opened};
@@ -32,6 +33,7 @@ struct Counter<L: ClientKey, W: Words + Drop> {
 }
 
 impl<L: ClientKey, W: Words + Drop> Model for Counter<L, W> {
+    ghost use Rattle.joint_history.specs.Words.{word_of};
     ghost use Rattle.std.specs.Prelude.{List};
     ghost use Rattle.client_shared.specs.declared.entry.Item.{Item};
     ghost use Rattle.client_shared.specs.Unjournaled.{IsCounted};
@@ -51,7 +53,7 @@ fn tell<L: ClientKey>(
     number: u64,
     entry: Entry,
 ) -> Receipt
-    requires table { joint.now.table.shared.table_id ≡ L.table }
+    requires table { word_of joint.now ≡ L.table }
     requires keeper { IsKeeping L.table keeper.old.me.0.seen keeper.old }
     requires caller { entry.caller ≡ pass.old.number }
     requires room { length keeper.old.me.0.seen + 1 < 2 ^ 64 }
@@ -74,7 +76,7 @@ fn tell<L: ClientKey>(
 
 /// The loss of a call is put at the end of the history.
 fn forget<L: ClientKey>(joint: &Joint<Item>, keeper: &mut Seat<Item>, pass: &mut Pass<L>)
-    requires table { joint.now.table.shared.table_id ≡ L.table }
+    requires table { word_of joint.now ≡ L.table }
     requires keeper { IsKeeping L.table keeper.old.me.0.seen keeper.old }
     requires room { length keeper.old.me.0.seen + 1 < 2 ^ 64 }
     requires legal { IsLegal L.opening (keeper.old.me.0.seen ++ Item.Lost pass.old.number ∷ []) }
@@ -97,7 +99,7 @@ fn step_and_tell<L: ClientKey, W: Words + Drop>(
     count: u64,
     event: Event,
 ) -> (W, Result<Receipt, Error>)
-    requires table { joint.now.table.shared.table_id ≡ L.table }
+    requires table { word_of joint.now ≡ L.table }
     requires counting { IsCounting L.table L.opening W.stream client.old words count keeper.old }
     requires room { count + 1 < 2 ^ 64 }
     ensures ok { IfOk result.1 (λ r. IsSubmitted pass.old pass.new event r) }
@@ -146,7 +148,7 @@ impl<L: ClientKey, W: Words + Drop> Counter<L, W> {
 
     /// A pass sees the loss of an earlier call.
     fn fall_behind(&mut self, joint: &Joint<Item>, pass: &mut Pass<L>)
-        requires table { joint.now.table.shared.table_id ≡ L.table }
+        requires table { word_of joint.now ≡ L.table }
         requires lost { EndsLost self.old }
         ensures same { self.new ≡ self.old }
         ensures behind { IsBehind pass.old pass.new }
@@ -157,7 +159,7 @@ impl<L: ClientKey, W: Words + Drop> Counter<L, W> {
     /// A pass sees that the history is full.
     #[tactic(auto, using(crate::proofs::Counting::filled))]
     fn fill_up(&mut self, joint: &Joint<Item>, pass: &mut Pass<L>)
-        requires table { joint.now.table.shared.table_id ≡ L.table }
+        requires table { word_of joint.now ≡ L.table }
         requires many { 2 ^ 64 ≤ length self.old + 2 }
         ensures same { self.new ≡ self.old }
         ensures full { IsFull pass.old pass.new }
@@ -172,7 +174,7 @@ impl<L: ClientKey, W: Words + Drop> Counter<L, W> {
         pass: &mut Pass<L>,
         event: Event,
     ) -> Result<Receipt, Error>
-        requires { joint.now.table.shared.table_id ≡ L.table }
+        requires { word_of joint.now ≡ L.table }
         ensures ok { IfOk result (λ r. IsSubmitted pass.old pass.new event r) }
         ensures behind { IsErrOf result Error.Failed → IsBehind pass.old pass.new }
         ensures refused { IfErr result (λ e. e ≢ Error.Failed → IsWant e × (IsFull pass.old pass.new ⊎ IsRefused pass.old pass.new)) }
@@ -226,6 +228,7 @@ pub struct UnjournaledClient<L: ClientKey, W: Words + Drop> {
 }
 
 impl<L: ClientKey, W: Words + Drop> Model for UnjournaledClient<L, W> {
+    ghost use Rattle.joint_history.specs.Words.{word_of};
     ghost use Rattle.std.specs.Prelude.{◌≡◌};
     ghost use Rattle.client_shared.specs.History.{Shared};
 
@@ -233,7 +236,7 @@ impl<L: ClientKey, W: Words + Drop> Model for UnjournaledClient<L, W> {
 
     ghost view = { λ s. record { callers = s.callers } };
 
-    ghost invariant = { λ s. (s.joint.table.shared.table_id ≡ L.table) × (s.callers ≡ L.opening.callers) };
+    ghost invariant = { λ s. (word_of s.joint ≡ L.table) × (s.callers ≡ L.opening.callers) };
 }
 
 impl<L: ClientKey, W: Words + Drop> UnjournaledClient<L, W> {
@@ -247,7 +250,7 @@ impl<L: ClientKey, W: Words + Drop> UnjournaledClient<L, W> {
         words: W,
         callers: u32,
     ) -> Result<(UnjournaledClient<L, W>, Vec<Pass<L>>), Error>
-        requires table { opened.joint.table.shared.table_id ≡ L.table }
+        requires table { word_of opened.joint ≡ L.table }
         requires opening { L.opening ≡ opening_of redundant cache conf.now (W.stream words) callers }
         ensures shared { IfOk result (λ r. r.0.callers ≡ callers) }
         ensures passes { IfOk result (λ r. r.1.items ≡ numbered callers) }

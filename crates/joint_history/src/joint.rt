@@ -115,9 +115,11 @@ pub struct Joint<E: Owned> {
 }
 
 impl<E: Owned> Joint<E> {
+    ghost use Rattle.joint_history.specs.Words.{word_of};
+
     /// An empty history, and the seat that keeps it. `AllocError` where there is no memory for the word.
     pub fn open(alloc: Global) -> Result<(Joint<E>, Seat<E>), AllocError>
-        ensures { IfOk result (λ r. (r.1.table_id ≡ r.0.table.shared.table_id) × (r.1.me ≡ (first, []))) }
+        ensures { IfOk result (λ r. (r.1.table_id ≡ word_of r.0) × (r.1.me ≡ (first, []))) }
     {
         let (table, seat) = Table::of_words(alloc, &[0], &())?;
         Ok((Joint { table }, seat))
@@ -125,7 +127,7 @@ impl<E: Owned> Joint<E> {
 
     /// The seat of the next caller, made by the seat that keeps the history.
     pub fn caller(&self, seat: &mut Seat<E>) -> Seat<E>
-        requires own { seat.old.table_id ≡ self.now.table.shared.table_id }
+        requires own { seat.old.table_id ≡ word_of self.now }
         requires keeps { seat.old.me.0.keeps ≡ true }
         ensures made { (result.table_id ≡ seat.old.table_id) × (result.me ≡ (next_caller seat.old.me.0, [])) }
         ensures kept { (seat.new.table_id ≡ seat.old.table_id) × (seat.new.me ≡ (one_more seat.old.me.0, seat.old.me.1)) }
@@ -136,7 +138,7 @@ impl<E: Owned> Joint<E> {
     /// A caller's seat puts an item at the end of the history, which another seat keeps, and both have seen all of it.
     pub fn append<B: Said<E>>(&self, keeper: &mut Seat<E>, caller: &mut Seat<E>, item: &E)
         requires said { B.items ≡ item.now ∷ [] }
-        requires own { (keeper.old.table_id ≡ self.now.table.shared.table_id) × (caller.old.table_id ≡ self.now.table.shared.table_id) }
+        requires own { (keeper.old.table_id ≡ word_of self.now) × (caller.old.table_id ≡ word_of self.now) }
         requires keeps { keeper.old.me.0.keeps ≡ true }
         requires calls { (caller.old.me.0.calls ≡ true) × (caller.old.me.0.keeps ≡ false) }
         requires number { E.by item.now ≡ caller.old.me.0.number }
@@ -164,7 +166,7 @@ impl<E: Owned> Joint<E> {
 
     /// A caller's seat sees all of the history, which another seat keeps.
     pub fn catch_up(&self, keeper: &mut Seat<E>, caller: &mut Seat<E>)
-        requires own { (keeper.old.table_id ≡ self.now.table.shared.table_id) × (caller.old.table_id ≡ self.now.table.shared.table_id) }
+        requires own { (keeper.old.table_id ≡ word_of self.now) × (caller.old.table_id ≡ word_of self.now) }
         requires keeps { keeper.old.me.0.keeps ≡ true }
         requires calls { (caller.old.me.0.calls ≡ true) × (caller.old.me.0.keeps ≡ false) }
         ensures keeper_table { keeper.new.table_id ≡ keeper.old.table_id }
@@ -190,7 +192,7 @@ impl<E: Owned> Joint<E> {
 
     /// A seat takes in what another has seen.
     pub fn tell(&self, from: &mut Seat<E>, to: &mut Seat<E>)
-        requires own { (from.old.table_id ≡ self.now.table.shared.table_id) × (to.old.table_id ≡ self.now.table.shared.table_id) }
+        requires own { (from.old.table_id ≡ word_of self.now) × (to.old.table_id ≡ word_of self.now) }
         requires keeps { to.old.me.0.keeps ≡ false }
         ensures from { (from.new.table_id ≡ from.old.table_id) × (from.new.me ≡ from.old.me) }
         ensures to { (to.new.table_id ≡ to.old.table_id) × (to.new.me ≡ (informed to.old.me.0 from.old.me.0, to.old.me.1)) }
