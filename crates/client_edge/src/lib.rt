@@ -1,4 +1,4 @@
-//! The world outside a client: the system's sockets, its clock, its random words and its files.
+//! The world outside a client: the system's sockets, its clock, its random words, its files and the words of a command.
 //!
 //! Each of these is one of the traits by which the crates below take what comes from outside. It is proved of each that its
 //! counts are right and that its calls end; of what comes, and of what becomes of what is sent, no clause speaks.
@@ -12,6 +12,8 @@
 #![tactic(auto)]
 
 mod address;
+mod command_line;
+mod conf_file;
 mod dgram;
 mod fault;
 mod file_opener;
@@ -24,6 +26,8 @@ mod stream;
 mod tcp;
 mod udp;
 
+pub use command_line::command_words;
+pub use conf_file::ConfFile;
 pub use file_opener::FileOpener;
 pub use rand_words::RandWords;
 pub use real_clock::RealClock;

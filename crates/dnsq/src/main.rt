@@ -1,40 +1,16 @@
 //! The program `dnsq`: it replays scripts of events, prints configurations, and asks servers.
 #![tactic(auto)]
 
-mod conf_file;
-
 use client_core::{ListClock, ListEdge};
-use client_edge::{RandWords, RealClock, SocketEdge};
+use client_edge::{ConfFile, RandWords, RealClock, SocketEdge, command_words};
 use client_request::{ListWords, WordList};
-use conf_file::ConfFile;
 use dns_values::{StdSink, StdSource};
 use dnsq_run::run_alone;
 use rand::rngs::StdRng;
-use std::alloc::AllocError;
-use std::env;
-use std::io::ErrorKind;
 use std::process::ExitCode;
 
 /// The exit status where memory, or the system's random words, can't be had.
 const NO_MEMORY: u8 = 6;
-
-/// The words of the command line, without the program's own name; none where one of them is not UTF-8.
-fn words_of(rt: &HostRuntime) -> Result<Vec<String>, AllocError> {
-    let mut words = Vec::new(rt.alloc());
-    let args = match env::args(rt) {
-        Ok(args) => args,
-        Err(error) => {
-            return match error.kind() {
-                ErrorKind::OutOfMemory => Err(AllocError),
-                _ => Ok(words),
-            };
-        }
-    };
-    for word in args.skip(1) {
-        words.push(word)?;
-    }
-    Ok(words)
-}
 
 /// Whether the words begin with `query`.
 fn asks_servers(words: &[String]) -> bool {
@@ -77,7 +53,7 @@ fn read(rt: HostRuntime, words: &[String]) -> u8 {
 }
 
 fn main(rt: HostRuntime) -> ExitCode {
-    let Ok(words) = words_of(&rt) else {
+    let Ok(words) = command_words(&rt) else {
         return ExitCode::from(NO_MEMORY);
     };
     if asks_servers(&words) {

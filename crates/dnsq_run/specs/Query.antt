@@ -20,20 +20,13 @@ use Rattle.right_trace.specs.Timely.{Timely}
 use Rattle.resolv_conf.specs.declared.conf.ResolvConf.{ResolvConf}
 use Rattle.resolv_conf.specs.declared.server.ServerConf.{ServerConf}
 use Rattle.dns_values.specs.Sink.{with_octets}
-use Rattle.dnsq_run.specs.Program.{Configures, IsBegun, IsRefused, IsSaid, RefusalIsSaid, numbers_line}
+use Rattle.command_parts.specs.Conf.{Configures}
+use Rattle.command_parts.specs.Ends.{IsBegun, IsSaid}
+use Rattle.dnsq_run.specs.Program.{IsRefused, RefusalIsSaid, numbers_line}
 use Rattle.dnsq_run.specs.declared.usage.Command.TheVariants.{Conf}
 use Rattle.dnsq_run.specs.QueryWords.{query_of}
 use Rattle.dnsq_run.specs.Words.{command_of}
 use Rattle.dnsq_run.specs.declared.query_words.Query.{Query}
-
--- a server at another port
-abbrev pub at_port : ℕ → ServerConf → ServerConf
-at_port port server = record server { addr = record server.addr { port = port } }
-
--- the configuration that is asked: each server at the query's port, where it has one
-abbrev pub conf_at : Option ℕ → ResolvConf → ResolvConf
-conf_at None conf = conf
-conf_at (Some port) conf = record conf { servers = map (at_port port) conf.servers }
 
 -- the request: its one question, of class IN, recursion desired
 abbrev pub request_of : Query → Request

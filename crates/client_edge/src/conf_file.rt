@@ -3,7 +3,7 @@
 ghost use Rattle.std.specs.Prelude.{◌≤◌, None, length, IfOk, OnErr};
 ghost use Rattle.dns_values.specs.Source.{Rose};
 
-use client_edge::FileOpener;
+use crate::file_opener::FileOpener;
 use dns_values::{Failed, Source};
 use resolv_conf::OpenFile;
 use std::rt::Files;
