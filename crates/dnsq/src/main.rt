@@ -1,4 +1,4 @@
-//! The program `dnsq`: it replays scripts of events, prints configurations, and asks servers.
+//! The program `dnsq`: it replays scripts of events, alone or by several threads, prints configurations, and asks servers.
 #![tactic(auto)]
 
 mod conf_file;
@@ -8,12 +8,14 @@ use client_edge::{RandWords, RealClock, SocketEdge};
 use client_request::{ListWords, WordList};
 use conf_file::ConfFile;
 use dns_values::{StdSink, StdSource};
-use dnsq_run::run_alone;
+use dnsq_many::run;
 use rand::rngs::StdRng;
 use std::alloc::AllocError;
 use std::env;
 use std::io::ErrorKind;
 use std::process::ExitCode;
+use std::sync::Wait;
+use std::thread::Threads;
 
 /// The exit status where memory, or the system's random words, can't be had.
 const NO_MEMORY: u8 = 6;
@@ -45,11 +47,12 @@ fn asks_servers(words: &[String]) -> bool {
 }
 
 /// Does what the words ask for over the system's sockets, clock and random words. Without random words nothing is asked.
-fn ask(rt: HostRuntime, words: &[String]) -> u8 {
+fn ask<R: Threads + Wait + Sync>(threads: &R, rt: HostRuntime, words: &[String]) -> u8 {
     let Ok(generator) = rand::make_rng::<StdRng, _>(&rt) else {
         return NO_MEMORY;
     };
-    let status = run_alone(
+    let status = run(
+        threads,
         rt.alloc(),
         words,
         &mut ConfFile::new(rt),
@@ -62,9 +65,10 @@ fn ask(rt: HostRuntime, words: &[String]) -> u8 {
 }
 
 /// Does what the words ask for, which asks no server.
-fn read(rt: HostRuntime, words: &[String]) -> u8 {
+fn read<R: Threads + Wait + Sync>(threads: &R, rt: HostRuntime, words: &[String]) -> u8 {
     let alloc = rt.alloc();
-    let status = run_alone(
+    let status = run(
+        threads,
         alloc,
         words,
         &mut StdSource::new(rt.stdin()),
@@ -81,8 +85,8 @@ fn main(rt: HostRuntime) -> ExitCode {
         return ExitCode::from(NO_MEMORY);
     };
     if asks_servers(&words) {
-        ExitCode::from(ask(rt, &words))
+        ExitCode::from(ask(&rt, rt, &words))
     } else {
-        ExitCode::from(read(rt, &words))
+        ExitCode::from(read(&rt, rt, &words))
     }
 }

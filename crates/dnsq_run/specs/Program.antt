@@ -94,6 +94,10 @@ abbrev pub RefusesLineOf : Command → (text : List ℕ) → ℕ → Type 0
 RefusesLineOf Replay text n = RefusesLine false text n
 RefusesLineOf Conf text n = RefusesConfLine text n
 
+-- The text has more octets than an input may have, and this line says so.
+abbrev pub IsTooLong : (text line : List ℕ) → Type 0
+IsTooLong text line = (16777216 < length text) × (line ≡ codes "input too long\n")
+
 -- The text is not taken, and this line says why.
 pub data IsRefused (command : Command) (text : List ℕ) (line : List ℕ) : Type 0 where
   is_too_long : 16777216 < length text → line ≡ codes "input too long\n" → IsRefused command text line

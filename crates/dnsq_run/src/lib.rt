@@ -26,5 +26,10 @@ mod statuses;
 mod telling;
 mod usage;
 
+pub use ending::Ending;
 pub use laws::input_laws;
-pub use run::run_alone;
+pub use lines::{refusal, refused_line};
+pub use replay::input;
+pub use run::{deliver, end_by, run_alone};
+pub use short_words::words_are_short;
+pub use statuses::NO_MEMORY;

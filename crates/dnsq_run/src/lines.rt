@@ -41,8 +41,8 @@ pub fn refused_line(alloc: Global, line: u64) -> Ending
     }
 }
 
-/// How a command ends of which the client refused a step.
-pub(crate) fn refusal(alloc: Global, error: Error) -> Ending
+/// How a command ends of which the client refused a step: with status 7 and a line where its numbers are used up, else with 6.
+pub fn refusal(alloc: Global, error: Error) -> Ending
     ensures early { IsEarly result }
     ensures numbers { status_of result ≡ 7 → error ≡ Error.NumbersUsed }
     ensures line { status_of result ≡ 7 → line_of result ≡ numbers_line }

@@ -9,7 +9,7 @@ ghost use Rattle.right_trace.specs.Hit.{AllHit};
 ghost use Rattle.right_trace.specs.Right.{Right};
 ghost use Rattle.right_trace.specs.Timely.{Timely};
 ghost use Rattle.dns_script.specs.ScriptReading.{IsScript};
-ghost use Rattle.dnsq_run.specs.Program.{rows_of, IsReplayed, IsRefused, StopsForNumbers, IsEarly, status_of, line_of, numbers_line};
+ghost use Rattle.dnsq_run.specs.Program.{rows_of, IsReplayed, IsRefused, IsTooLong, StopsForNumbers, IsEarly, status_of, line_of, numbers_line};
 
 use crate::ending::Ending;
 use crate::lines::{refusal, refused_line, says};
@@ -26,14 +26,16 @@ use std::alloc::Global;
 /// The most octets that an input may have.
 pub const MOST_OCTETS: usize = 16_777_216;
 
-/// The octets of an input, to its end.
+/// The octets of an input, to its end. It ends with status 1 where there are more than may be, 3 where the source fails, and 6
+/// where memory runs out.
 #[tactic(auto, using(crate::proofs::Refusals::too_long_line))]
-fn input<S: Source>(alloc: Global, source: &mut S) -> Result<Vec<u8>, Ending>
+pub fn input<S: Source>(alloc: Global, source: &mut S) -> Result<Vec<u8>, Ending>
     ensures whole { IfOk result (λ v. IfSome (S.left source.old) (λ text. (v.items ≡ text) × (S.left source.new ≡ Some []))) }
     ensures fits { IfOk result (λ v. length v.items ≤ 16777216) }
     ensures early { IfErr result IsEarly }
     ensures source_fault { IfErr result (λ e. status_of e ≡ 3 → Rose (S.faults source.old) (S.faults source.new)) }
     ensures too_long { IfErr result (λ e. status_of e ≡ 1 → IfSome (S.left source.old) (λ text. IsRefused Command.Replay text (line_of e))) }
+    ensures long { IfErr result (λ e. status_of e ≡ 1 → IfSome (S.left source.old) (λ text. IsTooLong text (line_of e))) }
     ensures no_numbers { IfErr result (λ e. status_of e ≢ 7) }
 {
     match read_to_end(alloc, source, MOST_OCTETS) {

@@ -24,9 +24,9 @@ use dns_base::{NoMemory, Status};
 use dns_values::{Sink, SinkFault, Source, write_all};
 use std::alloc::Global;
 
-/// Writes an output whole, and hands it on.
+/// Writes an output whole, and hands it on. The status is 0, or 4 where the sink failed, or 6 where it found no memory.
 #[tactic(auto, using(crate::proofs::Delivery::begun_whole, crate::proofs::Delivery::begun_front))]
-fn deliver<K: Sink>(sink: &mut K, text: &[u8]) -> Status
+pub fn deliver<K: Sink>(sink: &mut K, text: &[u8]) -> Status
     ensures done { result.0 ≡ 0 → K.held sink.new ≡ with_octets text.now (K.held sink.old) }
     ensures flushed { result.0 ≡ 0 → IsFlushed (K.held sink.new) (K.flushed sink.new) }
     ensures begun { IsBegun text.now (K.held sink.old) (K.held sink.new) }
@@ -89,8 +89,9 @@ fn output<S: Source>(alloc: Global, command: Command, source: &mut S) -> Result<
     }
 }
 
-/// Ends by a line that tells why nothing else is written.
-fn end_by<K: Sink>(sink: &mut K, status: Status, line: &[u8]) -> Status
+/// Ends by a line that tells why nothing else is written, whatever becomes of it: with this status, or 6 where the sink found no
+/// memory.
+pub fn end_by<K: Sink>(sink: &mut K, status: Status, line: &[u8]) -> Status
     ensures status { (result ≡ status) ⊎ (result.0 ≡ 6) }
     ensures begun { IsBegun line.now (K.held sink.old) (K.held sink.new) }
     ensures said { result.0 ≢ 6 → IsSaid line.now (K.held sink.old) (K.held sink.new) (K.faults sink.old) (K.faults sink.new) }
