@@ -1,0 +1,60 @@
+//! The program `zone_fetch`: it fetches a zone from a name server and prints it.
+#![tactic(auto)]
+
+mod zone_file;
+
+use client_edge::{RandWords, RealClock, SocketEdge};
+use dns_values::StdSink;
+use rand::rngs::StdRng;
+use std::alloc::AllocError;
+use std::env;
+use std::io::ErrorKind;
+use std::process::ExitCode;
+use zone_fetch_run::{file_of, run_fetch};
+use zone_file::ZoneFile;
+
+/// The exit status where memory, or the system's random words, can't be had.
+const NO_MEMORY: u8 = 6;
+
+/// The words of the command line, without the program's own name; none where one of them is not UTF-8.
+fn words_of(rt: &HostRuntime) -> Result<Vec<String>, AllocError> {
+    let mut words = Vec::new(rt.alloc());
+    let args = match env::args(rt) {
+        Ok(args) => args,
+        Err(error) => {
+            return match error.kind() {
+                ErrorKind::OutOfMemory => Err(AllocError),
+                _ => Ok(words),
+            };
+        }
+    };
+    for word in args.skip(1) {
+        words.push(word)?;
+    }
+    Ok(words)
+}
+
+/// Does what the words ask for over the system's sockets, clock and random words.
+fn fetch(rt: HostRuntime, words: &[String]) -> u8 {
+    let Ok(generator) = rand::make_rng::<StdRng, _>(&rt) else {
+        return NO_MEMORY;
+    };
+    let alloc = rt.alloc();
+    let status = run_fetch(
+        alloc,
+        words,
+        &mut ZoneFile::new(rt, file_of(words)),
+        &mut StdSink::new(rt.stdout()),
+        (&mut SocketEdge::new(rt, alloc), &mut SocketEdge::new(rt, alloc)),
+        &mut RealClock::new(rt),
+        &mut RandWords::new(generator),
+    );
+    status.0
+}
+
+fn main(rt: HostRuntime) -> ExitCode {
+    match words_of(&rt) {
+        Ok(words) => ExitCode::from(fetch(rt, &words)),
+        Err(_) => ExitCode::from(NO_MEMORY),
+    }
+}
