@@ -4,7 +4,7 @@ ghost use Rattle.std.specs.Prelude.{◌≡◌, IfOk, OnOk, Ok, Err};
 ghost use Rattle.client_request.specs.Cx.{view_of, LendsTheSame};
 ghost use Rattle.client_cache.specs.Plain as plain;
 
-use crate::keeping::keep;
+use crate::keeping::keep_result;
 use crate::table::{Table, new_table};
 use cache_rules::Key;
 use client_request::{Board, Cx, Error, Posted, Words};
@@ -84,7 +84,7 @@ fn give_kept<W: Words>(
     ensures lends { LendsTheSame cx.old cx.new }
     ensures ok { OnOk result ((kept.new, view_of W.stream cx.new) ≡ plain.gives_outcome ticket key kept.old (view_of W.stream cx.old) outcome) }
 {
-    let given = keep(&mut kept.table, &kept.config, key, cx.now.0, outcome)?;
+    let given = keep_result(&mut kept.table, &kept.config, key, cx.now.0, outcome)?;
     cx.board.put(ticket, part_of(given))
 }
 
