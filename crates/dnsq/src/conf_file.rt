@@ -20,9 +20,9 @@ pub struct ConfFile<R: Files + Drop> {
 
 impl<R: Files + Drop> ConfFile<R> {
     /// The file, which is not open yet.
-    pub fn new(rt: R) -> ConfFile<R> {
+    pub fn new(opener: FileOpener<R>) -> ConfFile<R> {
         ConfFile {
-            opener: FileOpener::new(rt),
+            opener,
             is_open: false,
         }
     }
