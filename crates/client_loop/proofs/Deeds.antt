@@ -1,12 +1,18 @@
 -- What edges, clocks and counts tell, one thing more at a time.
-use Rattle.std.proofs.Common.{◌≡◌, ◌⊎◌, inl, inr, ℕ, ◌+◌, ◌<◌, ◌≤◌, min, List, [], ◌∷◌, ◌++◌, length, map, take, get_or, Option, Some, None, refl, ap, sym, ◌∙◌, append_assoc, arith}
-use Rattle.std.proofs.lemmas.List.{map_more, take_all}
+use Rattle.std.proofs.Common.{◌≡◌, ◌⊎◌, inl, inr, ℕ, ◌+◌, ◌<◌, ◌≤◌, min, List, [], ◌∷◌, ◌++◌, length, map, take, get_or, Option, Some, None, refl, ap, sym, subst, ◌∙◌, append_assoc, length-append, arith}
+use Rattle.std.specs.List.{All, flat_map}
+use Rattle.std.proofs.lemmas.List.{length-map, map_more, take_all}
+use Rattle.std.proofs.lemmas.List.Elements.{All-head, All-tail}
 use Rattle.dns_values.specs.Source.{one_more, last_count}
 use Rattle.client_request.specs.Words.{IsGivenOn}
 use Rattle.client_core.specs.Edge.{after_deed}
 use Rattle.client_core.specs.Waiting.{Waited}
 use Rattle.client_core.specs.declared.deed.Deed.{Deed}
-use Rattle.client_loop.specs.Turns.{after_deeds, after_waits, AreGivenOn, RoseBy}
+use Rattle.client_core.specs.declared.deed.Deed.TheVariants.{Acted, Learned, Polled}
+use Rattle.client_request.specs.declared.event.Event.{Event}
+use Rattle.client_request.specs.declared.event.Out.{Out}
+use Rattle.client_request.specs.declared.event.What.{What}
+use Rattle.client_loop.specs.Turns.{Turn, IsOfPoll, acts_on, after_deeds, after_waits, deeds_of, events_of, happened, polled_in, AreGivenOn, ArePolledOn, RoseBy}
 
 pub append_nil : {A : Type 0} (xs : List A) → xs ++ [] ≡ xs
 append_nil [] = refl
@@ -85,3 +91,55 @@ more_moments moments moment a b None h i = tt
 more_moments moments moment a None (Some new) h i = absurd i
 more_moments moments moment None (Some mid) (Some new) h i = h
 more_moments moments moment (Some old) (Some mid) (Some new) h i = i ∙ ap (λ (xs : List ℕ). xs ++ moment ∷ []) h ∙ append_assoc old moments (moment ∷ [])
+
+-- outs that are acted on are no polls
+pub polled_acts : (outs : List Out) → polled_in (acts_on outs) ≡ []
+unfolding polled_in
+polled_acts [] = refl
+polled_acts (out ∷ outs) = polled_acts outs
+
+-- the polls of deeds, and then of others
+polled_joined : (first second : List Deed) → polled_in (first ++ second) ≡ polled_in first ++ polled_in second
+unfolding polled_in
+polled_joined [] second = refl
+polled_joined (Learned server ∷ first) second = polled_joined first second
+polled_joined (Acted out ∷ first) second = polled_joined first second
+polled_joined (Polled what ∷ first) second = ap (λ (ps : List (Option What)). what ∷ ps) (polled_joined first second)
+
+polled_turns : (turns : List Turn) → polled_in (flat_map deeds_of turns) ≡ map (λ t. t.polled) turns
+unfolding polled_in
+polled_turns [] = refl
+polled_turns (t ∷ ts) =
+    ap (λ (ps : List (Option What)). t.polled ∷ ps)
+    (polled_joined (acts_on t.row.outs) (flat_map deeds_of ts) ∙ ap (λ (ps : List (Option What)). ps ++ polled_in (flat_map deeds_of ts)) (polled_acts t.row.outs) ∙ polled_turns ts)
+
+-- the polls of what was done before some turns, in them, and of one poll more
+pub polled_of_turns : (before : List Deed) (turns : List Turn) (polled : Option What) → polled_in before ≡ []
+    → polled_in ((before ++ flat_map deeds_of turns) ++ Polled polled ∷ []) ≡ map (λ t. t.polled) turns ++ polled ∷ []
+unfolding polled_in
+polled_of_turns before turns polled none =
+    polled_joined (before ++ flat_map deeds_of turns) (Polled polled ∷ [])
+    ∙ ap (λ (ps : List (Option What)). ps ++ polled ∷ [])
+      (polled_joined before (flat_map deeds_of turns) ∙ ap (λ (ps : List (Option What)). ps ++ polled_in (flat_map deeds_of turns)) none ∙ polled_turns turns)
+
+-- deeds tell the polls among them
+pub are_polled : (deeds : List Deed) (a b : Option (List Deed)) → b ≡ after_deeds deeds a → ArePolledOn a b (polled_in deeds)
+are_polled deeds None b h = subst (λ (o : Option (List Deed)). ArePolledOn None o (polled_in deeds)) (sym h) tt
+are_polled deeds (Some before) b h = subst (λ (o : Option (List Deed)). ArePolledOn (Some before) o (polled_in deeds)) (sym h) (polled_joined before deeds)
+
+-- nothing was done, so nothing was polled
+pub none_polled : (a b : Option (List Deed)) → b ≡ a → ArePolledOn a b []
+unfolding polled_in
+none_polled a b h = are_polled [] a b (h ∙ no_deeds a)
+
+-- the events of turns and of one more are what the edge gave
+pub events_polled : (turns : List Turn) (event : Event) (polled : Option What) → All IsOfPoll turns → event.what ≡ happened polled
+    → map (λ e. e.what) (events_of (map (λ t. t.row) turns) ++ event ∷ []) ≡ map happened (map (λ t. t.polled) turns ++ polled ∷ [])
+events_polled [] event polled h is = ap (λ (w : What). w ∷ []) is
+events_polled (t ∷ ts) event polled h is =
+    ap (λ (w : What). w ∷ map (λ e. e.what) (events_of (map (λ t. t.row) ts) ++ event ∷ [])) (All-head IsOfPoll t ts h)
+    ∙ ap (λ (ws : List What). happened t.polled ∷ ws) (events_polled ts event polled (All-tail IsOfPoll t ts h) is)
+
+-- one poll a turn, and one more
+pub turns_counted : (turns : List Turn) (polled : Option What) → length turns + 1 ≡ length (map (λ t. t.polled) turns ++ polled ∷ [])
+turns_counted turns polled = sym (length-append (map (λ (t : Turn). t.polled) turns) (polled ∷ []) ∙ ap (λ (n : ℕ). n + 1) (length-map turns (λ (t : Turn). t.polled)))

@@ -24,8 +24,8 @@ use Rattle.right_trace.specs.InOctets.{AllInOctets, IsInOctets}
 use Rattle.right_trace.specs.Timely.{AllAskedInOctets, IsAskedInOctets}
 use Rattle.client_loop.specs.Asking.{Asked, Begun, IsAnswered, Scene, StopsForNumbers, client_of, rows_of}
 use Rattle.client_loop.specs.Replies.{first_reply, or_later, reply_in}
-use Rattle.client_loop.specs.Turns.{AreGivenOn, IsOfPoll, IsTurn, Leads, RoseBy, StopsAt, Turn, acts_on, after_deeds, after_waits, deeds_of, events_of, happened, moments_of}
-use Rattle.client_loop.proofs.Deeds.{KeptOf, append_nil, first_moment, kept_of, more_deeds, more_moments, more_waits, no_waits, rose_by_none, rose_more}
+use Rattle.client_loop.specs.Turns.{AreGivenOn, ArePolledOn, IsOfPoll, IsTurn, Leads, RoseBy, StopsAt, Turn, acts_on, after_deeds, after_waits, deeds_of, events_of, happened, moments_of}
+use Rattle.client_loop.proofs.Deeds.{KeptOf, append_nil, are_polled, events_polled, first_moment, kept_of, more_deeds, none_polled, polled_acts, polled_of_turns, turns_counted, more_moments, more_waits, no_waits, rose_by_none, rose_more}
 use Rattle.client_loop.proofs.Rows.{event_behind, kept_more, leads_nowhere, leads_on, moment_behind, moments_and, plain_of, stops_on}
 
 -- an error is the same whatever else there might have been
@@ -224,21 +224,32 @@ module _ (request : Request) (old : Scene) where
 
   -- a number would pass 64 bits when the request is asked
   pub stops_first : (new : Scene) (event : Event) → event.what ≡ Ask request → row_step machine old.client.timeout event (client_of old) ≡ None
-      → IsGivenOn old.moments new.moments event.moment.0 → StopsForNumbers request old new
-  stops_first new event asks none moment = record {
+      → new.deeds ≡ old.deeds → new.polls ≡ old.polls → IsGivenOn old.moments new.moments event.moment.0 → StopsForNumbers request old new
+  stops_first new event asks none deeds polls moment = record {
     asking = event;
     later = [];
     asks = asks;
     stops = stops_on old.client.timeout (client_of old) (client_of old) [] event (leads_nowhere old.client.timeout (client_of old)) none;
     moments = first_moment event.moment.0 old.moments new.moments moment;
+    polled = [];
+    of_polls = refl;
+    polls = subst (λ (n : ℕ). RoseBy 0 old.polls n) (sym polls) (rose_by_none old.polls);
+    told = none_polled old.deeds new.deeds deeds;
   }
 
   -- or in a turn
-  pub stops_more : (mid new : Scene) (a : Asked request old mid) → mid.client.timeout ≡ old.client.timeout → StopsAt mid.words mid.client mid.moments new.moments → StopsForNumbers request old new
-  stops_more mid new a same s = record {
+  pub stops_more : (mid new : Scene) (a : Asked request old mid) → mid.client.timeout ≡ old.client.timeout → StopsAt mid.words mid.client mid.deeds new.deeds mid.moments new.moments → new.polls ≡ one_more mid.polls → StopsForNumbers request old new
+  stops_more mid new a same s counted = record {
     asking = a.asking.event;
     later = events_of (map (λ t. t.row) a.turns) ++ s.event ∷ [];
     asks = a.asks;
     stops = stops_on old.client.timeout (client_of old) (client_of mid) (rows_of a.asking a.turns) s.event a.leads (subst (λ (n : ℕ). row_step machine n s.event (client_of mid) ≡ None) same s.stops);
     moments = subst (λ (ms : List ℕ). AreGivenOn old.moments new.moments ms) (moments_and (rows_of a.asking a.turns) s.event) (more_moments (moments_of (rows_of a.asking a.turns)) s.event.moment.0 old.moments mid.moments new.moments a.moments s.moment);
+    polled = map (λ t. t.polled) a.turns ++ s.polled ∷ [];
+    of_polls = events_polled a.turns s.event s.polled a.polled s.of_poll;
+    polls = subst (λ (n : ℕ). RoseBy n old.polls new.polls) (turns_counted a.turns s.polled) (rose_more (length a.turns) old.polls mid.polls new.polls a.polls counted);
+    told =
+        subst (λ (ps : List (Option What)). ArePolledOn old.deeds new.deeds ps) (polled_of_turns (acts_on a.asking.outs) a.turns s.polled (polled_acts a.asking.outs))
+        (are_polled ((acts_on a.asking.outs ++ flat_map deeds_of a.turns) ++ Polled s.polled ∷ []) old.deeds new.deeds
+        (more_deeds (acts_on a.asking.outs ++ flat_map deeds_of a.turns) (Polled s.polled ∷ []) old.deeds mid.deeds new.deeds a.deeds s.deeds_are));
   }

@@ -5,12 +5,13 @@ use Rattle.client_request.specs.Request.{Request}
 use Rattle.client_request.specs.declared.error.Error.{Error}
 use Rattle.client_request.specs.declared.event.Event.{Event}
 use Rattle.client_request.specs.declared.event.Row.{Row}
+use Rattle.client_request.specs.declared.event.What.{What}
 use Rattle.client_request.specs.declared.event.What.TheVariants.{Ask}
 use Rattle.client_steps.specs.Client.{plain_rows}
 use Rattle.client_steps.specs.Whole.{Client, Whole, machine, client_with}
 use Rattle.client_core.specs.declared.deed.Deed.{Deed}
 use Rattle.client_loop.specs.Replies.{EndsWith, first_reply}
-use Rattle.client_loop.specs.Turns.{Turn, IsOfPoll, RoseBy, AreGivenOn, AreKept, Leads, acts_on, after_deeds, after_waits, deeds_of, events_of, moments_of}
+use Rattle.client_loop.specs.Turns.{Turn, IsOfPoll, RoseBy, AreGivenOn, ArePolledOn, AreKept, Leads, acts_on, after_deeds, after_waits, deeds_of, events_of, happened, moments_of}
 use Rattle.right_trace.specs.InOctets.{AllInOctets}
 use Rattle.right_trace.specs.Timely.{AllAskedInOctets}
 
@@ -72,10 +73,15 @@ pub record IsAnswered (number most : ℕ) (request : Request) (old new : Scene) 
   pub ends : Ends number most asked.asking asked.turns answer
   pub plain : plain_rows machine old.client.timeout (events_of (rows_of asked.asking asked.turns)) (client_of old) ≡ Some (rows_of asked.asking asked.turns)
 
--- A number would pass 64 bits: of the request's asking and some events behind it, at the moments that the clock gave, the plain client makes no rows.
+-- A number would pass 64 bits: of the request's asking and the events behind it, each of which is what the edge gave in one of its polls, at the moments
+-- that the clock gave, the plain client makes no rows.
 pub record StopsForNumbers (request : Request) (old new : Scene) : Type 0 where
   pub asking : Event
   pub later : List Event
   pub asks : asking.what ≡ Ask request
   pub stops : plain_rows machine old.client.timeout (asking ∷ later) (client_of old) ≡ None
   pub moments : AreGivenOn old.moments new.moments (map (λ event. event.moment.0) (asking ∷ later))
+  pub polled : List (Option What)
+  pub of_polls : map (λ event. event.what) later ≡ map happened polled
+  pub polls : RoseBy (length polled) old.polls new.polls
+  pub told : ArePolledOn old.deeds new.deeds polled

@@ -11,7 +11,7 @@ use Rattle.right_trace.specs.InOctets.{IsInOctets}
 use Rattle.client_steps.specs.Client.{plain_rows}
 use Rattle.client_steps.specs.Whole.{Client, Whole, machine, plain_step}
 use Rattle.client_core.specs.declared.deed.Deed.{Deed}
-use Rattle.client_core.specs.declared.deed.Deed.TheVariants.{Acted, Polled}
+use Rattle.client_core.specs.declared.deed.Deed.TheVariants.{Acted, Learned, Polled}
 use Rattle.client_core.specs.Waiting.{first_due, time_left}
 
 -- What happens in a turn is what the edge gave. Where it gave nothing, or a request, only time goes on.
@@ -63,6 +63,19 @@ AreGivenOn old None moments = Unit {0}
 AreGivenOn None (Some new) moments = ⊥
 AreGivenOn (Some old) (Some new) moments = new ≡ old ++ moments
 
+-- what an edge gave in the polls among these deeds, in order
+unfoldable pub polled_in : List Deed → List (Option What)
+polled_in [] = []
+polled_in (Learned server ∷ deeds) = polled_in deeds
+polled_in (Acted out ∷ deeds) = polled_in deeds
+polled_in (Polled what ∷ deeds) = what ∷ polled_in deeds
+
+-- Where an edge tells what was done with it, its polls since then gave these.
+abbrev pub ArePolledOn : (old new : Option (List Deed)) → List (Option What) → Type 0
+ArePolledOn old None polled = Unit {0}
+ArePolledOn None (Some new) polled = ⊥
+ArePolledOn (Some old) (Some new) polled = polled_in new ≡ polled_in old ++ polled
+
 abbrev pub events_of : List Row → List Event
 events_of rows = map (λ row. row.event) rows
 
@@ -85,8 +98,11 @@ abbrev pub AreKept : (timeout : ℕ) → (first : Client) → (before : List Row
 AreKept timeout first before [] = Unit {0}
 AreKept timeout first before (turn ∷ turns) = IsKept timeout first before turn.kept × AreKept timeout first (before ++ turn.row ∷ []) turns
 
--- A number would pass 64 bits at some event, at the moment that a clock gave.
-pub record StopsAt (words : ℕ → ℕ) (client : Whole) (old new : Option (List ℕ)) : Type 0 where
+-- A number would pass 64 bits at what an edge gave in a poll, the last that was done with it, at the moment that a clock gave.
+pub record StopsAt (words : ℕ → ℕ) (client : Whole) (deeds after : Option (List Deed)) (old new : Option (List ℕ)) : Type 0 where
+  pub polled : Option What
   pub event : Event
+  pub of_poll : event.what ≡ happened polled
   pub stops : plain_step words event client ≡ None
+  pub deeds_are : after ≡ after_deeds (Polled polled ∷ []) deeds
   pub moment : IsGivenOn old new event.moment.0

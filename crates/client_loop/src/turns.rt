@@ -51,6 +51,7 @@ pub(crate) fn take<E: Edge, W: Words>(
     ensures timeout { OnOk result (client.new.timeout ≡ client.old.timeout) }
     ensures lasts { OnOk result (client.new.failed ≡ false) }
     ensures numbers { NumbersRunOut result (plain_step (W.stream words.old) event client.old) }
+    ensures stands { IsErrOf result Error.NumbersUsed → E.deeds edge.new ≡ E.deeds edge.old }
     ensures refused { IfErr result IsRefusal }
     ensures failed { client.old.failed ≡ true → (result ≡ Err Error.Failed) × (client.new ≡ client.old) }
     ensures failed_only { IsErrOf result Error.Failed → client.old.failed ≡ true }
@@ -79,7 +80,8 @@ pub fn turn<E: Edge, C: Clock, W: Words>(
     ensures polls { OnOk result (E.polls edge.new ≡ one_more (E.polls edge.old)) }
     ensures timeout { OnOk result (client.new.timeout ≡ client.old.timeout) }
     ensures lasts { OnOk result (client.new.failed ≡ false) }
-    ensures numbers { IsErrOf result Error.NumbersUsed → StopsAt (W.stream words.old) client.old (C.given clock.old) (C.given clock.new) }
+    ensures numbers { IsErrOf result Error.NumbersUsed → StopsAt (W.stream words.old) client.old (E.deeds edge.old) (E.deeds edge.new) (C.given clock.old) (C.given clock.new) }
+    ensures counted { IsErrOf result Error.NumbersUsed → E.polls edge.new ≡ one_more (E.polls edge.old) }
     ensures refused { IfErr result IsRefusal }
     ensures failed_only { IsErrOf result Error.Failed → client.old.failed ≡ true }
 {

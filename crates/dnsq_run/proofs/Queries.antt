@@ -38,10 +38,16 @@ replied law q conf old new small client left request deeds waits later_waits pol
     }
 
 -- or a number would have passed 64 bits
-pub stopped : (q : Query) (conf : ResolvConf) (client left : Whole) (request : Request) (words words_left : ℕ → ℕ) (deeds deeds_left : Option (List Deed)) (waits waits_left : Option (List ℕ)) (polls polls_left : ℕ) (old new : Option (List ℕ))
-    → client ≡ started default_redundant default_cache conf → request ≡ request_of q → StopsForNumbers request (scene client words deeds waits polls old) (scene left words_left deeds_left waits_left polls_left new) → Stops q conf words old new
-stopped q conf client left request words words_left deeds deeds_left waits waits_left polls polls_left old new is asks s =
-    let same : scene client words deeds waits polls old ≡ scene (started default_redundant default_cache conf) words deeds waits polls old = ap (λ (c : Whole). scene c words deeds waits polls old) is in
-    let t : StopsForNumbers request (scene (started default_redundant default_cache conf) words deeds waits polls old) (scene left words_left deeds_left waits_left polls_left new) =
-    subst (λ (b : Scene). StopsForNumbers request b (scene left words_left deeds_left waits_left polls_left new)) same s in
-    record { asking = t.asking; later = t.later; asks = t.asks ∙ ap (λ (r : Request). Ask r) asks; stops = t.stops; moments = t.moments }
+pub stopped : (q : Query) (conf : ResolvConf) (old new : World) (client left : Whole) (request : Request) (deeds : Option (List Deed)) (waits later_waits : Option (List ℕ)) (polls : ℕ)
+    → client ≡ started default_redundant default_cache conf → request ≡ request_of q → deeds ≡ after_deeds (map (λ server. Learned server) conf.servers) old.deeds → polls ≡ old.polls
+    → StopsForNumbers request (scene client old.words deeds waits polls old.moments) (scene left new.words new.deeds later_waits new.polls new.moments) → Stops q conf old new
+stopped q conf old new client left request deeds waits later_waits polls is asks learned polled s =
+    let same : scene client old.words deeds waits polls old.moments ≡ begun conf old waits = cc in
+    record {
+      left = left;
+      waits = waits;
+      later_waits = later_waits;
+      stopped =
+          subst (λ (r : Request). StopsForNumbers r (begun conf old waits) (scene left new.words new.deeds later_waits new.polls new.moments)) asks
+          (subst (λ (b : Scene). StopsForNumbers request b (scene left new.words new.deeds later_waits new.polls new.moments)) same s);
+    }

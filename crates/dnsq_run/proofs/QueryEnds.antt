@@ -59,14 +59,14 @@ module _ (q : Query) (told left : Option (List ℕ)) (old new : World) (held aft
     whole = λ ends. whole;
   }
 
-  due : (n : ℕ) (line : List ℕ) → (n ≡ 1) ⊎ (n ≡ 7) → (n ≡ 1 → IfSome told (λ text. IsRefused Conf text line)) → (n ≡ 7 → StopsAsking q told old.words old.moments new.moments)
+  due : (n : ℕ) (line : List ℕ) → (n ≡ 1) ⊎ (n ≡ 7) → (n ≡ 1 → IfSome told (λ text. IsRefused Conf text line)) → (n ≡ 7 → StopsAsking q told old new)
       → (n ≡ 7 → line ≡ numbers_line) → IsDue q told old new line
   due n line (inl one) refused numbers says = is_refusal (refused one)
   due n line (inr seven) refused numbers says = stops (numbers seven) (says seven)
 
   -- a line told why there is no answer
   pub line_ends : (status ended : Status) (line : List ℕ) → (status.0 ≡ 1) ⊎ (status.0 ≡ 7) → (ended ≡ status) ⊎ (ended.0 ≡ 6)
-      → (status.0 ≡ 1 → IfSome told (λ text. IsRefused Conf text line)) → (status.0 ≡ 7 → StopsAsking q told old.words old.moments new.moments) → (status.0 ≡ 7 → line ≡ numbers_line)
+      → (status.0 ≡ 1 → IfSome told (λ text. IsRefused Conf text line)) → (status.0 ≡ 7 → StopsAsking q told old new) → (status.0 ≡ 7 → line ≡ numbers_line)
       → IsBegun line held after → (ended.0 ≢ 6 → IsSaid line held after faults faults_after) → EndsSo q ended.0 told left old new held after faults faults_after
   line_ends status ended line early (inr six) refused numbers says begun said = record {
     done = λ zero. absurd (omega arith);

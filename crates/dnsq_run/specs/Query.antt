@@ -9,11 +9,11 @@ use Rattle.client_request.specs.declared.event.Out.TheVariants.{Reply}
 use Rattle.client_request.specs.declared.event.What.TheVariants.{Ask}
 use Rattle.client_settings.specs.Settings.{default_cache, default_redundant}
 use Rattle.client_steps.specs.Headline.{conf_of, settings_of}
-use Rattle.client_steps.specs.Whole.{Whole, plain_trace, started}
+use Rattle.client_steps.specs.Whole.{Whole, started}
 use Rattle.client_core.specs.declared.deed.Deed.{Deed}
 use Rattle.client_core.specs.declared.deed.Deed.TheVariants.{Learned}
-use Rattle.client_loop.specs.Asking.{IsAnswered, Scene, rows_of, scene}
-use Rattle.client_loop.specs.Turns.{AreGivenOn, after_deeds, events_of}
+use Rattle.client_loop.specs.Asking.{IsAnswered, Scene, StopsForNumbers, rows_of, scene}
+use Rattle.client_loop.specs.Turns.{after_deeds, events_of}
 use Rattle.dns_script.specs.Lines.{line, out_words}
 use Rattle.right_trace.specs.Right.{Right}
 use Rattle.right_trace.specs.Timely.{Timely}
@@ -79,18 +79,18 @@ pub record IsAsked (q : Query) (told : Option (List ℕ)) (old new : World) (ans
   pub is_conf : IsConfOf q told conf
   pub replied : IsReplied q conf old new answer
 
--- A number would pass 64 bits: of the request and of some events behind it, at the moments that the clock gave, the plain client makes no rows.
-pub record Stops (q : Query) (conf : ResolvConf) (words : ℕ → ℕ) (old new : Option (List ℕ)) : Type 0 where
-  pub asking : Event
-  pub later : List Event
-  pub asks : asking.what ≡ Ask (request_of q)
-  pub stops : plain_trace default_redundant default_cache conf words (asking ∷ later) ≡ None
-  pub moments : AreGivenOn old new (map (λ event. event.moment.0) (asking ∷ later))
+-- The edge learned the servers in order, and then a new client of them was asked the request, and a number would pass 64 bits at it or at what the edge gave in
+-- one of its polls.
+pub record Stops (q : Query) (conf : ResolvConf) (old new : World) : Type 0 where
+  pub left : Whole
+  pub waits : Option (List ℕ)
+  pub later_waits : Option (List ℕ)
+  pub stopped : StopsForNumbers (request_of q) (begun conf old waits) (scene left new.words new.deeds later_waits new.polls new.moments)
 
-pub record StopsAsking (q : Query) (told : Option (List ℕ)) (words : ℕ → ℕ) (old new : Option (List ℕ)) : Type 0 where
+pub record StopsAsking (q : Query) (told : Option (List ℕ)) (old new : World) : Type 0 where
   pub conf : ResolvConf
   pub is_conf : IsConfOf q told conf
-  pub stopped : Stops q conf words old new
+  pub stopped : Stops q conf old new
 
 -- what is written for an answer: the line of the reply, or that there is none
 abbrev pub answer_line : Option (Result (List ℕ) Error) → List ℕ
@@ -114,7 +114,7 @@ pub record IsTold (q : Query) (told : Option (List ℕ)) (old new : World) (mess
 pub data IsDue (q : Query) (told : Option (List ℕ)) (old new : World) (line : List ℕ) : Type 0 where
   is_answer : (answer : Option (Result (List ℕ) Error)) → IsAsked q told old new answer → line ≡ answer_line answer → IsDue q told old new line
   is_refusal : IfSome told (λ text. IsRefused Conf text line) → IsDue q told old new line
-  stops : StopsAsking q told old.words old.moments new.moments → line ≡ numbers_line → IsDue q told old new line
+  stops : StopsAsking q told old new → line ≡ numbers_line → IsDue q told old new line
 
 -- What a query ends with, by its status: what is left to read, what the sink holds, and its count of faults.
 pub record EndsSo (q : Query) (status : ℕ) (told left : Option (List ℕ)) (old new : World) (held after : Option (List ℕ)) (faults faults_after : ℕ) : Type 0 where
@@ -124,7 +124,7 @@ pub record EndsSo (q : Query) (status : ℕ) (told left : Option (List ℕ)) (ol
   pub cut : status ≡ 4 → IsTold q told old new true (λ line. IsBegun line held after)
   pub no_reply : status ≡ 5 → IsTold q told old new false (λ line. IsSaid line held after faults faults_after)
   pub memory : status ≡ 6 → (after ≡ held) ⊎ ((line : List ℕ) × IsDue q told old new line × IsBegun line held after)
-  pub numbers : status ≡ 7 → StopsAsking q told old.words old.moments new.moments
+  pub numbers : status ≡ 7 → StopsAsking q told old new
   pub whole : (status ≡ 0) ⊎ (status ≡ 5) → IfSome told (λ _. left ≡ Some [])
 
 -- What holds before and after a run, by what an edge, a clock, words, a source and a sink tell.

@@ -86,7 +86,7 @@ fn answer<E: Edge, C: Clock, W: Words>(
     random: &mut W,
 ) -> Result<Answer, Error>
     ensures asked { IfOk result (around E.deeds E.polls C.given W.stream (edge.old, clock.old, random.old) (edge.new, clock.new, random.new) (IsReplied query.now conf.now)) }
-    ensures numbers { IsErrOf result Error.NumbersUsed → Stops query.now conf.now (W.stream random.old) (C.given clock.old) (C.given clock.new) }
+    ensures numbers { IsErrOf result Error.NumbersUsed → around E.deeds E.polls C.given W.stream (edge.old, clock.old, random.old) (edge.new, clock.new, random.new) (Stops query.now conf.now) }
 {
     learn_all(edge, conf.servers.as_slice())?;
     let mut client = Client::new(alloc, conf, redundant::Config::new(), cache::Config::new())?;
@@ -114,7 +114,7 @@ pub fn query<S: Source, E: Edge, C: Clock, W: Words>(
     ensures early { IfErr result IsEarly }
     ensures source_fault { IfErr result (λ e. status_of e ≡ 3 → Rose (S.faults source.old) (S.faults source.new)) }
     ensures refused { IfErr result (λ e. status_of e ≡ 1 → IfSome (S.left source.old) (λ text. IsRefused Command.Conf text (line_of e))) }
-    ensures numbers { IfErr result (λ e. status_of e ≡ 7 → StopsAsking query.now (S.left source.old) (W.stream random.old) (C.given clock.old) (C.given clock.new)) }
+    ensures numbers { IfErr result (λ e. status_of e ≡ 7 → around E.deeds E.polls C.given W.stream (edge.old, clock.old, random.old) (edge.new, clock.new, random.new) (StopsAsking query.now (S.left source.old))) }
     ensures numbers_line { IfErr result (λ e. status_of e ≡ 7 → line_of e ≡ numbers_line) }
 {
     let read = configuration(alloc, source)?;

@@ -29,7 +29,7 @@ returns-in-Err-clause-numbers g c = λ is.
     (scene c.args.client.now (g.W.Words.stream c.args.words.now) (g.E.Edge.deeds c.args.edge.now) (g.E.Edge.waits c.args.edge.now) (g.E.Edge.polls c.args.edge.now) (g.C.Clock.given c.args.clock.now))
     (scene c.loop-left.client (g.W.Words.stream c.loop-left.words) (g.E.Edge.deeds c.loop-left.edge) (g.E.Edge.waits c.loop-left.edge) (g.E.Edge.polls c.loop-left.edge) (g.C.Clock.given c.loop-left.clock))
     (scene c.turn.new.client (g.W.Words.stream c.turn.new.words) (g.E.Edge.deeds c.turn.new.edge) (g.E.Edge.waits c.turn.new.edge) (g.E.Edge.polls c.turn.new.edge) (g.C.Clock.given c.turn.new.clock))
-    c.loop-left.invariant.waits.asked c.loop-left.invariant.timeout (c.in-Err.ensures.numbers (same_error _ _ is))
+    c.loop-left.invariant.waits.asked c.loop-left.invariant.timeout (c.in-Err.ensures.numbers (same_error _ _ is)) (c.in-Err.ensures.counted (same_error _ _ is))
 
 pub returns-in-Some-reply_in-clause-answered : goal.returns-in-Some-reply_in-clause-answered
 returns-in-Some-reply_in-clause-answered g c =

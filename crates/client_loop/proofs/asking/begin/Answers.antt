@@ -16,4 +16,4 @@ returns-clause-numbers g c = λ is.
     stops_first c.args.request
     (scene c.args.client.now (g.W.Words.stream c.args.words.now) (g.E.Edge.deeds c.args.edge.now) (g.E.Edge.waits c.args.edge.now) (g.E.Edge.polls c.args.edge.now) (g.C.Clock.given c.args.clock.now))
     (scene c.take.new.client (g.W.Words.stream c.take.new.words) (g.E.Edge.deeds c.take.new.edge) (g.E.Edge.waits c.take.new.edge) (g.E.Edge.polls c.take.new.edge) (g.C.Clock.given c.now.new.self))
-    (record { moment = c.now.result; what = Ask c.args.request }) refl (c.take.ensures.numbers is) c.now.ensures.given
+    (record { moment = c.now.result; what = Ask c.args.request }) refl (c.take.ensures.numbers is) (c.take.ensures.stands is) c.take.ensures.polls c.now.ensures.given

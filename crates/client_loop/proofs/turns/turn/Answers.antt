@@ -11,3 +11,15 @@ returns-clause-turn g c =
     turned c.args.client.now (g.W.Words.stream c.args.words.now) (client_with (g.W.Words.stream c.take.new.words) c.take.new.client)
     (record { moment = c.now.result; what = c.happened.result }) c.in_ok-polled.polled _ _ _ c.take.result c.in_octets.ensures c.happened.ensures
     (c.in_ok-polled.ensures.deeds ∙ ap (λ (ds : Option (List Deed)). after_deed (Polled c.in_ok-polled.polled) ds) c.wait.ensures.deeds) c.take.ensures.row c.take.ensures.deeds
+
+pub returns-clause-numbers : goal.returns-clause-numbers
+returns-clause-numbers g c = λ is. record {
+  polled = c.in_ok-polled.polled;
+  event = record { moment = c.now.result; what = c.happened.result };
+  of_poll = c.happened.ensures;
+  stops = c.take.ensures.numbers is;
+  deeds_are =
+      c.take.ensures.stands is
+      ∙ c.in_ok-polled.ensures.deeds ∙ ap (λ (ds : Option (List Deed)). after_deed (Polled c.in_ok-polled.polled) ds) c.wait.ensures.deeds;
+  moment = c.now.ensures.given;
+}
