@@ -3,7 +3,7 @@
 usage: python3 tests/documented.py
 
 The names of events, outs, faults, errors and settings stand in definitions as `codes "NAME"`, the exit statuses in
-crates/dnsq_run/src/statuses.rt; each must stand in the tables of the documents, and no other.
+crates/command_parts/src/statuses.rt; each must stand in the tables of the documents, and no other.
 """
 
 import pathlib
@@ -46,7 +46,7 @@ def main():
     faults += compared("error", errors, real)
     readme = (TOP / "README.md").read_text(encoding="utf-8")
     told = set(re.findall(r"^\| (\d) \|", readme, re.M))
-    code = (TOP / "crates/dnsq_run/src/statuses.rt").read_text(encoding="utf-8")
+    code = (TOP / "crates/command_parts/src/statuses.rt").read_text(encoding="utf-8")
     have = set(re.findall(r"Status\((\d)\)", code)) | {"0"}
     faults += [f"README.md: the status {it} is not in both the document and the code" for it in sorted(told ^ have)]
     commands = set(re.findall(r"^\| `(\w+)[^`]*` \|", readme.split("## dnsq", 1)[1].split("##", 1)[0], re.M))

@@ -9,8 +9,9 @@ use Rattle.std.specs.declared.alloc.Global.{Global}
 use Rattle.dns_values.specs.Sink.{with_octets}
 use Rattle.dns_values.specs.declared.numbers.Status.{Status}
 use Rattle.dns_script.specs.Generated.{generated}
-use Rattle.dnsq_run.specs.Generating.{IsDueFor, IsSummary, SummarizesSo, count_in, count_of, is_summary, stops}
-use Rattle.dnsq_run.specs.Program.{IsBegun, numbers_line, rows_of}
+use Rattle.dnsq_run.specs.Generating.{IsSummary, SummarizesSo, count_in, count_of, is_summary, stops}
+use Rattle.command_parts.specs.Ends.{IsBegun}
+use Rattle.dnsq_run.specs.Program.{numbers_line, rows_of}
 use Rattle.dnsq_run.specs.QueryWords.{asked, nothing_said, query_of, said_by}
 use Rattle.dnsq_run.specs.Words.{is_word}
 use Rattle.dnsq_run.specs.declared.query_words.Query.{Query}

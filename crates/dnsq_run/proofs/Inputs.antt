@@ -12,7 +12,8 @@ use Rattle.resolv_conf.specs.declared.conf.ResolvConf.{ResolvConf}
 use Rattle.resolv_conf.specs.declared.error.Error.{Error}
 use Rattle.resolv_conf.specs.declared.error.Error.TheVariants as errors
 use Rattle.resolv_conf.specs.declared.error.IoFault.TheVariants as faults
-use Rattle.dnsq_run.specs.Program.{IsOutput, IsRefused, IsReplayed, IsTaken, RefusesConfLine, RefusesLineOf, StopsForNumbers, has_bad_line, is_too_long, no_conf, not_utf8, outside_the_grammar, rows_of}
+use Rattle.command_parts.specs.Conf.{RefusesConfLine, has_bad_line, is_too_long, no_conf, not_utf8, outside_the_grammar}
+use Rattle.dnsq_run.specs.Program.{IsOutput, IsRefused, IsReplayed, IsTaken, RefusesLineOf, StopsForNumbers, rows_of}
 use Rattle.dnsq_run.specs.declared.usage.Command.{Command}
 use Rattle.dnsq_run.specs.declared.usage.Command.TheVariants.{Replay, Conf}
 

@@ -1,8 +1,7 @@
 -- What is asked and answered.
-use Rattle.std.proofs.Common.{◌≡◌, ℕ, ◌≤◌, List, map, Option, Result, ap, subst, ◌∙◌, arith}
+use Rattle.std.proofs.Common.{◌≡◌, ℕ, ◌≤◌, List, map, Option, Result, subst, arith}
 use Rattle.client_request.specs.Request.{Request}
 use Rattle.client_request.specs.declared.error.Error.{Error}
-use Rattle.client_request.specs.declared.event.What.TheVariants.{Ask}
 use Rattle.proof_client.specs.Above.{AreWords}
 use Rattle.proof_client.specs.Ties.{EveryPlainTraceIsRight}
 use Rattle.client_settings.specs.Settings.{default_cache, default_redundant, seconds}

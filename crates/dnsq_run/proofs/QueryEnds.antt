@@ -4,7 +4,9 @@ use Rattle.std.specs.Prelude.{IfSome}
 use Rattle.client_request.specs.declared.error.Error.{Error}
 use Rattle.dns_values.specs.Sink.{with_octets}
 use Rattle.dns_values.specs.declared.numbers.Status.{Status}
-use Rattle.dnsq_run.specs.Program.{Configures, EndsByLine, IsBegun, IsRefused, IsSaid, RefusalIsSaid, numbers_line}
+use Rattle.command_parts.specs.Conf.{Configures}
+use Rattle.command_parts.specs.Ends.{IsBegun, IsSaid}
+use Rattle.dnsq_run.specs.Program.{EndsByLine, IsRefused, RefusalIsSaid, numbers_line}
 use Rattle.dnsq_run.specs.Query.{EndsSo, IsAsked, IsDue, StopsAsking, World, answer_line, is_answer, is_message, is_refusal, stops}
 use Rattle.dnsq_run.specs.declared.query_words.Query.{Query}
 use Rattle.dnsq_run.specs.declared.usage.Command.TheVariants.{Conf}

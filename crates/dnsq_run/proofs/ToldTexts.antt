@@ -1,13 +1,10 @@
 -- The text of a trace, row by row.
-use Rattle.std.proofs.Common.{◌≡◌, ℕ, Bool, true, false, ◌||◌, List, [], ◌∷◌, ◌++◌, Option, Some, None, refl, ap, sym, subst, ◌∙◌, append_assoc, append-nil}
+use Rattle.std.proofs.Common.{◌≡◌, ℕ, Bool, true, false, ◌||◌, List, [], ◌∷◌, ◌++◌, Option, Some, None, refl, ap, sym, ◌∙◌, append_assoc, append-nil}
 use Rattle.std.specs.List.{flat_map}
 use Rattle.std.specs.Prelude.{option_map, option_and_then}
 use Rattle.client_request.specs.declared.event.Event.{Event}
 use Rattle.client_request.specs.declared.event.Row.{Row}
 use Rattle.client_steps.specs.Client.{Client, Machine, plain_rows, row_step, then_rows}
-use Rattle.client_steps.specs.Headline.{conf_of, settings_of}
-use Rattle.client_cache.specs.Plain.{room_of}
-use Rattle.client_request.specs.Composed.{composed}
 use Rattle.client_request.specs.Words.{listed}
 use Rattle.proof_client.specs.Ties.{AreHandedIn, EveryPlainTraceHits, EveryPlainTraceIsRight, EveryPlainTraceServesStale}
 use Rattle.dns_script.specs.TraceText.{IsOfFirst, behind_first, first_line, has_stale, have_stale, last_line, row_text, trace_text_of}

@@ -15,7 +15,8 @@ use Rattle.right_trace.specs.Timely.{Timely}
 use Rattle.dns_script.specs.Generated.{generated, generated_conf}
 use Rattle.dns_script.specs.Reading.{number_of}
 use Rattle.dns_script.specs.Summary.{summary_text_of}
-use Rattle.dnsq_run.specs.Program.{IsBegun, numbers_line, rows_of}
+use Rattle.command_parts.specs.Ends.{IsBegun}
+use Rattle.dnsq_run.specs.Program.{numbers_line, rows_of}
 use Rattle.dnsq_run.specs.Words.{is_word}
 
 -- a count is not 0

@@ -1,8 +1,6 @@
 -- What the program writes for an input.
-use Rattle.std.specs.Prelude.{◌≡◌, ◌⊎◌, ◌<◌, ◌≤◌, ℕ, List, [], ◌∷◌, ◌++◌, length, take, Option, Some, None, IfSome, Ok, Err, false, codes}
-use Rattle.std.specs.Fmt.{decimal}
+use Rattle.std.specs.Prelude.{◌≡◌, ◌⊎◌, ◌<◌, ◌≤◌, ℕ, List, [], ◌∷◌, length, Option, Some, None, IfSome, Ok, false, codes}
 use Rattle.dns_values.specs.Sink.{with_octets}
-use Rattle.dns_values.specs.Source.{Rose}
 use Rattle.client_request.specs.Words.{listed}
 use Rattle.client_request.specs.declared.event.Event.{Event}
 use Rattle.client_request.specs.declared.event.Row.{Row}
@@ -17,18 +15,15 @@ use Rattle.right_trace.specs.Timely.{Timely}
 use Rattle.dns_script.specs.ScriptReading.{IsScript, RefusesLine}
 use Rattle.dns_script.specs.TraceText.{trace_text_of}
 use Rattle.dns_script.specs.declared.script.Script.{Script}
-use Rattle.resolv_conf.specs.Conf.{default_options}
 use Rattle.resolv_conf.specs.Final.{finalized}
 use Rattle.resolv_conf.specs.Parse.{ParseAnswers}
 use Rattle.resolv_conf.specs.Show.{conf_text}
 use Rattle.resolv_conf.specs.declared.conf.ResolvConf.{ResolvConf}
-use Rattle.resolv_conf.specs.declared.error.Error.TheVariants as conf_errors
-use Rattle.resolv_conf.specs.declared.error.IoFault.TheVariants as io_faults
+use Rattle.command_parts.specs.Conf.{IsRefusedFor, RefusesConfLine, no_conf}
+use Rattle.command_parts.specs.Ends.{IsBegun, IsSaid}
 use Rattle.dnsq_run.specs.declared.query_words.Query.{Query}
 use Rattle.dnsq_run.specs.declared.usage.Command.{Command}
 use Rattle.dnsq_run.specs.declared.usage.Command.TheVariants.{Replay, Conf}
-use Rattle.dnsq_run.specs.declared.ending.Ending.{Ending}
-use Rattle.dnsq_run.specs.declared.ending.Ending.TheVariants.{Says, Silent}
 
 -- the events of the first lane
 abbrev pub first_lane : List (List Event) → List Event
@@ -56,16 +51,6 @@ pub record IsReplayed (text out : List ℕ) : Type 0 where
   pub is_script : IsScript false text script
   pub told : IsTold script out
 
--- before the first line of a configuration
-abbrev pub no_conf : ResolvConf
-no_conf = record { servers = []; options = default_options }
-
--- The text is a configuration, and this is what it says, finalized.
-pub record Configures (text : List ℕ) (final : ResolvConf) : Type 0 where
-  pub conf : ResolvConf
-  pub parses : ParseAnswers text no_conf (Ok tt) conf
-  pub final_is : final ≡ finalized conf
-
 -- The text is a configuration, and these octets are the printing of what it says, finalized.
 pub record IsConfigured (text out : List ℕ) : Type 0 where
   pub conf : ResolvConf
@@ -87,19 +72,13 @@ pub record IsTaken (command : Command) (text : List ℕ) : Type 0 where
   pub reads : IsInput command text
   pub fits : length text ≤ 16777216
 
--- Line n of a configuration is the first that is outside the grammar, or isn't UTF-8.
-pub data RefusesConfLine (text : List ℕ) (n : ℕ) : Type 0 where
-  outside_the_grammar : (conf : ResolvConf) → ParseAnswers text no_conf (Err (conf_errors.ParseError n)) conf → RefusesConfLine text n
-  not_utf8 : (conf : ResolvConf) → ParseAnswers text no_conf (Err (conf_errors.Io (io_faults.NotUtf8 n))) conf → RefusesConfLine text n
-
 abbrev pub RefusesLineOf : Command → (text : List ℕ) → ℕ → Type 0
 RefusesLineOf Replay text n = RefusesLine false text n
 RefusesLineOf Conf text n = RefusesConfLine text n
 
 -- The text is not taken, and this line says why.
-pub data IsRefused (command : Command) (text : List ℕ) (line : List ℕ) : Type 0 where
-  is_too_long : 16777216 < length text → line ≡ codes "input too long\n" → IsRefused command text line
-  has_bad_line : (n : ℕ) → length text ≤ 16777216 → RefusesLineOf command text n → line ≡ codes "line " ++ decimal n ++ codes " refused\n" → IsRefused command text line
+abbrev pub IsRefused : Command → (text line : List ℕ) → Type 0
+IsRefused command text line = IsRefusedFor (RefusesLineOf command text) text line
 
 -- The text is a script, not too long, in whose replay a number would pass 64 bits.
 pub record StopsForNumbers (command : Command) (text : List ℕ) : Type 0 where
@@ -114,16 +93,6 @@ pub record IsDelivered (command : Command) (text : List ℕ) (before after : Opt
   pub out : List ℕ
   pub output : IsOutput command text out
   pub written : after ≡ with_octets out before
-
--- These octets are written, or the first of them.
-pub record IsBegun (line : List ℕ) (before after : Option (List ℕ)) : Type 0 where
-  pub count : ℕ
-  pub written : after ≡ with_octets (take count line) before
-
--- This line is written whole, or the first of it, and then the sink's count of faults rose.
-pub record IsSaid (line : List ℕ) (before after : Option (List ℕ)) (faults faults_after : ℕ) : Type 0 where
-  pub begun : IsBegun line before after
-  pub whole_or_fault : (after ≡ with_octets line before) ⊎ Rose faults faults_after
 
 -- This line says why the text is refused, and it is written whole, or the first of it, and then the sink's count of faults rose.
 pub record RefusalIsSaid (command : Command) (text : List ℕ) (before after : Option (List ℕ)) (faults faults_after : ℕ) : Type 0 where
@@ -171,20 +140,6 @@ IfInput asked told P = IfSome asked (λ command. IfSome told (P command))
 abbrev pub EndsByLine : ℕ → Type 0
 EndsByLine n = (n ≡ 1) ⊎ ((n ≡ 2) ⊎ ((n ≡ 5) ⊎ (n ≡ 7)))
 
--- the status and the line of an ending
-abbrev pub status_of : Ending → ℕ
-status_of (Says status line) = status.0
-status_of (Silent status) = status.0
-
-abbrev pub line_of : Ending → List ℕ
-line_of (Says status line) = line.items
-line_of (Silent status) = []
-
 -- a status is at most 7
 abbrev pub IsStatus : ℕ → Type 0
 IsStatus n = n < 8
-
--- a line is told at a refusal and where numbers are used up; nothing is at a fault of the source and at want of memory
-abbrev pub IsEarly : Ending → Type 0
-IsEarly (Says status line) = (status.0 ≡ 1) ⊎ (status.0 ≡ 7)
-IsEarly (Silent status) = (status.0 ≡ 3) ⊎ (status.0 ≡ 6)

@@ -1,39 +1,29 @@
 -- What a query asks, and what comes of it.
-use Rattle.std.specs.Prelude.{◌≡◌, ◌≢◌, ◌⊎◌, ℕ, Bool, true, false, List, [], ◌∷◌, map, Option, None, Some, Result, Ok, Err, IfSome, codes, String}
+use Rattle.std.specs.Prelude.{◌≡◌, ◌≢◌, ◌⊎◌, ℕ, Bool, true, false, List, [], map, Option, None, Some, Result, Ok, Err, IfSome, codes, String}
 use Rattle.std.specs.declared.alloc.Global.{Global}
 use Rattle.dns_base.specs.Query.{query_octets}
 use Rattle.client_request.specs.Request.{Request, recorded_from}
 use Rattle.client_request.specs.declared.error.Error.{Error}
-use Rattle.client_request.specs.declared.event.Event.{Event}
 use Rattle.client_request.specs.declared.event.Out.TheVariants.{Reply}
-use Rattle.client_request.specs.declared.event.What.TheVariants.{Ask}
 use Rattle.client_settings.specs.Settings.{default_cache, default_redundant}
 use Rattle.client_steps.specs.Headline.{conf_of, settings_of}
 use Rattle.client_steps.specs.Whole.{Whole, started}
 use Rattle.client_core.specs.declared.deed.Deed.{Deed}
 use Rattle.client_core.specs.declared.deed.Deed.TheVariants.{Learned}
 use Rattle.client_loop.specs.Asking.{IsAnswered, Scene, StopsForNumbers, rows_of, scene}
-use Rattle.client_loop.specs.Turns.{after_deeds, events_of}
+use Rattle.client_loop.specs.Turns.{after_deeds}
 use Rattle.dns_script.specs.Lines.{line, out_words}
 use Rattle.right_trace.specs.Right.{Right}
 use Rattle.right_trace.specs.Timely.{Timely}
 use Rattle.resolv_conf.specs.declared.conf.ResolvConf.{ResolvConf}
-use Rattle.resolv_conf.specs.declared.server.ServerConf.{ServerConf}
 use Rattle.dns_values.specs.Sink.{with_octets}
-use Rattle.dnsq_run.specs.Program.{Configures, IsBegun, IsRefused, IsSaid, RefusalIsSaid, numbers_line}
+use Rattle.command_parts.specs.Conf.{Configures, conf_at}
+use Rattle.command_parts.specs.Ends.{IsBegun, IsSaid}
+use Rattle.dnsq_run.specs.Program.{IsRefused, RefusalIsSaid, numbers_line}
 use Rattle.dnsq_run.specs.declared.usage.Command.TheVariants.{Conf}
 use Rattle.dnsq_run.specs.QueryWords.{query_of}
 use Rattle.dnsq_run.specs.Words.{command_of}
 use Rattle.dnsq_run.specs.declared.query_words.Query.{Query}
-
--- a server at another port
-abbrev pub at_port : ℕ → ServerConf → ServerConf
-at_port port server = record server { addr = record server.addr { port = port } }
-
--- the configuration that is asked: each server at the query's port, where it has one
-abbrev pub conf_at : Option ℕ → ResolvConf → ResolvConf
-conf_at None conf = conf
-conf_at (Some port) conf = record conf { servers = map (at_port port) conf.servers }
 
 -- the request: its one question, of class IN, recursion desired
 abbrev pub request_of : Query → Request

@@ -3,12 +3,13 @@
 ghost use Rattle.std.specs.Prelude.{◌≡◌, ◌⊎◌, ◌≤◌, None, IfOk, IfErr, IfSome};
 ghost use Rattle.dns_script.specs.Generated.{generated};
 ghost use Rattle.dnsq_run.specs.Generating.{IsSummary, count_of};
-ghost use Rattle.dnsq_run.specs.Program.{IsEarly, line_of, numbers_line, rows_of, status_of};
+ghost use Rattle.command_parts.specs.Ends.{IsEarly, line_of, status_of};
+ghost use Rattle.dnsq_run.specs.Program.{numbers_line, rows_of};
 ghost use Rattle.dnsq_run.specs.QueryWords.{query_of};
 
-use crate::ending::Ending;
 use crate::number::number_of;
 use crate::replay::trace_of;
+use command_parts::Ending;
 use dns_script::{generate, summary_text};
 use std::alloc::Global;
 

@@ -12,7 +12,6 @@
 #![tactic(auto)]
 
 mod configure;
-mod ending;
 mod generating;
 mod laws;
 mod lines;
@@ -22,7 +21,6 @@ mod query_words;
 mod replay;
 mod run;
 mod short_words;
-mod statuses;
 mod telling;
 mod usage;
 

@@ -2,11 +2,11 @@
 
 ghost use Rattle.std.specs.Prelude.{◌≡◌, ◌≢◌, ◌≤◌, [], length, map, Some, IfSome, OnOk, IfOk, IfErr, IsErrOf};
 ghost use Rattle.dns_values.specs.Source.{Rose};
-ghost use Rattle.dnsq_run.specs.Program.{IsEarly, IsRefused, status_of, line_of, numbers_line};
-ghost use Rattle.dnsq_run.specs.Query.{IsAsked, IsReplied, Stops, StopsAsking, answer_line, at_port, conf_at, is_message, request_of, around};
+ghost use Rattle.command_parts.specs.Ends.{IsEarly, status_of, line_of};
+ghost use Rattle.dnsq_run.specs.Program.{IsRefused, numbers_line};
+ghost use Rattle.command_parts.specs.Conf.{at_port, conf_at};
+ghost use Rattle.dnsq_run.specs.Query.{IsAsked, IsReplied, Stops, StopsAsking, answer_line, is_message, request_of, around};
 
-use crate::configure::configuration;
-use crate::ending::Ending;
 use crate::lines::refusal;
 use crate::query_words::Query;
 use crate::usage::Command;
@@ -14,39 +14,15 @@ use client_core::{Client, Clock, Edge, cache, redundant};
 use client_loop::{ask, learn_all};
 use client_replay::every_plain_trace_is_right;
 use client_request::{Error, RequestMessage, Words};
+use command_parts::{Ending, conf_at, configuration};
 use dns_base::{Message, NoMemory};
 use dns_script::push_reply;
 use dns_values::Source;
-use resolv_conf::{ResolvConf, Servers};
+use resolv_conf::ResolvConf;
 use std::alloc::Global;
 
 /// What the servers answer: a message or an error; none where a million turns passed without either.
 pub type Answer = Option<Result<Message, Error>>;
-
-/// The servers at this port in place of their own.
-fn at_port(servers: Servers, port: u16) -> Servers
-    ensures { result ≡ map (at_port port) servers }
-{
-    let mut items = servers.into_vec();
-    for server in items.iter_mut() {
-        server.addr.port = port;
-    }
-    Servers::from_vec(items)
-}
-
-/// The configuration that is asked.
-fn conf_at(port: Option<u16>, conf: ResolvConf) -> ResolvConf
-    ensures { result ≡ conf_at port conf }
-{
-    let Some(port) = port else {
-        return conf;
-    };
-    let ResolvConf { servers, options } = conf;
-    ResolvConf {
-        servers: at_port(servers, port),
-        options,
-    }
-}
 
 /// What is written for an answer: the line of the reply, or that there is none.
 pub fn answer_line(alloc: Global, answer: Answer) -> Result<Vec<u8>, NoMemory>

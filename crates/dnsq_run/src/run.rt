@@ -4,62 +4,26 @@ ghost use Rattle.std.specs.Prelude.{◌≡◌, ◌≢◌, ◌≤◌, ◌⊎◌, 
 ghost use Rattle.dns_values.specs.Source.{Rose};
 ghost use Rattle.dns_values.specs.Sink.{IsFlushed, with_octets};
 ghost use Rattle.dnsq_run.specs.Generating.{SummarizesSo, count_of};
-ghost use Rattle.dnsq_run.specs.Program.{EndsByLine, IfInput, IsOutput, IsRefused, IsTaken, RanOut, RefusalIsSaid, StopsForNumbers, IsDelivered, IsBegun, IsSaid, IsCut, IsStatus, IsEarly, status_of, line_of, numbers_line, usage_line};
+ghost use Rattle.command_parts.specs.Ends.{IsBegun, IsSaid, IsEarly, status_of, line_of};
+ghost use Rattle.dnsq_run.specs.Program.{EndsByLine, IfInput, IsOutput, IsRefused, IsTaken, RanOut, RefusalIsSaid, StopsForNumbers, IsDelivered, IsCut, IsStatus, numbers_line, usage_line};
 ghost use Rattle.dnsq_run.specs.Query.{EndsSo, OtherEnd, QueryEnd, answer_line, is_message, on};
 ghost use Rattle.dnsq_run.specs.QueryWords.{query_of};
 ghost use Rattle.dnsq_run.specs.Words.{command_of};
 
 use crate::configure::configure;
-use crate::ending::Ending;
 use crate::generating::{count_of, summary};
 use crate::laws::input_laws;
 use crate::query::{Answer, answer_line, is_message, query};
 use crate::query_words::{Query, query_of};
 use crate::replay::replay;
-use crate::statuses::{DONE, NO_MEMORY, NO_REPLY, SINK_FAULT, USAGE};
 use crate::usage::{Command, USAGE_LINE, command_of};
 use client_core::{Clock, Edge};
 use client_request::Words;
+use command_parts::statuses::{NO_MEMORY, NO_REPLY, USAGE};
+use command_parts::{Ending, deliver, end_by, say};
 use dns_base::{NoMemory, Status};
-use dns_values::{Sink, SinkFault, Source, write_all};
+use dns_values::{Sink, Source};
 use std::alloc::Global;
-
-/// Writes an output whole, and hands it on.
-#[tactic(auto, using(crate::proofs::Delivery::begun_whole, crate::proofs::Delivery::begun_front))]
-fn deliver<K: Sink>(sink: &mut K, text: &[u8]) -> Status
-    ensures done { result.0 ≡ 0 → K.held sink.new ≡ with_octets text.now (K.held sink.old) }
-    ensures flushed { result.0 ≡ 0 → IsFlushed (K.held sink.new) (K.flushed sink.new) }
-    ensures begun { IsBegun text.now (K.held sink.old) (K.held sink.new) }
-    ensures sink_fault { result.0 ≡ 4 → Rose (K.faults sink.old) (K.faults sink.new) }
-    ensures others { (result.0 ≡ 0) ⊎ ((result.0 ≡ 4) ⊎ (result.0 ≡ 6)) }
-{
-    match write_all(sink, text) {
-        Ok(()) => match sink.flush() {
-            Ok(()) => DONE,
-            Err(_) => SINK_FAULT,
-        },
-        Err(SinkFault::Failed) => SINK_FAULT,
-        Err(SinkFault::NoMemory) => NO_MEMORY,
-    }
-}
-
-/// Writes a line and hands it on, as far as the sink takes it. `NoMemory` where the sink found none.
-#[tactic(auto, using(crate::proofs::Delivery::begun_whole, crate::proofs::Delivery::begun_front, crate::proofs::Delivery::said_whole, crate::proofs::Delivery::said_front))]
-fn say<K: Sink>(sink: &mut K, line: &[u8]) -> Result<(), NoMemory>
-    ensures begun { IsBegun line.now (K.held sink.old) (K.held sink.new) }
-    ensures said { OnOk result (IsSaid line.now (K.held sink.old) (K.held sink.new) (K.faults sink.old) (K.faults sink.new)) }
-    ensures flushed { OnOk result (IsFlushed (K.held sink.new) (K.flushed sink.new) ⊎ Rose (K.faults sink.old) (K.faults sink.new)) }
-{
-    match write_all(sink, line) {
-        Ok(()) => {
-            // A fault of the sink is told by its count alone.
-            let _ = sink.flush();
-            Ok(())
-        }
-        Err(SinkFault::Failed) => Ok(()),
-        Err(SinkFault::NoMemory) => Err(NoMemory),
-    }
-}
 
 /// Tells how the program is called.
 fn tell_usage<K: Sink>(sink: &mut K) -> Status
@@ -86,19 +50,6 @@ fn output<S: Source>(alloc: Global, command: Command, source: &mut S) -> Result<
     match command {
         Command::Replay => replay(alloc, source),
         Command::Conf => configure(alloc, source),
-    }
-}
-
-/// Ends by a line that tells why nothing else is written.
-fn end_by<K: Sink>(sink: &mut K, status: Status, line: &[u8]) -> Status
-    ensures status { (result ≡ status) ⊎ (result.0 ≡ 6) }
-    ensures begun { IsBegun line.now (K.held sink.old) (K.held sink.new) }
-    ensures said { result.0 ≢ 6 → IsSaid line.now (K.held sink.old) (K.held sink.new) (K.faults sink.old) (K.faults sink.new) }
-    ensures flushed { result.0 ≢ 6 → IsFlushed (K.held sink.new) (K.flushed sink.new) ⊎ Rose (K.faults sink.old) (K.faults sink.new) }
-{
-    match say(sink, line) {
-        Ok(()) => status,
-        Err(NoMemory) => NO_MEMORY,
     }
 }
 

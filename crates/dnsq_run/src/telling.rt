@@ -4,9 +4,9 @@
 ghost use Rattle.std.specs.Prelude.{◌≡◌, ◌≢◌, ◌||◌, false, None, Some, IfOk, IfErr, IsErrOf, option_map};
 ghost use Rattle.client_steps.specs.Whole.{plain_trace};
 ghost use Rattle.dns_script.specs.TraceText.{first_line, has_stale, trace_text_of};
-ghost use Rattle.dnsq_run.specs.Program.{first_lane, rows_of, IsTold, IsEarly, status_of, line_of, numbers_line};
+ghost use Rattle.command_parts.specs.Ends.{IsEarly, status_of, line_of};
+ghost use Rattle.dnsq_run.specs.Program.{first_lane, rows_of, IsTold, numbers_line};
 
-use crate::ending::Ending;
 use crate::lines::refusal;
 use crate::short_words::words_are_short;
 use client_core::{Client, all_asked_in_octets, all_in_octets, cache, redundant};
@@ -14,6 +14,7 @@ use client_replay::{
     every_plain_trace_hits, every_plain_trace_is_right, every_plain_trace_serves_stale,
 };
 use client_request::{Error, Events, ListWords, Row, Words};
+use command_parts::Ending;
 use dns_base::NoMemory;
 use dns_script::{Lanes, Script, begin_trace, end_trace, has_stale, push_row, set_first_line};
 use resolv_conf::ResolvConf;

@@ -1,4 +1,4 @@
-use Rattle.dnsq_run.proofs.Delivery.{begun_line, said_line}
+use Rattle.command_parts.proofs.Delivery.{begun_line, said_line}
 use Rattle.dnsq_run.proofs.run.tell_usage.Goals as goal
 
 pub returns-in-Ok-clause-said : goal.returns-in-Ok-clause-said

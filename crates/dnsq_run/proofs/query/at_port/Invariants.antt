@@ -1,7 +1,0 @@
-use Rattle.std.proofs.Common.{◌≡◌, ◌++◌, map, take, drop}
-use Rattle.dnsq_run.specs.Query.{at_port}
-use Rattle.dnsq_run.proofs.query.at_port.Given as goal
-
-abbrev pub invariant-loop-server : goal.invariant-loop-server
-invariant-loop-server l =
-    l.server-items ≡ map (at_port l.port) (take l.server-index l.initial.server-items) ++ drop l.server-index l.initial.server-items
