@@ -106,6 +106,7 @@ impl Compressor {
     }
 
     /// Appends a label, and remembers its place.
+    #[inline(always)]
     #[tactic(auto, unfolding(crate::specs::Compression::with_label, crate::specs::Compression::with_octets))]
     fn put_label(&mut self, label: &[u8]) -> Result<(), NoMemory>
         requires { length label.now < 64 }
@@ -151,6 +152,7 @@ impl Compressor {
     }
 
     /// Appends a name, each suffix of which is looked for at one place after the other.
+    #[inline(always)]
     fn put_among_few(&mut self, name: &ParsedName<'_>) -> Result<(), NoMemory>
         ensures ok { OnOk result (self.new ≡ spec.with_name name.now self.old) }
         ensures kept { spec.Continues self.old self.new }
@@ -216,6 +218,7 @@ impl Compressor {
     }
 
     /// Appends a name, each suffix of which is looked for by the tables.
+    #[inline(never)]
     fn put_among_many(&mut self, name: &ParsedName<'_>) -> Result<(), NoMemory>
         ensures ok { OnOk result (self.new ≡ spec.with_name name.now self.old) }
         ensures kept { spec.Continues self.old self.new }

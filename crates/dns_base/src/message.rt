@@ -129,6 +129,7 @@ impl Message {
 
 impl Message {
     /// The records of the answer section. Refused exactly where the questions can't be read.
+    #[inline]
     #[tactic(auto, unfolding(crate::specs::Message::answer_items))]
     pub fn answer(&self) -> Result<RecordSection<'_>, ParseError>
         ensures all { MatchResult result (λ s. answer_items self.now ≡ Some s) (λ _. answer_items self.now ≡ None) }

@@ -50,6 +50,7 @@ impl Place {
 }
 
 /// Whether another label than this one stands at a place: a quick test, which says no where a pointer or the root does.
+#[inline(always)]
 fn is_other_label(octets: &[u8], place: usize, label: &[u8]) -> bool
     ensures { IsTrue result → (rest : Labels) → spec.stands_at octets.now (label.now ∷ rest) place ≡ false }
 {
@@ -64,6 +65,7 @@ fn is_other_label(octets: &[u8], place: usize, label: &[u8]) -> bool
 }
 
 /// Whether a label and the rest of a name stand at a place, but for case.
+#[inline(always)]
 fn stands_at(octets: &[u8], place: usize, label: &[u8], rest: &LabelIter<'_>) -> bool
     ensures { result ≡ spec.stands_at octets.now (label.now ∷ rest.now) place }
 {
@@ -77,6 +79,7 @@ fn stands_at(octets: &[u8], place: usize, label: &[u8], rest: &LabelIter<'_>) ->
 }
 
 /// Whether a label and the rest of a name are the same as the labels of another, but for case.
+#[inline(always)]
 fn is_same_suffix(label: &[u8], rest: &LabelIter<'_>, mut labels: LabelIter<'_>) -> bool
     ensures { result ≡ same_name (label.now ∷ rest.now) labels.entry }
 {
@@ -87,6 +90,7 @@ fn is_same_suffix(label: &[u8], rest: &LabelIter<'_>, mut labels: LabelIter<'_>)
 }
 
 /// The first of some places at which a label and the rest of a name stand.
+#[inline(always)]
 pub(crate) fn found_at(
     octets: &[u8],
     places: &[Place],
