@@ -141,8 +141,7 @@ example.com.\t100\tIN\tA\t192.0.2.1
 
 ";
 
-const UNANSWERED: &str =
-    "dns_lookup: no answer: dgram error: connecting failed: connection refused
+const UNANSWERED: &str = "dns_lookup: no answer: dgram error: connecting failed: connection refused
 dns_lookup: 192.0.2.53:53 (UDP): connection refused
 dns_lookup: 192.0.2.53:53 (UDP): connection refused
 ";
