@@ -2,7 +2,7 @@
 
 use crate::messages::{Got, Part, result_of};
 use client_request::Error;
-use dns_base::{IpAddr, Name, SocketAddr, ToName, is_same_name};
+use dns_base::{IpAddr, Name, OptRcode, SocketAddr, ToName, is_same_name};
 use resolv_lookup::{FoundHosts, HostFault, ListResolver, QueryFault, lookup_host};
 use std::alloc::Global;
 use std::test::Fail;
@@ -117,6 +117,8 @@ fn names_are_those_of_the_answer(rt: HostRuntime) -> Result<(), Fail> {
     let found = lookup(rt.alloc(), &ALIAS)?.map_err(|_| "a host")?;
     assert!(rt; is_the_alias(rt.alloc(), &found)?);
     assert!(rt; !found.is_empty());
+    assert!(rt; found.a_rcode() == Ok(OptRcode(0)));
+    assert!(rt; found.aaaa_rcode() == Err(QueryFault::NoReply));
     Ok(())
 }
 

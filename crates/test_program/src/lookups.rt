@@ -40,13 +40,14 @@ fn unopened(place: u64) -> Option<What> {
     Some(What::OpenFailed { place, fault })
 }
 
-/// A socket opens and an answer comes; no second socket opens.
+/// A socket opens and an answer comes; none opens for a second request, of which each server is asked twice.
 fn answering(alloc: Global) -> Result<Vec<Option<What>>, Fail> {
     let octets = Octets::from_slice(alloc, &ANSWER)?;
     let mut events = Vec::new(alloc);
     events.push(Some(What::Opened { place: 0 }))?;
     events.push(Some(What::Datagram { place: 0, octets }))?;
     events.push(unopened(1))?;
+    events.push(unopened(2))?;
     Ok(events)
 }
 
@@ -54,6 +55,7 @@ fn answering(alloc: Global) -> Result<Vec<Option<What>>, Fail> {
 fn refusing(alloc: Global) -> Result<Vec<Option<What>>, Fail> {
     let mut events = Vec::new(alloc);
     events.push(unopened(0))?;
+    events.push(unopened(1))?;
     Ok(events)
 }
 
@@ -90,7 +92,7 @@ fn status(
     .0
 }
 
-/// Whether a run with a sink ends so. The configuration, which words may make needless, is refused.
+/// Whether a run with a sink ends so. The configuration, which words may make needless, names no server.
 fn ends_so(alloc: Global, run: &Run, written: &mut MemSink) -> Result<bool, Fail> {
     let words = words(alloc, run.words)?;
     let mut conf = source(alloc, "nonsense\n", 9)?;
@@ -124,6 +126,26 @@ example.com.\t100\tIN\tA\t192.0.2.1
 
 ";
 
+const PAGE_OF_THIS_HOST: &str = ";; ->>HEADER<<- opcode: QUERY; status: NOERROR; id: 0
+;; Flags: qr rd ra; QUERY: 1; ANSWER: 1; AUTHORITY: 0; ADDITIONAL: 0
+
+;; QUESTION SECTION:
+;; example.com.\t\tIN\tA
+
+;; ANSWER SECTION:
+example.com.\t100\tIN\tA\t192.0.2.1
+
+;; Query time: 0 msec
+;; SERVER: 127.0.0.1:53 (UDP)
+;; MSG SIZE  rcvd: 45
+
+";
+
+const UNANSWERED: &str = "dns_lookup: no answer: dgram error: connecting failed: connection refused
+dns_lookup: 192.0.2.53:53 (UDP): connection refused
+dns_lookup: 192.0.2.53:53 (UDP): connection refused
+";
+
 const RUNS: [Run; 18] = [
     Run {
         words: "@192.0.2.53 example.com A",
@@ -151,21 +173,21 @@ const RUNS: [Run; 18] = [
         answers: true,
         status: 5,
         written: "192.0.2.1\n",
-        said: "dns_lookup: no answer: dgram error: connecting failed: connection refused\n",
+        said: UNANSWERED,
     },
     Run {
         words: "@192.0.2.53 example.com A",
         answers: false,
         status: 5,
         written: "",
-        said: "dns_lookup: no answer: dgram error: connecting failed: connection refused\n",
+        said: UNANSWERED,
     },
     Run {
         words: "example.com A",
         answers: true,
-        status: 3,
-        written: "",
-        said: "dns_lookup: /etc/resolv.conf: line 1 refused\n",
+        status: 0,
+        written: PAGE_OF_THIS_HOST,
+        said: "dns_lookup: /etc/resolv.conf: line 1 skipped, since its first word is not known\n",
     },
     Run {
         words: "@ns.example example.com",
