@@ -63,6 +63,7 @@ check "the length of clauses" python3 tests/long_clauses.py
 check "the list of wrong bodies" python3 tests/listed_bodies.py
 check "names and statuses in documents" python3 tests/documented.py
 check "the pictures of traces" python3 tests/pictures.py
+check "the trusted lines" python3 tests/trusted_lines.py
 check "the crates that are cited" python3 tests/cited_crates.py
 echo "$passed passed, $failed failed, $skipped skipped"
 [ "$failed" -eq 0 ]

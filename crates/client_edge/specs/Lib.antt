@@ -1,2 +1,4 @@
+pub mod Address
+pub mod Answer
 pub mod RandWords
 pub mod SocketEdge

@@ -11,9 +11,17 @@ use std::io::{self, ErrorKind};
 pub fn fault_of(kind: ErrorKind) -> Fault
     ensures refused { kind ≡ ErrorKind.ConnectionRefused → result ≡ Fault.Refused }
     ensures reset { kind ≡ ErrorKind.ConnectionReset → result ≡ Fault.Reset }
+    ensures aborted { kind ≡ ErrorKind.ConnectionAborted → result ≡ Fault.Reset }
+    ensures no_host { kind ≡ ErrorKind.HostUnreachable → result ≡ Fault.Unreachable }
+    ensures no_network { kind ≡ ErrorKind.NetworkUnreachable → result ≡ Fault.Unreachable }
+    ensures network_down { kind ≡ ErrorKind.NetworkDown → result ≡ Fault.Unreachable }
+    ensures no_address { kind ≡ ErrorKind.AddrNotAvailable → result ≡ Fault.Unreachable }
     ensures in_use { kind ≡ ErrorKind.AddrInUse → result ≡ Fault.InUse }
+    ensures broken { kind ≡ ErrorKind.BrokenPipe → result ≡ Fault.Broken }
+    ensures not_connected { kind ≡ ErrorKind.NotConnected → result ≡ Fault.Broken }
     ensures late { kind ≡ ErrorKind.TimedOut → result ≡ Fault.Expired }
     ensures nothing_yet { kind ≡ ErrorKind.WouldBlock → result ≡ Fault.Expired }
+    ensures interrupted { kind ≡ ErrorKind.Interrupted → result ≡ Fault.Expired }
 {
     match kind {
         ErrorKind::ConnectionRefused => Fault::Refused,

@@ -1,18 +1,62 @@
 //! Streams over the system's sockets.
 
-ghost use Rattle.std.specs.Prelude.{◌≡◌, ◌≤◌, OnErr};
+ghost use Rattle.std.specs.Prelude.{◌≡◌, ◌≤◌, None, OnErr};
 ghost use Rattle.dns_values.specs.Source.{Rose};
 ghost use Rattle.client_dgram.specs.Sockets.{after_answer};
 
 use crate::address::{any_local, system_address};
-use crate::fault::count_fault;
+use crate::answer::{count_of, octets_of};
+use crate::fault::{count_fault, fault_of};
 use client_dgram::Connect;
 use client_request::Fault;
-use dns_base::SocketAddr;
-use std::io::{self, ErrorKind};
+use dns_base::{NoMemory, Octets, SocketAddr};
+use socket_places::{Answer, Socket};
+use std::alloc::Global;
+use std::io::{self, ErrorKind, Read, Write};
 use std::marker::Model;
 use std::net::{Net, Shutdown, TcpListener, TcpStream, UdpSocket};
-use std::os::fd::OwnedFd;
+use std::os::fd::{AsRawFd, OwnedFd};
+
+/// A stream of the system.
+#[derive(Drop)]
+pub struct TcpSocket {
+    stream: TcpStream,
+}
+
+impl TcpSocket {
+    /// A stream whose connecting has begun.
+    pub fn new(stream: TcpStream) -> TcpSocket {
+        TcpSocket { stream }
+    }
+}
+
+impl Socket for TcpSocket {
+    ghost deals = { λ _. None };
+
+    ghost number = { λ _. None };
+
+    fn descriptor(&self) -> i32 {
+        self.stream.as_raw_fd()
+    }
+
+    fn opened(&mut self) -> Result<Answer<()>, NoMemory> {
+        match self.stream.take_error() {
+            Ok(None) if self.stream.peer_addr().is_ok() => Ok(Answer::Done(())),
+            Ok(None) => Ok(Answer::Later),
+            Ok(Some(error)) | Err(error) => Ok(Answer::Failed(fault_of(error.kind()))),
+        }
+    }
+
+    fn put(&mut self, octets: &[u8]) -> Result<Answer<usize>, NoMemory> {
+        Ok(count_of(octets.len(), self.stream.write(octets)))
+    }
+
+    fn take(&mut self, alloc: Global, buf: &mut [u8]) -> Result<Answer<Octets>, NoMemory> {
+        let most = buf.len();
+        let filled = count_of(most, self.stream.read(buf));
+        octets_of(alloc, buf, filled)
+    }
+}
 
 /// Connects streams to one address. What contracts see is the count of its faults.
 ///

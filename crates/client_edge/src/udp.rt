@@ -1,18 +1,21 @@
 //! Datagrams over the system's sockets.
 
-ghost use Rattle.std.specs.Prelude.{◌≡◌, ◌≤◌, length, IfOk, OnErr};
+ghost use Rattle.std.specs.Prelude.{◌≡◌, ◌≤◌, length, None, IfOk, OnErr};
 ghost use Rattle.dns_values.specs.Source.{Rose};
 ghost use Rattle.client_dgram.specs.Sockets.{after_answer};
 
 use crate::address::{any_local, system_address};
+use crate::answer::{count_of, octets_of};
 use crate::fault::count_fault;
 use client_dgram::{Connect, DgramRecv, DgramSend};
 use client_request::Fault;
-use dns_base::SocketAddr;
+use dns_base::{NoMemory, Octets, SocketAddr};
+use socket_places::{Answer, Socket};
+use std::alloc::Global;
 use std::io;
 use std::marker::Model;
 use std::net::{Net, UdpSocket};
-use std::os::fd::{AsRawFd, RawFd};
+use std::os::fd::AsRawFd;
 
 /// How often a local port is asked for.
 const TRIES: u32 = 11;
@@ -34,10 +37,27 @@ impl Model for UdpDgram {
     ghost view = { λ s. s.faults };
 }
 
-impl UdpDgram {
-    /// The descriptor, for a wait.
-    pub(crate) fn descriptor(&self) -> RawFd {
+impl Socket for UdpDgram {
+    ghost deals = { λ _. None };
+
+    ghost number = { λ _. None };
+
+    fn descriptor(&self) -> i32 {
         self.socket.as_raw_fd()
+    }
+
+    fn opened(&mut self) -> Result<Answer<()>, NoMemory> {
+        Ok(Answer::Done(()))
+    }
+
+    fn put(&mut self, octets: &[u8]) -> Result<Answer<usize>, NoMemory> {
+        Ok(count_of(octets.len(), self.socket.send(octets)))
+    }
+
+    fn take(&mut self, alloc: Global, buf: &mut [u8]) -> Result<Answer<Octets>, NoMemory> {
+        let most = buf.len();
+        let filled = count_of(most, self.socket.recv(buf));
+        octets_of(alloc, buf, filled)
     }
 }
 

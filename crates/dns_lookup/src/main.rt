@@ -1,61 +1,54 @@
 //! The program `dns_lookup`: it asks servers for records, and writes what they answer.
 #![tactic(auto)]
 
-mod conf_file;
-
-use client_edge::{RandWords, RealClock, SocketEdge};
-use conf_file::ConfFile;
+use client_edge::{ConfFile, FileOpener, RandWords, RealClock, SocketEdge, command_words};
 use dns_lookup_run::{WatchedClock, WatchedEdge, run};
 use dns_values::StdSink;
 use rand::rngs::StdRng;
-use std::alloc::AllocError;
-use std::env;
-use std::io::ErrorKind;
 use std::process::ExitCode;
 
 /// The exit status where memory, or the system's random words, can't be had.
 const NO_MEMORY: u8 = 6;
 
-/// The words of the command line, without the program's own name; none where one of them is not UTF-8.
-fn words_of(rt: &HostRuntime) -> Result<Vec<String>, AllocError> {
-    let mut words = Vec::new(rt.alloc());
-    let args = match env::args(rt) {
-        Ok(args) => args,
-        Err(error) => {
-            return match error.kind() {
-                ErrorKind::OutOfMemory => Err(AllocError),
-                _ => Ok(words),
-            };
-        }
-    };
-    for word in args.skip(1) {
-        words.push(word)?;
+/// The system's random words, where they can be had.
+fn random_words(rt: &HostRuntime) -> Option<RandWords<StdRng>> {
+    match rand::make_rng::<StdRng, _>(rt) {
+        Ok(generator) => Some(RandWords::new(generator)),
+        Err(_) => None,
     }
-    Ok(words)
 }
 
-/// Does what the words ask for over the system's sockets, clock and random words. Without random words nothing is asked.
-fn ask(rt: HostRuntime, words: &[String]) -> u8 {
-    let alloc = rt.alloc();
-    let Ok(generator) = rand::make_rng::<StdRng, _>(&rt) else {
+/// Does what the command line asks for: of servers that the system's file names, over the system's sockets, by its clock and under its
+/// random words. The types are the real ones, so that nothing in memory stands for one of them. Without random words nothing is asked.
+fn ask(
+    rt: HostRuntime,
+    files: FileOpener<HostRuntime>,
+    edge: SocketEdge<HostRuntime>,
+    clock: RealClock<HostRuntime>,
+    random: Option<RandWords<StdRng>>,
+) -> u8 {
+    let (Ok(words), Some(mut random)) = (command_words(&rt), random) else {
         return NO_MEMORY;
     };
     let status = run(
-        alloc,
-        words,
-        &mut ConfFile::new(rt),
+        rt.alloc(),
+        &words,
+        &mut ConfFile::new(files),
         &mut StdSink::new(rt.stdout()),
         &mut StdSink::new(rt.stderr()),
-        &mut WatchedEdge::new(alloc, SocketEdge::new(rt, alloc)),
-        &mut WatchedClock::new(RealClock::new(rt)),
-        &mut RandWords::new(generator),
+        &mut WatchedEdge::new(rt.alloc(), edge),
+        &mut WatchedClock::new(clock),
+        &mut random,
     );
     status.0
 }
 
 fn main(rt: HostRuntime) -> ExitCode {
-    let Ok(words) = words_of(&rt) else {
-        return ExitCode::from(NO_MEMORY);
-    };
-    ExitCode::from(ask(rt, &words))
+    ExitCode::from(ask(
+        rt,
+        FileOpener::new(rt),
+        SocketEdge::new(rt, rt.alloc()),
+        RealClock::new(rt),
+        random_words(&rt),
+    ))
 }

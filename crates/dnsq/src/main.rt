@@ -1,40 +1,16 @@
 //! The program `dnsq`: it replays scripts of events, prints configurations, and asks servers.
 #![tactic(auto)]
 
-mod conf_file;
-
 use client_core::{ListClock, ListEdge};
-use client_edge::{RandWords, RealClock, SocketEdge};
+use client_edge::{ConfFile, FileOpener, RandWords, RealClock, SocketEdge, command_words};
 use client_request::{ListWords, WordList};
-use conf_file::ConfFile;
 use dns_values::{StdSink, StdSource};
 use dnsq_run::run_alone;
 use rand::rngs::StdRng;
-use std::alloc::AllocError;
-use std::env;
-use std::io::ErrorKind;
 use std::process::ExitCode;
 
 /// The exit status where memory, or the system's random words, can't be had.
 const NO_MEMORY: u8 = 6;
-
-/// The words of the command line, without the program's own name; none where one of them is not UTF-8.
-fn words_of(rt: &HostRuntime) -> Result<Vec<String>, AllocError> {
-    let mut words = Vec::new(rt.alloc());
-    let args = match env::args(rt) {
-        Ok(args) => args,
-        Err(error) => {
-            return match error.kind() {
-                ErrorKind::OutOfMemory => Err(AllocError),
-                _ => Ok(words),
-            };
-        }
-    };
-    for word in args.skip(1) {
-        words.push(word)?;
-    }
-    Ok(words)
-}
 
 /// Whether the words begin with `query`.
 fn asks_servers(words: &[String]) -> bool {
@@ -44,21 +20,27 @@ fn asks_servers(words: &[String]) -> bool {
     }
 }
 
-/// Does what the words ask for over the system's sockets, clock and random words. Without random words nothing is asked.
-fn ask(rt: HostRuntime, words: &[String]) -> u8 {
-    let Ok(generator) = rand::make_rng::<StdRng, _>(&rt) else {
-        return NO_MEMORY;
-    };
-    let status = run_alone(
-        rt.alloc(),
-        words,
-        &mut ConfFile::new(rt),
-        &mut StdSink::new(rt.stdout()),
-        &mut SocketEdge::new(rt, rt.alloc()),
-        &mut RealClock::new(rt),
-        &mut RandWords::new(generator),
-    );
-    status.0
+/// The system's random words, where they can be had.
+fn random_words(rt: &HostRuntime) -> Option<RandWords<StdRng>> {
+    match rand::make_rng::<StdRng, _>(rt) {
+        Ok(generator) => Some(RandWords::new(generator)),
+        Err(_) => None,
+    }
+}
+
+/// Asks servers: those that the system's file names, over the system's sockets, by its clock and under its random words. The types
+/// are the real ones, so that nothing in memory stands for one of them.
+fn ask(
+    rt: HostRuntime,
+    words: &[String],
+    files: FileOpener<HostRuntime>,
+    edge: &mut SocketEdge<HostRuntime>,
+    clock: &mut RealClock<HostRuntime>,
+    random: &mut RandWords<StdRng>,
+) -> u8 {
+    let file = &mut ConfFile::new(files);
+    let sink = &mut StdSink::new(rt.stdout());
+    run_alone(rt.alloc(), words, file, sink, edge, clock, random).0
 }
 
 /// Does what the words ask for, which asks no server.
@@ -76,13 +58,32 @@ fn read(rt: HostRuntime, words: &[String]) -> u8 {
     status.0
 }
 
-fn main(rt: HostRuntime) -> ExitCode {
-    let Ok(words) = words_of(&rt) else {
-        return ExitCode::from(NO_MEMORY);
+/// Does what the command line asks for. Without random words nothing is asked.
+fn run(
+    rt: HostRuntime,
+    files: FileOpener<HostRuntime>,
+    mut edge: SocketEdge<HostRuntime>,
+    mut clock: RealClock<HostRuntime>,
+    random: Option<RandWords<StdRng>>,
+) -> u8 {
+    let Ok(words) = command_words(&rt) else {
+        return NO_MEMORY;
     };
-    if asks_servers(&words) {
-        ExitCode::from(ask(rt, &words))
-    } else {
-        ExitCode::from(read(rt, &words))
+    if !asks_servers(&words) {
+        return read(rt, &words);
     }
+    match random {
+        Some(mut random) => ask(rt, &words, files, &mut edge, &mut clock, &mut random),
+        None => NO_MEMORY,
+    }
+}
+
+fn main(rt: HostRuntime) -> ExitCode {
+    ExitCode::from(run(
+        rt,
+        FileOpener::new(rt),
+        SocketEdge::new(rt, rt.alloc()),
+        RealClock::new(rt),
+        random_words(&rt),
+    ))
 }

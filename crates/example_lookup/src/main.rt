@@ -6,6 +6,7 @@ mod trouble;
 use client_edge::{FileOpener, RandWords, RealClock, SocketEdge};
 use dns_base::Name;
 use rand::rngs::StdRng;
+use std::alloc::Global;
 use std::env;
 use stub_resolver::{FoundHosts, StubResolver};
 use trouble::Trouble;
@@ -20,29 +21,50 @@ fn host_of(rt: HostRuntime) -> Result<Option<Name>, Trouble> {
     }
 }
 
-/// Looks the host up.
-fn find(rt: HostRuntime, host: &Name) -> Result<FoundHosts<Resolver>, Trouble> {
-    let alloc = rt.alloc();
-    let words = RandWords::new(rand::make_rng::<StdRng, _>(&rt)?);
-    let edge = SocketEdge::new(rt, alloc);
-    let mut opener = FileOpener::new(rt);
+/// Looks the host up: at the servers that the system's file names, over the system's sockets, by its clock and under its random
+/// words.
+fn find(
+    alloc: Global,
+    mut files: FileOpener<HostRuntime>,
+    edge: SocketEdge<HostRuntime>,
+    clock: RealClock<HostRuntime>,
+    words: RandWords<StdRng>,
+    host: &Name,
+) -> Result<FoundHosts<Resolver>, Trouble> {
     StubResolver::run(
         alloc,
-        &mut opener,
+        &mut files,
         edge,
-        RealClock::new(rt),
+        clock,
         words,
         |resolver: &mut Resolver| { Ok(resolver.lookup_host(alloc, host)?) },
     )
 }
 
-fn main(rt: HostRuntime) -> Result<(), Trouble> {
+/// Prints the addresses of the host that the command line names.
+fn print(
+    rt: HostRuntime,
+    files: FileOpener<HostRuntime>,
+    edge: SocketEdge<HostRuntime>,
+    clock: RealClock<HostRuntime>,
+    words: RandWords<StdRng>,
+) -> Result<(), Trouble> {
     let Some(host) = host_of(rt)? else {
         println!(rt; "usage: example_lookup NAME")?;
         return Ok(());
     };
-    for address in find(rt, &host)?.iter() {
+    for address in find(rt.alloc(), files, edge, clock, words, &host)?.iter() {
         println!(rt; "{address}")?;
     }
     Ok(())
+}
+
+fn main(rt: HostRuntime) -> Result<(), Trouble> {
+    print(
+        rt,
+        FileOpener::new(rt),
+        SocketEdge::new(rt, rt.alloc()),
+        RealClock::new(rt),
+        RandWords::new(rand::make_rng::<StdRng, _>(&rt)?),
+    )
 }

@@ -1,5 +1,5 @@
 -- The books of a client's edge: its servers, its places, and what happened of which nobody was told.
-use Rattle.std.specs.Prelude.{◌≡◌, ℕ, Bool, true, false, is_some, if◌then◌else◌, List, [], ◌∷◌, ◌++◌, drop, Option, None, Some, option_to_list, slice_get}
+use Rattle.std.specs.Prelude.{◌≡◌, ℕ, Bool, true, false, is_some, if◌then◌else◌, List, [], ◌∷◌, ◌++◌, drop, Option, None, Some, option_to_list, slice_get, length}
 use Rattle.dns_values.specs.declared.address.SocketAddr.{SocketAddr}
 use Rattle.client_request.specs.declared.fault.Fault.{Fault}
 use Rattle.client_request.specs.declared.fault.Fault.TheVariants as fault
@@ -111,11 +111,15 @@ told_first (first ∷ happened) places = if is_told first places then Some first
 abbrev pub but_first : Books → Books
 but_first b = record b { happened = drop 1 b.happened }
 
--- A wait looks for something at each place that is open, and these are those at which there is something.
-pub record Waits (old new : Books) : Type 0 where
-  pub asks : new.asks ≡ after_one (asked_of_all old.places) old.asks
-  pub found : new.found ≡ numbers_found new.finds 0 old.places
-  pub others : new ≡ record old { asks = new.asks; finds = new.finds; found = new.found }
+-- A wait looks for something at these others, and behind them at each place that is open, and these are the places at which there is something.
+pub record WaitsBeside (others : List Asked) (old new : Books) : Type 0 where
+  pub asks : new.asks ≡ after_one (others ++ asked_of_all old.places) old.asks
+  pub found : new.found ≡ numbers_found new.finds (length others) old.places
+  pub rest : new ≡ record old { asks = new.asks; finds = new.finds; found = new.found }
+
+-- at each place that is open, and nowhere else
+abbrev pub Waits : (old new : Books) → Type 0
+Waits old new = WaitsBeside [] old new
 
 -- There is a wait once all at which the last one found something were looked at.
 abbrev pub WaitsAgain : List ℕ → (old new : Books) → Type 0
@@ -148,6 +152,20 @@ pub record LooksNext (old new : Books) (told : Option What) : Type 0 where
   pub between : Books
   pub waits : WaitsAgain old.found old between
   pub looks : Looks between.found between new told
+
+-- Nothing is known of which nobody was told: nothing happened, and all places at which the last wait found something were looked at.
+abbrev pub is_idle_of : List What → List ℕ → Bool
+is_idle_of [] [] = true
+is_idle_of [] (number ∷ found) = false
+is_idle_of (what ∷ happened) found = false
+
+abbrev pub is_idle : Books → Bool
+is_idle b = is_idle_of b.happened b.found
+
+-- What is known is told without a wait: what happened first, and then what is at the first place at which something was found.
+abbrev pub TellsKnown : Option What → (old new : Books) → Option What → Type 0
+TellsKnown (Some first) old new told = (told ≡ Some first) × (new ≡ old)
+TellsKnown None old new told = Looks old.found old new told
 
 -- A poll: what happened first is told first.
 abbrev pub Polls : Option What → (old new : Books) → Option What → Type 0

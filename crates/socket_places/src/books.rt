@@ -2,8 +2,8 @@
 
 ghost use Rattle.std.specs.Prelude.{◌≡◌, ◌++◌, [], ◌∷◌, slice_get, IfOk, OnOk, None};
 ghost use Rattle.client_request.specs.declared.event.Via.{Via};
-ghost use Rattle.socket_places.specs.Books.{Acts, IsOpened, Looks, LooksFirst, OpensAt, OpensTo, Polls, PutsAt, Sleeps, Waits, WaitsAgain, but_first, first_stage, is_open_at, is_told, kept_places, place_told, told_first};
-ghost use Rattle.socket_places.specs.Told.{IsFresh};
+ghost use Rattle.socket_places.specs.Books.{Acts, IsOpened, Looks, LooksFirst, OpensAt, OpensTo, Polls, PutsAt, Sleeps, TellsKnown, WaitsAgain, WaitsBeside, but_first, first_stage, is_idle, is_open_at, is_told, kept_places, place_told, told_first};
+ghost use Rattle.socket_places.specs.Told.{IsFresh, found_at};
 
 use crate::network::{Asked, Network};
 use crate::place::Place;
@@ -166,6 +166,45 @@ impl<N: Network + Drop> Books<N> {
         }
     }
 
+    /// Waits until there is something at one of these others or at a place, but for no more than so many microseconds, whatever is
+    /// known. Where the last wait found something that was not looked at, a place tells of it once more.
+    pub fn wait_beside(&mut self, others: &[Asked], most: u128) -> Result<(), NoMemory>
+        ensures { OnOk result (WaitsBeside others.now self.old self.new) }
+    {
+        self.asked.clear();
+        self.asked.extend_from_slice(others)?;
+        self.places.ask(&mut self.asked)?;
+        self.network.ready(&self.asked, most)?;
+        self.found.clear();
+        self.places
+            .find(&self.network, others.len(), &mut self.found)?;
+        Ok(())
+    }
+
+    /// Whether the last wait found something at this position, counted from 0: first those of the others, then those of the places.
+    pub fn has_found(&self, at: usize) -> bool
+        ensures { result ≡ found_at self.now.finds at }
+    {
+        self.network.is_found(at)
+    }
+
+    /// Whether nothing is known of which nobody was told.
+    pub fn is_idle(&self) -> bool
+        ensures { result ≡ is_idle self.now }
+    {
+        self.happened.is_empty() && self.found.is_empty()
+    }
+
+    /// What is known, without a wait: what happened first, or what is at the next place at which the last wait found something.
+    pub fn next_known(&mut self) -> Result<Option<What>, NoMemory>
+        ensures { IfOk result (TellsKnown (told_first self.old.happened self.old.places) (but_first self.old) self.new) }
+    {
+        match self.next_happened() {
+            Some(what) => Ok(Some(what)),
+            None => self.look(),
+        }
+    }
+
     /// What happened, if anything did by now. Where it gives nothing, something may be known all the same: then no wait lasts.
     pub fn poll(&mut self) -> Result<Option<What>, NoMemory>
         ensures { IfOk result (Polls (told_first self.old.happened self.old.places) (but_first self.old) self.new) }
@@ -257,24 +296,12 @@ impl<N: Network + Drop> Books<N> {
         }
     }
 
-    /// Waits for something at each place that is open.
-    fn find(&mut self, most: u128) -> Result<(), NoMemory>
-        ensures { OnOk result (Waits self.old self.new) }
-    {
-        self.asked.clear();
-        self.places.ask(&mut self.asked)?;
-        self.network.ready(&self.asked, most)?;
-        self.found.clear();
-        self.places.find(&self.network, 0, &mut self.found)?;
-        Ok(())
-    }
-
     /// Waits once all places at which the last wait found something were looked at.
     fn wait_again(&mut self, most: u128) -> Result<(), NoMemory>
         ensures { OnOk result (WaitsAgain self.old.found self.old self.new) }
     {
         if self.found.is_empty() {
-            self.find(most)
+            self.wait_beside(&[], most)
         } else {
             Ok(())
         }

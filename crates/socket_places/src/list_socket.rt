@@ -55,7 +55,7 @@ impl ListSocket {
     }
 
     /// The same socket, with which nothing was done.
-    pub(crate) fn fresh(self) -> ListSocket
+    pub fn fresh(self) -> ListSocket
         ensures { result ≡ record { descriptor = self.descriptor; deals = [] } }
     {
         ListSocket {

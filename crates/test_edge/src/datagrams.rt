@@ -2,7 +2,7 @@
 
 use crate::addresses::{here, is_datagram, is_opened, learns, next, opens, polled, sends};
 use crate::peers::{Pair, gone, paired, server_by_four, server_by_six};
-use client_core::{Edge, Out, What};
+use client_core::What;
 use client_dgram::{Connect, DgramRecv, DgramSend};
 use client_edge::{SocketEdge, UdpConnect};
 use client_request::Fault;
@@ -28,18 +28,9 @@ fn there_and_back(alloc: Global, pair: &mut Pair) -> bool {
         && is_datagram(&next(&mut pair.edge), &[4, 5])
 }
 
-/// Whether what is sent to a place that was closed makes nothing happen.
-fn is_closed(alloc: Global, pair: &mut Pair) -> bool {
-    pair.edge.act(&Out::Close { place: 0 }).is_ok()
-        && sends(&mut pair.edge, alloc, 0, &[6])
-        && polled(&mut pair.edge).is_none()
-}
-
 fn goes_by_four(rt: HostRuntime) -> bool {
     match server_by_four(rt).and_then(|server| paired(rt, server)) {
-        Some(mut pair) => {
-            there_and_back(rt.alloc(), &mut pair) && is_closed(rt.alloc(), &mut pair)
-        }
+        Some(mut pair) => there_and_back(rt.alloc(), &mut pair),
         None => false,
     }
 }
@@ -61,17 +52,6 @@ fn a_datagram_goes_there_and_back(rt: HostRuntime) {
     assert!(rt; goes_by_six(rt));
 }
 
-/// Whether place 1 could not be opened, since there is no such server.
-fn is_unknown(what: &Option<What>) -> bool {
-    matches!(
-        what,
-        Some(What::OpenFailed {
-            place: 1,
-            fault: Fault::Other
-        })
-    )
-}
-
 /// Whether receiving failed at place 0, since nobody listens.
 fn is_refused(what: &Option<What>) -> bool {
     matches!(
@@ -83,14 +63,12 @@ fn is_refused(what: &Option<What>) -> bool {
     )
 }
 
-/// Whether an edge tells that nobody listens for datagrams at an address, and that it knows no second server.
+/// Whether an edge tells that nobody listens for datagrams at an address.
 fn tells_of_nobody(rt: HostRuntime, addr: SocketAddr) -> bool {
     let mut edge = SocketEdge::new(rt, rt.alloc());
     learns(&mut edge, addr)
         && opens(&mut edge, 0, 0)
-        && opens(&mut edge, 1, 1)
         && is_opened(&polled(&mut edge), 0)
-        && is_unknown(&polled(&mut edge))
         && sends(&mut edge, rt.alloc(), 0, &[1, 2, 3])
         && is_refused(&next(&mut edge))
 }

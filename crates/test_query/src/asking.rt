@@ -1,8 +1,6 @@
-//! Runs of the program that ask servers on this host.
+//! A run of the program that asks a server on this host.
 
-use client_core::{Clock, Moment};
 use client_edge::{RandWords, RealClock, SocketEdge};
-use client_request::{ListWords, WordList};
 use dns_base::Octets;
 use dns_values::{MemSink, MemSource};
 use dnsq_run::run_alone;
@@ -41,48 +39,4 @@ pub fn is_answered(rt: HostRuntime, conf: &str, port: u16) -> Result<bool, Fail>
         &mut RandWords::new(rand::make_rng::<StdRng, _>(&rt)?),
     );
     Ok(status.0 == 0 && sink.as_slice().starts_with(b"reply 0 ok "))
-}
-
-/// What a run came to.
-#[derive(Drop)]
-pub struct Ended {
-    /// The exit status.
-    pub status: u8,
-    /// What was written.
-    pub said: MemSink,
-    /// How long it took, in microseconds.
-    pub micros: u128,
-}
-
-/// So many of the greatest word, which asks for no probe.
-fn great_words(alloc: Global, count: usize) -> Result<ListWords, Fail> {
-    let mut words = WordList::new(alloc);
-    for _ in 0..count {
-        words.push(u64::MAX)?;
-    }
-    Ok(ListWords::new(words))
-}
-
-/// What the program comes to, asked at a port under a configuration, where the first server is asked first.
-pub fn ends(rt: HostRuntime, conf: &str, port: u16) -> Result<Ended, Fail> {
-    let alloc = rt.alloc();
-    let words = words(alloc, port)?;
-    let mut said = MemSink::new(alloc, Vec::new(alloc), Vec::new(alloc));
-    let mut clock = RealClock::new(rt);
-    let Moment(begun) = clock.now();
-    let status = run_alone(
-        alloc,
-        &words,
-        &mut source(alloc, conf)?,
-        &mut said,
-        &mut SocketEdge::new(rt, alloc),
-        &mut RealClock::new(rt),
-        &mut great_words(alloc, 64)?,
-    );
-    let Moment(ended) = clock.now();
-    Ok(Ended {
-        status: status.0,
-        said,
-        micros: (ended - begun) as u128,
-    })
 }

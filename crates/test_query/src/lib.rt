@@ -1,4 +1,4 @@
-//! Tests of the program's query over the system's sockets: servers on this host that answer, truncate, and break off.
+//! A test of the program's query over the system's sockets: a server on this host that truncates by datagram and answers by stream.
 #![tactic(auto)]
 
 #[cfg(test)]
@@ -7,5 +7,3 @@ mod asking;
 mod loopback;
 #[cfg(test)]
 mod servers;
-#[cfg(test)]
-mod silence;

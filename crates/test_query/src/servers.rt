@@ -1,4 +1,4 @@
-//! Servers for one question.
+//! A server for one question.
 
 use std::alloc::{AllocError, Global};
 use std::io::{self, Read, Write};
@@ -43,32 +43,11 @@ fn answer_stream(alloc: Global, mut stream: TcpStream) -> io::Result<()> {
     stream.write_all(&octets)
 }
 
-/// Answers one question by datagram.
-pub fn whole(alloc: Global, peer: &UdpSocket) -> bool {
-    answer_datagram(alloc, peer, WHOLE).is_ok()
-}
-
 /// Answers one question by a datagram that is truncated, and then by a stream.
 pub fn truncated(alloc: Global, peer: &UdpSocket, listener: &TcpListener) -> bool {
     if answer_datagram(alloc, peer, TRUNCATED).is_err() {
         return false;
     }
-    match listener.accept() {
-        Ok((stream, _)) => answer_stream(alloc, stream).is_ok(),
-        Err(_) => false,
-    }
-}
-
-/// Breaks off one stream behind the first octets of a frame, and answers by the next.
-pub fn broken(alloc: Global, listener: &TcpListener) -> bool {
-    let Ok((mut stream, _)) = listener.accept() else {
-        return false;
-    };
-    let mut buf = [0u8; 46];
-    if stream.read_exact(&mut buf).is_err() || stream.write_all(&[0, 45, buf[2]]).is_err() {
-        return false;
-    }
-    drop(stream);
     match listener.accept() {
         Ok((stream, _)) => answer_stream(alloc, stream).is_ok(),
         Err(_) => false,

@@ -1,4 +1,4 @@
-//! Tests of the stub resolver, over edges and clocks in memory and over the system's sockets.
+//! Tests of the stub resolver, over edges and clocks in memory.
 //!
 //! What a resolver is asked is a list of tasks, each with what it is to give. What finds no memory is `None`, and fails its test.
 #![tactic(auto)]
@@ -8,8 +8,6 @@ mod failing;
 #[cfg(test)]
 mod finding;
 #[cfg(test)]
-mod loopback;
-#[cfg(test)]
 mod making;
 #[cfg(test)]
 mod memory;
@@ -17,9 +15,5 @@ mod memory;
 mod messages;
 #[cfg(test)]
 mod scenes;
-#[cfg(test)]
-mod servers;
-#[cfg(test)]
-mod sockets;
 #[cfg(test)]
 mod tasks;

@@ -1,0 +1,8 @@
+pub mod Books
+pub mod Doors
+pub mod Lists
+pub mod Once
+pub mod Peers
+pub mod Senders
+pub mod Streams
+pub mod Waits

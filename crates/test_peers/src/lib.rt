@@ -1,0 +1,7 @@
+//! Tests of the books of a server's listeners over listeners and sockets in memory.
+#![tactic(auto)]
+
+#[cfg(test)]
+mod peers;
+#[cfg(test)]
+mod scenes;
