@@ -7,7 +7,7 @@ use Rattle.client_request.specs.declared.board.Posted.{Posted}
 use Rattle.client_request.specs.declared.error.Error.{Error}
 use Rattle.client_request.specs.declared.error.Error.TheVariants as errors
 use Rattle.client_request.specs.declared.event.What.{What}
-use Rattle.stream_turns.specs.Turns.{Client}
+use Rattle.stream_turns.specs.Turns.{Client, client_with}
 use Rattle.zone_reading.specs.Readings.{IsTransfer}
 use Rattle.zone_reading.specs.declared.steps.Update.{Update}
 use Rattle.zone_reading.specs.declared.steps.XfrKind.{XfrKind}
@@ -17,9 +17,10 @@ use Rattle.zone_records.specs.Transfers.{Entries, all_entries}
 use Rattle.zone_records.specs.declared.interpreter.XfrFault.TheVariants as xfr
 use Rattle.zone_records.specs.declared.record.ZoneRecord.{ZoneRecord}
 use Rattle.zone_records.specs.declared.zone.ApplyFault.TheVariants as applying
-use Rattle.zone_transfer.specs.Reading.{AreRead, IsRefusedAt, ReadSoFar, TakesPart, nothing_read}
+use Rattle.zone_transfer.specs.Reading.{AreRead, BoundedReading, IsRefusedAt, ReadSoFar, TakesPart, nothing_read}
 use Rattle.zone_transfer.specs.Requesting.{message_of, request_of}
 use Rattle.zone_transfer.specs.Turning.{Asks, EndsOpening, NeverOpens, Passes, Scene, Stand, StopsAsked, StopsTurned, messages_of}
+use Rattle.zone_transfer.specs.declared.asked.Asked.{Asked}
 use Rattle.zone_transfer.specs.declared.fault.FetchFault.{FetchFault}
 use Rattle.zone_transfer.specs.declared.fault.FetchFault.TheVariants.{Connect, Transport, Refused, Xfr, Apply, TooLarge, NoReply, NoMemory}
 
@@ -93,6 +94,13 @@ module _ (s : ReadSoFar) (first : Client) (left : ℕ) (old new : Scene) where
   IsCut most TooLarge = RefusedIn most TooLarge
   IsCut most NoReply = NeverEnds
   IsCut most NoMemory = Unit {0}
+
+-- the same of what was asked for
+abbrev pub EndsFrom : ReadSoFar → (words : ℕ → ℕ) → Asked → ReadSoFar → (old new : Scene) → Type 0
+EndsFrom s words asked t old new = Completes s (client_with words asked.transfer) asked.left t old new
+
+abbrev pub IsCutFrom : BoundedReading → (words : ℕ → ℕ) → Asked → FetchFault → (old new : Scene) → Type 0
+IsCutFrom reading words asked fault old new = IsCut reading.state (client_with words asked.transfer) asked.left old new reading.most fault
 
 -- why nothing is asked for
 module _ (request : Request) (words : ℕ → ℕ) (old new : Scene) where

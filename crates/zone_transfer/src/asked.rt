@@ -2,7 +2,7 @@
 
 ghost use Rattle.std.specs.Prelude.{◌≡◌, true, false, Some, Ok, IfOk, IfErr, OnOk};
 ghost use Rattle.stream_turns.specs.Turns.{client_with, with_board};
-ghost use Rattle.zone_transfer.specs.Fetching.{Completes, IsCut, IsUnasked, TakesParts};
+ghost use Rattle.zone_transfer.specs.Fetching.{EndsFrom, IsCutFrom, IsUnasked, TakesParts};
 ghost use Rattle.zone_transfer.specs.Reading.{TakesPart};
 ghost use Rattle.zone_transfer.specs.Turning.{Asks, between};
 
@@ -103,8 +103,8 @@ impl Asked {
         requires ticket { self.old.response.ticket ≡ 0 }
         requires open { self.old.response.ended ≡ false }
         requires lasts { self.old.transfer.failed ≡ false }
-        ensures ended { OnOk result (between E.deeds E.polls C.given (edge.old, clock.old) (edge.new, clock.new) (Completes reading.old.state (client_with (W.stream words.old) self.old.transfer) self.old.left reading.new.state)) }
-        ensures cause { IfErr result (λ fault. between E.deeds E.polls C.given (edge.old, clock.old) (edge.new, clock.new) (λ old new. IsCut reading.old.state (client_with (W.stream words.old) self.old.transfer) self.old.left old new reading.old.most fault)) }
+        ensures ended { OnOk result (between E.deeds E.polls C.given (edge.old, clock.old) (edge.new, clock.new) (EndsFrom reading.old.state (W.stream words.old) self.old reading.new.state)) }
+        ensures cause { IfErr result (λ fault. between E.deeds E.polls C.given (edge.old, clock.old) (edge.new, clock.new) (IsCutFrom reading.old (W.stream words.old) self.old fault)) }
     {
         'turns: loop {
             match self.take_parts(reading) {
