@@ -4,6 +4,8 @@
 #[cfg(test)]
 mod changes;
 #[cfg(test)]
+mod fetches;
+#[cfg(test)]
 mod messages;
 #[cfg(test)]
 mod readings;

@@ -1,0 +1,4 @@
+pub mod Requesting
+pub mod Reading
+pub mod Turning
+pub mod Fetching

@@ -1,0 +1,23 @@
+//! A zone, or its changes, fetched from a server by stream (RFC 5936, RFC 1995).
+//!
+//! `fetch` opens one stream, asks once, and takes messages until the transfer ends. The zone changes once all of it is there, or
+//! not at all. What happens on the stream is told by an edge, so a transfer can be tried in memory.
+//!
+//! ```text
+//! edge.learn_server(&ServerConf::new(address, Transport::Tcp))?;
+//! let mut zone = Zone::empty(alloc, apex);
+//! fetch(alloc, &mut zone, XfrKind::Axfr, &mut edge, &mut clock, &mut words)?;
+//! fetch(alloc, &mut zone, XfrKind::Ixfr, &mut later_edge, &mut clock, &mut words)?;
+//! ```
+#![tactic(auto)]
+
+mod asked;
+mod asking;
+mod fault;
+mod fetching;
+mod opening;
+mod reading;
+
+pub use asked::MOST_TURNS;
+pub use fault::FetchFault;
+pub use fetching::{fetch, fetch_within};
