@@ -1,0 +1,5 @@
+//! Tests of what judges traces: what octets carry, what is kept, and what is asked of that.
+#![tactic(auto)]
+
+#[cfg(test)]
+mod sends;
