@@ -3,3 +3,5 @@
 
 #[cfg(test)]
 mod sends;
+#[cfg(test)]
+mod streams;

@@ -41,7 +41,7 @@ const BY_STREAM: [&str; 8] = [
 ];
 
 /// The trace of these lines with another text in the place of one.
-fn trace_with(
+pub fn trace_with(
     alloc: Global,
     lines: &[&str],
     number: usize,
