@@ -6,6 +6,7 @@ use dns_base::NoMemory;
 use std::alloc::Global;
 use std::test::Fail;
 use trace_frames::Ledger;
+use trace_idle::{Idle, idle_of, meet_idle};
 use trace_timers::{Quiet, meet_quiet, put_quiet, quiet_since};
 use trace_writes::Writing;
 
@@ -76,5 +77,25 @@ fn a_stream_is_quiet_and_written(rt: HostRuntime) -> Result<(), Fail> {
     assert_eq!(rt; told(rt.alloc(), 8, "at 50 tick\n"), Some((2, 10)));
     assert_eq!(rt; told(rt.alloc(), 7, "at 30 wrote 0 25\n"), Some((5, 50)));
     assert_eq!(rt; told(rt.alloc(), 4, "at 10 tick\n"), Some((2, 0)));
+    Ok(())
+}
+
+/// How long place 0 may be idle at the end of the changed trace.
+fn idle_at_end(alloc: Global, number: usize, line: &str) -> Option<u64> {
+    let trace = trace_with(alloc, &TAKEN, number, line).ok()?;
+    let mut ledger = Ledger::new(alloc);
+    let mut idle = Idle::new(alloc);
+    for row in trace.rows.as_slice() {
+        meet_idle(&mut idle, &ledger.frames.brought).ok()?;
+        ledger.take(alloc, row).ok()?;
+    }
+    Some(idle_of(&idle, 0))
+}
+
+#[test]
+fn a_server_tells_how_long_a_stream_may_be_idle(rt: HostRuntime) -> Result<(), Fail> {
+    let told = "at 50 bytes 0 001d00000000000000000000000100002904d0000000000006000b00020032\n";
+    assert_eq!(rt; idle_at_end(rt.alloc(), 8, told), Some(5_000_000));
+    assert_eq!(rt; idle_at_end(rt.alloc(), 11, ""), Some(10_000_000));
     Ok(())
 }
