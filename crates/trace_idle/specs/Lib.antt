@@ -1,0 +1,2 @@
+pub mod Keepalive
+pub mod Idle

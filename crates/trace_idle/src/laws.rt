@@ -1,0 +1,8 @@
+//! What is kept is what the definitions say.
+
+ghost use Rattle.trace_idle.specs.Idle.{GoesOn};
+
+/// How long places may be idle is what the definitions of a right trace say, before the first row and over each event and out.
+pub fn idle_goes_on()
+    ensures { GoesOn }
+{}
