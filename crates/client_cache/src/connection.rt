@@ -28,7 +28,6 @@ use std::fmt;
 use std::marker::{Model, PhantomData};
 
 /// A transport whose results are kept.
-#[derive(Drop)]
 pub struct Connection<CR, U: SendRequest<CR>> {
     upstream: U,
     kept: Kept,
@@ -36,6 +35,18 @@ pub struct Connection<CR, U: SendRequest<CR>> {
     board: Board,
     failed: Latch,
     requests: PhantomData<CR>,
+}
+
+impl<CR: Drop, U: SendRequest<CR> + Drop> Drop for Connection<CR, U> {
+    fn drop(self) {
+        let Connection {
+            upstream: _,
+            kept: _,
+            board: _,
+            failed: _,
+            requests: _,
+        } = self;
+    }
 }
 
 impl<CR, U: SendRequest<CR>> Model for Connection<CR, U> {

@@ -77,7 +77,12 @@ pub(crate) fn first_kept(table: &Table, key: &mut Key) -> Option<Flags>
 }
 
 /// The message or error that serves a request, from the entry under its own key, which is used.
-fn take_own(table: &mut Table, alloc: Global, asked: &Asked, now: u64) -> Result<Answer, NoMemory>
+fn answer_from_own(
+    table: &mut Table,
+    alloc: Global,
+    asked: &Asked,
+    now: u64,
+) -> Result<Answer, NoMemory>
     ensures { IfOk result (λ answer. plain.takes_own asked.now now table.old ≡ plain.found answer table.new) }
 {
     match table.get(&asked.key) {
@@ -163,7 +168,7 @@ fn keep_derived(
 }
 
 /// What a request is given from the entry under its key with other flags.
-fn take_other(
+fn answer_from_other(
     table: &mut Table,
     alloc: Global,
     config: &Config,
@@ -181,7 +186,7 @@ fn take_other(
 }
 
 /// What a request is given from the entry with these flags.
-pub(crate) fn take(
+pub(crate) fn answer_from(
     table: &mut Table,
     alloc: Global,
     config: &Config,
@@ -193,8 +198,8 @@ pub(crate) fn take(
 {
     let clears_rd = flags.rd && !asked.key.rd();
     if is_same_class(flags.class, asked.key.addo()) && !clears_rd {
-        take_own(table, alloc, asked, now)
+        answer_from_own(table, alloc, asked, now)
     } else {
-        take_other(table, alloc, config, asked, flags, now)
+        answer_from_other(table, alloc, config, asked, flags, now)
     }
 }

@@ -33,7 +33,7 @@ fn keep_for(
 
 /// Keeps a result that came for a request, and says what the request is given: a message of which it can't be told
 /// how long it may be kept is no result.
-pub(crate) fn keep(
+pub(crate) fn keep_result(
     table: &mut Table,
     config: &Config,
     key: Key,

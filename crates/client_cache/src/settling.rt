@@ -7,7 +7,7 @@ ghost use Rattle.client_cache.specs.Keeping as keeping;
 ghost use Rattle.client_cache.specs.Plain as plain;
 
 use crate::entry::Spare;
-use crate::keeping::keep;
+use crate::keeping::keep_result;
 use crate::table::{Table, new_table};
 use cache_rules::Key;
 use client_request::{Board, Cx, Error, Posted, Words};
@@ -89,7 +89,7 @@ fn give_kept<W: Words>(
     ensures lends { LendsTheSame cx.old cx.new }
     ensures ok { OnOk result ((kept.new, view_of W.stream cx.new) ≡ plain.gives_outcome ticket key kept.old (view_of W.stream cx.old) outcome) }
 {
-    let given = keep(&mut kept.table, &kept.config, key, cx.now.0, outcome)?;
+    let given = keep_result(&mut kept.table, &kept.config, key, cx.now.0, outcome)?;
     cx.board.put(ticket, part_of(given))
 }
 

@@ -12,7 +12,7 @@ ghost use Rattle.client_cache.specs.Plain.{read};
 
 use crate::connection::Request;
 use crate::entry::{Asked, Spare};
-use crate::finding::{first_kept, take};
+use crate::finding::{answer_from, first_kept};
 use crate::settling::{Job, Kept, part_of, settle_all, stand_in};
 use crate::table::{Flags, Table};
 use cache_rules::Key;
@@ -82,7 +82,7 @@ fn way_taken(
     ensures way { IfOk result (λ way. way ≡ (plain.way_asked config.now now table.old (Some asked)).0) }
     ensures table { OnOk result (table.new ≡ (plain.way_asked config.now now table.old (Some asked)).1) }
 {
-    match take(table, alloc, config, &asked, flags, now)? {
+    match answer_from(table, alloc, config, &asked, flags, now)? {
         Some(outcome) => Ok(Way::Given(outcome)),
         None => {
             let spare = spare_in(&*table, alloc, config, &asked)?;
@@ -169,7 +169,7 @@ fn hand_on<CR: ComposeRequest, U: SendRequest<CR>, W: Words>(
 }
 
 /// A request has its result, or is handed on: then this is what stands for its result there.
-fn go_on<CR: ComposeRequest, U: SendRequest<CR>, W: Words>(
+fn give_or_hand_on<CR: ComposeRequest, U: SendRequest<CR>, W: Words>(
     below: &mut U,
     kept: &mut Kept,
     board: &mut Board,
@@ -212,7 +212,7 @@ fn send<CR: ComposeRequest, U: SendRequest<CR>, W: Words>(
         cx.now.0,
         &request,
     )?;
-    go_on(below, kept, board, cx, ticket, way, request)
+    give_or_hand_on(below, kept, board, cx, ticket, way, request)
 }
 
 /// Takes a request on.

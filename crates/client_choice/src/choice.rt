@@ -23,7 +23,6 @@ const REFUSED: OptRcode = OptRcode(5);
 const SERVFAIL: OptRcode = OptRcode(2);
 
 /// The servers; the requests by ticket, and the ticket of each timer that starts the next server.
-#[derive(Drop)]
 pub struct Choice<Req, U: SendRequest<Req>> {
     pub(crate) alloc: Global,
     pub(crate) servers: Vec<Server<U>>,
@@ -31,6 +30,18 @@ pub struct Choice<Req, U: SendRequest<Req>> {
     pub(crate) timers: NumberTable<u64>,
     /// Takes what a server posted while it is settled, and is kept only for its memory.
     pub(crate) board: Board,
+}
+
+impl<Req: Drop, U: SendRequest<Req> + Drop> Drop for Choice<Req, U> {
+    fn drop(self) {
+        let Choice {
+            alloc: _,
+            servers: _,
+            jobs: _,
+            timers: _,
+            board: _,
+        } = self;
+    }
 }
 
 impl<Req, U: SendRequest<Req>> Model for Choice<Req, U> {

@@ -39,11 +39,20 @@ use std::marker::Model;
 const FIRST_IDENTIFIER: u64 = 10;
 
 /// Several servers, of which the one that is expected to answer first is asked first.
-#[derive(Drop)]
 pub struct Connection<Req, U: SendRequest<Req>> {
     config: Config,
     choice: Choice<Req, U>,
     failed: Latch,
+}
+
+impl<Req: Drop, U: SendRequest<Req> + Drop> Drop for Connection<Req, U> {
+    fn drop(self) {
+        let Connection {
+            config: _,
+            choice: _,
+            failed: _,
+        } = self;
+    }
 }
 
 /// The same: a connection is a transport.

@@ -26,7 +26,6 @@ use std::marker::Model;
 /// A client of the servers of a configuration.
 ///
 /// It is told what happens by `step`, and what it puts out is to be done by whoever holds it.
-#[derive(Drop)]
 pub struct Client {
     alloc: Global,
     use_vc: bool,
@@ -40,6 +39,25 @@ pub struct Client {
     ticket: u64,
     place: u64,
     failed: bool,
+}
+
+impl Drop for Client {
+    fn drop(self) {
+        let Client {
+            alloc: _,
+            use_vc: _,
+            count: _,
+            layer: _,
+            asked: _,
+            timeout: _,
+            now: _,
+            board: _,
+            timers: _,
+            ticket: _,
+            place: _,
+            failed: _,
+        } = self;
+    }
 }
 
 impl Model for Client {

@@ -15,12 +15,23 @@ use std::alloc::Global;
 use std::marker::Model;
 
 /// A server that is asked by datagrams. `server` is the number that its outs name.
-#[derive(Debug, Drop)]
+#[derive(Debug)]
 pub struct Connection<Req> {
     server: u32,
     config: Config,
     tables: Tables<Req>,
     failed: Latch,
+}
+
+impl<Req: Drop> Drop for Connection<Req> {
+    fn drop(self) {
+        let Connection {
+            server: _,
+            config: _,
+            tables: _,
+            failed: _,
+        } = self;
+    }
 }
 
 impl<Req> Model for Connection<Req> {

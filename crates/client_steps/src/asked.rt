@@ -25,11 +25,20 @@ pub struct Waiting<P> {
 
 /// The requests that wait, by the ticket of their response, the ticket of each deadline, and the number
 /// of the next request.
-#[derive(Drop)]
 pub struct Asked<P> {
     waiting: NumberTable<Waiting<P>>,
     deadlines: NumberTable<u64>,
     next: u64,
+}
+
+impl<P: Drop> Drop for Asked<P> {
+    fn drop(self) {
+        let Asked {
+            waiting: _,
+            deadlines: _,
+            next: _,
+        } = self;
+    }
 }
 
 impl<P> Model for Asked<P> {

@@ -10,7 +10,6 @@ use client_request::{
 use dns_base::Message;
 
 /// A server, by the transport that is used for it.
-#[derive(Drop)]
 pub enum Upstream<CR: ComposeRequest> {
     /// By datagrams alone.
     Dgram(client_dgram::Connection<CR>),
@@ -18,6 +17,16 @@ pub enum Upstream<CR: ComposeRequest> {
     Stream(multi_stream::Connection<CR>),
     /// By datagrams, and by streams where an answer is truncated.
     DgramStream(dgram_stream::Connection<CR>),
+}
+
+impl<CR: ComposeRequest + Drop> Drop for Upstream<CR> {
+    fn drop(self) {
+        match self {
+            Upstream::Dgram(_) => {}
+            Upstream::Stream(_) => {}
+            Upstream::DgramStream(_) => {}
+        }
+    }
 }
 
 /// What stands for the result of a request that was handed to a server.

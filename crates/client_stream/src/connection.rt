@@ -28,7 +28,6 @@ const MAX_HELD: usize = 32768;
 /// A connection to a server at a place that was opened. Requests are written one behind the other, each
 /// under an id of its own, and answers come in any order. Once it has ended each request that is taken on
 /// gets `ConnectionClosed`.
-#[derive(Drop)]
 pub struct Connection<Req, ReqMulti> {
     alloc: Global,
     place: u64,
@@ -37,6 +36,19 @@ pub struct Connection<Req, ReqMulti> {
     /// The octets that no frame has taken.
     framer: Framer,
     failed: Latch,
+}
+
+impl<Req: Drop, ReqMulti: Drop> Drop for Connection<Req, ReqMulti> {
+    fn drop(self) {
+        let Connection {
+            alloc: _,
+            place: _,
+            config: _,
+            line: _,
+            framer: _,
+            failed: _,
+        } = self;
+    }
 }
 
 impl<Req, ReqMulti> Model for Connection<Req, ReqMulti> {

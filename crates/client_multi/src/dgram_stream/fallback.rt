@@ -13,7 +13,6 @@ use std::marker::Model;
 
 /// A server that is asked by `dgram`, and by `stream` where a message of `dgram` is truncated. `server`
 /// is the number that its outs name.
-#[derive(Drop)]
 pub struct Fallback<Req, D: SendRequest<Req>, S: SendRequest<Req>> {
     alloc: Global,
     server: u32,
@@ -21,6 +20,19 @@ pub struct Fallback<Req, D: SendRequest<Req>, S: SendRequest<Req>> {
     /// Where both post during a call.
     boards: Boards,
     failed: Latch,
+}
+
+impl<Req: Drop, D: SendRequest<Req> + Drop, S: SendRequest<Req> + Drop> Drop
+    for Fallback<Req, D, S> {
+    fn drop(self) {
+        let Fallback {
+            alloc: _,
+            server: _,
+            parts: _,
+            boards: _,
+            failed: _,
+        } = self;
+    }
 }
 
 impl<Req, D: SendRequest<Req>, S: SendRequest<Req>> Model for Fallback<Req, D, S> {

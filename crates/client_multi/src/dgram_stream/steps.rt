@@ -205,7 +205,7 @@ pub(crate) fn give_up<Req: ComposeRequest, D: SendRequest<Req>, S: SendRequest<R
     ensures relays { Relays D.holds_failed S.holds_failed W.stream cx.old cx.new result (plain.drops server D.transport S.transport ticket parts.old) parts.new parts.old parts.new }
 {
     boards.clear();
-    let Some(job) = parts.tables.take(ticket) else {
+    let Some(job) = parts.tables.take_job(ticket) else {
         return Ok(());
     };
     match job {

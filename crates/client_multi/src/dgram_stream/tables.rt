@@ -61,7 +61,7 @@ impl<Req: Drop, P: Drop, Q: Drop> Tables<Req, P, Q> {
     }
 
     /// Takes a request out.
-    pub(crate) fn take(&mut self, ticket: u64) -> Option<Job<Req, P, Q>>
+    pub(crate) fn take_job(&mut self, ticket: u64) -> Option<Job<Req, P, Q>>
         ensures value { result ≡ entry_at ticket self.old.jobs }
         ensures after { self.new ≡ plain.without ticket self.old }
     {

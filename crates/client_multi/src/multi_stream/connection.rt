@@ -24,13 +24,24 @@ use std::marker::Model;
 ///
 /// A request goes to the newest connection that is open and has room. Where its connection ends, or it
 /// is too long for one, it backs off and is tried anew, until its result comes or its time is over.
-#[derive(Drop)]
 pub struct Connection<Req> {
     server: u32,
     config: Config,
     tables: Tables<Req, Link<Req>>,
     shut: bool,
     failed: Latch,
+}
+
+impl<Req: Drop> Drop for Connection<Req> {
+    fn drop(self) {
+        let Connection {
+            server: _,
+            config: _,
+            tables: _,
+            shut: _,
+            failed: _,
+        } = self;
+    }
 }
 
 /// The same: what runs a connection and what asks by it are one value here.

@@ -9,7 +9,9 @@ use crate::multi_stream::config::Config;
 use crate::multi_stream::job::{Job, Stage};
 use crate::multi_stream::one_stream::OneStream;
 use crate::multi_stream::retry::retry_due;
-use crate::multi_stream::tables::{Tables, back_off, keep, put_back, take_at, wait};
+use crate::multi_stream::tables::{
+    Tables, await_opening, back_off, keep_connection, put_back, take_at,
+};
 use client_request::{ComposeRequest, Cx, Error, GetResponse, Out, Signal, TimerId, What, Words};
 use std::alloc::Global;
 use std::collections::BTreeSet;
@@ -80,14 +82,14 @@ fn open_next<Req: ComposeRequest, S: OneStream<Req>, W: Words>(
     ensures follows { Follows W.stream cx.old cx.new result (plain.opens S.machine server ticket job tables.old) tables.new }
 {
     let place = cx.draw_place()?;
-    wait(tables, ticket, job)?;
+    await_opening(tables, ticket, job)?;
     tables.opening = Some(place);
     cx.outs.push(Out::OpenStream { place, server })?;
     Ok(())
 }
 
 /// No connection has room for a request.
-fn go_on<Req: ComposeRequest, S: OneStream<Req>, W: Words>(
+fn await_room<Req: ComposeRequest, S: OneStream<Req>, W: Words>(
     tables: &mut Tables<Req, S>,
     server: u32,
     cx: &mut Cx<'_, W>,
@@ -98,7 +100,7 @@ fn go_on<Req: ComposeRequest, S: OneStream<Req>, W: Words>(
 {
     match tables.opening {
         Some(_) => {
-            wait(tables, ticket, job)?;
+            await_opening(tables, ticket, job)?;
             Ok(())
         }
         None => {
@@ -123,7 +125,7 @@ fn hand<Req: ComposeRequest, S: OneStream<Req>, W: Words>(
 {
     match take_with_room(tables) {
         Some((place, connection)) => hold(tables, cx, ticket, job, place, connection),
-        None => go_on(tables, server, cx, ticket, job),
+        None => await_room(tables, server, cx, ticket, job),
     }
 }
 
@@ -242,7 +244,7 @@ fn opened<Req: ComposeRequest, S: OneStream<Req>, W: Words>(
         return Ok(());
     }
     let connection = S::open(tables.alloc, place, *config.stream())?;
-    keep(tables, place, connection)?;
+    keep_connection(tables, place, connection)?;
     tables.opening = None;
     tables.refusals = 0;
     tables.calm = 0;
@@ -309,7 +311,7 @@ fn give_up_at<Req: ComposeRequest, S: OneStream<Req>, W: Words>(
 }
 
 /// A request, which is in no table any more, is given up where it is.
-fn leave<Req: ComposeRequest, S: OneStream<Req>, W: Words>(
+fn give_up_in_stage<Req: ComposeRequest, S: OneStream<Req>, W: Words>(
     tables: &mut Tables<Req, S>,
     cx: &mut Cx<'_, W>,
     ticket: u64,
@@ -344,7 +346,7 @@ pub(crate) fn give_up<Req: ComposeRequest, S: OneStream<Req>, W: Words>(
     };
     let _ = tables.timers.remove(job.end);
     cx.timers.cancel(TimerId(job.end));
-    leave(tables, cx, ticket, job.stage)
+    give_up_in_stage(tables, cx, ticket, job.stage)
 }
 
 /// The time of a request, which is in no table any more, is over.
@@ -356,7 +358,7 @@ fn time_out<Req: ComposeRequest, S: OneStream<Req>, W: Words>(
 ) -> Result<(), Error>
     ensures follows { Follows W.stream cx.old cx.new result (plain.times_out S.machine ticket job tables.old) tables.new }
 {
-    leave(tables, cx, ticket, job.stage)?;
+    give_up_in_stage(tables, cx, ticket, job.stage)?;
     cx.board.put(ticket, Err(Error::StreamReadTimeout))?;
     Ok(())
 }
@@ -382,7 +384,7 @@ fn fire<Req: ComposeRequest, S: OneStream<Req>, W: Words>(
 }
 
 /// A timer fired: one of a request, or of a connection.
-fn due<Req: ComposeRequest, S: OneStream<Req>, W: Words>(
+fn hear_timer<Req: ComposeRequest, S: OneStream<Req>, W: Words>(
     tables: &mut Tables<Req, S>,
     server: u32,
     cx: &mut Cx<'_, W>,
@@ -446,6 +448,6 @@ pub(crate) fn hear<Req: ComposeRequest, S: OneStream<Req>, W: Words>(
     match signal {
         Signal::Told(what) => told(tables, server, config, cx, what),
         Signal::More { place } => hear_at(tables, cx, place, signal),
-        Signal::Due(timer) => due(tables, server, cx, timer.0),
+        Signal::Due(timer) => hear_timer(tables, server, cx, timer.0),
     }
 }

@@ -89,7 +89,7 @@ impl<Req, S> Tables<Req, S> {
 }
 
 /// A request waits for the connection that opens.
-pub(crate) fn wait<Req: ComposeRequest, S: OneStream<Req>>(
+pub(crate) fn await_opening<Req: ComposeRequest, S: OneStream<Req>>(
     tables: &mut Tables<Req, S>,
     ticket: u64,
     mut job: Job<Req>,
@@ -111,7 +111,7 @@ fn once_more<Req>(mut job: Job<Req>) -> Job<Req>
 }
 
 /// A request backs off until a timer fires.
-fn rest<Req: ComposeRequest, S: OneStream<Req>>(
+fn back_off_until<Req: ComposeRequest, S: OneStream<Req>>(
     tables: &mut Tables<Req, S>,
     ticket: u64,
     mut job: Job<Req>,
@@ -137,7 +137,7 @@ pub(crate) fn back_off<Req: ComposeRequest, S: OneStream<Req>, W: Words>(
     let job = once_more(job);
     let word = cx.words.next();
     let timer = cx.timers.set(retry_due(cx.now, job.back_offs, word))?;
-    rest(tables, ticket, job, timer.0)?;
+    back_off_until(tables, ticket, job, timer.0)?;
     Ok(())
 }
 
@@ -207,7 +207,7 @@ fn collect<Req: ComposeRequest, S: OneStream<Req>, W: Words>(
 }
 
 /// Keeps a connection at its place.
-pub(crate) fn keep<Req: ComposeRequest, S: OneStream<Req>>(
+pub(crate) fn keep_connection<Req: ComposeRequest, S: OneStream<Req>>(
     tables: &mut Tables<Req, S>,
     place: u64,
     connection: S,
@@ -248,7 +248,7 @@ pub(crate) fn put_back<Req: ComposeRequest, S: OneStream<Req>, W: Words>(
     ensures follows { Follows W.stream cx.old cx.new result (plain.collects board.old (plain.with_connection S.machine place connection tables.old)) tables.new }
 {
     if !connection.is_closed() {
-        keep(tables, place, connection)?;
+        keep_connection(tables, place, connection)?;
     }
     collect(tables, cx, board)
 }
