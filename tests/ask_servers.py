@@ -1,14 +1,14 @@
 #!/usr/bin/env python3
-"""Asks a real server by `dnsq query`, and compares what it answers with what kdig is answered.
+"""Asks real servers by `dnsq query`, and compares what they answer with what kdig is answered.
 
     sudo python3 tests/ask_servers.py PROGRAM
 
-PROGRAM is the built dnsq. An NSD serves one zone on loopback, and a configuration that names 127.0.0.1 is mounted over
+PROGRAM is the built dnsq. An NSD, a BIND and an Unbound, as far as they are installed, serve one zone on loopback, and a configuration that names 127.0.0.1 is mounted over
 /etc/resolv.conf in a mount namespace of this script's own, so nothing outside sees it. Twelve questions are asked: an
 address, an alias, a name that is not there, mail exchangers, the start of the zone, services, an IPv6 address, an answer
 that is truncated and comes by TCP, one of about 60,000 octets, one that is refused, one at a port where nobody listens, and
 one at a port where nobody answers. Of the first ten the sections agree with kdig's, record by record and as counts. Without
-NSD, kdig or a namespace nothing is compared, and that is said. The first difference ends it with status 1.
+any of the servers, kdig or a namespace nothing is compared, and that is said. The first difference ends it with status 1.
 """
 
 import os
@@ -182,8 +182,7 @@ def unanswered(program):
     print("silent port: %s after %.2f s, of which %.3f s on a processor" % (line.strip(), took, busy))
 
 
-def serve(folder, port):
-    (folder / "zone").write_text(zone())
+def nsd(folder, port):
     (folder / "nsd.conf").write_text("""server:
   ip-address: 127.0.0.1@%d
   username: ""
@@ -200,9 +199,56 @@ remote-control:
 zone:
   name: %s
   zonefile: zone
-""" % (port, folder, folder, folder, folder, folder, ZONE))
-    server = subprocess.Popen(["nsd", "-d", "-c", str(folder / "nsd.conf")], stdout=subprocess.DEVNULL,
-                              stderr=open(folder / "log", "w"))
+""" % (port, *[folder] * 5, ZONE))
+    return ["nsd", "-d", "-c", str(folder / "nsd.conf")]
+
+
+def named(folder, port):
+    (folder / "named.conf").write_text("""options {
+  directory "%s";
+  pid-file "%s/named.pid";
+  session-keyfile "%s/session.key";
+  listen-on port %d { 127.0.0.1; };
+  listen-on-v6 { none; };
+  recursion no;
+  dnssec-validation no;
+  minimal-responses no;
+  max-records-per-type 0;
+};
+controls { };
+zone "example" { type primary; file "zone"; check-names ignore; };
+""" % (folder, folder, folder, port))
+    return ["named", "-g", "-c", str(folder / "named.conf")]
+
+
+def unbound(folder, port):
+    (folder / "unbound.conf").write_text("""server:
+  interface: 127.0.0.1@%d
+  username: ""
+  chroot: ""
+  directory: "%s"
+  pidfile: "%s/unbound.pid"
+  use-syslog: no
+  module-config: "iterator"
+  access-control: 127.0.0.0/8 allow
+  local-zone: "elsewhere." refuse
+remote-control:
+  control-enable: no
+auth-zone:
+  name: %s
+  zonefile: "%s/zone"
+  for-downstream: yes
+  for-upstream: no
+""" % (port, folder, folder, ZONE, folder))
+    return ["unbound", "-d", "-c", str(folder / "unbound.conf")]
+
+
+SERVERS = {"nsd": nsd, "named": named, "unbound": unbound}
+
+
+def serve(kind, folder, port):
+    (folder / "zone").write_text(zone())
+    server = subprocess.Popen(SERVERS[kind](folder, port), stdout=subprocess.DEVNULL, stderr=open(folder / "log", "w"))
     for _ in range(100):
         time.sleep(0.1)
         if server.poll() is not None:
@@ -212,7 +258,8 @@ zone:
         if "192.0.2.1" in asked:
             return server
     server.kill()
-    skipped("nsd does not serve: " + (folder / "log").read_text()[-300:])
+    print("%s does not serve: %s" % (kind, (folder / "log").read_text()[-300:]))
+    sys.exit(1)
 
 
 def inside(program):
@@ -221,14 +268,21 @@ def inside(program):
         (folder / "resolv.conf").write_text("nameserver 127.0.0.1\n")
         if subprocess.run(["mount", "--bind", str(folder / "resolv.conf"), "/etc/resolv.conf"]).returncode:
             skipped("nothing can be mounted over /etc/resolv.conf")
-        port = free_port()
-        server = serve(folder, port)
         try:
-            compare(program, port)
+            for kind in SERVERS:
+                if not shutil.which(kind):
+                    print(kind + " is missing")
+                    continue
+                print("== " + kind)
+                port = free_port()
+                server = serve(kind, folder, port)
+                try:
+                    compare(program, port)
+                finally:
+                    server.terminate()
+                    server.wait()
             unanswered(program)
         finally:
-            server.terminate()
-            server.wait()
             subprocess.run(["umount", "/etc/resolv.conf"])
     print("all agree")
 
@@ -239,9 +293,11 @@ def main():
     program = [os.path.abspath(sys.argv[1])]
     if os.environ.get(INSIDE):
         return inside(program)
-    for tool in ("nsd", "kdig", "unshare"):
+    for tool in ("kdig", "unshare"):
         if not shutil.which(tool):
             skipped(tool + " is missing")
+    if not any(map(shutil.which, SERVERS)):
+        skipped("each of the servers is missing")
     if subprocess.run(["unshare", "--mount", "true"], stderr=subprocess.DEVNULL).returncode:
         skipped("no mount namespace can be made")
     os.environ[INSIDE] = "1"
