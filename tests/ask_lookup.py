@@ -8,8 +8,8 @@ asked the same questions: every type that the zone has, aliases, a name that is 
 outside the zone, an answer that is truncated and comes by TCP, and an address. Of each answer the response code, the flags,
 the counts and the records of each section agree with kdig's up to blanks, and so do the server and the transport that are
 told. `+short` writes the data of kdig's answer section. Then come a port where nobody listens, one where nobody answers, one
-that answers under another id and one that answers another question: each ends with status 5 and one sentence on standard
-error. Wrong words end with status 2 and a sentence that names the word. A server that is not installed is left out, and that
+that answers under another id and one that answers another question: each ends with status 5, one sentence on standard
+error, and, but for the two that answer something, a line for each time that the server is named, which says what it brought. Wrong words end with status 2 and a sentence that names the word. A server that is not installed is left out, and that
 is said; without kdig or any server nothing is compared. The first difference ends it with status 1.
 """
 
@@ -215,16 +215,19 @@ def lie(server, changed):
 
 
 def unanswered(program):
-    def ends(what, port):
+    def ends(what, port, brought):
         began = time.monotonic()
         status, out, said = run(program, ["@127.0.0.1", "-p", str(port), "www.example", "A", "+time=2"])
         took = time.monotonic() - began
         expect(status == 5 and out == "", "%s: status %d, %s" % (what, status, out))
-        expect(said.startswith("dns_lookup: no answer") and said.count("\n") == 1, "%s: %s" % (what, said))
+        lines = said.splitlines()
+        expect(lines[0].startswith("dns_lookup: no answer"), "%s: %s" % (what, said))
+        told = ["dns_lookup: 127.0.0.1:%d (UDP): %s" % (port, brought)] if brought else []
+        expect(lines[1:] == 2 * told, "%s: %s" % (what, said))
         expect(took < 4, "%s: it took %.1f s" % (what, took))
         print("%s: %s after %.2f s" % (what, said.strip(), took))
 
-    ends("a port where nobody listens", free_port())
+    ends("a port where nobody listens", free_port(), "connection refused")
     other_id = lambda octets: bytes([octets[0] ^ 1]) + octets[1:2] + b"\x84\x00" + octets[4:]
     other_name = lambda octets: octets[:2] + b"\x84\x00" + octets[4:13] + b"x" + octets[14:]
     for what, changed in (("a silent server", None), ("a server with another id", other_id), ("one with another question", other_name)):
@@ -232,7 +235,7 @@ def unanswered(program):
             server.bind(("127.0.0.1", 0))
             if changed:
                 threading.Thread(target=lie, args=(server, changed), daemon=True).start()
-            ends(what, server.getsockname()[1])
+            ends(what, server.getsockname()[1], None if changed else "no answer")
 
 
 def wrong_words(program):

@@ -1,5 +1,5 @@
 -- What a lookup ends with, by what its requests came to.
-use Rattle.std.proofs.Common.{◌≡◌, ◌⊎◌, ◌+◌, ◌≤◌, ◌++◌, ℕ, Bool, true, false, List, [], ◌∷◌, map, refl, ap, sym, subst, ◌∙◌, inl, inr, arith, Option, None, Some, Result, Ok, Err}
+use Rattle.std.proofs.Common.{◌≡◌, ◌+◌, ◌≤◌, ◌++◌, ℕ, Bool, true, false, List, [], ◌∷◌, map, refl, ap, sym, subst, ◌∙◌, inl, inr, arith, Option, None, Some, Result, Ok, Err}
 use Rattle.std.proofs.lemmas.List.Elements.{All-cons, All-nil}
 use Rattle.std.specs.List.{All}
 use Rattle.std.specs.Prelude.{IfOk, IsErrOf, is_some, unwrap_or}
@@ -9,12 +9,16 @@ use Rattle.client_loop.specs.Asking.{IsAnswered, Scene, scene}
 use Rattle.client_loop.specs.Turns.{after_deeds}
 use Rattle.client_request.specs.declared.error.Error.{Error}
 use Rattle.client_request.specs.declared.error.Error.TheVariants.{NumbersUsed}
-use Rattle.client_settings.specs.Settings.{default_cache, default_redundant}
+use Rattle.client_settings.specs.Settings.{default_cache}
+use Rattle.resolver_policy.specs.Practice.{practical_choice}
 use Rattle.client_steps.specs.Whole.{Whole, started}
 use Rattle.command_parts.specs.Ends.{IsSaid}
 use Rattle.dns_values.specs.Source.{Rose}
 use Rattle.dns_values.specs.declared.numbers.Rtype.{Rtype}
-use Rattle.dns_lookup_run.specs.Worlds.{World, begun, is_message}
+use Rattle.dns_lookup_run.specs.Reports.{tells, told_of}
+use Rattle.dns_lookup_run.specs.Worlds.{World, begun, is_message, said}
+use Rattle.dns_lookup_run.specs.declared.watched_edge.Opened.{Opened}
+use Rattle.resolv_conf.specs.declared.server.ServerConf.{ServerConf}
 use Rattle.resolv_conf.specs.declared.conf.ResolvConf.{ResolvConf}
 use Rattle.dns_lookup_run.specs.Asking.{Answer, AreAnswered, Brought, Came, Gave, HasBegun, IsAskedFor, Stopped, all_asked, one_asked, request_for, types_at}
 use Rattle.dns_lookup_run.specs.Ends.{EndsSo, HasPage}
@@ -35,8 +39,8 @@ begins : (conf : ResolvConf) (client : Whole) (old : World) (deeds : Option (Lis
     → HasBegun conf client old.deeds deeds old.polls polls → scene client old.words deeds waits polls old.moments ≡ begun conf old waits
 begins conf client old deeds waits polls h =
     ap (λ m. scene m old.words deeds waits polls old.moments) h.made
-    ∙ ap (λ d. scene (started default_redundant default_cache conf) old.words d waits polls old.moments) h.learned
-    ∙ ap (λ p. scene (started default_redundant default_cache conf) old.words (after_deeds (map (λ server. Learned server) conf.servers) old.deeds) waits p old.moments) h.polled
+    ∙ ap (λ d. scene (started practical_choice default_cache conf) old.words d waits polls old.moments) h.learned
+    ∙ ap (λ p. scene (started practical_choice default_cache conf) old.words (after_deeds (map (λ server. Learned server) conf.servers) old.deeds) waits p old.moments) h.polled
 
 -- where a request begins, and where one ends
 abbrev pub leaves : Whole → World → Option (List Deed) → (waits : Option (List ℕ)) → ℕ → Scene
@@ -237,3 +241,9 @@ pub told_later : (held mid after : Option (List ℕ)) (faults mid_faults faults_
     → IsSaid line mid after mid_faults faults_after → IsSaid line held after faults faults_after
 told_later held mid after faults mid_faults faults_after line same same_faults h =
     subst (λ (n : ℕ). IsSaid line held after n faults_after) same_faults (subst (λ (m : Option (List ℕ)). IsSaid line m after mid_faults faults_after) same h)
+
+-- what is told of some places
+pub told_by : {L : Type 0} (held : L → Option (List ℕ)) (faults : L → ℕ) (servers : List ServerConf) (places : List Opened) (old new : L) (outcome : Result Outcome Error)
+    → IfOk outcome (λ o. said held faults old new (answer_text o.answer ++ told_of servers places)) → IfOk outcome (λ o. tells held faults servers old new (answer_text o.answer))
+told_by held faults servers places old new (Ok o) h = (places, h)
+told_by held faults servers places old new (Err e) h = h

@@ -1,16 +1,16 @@
 -- What words end with.
-use Rattle.std.proofs.Common.{◌≡◌, ◌≢◌, ◌⊎◌, ◌<◌, inl, inr, ℕ, List, Option, None, Some, Ok, Err, String, Global, arith}
+use Rattle.std.proofs.Common.{◌≡◌, ◌≢◌, ◌⊎◌, ◌<◌, inl, inr, ℕ, List, Option, Ok, Err, String, Global, arith}
 use Rattle.std.specs.Prelude.{IfSome}
 use Rattle.dns_values.specs.Source.{Rose}
-use Rattle.command_parts.specs.Conf.{IsConfRefused}
 use Rattle.command_parts.specs.Ends.{IsEarly, IsSaid, line_of, status_of}
-use Rattle.dns_lookup_run.specs.Worlds.{World}
+use Rattle.dns_lookup_run.specs.Worlds.{World, at_words, said}
 use Rattle.command_parts.specs.declared.ending.Ending.{Ending}
 use Rattle.command_parts.specs.declared.ending.Ending.TheVariants.{Says, Silent}
-use Rattle.resolv_conf.specs.declared.conf.ResolvConf.{ResolvConf}
-use Rattle.dns_lookup_run.specs.Conf.{IsConfOf}
-use Rattle.dns_lookup_run.specs.Ends.{EndsSo, HasNoConf, IsOfAsking, IsRefusalTold, WordsEnd, asked, no_conf, no_memory, refused, refused_for, unread}
-use Rattle.dns_lookup_run.specs.Sentences.{conf_text}
+use Rattle.resolver_policy.specs.declared.found.Found.{Found}
+use Rattle.dns_lookup_run.specs.Conf.{IsConfOf, IsTooLong}
+use Rattle.dns_lookup_run.specs.Ends.{EndsTold, HasNoConf, HasPage, IsOfAsking, IsRefusalTold, WordsEnd, asked, no_conf, no_memory, refused, too_long, unread}
+use Rattle.dns_lookup_run.specs.Reports.{notes_text}
+use Rattle.dns_lookup_run.specs.Sentences.{conf_text, numbers_text}
 use Rattle.dns_lookup_words.specs.Sentences.{sentence}
 use Rattle.dns_lookup_words.specs.Words.{LookupGives}
 use Rattle.dns_lookup_words.specs.declared.lookup.Lookup.{Lookup}
@@ -24,18 +24,20 @@ of_asking n (inr (inr (inl e))) = ((λ h. omega arith, omega arith), λ h. omega
 of_asking n (inr (inr (inr (inl e)))) = ((λ h. omega arith, omega arith), λ h. omega arith, λ h. omega arith)
 of_asking n (inr (inr (inr (inr e)))) = ((λ h. omega arith, omega arith), λ h. omega arith, λ h. omega arith)
 
-module _ (words : List (String Global)) (told : Option (List ℕ)) (status : ℕ) (Told : List ℕ → Type 0) (old new : World) where
-  pub refused_ends : (refusal : Refusal) → LookupGives words (Err refusal) → (status ≡ 2) ⊎ (status ≡ 6) → WordsEnd words told status Told old new
+module _ {L : Type 0} (held : L → Option (List ℕ)) (faults : L → ℕ) (words : List (String Global)) (told : Option (List ℕ)) (status : ℕ) (before after : L) (old new : World) where
+  pub refused_ends : (refusal : Refusal) → LookupGives words (Err refusal) → (status ≡ 2) ⊎ (status ≡ 6) → WordsEnd held faults words told status before after old new
   refused_ends refusal judged (inl two) = refused refusal judged two
   refused_ends refusal judged (inr six) = no_memory six
 
-  pub conf_ends : (lookup : Lookup) → LookupGives words (Ok lookup) → (status ≡ 3) ⊎ (status ≡ 6) → WordsEnd words told status Told old new
+  pub conf_ends : (lookup : Lookup) → LookupGives words (Ok lookup) → (status ≡ 3) ⊎ (status ≡ 6) → WordsEnd held faults words told status before after old new
   conf_ends lookup judged (inl three) = no_conf lookup judged three
   conf_ends lookup judged (inr six) = no_memory six
 
-  pub asked_ends : (lookup : Lookup) (conf : ResolvConf) → LookupGives words (Ok lookup) → IsConfOf lookup told conf → IsOfAsking status
-      → EndsSo lookup conf status Told old new → WordsEnd words told status Told old new
-  asked_ends lookup conf judged is_conf of ends = asked lookup conf judged is_conf ((of_asking status of).1, (of_asking status of).2) ends
+  pub asked_ends : (lookup : Lookup) (conf : Found) (left : ℕ → ℕ) (mid : L) → LookupGives words (Ok lookup) → IsConfOf lookup told old.words conf left
+      → said held faults before mid (notes_text conf.notes) → IsOfAsking status → EndsTold held faults lookup conf.conf status mid after (at_words left old) new
+      → (HasPage status → held after ≡ held mid) → (status ≡ 7 → said held faults mid after numbers_text) → WordsEnd held faults words told status before after old new
+  asked_ends lookup conf left mid judged is_conf noted of ends quiet stops =
+      asked lookup conf left mid judged is_conf noted ((of_asking status of).1, (of_asking status of).2) ends (record { quiet = quiet; stops = stops })
 
 -- the sentence of a refusal is told
 pub refusal_told : (words : List (String Global)) (refusal : Refusal) (before after : Option (List ℕ)) (faults faults_after : ℕ) → LookupGives words (Err refusal)
@@ -45,9 +47,9 @@ refusal_told words refusal before after faults faults_after judged said = record
 -- why there is no configuration, and what is told of it
 module _ (told : Option (List ℕ)) (faults faults_after : ℕ) (Told : List ℕ → Type 0) where
   pub why_none : (ending : Ending) → IsEarly ending → status_of ending ≢ 7 → (status_of ending ≡ 1) ⊎ (status_of ending ≡ 3)
-      → (status_of ending ≡ 3 → Rose faults faults_after) → (status_of ending ≡ 1 → IfSome told (λ text. IsConfRefused text (line_of ending)))
+      → (status_of ending ≡ 3 → Rose faults faults_after) → (status_of ending ≡ 1 → IfSome told (λ text. IsTooLong text (line_of ending)))
       → Told (conf_text ending) → HasNoConf told faults faults_after Told
-  why_none (Says status line) (inl one) no_seven cause rose because said = refused_for line.items (because one) said
+  why_none (Says status line) (inl one) no_seven cause rose because said = too_long line.items (because one) said
   why_none (Says status line) (inr seven) no_seven cause rose because said = absurd (no_seven seven)
   why_none (Silent status) (inl three) no_seven cause rose because said = unread (rose three) said
   why_none (Silent status) (inr six) no_seven (inl one) rose because said = absurd (omega arith)

@@ -6,7 +6,8 @@ use Rattle.client_core.specs.declared.deed.Deed.{Deed}
 use Rattle.client_core.specs.declared.deed.Deed.TheVariants.{Learned}
 use Rattle.client_loop.specs.Asking.{IsAnswered, Scene, StopsForNumbers, scene}
 use Rattle.client_loop.specs.Turns.{after_deeds}
-use Rattle.client_settings.specs.Settings.{default_cache, default_redundant}
+use Rattle.client_settings.specs.Settings.{default_cache}
+use Rattle.resolver_policy.specs.Practice.{practical_choice}
 use Rattle.client_steps.specs.Whole.{Whole, started}
 use Rattle.dns_base.specs.Query.{query_octets}
 use Rattle.dns_values.specs.declared.numbers.Rtype.{Rtype}
@@ -55,7 +56,7 @@ pub data AreAnswered (lookup : Lookup) : ℕ → List Rtype → List Answer → 
 
 -- A new client of a configuration, whose servers were learned, and nothing else was done with their edge.
 pub record HasBegun (conf : ResolvConf) (client : Whole) (deeds deeds_after : Option (List Deed)) (polls polls_after : ℕ) : Type 0 where
-  pub made : client ≡ started default_redundant default_cache conf
+  pub made : client ≡ started practical_choice default_cache conf
   pub learned : deeds_after ≡ after_deeds (map (λ server. Learned server) conf.servers) deeds
   pub polled : polls_after ≡ polls
 

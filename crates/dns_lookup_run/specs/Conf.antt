@@ -1,11 +1,13 @@
 -- The configuration that is asked.
-use Rattle.std.specs.Prelude.{◌≡◌, ℕ, ◌*◌, Bool, true, false, List, [], ◌∷◌, map, Option, None, Some, IfSome}
+use Rattle.std.specs.Prelude.{◌≡◌, ℕ, ◌*◌, ◌<◌, Bool, true, false, List, [], ◌∷◌, length, codes, map, Option, None, Some, IfSome}
 use Rattle.dns_values.specs.declared.address.IpAddr.{IpAddr}
 use Rattle.resolv_conf.specs.Conf.{default_options, name_server}
 use Rattle.resolv_conf.specs.Final.{finalized}
 use Rattle.resolv_conf.specs.declared.conf.ResolvConf.{ResolvConf}
-use Rattle.command_parts.specs.Conf.{Configures}
 use Rattle.command_parts.specs.Conf.{conf_at}
+use Rattle.resolver_policy.specs.Found.{IsFoundIn}
+use Rattle.resolver_policy.specs.Practice.{practical, words_left}
+use Rattle.resolver_policy.specs.declared.found.Found.{Found}
 use Rattle.dns_lookup_words.specs.declared.lookup.Lookup.{Lookup}
 
 -- servers by their addresses alone, with the default options
@@ -26,12 +28,27 @@ streamed true conf = record conf { options = record conf.options { use_vc = true
 abbrev pub conf_asked : Lookup → ResolvConf → ResolvConf
 conf_asked lookup conf = streamed lookup.tcp (timed lookup.seconds (conf_at lookup.port conf))
 
--- The servers are those that are named; where none is, those of the source's text, where it tells it.
-abbrev pub IsBase : List IpAddr → Option (List ℕ) → ResolvConf → Type 0
-IsBase [] told conf = IfSome told (λ text. Configures text conf)
-IsBase (ip ∷ ips) told conf = conf ≡ named (ip ∷ ips)
+-- This is found in a text, and then finalized.
+pub record IsReadyIn (text : List ℕ) (ready : Found) : Type 0 where
+  pub found : Found
+  pub is_found : IsFoundIn text found
+  pub conf : ready.conf ≡ finalized found.conf
+  pub notes : ready.notes ≡ found.notes
 
-pub record IsConfOf (lookup : Lookup) (told : Option (List ℕ)) (conf : ResolvConf) : Type 0 where
-  pub base : ResolvConf
+-- The text is longer than what is read, and this line says so.
+abbrev pub IsTooLong : (text line : List ℕ) → Type 0
+IsTooLong text line = (16777216 < length text) × (line ≡ codes "input too long\n")
+
+-- The servers are those that are named, of which nothing is told; where none is, those of the source's text, where it tells it.
+abbrev pub IsBase : List IpAddr → Option (List ℕ) → Found → Type 0
+IsBase [] told base = IfSome told (λ text. IsReadyIn text base)
+IsBase (ip ∷ ips) told base = base ≡ record { conf = named (ip ∷ ips); notes = [] }
+
+-- What is asked, and told of the configuration: that of the base, as a client is given it in practice by the words that come, with what the
+-- lookup says. These words are left.
+pub record IsConfOf (lookup : Lookup) (told : Option (List ℕ)) (words : ℕ → ℕ) (asked : Found) (left : ℕ → ℕ) : Type 0 where
+  pub base : Found
   pub is_base : IsBase lookup.servers told base
-  pub is : conf ≡ conf_asked lookup base
+  pub conf : asked.conf ≡ conf_asked lookup (practical words base.conf)
+  pub notes : asked.notes ≡ base.notes
+  pub left_is : left ≡ words_left words base.conf

@@ -6,13 +6,14 @@ use Rattle.client_loop.specs.Asking.{Scene, StopsForNumbers, scene}
 use Rattle.client_steps.specs.Whole.{Whole}
 use Rattle.dns_values.specs.declared.numbers.Rtype.{Rtype}
 use Rattle.dns_values.specs.Source.{Rose}
-use Rattle.command_parts.specs.Conf.{IsConfRefused}
 use Rattle.command_parts.specs.Ends.{IsSaid}
-use Rattle.dns_lookup_run.specs.Worlds.{World, begun, is_message}
+use Rattle.dns_lookup_run.specs.Worlds.{World, at_words, begun, is_message, said}
 use Rattle.resolv_conf.specs.declared.conf.ResolvConf.{ResolvConf}
 use Rattle.dns_lookup_run.specs.Asking.{Answer, AreAnswered, IsAskedFor, request_for, types_at}
-use Rattle.dns_lookup_run.specs.Conf.{IsConfOf}
-use Rattle.dns_lookup_run.specs.Sentences.{answer_text, refused_text, unread_text}
+use Rattle.resolver_policy.specs.declared.found.Found.{Found}
+use Rattle.dns_lookup_run.specs.Conf.{IsConfOf, IsTooLong}
+use Rattle.dns_lookup_run.specs.Reports.{notes_text, tells}
+use Rattle.dns_lookup_run.specs.Sentences.{answer_text, numbers_text, refused_text, unread_text}
 use Rattle.dns_lookup_words.specs.Sentences.{sentence}
 use Rattle.dns_lookup_words.specs.Words.{LookupGives}
 use Rattle.dns_lookup_words.specs.declared.lookup.Lookup.{Lookup}
@@ -30,10 +31,10 @@ IsOfAsking status = (status ≡ 0) ⊎ ((status ≡ 4) ⊎ ((status ≡ 5) ⊎ (
 abbrev pub TellsWhy : ℕ → Type 0
 TellsWhy status = (status ≡ 2) ⊎ ((status ≡ 3) ⊎ ((status ≡ 5) ⊎ (status ≡ 7)))
 
--- Why there is no configuration, and the sentence that tells it: reading it failed, or what was read is refused.
+-- Why there is no configuration, and the sentence that tells it: reading it failed, or it is too long.
 pub data HasNoConf (told : Option (List ℕ)) (faults faults_after : ℕ) (Told : List ℕ → Type 0) : Type 0 where
   unread : Rose faults faults_after → Told unread_text → HasNoConf told faults faults_after Told
-  refused_for : (line : List ℕ) → IfSome told (λ text. IsConfRefused text line) → Told (refused_text line) → HasNoConf told faults faults_after Told
+  too_long : (line : List ℕ) → IfSome told (λ text. IsTooLong text line) → Told (refused_text line) → HasNoConf told faults faults_after Told
 
 -- Each type was asked for, and each answer is a message.
 pub record IsAnsweredWhole (lookup : Lookup) (conf : ResolvConf) (old new : World) : Type 0 where
@@ -83,13 +84,25 @@ pub record EndsSo (lookup : Lookup) (conf : ResolvConf) (status : ℕ) (Told : L
   pub no_reply : status ≡ 5 → IsUnanswered lookup conf Told old new
   pub numbers : status ≡ 7 → IsStopped lookup conf old new
 
--- What words end with: they are refused, or a lookup whose configuration can't be had, or whose servers are asked.
-pub data WordsEnd (words : List (String Global)) (told : Option (List ℕ)) (status : ℕ) (Told : List ℕ → Type 0) (old new : World) : Type 0 where
-  no_memory : status ≡ 6 → WordsEnd words told status Told old new
-  refused : (refusal : Refusal) → LookupGives words (Err refusal) → status ≡ 2 → WordsEnd words told status Told old new
-  no_conf : (lookup : Lookup) → LookupGives words (Ok lookup) → status ≡ 3 → WordsEnd words told status Told old new
-  asked : (lookup : Lookup) (conf : ResolvConf) → LookupGives words (Ok lookup) → IsConfOf lookup told conf → (status ≢ 2) × (status ≢ 3)
-      → EndsSo lookup conf status Told old new → WordsEnd words told status Told old new
+-- the same, where this is what a sink holds and its count of faults, by which it is told why nothing is written, and what servers brought
+abbrev pub EndsTold : {L : Type 0} → (L → Option (List ℕ)) → (L → ℕ) → Lookup → ResolvConf → ℕ → (before after : L) → (old new : World) → Type 0
+EndsTold held faults lookup conf status before after old new = EndsSo lookup conf status (tells held faults conf.servers before after) old new
+
+-- where a page is written nothing more is told, and where numbers are used up that is
+pub record IsToldSo {L : Type 0} (held : L → Option (List ℕ)) (faults : L → ℕ) (status : ℕ) (mid after : L) : Type 0 where
+  pub quiet : HasPage status → held after ≡ held mid
+  pub stops : status ≡ 7 → said held faults mid after numbers_text
+
+-- What words end with, where this is what a sink holds and its count of faults: they are refused, or a lookup whose configuration can't be had, or
+-- whose servers are asked once it was told of which lines of the configuration were not taken as they stand.
+pub data WordsEnd {L : Type 0} (held : L → Option (List ℕ)) (faults : L → ℕ) (words : List (String Global)) (told : Option (List ℕ)) (status : ℕ) (before after : L) (old new : World) : Type 0 where
+  no_memory : status ≡ 6 → WordsEnd held faults words told status before after old new
+  refused : (refusal : Refusal) → LookupGives words (Err refusal) → status ≡ 2 → WordsEnd held faults words told status before after old new
+  no_conf : (lookup : Lookup) → LookupGives words (Ok lookup) → status ≡ 3 → WordsEnd held faults words told status before after old new
+  asked : (lookup : Lookup) (conf : Found) (left : ℕ → ℕ) (mid : L) → LookupGives words (Ok lookup) → IsConfOf lookup told old.words conf left
+      → said held faults before mid (notes_text conf.notes) → (status ≢ 2) × (status ≢ 3)
+      → EndsTold held faults lookup conf.conf status mid after (at_words left old) new → IsToldSo held faults status mid after
+      → WordsEnd held faults words told status before after old new
 
 -- The words are refused, and the sentence that says why is told.
 pub record IsRefusalTold (words : List (String Global)) (before after : Option (List ℕ)) (faults faults_after : ℕ) : Type 0 where

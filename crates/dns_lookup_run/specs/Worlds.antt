@@ -7,7 +7,8 @@ use Rattle.client_core.specs.declared.deed.Deed.TheVariants.{Learned}
 use Rattle.client_loop.specs.Asking.{Scene, scene}
 use Rattle.client_loop.specs.Turns.{after_deeds}
 use Rattle.client_request.specs.declared.error.Error.{Error}
-use Rattle.client_settings.specs.Settings.{default_cache, default_redundant}
+use Rattle.client_settings.specs.Settings.{default_cache}
+use Rattle.resolver_policy.specs.Practice.{practical_choice}
 use Rattle.client_steps.specs.Whole.{started}
 use Rattle.resolv_conf.specs.declared.conf.ResolvConf.{ResolvConf}
 
@@ -21,6 +22,10 @@ pub record World : Type 0 where
 abbrev pub world : (ℕ → ℕ) → Option (List Deed) → ℕ → Option (List ℕ) → World
 world words deeds polls moments = record { words = words; deeds = deeds; polls = polls; moments = moments }
 
+-- the same with other words to come
+abbrev pub at_words : (ℕ → ℕ) → World → World
+at_words left w = record w { words = left }
+
 -- What holds of the world before and after a call, by what a watched edge, a watched clock and words tell.
 abbrev pub around : {E C W : Type 0} {R : Type 1} → (E → Option (List Deed)) → (E → ℕ) → (C → Option (List ℕ)) → (W → ℕ → ℕ) → (old new : Seen E × Times C × W) → (World → World → R) → R
 around deeds polls given stream old new P =
@@ -32,7 +37,7 @@ said held faults old new line = IsSaid line (held old) (held new) (faults old) (
 
 -- a new client of a configuration, whose servers the edge has learned; it keeps these waits
 abbrev pub begun : ResolvConf → World → Option (List ℕ) → Scene
-begun conf old waits = scene (started default_redundant default_cache conf) old.words (after_deeds (map (λ server. Learned server) conf.servers) old.deeds) waits old.polls old.moments
+begun conf old waits = scene (started practical_choice default_cache conf) old.words (after_deeds (map (λ server. Learned server) conf.servers) old.deeds) waits old.polls old.moments
 
 -- it is a message
 abbrev pub is_message : Option (Result (List ℕ) Error) → Bool

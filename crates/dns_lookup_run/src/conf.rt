@@ -2,16 +2,17 @@
 
 ghost use Rattle.std.specs.Prelude.{◌≡◌, ◌≢◌, ◌++◌, map, IfOk, IfErr, IfSome, OnOk};
 ghost use Rattle.dns_values.specs.Source.{Rose};
-ghost use Rattle.command_parts.specs.Conf.{IsConfRefused};
 ghost use Rattle.command_parts.specs.Ends.{IsEarly, line_of, status_of};
 ghost use Rattle.resolv_conf.specs.Conf.{name_server};
-ghost use Rattle.dns_lookup_run.specs.Conf.{IsBase, IsConfOf, conf_asked, named, streamed, timed};
+ghost use Rattle.dns_lookup_run.specs.Conf.{IsBase, IsConfOf, IsReadyIn, IsTooLong, conf_asked, named, streamed, timed};
 
-use command_parts::{Ending, conf_at, configuration};
+use client_request::Words;
+use command_parts::{Ending, conf_at, says, statuses};
 use dns_base::NoMemory;
 use dns_lookup_words::Lookup;
-use dns_values::{Duration, IpAddr, SocketAddr, Source};
+use dns_values::{Duration, IpAddr, ReadFault, SocketAddr, Source};
 use resolv_conf::{ResolvConf, ServerConf, Servers, Transport};
+use resolver_policy::{Found, Notes, practical};
 use std::alloc::Global;
 
 /// The port of the DNS (RFC 1035 4.2).
@@ -70,36 +71,65 @@ fn conf_asked(lookup: &Lookup, base: ResolvConf) -> ResolvConf
     streamed(lookup.tcp, timed(lookup.seconds, conf))
 }
 
-/// The configuration of the servers that words name, or else the one that a source gives.
-#[tactic(auto, using(crate::proofs::Bases::named_base, crate::proofs::Bases::source_base))]
-fn base_of<S: Source>(alloc: Global, lookup: &Lookup, source: &mut S) -> Result<ResolvConf, Ending>
-    ensures base { IfOk result (λ conf. IsBase lookup.now.servers (S.left source.old) conf) }
+/// The configuration that is found in a source, finalized.
+fn ready_in<S: Source>(alloc: Global, source: &mut S) -> Result<Found, Ending>
+    ensures ready { IfOk result (λ found. IfSome (S.left source.old) (λ text. IsReadyIn text found)) }
     ensures early { IfErr result IsEarly }
     ensures source_fault { IfErr result (λ e. status_of e ≡ 3 → Rose (S.faults source.old) (S.faults source.new)) }
-    ensures refused { IfErr result (λ e. status_of e ≡ 1 → IfSome (S.left source.old) (λ text. IsConfRefused text (line_of e))) }
+    ensures too_long { IfErr result (λ e. status_of e ≡ 1 → IfSome (S.left source.old) (λ text. IsTooLong text (line_of e))) }
     ensures no_numbers { IfErr result (λ e. status_of e ≢ 7) }
 {
-    if lookup.servers.is_empty() {
-        configuration(alloc, source)
-    } else {
-        Ok(named(alloc, lookup.servers.as_slice())?)
+    match Found::read(alloc, source) {
+        Ok(mut found) => {
+            found.conf.finalize(alloc)?;
+            Ok(found)
+        }
+        Err(ReadFault::Failed) => Err(Ending::Silent(statuses::SOURCE_FAULT)),
+        Err(ReadFault::TooLong) => Err(says(alloc, statuses::REFUSED, "input too long\n")),
+        Err(ReadFault::NoMemory) => Err(Ending::Silent(statuses::NO_MEMORY)),
     }
 }
 
-/// The configuration that a lookup asks: of the servers that its words name, or else the one that a source gives.
-pub(crate) fn conf_of<S: Source>(
+/// The configuration of the servers that words name, or else the one that is found in a source.
+#[tactic(auto, using(crate::proofs::Bases::named_base, crate::proofs::Bases::source_base))]
+fn base_of<S: Source>(alloc: Global, lookup: &Lookup, source: &mut S) -> Result<Found, Ending>
+    ensures base { IfOk result (λ found. IsBase lookup.now.servers (S.left source.old) found) }
+    ensures early { IfErr result IsEarly }
+    ensures source_fault { IfErr result (λ e. status_of e ≡ 3 → Rose (S.faults source.old) (S.faults source.new)) }
+    ensures too_long { IfErr result (λ e. status_of e ≡ 1 → IfSome (S.left source.old) (λ text. IsTooLong text (line_of e))) }
+    ensures no_numbers { IfErr result (λ e. status_of e ≢ 7) }
+{
+    if lookup.servers.is_empty() {
+        return ready_in(alloc, source);
+    }
+    let conf = named(alloc, lookup.servers.as_slice())?;
+    Ok(Found {
+        conf,
+        notes: Notes::new(alloc),
+    })
+}
+
+/// The configuration that a lookup asks, and what is told of it: of the servers that its words name, or else the one that is
+/// found in a source, as a client is given it in practice.
+pub(crate) fn conf_of<S: Source, W: Words>(
     alloc: Global,
     lookup: &Lookup,
     source: &mut S,
-) -> Result<ResolvConf, Ending>
-    ensures conf { IfOk result (IsConfOf lookup.now (S.left source.old)) }
+    words: &mut W,
+) -> Result<Found, Ending>
+    ensures conf { IfOk result (λ found. IsConfOf lookup.now (S.left source.old) (W.stream words.old) found (W.stream words.new)) }
     ensures early { IfErr result IsEarly }
     ensures source_fault { IfErr result (λ e. status_of e ≡ 3 → Rose (S.faults source.old) (S.faults source.new)) }
-    ensures refused { IfErr result (λ e. status_of e ≡ 1 → IfSome (S.left source.old) (λ text. IsConfRefused text (line_of e))) }
+    ensures too_long { IfErr result (λ e. status_of e ≡ 1 → IfSome (S.left source.old) (λ text. IsTooLong text (line_of e))) }
     ensures no_numbers { IfErr result (λ e. status_of e ≢ 7) }
 {
-    match base_of(alloc, lookup, source) {
-        Ok(base) => Ok(conf_asked(lookup, base)),
-        Err(ending) => Err(ending),
-    }
+    let Found { conf, notes } = match base_of(alloc, lookup, source) {
+        Ok(base) => base,
+        Err(ending) => return Err(ending),
+    };
+    let conf = practical(alloc, conf, words)?;
+    Ok(Found {
+        conf: conf_asked(lookup, conf),
+        notes,
+    })
 }

@@ -13,10 +13,11 @@ mod asking;
 mod conf;
 mod page;
 mod program;
+mod reports;
 mod telling;
 mod watched_clock;
 mod watched_edge;
 
 pub use program::run;
 pub use watched_clock::WatchedClock;
-pub use watched_edge::{Heard, WatchedEdge};
+pub use watched_edge::{Heard, News, Opened, Tidings, WatchedEdge};

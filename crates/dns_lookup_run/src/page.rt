@@ -1,7 +1,8 @@
 //! What is written of an answer.
 
 use crate::asking::Outcome;
-use crate::watched_edge::Heard;
+use crate::reports::reports;
+use crate::watched_edge::{Heard, Opened};
 use client_request::Via;
 use dns_base::{Message, NoMemory};
 use dns_presentation::{Presentation, ShownData};
@@ -36,12 +37,14 @@ impl Display for Answerer<'_> {
     }
 }
 
-/// A message in presentation form, and behind it how long it took, who answered, by which transport, and its octets.
+/// A message in presentation form, and behind it which servers gave no answer, how long it took, who answered, by which
+/// transport, and its octets.
 fn whole_page(
     alloc: Global,
     message: &Message,
     outcome: &Outcome,
     servers: &[ServerConf],
+    opened: &[Opened],
 ) -> Result<String, NoMemory> {
     let shown = message.presentation();
     let millis = outcome.micros / 1000;
@@ -50,8 +53,9 @@ fn whole_page(
         heard: outcome.heard,
         servers,
     };
+    let failed = reports(alloc, ";; FAILED: ", servers, opened)?;
     let text = format!(in alloc;
-        "{shown}\n;; Query time: {millis} msec\n;; SERVER: {answerer}\n;; MSG SIZE  rcvd: {size}\n\n"
+        "{shown}\n{failed};; Query time: {millis} msec\n;; SERVER: {answerer}\n;; MSG SIZE  rcvd: {size}\n\n"
     )?;
     Ok(text)
 }
@@ -79,10 +83,11 @@ pub(crate) fn page(
     message: &Message,
     outcome: &Outcome,
     servers: &[ServerConf],
+    opened: &[Opened],
 ) -> Result<String, NoMemory> {
     if is_short {
         short_page(alloc, message)
     } else {
-        whole_page(alloc, message, outcome, servers)
+        whole_page(alloc, message, outcome, servers, opened)
     }
 }

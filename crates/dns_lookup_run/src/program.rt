@@ -1,22 +1,25 @@
 //! What the program does, over a source, two sinks and the rest of its world.
 
-ghost use Rattle.std.specs.Prelude.{◌≡◌, ◌≢◌, ◌⊎◌, ◌<◌, ◌≤◌, true, false, IfOk, IsErrOf};
-ghost use Rattle.client_settings.specs.Settings.{default_cache, default_redundant};
+ghost use Rattle.std.specs.Prelude.{◌≡◌, ◌≢◌, ◌⊎◌, ◌++◌, ◌<◌, ◌≤◌, true, false, IfOk, IsErrOf};
+ghost use Rattle.client_settings.specs.Settings.{default_cache};
+ghost use Rattle.resolver_policy.specs.Practice.{practical_choice};
 ghost use Rattle.client_steps.specs.Whole.{started};
 ghost use Rattle.dns_values.specs.Source.{Rose};
 ghost use Rattle.dns_values.specs.Sink.{IsFlushed};
 ghost use Rattle.dns_lookup_run.specs.Worlds.{around, is_message, said};
 ghost use Rattle.dns_lookup_run.specs.Asking.{Brought, HasBegun};
-ghost use Rattle.dns_lookup_run.specs.Ends.{EndsSo, HasNoConf, HasPage, IsOfAsking, IsRefusalTold, TellsWhy, WordsEnd};
-ghost use Rattle.dns_lookup_run.specs.Sentences.{answer_text, numbers_text};
+ghost use Rattle.dns_lookup_run.specs.Ends.{EndsTold, HasNoConf, HasPage, IsOfAsking, IsRefusalTold, TellsWhy, WordsEnd};
+ghost use Rattle.dns_lookup_run.specs.Reports.{told_of};
+ghost use Rattle.dns_lookup_run.specs.Sentences.{answer_text, numbers_text, unanswered_text};
 
 use crate::asking::{Outcome, asked};
 use crate::conf::conf_of;
 use crate::page::page;
-use crate::telling::{tell_conf, tell_refusal, tell_stop, tell_unanswered};
+use crate::reports::reports;
+use crate::telling::{tell_conf, tell_notes, tell_refusal, tell_stop, tell_unanswered};
 use crate::watched_clock::WatchedClock;
-use crate::watched_edge::WatchedEdge;
-use client_core::{Client, Clock, Edge, cache, redundant};
+use crate::watched_edge::{Opened, WatchedEdge};
+use client_core::{Client, Clock, Edge, cache};
 use client_loop::learn_all;
 use client_request::{Error, Words};
 use command_parts::{deliver, statuses};
@@ -24,21 +27,41 @@ use dns_base::{NoMemory, Rtype, Status};
 use dns_lookup_words::{Fault, Lookup, lookup_of};
 use dns_values::{Sink, Source};
 use resolv_conf::{ResolvConf, ServerConf};
+use resolver_policy::practical_choice;
 use std::alloc::Global;
 
-/// Writes what a request came to: the message, or a sentence that says why there is none.
+/// Tells why there is no answer, and what each place of a server brought.
+fn tell_failed<L: Sink>(
+    alloc: Global,
+    error: Option<Error>,
+    servers: &[ServerConf],
+    opened: &[Opened],
+    errors: &mut L,
+) -> Status
+    ensures status { (result.0 ≡ 5) ⊎ (result.0 ≡ 6) }
+    ensures said { result.0 ≡ 5 → said L.held L.faults errors.old errors.new (unanswered_text error ++ told_of servers.now opened.now) }
+    ensures flushed { result.0 ≡ 5 → IsFlushed (L.held errors.new) (L.flushed errors.new) ⊎ Rose (L.faults errors.old) (L.faults errors.new) }
+{
+    match reports(alloc, "dns_lookup: ", servers, opened) {
+        Ok(text) => tell_unanswered(alloc, error, text.as_str(), errors),
+        Err(NoMemory) => statuses::NO_MEMORY,
+    }
+}
+
+/// Writes what a request came to: the message, or sentences that say why there is none.
 fn write_outcome<K: Sink, L: Sink>(
     alloc: Global,
     is_short: bool,
     outcome: &Outcome,
     servers: &[ServerConf],
+    opened: &[Opened],
     sink: &mut K,
     errors: &mut L,
 ) -> Status
     ensures statuses { (result.0 ≡ 0) ⊎ ((result.0 ≡ 4) ⊎ ((result.0 ≡ 5) ⊎ (result.0 ≡ 6))) }
     ensures good { HasPage result.0 → is_message outcome.now.answer ≡ true }
     ensures bad { result.0 ≡ 5 → is_message outcome.now.answer ≡ false }
-    ensures said { result.0 ≡ 5 → said L.held L.faults errors.old errors.new (answer_text outcome.now.answer) }
+    ensures said { result.0 ≡ 5 → said L.held L.faults errors.old errors.new (answer_text outcome.now.answer ++ told_of servers.now opened.now) }
     ensures line_flushed { result.0 ≡ 5 → IsFlushed (L.held errors.new) (L.flushed errors.new) ⊎ Rose (L.faults errors.old) (L.faults errors.new) }
     ensures quiet { HasPage result.0 → L.held errors.new ≡ L.held errors.old }
     ensures no_fault { HasPage result.0 → L.faults errors.new ≡ L.faults errors.old }
@@ -47,12 +70,12 @@ fn write_outcome<K: Sink, L: Sink>(
     ensures count { K.faults sink.old ≤ K.faults sink.new }
 {
     match &outcome.answer {
-        Some(Ok(message)) => match page(alloc, is_short, message, outcome, servers) {
+        Some(Ok(message)) => match page(alloc, is_short, message, outcome, servers, opened) {
             Ok(text) => deliver(sink, text.as_bytes()),
             Err(NoMemory) => statuses::NO_MEMORY,
         },
-        Some(Err(error)) => tell_unanswered(alloc, Some(*error), errors),
-        None => tell_unanswered(alloc, None, errors),
+        Some(Err(error)) => tell_failed(alloc, Some(*error), servers, opened, errors),
+        None => tell_failed(alloc, None, servers, opened, errors),
     }
 }
 
@@ -62,6 +85,7 @@ fn tell<K: Sink, L: Sink>(
     is_short: bool,
     came: Result<Outcome, Error>,
     servers: &[ServerConf],
+    opened: &[Opened],
     sink: &mut K,
     errors: &mut L,
 ) -> Status
@@ -69,7 +93,7 @@ fn tell<K: Sink, L: Sink>(
     ensures good { HasPage result.0 → Brought true came }
     ensures bad { result.0 ≡ 5 → Brought false came }
     ensures numbers { result.0 ≡ 7 → IsErrOf came Error.NumbersUsed }
-    ensures said { result.0 ≡ 5 → IfOk came (λ o. said L.held L.faults errors.old errors.new (answer_text o.answer)) }
+    ensures said { result.0 ≡ 5 → IfOk came (λ o. said L.held L.faults errors.old errors.new (answer_text o.answer ++ told_of servers.now opened.now)) }
     ensures stops { result.0 ≡ 7 → said L.held L.faults errors.old errors.new numbers_text }
     ensures line_flushed { (result.0 ≡ 5) ⊎ (result.0 ≡ 7) → IsFlushed (L.held errors.new) (L.flushed errors.new) ⊎ Rose (L.faults errors.old) (L.faults errors.new) }
     ensures quiet { HasPage result.0 → L.held errors.new ≡ L.held errors.old }
@@ -79,7 +103,7 @@ fn tell<K: Sink, L: Sink>(
     ensures count { K.faults sink.old ≤ K.faults sink.new }
 {
     match came {
-        Ok(outcome) => write_outcome(alloc, is_short, &outcome, servers, sink, errors),
+        Ok(outcome) => write_outcome(alloc, is_short, &outcome, servers, opened, sink, errors),
         Err(error) => tell_stop(error, errors),
     }
 }
@@ -89,7 +113,7 @@ fn client_of<E: Edge>(alloc: Global, conf: &ResolvConf, edge: &mut E) -> Result<
     ensures { IfOk result (λ c. HasBegun conf.now c (E.deeds edge.old) (E.deeds edge.new) (E.polls edge.old) (E.polls edge.new)) }
 {
     learn_all(edge, conf.servers.as_slice())?;
-    Client::new(alloc, conf, redundant::Config::new(), cache::Config::new())
+    Client::new(alloc, conf, practical_choice(), cache::Config::new())
 }
 
 /// Asks for the type of a lookup, or for A and then AAAA, and writes what is answered. The first without an answer ends it.
@@ -104,7 +128,7 @@ fn ask_all<K: Sink, L: Sink, E: Edge + Drop, C: Clock + Drop, W: Words>(
     rng: &mut W,
 ) -> Status
     ensures statuses { IsOfAsking result.0 }
-    ensures ends { around E.deeds E.polls C.given W.stream (edge.old, clock.old, rng.old) (edge.new, clock.new, rng.new) (EndsSo lookup.now conf.now result.0 (said L.held L.faults errors.old errors.new)) }
+    ensures ends { around E.deeds E.polls C.given W.stream (edge.old, clock.old, rng.old) (edge.new, clock.new, rng.new) (EndsTold L.held L.faults lookup.now conf.now result.0 errors.old errors.new) }
     ensures stops { result.0 ≡ 7 → said L.held L.faults errors.old errors.new numbers_text }
     ensures line_flushed { (result.0 ≡ 5) ⊎ (result.0 ≡ 7) → IsFlushed (L.held errors.new) (L.flushed errors.new) ⊎ Rose (L.faults errors.old) (L.faults errors.new) }
     ensures quiet { HasPage result.0 → L.held errors.new ≡ L.held errors.old }
@@ -118,7 +142,15 @@ fn ask_all<K: Sink, L: Sink, E: Edge + Drop, C: Clock + Drop, W: Words>(
     let servers = conf.servers.as_slice();
     let first = lookup.rtype.unwrap_or(Rtype::A);
     let came = asked(alloc, lookup, first, 0, &mut client, edge, clock, rng);
-    let status = tell(alloc, lookup.short, came, servers, sink, errors);
+    let status = tell(
+        alloc,
+        lookup.short,
+        came,
+        servers,
+        edge.opened(),
+        sink,
+        errors,
+    );
     if status.0 > 0 {
         return status;
     }
@@ -126,14 +158,23 @@ fn ask_all<K: Sink, L: Sink, E: Edge + Drop, C: Clock + Drop, W: Words>(
         return status;
     }
     let came = asked(alloc, lookup, Rtype::AAAA, 1, &mut client, edge, clock, rng);
-    tell(alloc, lookup.short, came, servers, sink, errors)
+    tell(
+        alloc,
+        lookup.short,
+        came,
+        servers,
+        edge.opened(),
+        sink,
+        errors,
+    )
 }
 
 /// Does what words ask for, and answers the exit status.
 ///
-/// The servers that the words name are asked, or else those of the configuration that `source` gives. What is answered is
-/// written to `sink`, and where nothing is, one sentence to `errors` says why; the status stands whatever becomes of that, unless
-/// memory ran out there.
+/// The servers that the words name are asked, or else those of the configuration that is found in what `source` gives, as
+/// `resolver_policy` has them asked in practice. What is answered is written to `sink`. Where nothing is, a sentence to `errors`
+/// says why, and a line for each server what it brought; before that a line for each line of the configuration that was not
+/// taken as it stands. The status stands whatever becomes of these, unless memory ran out there.
 pub fn run<S: Source, K: Sink, L: Sink, E: Edge + Drop, C: Clock + Drop, W: Words>(
     alloc: Global,
     words: &[String],
@@ -150,7 +191,7 @@ pub fn run<S: Source, K: Sink, L: Sink, E: Edge + Drop, C: Clock + Drop, W: Word
     ensures usage { result.0 ≡ 2 → IsRefusalTold words.now (L.held errors.old) (L.held errors.new) (L.faults errors.old) (L.faults errors.new) }
 
     // What was asked, and what it came to.
-    ensures ends { around E.deeds E.polls C.given W.stream (edge.old, clock.old, rng.old) (edge.new, clock.new, rng.new) (WordsEnd words.now (S.left source.old) result.0 (said L.held L.faults errors.old errors.new)) }
+    ensures ends { around E.deeds E.polls C.given W.stream (edge.old, clock.old, rng.old) (edge.new, clock.new, rng.new) (WordsEnd L.held L.faults words.now (S.left source.old) result.0 errors.old errors.new) }
     ensures flushed { result.0 ≡ 0 → IsFlushed (K.held sink.new) (K.flushed sink.new) }
 
     // Faults, and what they leave.
@@ -159,18 +200,20 @@ pub fn run<S: Source, K: Sink, L: Sink, E: Edge + Drop, C: Clock + Drop, W: Word
     ensures sink_fault { result.0 ≡ 4 → Rose (K.faults sink.old) (K.faults sink.new) }
     ensures count { K.faults sink.old ≤ K.faults sink.new }
 
-    // The sentence that tells why is handed on too; where a page is written, there is none.
-    ensures stops { result.0 ≡ 7 → said L.held L.faults errors.old errors.new numbers_text }
+    // The sentence that tells why is handed on too.
     ensures line_flushed { TellsWhy result.0 → IsFlushed (L.held errors.new) (L.flushed errors.new) ⊎ Rose (L.faults errors.old) (L.faults errors.new) }
-    ensures quiet { HasPage result.0 → L.held errors.new ≡ L.held errors.old }
 {
     let lookup = match lookup_of(alloc, words) {
         Ok(lookup) => lookup,
         Err(Fault::Refused(refusal)) => return tell_refusal(alloc, words, refusal, errors),
         Err(Fault::NoMemory) => return statuses::NO_MEMORY,
     };
-    match conf_of(alloc, &lookup, source) {
-        Ok(conf) => ask_all(alloc, &lookup, &conf, sink, errors, edge, clock, rng),
-        Err(ending) => tell_conf(alloc, ending, errors),
+    let found = match conf_of(alloc, &lookup, source, rng) {
+        Ok(found) => found,
+        Err(ending) => return tell_conf(alloc, ending, errors),
+    };
+    match tell_notes(alloc, found.notes.as_slice(), errors) {
+        Ok(()) => ask_all(alloc, &lookup, &found.conf, sink, errors, edge, clock, rng),
+        Err(NoMemory) => statuses::NO_MEMORY,
     }
 }

@@ -1,18 +1,20 @@
 //! The sentences that tell why no answer is written.
 
-ghost use Rattle.std.specs.Prelude.{◌≡◌, ◌≢◌, ◌⊎◌, ◌++◌, IfOk};
+ghost use Rattle.std.specs.Prelude.{◌≡◌, ◌≢◌, ◌≤◌, ◌⊎◌, ◌++◌, IfOk, OnOk};
 ghost use Rattle.std.specs.String.{string_bytes};
 ghost use Rattle.dns_values.specs.Sink.{IsFlushed};
 ghost use Rattle.dns_values.specs.Source.{Rose};
 ghost use Rattle.command_parts.specs.Ends.{IsEarly, IsSaid, status_of};
 ghost use Rattle.dns_lookup_words.specs.Sentences.{sentence};
+ghost use Rattle.dns_lookup_run.specs.Reports.{note_line, notes_text};
 ghost use Rattle.dns_lookup_run.specs.Sentences.{conf_text, numbers_text, refused_text, unanswered_text};
 
 use client_request::Error;
-use command_parts::{Ending, end_by, statuses};
+use command_parts::{Ending, deliver, end_by, statuses};
 use dns_base::{NoMemory, Status};
 use dns_lookup_words::{Refusal, sentence};
 use dns_values::Sink;
+use resolver_policy::Note;
 use std::alloc::Global;
 
 /// Tells which of the words is wrong.
@@ -76,17 +78,27 @@ fn unanswered(alloc: Global, error: Option<Error>) -> Result<String, NoMemory>
     }
 }
 
-/// Tells why there is no answer.
+/// The same, and behind it what servers brought.
+fn unanswered_by(alloc: Global, error: Option<Error>, reports: &str) -> Result<String, NoMemory>
+    ensures { IfOk result (λ s. string_bytes s ≡ unanswered_text error ++ reports.now) }
+{
+    let mut text = unanswered(alloc, error)?;
+    text.push_str(reports)?;
+    Ok(text)
+}
+
+/// Tells why there is no answer, and what servers brought.
 pub(crate) fn tell_unanswered<L: Sink>(
     alloc: Global,
     error: Option<Error>,
+    reports: &str,
     errors: &mut L,
 ) -> Status
     ensures status { (result.0 ≡ 5) ⊎ (result.0 ≡ 6) }
-    ensures said { result.0 ≡ 5 → IsSaid (unanswered_text error) (L.held errors.old) (L.held errors.new) (L.faults errors.old) (L.faults errors.new) }
+    ensures said { result.0 ≡ 5 → IsSaid (unanswered_text error ++ reports.now) (L.held errors.old) (L.held errors.new) (L.faults errors.old) (L.faults errors.new) }
     ensures flushed { result.0 ≡ 5 → IsFlushed (L.held errors.new) (L.flushed errors.new) ⊎ Rose (L.faults errors.old) (L.faults errors.new) }
 {
-    match unanswered(alloc, error) {
+    match unanswered_by(alloc, error, reports) {
         Ok(line) => end_by(errors, statuses::NO_REPLY, line.as_bytes()),
         Err(NoMemory) => statuses::NO_MEMORY,
     }
@@ -107,4 +119,40 @@ pub(crate) fn tell_stop<L: Sink>(error: Error, errors: &mut L) -> Status
         ),
         _ => statuses::NO_MEMORY,
     }
+}
+
+/// The line that tells of a line of the configuration.
+fn note_line(alloc: Global, note: Note) -> Result<String, NoMemory>
+    ensures { IfOk result (λ s. string_bytes s ≡ note_line note) }
+{
+    Ok(format!(in alloc; "dns_lookup: /etc/resolv.conf: {note}\n")?)
+}
+
+/// The lines that tell of those of the configuration.
+fn note_lines(alloc: Global, notes: &[Note]) -> Result<String, NoMemory>
+    ensures { IfOk result (λ s. string_bytes s ≡ notes_text notes.now) }
+{
+    let mut text = String::new(alloc);
+    for note in notes {
+        let line = note_line(alloc, *note)?;
+        text.push_str(line.as_str())?;
+    }
+    Ok(text)
+}
+
+/// Tells of lines of the configuration, as far as the sink takes it.
+pub(crate) fn tell_notes<L: Sink>(
+    alloc: Global,
+    notes: &[Note],
+    errors: &mut L,
+) -> Result<(), NoMemory>
+    ensures said { OnOk result (IsSaid (notes_text notes.now) (L.held errors.old) (L.held errors.new) (L.faults errors.old) (L.faults errors.new)) }
+    ensures count { L.faults errors.old ≤ L.faults errors.new }
+{
+    let text = note_lines(alloc, notes)?;
+    let status = deliver(errors, text.as_bytes());
+    if status == statuses::NO_MEMORY {
+        return Err(NoMemory);
+    }
+    Ok(())
 }

@@ -1,5 +1,6 @@
 pub mod Addresses
 pub mod Answer
+pub mod Codes
 pub mod Asked
 pub mod FaultText
 pub mod Faults

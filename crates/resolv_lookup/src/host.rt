@@ -5,12 +5,13 @@ ghost use Rattle.std.specs.Iterator.{YieldsFirst, item_count};
 ghost use Rattle.dns_base.specs.Message.{first_question};
 ghost use Rattle.dns_base.specs.Canonical.{canonical_name};
 ghost use Rattle.resolv_lookup.specs.Asked.{Asks, octets_in};
+ghost use Rattle.resolv_lookup.specs.Codes.{code_got};
 ghost use Rattle.resolv_lookup.specs.Hosts.{hosts_found, chosen_of, has_none, are_empty, addresses_found, with_port, LooksUpHost, HostIsCounted, AreChecked};
 
 use crate::address_iter::{AddressIter, Kind};
 use crate::fault::{HostFault, QueryFault};
 use crate::resolver::{AsMessage, Resolver};
-use dns_base::{IpAddr, Message, Name, ParsedName, Rtype, SocketAddr};
+use dns_base::{IpAddr, Message, Name, OptRcode, ParsedName, Rtype, SocketAddr};
 use std::alloc::{AllocError, Global};
 use std::fmt;
 use std::marker::Model;
@@ -94,6 +95,21 @@ impl<R: Resolver> FoundHosts<R> {
         has_none(&self.aaaa) && has_none(&self.a)
     }
 
+    /// The response code of the answer for IPv6 addresses, or why the question got none. NXDOMAIN is a host that is not there
+    /// (RFC 1035 4.1.1), NOERROR one that is, with such addresses or without, and any other code tells of the server.
+    pub fn aaaa_rcode(&self) -> Result<OptRcode, QueryFault>
+        ensures { result ≡ code_got self.now.aaaa }
+    {
+        rcode_in(&self.aaaa)
+    }
+
+    /// The same of the answer for IPv4 addresses.
+    pub fn a_rcode(&self) -> Result<OptRcode, QueryFault>
+        ensures { result ≡ code_got self.now.a }
+    {
+        rcode_in(&self.a)
+    }
+
     /// The chosen answer.
     fn answer(&self) -> &Message
         ensures chosen { result.now ≡ chosen_of self.now }
@@ -148,6 +164,16 @@ fn has_none<A: AsMessage>(got: &Result<A, QueryFault>) -> bool
     match got {
         Ok(answer) => answer.as_message().header_counts().ancount() == 0,
         Err(_) => true,
+    }
+}
+
+/// The response code of what a question got, with the bits of its OPT record (RFC 6891 6.1.3).
+fn rcode_in<A: AsMessage>(got: &Result<A, QueryFault>) -> Result<OptRcode, QueryFault>
+    ensures { result ≡ code_got (octets_in A.octets_of got.now) }
+{
+    match got {
+        Ok(answer) => Ok(answer.as_message().opt_rcode()),
+        Err(fault) => Err(*fault),
     }
 }
 

@@ -1,7 +1,7 @@
 -- A stub resolver that is made, and one that gets a server more.
 use Rattle.std.specs.Prelude.{◌≡◌, ℕ, false, List, map, Option, Result, Err, IfSome}
-use Rattle.client_settings.specs.Settings.{default_cache, default_redundant}
-use Rattle.client_steps.specs.Whole.{Whole, started}
+use Rattle.client_settings.specs.Settings.{CacheSettings, RedundantSettings, default_cache, default_redundant}
+use Rattle.client_steps.specs.Whole.{started}
 use Rattle.client_core.specs.declared.deed.Deed.{Deed}
 use Rattle.client_core.specs.declared.deed.Deed.TheVariants.{Learned}
 use Rattle.client_loop.specs.Turns.{after_deeds}
@@ -9,13 +9,9 @@ use Rattle.resolv_conf.specs.Files.{IsDefaultOf, system_file}
 use Rattle.resolv_conf.specs.declared.conf.ResolvConf.{ResolvConf}
 use Rattle.stub_resolver.specs.Stub.{Stub}
 
--- the client of a configuration's servers, with the default settings
-abbrev pub client_of : ResolvConf → Whole
-client_of conf = started default_redundant default_cache conf
-
--- A resolver is new: its edge has learned the configuration's servers in order, and nothing was asked.
-pub record IsNew {E C W : Type 0} (deeds : E → Option (List Deed)) (waits : E → Option (List ℕ)) (polls faults : E → ℕ) (conf : ResolvConf) (edge : E) (clock : C) (words : W) (s : Stub E C W) : Type 0 where
-  pub client : s.client ≡ client_of conf
+-- A resolver is new: its client has these settings, its edge has learned the configuration's servers in order, and nothing was asked.
+pub record IsNewWith {E C W : Type 0} (choice : RedundantSettings) (cache : CacheSettings) (deeds : E → Option (List Deed)) (waits : E → Option (List ℕ)) (polls faults : E → ℕ) (conf : ResolvConf) (edge : E) (clock : C) (words : W) (s : Stub E C W) : Type 0 where
+  pub client : s.client ≡ started choice cache conf
   pub options : s.options ≡ conf.options
   pub learned : deeds s.edge ≡ after_deeds (map (λ server. Learned server) conf.servers) (deeds edge)
   pub no_wait : waits s.edge ≡ waits edge
@@ -25,6 +21,10 @@ pub record IsNew {E C W : Type 0} (deeds : E → Option (List Deed)) (waits : E 
   pub same_words : s.words ≡ words
   pub no_faults : s.faults ≡ 0
   pub lasts : s.failed ≡ false
+
+-- the same with the default settings
+abbrev pub IsNew : {E C W : Type 0} → (E → Option (List Deed)) → (E → Option (List ℕ)) → (polls faults : E → ℕ) → ResolvConf → E → C → W → Stub E C W → Type 0
+IsNew deeds waits polls faults conf edge clock words s = IsNewWith default_redundant default_cache deeds waits polls faults conf edge clock words s
 
 -- The resolver is that of the configuration that the system's file says, where what opens it tells its files; the counts are of that one's faults.
 pub record ByFile {E C W : Type 0} (deeds : E → Option (List Deed)) (waits : E → Option (List ℕ)) (polls faults : E → ℕ) (files : Option (List ℕ → Option (List ℕ))) (before after : ℕ) (edge : E) (clock : C) (words : W) (s : Stub E C W) : Type 0 where

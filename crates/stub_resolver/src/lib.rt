@@ -18,6 +18,7 @@ mod question;
 mod running;
 mod stub;
 
+pub use client_core::{cache, redundant};
 pub use query::Query;
 pub use resolv_lookup::{
     Answer, AsMessage, Asking, FoundAddrs, FoundAddrsIter, FoundHosts, FoundHostsIter,

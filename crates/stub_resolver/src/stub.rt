@@ -6,7 +6,7 @@ ghost use Rattle.client_core.specs.Edge.{after_deed};
 ghost use Rattle.client_core.specs.declared.deed.Deed.TheVariants.{Learned};
 ghost use Rattle.client_steps.specs.Whole.{with_one_more};
 ghost use Rattle.resolv_lookup.specs.ListAnswers.{faults_after};
-ghost use Rattle.stub_resolver.specs.Making.{IsNew, ByFile};
+ghost use Rattle.stub_resolver.specs.Making.{IsNew, IsNewWith, ByFile};
 ghost use Rattle.stub_resolver.specs.Queries.{Gets, question, is_want};
 ghost use Rattle.stub_resolver.specs.Stub.{seen, with_fault};
 
@@ -23,7 +23,7 @@ use std::marker::Model;
 
 /// A resolver that asks the servers of a configuration.
 ///
-/// It holds a client, with the default settings, and what the client is run over: an edge, a clock and words. After `NoMemory`
+/// It holds a client and what the client is run over: an edge, a clock and words. After `NoMemory`
 /// or `NumbersUsed` of a query or of `add_connection` it has failed: each further one answers `Failed`, and changes nothing but
 /// the count of faults.
 #[derive(Drop)]
@@ -58,7 +58,8 @@ impl<E, C, W> Model for StubResolver<E, C, W> {
 }
 
 impl<E: Edge + Drop, C: Clock + Drop, W: Words + Drop> StubResolver<E, C, W> {
-    /// A resolver of the servers of a configuration as it stands, which the edge learns in order. `NoMemory` alone is answered.
+    /// A resolver of the servers of a configuration as it stands, which the edge learns in order, with the default settings.
+    /// `NoMemory` alone is answered.
     pub fn from_conf(
         alloc: Global,
         conf: ResolvConf,
@@ -69,8 +70,30 @@ impl<E: Edge + Drop, C: Clock + Drop, W: Words + Drop> StubResolver<E, C, W> {
         ensures made { IfOk result (IsNew E.deeds E.waits E.polls E.faults conf edge clock words) }
         ensures refused { IfErr result (λ e. e ≡ Error.NoMemory) }
     {
+        let (redundant, cache) = (redundant::Config::new(), cache::Config::new());
+        StubResolver::with_settings(alloc, conf, redundant, cache, edge, clock, words)
+    }
+
+    /// The same with settings of one's own: which results of one server wait for what others say, and what the cache keeps.
+    /// `resolver_policy` has those with which a dead server is passed by.
+    ///
+    /// The numbers of transports can't be set, since what is proved of the client speaks of them: a datagram is asked again after
+    /// five seconds, at most five times at one server and 100 at a time, and a stream may be silent for 19 seconds. Of a
+    /// configuration `timeout` is the deadline of a whole request. `NoMemory` alone is answered.
+    pub fn with_settings(
+        alloc: Global,
+        conf: ResolvConf,
+        redundant: redundant::Config,
+        cache: cache::Config,
+        edge: E,
+        clock: C,
+        words: W,
+    ) -> Result<StubResolver<E, C, W>, Error>
+        ensures made { IfOk result (IsNewWith redundant cache E.deeds E.waits E.polls E.faults conf edge clock words) }
+        ensures refused { IfErr result (λ e. e ≡ Error.NoMemory) }
+    {
         let mut edge = edge;
-        let client = Client::new(alloc, &conf, redundant::Config::new(), cache::Config::new())?;
+        let client = Client::new(alloc, &conf, redundant, cache)?;
         learn_all(&mut edge, conf.servers.as_slice())?;
         Ok(StubResolver {
             client,

@@ -1,0 +1,4 @@
+pub mod Notes
+pub mod Plain
+pub mod Found
+pub mod Practice
