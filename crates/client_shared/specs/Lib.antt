@@ -1,3 +1,4 @@
 pub mod Drawn
 pub mod History
+pub mod Lanes
 pub mod Unjournaled

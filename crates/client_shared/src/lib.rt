@@ -4,6 +4,7 @@
 mod desk;
 mod entry;
 mod key;
+mod lanes;
 mod pass;
 mod recorder;
 mod recording;
@@ -12,6 +13,7 @@ mod unjournaled;
 
 pub use entry::{Entry, Item, Journal, Receipt};
 pub use key::{ClientKey, Opened};
+pub use lanes::{Gate, NoGate, run_lanes};
 pub use pass::Pass;
 pub use shared::{CloseFault, Closed, SharedClient};
 pub use unjournaled::UnjournaledClient;

@@ -9,7 +9,7 @@ use Rattle.client_steps.specs.Whole.{Whole, machine, plain_step, plain_trace, cl
 use Rattle.client_shared.specs.declared.entry.Entry.{Entry}
 use Rattle.client_shared.specs.declared.entry.Item.TheVariants.{Made, Lost}
 use Rattle.client_shared.specs.History.{Opening, Runs, IsLegal, history, opened, row_of}
-use Rattle.proof_client.specs.Ties.{EveryPlainTraceHits, EveryPlainTraceIsRight}
+use Rattle.proof_client.specs.Ties.{EveryPlainTraceHits, EveryPlainTraceIsRight, EveryPlainTraceServesStale}
 use Rattle.proof_shared.specs.Histories.{LegalHistories, events_of}
 
 rows_of : (n timeout : ℕ) (entries : List Entry) (s : Whole) (f : ℕ → ℕ) (t : Whole) (g : ℕ → ℕ) → s.timeout ≡ timeout → Runs n s f (map Made entries) t g
@@ -51,11 +51,12 @@ plain o entries lost legal =
     let made = entries_legal o entries lost legal in
     rows_of o.callers o.conf.options.timeout entries (opened o) o.words made.0 made.1 refl made.2
 
-pub legal_histories : EveryPlainTraceIsRight → EveryPlainTraceHits → LegalHistories
-legal_histories every hits = record {
+pub legal_histories : EveryPlainTraceIsRight → EveryPlainTraceHits → EveryPlainTraceServesStale → LegalHistories
+legal_histories every hits stale = record {
   plain = plain;
   stops = λ o before event none. no_rows o.callers o.conf.options.timeout before (opened o) o.words none.client none.words event refl none.runs none.stops;
   right = λ o entries lost legal handed. (every o.redundant o.cache o.conf o.words (events_of entries) (map row_of entries) (plain o entries lost legal) handed).0;
   timely = λ o entries lost legal handed. (every o.redundant o.cache o.conf o.words (events_of entries) (map row_of entries) (plain o entries lost legal) handed).1;
   hits = λ o entries lost legal handed. hits o.redundant o.cache o.conf o.words (events_of entries) (map row_of entries) (plain o entries lost legal) handed;
+  stale = λ o entries lost legal handed. stale o.redundant o.cache o.conf o.words (events_of entries) (map row_of entries) (plain o entries lost legal) handed;
 }

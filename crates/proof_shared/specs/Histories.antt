@@ -10,13 +10,14 @@ use Rattle.client_shared.specs.History.{Opening, IsLegal, HasNoNumber, history, 
 use Rattle.proof_client.specs.Ties.{AreHandedIn}
 use Rattle.right_trace.specs.Hit.{AllHit}
 use Rattle.right_trace.specs.Right.{Right}
+use Rattle.right_trace.specs.StaleServed.{AllServeStale}
 use Rattle.right_trace.specs.Timely.{Timely}
 
 -- the events of entries, in order
 abbrev pub events_of : List Entry → List Event
 events_of entries = map (λ e. e.event) entries
 
--- The rows of a legal history are the plain trace of its events, which stops for a number where the client has none; and where these were handed in, they are right and timely, and give what is kept.
+-- The rows of a legal history are the plain trace of its events, which stops for a number where the client has none; and where these were handed in, they are right and timely, give what is kept, and serve what has expired.
 pub record LegalHistories : Type 0 where
   pub plain : (o : Opening) (entries : List Entry) (lost : Option ℕ) → IsLegal o (history entries lost) → plain_trace o.redundant o.cache o.conf o.words (events_of entries) ≡ Some (map row_of entries)
   pub stops : (o : Opening) (before : List Entry) (event : Event) → HasNoNumber o before event → plain_trace o.redundant o.cache o.conf o.words (events_of before ++ event ∷ []) ≡ None
@@ -24,3 +25,5 @@ pub record LegalHistories : Type 0 where
   pub timely : (o : Opening) (entries : List Entry) (lost : Option ℕ) → IsLegal o (history entries lost) → AreHandedIn o.cache o.words (events_of entries) → Timely (conf_of o.conf) (map row_of entries)
   pub hits : (o : Opening) (entries : List Entry) (lost : Option ℕ) → IsLegal o (history entries lost) → AreHandedIn o.cache o.words (events_of entries)
       → AllHit (conf_of o.conf) (settings_of o.redundant o.cache) composed (room_of o.cache) [] (map row_of entries)
+  pub stale : (o : Opening) (entries : List Entry) (lost : Option ℕ) → IsLegal o (history entries lost) → AreHandedIn o.cache o.words (events_of entries)
+      → AllServeStale (conf_of o.conf) (settings_of o.redundant o.cache) (room_of o.cache) [] (map row_of entries)

@@ -2,14 +2,17 @@
 
 ghost use Rattle.proof_shared.specs.Histories.{LegalHistories};
 
-use proof_client::{every_plain_trace_hits, every_plain_trace_is_right};
+use proof_client::{
+    every_plain_trace_hits, every_plain_trace_is_right, every_plain_trace_serves_stale,
+};
 
 /// The rows of a legal history are the plain trace of its events, in their order; where these were handed in, they are right
-/// and timely, and give what is kept. It does nothing.
+/// and timely, give what is kept, and serve what has expired. It does nothing.
 #[tactic(auto, using(crate::proofs::Rows::legal_histories))]
 pub fn legal_histories()
     ensures { LegalHistories }
 {
     every_plain_trace_is_right();
     every_plain_trace_hits();
+    every_plain_trace_serves_stale();
 }

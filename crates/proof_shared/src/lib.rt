@@ -1,5 +1,5 @@
-//! The rows of each history of a shared client are the plain trace of its events, and so they are right and timely, and give
-//! what is kept: mathematics alone.
+//! The rows of each history of a shared client are the plain trace of its events, and so they are right and timely, give
+//! what is kept, and serve what has expired: mathematics alone.
 #![tactic(auto)]
 
 mod laws;

@@ -1,13 +1,12 @@
-use Rattle.std.proofs.Common.{◌≡◌, ◌<◌, ℕ, List, map, None, Result, Ok, Err, refl, sym, ap, ◌∙◌, subst}
+use Rattle.std.proofs.Common.{◌≡◌, ◌<◌, ℕ, List, map, None, Err, refl, sym, ap, ◌∙◌, subst}
 use Rattle.std.specs.Prelude.{IfOk}
 use Rattle.client_request.specs.declared.event.Event.{Event}
 use Rattle.client_request.specs.declared.error.Error.TheVariants.{NumbersUsed}
 use Rattle.client_steps.specs.Whole.{plain_step}
 use Rattle.client_shared.specs.declared.entry.Entry.{Entry}
-use Rattle.client_shared.specs.declared.entry.Item.{Item}
 use Rattle.client_shared.specs.declared.entry.Item.TheVariants.{Made}
 use Rattle.client_shared.specs.declared.entry.Receipt.{Receipt}
-use Rattle.client_shared.specs.History.{Passed, Puts, StepsTo, entry_of, history}
+use Rattle.client_shared.specs.History.{Passed, Puts, StepsTo, entry_of}
 use Rattle.client_shared.proofs.Histories.{for_caller, next_legal, loss_legal, desk_lost, submitted, stopped}
 use Rattle.client_shared.proofs.desk.step_and_put.Goals as goal
 
