@@ -1,0 +1,15 @@
+-- What the tests of octets decide, in the words of a right trace.
+use Rattle.std.specs.Prelude.{◌≡◌, ℕ, true}
+use Rattle.dns_base.specs.Answering.{is_answer}
+use Rattle.client_request.specs.Request.{Request}
+use Rattle.client_request.specs.declared.event.Via.{Via}
+use Rattle.right_trace.specs.Messages.{Octets, CarriesBy, answers}
+use Rattle.message_matching.specs.Matching.{carries_by}
+
+-- octets carry a request exactly where the test says so
+pub record CarryingIsDecided : Type 0 where
+  pub so : (v : Via) (o : Octets) (r : Request) (id : ℕ) → carries_by v o r id ≡ true → CarriesBy v o r id
+  pub back : (v : Via) (o : Octets) (r : Request) (id : ℕ) → CarriesBy v o r id → carries_by v o r id ≡ true
+
+abbrev pub AnswersAreDecided : Type 0
+AnswersAreDecided = (r : Request) (id : ℕ) (o : Octets) → answers r id o ≡ is_answer id r.base o

@@ -1,0 +1,13 @@
+//! What the tests of octets decide.
+
+ghost use Rattle.message_matching.specs.Laws.{CarryingIsDecided, AnswersAreDecided};
+
+/// Octets carry a request exactly where the test says so.
+pub fn carrying_is_decided()
+    ensures { CarryingIsDecided }
+{}
+
+/// A message is an answer exactly where the test says so.
+pub fn answers_are_decided()
+    ensures { AnswersAreDecided }
+{}

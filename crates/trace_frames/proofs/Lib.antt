@@ -1,0 +1,5 @@
+pub mod Feeding
+pub mod Knowing
+pub mod Writing
+pub mod Keeping
+pub mod Opening

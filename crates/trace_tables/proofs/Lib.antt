@@ -1,0 +1,6 @@
+pub mod Tables
+pub mod Listing
+pub mod Knowing
+pub mod Asking
+pub mod Sending
+pub mod Keeping
