@@ -120,7 +120,7 @@ unfolding polled_in
 polled_of_turns before turns polled none =
     polled_joined (before ++ flat_map deeds_of turns) (Polled polled ∷ [])
     ∙ ap (λ (ps : List (Option What)). ps ++ polled ∷ [])
-      (polled_joined before (flat_map deeds_of turns) ∙ ap (λ (ps : List (Option What)). ps ++ polled_in (flat_map deeds_of turns)) none ∙ polled_turns turns)
+    (polled_joined before (flat_map deeds_of turns) ∙ ap (λ (ps : List (Option What)). ps ++ polled_in (flat_map deeds_of turns)) none ∙ polled_turns turns)
 
 -- deeds tell the polls among them
 pub are_polled : (deeds : List Deed) (a b : Option (List Deed)) → b ≡ after_deeds deeds a → ArePolledOn a b (polled_in deeds)
