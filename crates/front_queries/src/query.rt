@@ -97,6 +97,26 @@ impl Query {
         }
     }
 
+    /// Whether it takes DNSSEC records, or asks whether the data is authentic (RFC 6840 5.7).
+    fn asks_authentic(&self) -> bool
+        ensures { result ≡ spec.asks_authentic self.now }
+    {
+        self.takes_dnssec() || self.header.ad()
+    }
+
+    /// Whether one result serves both: they ask the same but for case, and alike in RD, CD and DNSSEC (RFC 4035 3.2).
+    pub fn is_same(&self, other: &Query) -> bool
+        ensures { result ≡ spec.same_query self.now other.now }
+    {
+        self.qname == other.qname
+            && self.qtype == other.qtype
+            && self.qclass == other.qclass
+            && self.takes_dnssec() == other.takes_dnssec()
+            && self.asks_authentic() == other.asks_authentic()
+            && self.header.cd() == other.header.cd()
+            && self.header.rd() == other.header.rd()
+    }
+
     /// The same query.
     pub fn try_clone(&self, alloc: Global) -> Result<Query, NoMemory>
         ensures { IfOk result (λ q. q ≡ self.now) }
