@@ -1,8 +1,9 @@
 -- A query of a DNS client that is taken: what is kept of it.
-use Rattle.std.specs.Prelude.{ℕ, List, Option, Bool, false, ◌==◌, ◌||◌, ◌&&◌}
-use Rattle.std.specs.Bool.{beq}
+use Rattle.std.specs.Prelude.{ℕ, ◌+◌, List, [], ◌∷◌, ◌++◌, map, Option, Bool, false, ◌==◌, ◌||◌, if◌then◌else◌}
+use Rattle.std.specs.Char.{to_ascii_lowercase}
+use Rattle.std.specs.Int.{w16, to_be_bytes}
+use Rattle.dns_names.specs.Name.{spelling}
 use Rattle.std.specs.Option.{option_map_or}
-use Rattle.dns_base.specs.Answering.{same_asked}
 use Rattle.dns_base.specs.Header.{ad_of, cd_of, rd_of}
 use Rattle.dns_base.specs.Message.{Asked}
 use Rattle.front_queries.specs.declared.query.Extension.{Extension}
@@ -25,10 +26,13 @@ takes_dnssec q = option_map_or (λ e. e.dnssec_ok) q.extension false
 abbrev pub asks_authentic : Query → Bool
 asks_authentic q = takes_dnssec q || ad_of q.header
 
--- One result serves both: they ask the same but for case, and alike in RD, CD and DNSSEC.
-abbrev pub same_query : Query → Query → Bool
-same_query a b =
-    same_asked a.asked b.asked
-    && (beq (takes_dnssec a) (takes_dnssec b)
-    && (beq (asks_authentic a) (asks_authentic b)
-    && (beq (cd_of a.header) (cd_of b.header) && beq (rd_of a.header) (rd_of b.header))))
+abbrev pub bit : (value : ℕ) → Bool → ℕ
+bit value on = if on then value else 0
+
+-- what is asked of DNSSEC and of recursion
+abbrev pub flags_of : Query → ℕ
+flags_of q = bit 8 (takes_dnssec q) + bit 4 (asks_authentic q) + bit 2 (cd_of q.header) + bit 1 (rd_of q.header)
+
+-- What is asked, whatever the case of the name: one result serves all queries that are equal in it. (The length of a label is below each letter.)
+abbrev pub key_of : Query → List ℕ
+key_of q = map to_ascii_lowercase (spelling q.asked.name) ++ (to_be_bytes w16 q.asked.rtype ++ (to_be_bytes w16 q.asked.class ++ flags_of q ∷ []))

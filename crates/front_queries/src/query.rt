@@ -50,6 +50,13 @@ impl Drop for Query {
     }
 }
 
+/// A bit of this value, where it is set.
+fn bit(value: u8, on: bool) -> u8
+    ensures { result ≡ spec.bit value on }
+{
+    if on { value } else { 0 }
+}
+
 impl Query {
     /// Its id and its flags.
     pub fn header(&self) -> Header
@@ -104,17 +111,25 @@ impl Query {
         self.takes_dnssec() || self.header.ad()
     }
 
-    /// Whether one result serves both: they ask the same but for case, and alike in RD, CD and DNSSEC (RFC 4035 3.2).
-    pub fn is_same(&self, other: &Query) -> bool
-        ensures { result ≡ spec.same_query self.now other.now }
+    /// What is asked of DNSSEC and of recursion, as four bits.
+    fn flags(&self) -> u8
+        ensures { result ≡ spec.flags_of self.now }
     {
-        self.qname == other.qname
-            && self.qtype == other.qtype
-            && self.qclass == other.qclass
-            && self.takes_dnssec() == other.takes_dnssec()
-            && self.asks_authentic() == other.asks_authentic()
-            && self.header.cd() == other.header.cd()
-            && self.header.rd() == other.header.rd()
+        bit(8, self.takes_dnssec())
+            + bit(4, self.asks_authentic())
+            + bit(2, self.header.cd())
+            + bit(1, self.header.rd())
+    }
+
+    /// What is asked, whatever the case of the name: one result serves all queries that are equal in it (RFC 4035 3.2).
+    pub fn key(&self, alloc: Global) -> Result<Vec<u8>, NoMemory>
+        ensures { IfOk result (λ key. key.items ≡ spec.key_of self.now) }
+    {
+        let mut key = self.qname.as_octets().to_ascii_lowercase(alloc)?;
+        key.extend_from_slice(&self.qtype.0.to_be_bytes())?;
+        key.extend_from_slice(&self.qclass.0.to_be_bytes())?;
+        key.push(self.flags())?;
+        Ok(key)
     }
 
     /// The same query.
