@@ -1,0 +1,5 @@
+pub mod Query
+pub mod Spelled
+pub mod Refusals
+pub mod Requests
+pub mod Answers

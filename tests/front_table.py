@@ -1,0 +1,167 @@
+"""Writes the stored run of `tool_front`: queries of DNS clients as they come, odd ones among them, and what becomes of each.
+
+usage: python3 tests/front_table.py [--check]
+
+What the program must print is made here, message by message, and not by the program. With --check nothing is written, and
+the status is 1 where the stored files are others.
+"""
+
+import pathlib
+import struct
+import sys
+
+FOLDER = pathlib.Path(__file__).resolve().parent.parent / "crates" / "tool_front"
+NAME = "h20.example.com"
+
+
+def name(text):
+    return b"".join(bytes([len(label)]) + label.encode() for label in text.split(".") if label) + b"\0"
+
+
+def head(flags, questions=0, answer=0, authority=0, additional=0, number=0x4242):
+    return struct.pack(">HHHHHH", number, flags, questions, answer, authority, additional)
+
+
+def question(text=NAME, rtype=1, rclass=1):
+    return name(text) + struct.pack(">HH", rtype, rclass)
+
+
+def opt(high=0, version=0, flags=0, options=b"", size=1232, owner=b"\0"):
+    return owner + struct.pack(">HHBBHH", 41, size, high, version, flags, len(options)) + options
+
+
+def record(rtype, data, owner=b"\xc0\x0c", rclass=1, ttl=100):
+    return owner + struct.pack(">HHIH", rtype, rclass, ttl, len(data)) + data
+
+
+COOKIE = struct.pack(">HH", 10, 8) + b"12345678"
+A = record(1, b"\xc0\0\2\1")
+SPELLED_A = record(1, b"\1\2\3\4", name("x.example.com"))
+TSIG = record(250, name("hmac-sha256") + bytes(16), name("key"), 255, 0)
+TEXT = record(16, (b"\xc8" + b"x" * 200) * 3)
+LONG_TEXT = record(16, (b"\xc8" + b"x" * 200) * 7)
+lines, answers = [], []
+
+
+def says(query, *what):
+    """A query, and what is printed for it."""
+    lines.append(query.hex())
+    answers.extend(what)
+
+
+def replied(query, reply, *what):
+    """The same with the reply to its request, or none."""
+    lines.append(query.hex() + " " + (reply.hex() if reply else "-"))
+    answers.extend(what)
+
+
+def asks(flags=0x0100, number=0x4242, dnssec=False, **asked):
+    message = head(flags, 1, 0, 0, int(dnssec), number) + question(**asked)
+    return "asks " + (message + (opt(flags=0x8000) if dnssec else b"")).hex()
+
+
+def refused(flags, number=0x4242, behind=b""):
+    return "refused " + (head(flags, 0, 0, 0, 1 if behind else 0, number) + behind).hex()
+
+
+def both(datagram, frame=None):
+    frame = frame or datagram
+    return "datagram " + datagram.hex(), "frame " + (struct.pack(">H", len(frame)) + frame).hex()
+
+
+def plain(number=0x4242):
+    return head(0x0100, 1, number=number) + question()
+
+
+def odd():
+    """What is no plain query, each before a plain one of the same name, which is asked as ever."""
+    formerr = refused(0x8101)
+    rows = [
+        (head(0x0100, 1, 1) + question() + SPELLED_A, formerr),
+        (head(0x0100, 1, 0, 1) + question() + SPELLED_A, formerr),
+        (head(0x0100, 1, 0, 0, 1) + question() + SPELLED_A, formerr),
+        (head(0x0100, 1, 0, 0, 1) + question() + TSIG, formerr),
+        (head(0x0100, 1, 0, 0, 2) + question() + opt() + opt(), formerr),
+        (head(0x0100, 1, 0, 0, 1) + question() + opt(owner=name("a")), formerr),
+        (head(0x0100, 1, 0, 0, 1) + question() + opt(options=b"\0\1\0\5a"), formerr),
+        (head(0x0100, 1, 0, 0, 1) + question(), formerr),
+        (head(0x0100, 2) + question(), formerr),
+        (head(0x0100), formerr),
+        (head(0x0100, 1) + name(NAME), formerr),
+        (head(0x0100, 1, 0, 0, 1) + question() + opt(version=1), refused(0x8100, behind=opt(1))),
+        (head(0x0100, 1, 0, 0, 1) + question() + opt(version=9, flags=0x8000), refused(0x8100, behind=opt(1, flags=0x8000))),
+        (head(0x0100, 1) + question(rtype=252), refused(0x8105)),
+        (head(0x0100, 1, 0, 1) + question(rtype=251) + SPELLED_A, refused(0x8105)),
+        (head(0x2400, 1) + question(rtype=6), refused(0xA004)),
+        (head(0x2800, number=1), refused(0xA804, number=1)),
+        (head(0x8100, 1) + question(), "ignored"),
+        (head(0x0100)[:11], "ignored"),
+        (head(0x0105, 1) + question(), asks()),
+        (head(0x0300, 1) + question(), asks()),
+        (head(0x0540, 1) + question(), asks()),
+        (head(0x0000, 1) + question(), asks(0x0000)),
+        (head(0x0130, 1) + question(), asks(0x0130)),
+        (head(0x0100, 1) + question() + b"junk", asks()),
+        (head(0x0100, 1, 0, 0, 1) + question() + opt(options=COOKIE), asks()),
+        (head(0x0100, 1, 0, 0, 1) + question() + opt(size=0), asks()),
+        (head(0x0100, 1, 0, 0, 1) + question() + opt(size=65535, flags=0xFFFF, options=COOKIE), asks(dnssec=True)),
+        (head(0x0100, 1) + question(rtype=255), asks(rtype=255)),
+        (head(0x0100, 1) + question(rclass=3), asks(rclass=3)),
+        (head(0x0100, 1) + question(text="H20.eXample.com"), asks(text="H20.eXample.com")),
+        (head(0x0100, 1, number=0) + b"\xc0\0\0\1\0\1", asks(text="", number=0)),
+    ]
+    rows += [(head(0x0100, 1) + question(rtype=rtype), formerr) for rtype in (41, 249, 250, 253, 254)]
+    for query, what in rows:
+        says(query, what)
+        says(plain(), asks())
+
+
+def answered():
+    """Replies, and what clients get of them: under their ids, by their spelling, with the OPT record that they may have."""
+    reply = head(0x8180, 1, 1, number=0x1234) + question() + A
+    mine = head(0x8180, 1, 1) + question() + A
+    replied(plain(), reply, asks(), *both(mine))
+    replied(plain(0xBEEF), reply, asks(number=0xBEEF), *both(head(0x8180, 1, 1, number=0xBEEF) + question() + A))
+    replied(plain(), None, asks(), *both(head(0x8102, 1) + question()))
+    odd_name = "h20.EXAMPLE.com"
+    replied(head(0x0100, 1) + question(odd_name), reply, asks(text=odd_name), *both(head(0x8180, 1, 1) + question(odd_name) + A))
+    with_opt = head(0x8180, 1, 1, 0, 1, 0x1234) + question() + A + opt(options=COOKIE, size=4096)
+    replied(plain(), with_opt, asks(), *both(mine))
+    extended = head(0x0100, 1, 0, 0, 1) + question()
+    replied(extended + opt(options=COOKIE), with_opt, asks(), *both(head(0x8180, 1, 1, 0, 1) + question() + A + opt()))
+    replied(extended + opt(flags=0x8000), with_opt, asks(dnssec=True), *both(head(0x8180, 1, 1, 0, 1) + question() + A + opt(flags=0x8000)))
+    replied(extended + opt(flags=0x8000), None, asks(dnssec=True), *both(head(0x8102, 1, 0, 0, 1) + question() + opt(flags=0x8000)))
+    beyond = head(0x8180, 1, 0, 0, 1, 0x1234) + question() + opt(high=1)
+    replied(plain(), beyond, asks(), *both(head(0x8102, 1) + question()))
+    replied(extended + opt(), beyond, asks(), *both(head(0x8180, 1, 0, 0, 1) + question() + opt(high=1)))
+    cut_short = head(0x8180, 1, 1, number=0x1234) + question()
+    replied(plain(), cut_short, asks(), *both(head(0x8102, 1) + question()))
+    replied(plain(), head(0x8185, number=0x1234), asks(), *both(head(0x8185)))
+    text = head(0x8180, 1, 1, number=0x1234) + question(rtype=16) + TEXT
+    asked = question(rtype=16)
+    short = head(0x8380, 1) + asked
+    replied(head(0x0100, 1) + asked, text, asks(rtype=16), *both(short, head(0x8180, 1, 1) + asked + TEXT))
+    wide = head(0x0100, 1, 0, 0, 1) + asked
+    whole = head(0x8180, 1, 1, 0, 1) + asked + TEXT + opt()
+    replied(wide + opt(), text, asks(rtype=16), *both(whole))
+    replied(wide + opt(size=100), text, asks(rtype=16), *both(head(0x8380, 1, 0, 0, 1) + asked + opt(), whole))
+    long = head(0x8180, 1, 1, number=0x1234) + asked + LONG_TEXT
+    replied(wide + opt(size=4096), long, asks(rtype=16), *both(head(0x8380, 1, 0, 0, 1) + asked + opt(), head(0x8180, 1, 1, 0, 1) + asked + LONG_TEXT + opt()))
+
+
+def main():
+    odd()
+    answered()
+    files = {"stdin": lines, "stdout": answers}
+    bad = 0
+    for file, rows in files.items():
+        path, text = FOLDER / file, "".join(row + "\n" for row in rows)
+        if "--check" not in sys.argv[1:]:
+            path.write_text(text, encoding="ascii")
+        elif path.read_text(encoding="ascii") != text:
+            print(f"another text: {path.name}")
+            bad = 1
+    return bad
+
+
+sys.exit(main())
