@@ -4,3 +4,6 @@ pub mod Putting
 pub mod Mending
 pub mod Walking
 pub mod Carrying
+pub mod Spellings
+pub mod Headed
+pub mod Views

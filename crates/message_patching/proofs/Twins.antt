@@ -410,7 +410,7 @@ stands_last : (a xs : List ℕ) → Stands (a ++ xs) (length a) xs
 stands_last a xs = record { front = a; back = []; is = ap (λ x. a ++ x) (sym (append-nil xs)); long = refl }
 
 -- two names that are the same but for case, on both
-names_seen : (c d : Compressed) (ls ms : Labels) → lowered ls ≡ lowered ms → IsLegal ls → IsLegal ms → length d.octets ≡ length c.octets → d.places ≡ c.places → AreSame c.octets d.octets c.places → Reads c → Reads d
+pub names_seen : (c d : Compressed) (ls ms : Labels) → lowered ls ≡ lowered ms → IsLegal ls → IsLegal ms → length d.octets ≡ length c.octets → d.places ≡ c.places → AreSame c.octets d.octets c.places → Reads c → Reads d
     → ((with_name ms d).places ≡ (with_name ls c).places) × AreSame (with_name ls c).octets (with_name ms d).octets (with_name ls c).places
 unfolding with_name
 names_seen c d ls ms e legal lawful long places seen mine other =
