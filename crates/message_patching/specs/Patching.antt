@@ -1,5 +1,5 @@
 -- A message that was composed once, and what is written over it for each request.
-use Rattle.std.specs.Prelude.{◌≡◌, ℕ, ◌+◌, ◌==◌, Bool, true, false, not, if◌then◌else◌, Option, Some, None, option_map, option_and_then, List, [], ◌∷◌, ◌++◌, length, take, drop, map, nat_le, slice_range}
+use Rattle.std.specs.Prelude.{◌≡◌, ℕ, ◌+◌, ◌-◌, ◌^◌, ◌≤◌, ◌==◌, Bool, true, false, not, if◌then◌else◌, Option, Some, None, option_map, option_and_then, List, [], ◌∷◌, ◌++◌, length, take, drop, map, nat_le, nat_lt, slice_range}
 use Rattle.std.specs.Char.{to_ascii_lowercase}
 use Rattle.std.specs.Int.{w32, to_be_bytes}
 use Rattle.dns_values.specs.declared.numbers.Section.{Section}
@@ -43,9 +43,20 @@ abbrev pub ttl_places : Section → List Mark → List ℕ
 ttl_places s [] = []
 ttl_places s (m ∷ ms) = if has_ttl s m.rtype then m.place ∷ ttl_places s ms else ttl_places s ms
 
+-- four octets of so many stand from a place on
+abbrev pub IsTtlIn : ℕ → ℕ → Type 0
+IsTtlIn n at = at + 4 ≤ n
+
 -- those of so many records from a place on, and where the octets after them stand
 abbrev pub section_places : Section → List ℕ → (count at : ℕ) → Option (List ℕ × ℕ)
 section_places s octets count at = option_map (λ x. (ttl_places s x.0, x.1)) (list_at (mark_at octets) count at)
+
+-- behind other places
+abbrev pub with_places : List ℕ → Option (List ℕ × ℕ) → Option (List ℕ × ℕ)
+with_places before found = option_map (λ x. (before ++ x.0, x.1)) found
+
+abbrev pub places_and : List ℕ → Option ℕ → Option (List ℕ × ℕ)
+places_and places end = option_map (λ e. (places, e)) end
 
 -- where the records stand behind no question or one
 abbrev pub records_from : List ℕ → Option ℕ
@@ -73,9 +84,16 @@ pub record Template : Type 0 where
 unfoldable pub template_of : List ℕ → Option Template
 template_of octets = option_map (λ places. record { octets = octets; is_named = u16_at octets 4 == 1; ttls = places }) (places_in octets)
 
+-- A template's places are told in 32 bits.
+abbrev pub small_template_of : List ℕ → Option Template
+small_template_of octets = if nat_lt (2 ^ 32 - 1) (length octets) then None else template_of octets
+
 -- The name is that of the question but for its case. Without a question each is.
 abbrev pub IsFor : Template → Labels → Type 0
 IsFor t name = t.is_named ≡ true → map to_ascii_lowercase (slice_range t.octets 12 (12 + length (spelling name))) ≡ map to_ascii_lowercase (spelling name)
+
+abbrev pub IsOther : Template → Labels → Type 0
+IsOther t name = ¬ (IsFor t name)
 
 -- the spelling of a name at the place of the question's
 abbrev pub name_put : Bool → Labels → List (ℕ × List ℕ)
