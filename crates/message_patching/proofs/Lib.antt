@@ -7,3 +7,4 @@ pub mod Carrying
 pub mod Spellings
 pub mod Headed
 pub mod Views
+pub mod Finding

@@ -32,6 +32,7 @@ use Rattle.message_patching.specs.Laws.{GivesViews, ViewsArePatched}
 use Rattle.message_patching.proofs.Mending.{Mended, all_records, retimed, ttl_writes, records_mended, plain_times}
 use Rattle.message_patching.proofs.Walking.{marks, Found_all, found_all, records_grow}
 use Rattle.message_patching.proofs.Carrying.{drawn, more_in, then_done, all_questions, AsksAll, questions_asked, GivesAll, section_given}
+use Rattle.message_patching.proofs.Finding.{places_found}
 use Rattle.message_patching.proofs.Spellings.{spelled_alike}
 use Rattle.message_patching.proofs.Headed.{headed, headed_long, bare, CountsAre, AreFew, counts_read, run, headed_run, finished_run, retimed_writable, headers_mended, plain_name, question_mended, records_read}
 
@@ -174,15 +175,6 @@ front header name [] counts more e legal one count =
     }
 front header name (q ∷ []) counts more e legal one count = one_question header name q counts more e legal count
 front header name (q ∷ r ∷ qs) counts more e legal one count = absurd (omega (arith, one))
-
-places_found : (o : List ℕ) (f fa fu fd : ℕ) (A U D : List ℕ) → records_from o ≡ Some f → section_places Answer o (u16_at o 6) f ≡ Some (A, fa) → section_places Authority o (u16_at o 8) fa ≡ Some (U, fu)
-    → section_places Additional o (u16_at o 10) fu ≡ Some (D, fd) → places_in o ≡ Some (A ++ (U ++ D))
-unfolding places_in
-places_found o f fa fu fd A U D h a u d =
-    ap (λ x. x >>= λ f. section_places Answer o (u16_at o 6) f >>= λ a. section_places Authority o (u16_at o 8) a.1 >>= λ u. section_places Additional o (u16_at o 10) u.1 >>= λ d. Some (a.0 ++ (u.0 ++ d.0))) h
-    ∙ ap (λ x. x >>= λ a. section_places Authority o (u16_at o 8) a.1 >>= λ u. section_places Additional o (u16_at o 10) u.1 >>= λ d. Some (a.0 ++ (u.0 ++ d.0))) a
-    ∙ ap (λ x. x >>= λ u. section_places Additional o (u16_at o 10) u.1 >>= λ d. Some (A ++ (u.0 ++ d.0))) u
-    ∙ ap (λ x. x >>= λ d. Some (A ++ (U ++ d.0))) d
 
 section_found : (s : Section) (ws : List Written) (c : Compressed) (o : List ℕ) (n k : ℕ) → n ≡ k → k ≡ length ws → Found_all s ws c o
     → section_places s o n (length c.octets) ≡ Some (ttl_places s (marks ws c), length (all_records ws c).octets)

@@ -1,7 +1,8 @@
 //! A composed message, with the places of what is written over it.
 
-ghost use Rattle.std.specs.Prelude.{◌≡◌, ◌≤◌, ◌↔◌, length, IfOk, IfSome, IsTrue, MatchOption};
+ghost use Rattle.std.specs.Prelude.{◌≡◌, ◌+◌, ◌≤◌, ◌↔◌, ◌∷◌, true, length, IfOk, IfSome, IsTrue, MatchOption};
 ghost use Rattle.std.specs.List.{AllByRecursion};
+ghost use Rattle.dns_names.specs.Name.{spelling};
 ghost use Rattle.message_patching.specs.Patching as spec;
 
 use crate::places::{places_in, u16_at};
@@ -62,7 +63,8 @@ impl Template {
 
     /// Whether a name is that of the question, but for its case.
     fn is_for(&self, name: &Name) -> bool
-        ensures { IsTrue result ↔ spec.IsFor self.now name.now }
+        ensures same { IsTrue result ↔ spec.IsFor self.now name.now }
+        ensures room { IsTrue result → self.now.is_named ≡ true → 12 + length (spelling name.now) ≤ length self.now.octets }
     {
         if !self.is_named {
             return true;
@@ -76,8 +78,22 @@ impl Template {
         octets[12..end].eq_ignore_ascii_case(spelling)
     }
 
+    /// Writes a header, and the spelling of the question's name.
+    fn put_front(&self, header: Header, name: &Name, octets: &mut Vec<u8>)
+        requires long { 4 ≤ length octets.old.items }
+        requires room { self.now.is_named ≡ true → 12 + length (spelling name.now) ≤ length octets.old.items }
+        ensures put { octets.new.items ≡ spec.puts ((0, header) ∷ spec.name_put self.now.is_named name.now) octets.old.items }
+        ensures len { length octets.new.items ≡ length octets.old.items }
+    {
+        put_over(octets, 0, &header.to_octets());
+        if self.is_named {
+            put_over(octets, 12, name.as_octets());
+        }
+    }
+
     /// A copy with this header, this spelling of the question's name, and its TTLs as they are given. None exactly where
     /// the name is another.
+    #[tactic(auto, using(crate::proofs::Putting::puts_more))]
     pub fn patch(
         &self,
         alloc: Global,
@@ -85,7 +101,7 @@ impl Template {
         name: &Name,
         ttls: Ttls,
     ) -> Result<Option<Message>, NoMemory>
-        ensures given { IfOk result (λ given. MatchOption given (λ m. m ≡ spec.patched header name.now ttls self.now) (λ _. spec.IsOther self.now name.now)) }
+        ensures given { IfOk result (λ given. MatchOption given (spec.IsOther self.now name.now) (λ m. m ≡ spec.patched header name.now ttls self.now)) }
         ensures named { IfOk result (λ given. IfSome given (λ _. spec.IsFor self.now name.now)) }
     {
         if !self.is_for(name) {
@@ -93,11 +109,9 @@ impl Template {
         }
         let first = self.message.as_slice();
         let mut octets = Vec::from_slice(alloc, first)?;
-        put_over(&mut octets, 0, &header.to_octets());
-        if self.is_named {
-            put_over(&mut octets, 12, name.as_octets());
-        }
+        self.put_front(header, name, &mut octets);
         put_ttls(first, &self.ttls, ttls, &mut octets);
-        Ok(Some(message_of(octets)?))
+        let message = message_of(octets)?;
+        Ok(Some(message))
     }
 }

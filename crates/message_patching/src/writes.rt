@@ -41,6 +41,7 @@ pub(crate) fn put_ttls(first: &[u8], places: &[u32], ttls: Ttls, octets: &mut Ve
     requires within { AllByRecursion (IsTtlIn (length first.now)) places.now }
     requires long { length octets.old.items ≡ length first.now }
     ensures put { octets.new.items ≡ puts (map (ttl_put ttls first.now) places.now) octets.old.items }
+    ensures len { length octets.new.items ≡ length octets.old.items }
 {
     for place in places {
         let at = *place as usize;
