@@ -100,6 +100,11 @@ abbrev pub name_put : Bool → Labels → List (ℕ × List ℕ)
 name_put true name = (12, spelling name) ∷ []
 name_put false name = []
 
+-- how many octets that takes
+abbrev pub name_room : Bool → Labels → ℕ
+name_room true name = length (spelling name)
+name_room false name = 0
+
 -- a TTL as it is given, at its place
 abbrev pub ttl_put : Ttls → List ℕ → ℕ → ℕ × List ℕ
 ttl_put n octets at = (at, to_be_bytes w32 (ttl_by n (u32_at octets at)))

@@ -1,12 +1,11 @@
 //! A composed message, with the places of what is written over it.
 
-ghost use Rattle.std.specs.Prelude.{◌≡◌, ◌+◌, ◌≤◌, ◌↔◌, ◌∷◌, true, length, IfOk, IfSome, IsTrue, MatchOption};
+ghost use Rattle.std.specs.Prelude.{◌≡◌, ◌+◌, ◌≤◌, ◌↔◌, length, IfOk, IfSome, IsTrue, MatchOption};
 ghost use Rattle.std.specs.List.{AllByRecursion};
-ghost use Rattle.dns_names.specs.Name.{spelling};
 ghost use Rattle.message_patching.specs.Patching as spec;
 
 use crate::places::{places_in, u16_at};
-use crate::writes::{put_over, put_ttls};
+use crate::writes::{put_name, put_over, put_ttls};
 use cache_rules::Ttls;
 use dns_base::{Header, Message, Name, NoMemory, Octets};
 use std::alloc::Global;
@@ -64,31 +63,18 @@ impl Template {
     /// Whether a name is that of the question, but for its case.
     fn is_for(&self, name: &Name) -> bool
         ensures same { IsTrue result ↔ spec.IsFor self.now name.now }
-        ensures room { IsTrue result → self.now.is_named ≡ true → 12 + length (spelling name.now) ≤ length self.now.octets }
+        ensures room { IsTrue result → 12 + spec.name_room self.now.is_named name.now ≤ length self.now.octets }
     {
+        let octets = self.message.as_slice();
         if !self.is_named {
             return true;
         }
-        let octets = self.message.as_slice();
         let spelling = name.as_octets();
         let end = 12 + spelling.len();
         if octets.len() < end {
             return false;
         }
         octets[12..end].eq_ignore_ascii_case(spelling)
-    }
-
-    /// Writes a header, and the spelling of the question's name.
-    fn put_front(&self, header: Header, name: &Name, octets: &mut Vec<u8>)
-        requires long { 4 ≤ length octets.old.items }
-        requires room { self.now.is_named ≡ true → 12 + length (spelling name.now) ≤ length octets.old.items }
-        ensures put { octets.new.items ≡ spec.puts ((0, header) ∷ spec.name_put self.now.is_named name.now) octets.old.items }
-        ensures len { length octets.new.items ≡ length octets.old.items }
-    {
-        put_over(octets, 0, &header.to_octets());
-        if self.is_named {
-            put_over(octets, 12, name.as_octets());
-        }
     }
 
     /// A copy with this header, this spelling of the question's name, and its TTLs as they are given. None exactly where
@@ -109,7 +95,8 @@ impl Template {
         }
         let first = self.message.as_slice();
         let mut octets = Vec::from_slice(alloc, first)?;
-        self.put_front(header, name, &mut octets);
+        put_over(&mut octets, 0, &header.to_octets());
+        put_name(self.is_named, name, &mut octets);
         put_ttls(first, &self.ttls, ttls, &mut octets);
         let message = message_of(octets)?;
         Ok(Some(message))

@@ -3,10 +3,11 @@
 ghost use Rattle.std.specs.Prelude.{◌≡◌, ◌+◌, ◌≤◌, length, map};
 ghost use Rattle.std.specs.List.{AllByRecursion};
 ghost use Rattle.cache_rules.specs.Viewing.{ttl_by};
-ghost use Rattle.message_patching.specs.Patching.{put_over, puts, ttl_put, IsTtlIn};
+ghost use Rattle.message_patching.specs.Patching.{put_over, puts, name_put, name_room, ttl_put, IsTtlIn};
 
 use crate::places::u32_at;
 use cache_rules::Ttls;
+use dns_base::Name;
 
 /// Writes octets over as many others, from a place on.
 fn write_over(octets: &mut [u8], at: usize, new: &[u8])
@@ -24,6 +25,17 @@ pub(crate) fn put_over(octets: &mut Vec<u8>, at: usize, new: &[u8])
     ensures len { length octets.new.items ≡ length octets.old.items }
 {
     write_over(octets, at, new);
+}
+
+/// Writes the spelling of a name over the question's, if there is one.
+pub(crate) fn put_name(is_named: bool, name: &Name, octets: &mut Vec<u8>)
+    requires { 12 + name_room is_named name.now ≤ length octets.old.items }
+    ensures put { octets.new.items ≡ puts (name_put is_named name.now) octets.old.items }
+    ensures len { length octets.new.items ≡ length octets.old.items }
+{
+    if is_named {
+        put_over(octets, 12, name.as_octets());
+    }
 }
 
 /// A TTL as it is given.
