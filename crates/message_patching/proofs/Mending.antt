@@ -114,13 +114,13 @@ records_mended s n (w ∷ ws) done c d h m = go (has_ttl s w.rtype) refl (λ don
     go : (b : Bool) → has_ttl s w.rtype ≡ b
         → ((done : List (ℕ × List ℕ)) (d : Compressed) → Mended done next d → Mended (done ++ ttl_writes s n ws next) (all_records ws next) (all_records (map (retimed s n) ws) d))
         → Mended (done ++ (if b then (length (before_ttl w c).octets, to_be_bytes w32 (ttl_by n w.ttl)) ∷ ttl_writes s n ws next else ttl_writes s n ws next))
-            (all_records ws next) (all_records (map (retimed s n) ws) (with_record (retimed s n w) d))
+        (all_records ws next) (all_records (map (retimed s n) ws) (with_record (retimed s n w) d))
     go true e others =
         let one : ℕ × List ℕ = (length (before_ttl w c).octets, to_be_bytes w32 (ttl_by n w.ttl)) in
         let first : Mended (done ++ one ∷ []) next (with_record (retimed s n w) d) =
         subst (λ ttl. Mended (done ++ one ∷ []) next (with_record (record w { ttl = ttl }) d)) (sym (has_time s n w.rtype w.ttl e)) (record_mended done w (ttl_by n w.ttl) c d h.0 m) in
         subst (λ z. Mended z (all_records ws next) (all_records (map (retimed s n) ws) (with_record (retimed s n w) d))) (append_assoc done (one ∷ []) (ttl_writes s n ws next))
-            (others (done ++ one ∷ []) (with_record (retimed s n w) d) first)
+        (others (done ++ one ∷ []) (with_record (retimed s n w) d) first)
     go false e others =
         let first : Mended done next (with_record (retimed s n w) d) =
         subst (λ ttl. Mended done next (with_record (record w { ttl = ttl }) d)) (sym (has_none s n w.rtype w.ttl e)) (same_record done w c d h.0 m) in

@@ -210,14 +210,16 @@ counted_both content c d p q back full h own a f =
     let own_full : Alike U U p p full = record { first = f.first; second = f.first; long = refl; places = refl; seen = own_data } in
     let mine = counted_seen content c c p p back full n h own_back own_full fits.0 fits.1 in
     let other = counted_seen content c d p q back full n h a f fits.0 fits.1 in
-    let across = places_across U.octets (p ++ counted_back k n full) (q ++ counted_back k n full) U.places mine other in
-    (counted_back k n full, record {
-      first = first;
-      second = second;
-      long = a.long;
-      places = f.places;
-      seen = subst (λ x. ArePlaces x (counted (length d.octets) V).octets U.places) (sym first) (subst (λ x. ArePlaces (p ++ counted_back k n full) x U.places) (sym second) across);
-    })
+    let across = places_across U.octets (p ++ counted_back k n full) (q ++ counted_back k n full) U.places mine other in (
+      counted_back k n full,
+      record {
+        first = first;
+        second = second;
+        long = a.long;
+        places = f.places;
+        seen = subst (λ x. ArePlaces x (counted (length d.octets) V).octets U.places) (sym first) (subst (λ x. ArePlaces (p ++ counted_back k n full) x U.places) (sym second) across);
+      },
+    )
   where
     own_data : Reads (filled content c)
     own_data = (both_data content (based c) (based c) [] [] h (both_octets (to_be_bytes w16 0) c c [] [] (c.octets, itself c own))).1.seen
@@ -336,7 +338,7 @@ new_are_same here there more others places at (a ∷ ls) (b ∷ ms) e legal lawf
     by_place : (f : Option ℕ) → found_at here places (a ∷ ls) ≡ f → found_at here places (a ∷ ls) ≡ found_at there places (b ∷ ms)
         → Stands (here ++ more) at (pointer_or (found_at here places (a ∷ ls)) (length a ∷ a ++ xs)) → Stands (there ++ others) at (pointer_or (found_at there places (b ∷ ms)) (length b ∷ b ++ ys))
         → (Stands (here ++ more) (at + 1 + length a) xs → Stands (there ++ others) (at + 1 + length b) ys
-            → AreSame (here ++ more) (there ++ others) (name_places (record { octets = here; places = places }) (at + 1 + length a) ls))
+        → AreSame (here ++ more) (there ++ others) (name_places (record { octets = here; places = places }) (at + 1 + length a) ls))
         → AreSame (here ++ more) (there ++ others) (none_if_found (found_at here places (a ∷ ls)) (remembered at (name_places (record { octets = here; places = places }) (at + 1 + length a) ls)))
     by_place (Some p) f g s t next = rw f tt
     by_place None f g s t next =

@@ -109,15 +109,15 @@ parts header name b m o v e =
       additional_is = omega arith;
       few = (q.few (omega arith), a.few (omega arith), u.few (omega arith), d.few (omega arith));
       gives = λ header name n.
-      let A : Draft → Copied = carries_section Answer b n m in
-      let U : Draft → Copied = carries_section Authority b n m in
-      let D : Draft → Copied = carries_section Additional b n m in
-      let H : Draft → Copied = λ all. Ok (with_header header all) in
-      let cq : Compressed = all_questions name q.questions bare in
-      let ca : Compressed = all_records (map (retimed Answer n) a.written) cq in
-      let cu : Compressed = all_records (map (retimed Authority n) u.written) ca in
-      ap (λ o. message_of (o >> A >> U >> D >> H)) (q.gives name bare) ∙ ap (λ o. message_of (o >> U >> D >> H)) (a.gives n cq)
-      ∙ ap (λ o. message_of (o >> D >> H)) (u.gives n ca) ∙ ap (λ o. message_of (o >> H)) (d.gives n cu);
+          let A : Draft → Copied = carries_section Answer b n m in
+          let U : Draft → Copied = carries_section Authority b n m in
+          let D : Draft → Copied = carries_section Additional b n m in
+          let H : Draft → Copied = λ all. Ok (with_header header all) in
+          let cq : Compressed = all_questions name q.questions bare in
+          let ca : Compressed = all_records (map (retimed Answer n) a.written) cq in
+          let cu : Compressed = all_records (map (retimed Authority n) u.written) ca in
+          ap (λ o. message_of (o >> A >> U >> D >> H)) (q.gives name bare) ∙ ap (λ o. message_of (o >> U >> D >> H)) (a.gives n cq)
+          ∙ ap (λ o. message_of (o >> D >> H)) (u.gives n ca) ∙ ap (λ o. message_of (o >> H)) (d.gives n cu);
     }
 
 -- what stands before the records, with no question or one
@@ -157,8 +157,8 @@ one_question header name q counts more e legal count =
       from = ap (λ k. if k == 0 then Some 12 else if k == 1 then option_map (λ (f : Found). f.end + 4) (name_at o 12) else None) count
           ∙ ap (option_map (λ (f : Found). f.end + 4)) there ∙ ap Some end;
       mended = λ other ms f lawful same.
-      subst (λ k. Mended ((0, other) ∷ (k, spelling ms) ∷ []) (with_question (named name q) c) (with_question (named ms q) (headed other counts))) long
-      (question_mended ((0, other) ∷ []) name ms q h (other ++ counts_spelling counts) (same refl) legal lawful (headers_mended header other counts e f));
+          subst (λ k. Mended ((0, other) ∷ (k, spelling ms) ∷ []) (with_question (named name q) c) (with_question (named ms q) (headed other counts))) long
+          (question_mended ((0, other) ∷ []) name ms q h (other ++ counts_spelling counts) (same refl) legal lawful (headers_mended header other counts e f));
       spelt = λ t. (x ++ (y ++ more), ap (drop 12) (is ∙ ap (λ z. z ++ (x ++ (y ++ more))) plain ∙ append_assoc h (spelling name) (x ++ (y ++ more))) ∙ dropped_twelve h (spelling name ++ (x ++ (y ++ more))) long);
     }
 
@@ -244,34 +244,37 @@ module _ (drops : Bool) (m : Octets) (p : Parts drops m) (header : List ℕ) (na
       let sd = section_found Additional p.additional cu made (u16_at made 10) p.counts.additional counts_are.additional p.additional_is fd in
       let t : Template = record { octets = made; is_named = u16_at made 4 == 1; ttls = A ++ (U ++ D) } in
       let is : template_of made ≡ Some t =
-      ap (option_map (λ (ps : List ℕ). record { octets = made; is_named = u16_at made 4 == 1; ttls = ps })) (places_found made _ _ _ _ A U D f.from sa su sd) in
-      (t, is, record {
-        gives = λ other ms n h lawful for.
-        let a : List Written = map (retimed Answer n) p.answer in
-        let u : List Written = map (retimed Authority n) p.authority in
-        let d : List Written = map (retimed Additional n) p.additional in
-        let same : f.is_named ≡ true → lowered name ≡ lowered ms = λ b.
-            let s = f.spelt b in
-            let long : ℕ = length (spelling ms) in
-            let twelve : 12 + long - 12 ≡ long = omega arith in
-            let cut : slice_range made 12 (12 + long) ≡ take long (spelling name ++ s.0) = ap (λ k. take k (drop 12 made)) twelve ∙ ap (take long) s.1 in
-            spelled_alike name ms s.0 legal.0 lawful.0 (sym (ap (map to_ascii_lowercase) cut) ∙ for (f.counted ∙ b)) in
-        let m0 = f.mended other ms h lawful same in
-        let m1 = records_mended Answer n p.answer _ cq _ p.first m0 in
-        let m2 = records_mended Authority n p.authority _ ca _ p.second m1 in
-        let m3 = records_mended Additional n p.additional _ cu _ p.third m2 in
-        let wa : List (ℕ × List ℕ) = ttl_writes Answer n p.answer cq in
-        let wu : List (ℕ × List ℕ) = ttl_writes Authority n p.authority ca in
-        let wd : List (ℕ × List ℕ) = ttl_writes Additional n p.additional cu in
-        let put : ℕ → ℕ × List ℕ = ttl_put n made in
-        let ttls : map put (A ++ (U ++ D)) ≡ wa ++ (wu ++ wd) =
-        map-append put A (U ++ D) ∙ ap (λ x. x ++ map put (U ++ D)) (fa.puts n) ∙ ap (λ x. wa ++ x) (map-append put U D ∙ ap (λ x. x ++ map put D) (fu.puts n) ∙ ap (λ x. wu ++ x) (fd.puts n)) in
-        let head : List (ℕ × List ℕ) = (0, other) ∷ name_put f.is_named ms in
-        let all : ((head ++ wa) ++ wu) ++ wd ≡ (0, other) ∷ (name_put t.is_named ms ++ map put (A ++ (U ++ D))) =
-        append_assoc (head ++ wa) wu wd ∙ append_assoc head wa (wu ++ wd) ∙ ap (λ x. head ++ x) (sym ttls) ∙ ap (λ b. ((0, other) ∷ name_put b ms) ++ map put (A ++ (U ++ D))) (sym f.counted) in
-        p.gives other ms n ∙ ap Ok (finished_run other p.counts ms p.questions a u d h lawful p.askable (retimed_writable Answer n p.answer p.first) (retimed_writable Authority n p.authority p.second) (retimed_writable Additional n p.additional p.third)
-            ∙ m3.is ∙ ap (λ ws. puts ws made) all);
-      })
+      ap (option_map (λ (ps : List ℕ). record { octets = made; is_named = u16_at made 4 == 1; ttls = ps })) (places_found made _ _ _ _ A U D f.from sa su sd) in (
+        t,
+        is,
+        record {
+          gives = λ other ms n h lawful for.
+              let a : List Written = map (retimed Answer n) p.answer in
+              let u : List Written = map (retimed Authority n) p.authority in
+              let d : List Written = map (retimed Additional n) p.additional in
+              let same : f.is_named ≡ true → lowered name ≡ lowered ms = λ b.
+              let s = f.spelt b in
+              let long : ℕ = length (spelling ms) in
+              let twelve : 12 + long - 12 ≡ long = omega arith in
+              let cut : slice_range made 12 (12 + long) ≡ take long (spelling name ++ s.0) = ap (λ k. take k (drop 12 made)) twelve ∙ ap (take long) s.1 in
+              spelled_alike name ms s.0 legal.0 lawful.0 (sym (ap (map to_ascii_lowercase) cut) ∙ for (f.counted ∙ b)) in
+              let m0 = f.mended other ms h lawful same in
+              let m1 = records_mended Answer n p.answer _ cq _ p.first m0 in
+              let m2 = records_mended Authority n p.authority _ ca _ p.second m1 in
+              let m3 = records_mended Additional n p.additional _ cu _ p.third m2 in
+              let wa : List (ℕ × List ℕ) = ttl_writes Answer n p.answer cq in
+              let wu : List (ℕ × List ℕ) = ttl_writes Authority n p.authority ca in
+              let wd : List (ℕ × List ℕ) = ttl_writes Additional n p.additional cu in
+              let put : ℕ → ℕ × List ℕ = ttl_put n made in
+              let ttls : map put (A ++ (U ++ D)) ≡ wa ++ (wu ++ wd) =
+              map-append put A (U ++ D) ∙ ap (λ x. x ++ map put (U ++ D)) (fa.puts n) ∙ ap (λ x. wa ++ x) (map-append put U D ∙ ap (λ x. x ++ map put D) (fu.puts n) ∙ ap (λ x. wu ++ x) (fd.puts n)) in
+              let head : List (ℕ × List ℕ) = (0, other) ∷ name_put f.is_named ms in
+              let all : ((head ++ wa) ++ wu) ++ wd ≡ (0, other) ∷ (name_put t.is_named ms ++ map put (A ++ (U ++ D))) =
+              append_assoc (head ++ wa) wu wd ∙ append_assoc head wa (wu ++ wd) ∙ ap (λ x. head ++ x) (sym ttls) ∙ ap (λ b. ((0, other) ∷ name_put b ms) ++ map put (A ++ (U ++ D))) (sym f.counted) in
+              p.gives other ms n ∙ ap Ok (finished_run other p.counts ms p.questions a u d h lawful p.askable (retimed_writable Answer n p.answer p.first) (retimed_writable Authority n p.authority p.second) (retimed_writable Additional n p.additional p.third)
+              ∙ m3.is ∙ ap (λ ws. puts ws made) all);
+        },
+      )
 
   made_is : finished (with_header header (drawn (run name p.questions (map (retimed Answer (Lessened 0)) p.answer) (map (retimed Authority (Lessened 0)) p.authority) (map (retimed Additional (Lessened 0)) p.additional) bare) p.counts)) ≡ made
   unfolding made cu ca cq

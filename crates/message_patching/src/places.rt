@@ -114,7 +114,13 @@ pub(crate) fn places_in(alloc: Global, octets: &[u8]) -> Result<Option<Vec<u32>>
         None => return Ok(None),
         Some(end) => at = end,
     }
-    match push_places(Section::Additional, octets, u16_at(octets, 10), at, &mut ttls)? {
+    match push_places(
+        Section::Additional,
+        octets,
+        u16_at(octets, 10),
+        at,
+        &mut ttls,
+    )? {
         None => Ok(None),
         Some(_) => Ok(Some(ttls)),
     }

@@ -17,17 +17,19 @@ loop-preserved c =
     let o : List ℕ = c.args.octets.now in
     elim c.if-has_ttl.branch [
       | then-has_ttl+in_ok-push-in-Some w ↦
-          let items : c.if-has_ttl.ttls.items ≡ c.loop.ttls.items ++ c.in-Some.place ∷ [] = ap (λ (v : Vec ℕ Global). v.items) w.ttls-is ∙ w.in_ok-push-in-Some.ensures.items in
-          (c.loop.invariant.0 ∙ section_step c.args.section o _ left c.loop.at c.loop.ttls.items _ _ _ true c.in-Some.ensures.found more (sym w.if-has_ttl.ensures)
-          ∙ ap (λ (xs : List ℕ). with_places xs (section_places c.args.section o left c.in-Some.end)) (sym items)
-          ∙ ap (λ (at : ℕ). with_places c.if-has_ttl.ttls.items (section_places c.args.section o left at)) (sym w.at-is),
-          subst (AllByRecursion (IsTtlIn (length o))) (sym items) (all_and (IsTtlIn (length o)) c.loop.ttls.items c.in-Some.place c.loop.invariant.1 c.in-Some.ensures.within))
+          let items : c.if-has_ttl.ttls.items ≡ c.loop.ttls.items ++ c.in-Some.place ∷ [] = ap (λ (v : Vec ℕ Global). v.items) w.ttls-is ∙ w.in_ok-push-in-Some.ensures.items in (
+            c.loop.invariant.0 ∙ section_step c.args.section o _ left c.loop.at c.loop.ttls.items _ _ _ true c.in-Some.ensures.found more (sym w.if-has_ttl.ensures)
+                ∙ ap (λ (xs : List ℕ). with_places xs (section_places c.args.section o left c.in-Some.end)) (sym items)
+                ∙ ap (λ (at : ℕ). with_places c.if-has_ttl.ttls.items (section_places c.args.section o left at)) (sym w.at-is),
+            subst (AllByRecursion (IsTtlIn (length o))) (sym items) (all_and (IsTtlIn (length o)) c.loop.ttls.items c.in-Some.place c.loop.invariant.1 c.in-Some.ensures.within),
+          )
       | else-has_ttl w ↦
-          let items : c.if-has_ttl.ttls.items ≡ c.loop.ttls.items = ap (λ (v : Vec ℕ Global). v.items) w.ttls-is in
-          (c.loop.invariant.0 ∙ section_step c.args.section o _ left c.loop.at c.loop.ttls.items _ _ _ false c.in-Some.ensures.found more (sym w.if-has_ttl.ensures)
-          ∙ ap (λ (xs : List ℕ). with_places xs (section_places c.args.section o left c.in-Some.end)) (sym items)
-          ∙ ap (λ (at : ℕ). with_places c.if-has_ttl.ttls.items (section_places c.args.section o left at)) (sym w.at-is),
-          subst (AllByRecursion (IsTtlIn (length o))) (sym items) c.loop.invariant.1)
+          let items : c.if-has_ttl.ttls.items ≡ c.loop.ttls.items = ap (λ (v : Vec ℕ Global). v.items) w.ttls-is in (
+            c.loop.invariant.0 ∙ section_step c.args.section o _ left c.loop.at c.loop.ttls.items _ _ _ false c.in-Some.ensures.found more (sym w.if-has_ttl.ensures)
+                ∙ ap (λ (xs : List ℕ). with_places xs (section_places c.args.section o left c.in-Some.end)) (sym items)
+                ∙ ap (λ (at : ℕ). with_places c.if-has_ttl.ttls.items (section_places c.args.section o left at)) (sym w.at-is),
+            subst (AllByRecursion (IsTtlIn (length o))) (sym items) c.loop.invariant.1,
+          )
     ]
 
 pub returns-clause-found : goal.returns-clause-found
