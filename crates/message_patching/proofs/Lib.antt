@@ -1,0 +1,10 @@
+pub mod Labels
+pub mod Twins
+pub mod Putting
+pub mod Mending
+pub mod Walking
+pub mod Carrying
+pub mod Spellings
+pub mod Headed
+pub mod Views
+pub mod Finding

@@ -1,0 +1,104 @@
+//! A composed message, with the places of what is written over it.
+
+ghost use Rattle.std.specs.Prelude.{◌≡◌, ◌+◌, ◌≤◌, ◌↔◌, length, IfOk, IfSome, IsTrue, MatchOption};
+ghost use Rattle.std.specs.List.{AllByRecursion};
+ghost use Rattle.message_patching.specs.Patching as spec;
+
+use crate::places::{places_in, u16_at};
+use crate::writes::{put_name, put_over, put_ttls};
+use cache_rules::Ttls;
+use dns_base::{Header, Message, Name, NoMemory, Octets};
+use std::alloc::Global;
+use std::marker::Model;
+
+/// The message of octets that are long enough.
+fn message_of(octets: Vec<u8>) -> Result<Message, NoMemory>
+    requires { 12 ≤ length octets.items }
+    ensures { IfOk result (λ m. m ≡ octets.items) }
+{
+    let Ok(message) = Message::from_octets(Octets::from_vec(octets)?) else {
+        unreachable!()
+    };
+    Ok(message)
+}
+
+/// A message that was composed, and the places of its question's name and of its TTLs.
+#[derive(Drop)]
+pub struct Template {
+    message: Message,
+    is_named: bool,
+    ttls: Vec<u32>,
+}
+
+impl Model for Template {
+    ghost Value = { spec.Template };
+
+    ghost view = { λ t. record { octets = t.message; is_named = t.is_named; ttls = t.ttls.items } };
+
+    ghost invariant = { λ t. AllByRecursion (spec.IsTtlIn (length t.message)) t.ttls.items };
+}
+
+impl Template {
+    /// The places of a message of less than 4 GiB, with no question or one, whose records are found; else none.
+    #[tactic(auto, unfolding(crate::specs::Patching::template_of))]
+    pub fn of(alloc: Global, message: Message) -> Result<Option<Template>, NoMemory>
+        ensures { IfOk result (λ t. t ≡ spec.small_template_of message) }
+    {
+        if (u32::MAX as usize) < message.as_slice().len() {
+            return Ok(None);
+        }
+        match places_in(alloc, message.as_slice())? {
+            None => Ok(None),
+            Some(ttls) => {
+                let is_named = u16_at(message.as_slice(), 4) == 1;
+                Ok(Some(Template {
+                    message,
+                    is_named,
+                    ttls,
+                }))
+            }
+        }
+    }
+
+    /// Whether a name is that of the question, but for its case.
+    fn is_for(&self, name: &Name) -> bool
+        ensures same { IsTrue result ↔ spec.IsFor self.now name.now }
+        ensures room { IsTrue result → 12 + spec.name_room self.now.is_named name.now ≤ length self.now.octets }
+    {
+        let octets = self.message.as_slice();
+        if !self.is_named {
+            return true;
+        }
+        let spelling = name.as_octets();
+        let end = 12 + spelling.len();
+        if octets.len() < end {
+            return false;
+        }
+        octets[12..end].eq_ignore_ascii_case(spelling)
+    }
+
+    /// A copy with this header, this spelling of the question's name, and its TTLs as they are given. None exactly where
+    /// the name is another.
+    #[tactic(auto, using(crate::proofs::Putting::puts_more))]
+    pub fn patch(
+        &self,
+        alloc: Global,
+        header: Header,
+        name: &Name,
+        ttls: Ttls,
+    ) -> Result<Option<Message>, NoMemory>
+        ensures given { IfOk result (λ given. MatchOption given (spec.IsOther self.now name.now) (λ m. m ≡ spec.patched header name.now ttls self.now)) }
+        ensures named { IfOk result (λ given. IfSome given (λ _. spec.IsFor self.now name.now)) }
+    {
+        if !self.is_for(name) {
+            return Ok(None);
+        }
+        let first = self.message.as_slice();
+        let mut octets = Vec::from_slice(alloc, first)?;
+        put_over(&mut octets, 0, &header.to_octets());
+        put_name(self.is_named, name, &mut octets);
+        put_ttls(first, &self.ttls, ttls, &mut octets);
+        let message = message_of(octets)?;
+        Ok(Some(message))
+    }
+}
