@@ -1,0 +1,4 @@
+pub mod Telling
+pub mod Taken
+pub mod Writing
+pub mod Brought
