@@ -1,6 +1,6 @@
 -- A zone that is fetched, from what was asked, read and applied.
-use Rattle.std.proofs.Common.{◌≡◌, ◌≢◌, inl, inr, ℕ, ◌+◌, ◌≤◌, true, false, List, [], ◌∷◌, ◌++◌, length, map, Option, Some, None, Result, Ok, Err, refl, sym, subst, ◌∙◌}
-use Rattle.std.specs.Prelude.{IfErr, IfOk}
+use Rattle.std.proofs.Common.{◌≡◌, ◌≢◌, inl, inr, ℕ, ◌+◌, ◌≤◌, true, false, List, [], ◌∷◌, ◌++◌, length, map, Option, Some, None, Result, Ok, Err, refl, ap, sym, subst, ◌∙◌}
+use Rattle.std.specs.Prelude.{IfErr, IfOk, OnOk}
 use Rattle.client_request.specs.Board.{Part, part_of}
 use Rattle.client_request.specs.Request.{Request}
 use Rattle.client_request.specs.Response.{IsRefusal}
@@ -29,7 +29,7 @@ use Rattle.zone_records.specs.declared.record.ZoneRecord.{ZoneRecord}
 use Rattle.zone_transfer.proofs.Faults.{IsOneRefusal, IsTold, refusals, told}
 use Rattle.zone_transfer.proofs.ReadOn.{then_are}
 use Rattle.zone_transfer.specs.Fetching.{Completes, IsCause, IsCut, IsFetched, IsUnappliable, IsUnasked, Reaches, ReadsStanding, RefusesPart}
-use Rattle.zone_transfer.specs.Reading.{AreRead, BoundedReading, ReadSoFar, TakesPart, fault_of, nothing_read}
+use Rattle.zone_transfer.specs.Reading.{AreRead, BoundedReading, IsWithin, ReadSoFar, TakesPart, fault_of, nothing_read}
 use Rattle.zone_transfer.specs.Requesting.{message_of, request_of}
 use Rattle.zone_transfer.specs.Turning.{Asks, IsClosed, IsOpened, Passes, Scene, Turn, Turned, messages_of, with_rest}
 use Rattle.zone_transfer.specs.declared.fault.FetchFault.{FetchFault}
@@ -152,8 +152,8 @@ module _ (kind : XfrKind) (words : ℕ → ℕ) (most : ℕ) (old : Zone) (befor
   reaches state p = record { first = first; left = left; mid = mid; asked = asked; passed = p }
 
   pub fetched : (new : Zone) (state : ReadSoFar) (missing : ℕ) → Completes (nothing_read old.apex kind) first left state mid after → is_done state.interpreter.state ≡ true → Applies old state.updates new missing
-      → IsFetched kind words old new missing before after
-  fetched new state missing c d a =
+      → IsWithin most state.updates → IsFetched kind words most old new missing before after
+  fetched new state missing c d a w =
       let t = sound old.apex kind (messages_of c.passed.turns ++ c.passed.tail) state.interpreter c.passed.read.more c.passed.read.says (done_is state.interpreter.state d) in
       record {
         state = state;
@@ -162,6 +162,7 @@ module _ (kind : XfrKind) (words : ℕ → ℕ) (most : ℕ) (old : Zone) (befor
         entries = t.0;
         come = t.1;
         transfer = subst (λ (us : List (Update ZoneRecord)). IsTransfer kind t.0 us) (sym c.passed.read.updates) t.2;
+        within = w;
         applied = a;
       }
 
@@ -223,10 +224,12 @@ module _ (kind : XfrKind) (words : ℕ → ℕ) (most : ℕ) (old : Zone) (befor
   pub cause_of_early : (state : ReadSoFar) → Completes reading.state first left state mid after → is_done state.interpreter.state ≡ false → IsCause kind words most old before after (Xfr xfr.NotValid)
   cause_of_early state c d = cause_early kind words most old before mid after first left asked_so state (completes_so state c) d
 
-  pub fetched_of : (state : ReadSoFar) (new : Zone) (r : Result ℕ FetchFault) → Completes reading.state first left state mid after → is_done state.interpreter.state ≡ true → IfOk r (Applies old state.updates new)
-      → IfOk r (λ missing. IsFetched kind words old new missing before after)
-  fetched_of state new (Ok missing) c d a = fetched kind words most old before mid after first left asked_so new state missing (completes_so state c) d a
-  fetched_of state new (Err fault) c d a = a
+  pub fetched_of : (state : ReadSoFar) (had : ℕ) (new : Zone) (r : Result ℕ FetchFault) → Completes reading.state first left state mid after → had ≡ reading.most → is_done state.interpreter.state ≡ true
+      → IfOk r (Applies old state.updates new) → OnOk r (IsWithin had state.updates) → IfOk r (λ missing. IsFetched kind words most old new missing before after)
+  fetched_of state had new (Ok missing) c same d a w =
+      fetched kind words most old before mid after first left asked_so new state missing (completes_so state c) d a
+      (subst (λ (n : ℕ). IsWithin n state.updates) (same ∙ ap (λ (r : BoundedReading). r.most) begins_so) w)
+  fetched_of state had new (Err fault) c same d a w = a
 
   pub cause_of_unapplied : (state : ReadSoFar) (r : Result ℕ FetchFault) → Completes reading.state first left state mid after → is_done state.interpreter.state ≡ true → IfErr r (IsUnappliable old.serial state.updates)
       → IfErr r (λ fault. IsCause kind words most old before after fault)

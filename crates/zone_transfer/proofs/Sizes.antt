@@ -1,11 +1,11 @@
 -- How much memory updates are reckoned to take.
-use Rattle.std.proofs.Common.{◌≡◌, ℕ, ◌+◌, ◌-◌, ◌^◌, ◌<◌, min, List, [], ◌∷◌, ◌++◌, append_assoc, Result, Ok, Err, refl, ap, sym, subst, ◌∙◌, arith}
+use Rattle.std.proofs.Common.{◌≡◌, ℕ, ◌+◌, ◌-◌, ◌^◌, ◌<◌, ◌≤◌, min, List, [], ◌∷◌, ◌++◌, append_assoc, Result, Ok, Err, refl, ap, sym, subst, ◌∙◌, arith}
 use Rattle.std.specs.Prelude.{IfErr}
 use Rattle.std.proofs.lemmas.List.Sums.{sum_by-append, sum_by_push}
 use Rattle.zone_reading.specs.declared.steps.Update.{Update}
 use Rattle.zone_records.specs.declared.record.ZoneRecord.{ZoneRecord}
 use Rattle.zone_records.specs.Interpreting.{Interpreter, interpreted}
-use Rattle.zone_transfer.specs.Reading.{AppendFault, BoundedReading, IsRefusedAt, ReadSoFar, reckoned, size_of, with_updates}
+use Rattle.zone_transfer.specs.Reading.{AppendFault, BoundedReading, IsRefusedAt, IsWithin, ReadSoFar, reckoned, size_of, with_updates}
 use Rattle.zone_transfer.specs.declared.fault.FetchFault.{FetchFault}
 use Rattle.zone_transfer.specs.declared.fault.FetchFault.TheVariants.{Connect, Transport, Refused, Xfr, Apply, TooLarge, NoReply, NoMemory}
 
@@ -77,6 +77,9 @@ above_of_size us size most a b = go (reckoned us) (2 ^ 64 - 1) size most a b
   where
     go : (x top size most : ℕ) → size ≡ min x top → most < size → most < x
     go x top size most a b = grind arith
+
+pub within_of_size : (us : Updates) (size most : ℕ) → size ≡ min (reckoned us) (2 ^ 64 - 1) → size ≤ most → IsWithin most us
+within_of_size us size most a b = subst (λ (n : ℕ). n ≤ most) a b
 
 -- why the message is refused whose updates are not appended
 pub refused_at : (most : ℕ) (s : ReadSoFar) (message : List ℕ) (next : Interpreter) (more : Updates) (r : Result (Unit {0}) FetchFault) → interpreted s.interpreter message ≡ Ok (next, more)

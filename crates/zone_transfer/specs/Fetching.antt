@@ -17,7 +17,7 @@ use Rattle.zone_records.specs.Transfers.{Entries, all_entries}
 use Rattle.zone_records.specs.declared.interpreter.XfrFault.TheVariants as xfr
 use Rattle.zone_records.specs.declared.record.ZoneRecord.{ZoneRecord}
 use Rattle.zone_records.specs.declared.zone.ApplyFault.TheVariants as applying
-use Rattle.zone_transfer.specs.Reading.{AreRead, BoundedReading, IsRefusedAt, ReadSoFar, TakesPart, nothing_read}
+use Rattle.zone_transfer.specs.Reading.{AreRead, BoundedReading, IsRefusedAt, IsWithin, ReadSoFar, TakesPart, nothing_read}
 use Rattle.zone_transfer.specs.Requesting.{message_of, request_of}
 use Rattle.zone_transfer.specs.Turning.{Asks, EndsOpening, NeverOpens, Passes, Scene, Stand, StopsAsked, StopsTurned, messages_of}
 use Rattle.zone_transfer.specs.declared.asked.Asked.{Asked}
@@ -125,14 +125,15 @@ pub record Reaches (kind : XfrKind) (words : ℕ → ℕ) (zone : Zone) (before 
   pub passed : Passes (nothing_read zone.apex kind) first left state mid after
 
 -- The messages that the connection gave of what the edge gave are a transfer of the zone, which ended, and the new zone is what its updates make of
--- the old one.
-pub record IsFetched (kind : XfrKind) (words : ℕ → ℕ) (old new : Zone) (missing : ℕ) (before after : Scene) : Type 0 where
+-- the old one. They take no more memory than was allowed.
+pub record IsFetched (kind : XfrKind) (words : ℕ → ℕ) (most : ℕ) (old new : Zone) (missing : ℕ) (before after : Scene) : Type 0 where
   pub state : ReadSoFar
   pub reached : Reaches kind words old before state after
   pub ended : part_of 0 reached.passed.rest ≡ Some (Ok None)
   pub entries : Entries
   pub come : all_entries old.apex (messages_of reached.passed.turns ++ reached.passed.tail) ≡ Some entries
   pub transfer : IsTransfer kind entries state.updates
+  pub within : IsWithin most state.updates
   pub applied : Applies old state.updates new missing
 
 -- why updates are not applied

@@ -1,5 +1,5 @@
 -- What the messages of a transfer say, one after another.
-use Rattle.std.specs.Prelude.{◌≡◌, ◌≢◌, ◌<◌, ◌+◌, ℕ, Bool, true, false, List, [], ◌++◌, length, sum_by, Some, None, Ok, Err, Result}
+use Rattle.std.specs.Prelude.{◌≡◌, ◌≢◌, ◌<◌, ◌≤◌, ◌+◌, ◌-◌, ◌^◌, min, ℕ, Bool, true, false, List, [], ◌++◌, length, sum_by, Some, None, Ok, Err, Result}
 use Rattle.dns_base.specs.Header.{rcode_of}
 use Rattle.dns_names.specs.Name.{Labels}
 use Rattle.client_request.specs.Board.{Part}
@@ -59,6 +59,10 @@ size_of (Finished _ soa) = record_size soa
 
 abbrev pub reckoned : List (Update ZoneRecord) → ℕ
 reckoned us = sum_by size_of us
+
+-- They take no more than so much, as far as 64 bits count it.
+abbrev pub IsWithin : (most : ℕ) → List (Update ZoneRecord) → Type 0
+IsWithin most us = min (reckoned us) (2 ^ 64 - 1) ≤ most
 
 -- what was read so far, and how much memory it may be reckoned to take
 pub record BoundedReading : Type 0 where

@@ -104,6 +104,7 @@ impl Asked {
         requires open { self.old.response.ended ≡ false }
         requires lasts { self.old.transfer.failed ≡ false }
         ensures ended { OnOk result (between E.deeds E.polls C.given (edge.old, clock.old) (edge.new, clock.new) (EndsFrom reading.old.state (W.stream words.old) self.old reading.new.state)) }
+        ensures most { OnOk result (reading.new.most ≡ reading.old.most) }
         ensures cause { IfErr result (λ fault. between E.deeds E.polls C.given (edge.old, clock.old) (edge.new, clock.new) (IsCutFrom reading.old (W.stream words.old) self.old fault)) }
     {
         'turns: loop {

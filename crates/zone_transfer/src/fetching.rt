@@ -1,8 +1,9 @@
 //! A zone that is fetched.
 
-ghost use Rattle.std.specs.Prelude.{◌≡◌, IfOk, IfErr, OnErr};
+ghost use Rattle.std.specs.Prelude.{◌≡◌, IfOk, IfErr, OnOk, OnErr};
 ghost use Rattle.zone_records.specs.Folding.{Applies};
 ghost use Rattle.zone_transfer.specs.Fetching.{IsCause, IsFetched, IsUnappliable};
+ghost use Rattle.zone_transfer.specs.Reading.{IsWithin};
 ghost use Rattle.zone_transfer.specs.Turning.{between};
 
 use crate::asked::Asked;
@@ -31,7 +32,7 @@ pub fn fetch<E: Edge, C: Clock, W: Words>(
     clock: &mut C,
     words: &mut W,
 ) -> Result<u64, FetchFault>
-    ensures fetched { IfOk result (λ missing. between E.deeds E.polls C.given (edge.old, clock.old) (edge.new, clock.new) (IsFetched kind (W.stream words.old) zone.old zone.new missing)) }
+    ensures fetched { IfOk result (λ missing. between E.deeds E.polls C.given (edge.old, clock.old) (edge.new, clock.new) (IsFetched kind (W.stream words.old) 18446744073709551615 zone.old zone.new missing)) }
     ensures cause { IfErr result (λ fault. between E.deeds E.polls C.given (edge.old, clock.old) (edge.new, clock.new) (λ old new. IsCause kind (W.stream words.old) 18446744073709551615 zone.old old new fault)) }
     ensures kept { OnErr result (zone.new ≡ zone.old) }
 {
@@ -48,7 +49,7 @@ pub fn fetch_within<E: Edge, C: Clock, W: Words>(
     clock: &mut C,
     words: &mut W,
 ) -> Result<u64, FetchFault>
-    ensures fetched { IfOk result (λ missing. between E.deeds E.polls C.given (edge.old, clock.old) (edge.new, clock.new) (IsFetched kind (W.stream words.old) zone.old zone.new missing)) }
+    ensures fetched { IfOk result (λ missing. between E.deeds E.polls C.given (edge.old, clock.old) (edge.new, clock.new) (IsFetched kind (W.stream words.old) most zone.old zone.new missing)) }
     ensures cause { IfErr result (λ fault. between E.deeds E.polls C.given (edge.old, clock.old) (edge.new, clock.new) (λ old new. IsCause kind (W.stream words.old) most zone.old old new fault)) }
     ensures kept { OnErr result (zone.new ≡ zone.old) }
 {
@@ -72,6 +73,7 @@ pub fn fetch_within<E: Edge, C: Clock, W: Words>(
 /// Applies what was read.
 fn apply(zone: &mut Zone, reading: Reading) -> Result<u64, FetchFault>
     ensures applied { IfOk result (Applies zone.old reading.state.updates zone.new) }
+    ensures within { OnOk result (IsWithin reading.most reading.state.updates) }
     ensures refused { IfErr result (IsUnappliable zone.old.serial reading.state.updates) }
     ensures kept { OnErr result (zone.new ≡ zone.old) }
 {

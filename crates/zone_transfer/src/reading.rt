@@ -3,7 +3,7 @@
 ghost use Rattle.std.specs.Prelude.{◌≡◌, ◌++◌, ◌∷◌, ◌-◌, ◌^◌, [], min, IfErr, OnOk, OnErr};
 ghost use Rattle.zone_records.specs.Interpreting.{is_done};
 ghost use Rattle.zone_transfer.specs.Reading as plain;
-ghost use Rattle.zone_transfer.specs.Reading.{IsRefusedAt, Reads, nothing_read, with_updates, AppendFault};
+ghost use Rattle.zone_transfer.specs.Reading.{AppendFault, IsRefusedAt, IsWithin, Reads, nothing_read, with_updates};
 
 use crate::fault::{FetchFault, refusal_of};
 use dns_base::{Message, Name, Rcode};
@@ -25,14 +25,14 @@ pub(crate) struct Reading {
 }
 
 impl Model for Reading {
-    ghost use Rattle.std.specs.Prelude.{◌≡◌, ◌-◌, ◌^◌, min};
+    ghost use Rattle.std.specs.Prelude.{◌≡◌, ◌≤◌, ◌-◌, ◌^◌, min};
     ghost use Rattle.zone_transfer.specs.Reading.{BoundedReading, reckoned};
 
     ghost Value = { BoundedReading };
 
     ghost view = { λ r. record { state = record { interpreter = r.interpreter; updates = r.updates.items }; most = r.most } };
 
-    ghost invariant = { λ r. r.size ≡ min (reckoned r.updates.items) (2 ^ 64 - 1) };
+    ghost invariant = { λ r. (r.size ≡ min (reckoned r.updates.items) (2 ^ 64 - 1)) × (r.size ≤ r.most) };
 }
 
 fn record_size(item: &ZoneRecord) -> u64
@@ -122,8 +122,10 @@ impl Reading {
     }
 
     /// The updates of all messages.
+    #[tactic(auto, using(crate::proofs::Sizes::within_of_size))]
     pub(crate) fn into_updates(self) -> Vec<Update>
-        ensures { result.items ≡ self.state.updates }
+        ensures updates { result.items ≡ self.state.updates }
+        ensures within { IsWithin self.most self.state.updates }
     {
         self.updates
     }

@@ -29,7 +29,7 @@ returns-clause-fetched g c =
     (scene (g.E.Edge.deeds c.begin.new.edge) (g.E.Edge.polls c.begin.new.edge) (g.C.Clock.given c.begin.new.clock))
     (scene (g.E.Edge.deeds c.read_all.new.edge) (g.E.Edge.polls c.read_all.new.edge) (g.C.Clock.given c.read_all.new.clock))
     (client_with (g.W.Words.stream c.begin.new.words) c.in_ok-asked.asked.transfer) c.in_ok-asked.asked.left c.in-Ok.request c.in-Ok.ensures.made c.in_ok-asked.ensures.asked c.new-reading.result (search rules) c.read_all.new.reading.state
-    c.apply.new.zone c.apply.result c.in-Ok-read_all.ensures.ended (sym c.is_finished.ensures ∙ c.if-not-is_finished.false) c.apply.ensures.applied
+    c.read_all.new.reading.most c.apply.new.zone c.apply.result c.in-Ok-read_all.ensures.ended c.in-Ok-read_all.ensures.most (sym c.is_finished.ensures ∙ c.if-not-is_finished.false) c.apply.ensures.applied c.apply.ensures.within
 
 pub returns-clause-cause : goal.returns-clause-cause
 returns-clause-cause g c =
