@@ -1,6 +1,7 @@
 -- A zone that is brought to what a server has.
 use Rattle.std.specs.Prelude.{◌≡◌, ◌⊎◌, ℕ, List, Option, None, Some, IsSome}
 use Rattle.client_core.specs.Edge.{after_deed}
+use Rattle.client_core.specs.declared.deed.Deed.{Deed}
 use Rattle.client_core.specs.declared.deed.Deed.TheVariants.{Learned}
 use Rattle.dns_values.specs.declared.address.SocketAddr.{SocketAddr}
 use Rattle.dns_values.specs.declared.numbers.Serial.{Serial}
@@ -31,7 +32,7 @@ pub record IsFetchedBy (command : Command) (kind : XfrKind) (words : ℕ → ℕ
   pub mid : Scene
   pub learns : Learns command old mid
   pub missing : ℕ
-  pub fetched : IsFetched kind words zone after missing mid new
+  pub fetched : IsFetched kind words command.most zone after missing mid new
 
 -- Or they were not, and why.
 pub record HasCause (command : Command) (kind : XfrKind) (words : ℕ → ℕ) (zone : Zone) (old new : Scene) (fault : FetchFault) : Type 0 where
@@ -49,6 +50,11 @@ at_moments moments s = record s { moments = moments }
 -- The server said over the first edge that it has no changes to the zone, but a serial alone, at these moments.
 abbrev pub HasNoChanges : (command : Command) → (words : ℕ → ℕ) → Zone → Serial → (old new : Scene) → Type 0
 HasNoChanges command words zone serial old new = HasCause command Ixfr words zone old new (Xfr (SingleSoa serial))
+
+-- what holds of the scenes before and after a call, by what a first edge, a later one and a clock tell
+abbrev pub over : {E C : Type 0} {R : Type 1} → (E → Option (List Deed)) → (E → ℕ) → (C → Option (List ℕ)) → (old new : E × E × C) → (Scene → Scene → Scene → Scene → R) → R
+over deeds polls given old new P =
+    P (scene (deeds old.0) (polls old.0) (given old.2)) (scene (deeds new.0) (polls new.0) (given new.2)) (scene (deeds old.1) (polls old.1) (given old.2)) (scene (deeds new.1) (polls new.1) (given new.2))
 
 -- how a zone is brought to what the server has, by what a first edge and a later one tell
 pub data IsBrought (command : Command) (words : ℕ → ℕ) (zone after : Zone) (old new later later_new : Scene) : Type 0 where

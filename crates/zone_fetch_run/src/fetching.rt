@@ -1,8 +1,8 @@
 //! A zone that is brought to what a server has.
 
 ghost use Rattle.std.specs.Prelude.{◌≡◌, true, Some, OnOk, OnErr, IfErr};
-ghost use Rattle.zone_transfer.specs.Turning.{between, scene};
-ghost use Rattle.zone_fetch_run.specs.Fetching.{IsBrought, IsFetchedBy, IsLeft, IsMissed};
+ghost use Rattle.zone_transfer.specs.Turning.{between};
+ghost use Rattle.zone_fetch_run.specs.Fetching.{IsBrought, IsFetchedBy, IsLeft, IsMissed, over};
 
 use crate::command::Command;
 use client_core::{Clock, Edge};
@@ -52,10 +52,8 @@ pub(crate) fn bring<E: Edge, C: Clock, W: Words>(
     clock: &mut C,
     random: &mut W,
 ) -> Result<(), FetchFault>
-    ensures brought { OnOk result (IsBrought command.now (W.stream random.old) zone.old zone.new (scene (E.deeds edge.old) (E.polls edge.old) (C.given clock.old)) (scene (E.deeds edge.new) (E.polls edge.new) (C.given clock.new))
-        (scene (E.deeds later.old) (E.polls later.old) (C.given clock.old)) (scene (E.deeds later.new) (E.polls later.new) (C.given clock.new))) }
-    ensures left { IfErr result (IsLeft command.now (W.stream random.old) zone.old (scene (E.deeds edge.old) (E.polls edge.old) (C.given clock.old)) (scene (E.deeds edge.new) (E.polls edge.new) (C.given clock.new))
-        (scene (E.deeds later.old) (E.polls later.old) (C.given clock.old)) (scene (E.deeds later.new) (E.polls later.new) (C.given clock.new))) }
+    ensures brought { OnOk result (over E.deeds E.polls C.given (edge.old, later.old, clock.old) (edge.new, later.new, clock.new) (IsBrought command.now (W.stream random.old) zone.old zone.new)) }
+    ensures left { IfErr result (over E.deeds E.polls C.given (edge.old, later.old, clock.old) (edge.new, later.new, clock.new) (IsLeft command.now (W.stream random.old) zone.old)) }
 {
     if command.file.is_none() {
         return fetch_by(alloc, command, XfrKind::Axfr, zone, edge, clock, random);

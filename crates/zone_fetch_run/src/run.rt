@@ -3,7 +3,8 @@
 ghost use Rattle.std.specs.Prelude.{◌≡◌, ◌⊎◌, Some, IfOk, IfErr, IfSome};
 ghost use Rattle.dns_values.specs.Sink.{IsFlushed, with_octets};
 ghost use Rattle.dns_values.specs.Source.{Rose};
-ghost use Rattle.zone_fetch_run.specs.Ends.{FetchEnds, HasStopped, HasZone, IsBase, IsFiled, IsUnbased, Stopped, outside, told};
+ghost use Rattle.zone_fetch_run.specs.Ends.{FetchEnds, HasStopped, HasZone, IsBase, IsFiled, IsOfFile, IsUnbased, RoseUnread};
+ghost use Rattle.zone_fetch_run.specs.Fetching.{over};
 ghost use Rattle.zone_fetch_run.specs.Lines.{zone_text};
 
 use crate::command::{Command, command_of};
@@ -22,7 +23,8 @@ use zone_records::Zone;
 /// The octets of the file at a path.
 fn octets_at<O: OpenFile>(alloc: Global, opener: &mut O, path: &str) -> Result<Vec<u8>, Stop>
     ensures octets { IfOk result (λ v. IfSome (O.files opener.old) (λ file_at. file_at path.now ≡ Some v.items)) }
-    ensures stopped { IfErr result (Stopped (O.faults opener.old) (O.faults opener.new)) }
+    ensures stopped { IfErr result IsOfFile }
+    ensures unread { IfErr result (RoseUnread (O.faults opener.old) (O.faults opener.new)) }
 {
     if opener.open_file(path).is_err() {
         return Err(Stop::Unread);
@@ -36,9 +38,15 @@ fn octets_at<O: OpenFile>(alloc: Global, opener: &mut O, path: &str) -> Result<V
 }
 
 /// The zone that the file at a path has.
-fn zone_at<O: OpenFile>(alloc: Global, command: &Command, opener: &mut O, path: &str) -> Result<Zone, Stop>
+fn zone_at<O: OpenFile>(
+    alloc: Global,
+    command: &Command,
+    opener: &mut O,
+    path: &str,
+) -> Result<Zone, Stop>
     ensures zone { IfOk result (IsFiled command.now.apex path.now (O.files opener.old)) }
-    ensures stopped { IfErr result (Stopped (O.faults opener.old) (O.faults opener.new)) }
+    ensures stopped { IfErr result IsOfFile }
+    ensures unread { IfErr result (RoseUnread (O.faults opener.old) (O.faults opener.new)) }
 {
     let octets = octets_at(alloc, opener, path)?;
     let apex = command.apex.try_clone(alloc)?;
@@ -52,7 +60,8 @@ fn zone_at<O: OpenFile>(alloc: Global, command: &Command, opener: &mut O, path: 
 /// The zone before: what the file has that the words name, or none.
 fn zone_before<O: OpenFile>(alloc: Global, command: &Command, opener: &mut O) -> Result<Zone, Stop>
     ensures zone { IfOk result (IsBase command.now (O.files opener.old)) }
-    ensures stopped { IfErr result (IsUnbased command.now (O.faults opener.old) (O.faults opener.new)) }
+    ensures stopped { IfErr result (IsUnbased command.now) }
+    ensures unread { IfErr result (RoseUnread (O.faults opener.old) (O.faults opener.new)) }
 {
     match &command.file {
         Some(path) => zone_at(alloc, command, opener, path.as_str()),
@@ -73,8 +82,9 @@ fn zone_asked<O: OpenFile, E: Edge, C: Clock, W: Words>(
     clock: &mut C,
     random: &mut W,
 ) -> Result<(Zone, bool), Stop>
-    ensures zone { IfOk result (λ x. HasZone words.now (outside O.files O.faults E.deeds E.polls C.given W.stream (opener.old, edge.old, later.old, clock.old, random.old)) (outside O.files O.faults E.deeds E.polls C.given W.stream (opener.new, edge.new, later.new, clock.new, random.new)) x.0 x.1) }
-    ensures stop { IfErr result (HasStopped words.now (outside O.files O.faults E.deeds E.polls C.given W.stream (opener.old, edge.old, later.old, clock.old, random.old)) (outside O.files O.faults E.deeds E.polls C.given W.stream (opener.new, edge.new, later.new, clock.new, random.new))) }
+    ensures zone { IfOk result (λ x. over E.deeds E.polls C.given (edge.old, later.old, clock.old) (edge.new, later.new, clock.new) (HasZone words.now (O.files opener.old) (W.stream random.old) x.0 x.1)) }
+    ensures stop { IfErr result (over E.deeds E.polls C.given (edge.old, later.old, clock.old) (edge.new, later.new, clock.new) (HasStopped words.now (O.files opener.old) (W.stream random.old))) }
+    ensures unread { IfErr result (RoseUnread (O.faults opener.old) (O.faults opener.new)) }
 {
     let command = match command_of(alloc, words)? {
         Some(command) => command,
@@ -121,7 +131,8 @@ pub fn run_fetch<O: OpenFile, K: Sink, E: Edge, C: Clock, W: Words>(
     clock: &mut C,
     random: &mut W,
 ) -> Status
-    ensures ends { FetchEnds words.now result.0 (outside O.files O.faults E.deeds E.polls C.given W.stream (opener.old, edge.old, later.old, clock.old, random.old)) (outside O.files O.faults E.deeds E.polls C.given W.stream (opener.new, edge.new, later.new, clock.new, random.new)) (told K.held K.faults sink.old) (told K.held K.faults sink.new) }
+    ensures ends { over E.deeds E.polls C.given (edge.old, later.old, clock.old) (edge.new, later.new, clock.new) (FetchEnds K.held K.faults words.now (O.files opener.old) (W.stream random.old) result sink.old sink.new) }
+    ensures unread { result.0 ≡ 3 → Rose (O.faults opener.old) (O.faults opener.new) }
     ensures flushed { result.0 ≡ 0 → IsFlushed (K.held sink.new) (K.flushed sink.new) }
 {
     match zone_asked(alloc, words, opener, edge, later, clock, random) {

@@ -1,6 +1,7 @@
 //! How the program ends where no zone is written.
 
 ghost use Rattle.std.specs.Prelude.{◌≡◌, ◌≢◌, ◌⊎◌};
+ghost use Rattle.zone_fetch_run.specs.declared.stop.Stop.{Stop};
 ghost use Rattle.zone_fetch_run.specs.Stops.{Tells, fault_line, fault_status, line_of, status_of};
 
 use client_request::Error;
@@ -34,7 +35,8 @@ impl From<NoMemory> for Stop {
 }
 
 fn fault_status(fault: FetchFault) -> Status
-    ensures { result.0 ≡ fault_status fault }
+    ensures status { result.0 ≡ fault_status fault }
+    ensures others { (result.0 ≡ 5) ⊎ ((result.0 ≡ 6) ⊎ (result.0 ≡ 7)) }
 {
     match fault {
         FetchFault::NoMemory => statuses::NO_MEMORY,
@@ -59,8 +61,10 @@ fn fault_line(fault: FetchFault) -> &'static str
     }
 }
 
+#[tactic(auto, using(crate::proofs::Telling::no_three))]
 fn status_of(stop: Stop) -> Status
-    ensures { result.0 ≡ status_of stop }
+    ensures status { result.0 ≡ status_of stop }
+    ensures unread { result.0 ≡ 3 → stop ≡ Stop.Unread }
 {
     match stop {
         Stop::Usage => statuses::USAGE,
@@ -86,6 +90,7 @@ fn line_of(stop: Stop) -> &'static str
 #[tactic(auto, using(crate::proofs::Telling::tells_nothing, crate::proofs::Telling::tells_line))]
 pub(crate) fn tell<K: Sink>(sink: &mut K, stop: Stop) -> Status
     ensures status { (result.0 ≡ status_of stop) ⊎ (result.0 ≡ 6) }
+    ensures unread { result.0 ≡ 3 → stop ≡ Stop.Unread }
     ensures told { result.0 ≢ 6 → Tells (line_of stop) (K.held sink.old) (K.held sink.new) (K.faults sink.old) (K.faults sink.new) }
 {
     let (status, line) = (status_of(stop), line_of(stop).as_bytes());
