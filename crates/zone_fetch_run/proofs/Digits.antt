@@ -22,6 +22,10 @@ octet_is h l high low small a b =
     let rest : (h * 16 + l) % 16 ≡ l = omega arith in
     ap (λ (n : ℕ). digit_char n ∷ digit_char ((h * 16 + l) % 16) ∷ []) whole ∙ ap (λ (n : ℕ). digit_char h ∷ digit_char n ∷ []) rest ∙ ap (λ (n : ℕ). n ∷ digit_char l ∷ []) a ∙ ap (λ (n : ℕ). high ∷ n ∷ []) b
 
+-- no digit yet
+pub spelled_first : (octets word : List ℕ) → octets ≡ [] → flat_map octet_digits octets ++ word ≡ word
+spelled_first octets word none = ap (λ (xs : List ℕ). flat_map octet_digits xs ++ word) none
+
 -- two digits more
 pub spelled_more : (octets rest behind word : List ℕ) (octet high low : ℕ) → rest ≡ high ∷ low ∷ behind → octet_digits octet ≡ high ∷ low ∷ [] → flat_map octet_digits octets ++ rest ≡ word
     → flat_map octet_digits (octets ++ octet ∷ []) ++ behind ≡ word
@@ -40,7 +44,7 @@ spelled_whole (octet ∷ octets) (r ∷ rest) word some none so_far = absurd (om
 
 -- the words of a line
 pub line_of_words : (line owner ttl class rtype hex digits one two three : List ℕ) → line ≡ owner ++ 32 ∷ one → one ≡ ttl ++ 32 ∷ two → two ≡ class ++ 32 ∷ three → three ≡ rtype ++ 32 ∷ hex → digits ≡ hex
-    → line ≡ owner ++ 32 ∷ ttl ++ 32 ∷ class ++ 32 ∷ rtype ++ 32 ∷ digits
+    → line ≡ owner ++ 32 ∷ (ttl ++ 32 ∷ (class ++ 32 ∷ (rtype ++ 32 ∷ digits)))
 line_of_words line owner ttl class rtype hex digits one two three a b c d e =
     a ∙ ap (λ (x : List ℕ). owner ++ 32 ∷ x) (b ∙ ap (λ (x : List ℕ). ttl ++ 32 ∷ x) (c ∙ ap (λ (x : List ℕ). class ++ 32 ∷ x) (d ∙ ap (λ (x : List ℕ). rtype ++ 32 ∷ x) (sym e))))
 

@@ -44,7 +44,7 @@ pub record IsRecordLine (line : List ℕ) (item : ZoneRecord) : Type 0 where
   pub ttl : List ℕ
   pub class : List ℕ
   pub rtype : List ℕ
-  pub line_is : line ≡ owner ++ 32 ∷ ttl ++ 32 ∷ class ++ 32 ∷ rtype ++ 32 ∷ hex_word item.rdata
+  pub line_is : line ≡ owner ++ 32 ∷ (ttl ++ 32 ∷ (class ++ 32 ∷ (rtype ++ 32 ∷ hex_word item.rdata)))
   pub owner_is : owner_of owner ≡ Some item.owner
   pub ttl_is : number_in 0 4294967295 ttl ≡ Some item.ttl.0
   pub class_is : number_in 0 65535 class ≡ Some item.class.0

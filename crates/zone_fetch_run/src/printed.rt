@@ -57,7 +57,7 @@ fn octet_of(high: u8, low: u8) -> Option<u8>
 }
 
 /// The octets that hexadecimal digits spell; a hyphen is none.
-#[tactic(auto, using(crate::proofs::Digits::spelled_more, crate::proofs::Digits::spelled_whole))]
+#[tactic(auto, using(crate::proofs::Digits::spelled_first, crate::proofs::Digits::spelled_more, crate::proofs::Digits::spelled_whole))]
 fn octets_of(alloc: Global, word: &[u8]) -> Result<Vec<u8>, Unread>
     ensures { IfOk result (λ v. hex_word v.items ≡ word.now) }
 {
@@ -75,7 +75,10 @@ fn octets_of(alloc: Global, word: &[u8]) -> Result<Vec<u8>, Unread>
         }
         rest = behind;
     }
-    if octets.is_empty() || !rest.is_empty() {
+    if octets.is_empty() {
+        return Err(Unread::NotPrinted);
+    }
+    if !rest.is_empty() {
         return Err(Unread::NotPrinted);
     }
     Ok(octets)

@@ -5,7 +5,7 @@ use Rattle.zone_fetch_run.specs.Lines.{octet_digits}
 use Rattle.zone_fetch_run.proofs.printed.octets_of.Given as goal
 
 abbrev pub invariant-loop-rest : goal.invariant-loop-rest
-invariant-loop-rest l = flat_map octet_digits l.octets.items ++ l.rest ≡ l.word
+invariant-loop-rest l = flat_map octet_digits l.octets.items ++ l.rest ≡ l.fn.word
 
 abbrev pub decreases-loop-rest : goal.decreases-loop-rest
 decreases-loop-rest l = length l.rest
