@@ -82,7 +82,7 @@ def batches_in(records):
     batches = list(zip(pieces[::2], pieces[1::2]))
     if any(gone[0].serial == end for gone, _ in batches) or batches[-1][1][0].serial != end:
         return None
-    return batches if all(new[0].serial != end for _, new in batches[:-1]) else None
+    return batches
 
 
 def zone_after(before, kind, messages):
