@@ -1,0 +1,23 @@
+-- What is told where no zone is written.
+use Rattle.std.proofs.Common.{◌≡◌, ◌≢◌, ◌⊎◌, inl, inr, ℕ, ◌<◌, List, [], ◌∷◌, length, Option, refl, ap, sym, subst, ◌∙◌, arith}
+use Rattle.command_parts.specs.Ends.{IsSaid}
+use Rattle.dns_values.specs.declared.numbers.Status.{Status}
+use Rattle.zone_fetch_run.specs.Stops.{Tells}
+
+pub tells_nothing : (line : List ℕ) (held : Option (List ℕ)) (faults faults_after : ℕ) → length line ≡ 0 → Tells line held held faults faults_after
+tells_nothing [] held faults faults_after h = refl
+tells_nothing (c ∷ line) held faults faults_after h = absurd (omega arith)
+
+pub tells_line : (line : List ℕ) (before after : Option (List ℕ)) (faults faults_after : ℕ) → length line ≢ 0 → IsSaid line before after faults faults_after → Tells line before after faults faults_after
+tells_line [] before after faults faults_after h said = absurd (h refl)
+tells_line (c ∷ line) before after faults faults_after h said = said
+
+-- other statuses than the one at which a file can't be read
+pub no_three : (n : ℕ) → (n ≡ 5) ⊎ ((n ≡ 6) ⊎ (n ≡ 7)) → n ≡ 3 → ⊥
+no_three n (inl a) e = omega arith
+no_three n (inr (inl a)) e = omega arith
+no_three n (inr (inr a)) e = omega arith
+
+pub same_three : (r s : Status) → (r ≡ s) ⊎ (r.0 ≡ 6) → r.0 ≡ 3 → s.0 ≡ 3
+same_three r s (inl a) e = ap (λ (x : Status). x.0) (sym a) ∙ e
+same_three r s (inr a) e = absurd (let b : r.0 ≡ 6 = a in omega arith)

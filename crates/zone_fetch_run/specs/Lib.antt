@@ -1,0 +1,6 @@
+pub mod Words
+pub mod Lines
+pub mod Printed
+pub mod Fetching
+pub mod Stops
+pub mod Ends

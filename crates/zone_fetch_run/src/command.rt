@@ -1,0 +1,122 @@
+//! What the words ask for.
+
+ghost use Rattle.std.specs.Prelude.{◌≡◌};
+ghost use Rattle.zone_fetch_run.specs.Words.{IsJudged, IsSaidBy, command_in, nothing_said};
+
+use crate::taking::WordFault;
+use dns_base::{IpAddr, Name, NoMemory, SocketAddr};
+use std::alloc::Global;
+
+/// The port at which a server is asked where none is said (RFC 5936 2).
+const DNS_PORT: u16 = 53;
+
+/// How much memory the updates of a transfer may be reckoned to take where nothing is said, in octets.
+const MOST: u64 = 1_000_000_000;
+
+/// What is to be done.
+#[derive(Drop)]
+pub struct Command {
+    /// The zone that is fetched.
+    pub apex: Name,
+    /// The server that is asked.
+    pub server: SocketAddr,
+    /// How much memory the updates may be reckoned to take, in octets.
+    pub most: u64,
+    /// The file that has the zone as it was printed before, if its changes alone are asked for.
+    pub file: Option<String>,
+    /// Whether the zone is written in the form that name servers load (RFC 3597 5).
+    pub text: bool,
+}
+
+/// What the next word is.
+#[derive(Clone, Copy)]
+pub(crate) enum Next {
+    /// An option or the zone.
+    Any,
+    /// The port.
+    Port,
+    /// How much memory the updates may take.
+    Most,
+    /// The file.
+    File,
+    /// The server's address.
+    Address,
+    /// Nothing: there is none.
+    Nothing,
+}
+
+/// What words say so far.
+#[derive(Drop)]
+pub(crate) struct Said {
+    pub(crate) port: u16,
+    pub(crate) most: u64,
+    pub(crate) file: Option<String>,
+    pub(crate) text: bool,
+    pub(crate) zone: Option<Name>,
+    pub(crate) server: Option<IpAddr>,
+    pub(crate) next: Next,
+}
+
+impl Said {
+    /// What no word says.
+    fn new() -> Said
+        ensures { result ≡ nothing_said }
+    {
+        Said {
+            port: DNS_PORT,
+            most: MOST,
+            file: None,
+            text: false,
+            zone: None,
+            server: None,
+            next: Next::Any,
+        }
+    }
+}
+
+/// The command that is said: a zone and a server.
+fn command_in(said: Said) -> Option<Command>
+    ensures { result ≡ command_in said }
+{
+    let Said {
+        port,
+        most,
+        file,
+        text,
+        zone,
+        server,
+        next: _,
+    } = said;
+    match (zone, server) {
+        (Some(apex), Some(ip)) => Some(Command {
+            apex,
+            server: SocketAddr { ip, port },
+            most,
+            file,
+            text,
+        }),
+        _ => None,
+    }
+}
+
+/// What the words say, if each may stand where it does.
+fn said_by(alloc: Global, words: &[String]) -> Result<Option<Said>, NoMemory>
+    ensures { IsSaidBy words.now result }
+{
+    let mut said = Said::new();
+    match said.take_all(alloc, words) {
+        Ok(()) => Ok(Some(said)),
+        Err(WordFault::Refused) => Ok(None),
+        Err(WordFault::NoMemory) => Err(NoMemory),
+    }
+}
+
+/// The command of the words, which do not hold the program's own name; none where they are no command.
+pub(crate) fn command_of(alloc: Global, words: &[String]) -> Result<Option<Command>, NoMemory>
+    ensures { IsJudged words.now result }
+{
+    match said_by(alloc, words)? {
+        Some(said) => Ok(command_in(said)),
+        None => Ok(None),
+    }
+}

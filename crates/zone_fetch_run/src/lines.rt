@@ -1,0 +1,136 @@
+//! A zone as lines of text.
+
+ghost use Rattle.std.specs.Prelude.{◌≡◌, ◌++◌, ◌<◌, true, OnOk, IfOk, IfErr};
+ghost use Rattle.std.specs.Char.{digit_char};
+ghost use Rattle.std.specs.List.{flat_map};
+ghost use Rattle.std.specs.String.{string_bytes};
+ghost use Rattle.dns_values.specs.Source.{Rose};
+ghost use Rattle.dns_values.specs.Sink.{IsFlushed, with_octets};
+ghost use Rattle.dns_values.specs.declared.sink.SinkFault.{SinkFault};
+ghost use Rattle.zone_fetch_run.specs.Lines.{head_of, hex_word, octet_digits, owner_text, record_line, zone_text};
+
+use dns_base::{NoMemory, ParsedName, Sink, SinkFault, write_all};
+use dns_presentation::{Absolute, Generic};
+use std::alloc::Global;
+use zone_records::ZoneRecord;
+
+/// So many records are written at once.
+const WRITTEN: usize = 1024;
+
+/// The lower-case hexadecimal digit of a number below 16.
+fn hex_digit(number: u8) -> u8
+    requires { number < 16 }
+    ensures { result ≡ digit_char number }
+{
+    let letter = if number < 10 { 0 } else { b'a' - 10 - b'0' };
+    b'0' + number + letter
+}
+
+/// Adds two digits for each octet.
+fn push_digits(text: &mut Vec<u8>, octets: &[u8]) -> Result<(), NoMemory>
+    ensures { OnOk result (text.new.items ≡ text.old.items ++ flat_map octet_digits octets.now) }
+{
+    for octet in octets {
+        text.push(hex_digit(*octet / 16))?;
+        text.push(hex_digit(*octet % 16))?;
+    }
+    Ok(())
+}
+
+/// Adds two digits for each octet, and a hyphen for no octet.
+fn push_hex(text: &mut Vec<u8>, octets: &[u8]) -> Result<(), NoMemory>
+    ensures { OnOk result (text.new.items ≡ text.old.items ++ hex_word octets.now) }
+{
+    if octets.is_empty() {
+        text.push(b'-')?;
+        return Ok(());
+    }
+    push_digits(text, octets)
+}
+
+/// What stands before the data in numbers: the owner, the seconds, the class and the type. An owner that is no name is left out;
+/// no message has one.
+fn head_of(alloc: Global, item: &ZoneRecord) -> Result<String, NoMemory>
+    ensures { IfOk result (λ s. string_bytes s ≡ head_of item.now) }
+{
+    let (ttl, class, rtype) = (item.ttl.0, item.class.0, item.rtype.0);
+    match ParsedName::parse(item.owner.as_slice(), 0) {
+        Some((owner, _)) => Ok(format!(in alloc; "{owner} {ttl} {class} {rtype} ")?),
+        None => Ok(format!(in alloc; " {ttl} {class} {rtype} ")?),
+    }
+}
+
+/// The line that name servers load.
+fn loaded_line(alloc: Global, item: &ZoneRecord) -> Result<String, NoMemory>
+    ensures { IfOk result (λ s. string_bytes s ≡ record_line true item.now) }
+{
+    let (ttl, class, rtype) = (item.ttl.0, item.class, item.rtype);
+    let data = Generic(item.rdata.as_slice());
+    match ParsedName::parse(item.owner.as_slice(), 0) {
+        Some((owner, _)) => {
+            let owner = Absolute(&owner);
+            Ok(format!(in alloc; "{owner} {ttl} {class} {rtype} {data}\n")?)
+        }
+        None => Ok(format!(in alloc; " {ttl} {class} {rtype} {data}\n")?),
+    }
+}
+
+/// Adds the line of a record.
+fn push_line(
+    alloc: Global,
+    text: &mut Vec<u8>,
+    item: &ZoneRecord,
+    is_loaded: bool,
+) -> Result<(), NoMemory>
+    ensures { OnOk result (text.new.items ≡ text.old.items ++ record_line is_loaded item.now) }
+{
+    if is_loaded {
+        let line = loaded_line(alloc, item)?;
+        text.extend_from_slice(line.as_bytes())?;
+        return Ok(());
+    }
+    let head = head_of(alloc, item)?;
+    text.extend_from_slice(head.as_bytes())?;
+    push_hex(text, item.rdata.as_slice())?;
+    text.push(b'\n')?;
+    Ok(())
+}
+
+/// The lines of records: in the form that name servers load (RFC 3597 5), or in numbers and hexadecimal digits alone.
+pub(crate) fn zone_text(
+    alloc: Global,
+    records: &[ZoneRecord],
+    is_loaded: bool,
+) -> Result<Vec<u8>, NoMemory>
+    ensures { IfOk result (λ v. v.items ≡ zone_text is_loaded records.now) }
+{
+    let mut text = Vec::new(alloc);
+    for item in records {
+        push_line(alloc, &mut text, item, is_loaded)?;
+    }
+    Ok(text)
+}
+
+/// Writes the lines of records, so many at once, and hands them on.
+#[tactic(auto, using(crate::proofs::Writing::piece_written, crate::proofs::Writing::rose_later, crate::proofs::Writing::nothing_more))]
+pub(crate) fn write_zone<K: Sink>(
+    alloc: Global,
+    sink: &mut K,
+    records: &[ZoneRecord],
+    is_loaded: bool,
+) -> Result<(), SinkFault>
+    ensures whole { OnOk result (K.held sink.new ≡ with_octets (zone_text is_loaded records.now) (K.held sink.old)) }
+    ensures flushed { OnOk result (IsFlushed (K.held sink.new) (K.flushed sink.new)) }
+    ensures failed { IfErr result (λ e. e ≡ SinkFault.Failed → Rose (K.faults sink.old) (K.faults sink.new)) }
+{
+    for piece in records.chunks(WRITTEN) {
+        match zone_text(alloc, piece, is_loaded) {
+            Ok(text) => write_all(sink, text.as_slice())?,
+            Err(NoMemory) => return Err(SinkFault::NoMemory),
+        }
+    }
+    match sink.flush() {
+        Ok(()) => Ok(()),
+        Err(_) => Err(SinkFault::Failed),
+    }
+}

@@ -1,0 +1,101 @@
+//! How the program ends where no zone is written.
+
+ghost use Rattle.std.specs.Prelude.{◌≡◌, ◌≢◌, ◌⊎◌};
+ghost use Rattle.zone_fetch_run.specs.declared.stop.Stop.{Stop};
+ghost use Rattle.zone_fetch_run.specs.Stops.{Tells, fault_line, fault_status, line_of, status_of};
+
+use client_request::Error;
+use command_parts::{end_by, statuses};
+use dns_base::{NoMemory, Sink, Status};
+use zone_transfer::FetchFault;
+
+/// Why no zone is written.
+#[derive(Clone, Copy)]
+pub(crate) enum Stop {
+    /// The words are no command.
+    Usage,
+    /// The file can't be read.
+    Unread,
+    /// The file has no zone that was printed.
+    NotPrinted,
+    /// The zone was not fetched.
+    NotFetched(FetchFault),
+    /// Memory ran out.
+    NoMemory,
+}
+
+impl From<NoMemory> for Stop {
+    ghost use Rattle.zone_fetch_run.specs.declared.stop.Stop.{Stop};
+
+    ghost from_gives = { λ _ e. e ≡ Stop.NoMemory };
+
+    fn from(_e: NoMemory) -> Stop {
+        Stop::NoMemory
+    }
+}
+
+fn fault_status(fault: FetchFault) -> Status
+    ensures status { result.0 ≡ fault_status fault }
+    ensures others { (result.0 ≡ 5) ⊎ ((result.0 ≡ 6) ⊎ (result.0 ≡ 7)) }
+{
+    match fault {
+        FetchFault::NoMemory => statuses::NO_MEMORY,
+        FetchFault::Transport(Error::NumbersUsed) => statuses::NUMBERS_USED,
+        _ => statuses::NO_REPLY,
+    }
+}
+
+fn fault_line(fault: FetchFault) -> &'static str
+    ensures { result.now ≡ fault_line fault }
+{
+    match fault {
+        FetchFault::NoMemory => "",
+        FetchFault::Transport(Error::NumbersUsed) => "numbers used\n",
+        FetchFault::Connect(_) => "failed connect\n",
+        FetchFault::Transport(_) => "failed transport\n",
+        FetchFault::Refused(_) => "failed refused\n",
+        FetchFault::Xfr(_) => "failed transfer\n",
+        FetchFault::Apply(_) => "failed serial\n",
+        FetchFault::TooLarge => "failed too-large\n",
+        FetchFault::NoReply => "failed no-reply\n",
+    }
+}
+
+#[tactic(auto, using(crate::proofs::Telling::no_three))]
+fn status_of(stop: Stop) -> Status
+    ensures status { result.0 ≡ status_of stop }
+    ensures unread { result.0 ≡ 3 → stop ≡ Stop.Unread }
+{
+    match stop {
+        Stop::Usage => statuses::USAGE,
+        Stop::Unread => statuses::SOURCE_FAULT,
+        Stop::NotPrinted => statuses::REFUSED,
+        Stop::NotFetched(fault) => fault_status(fault),
+        Stop::NoMemory => statuses::NO_MEMORY,
+    }
+}
+
+/// What is written then, if anything is.
+fn line_of(stop: Stop) -> &'static str
+    ensures { result.now ≡ line_of stop }
+{
+    match stop {
+        Stop::NotPrinted => "no printed zone\n",
+        Stop::NotFetched(fault) => fault_line(fault),
+        Stop::Usage | Stop::Unread | Stop::NoMemory => "",
+    }
+}
+
+/// Ends so: by a line, or by the status alone.
+#[tactic(auto, using(crate::proofs::Telling::tells_nothing, crate::proofs::Telling::tells_line))]
+pub(crate) fn tell<K: Sink>(sink: &mut K, stop: Stop) -> Status
+    ensures status { (result.0 ≡ status_of stop) ⊎ (result.0 ≡ 6) }
+    ensures unread { result.0 ≡ 3 → stop ≡ Stop.Unread }
+    ensures told { result.0 ≢ 6 → Tells (line_of stop) (K.held sink.old) (K.held sink.new) (K.faults sink.old) (K.faults sink.new) }
+{
+    let (status, line) = (status_of(stop), line_of(stop).as_bytes());
+    if line.is_empty() {
+        return status;
+    }
+    end_by(sink, status, line)
+}

@@ -1,0 +1,148 @@
+//! Words that are taken, one after another.
+
+ghost use Rattle.std.specs.Prelude.{◌≡◌, Some, None, false, if◌then◌else◌};
+ghost use Rattle.dns_names.specs.Text.{name_of_text};
+ghost use Rattle.std.specs.Result.{result_ok};
+ghost use Rattle.zone_fetch_run.specs.Words.{AddressGives, Answers, FileGives, WordGives, WordsGive, any_said, most_given, number_in, optioned, port_given, zone_given};
+
+use crate::command::{Next, Said};
+use crate::number::number_in;
+use dns_base::{IpAddr, Name, NameFault, NoMemory};
+use std::alloc::Global;
+
+/// The greatest port.
+const MOST_PORT: usize = 65535;
+
+/// Why a word was not taken.
+#[derive(Clone, Copy)]
+pub(crate) enum WordFault {
+    Refused,
+    NoMemory,
+}
+
+impl From<NoMemory> for WordFault {
+    ghost use Rattle.zone_fetch_run.specs.declared.taking.WordFault.{WordFault};
+
+    ghost from_gives = { λ _ e. e ≡ WordFault.NoMemory };
+
+    fn from(_e: NoMemory) -> WordFault {
+        WordFault::NoMemory
+    }
+}
+
+impl Said {
+    fn take_port(&mut self, word: &str) -> Result<(), WordFault>
+        ensures { Answers (λ o. o ≡ port_given (number_in 1 65535 word.now) self.old) result self.new }
+    {
+        match number_in(1, MOST_PORT, word) {
+            Some(port) => {
+                self.port = port as u16;
+                self.next = Next::Any;
+                Ok(())
+            }
+            None => Err(WordFault::Refused),
+        }
+    }
+
+    fn take_most(&mut self, word: &str) -> Result<(), WordFault>
+        ensures { Answers (λ o. o ≡ most_given (number_in 0 18446744073709551615 word.now) self.old) result self.new }
+    {
+        match number_in(0, usize::MAX, word) {
+            Some(most) => {
+                self.most = most as u64;
+                self.next = Next::Any;
+                Ok(())
+            }
+            None => Err(WordFault::Refused),
+        }
+    }
+
+    fn take_file(&mut self, alloc: Global, word: &str) -> Result<(), WordFault>
+        ensures { Answers (FileGives word.now self.old) result self.new }
+    {
+        let Ok(file) = String::from_str(alloc, word) else {
+            return Err(WordFault::NoMemory);
+        };
+        self.file = Some(file);
+        self.next = Next::Any;
+        Ok(())
+    }
+
+    fn take_address(&mut self, word: &str) -> Result<(), WordFault>
+        ensures { Answers (AddressGives word.now self.old) result self.new }
+    {
+        let Ok(ip) = IpAddr::from_text(word) else {
+            return Err(WordFault::Refused);
+        };
+        self.server = Some(ip);
+        self.next = Next::Nothing;
+        Ok(())
+    }
+
+    fn take_zone(&mut self, alloc: Global, word: &str) -> Result<(), WordFault>
+        ensures { Answers (λ o. o ≡ zone_given (result_ok (name_of_text word.now)) self.old) result self.new }
+    {
+        match Name::from_text(alloc, word) {
+            Ok(name) => {
+                self.zone = Some(name);
+                self.next = Next::Address;
+                Ok(())
+            }
+            Err(NameFault::NoMemory) => Err(WordFault::NoMemory),
+            Err(NameFault::Parse) => Err(WordFault::Refused),
+            Err(NameFault::Long) => Err(WordFault::Refused),
+        }
+    }
+
+    /// Sets what an option says, and whether the word is one.
+    #[tactic(auto, unfolding(crate::specs::Words::optioned))]
+    fn set_option(&mut self, word: &str) -> bool
+        ensures option { (if result then Some self.new else None) ≡ optioned word.now self.old }
+        ensures other { result ≡ false → self.new ≡ self.old }
+    {
+        match word {
+            "--text" => self.text = true,
+            "--port" => self.next = Next::Port,
+            "--most" => self.next = Next::Most,
+            "--from" => self.next = Next::File,
+            _ => return false,
+        }
+        true
+    }
+
+    fn take_any(&mut self, alloc: Global, word: &str) -> Result<(), WordFault>
+        ensures { Answers (λ o. o ≡ any_said word.now self.old) result self.new }
+    {
+        if self.set_option(word) {
+            return Ok(());
+        }
+        self.take_zone(alloc, word)
+    }
+
+    fn take(&mut self, alloc: Global, word: &str) -> Result<(), WordFault>
+        ensures { Answers (WordGives word.now self.old) result self.new }
+    {
+        match self.next {
+            Next::Any => self.take_any(alloc, word),
+            Next::Port => self.take_port(word),
+            Next::Most => self.take_most(word),
+            Next::File => self.take_file(alloc, word),
+            Next::Address => self.take_address(word),
+            Next::Nothing => Err(WordFault::Refused),
+        }
+    }
+
+    /// Takes words in order, up to the first that may not stand where it does.
+    pub(crate) fn take_all(&mut self, alloc: Global, words: &[String]) -> Result<(), WordFault>
+        ensures { Answers (WordsGive words.now self.old) result self.new }
+    {
+        let mut rest = words;
+        while let Some((word, behind)) = rest.split_first() {
+            match self.take(alloc, word.as_str()) {
+                Ok(()) => rest = behind,
+                Err(fault) => return Err(fault),
+            }
+        }
+        Ok(())
+    }
+}
