@@ -92,7 +92,9 @@ class Nsd(Server):
   zonesdir: "{self.folder}"
   pidfile: "{self.folder}/pid"
   xfrdfile: "{self.folder}/xfrd"
+  xfrdir: "{self.folder}"
   zonelistfile: "{self.folder}/list"
+  rrl-ratelimit: 0
   database: ""
 remote-control:
   control-enable: no
