@@ -1,0 +1,28 @@
+//! The client within a forwarder.
+
+ghost use Rattle.std.specs.Prelude.{◌≡◌, ℕ, Bool, IfOk, IfErr};
+ghost use Rattle.client_request.specs.Request.{Request};
+ghost use Rattle.client_request.specs.Response.{IsRefusal};
+ghost use Rattle.client_request.specs.declared.event.Event.{Event};
+ghost use Rattle.client_request.specs.declared.event.Moment.{Moment};
+ghost use Rattle.client_request.specs.declared.event.Row.{Row};
+
+use client_request::{Error, Event, Moment, RequestMessage, Row, Words};
+
+/// A client that is stepped event by event, and numbers requests from 0 in the order in which they are asked.
+pub trait Within {
+    ghost steps: { Self → (ℕ → ℕ) → Event → Row → Self → (ℕ → ℕ) → Type 0 };
+
+    ghost serves: { Self → Moment → Request → Bool };
+
+    /// Takes an event in.
+    fn step<W: Words>(&mut self, words: &mut W, event: Event) -> Result<Row, Error>
+        ensures row { IfOk result (λ row. steps self.old (W.stream words.old) event row self.new (W.stream words.new)) }
+        ensures event { IfOk result (λ row. row.event ≡ event) }
+        ensures refused { IfErr result IsRefusal };
+
+    /// Whether a request that is asked at this moment is served from what is kept. It changes nothing.
+    fn would_serve(&self, moment: Moment, request: &RequestMessage) -> Result<bool, Error>
+        ensures served { IfOk result (λ served. served ≡ serves self.now moment request.now) }
+        ensures refused { IfErr result IsRefusal };
+}
