@@ -76,7 +76,7 @@ def inside(program, runs):
         if subprocess.run(["mount", "--bind", str(folder / "resolv.conf"), "/etc/resolv.conf"]).returncode:
             ask_servers.skipped("nothing can be mounted over /etc/resolv.conf")
         port = ask_servers.free_port()
-        server = ask_servers.serve(folder, port)
+        server = ask_servers.serve("nsd", folder, port)
         try:
             compare(program, port, runs)
         finally:

@@ -63,7 +63,7 @@ class Server:
 
     def wait(self, serial):
         for _ in range(1200):
-            if f" {serial} " in kdig(self.port, "SOA", "+short"):
+            if f" {serial} " in kdig(self.port, "SOA", "+nogeneric", "+short"):
                 return
             time.sleep(0.1)
         sys.exit(f"no serial {serial} at {type(self).__name__}")
