@@ -36,7 +36,7 @@ def line(n):
     if kind == 0:
         return f"h{n} A 10.{n >> 16 & 255}.{n >> 8 & 255}.{n & 255}"
     if kind == 1:
-        return f"h{n} AAAA 2001:db8::{n:x}"
+        return f"h{n} AAAA 2001:db8::{n >> 16:x}:{n & 65535:x}"
     if kind == 2:
         return f"H{n} MX {n % 100} Mail.Example.NET."
     if kind == 3:
