@@ -3,7 +3,7 @@ use Rattle.std.specs.Prelude.{ℕ, Bool, true, false, if◌then◌else◌, List,
 use Rattle.dns_values.specs.Source.{one_more}
 use Rattle.client_request.specs.declared.event.What.{What}
 use Rattle.client_request.specs.declared.event.What.TheVariants.{OpenFailed, SendFailed, ShortSend, RecvFailed, WriteFailed, ReadFailed, Ended}
-use Rattle.client_core.specs.declared.deed.Deed.{Deed}
+use Rattle.client_core.specs.declared.edge.Deed.{Deed}
 
 abbrev pub after_deed : Deed → Option (List Deed) → Option (List Deed)
 after_deed deed deeds = option_map (λ ds. ds ++ deed ∷ []) deeds

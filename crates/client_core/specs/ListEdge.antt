@@ -3,7 +3,7 @@ use Rattle.std.specs.Prelude.{ℕ, Bool, false, List, [], ◌∷◌, Option, Non
 use Rattle.std.specs.Option.{option_map_or}
 use Rattle.client_request.specs.declared.event.What.{What}
 use Rattle.client_core.specs.Edge.{is_fault}
-use Rattle.client_core.specs.declared.deed.Deed.{Deed}
+use Rattle.client_core.specs.declared.edge.Deed.{Deed}
 
 -- the events that are left, what was done, the waits, and the counts of polls and of faults
 pub record Kept : Type 0 where

@@ -3,7 +3,7 @@
 ghost use Rattle.std.specs.Prelude.{◌≡◌, ℕ, ◌≤◌, List, Option, None, OnOk, OnErr, IfOk};
 ghost use Rattle.dns_values.specs.Source.{one_more};
 ghost use Rattle.client_core.specs.Edge.{after_deed, after_fault};
-ghost use Rattle.client_core.specs.declared.deed.Deed.{Deed};
+ghost use Rattle.client_core.specs.declared.edge.Deed.{Deed};
 ghost use Rattle.client_core.specs.ListEdge.{is_fault_event};
 ghost use Rattle.client_core.specs.Waiting.{Waited};
 
@@ -71,4 +71,16 @@ pub fn is_fault(what: &Option<What>) -> bool
         ) => true,
         _ => false,
     }
+}
+
+/// What was done with an edge: a server was learned, an out was acted on, or it was polled and gave
+/// this.
+#[derive(Drop)]
+pub enum Deed {
+    /// It was told of this server, which has the next number, counted from 0.
+    Learned(ServerConf),
+    /// It acted on this out.
+    Acted(Out),
+    /// It was polled, and gave this event or none.
+    Polled(Option<What>),
 }

@@ -5,7 +5,6 @@
 
 mod client;
 mod clock;
-mod deed;
 mod edge;
 mod list_edge;
 mod octets;
@@ -16,8 +15,7 @@ pub use client_request::{Event, Moment, Out, Row, Rows, Trace, Via, What};
 pub use client_settings::{cache, redundant};
 pub use client_steps::{Asked, Handed, Upstream, Waiting};
 pub use clock::{Clock, ListClock};
-pub use deed::Deed;
-pub use edge::{Edge, is_fault};
+pub use edge::{Deed, Edge, is_fault};
 pub use list_edge::ListEdge;
 pub use octets::{all_asked_in_octets, all_in_octets, in_octets};
 pub use servers::{Layers, Servers};

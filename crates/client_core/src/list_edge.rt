@@ -2,13 +2,12 @@
 
 ghost use Rattle.std.specs.Prelude.{◌≡◌, ◌⊎◌, [], ◌∷◌, ◌++◌, Some, OnOk, OnErr, IfOk};
 ghost use Rattle.dns_values.specs.Source.{one_more};
-ghost use Rattle.client_core.specs.declared.deed.Deed.{Deed};
+ghost use Rattle.client_core.specs.declared.edge.Deed.{Deed};
 ghost use Rattle.client_core.specs.Edge.{after_fault};
 ghost use Rattle.client_core.specs.ListEdge.{later_events, next_event};
 ghost use Rattle.client_core.specs.Waiting.{Waited};
 
-use crate::deed::Deed;
-use crate::edge::{Edge, is_fault};
+use crate::edge::{Deed, Edge, is_fault};
 use client_request::{Out, What};
 use dns_base::NoMemory;
 use resolv_conf::ServerConf;

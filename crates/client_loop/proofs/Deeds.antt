@@ -7,8 +7,8 @@ use Rattle.dns_values.specs.Source.{one_more, last_count}
 use Rattle.client_request.specs.Words.{IsGivenOn}
 use Rattle.client_core.specs.Edge.{after_deed}
 use Rattle.client_core.specs.Waiting.{Waited}
-use Rattle.client_core.specs.declared.deed.Deed.{Deed}
-use Rattle.client_core.specs.declared.deed.Deed.TheVariants.{Acted, Learned, Polled}
+use Rattle.client_core.specs.declared.edge.Deed.{Deed}
+use Rattle.client_core.specs.declared.edge.Deed.TheVariants.{Acted, Learned, Polled}
 use Rattle.client_request.specs.declared.event.Event.{Event}
 use Rattle.client_request.specs.declared.event.Out.{Out}
 use Rattle.client_request.specs.declared.event.What.{What}

@@ -15,8 +15,8 @@ use Rattle.client_request.specs.declared.event.What.TheVariants.{Ask}
 use Rattle.client_steps.specs.Client.{row_step}
 use Rattle.client_core.specs.Edge.{after_deed}
 use Rattle.client_steps.specs.Whole.{Client, Whole, client_with, machine, plain_step}
-use Rattle.client_core.specs.declared.deed.Deed.{Deed}
-use Rattle.client_core.specs.declared.deed.Deed.TheVariants.{Polled}
+use Rattle.client_core.specs.declared.edge.Deed.{Deed}
+use Rattle.client_core.specs.declared.edge.Deed.TheVariants.{Polled}
 use Rattle.client_core.specs.Waiting.{Waited, first_due, time_left, wait_of}
 use Rattle.client_core.proofs.Replaying.{row_event}
 use Rattle.dns_values.specs.Source.{one_more}

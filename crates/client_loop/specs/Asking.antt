@@ -9,7 +9,7 @@ use Rattle.client_request.specs.declared.event.What.{What}
 use Rattle.client_request.specs.declared.event.What.TheVariants.{Ask}
 use Rattle.client_steps.specs.Client.{plain_rows}
 use Rattle.client_steps.specs.Whole.{Client, Whole, machine, client_with}
-use Rattle.client_core.specs.declared.deed.Deed.{Deed}
+use Rattle.client_core.specs.declared.edge.Deed.{Deed}
 use Rattle.client_loop.specs.Replies.{EndsWith, first_reply}
 use Rattle.client_loop.specs.Turns.{Turn, IsOfPoll, RoseBy, AreGivenOn, ArePolledOn, AreKept, Leads, acts_on, after_deeds, after_waits, deeds_of, events_of, happened, moments_of}
 use Rattle.right_trace.specs.InOctets.{AllInOctets}

@@ -10,8 +10,8 @@ use Rattle.client_request.specs.declared.event.What.TheVariants.{Ask, Tick}
 use Rattle.right_trace.specs.InOctets.{IsInOctets}
 use Rattle.client_steps.specs.Client.{plain_rows}
 use Rattle.client_steps.specs.Whole.{Client, Whole, machine, plain_step}
-use Rattle.client_core.specs.declared.deed.Deed.{Deed}
-use Rattle.client_core.specs.declared.deed.Deed.TheVariants.{Acted, Learned, Polled}
+use Rattle.client_core.specs.declared.edge.Deed.{Deed}
+use Rattle.client_core.specs.declared.edge.Deed.TheVariants.{Acted, Learned, Polled}
 use Rattle.client_core.specs.Waiting.{first_due, time_left}
 
 -- What happens in a turn is what the edge gave. Where it gave nothing, or a request, only time goes on.

@@ -1,7 +1,7 @@
 //! The servers of an edge.
 
 ghost use Rattle.std.specs.Prelude.{◌≡◌, OnOk, map};
-ghost use Rattle.client_core.specs.declared.deed.Deed.{Deed};
+ghost use Rattle.client_core.specs.declared.edge.Deed.{Deed};
 ghost use Rattle.client_loop.specs.Turns.{after_deeds};
 
 use client_core::Edge;

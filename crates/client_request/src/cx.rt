@@ -6,8 +6,7 @@ ghost use Rattle.client_request.specs.declared.error.Error.TheVariants as errors
 
 use crate::board::Board;
 use crate::error::Error;
-use crate::event::{Moment, What};
-use crate::lists::Outs;
+use crate::event::{Moment, Outs, What};
 use crate::timers::{TimerId, Timers};
 
 /// What a transport is given at a call: the moment, words to draw, and where outs, results and timers

@@ -2,9 +2,8 @@
 
 use crate::error::Error;
 use crate::fault::Fault;
-use crate::lists::{Outs, Rows};
 use crate::request::RequestMessage;
-use dns_base::{Message, Octets};
+use dns_base::{Message, Octets, Seq};
 
 /// A moment, in microseconds. Whoever holds the client says from where they are counted.
 #[derive(Clone, Copy, Debug, PartialEq, Eq, PartialOrd, Ord, Hash)]
@@ -135,3 +134,12 @@ pub struct Trace {
     /// A row for each event, in order.
     pub rows: Rows,
 }
+
+/// What was put out, in order.
+pub type Outs = Seq<Out>;
+
+/// Events, in order.
+pub type Events = Seq<Event>;
+
+/// The rows of a trace, in order.
+pub type Rows = Seq<Row>;

@@ -6,7 +6,6 @@ mod answer;
 mod builder;
 mod compressor;
 mod debug;
-mod error_text;
 mod header;
 mod laws;
 mod lookups;

@@ -3,8 +3,8 @@ use Rattle.std.proofs.Common.{◌≡◌, ◌+◌, ◌≤◌, ◌++◌, ℕ, Bool
 use Rattle.std.proofs.lemmas.List.Elements.{All-cons, All-nil}
 use Rattle.std.specs.List.{All}
 use Rattle.std.specs.Prelude.{IfOk, IsErrOf, is_some, unwrap_or}
-use Rattle.client_core.specs.declared.deed.Deed.{Deed}
-use Rattle.client_core.specs.declared.deed.Deed.TheVariants.{Learned}
+use Rattle.client_core.specs.declared.edge.Deed.{Deed}
+use Rattle.client_core.specs.declared.edge.Deed.TheVariants.{Learned}
 use Rattle.client_loop.specs.Asking.{IsAnswered, Scene, scene}
 use Rattle.client_loop.specs.Turns.{after_deeds}
 use Rattle.client_request.specs.declared.error.Error.{Error}

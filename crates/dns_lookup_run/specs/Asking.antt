@@ -2,8 +2,8 @@
 use Rattle.std.specs.Prelude.{◌≡◌, ℕ, ◌+◌, Bool, true, if◌then◌else◌, List, [], ◌∷◌, map, Option, None, Some, Result, Ok, Err}
 use Rattle.client_request.specs.Request.{Request, recorded_from, with_dnssec_ok}
 use Rattle.client_request.specs.declared.error.Error.{Error}
-use Rattle.client_core.specs.declared.deed.Deed.{Deed}
-use Rattle.client_core.specs.declared.deed.Deed.TheVariants.{Learned}
+use Rattle.client_core.specs.declared.edge.Deed.{Deed}
+use Rattle.client_core.specs.declared.edge.Deed.TheVariants.{Learned}
 use Rattle.client_loop.specs.Asking.{IsAnswered, Scene, StopsForNumbers, scene}
 use Rattle.client_loop.specs.Turns.{after_deeds}
 use Rattle.client_settings.specs.Settings.{default_cache}

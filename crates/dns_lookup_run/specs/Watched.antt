@@ -1,6 +1,6 @@
 -- What an edge and a clock are seen to do.
 use Rattle.std.specs.Prelude.{ℕ, ◌==◌, if◌then◌else◌, List, [], ◌∷◌, ◌++◌, map, Option, None, Some}
-use Rattle.client_core.specs.declared.deed.Deed.{Deed}
+use Rattle.client_core.specs.declared.edge.Deed.{Deed}
 use Rattle.client_loop.specs.Asking.{Scene, scene}
 use Rattle.client_request.specs.declared.event.Out.{Out}
 use Rattle.client_request.specs.declared.event.Out.TheVariants.{OpenDgram, OpenStream}

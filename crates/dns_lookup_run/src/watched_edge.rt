@@ -2,7 +2,7 @@
 
 ghost use Rattle.std.specs.Prelude.{◌≡◌, [], None, Some, map, OnOk, IfOk, option_map};
 ghost use Rattle.client_core.specs.Edge.{after_deed, after_fault};
-ghost use Rattle.client_core.specs.declared.deed.Deed.{Deed};
+ghost use Rattle.client_core.specs.declared.edge.Deed.{Deed};
 ghost use Rattle.dns_base.specs.Header.{rcode_of};
 ghost use Rattle.dns_values.specs.Source.{one_more};
 ghost use Rattle.dns_lookup_run.specs.Watched.{as_earlier, at_place, heard_after, heard_at, news_after, news_of, with_opened};

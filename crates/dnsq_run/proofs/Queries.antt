@@ -6,8 +6,8 @@ use Rattle.proof_client.specs.Above.{AreWords}
 use Rattle.proof_client.specs.Ties.{EveryPlainTraceIsRight}
 use Rattle.client_settings.specs.Settings.{default_cache, default_redundant, seconds}
 use Rattle.client_steps.specs.Whole.{Whole, started}
-use Rattle.client_core.specs.declared.deed.Deed.{Deed}
-use Rattle.client_core.specs.declared.deed.Deed.TheVariants.{Learned}
+use Rattle.client_core.specs.declared.edge.Deed.{Deed}
+use Rattle.client_core.specs.declared.edge.Deed.TheVariants.{Learned}
 use Rattle.client_loop.specs.Asking.{IsAnswered, Scene, StopsForNumbers, rows_of, scene}
 use Rattle.client_loop.specs.Turns.{after_deeds, events_of}
 use Rattle.resolv_conf.specs.declared.conf.ResolvConf.{ResolvConf}

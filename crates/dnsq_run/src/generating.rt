@@ -7,8 +7,8 @@ ghost use Rattle.command_parts.specs.Ends.{IsEarly, line_of, status_of};
 ghost use Rattle.dnsq_run.specs.Program.{numbers_line, rows_of};
 ghost use Rattle.dnsq_run.specs.QueryWords.{query_of};
 
-use crate::number::number_of;
 use crate::replay::trace_of;
+use crate::usage::number_of;
 use command_parts::Ending;
 use dns_script::{generate, summary_text};
 use std::alloc::Global;

@@ -15,7 +15,6 @@ mod configure;
 mod generating;
 mod laws;
 mod lines;
-mod number;
 mod query;
 mod query_words;
 mod replay;

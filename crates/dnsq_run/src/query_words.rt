@@ -3,7 +3,7 @@
 ghost use Rattle.std.specs.Prelude.{◌≡◌, ◌≤◌, IfOk, IfSome};
 ghost use Rattle.dnsq_run.specs.QueryWords as spec;
 
-use crate::number::number_of;
+use crate::usage::number_of;
 use dns_base::{Name, NameFault, NoMemory, Rtype};
 use std::alloc::Global;
 

@@ -2,10 +2,10 @@
 use Rattle.std.proofs.Common.{◌≡◌, ℕ, Bool, true, false, List, [], ◌∷◌, ◌++◌, Option, None, Some, refl, ap, sym, ◌∙◌, append_assoc}
 use Rattle.std.specs.Prelude.{option_map, nat_lt, length, take, drop}
 use Rattle.std.proofs.lemmas.List.{append-nil, take-append-drop}
-use Rattle.socket_places.specs.declared.deal.Answer.{Answer}
-use Rattle.socket_places.specs.declared.deal.Answer.TheVariants.{Done, Failed, Later}
-use Rattle.socket_places.specs.declared.deal.Deal.{Deal}
-use Rattle.socket_places.specs.declared.deal.Deal.TheVariants.{Put, Took}
+use Rattle.socket_places.specs.declared.socket.Answer.{Answer}
+use Rattle.socket_places.specs.declared.socket.Answer.TheVariants.{Done, Failed, Later}
+use Rattle.socket_places.specs.declared.socket.Deal.{Deal}
+use Rattle.socket_places.specs.declared.socket.Deal.TheVariants.{Put, Took}
 use Rattle.socket_places.specs.Told.{after_one}
 use Rattle.listener_peers.specs.declared.heard.Heard.{Heard}
 use Rattle.listener_peers.specs.Once.{GoOnce, in_hand, taken, taken_by, taken_of}

@@ -1,14 +1,14 @@
 -- The books of a server's listeners.
 use Rattle.std.specs.Prelude.{◌≡◌, ℕ, Bool, true, false, ◌-◌, if◌then◌else◌, nat_lt, List, [], ◌∷◌, ◌++◌, Option, None, Some, option_to_list, slice_get, slice_set}
-use Rattle.socket_places.specs.declared.deal.Answer.{Answer}
-use Rattle.socket_places.specs.declared.deal.Answer.TheVariants.{Done, Failed, Later}
+use Rattle.socket_places.specs.declared.socket.Answer.{Answer}
+use Rattle.socket_places.specs.declared.socket.Answer.TheVariants.{Done, Failed, Later}
 use Rattle.listener_peers.specs.declared.heard.Heard.{Heard}
 use Rattle.listener_peers.specs.declared.heard.Heard.TheVariants as heard
 use Rattle.listener_peers.specs.declared.listener.Letter.{Letter}
 use Rattle.listener_peers.specs.declared.listener.Post.{Post}
 use Rattle.listener_peers.specs.declared.senders.Sender.{Sender}
-use Rattle.listener_peers.specs.declared.spot.Spot.{Spot}
-use Rattle.listener_peers.specs.declared.spot.Spot.TheVariants as spot
+use Rattle.listener_peers.specs.declared.heard.Spot.{Spot}
+use Rattle.listener_peers.specs.declared.heard.Spot.TheVariants as spot
 use Rattle.listener_peers.specs.Doors.{DgramDoor, SendsAt, StreamDoor, after_accept, after_post}
 use Rattle.listener_peers.specs.Peers.{Peers, IsNewPeer, LooksInto, PutsInto, but_peer, is_broken_at, peer_at}
 use Rattle.listener_peers.specs.Senders.{Senders, and_next, but_sender, sender_at}

@@ -1,6 +1,6 @@
 -- Listeners in memory.
 use Rattle.std.specs.Prelude.{ℤ, List}
-use Rattle.socket_places.specs.declared.deal.Answer.{Answer}
+use Rattle.socket_places.specs.declared.socket.Answer.{Answer}
 use Rattle.listener_peers.specs.declared.listener.Post.{Post}
 
 -- the number by which a wait knows it, and what was done with it

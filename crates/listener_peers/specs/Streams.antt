@@ -1,9 +1,9 @@
 -- The stream of a peer: what its socket is handed, and what is told of it.
 use Rattle.std.specs.Prelude.{◌≡◌, ℕ, ℤ, Bool, true, false, ◌||◌, if◌then◌else◌, nat_lt, List, [], ◌∷◌, ◌++◌, length, drop, Option, None, Some}
-use Rattle.socket_places.specs.declared.deal.Answer.{Answer}
-use Rattle.socket_places.specs.declared.deal.Answer.TheVariants.{Done, Failed, Later}
-use Rattle.socket_places.specs.declared.deal.Deal.{Deal}
-use Rattle.socket_places.specs.declared.deal.Deal.TheVariants.{Put, Took}
+use Rattle.socket_places.specs.declared.socket.Answer.{Answer}
+use Rattle.socket_places.specs.declared.socket.Answer.TheVariants.{Done, Failed, Later}
+use Rattle.socket_places.specs.declared.socket.Deal.{Deal}
+use Rattle.socket_places.specs.declared.socket.Deal.TheVariants.{Put, Took}
 use Rattle.socket_places.specs.declared.network.Asked.{Asked}
 use Rattle.socket_places.specs.Told.{after_one}
 use Rattle.listener_peers.specs.declared.heard.Heard.{Heard}

@@ -9,8 +9,8 @@ use Rattle.socket_places.specs.Books.{Books as Places, is_idle as are_idle}
 use Rattle.listener_peers.specs.declared.heard.Heard.{Heard}
 use Rattle.listener_peers.specs.declared.server.Told.{Told}
 use Rattle.listener_peers.specs.declared.server.Told.TheVariants as kinds
-use Rattle.listener_peers.specs.declared.spot.Spot.{Spot}
-use Rattle.listener_peers.specs.declared.spot.Spot.TheVariants as spot
+use Rattle.listener_peers.specs.declared.heard.Spot.{Spot}
+use Rattle.listener_peers.specs.declared.heard.Spot.TheVariants as spot
 use Rattle.listener_peers.specs.Books.{Books, Looks, is_idle}
 use Rattle.listener_peers.specs.Doors.{DgramDoor, StreamDoor, asked_of_dgrams, asked_of_streams}
 use Rattle.listener_peers.specs.Streams.{Peer, asked_of}

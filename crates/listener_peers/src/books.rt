@@ -7,11 +7,10 @@ ghost use Rattle.socket_places.specs.Told.{IsFresh};
 ghost use Rattle.listener_peers.specs.Waits.{asked_of_books, found_among, found_one, spots_of_books};
 
 use crate::doors::{DgramDoor, StreamDoor, ask_dgrams, ask_streams};
-use crate::heard::Heard;
+use crate::heard::{Heard, Spot};
 use crate::listener::{DgramListener, Letter, Listener};
 use crate::peers::Peers;
 use crate::senders::{Sender, Senders};
-use crate::spot::Spot;
 use dns_values::{NoMemory, Octets, SocketAddr};
 use socket_places::{Answer, Asked, Books, Network, Socket};
 use std::alloc::Global;

@@ -6,8 +6,8 @@ ghost use Rattle.listener_peers.specs.declared.listener.Post.{Post};
 ghost use Rattle.listener_peers.specs.Waits.{asked_of_doors, asked_of_listeners, spots_of_doors, spots_of_listeners};
 ghost use Rattle.socket_places.specs.Told.{IsFresh};
 
+use crate::heard::Spot;
 use crate::listener::{DgramListener, Letter, Listener};
-use crate::spot::Spot;
 use dns_values::{NoMemory, SocketAddr};
 use socket_places::{Answer, Asked};
 use std::alloc::Global;

@@ -15,12 +15,11 @@ mod peer;
 mod peers;
 mod senders;
 mod server;
-mod spot;
 mod unsent;
 
 pub use books::{FIRST_STREAM, PeerBooks};
 pub use doors::{DgramDoor, StreamDoor};
-pub use heard::Heard;
+pub use heard::{Heard, Spot};
 pub use laws::octets_go_once;
 pub use list_listener::{ListDgrams, ListListener};
 pub use listener::{DgramListener, Letter, Listener, Post};
@@ -28,4 +27,3 @@ pub use peer::Peer;
 pub use peers::Peers;
 pub use senders::{Sender, Senders};
 pub use server::{ServerBooks, Told};
-pub use spot::Spot;

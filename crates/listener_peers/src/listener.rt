@@ -1,7 +1,7 @@
 //! What takes peers in.
 
 ghost use Rattle.std.specs.Prelude.{◌≡◌, ℤ, List, Option, length, IfOk, IfSome};
-ghost use Rattle.socket_places.specs.declared.deal.Answer.{Answer};
+ghost use Rattle.socket_places.specs.declared.socket.Answer.{Answer};
 ghost use Rattle.socket_places.specs.Told.{IsFresh, IsWithin, after_one};
 ghost use Rattle.listener_peers.specs.declared.listener.Post.{Post};
 ghost use Rattle.listener_peers.specs.Doors.{IfDone, without_value};

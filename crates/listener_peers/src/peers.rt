@@ -5,9 +5,8 @@ ghost use Rattle.listener_peers.specs.Peers.{IfLook, IsNewPeer, LooksInto, PutsI
 ghost use Rattle.listener_peers.specs.Waits.{asked_of_peers, spots_of_peers};
 ghost use Rattle.socket_places.specs.Told.{IsFresh};
 
-use crate::heard::Heard;
+use crate::heard::{Heard, Spot};
 use crate::peer::Peer;
-use crate::spot::Spot;
 use dns_values::{NoMemory, Octets};
 use socket_places::{Asked, Socket};
 use std::alloc::Global;

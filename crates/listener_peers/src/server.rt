@@ -6,9 +6,8 @@ ghost use Rattle.listener_peers.specs.Waits.{Polls, Sleeps, TellsNext, WaitsForA
 ghost use Rattle.socket_places.specs.Books.{Acts};
 
 use crate::books::PeerBooks;
-use crate::heard::Heard;
+use crate::heard::{Heard, Spot};
 use crate::listener::{DgramListener, Listener};
-use crate::spot::Spot;
 use client_request::{Out, What};
 use dns_values::{NoMemory, Octets};
 use socket_places::{Asked, Books, Network};

@@ -17,7 +17,6 @@ mod file;
 mod laws;
 mod line;
 mod mem_files;
-mod number;
 mod option_words;
 mod options;
 mod parse;

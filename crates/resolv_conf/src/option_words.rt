@@ -6,9 +6,8 @@ ghost use Rattle.resolv_conf.specs.Options.{OptionsAnswer, flagged, numbered, op
 ghost use Rattle.resolv_conf.specs.Words.{words_of};
 
 use crate::fault::LineFault;
-use crate::number::number;
 use crate::options::ResolvOptions;
-use crate::words::next_word;
+use crate::words::{next_word, number};
 use dns_values::Duration;
 use std::str::SplitWhitespace;
 

@@ -3,12 +3,12 @@ use Rattle.std.proofs.Common.{◌≡◌, ℕ, Bool, true, false, List, [], ◌�
 use Rattle.std.specs.Prelude.{option_map, slice_get, nat_lt, length}
 use Rattle.std.proofs.lemmas.List.{append-nil}
 use Rattle.client_request.specs.declared.event.What.{What}
-use Rattle.socket_places.specs.declared.deal.Answer.{Answer}
-use Rattle.socket_places.specs.declared.deal.Answer.TheVariants.{Done, Failed, Later}
-use Rattle.socket_places.specs.declared.deal.Deal.{Deal}
-use Rattle.socket_places.specs.declared.deal.Deal.TheVariants.{Opened, Put, Took}
-use Rattle.socket_places.specs.declared.stage.Stage.{Stage}
-use Rattle.socket_places.specs.declared.stage.Stage.TheVariants.{Dgram, Opening, Open, Ended}
+use Rattle.socket_places.specs.declared.socket.Answer.{Answer}
+use Rattle.socket_places.specs.declared.socket.Answer.TheVariants.{Done, Failed, Later}
+use Rattle.socket_places.specs.declared.socket.Deal.{Deal}
+use Rattle.socket_places.specs.declared.socket.Deal.TheVariants.{Opened, Put, Took}
+use Rattle.socket_places.specs.declared.socket.Stage.{Stage}
+use Rattle.socket_places.specs.declared.socket.Stage.TheVariants.{Dgram, Opening, Open, Ended}
 use Rattle.socket_places.specs.Places.{HandsFirst, IsDeal, LooksAt, Opens, Place, PutsAt, Reads, Rests, and_waiting, still_waiting, waiting_after}
 use Rattle.socket_places.specs.Once.{GoOnce, handed, handed_by, in_hand, settled}
 use Rattle.socket_places.specs.Told.{after_one}

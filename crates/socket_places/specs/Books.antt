@@ -11,8 +11,8 @@ use Rattle.client_request.specs.declared.event.What.{What}
 use Rattle.client_request.specs.declared.event.What.TheVariants as what
 use Rattle.socket_places.specs.declared.network.Asked.{Asked}
 use Rattle.socket_places.specs.declared.network.Opening.{Opening}
-use Rattle.socket_places.specs.declared.stage.Stage.{Stage}
-use Rattle.socket_places.specs.declared.stage.Stage.TheVariants as stage
+use Rattle.socket_places.specs.declared.socket.Stage.{Stage}
+use Rattle.socket_places.specs.declared.socket.Stage.TheVariants as stage
 use Rattle.socket_places.specs.Places.{Place}
 use Rattle.socket_places.specs.Table.{LooksInto, PutsInto, TouchesOnly, and_place, asked_of_all, but_place, numbers_found, place_at}
 use Rattle.socket_places.specs.Told.{IsFresh, after_one}

@@ -1,6 +1,6 @@
 -- Sockets in memory.
 use Rattle.std.specs.Prelude.{ℤ, Bool, List}
-use Rattle.socket_places.specs.declared.deal.Deal.{Deal}
+use Rattle.socket_places.specs.declared.socket.Deal.{Deal}
 use Rattle.socket_places.specs.declared.network.Asked.{Asked}
 use Rattle.socket_places.specs.declared.network.Opening.{Opening}
 

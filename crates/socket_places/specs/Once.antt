@@ -1,10 +1,10 @@
 -- What becomes of the octets that are put at a place: its socket is handed each, in order and once.
 use Rattle.std.specs.Prelude.{◌≡◌, ℕ, List, [], ◌∷◌, ◌++◌, Option, option_map}
 use Rattle.client_request.specs.declared.event.What.{What}
-use Rattle.socket_places.specs.declared.deal.Answer.{Answer}
-use Rattle.socket_places.specs.declared.deal.Answer.TheVariants.{Later}
-use Rattle.socket_places.specs.declared.deal.Deal.{Deal}
-use Rattle.socket_places.specs.declared.deal.Deal.TheVariants.{Put}
+use Rattle.socket_places.specs.declared.socket.Answer.{Answer}
+use Rattle.socket_places.specs.declared.socket.Answer.TheVariants.{Later}
+use Rattle.socket_places.specs.declared.socket.Deal.{Deal}
+use Rattle.socket_places.specs.declared.socket.Deal.TheVariants.{Put}
 use Rattle.socket_places.specs.Places.{Place, IsLook, IsPut}
 use Rattle.socket_places.specs.Told.{after_one}
 

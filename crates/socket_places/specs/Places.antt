@@ -2,12 +2,12 @@
 use Rattle.std.specs.Prelude.{◌≡◌, ℕ, ℤ, Bool, true, false, if◌then◌else◌, nat_lt, List, [], ◌∷◌, ◌++◌, length, drop, Option, None, Some, slice_get}
 use Rattle.client_request.specs.declared.event.What.{What}
 use Rattle.client_request.specs.declared.event.What.TheVariants as what
-use Rattle.socket_places.specs.declared.deal.Answer.{Answer}
-use Rattle.socket_places.specs.declared.deal.Answer.TheVariants.{Done, Failed, Later}
-use Rattle.socket_places.specs.declared.deal.Deal.{Deal}
-use Rattle.socket_places.specs.declared.deal.Deal.TheVariants.{Opened, Put, Took}
-use Rattle.socket_places.specs.declared.stage.Stage.{Stage}
-use Rattle.socket_places.specs.declared.stage.Stage.TheVariants.{Dgram, Opening, Open, Ended}
+use Rattle.socket_places.specs.declared.socket.Answer.{Answer}
+use Rattle.socket_places.specs.declared.socket.Answer.TheVariants.{Done, Failed, Later}
+use Rattle.socket_places.specs.declared.socket.Deal.{Deal}
+use Rattle.socket_places.specs.declared.socket.Deal.TheVariants.{Opened, Put, Took}
+use Rattle.socket_places.specs.declared.socket.Stage.{Stage}
+use Rattle.socket_places.specs.declared.socket.Stage.TheVariants.{Dgram, Opening, Open, Ended}
 use Rattle.socket_places.specs.Told.{after_one}
 
 -- a place: how far its socket is, its descriptor, the octets that it did not take yet, and what was done with it

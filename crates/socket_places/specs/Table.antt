@@ -6,8 +6,8 @@ use Rattle.std.specs.Map.{lookup, remove_entry}
 use Rattle.dns_values.specs.Source.{one_more}
 use Rattle.client_request.specs.declared.event.What.{What}
 use Rattle.socket_places.specs.declared.network.Asked.{Asked}
-use Rattle.socket_places.specs.declared.stage.Stage.{Stage}
-use Rattle.socket_places.specs.declared.stage.Stage.TheVariants.{Opening}
+use Rattle.socket_places.specs.declared.socket.Stage.{Stage}
+use Rattle.socket_places.specs.declared.socket.Stage.TheVariants.{Opening}
 use Rattle.socket_places.specs.Places.{Place, IsLook, IsPut, reads}
 use Rattle.socket_places.specs.Told.{found_at}
 

@@ -2,8 +2,8 @@
 use Rattle.std.specs.Prelude.{◌≡◌, ℕ, Bool, false, slice_get, ◌≤◌, List, [], ◌∷◌, ◌++◌, Option, None, Some, option_map, Result, Ok, Err}
 use Rattle.std.specs.Option.{unwrap_or}
 use Rattle.client_request.specs.declared.fault.Fault.{Fault}
-use Rattle.socket_places.specs.declared.deal.Answer.{Answer}
-use Rattle.socket_places.specs.declared.deal.Answer.TheVariants.{Done, Failed, Later}
+use Rattle.socket_places.specs.declared.socket.Answer.{Answer}
+use Rattle.socket_places.specs.declared.socket.Answer.TheVariants.{Done, Failed, Later}
 
 -- what is told after one thing more
 abbrev pub after_one : {T : Type 0} → T → Option (List T) → Option (List T)

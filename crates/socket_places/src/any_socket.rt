@@ -1,11 +1,10 @@
 //! A socket of one of two kinds.
 
 ghost use Rattle.std.specs.Prelude.{◌≡◌, ◌≤◌, length, IfOk, IfSome};
-ghost use Rattle.socket_places.specs.declared.deal.Deal.{Deal};
+ghost use Rattle.socket_places.specs.declared.socket.Deal.{Deal};
 ghost use Rattle.socket_places.specs.Told.{IsWithin, after_one};
 
-use crate::deal::Answer;
-use crate::socket::Socket;
+use crate::socket::{Answer, Socket};
 use dns_values::{NoMemory, Octets};
 use std::alloc::Global;
 

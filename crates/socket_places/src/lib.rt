@@ -15,7 +15,6 @@
 
 mod any_socket;
 mod books;
-mod deal;
 mod laws;
 mod list_network;
 mod list_socket;
@@ -23,16 +22,13 @@ mod network;
 mod place;
 mod places;
 mod socket;
-mod stage;
 
 pub use any_socket::AnySocket;
 pub use books::Books;
-pub use deal::{Answer, Deal};
 pub use laws::octets_go_once;
 pub use list_network::ListNetwork;
 pub use list_socket::ListSocket;
 pub use network::{Asked, Network, Opening};
 pub use place::Place;
 pub use places::Places;
-pub use socket::Socket;
-pub use stage::Stage;
+pub use socket::{Answer, Deal, Socket, Stage};

@@ -1,11 +1,10 @@
 //! A socket in memory.
 
 ghost use Rattle.std.specs.Prelude.{◌≡◌, [], None, Some, length, IfOk};
-ghost use Rattle.socket_places.specs.declared.deal.Deal.{Deal};
+ghost use Rattle.socket_places.specs.declared.socket.Deal.{Deal};
 ghost use Rattle.socket_places.specs.Told.{IsWithin, after_one};
 
-use crate::deal::{Answer, Deal};
-use crate::socket::Socket;
+use crate::socket::{Answer, Deal, Socket};
 use dns_values::{NoMemory, Octets, Seq};
 use std::alloc::Global;
 use std::collections::VecDeque;

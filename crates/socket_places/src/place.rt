@@ -3,13 +3,11 @@
 ghost use Rattle.std.specs.Prelude.{◌≡◌, ℕ, ◌<◌, [], length, List, Option, IfOk, IfSome, IsSome, IsTrue, ◌↔◌, true, Some, slice_get};
 ghost use Rattle.socket_places.specs.Places.{HandsFirst, IsLook, IsPut, Opens, Reads, after_reading, reads, still_waiting, told_of};
 ghost use Rattle.socket_places.specs.Table.{asked_of};
-ghost use Rattle.socket_places.specs.declared.deal.Deal.{Deal};
-ghost use Rattle.socket_places.specs.declared.stage.Stage.{Stage};
+ghost use Rattle.socket_places.specs.declared.socket.Deal.{Deal};
+ghost use Rattle.socket_places.specs.declared.socket.Stage.{Stage};
 
-use crate::deal::Answer;
 use crate::network::Asked;
-use crate::socket::Socket;
-use crate::stage::Stage;
+use crate::socket::{Answer, Socket, Stage};
 use client_request::What;
 use dns_values::{NoMemory, Octets};
 use std::alloc::Global;

@@ -1,13 +1,55 @@
-//! What a socket does for the books.
+//! A socket as the books see it: what it is called for, and how far it is.
 
 ghost use Rattle.std.specs.Prelude.{◌≡◌, ℤ, ◌≤◌, List, Option, length, IfOk, IfSome};
-ghost use Rattle.socket_places.specs.declared.deal.Answer.{Answer};
-ghost use Rattle.socket_places.specs.declared.deal.Deal.{Deal};
+ghost use Rattle.socket_places.specs.declared.socket.Answer.{Answer};
+ghost use Rattle.socket_places.specs.declared.socket.Deal.{Deal};
 ghost use Rattle.socket_places.specs.Told.{after_one, IsWithin};
 
-use crate::deal::Answer;
+use client_request::Fault;
 use dns_values::{NoMemory, Octets};
 use std::alloc::Global;
+
+/// What a socket answers to a call that does not wait.
+#[derive(Debug, Drop)]
+pub enum Answer<T> {
+    /// It did what it was called for.
+    Done(T),
+    /// It failed.
+    Failed(Fault),
+    /// It can't do it yet, and did nothing.
+    Later,
+}
+
+/// A call of a socket, and what it answered.
+#[derive(Debug, Drop)]
+pub enum Deal {
+    /// It was to open.
+    Opened {
+        answer: Answer<()>,
+    },
+    /// It was handed these octets, and took so many of them.
+    Put {
+        octets: Octets,
+        answer: Answer<usize>,
+    },
+    /// It was asked for octets, and gave these.
+    Took {
+        answer: Answer<Octets>,
+    },
+}
+
+/// How far the socket of a place is.
+#[derive(Clone, Copy, Debug, PartialEq, Eq)]
+pub enum Stage {
+    /// It is for datagrams.
+    Dgram,
+    /// It is a stream that is connecting.
+    Opening,
+    /// It is a stream that is connected.
+    Open,
+    /// It is a stream from which nothing more is read.
+    Ended,
+}
 
 /// A socket that is called without a wait.
 ///

@@ -6,8 +6,8 @@ use Rattle.client_request.specs.declared.event.Event.{Event}
 use Rattle.client_request.specs.declared.event.Row.{Row}
 use Rattle.client_request.specs.declared.event.What.{What}
 use Rattle.client_core.proofs.Replaying.{row_event}
-use Rattle.client_core.specs.declared.deed.Deed.{Deed}
-use Rattle.client_core.specs.declared.deed.Deed.TheVariants.{Polled}
+use Rattle.client_core.specs.declared.edge.Deed.{Deed}
+use Rattle.client_core.specs.declared.edge.Deed.TheVariants.{Polled}
 use Rattle.client_loop.proofs.Deeds.{more_deeds}
 use Rattle.client_loop.specs.Turns.{IsTurn, acts_on, after_deeds, happened}
 use Rattle.right_trace.specs.InOctets.{IsInOctets}

@@ -2,8 +2,8 @@
 use Rattle.std.specs.Prelude.{◌≡◌, ℕ, false, List, map, Option, Result, Err, IfSome}
 use Rattle.client_settings.specs.Settings.{CacheSettings, RedundantSettings, default_cache, default_redundant}
 use Rattle.client_steps.specs.Whole.{started}
-use Rattle.client_core.specs.declared.deed.Deed.{Deed}
-use Rattle.client_core.specs.declared.deed.Deed.TheVariants.{Learned}
+use Rattle.client_core.specs.declared.edge.Deed.{Deed}
+use Rattle.client_core.specs.declared.edge.Deed.TheVariants.{Learned}
 use Rattle.client_loop.specs.Turns.{after_deeds}
 use Rattle.resolv_conf.specs.Files.{IsDefaultOf, system_file}
 use Rattle.resolv_conf.specs.declared.conf.ResolvConf.{ResolvConf}

@@ -2,7 +2,7 @@
 use Rattle.std.specs.Prelude.{ℕ, Bool, List, Option}
 use Rattle.dns_values.specs.Source.{one_more}
 use Rattle.client_steps.specs.Whole.{Whole}
-use Rattle.client_core.specs.declared.deed.Deed.{Deed}
+use Rattle.client_core.specs.declared.edge.Deed.{Deed}
 use Rattle.client_loop.specs.Asking.{Scene, scene}
 use Rattle.resolv_conf.specs.declared.options.ResolvOptions.{ResolvOptions}
 

@@ -3,7 +3,7 @@
 ghost use Rattle.std.specs.Prelude.{◌≡◌, ◌≤◌, ◌||◌, if◌then◌else◌, true, false, Err, IfOk, IfErr, OnOk, OnErr};
 ghost use Rattle.dns_values.specs.Source.{Rose, one_more};
 ghost use Rattle.client_core.specs.Edge.{after_deed};
-ghost use Rattle.client_core.specs.declared.deed.Deed.TheVariants.{Learned};
+ghost use Rattle.client_core.specs.declared.edge.Deed.TheVariants.{Learned};
 ghost use Rattle.client_steps.specs.Whole.{with_one_more};
 ghost use Rattle.resolv_lookup.specs.ListAnswers.{faults_after};
 ghost use Rattle.stub_resolver.specs.Making.{IsNew, IsNewWith, ByFile};

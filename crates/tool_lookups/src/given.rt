@@ -1,11 +1,40 @@
 //! Answers and words that a line gives.
 
-use crate::hex::octets;
+ghost use Rattle.std.specs.Prelude.{◌<◌, IfOk};
+
 use crate::trouble::Trouble;
 use client_request::{ListWords, WordList};
 use dns_base::{Message, Octets};
 use resolv_lookup::{Answer, QueryFault};
 use std::alloc::Global;
+
+/// The value of a lower-case digit.
+fn digit(octet: u8) -> Result<u8, Trouble>
+    ensures { IfOk result (λ d. d < 16) }
+{
+    match octet {
+        b'0'..=b'9' => Ok(octet - b'0'),
+        b'a'..=b'f' => Ok(octet - b'a' + 10),
+        _ => Err(Trouble::Usage),
+    }
+}
+
+/// The octet of two digits.
+fn octet(high: u8, low: u8) -> Result<u8, Trouble> {
+    Ok(digit(high)? * 16 + digit(low)?)
+}
+
+/// The octets of an even count of lower-case digits.
+pub fn octets(alloc: Global, digits: &[u8]) -> Result<Vec<u8>, Trouble> {
+    if digits.len() % 2 != 0 {
+        return Err(Trouble::Usage);
+    }
+    let mut octets = Vec::new(alloc);
+    for i in 0..digits.len() / 2 {
+        octets.push(octet(digits[2 * i], digits[2 * i + 1])?)?;
+    }
+    Ok(octets)
+}
 
 /// What a question gets: a message of hexadecimal digits, or no reply.
 pub fn answer(alloc: Global, digits: &str) -> Result<Result<Answer, QueryFault>, Trouble> {

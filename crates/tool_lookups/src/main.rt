@@ -6,7 +6,6 @@
 #![tactic(auto)]
 
 mod given;
-mod hex;
 mod hosts;
 mod names;
 mod servers;

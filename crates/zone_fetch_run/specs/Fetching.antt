@@ -1,8 +1,8 @@
 -- A zone that is brought to what a server has.
 use Rattle.std.specs.Prelude.{◌≡◌, ◌⊎◌, ℕ, List, Option, None, Some, IsSome}
 use Rattle.client_core.specs.Edge.{after_deed}
-use Rattle.client_core.specs.declared.deed.Deed.{Deed}
-use Rattle.client_core.specs.declared.deed.Deed.TheVariants.{Learned}
+use Rattle.client_core.specs.declared.edge.Deed.{Deed}
+use Rattle.client_core.specs.declared.edge.Deed.TheVariants.{Learned}
 use Rattle.dns_values.specs.declared.address.SocketAddr.{SocketAddr}
 use Rattle.dns_values.specs.declared.numbers.Serial.{Serial}
 use Rattle.resolv_conf.specs.declared.server.ServerConf.{ServerConf}

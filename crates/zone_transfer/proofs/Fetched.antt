@@ -10,7 +10,7 @@ use Rattle.client_request.specs.declared.error.Error.{Error}
 use Rattle.client_request.specs.declared.error.Error.TheVariants as errors
 use Rattle.client_request.specs.declared.event.Out.{Out}
 use Rattle.client_steps.specs.Client.{row_step}
-use Rattle.client_core.specs.declared.deed.Deed.TheVariants.{Acted, Polled}
+use Rattle.client_core.specs.declared.edge.Deed.TheVariants.{Acted, Polled}
 use Rattle.client_request.specs.declared.event.Out.TheVariants.{OpenStream}
 use Rattle.client_loop.proofs.Deeds.{more_deeds}
 use Rattle.client_loop.specs.Turns.{RoseBy, acts_on, after_deeds}

@@ -13,8 +13,8 @@ use Rattle.client_request.specs.declared.event.What.{What}
 use Rattle.client_request.specs.declared.fault.Fault.{Fault}
 use Rattle.client_steps.specs.Client.{row_step}
 use Rattle.client_core.specs.Edge.{after_deed}
-use Rattle.client_core.specs.declared.deed.Deed.{Deed}
-use Rattle.client_core.specs.declared.deed.Deed.TheVariants.{Acted, Polled}
+use Rattle.client_core.specs.declared.edge.Deed.{Deed}
+use Rattle.client_core.specs.declared.edge.Deed.TheVariants.{Acted, Polled}
 use Rattle.client_loop.proofs.Deeds.{append_nil, more_deeds, more_moments, no_deeds, rose_by_none, rose_more}
 use Rattle.client_loop.specs.Turns.{AreGivenOn, IsTurn, RoseBy, after_deeds}
 use Rattle.stream_turns.specs.Turns.{Client, machine}

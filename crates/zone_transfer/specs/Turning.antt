@@ -13,8 +13,8 @@ use Rattle.client_request.specs.declared.event.What.{What}
 use Rattle.client_request.specs.declared.event.What.TheVariants.{Opened, OpenFailed}
 use Rattle.client_request.specs.declared.fault.Fault.{Fault}
 use Rattle.client_steps.specs.Client.{row_step}
-use Rattle.client_core.specs.declared.deed.Deed.{Deed}
-use Rattle.client_core.specs.declared.deed.Deed.TheVariants.{Acted, Polled}
+use Rattle.client_core.specs.declared.edge.Deed.{Deed}
+use Rattle.client_core.specs.declared.edge.Deed.TheVariants.{Acted, Polled}
 use Rattle.client_loop.specs.Turns.{AreGivenOn, RoseBy, acts_on, after_deeds, happened}
 use Rattle.stream_turns.specs.Turns.{Client, begins, machine, started}
 use Rattle.zone_transfer.specs.Reading.{AreRead, ReadSoFar}

@@ -1,7 +1,7 @@
 use Rattle.std.proofs.Common.{List, Option, ap, ◌∙◌}
 use Rattle.client_core.specs.Edge.{after_deed}
-use Rattle.client_core.specs.declared.deed.Deed.{Deed}
-use Rattle.client_core.specs.declared.deed.Deed.TheVariants.{Polled}
+use Rattle.client_core.specs.declared.edge.Deed.{Deed}
+use Rattle.client_core.specs.declared.edge.Deed.TheVariants.{Polled}
 use Rattle.client_steps.specs.Whole.{client_with}
 use Rattle.client_loop.proofs.Turning.{turned}
 use Rattle.client_loop.proofs.turns.turn.Goals as goal

@@ -1,5 +1,5 @@
 use Rattle.std.proofs.Common.{List, map, ap, ◌∙◌}
-use Rattle.client_core.specs.declared.deed.Deed.TheVariants.{Learned}
+use Rattle.client_core.specs.declared.edge.Deed.TheVariants.{Learned}
 use Rattle.client_loop.specs.Turns.{after_deeds}
 use Rattle.client_settings.specs.Settings.{default_redundant}
 use Rattle.client_steps.specs.Whole.{started}

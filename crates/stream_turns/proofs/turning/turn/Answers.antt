@@ -1,7 +1,7 @@
 use Rattle.std.proofs.Common.{List, Option, ap, ◌∙◌}
 use Rattle.client_core.specs.Edge.{after_deed}
-use Rattle.client_core.specs.declared.deed.Deed.{Deed}
-use Rattle.client_core.specs.declared.deed.Deed.TheVariants.{Polled}
+use Rattle.client_core.specs.declared.edge.Deed.{Deed}
+use Rattle.client_core.specs.declared.edge.Deed.TheVariants.{Polled}
 use Rattle.stream_turns.specs.Turns.{client_with}
 use Rattle.stream_turns.proofs.RowOfTurn.{row_of_own, turned}
 use Rattle.stream_turns.proofs.turning.turn.Goals as goal

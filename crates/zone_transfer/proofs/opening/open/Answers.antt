@@ -1,8 +1,8 @@
 use Rattle.std.proofs.Common.{List, Option, ap, sym, ◌∙◌}
 use Rattle.dns_values.specs.Source.{one_more}
 use Rattle.client_core.specs.Edge.{after_deed}
-use Rattle.client_core.specs.declared.deed.Deed.{Deed}
-use Rattle.client_core.specs.declared.deed.Deed.TheVariants.{Polled}
+use Rattle.client_core.specs.declared.edge.Deed.{Deed}
+use Rattle.client_core.specs.declared.edge.Deed.TheVariants.{Polled}
 use Rattle.zone_transfer.specs.Turning.{scene}
 use Rattle.zone_transfer.proofs.Turns.{still_more}
 use Rattle.zone_transfer.proofs.opening.open.Goals as goal

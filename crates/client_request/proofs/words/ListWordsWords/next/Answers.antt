@@ -1,7 +1,7 @@
 use Rattle.std.proofs.Common.{sym, ap, ◌∙◌, map, drop, Some}
 use Rattle.std.proofs.lemmas.List.{drop-drop}
 use Rattle.client_request.specs.Words.{WordsLeft, word_of}
-use Rattle.client_request.proofs.list_words.ListWordsWords.next.Goals as goal
+use Rattle.client_request.proofs.words.ListWordsWords.next.Goals as goal
 
 pub returns-in-Some-clause-left : goal.returns-in-Some-clause-left
 returns-in-Some-clause-left c =
