@@ -10,9 +10,11 @@
 #![tactic(auto)]
 
 mod replaying;
+mod taking;
 
 pub use proof_client::{
     every_plain_trace_hits, every_plain_trace_is_right, every_plain_trace_serves_stale,
     plain_traces_are_runs,
 };
 pub use replaying::Replay;
+pub use taking::TakeRow;

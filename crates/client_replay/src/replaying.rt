@@ -1,7 +1,9 @@
 //! The replay of a list of events.
 
-ghost use Rattle.std.specs.Prelude.{◌≡◌, Some, None, Ok, IfOk, IfErr, IsErrOf, [], map};
+ghost use Rattle.std.specs.Prelude.{◌≡◌, Some, None, Ok, List, IfOk, IfErr, IsErrOf, [], map};
 ghost use Rattle.client_request.specs.Timers.{IsWant};
+ghost use Rattle.client_request.specs.declared.event.Row.{Row};
+ghost use Rattle.client_replay.specs.Replayed.{IsReplay};
 ghost use Rattle.proof_cutting.specs.Cuts.{MayBeCut};
 ghost use Rattle.client_steps.specs.Headline.{conf_of, settings_of};
 ghost use Rattle.client_steps.specs.Whole.{plain_trace};
@@ -12,14 +14,27 @@ ghost use Rattle.right_trace.specs.Right.{Right};
 ghost use Rattle.right_trace.specs.StaleServed.{AllServeStale};
 ghost use Rattle.right_trace.specs.Timely.{Timely};
 
+use crate::taking::TakeRow;
 use client_core::{Client, all_asked_in_octets, all_in_octets, cache, redundant};
-use client_request::{Error, Event, Rows, Trace, Words};
+use client_request::{Error, Event, Events, Rows, Trace, Words};
+use dns_base::NoMemory;
 use proof_client::{
     every_plain_trace_hits, every_plain_trace_is_right, every_plain_trace_serves_stale,
 };
 use proof_cutting::every_plain_trace_may_be_cut;
 use resolv_conf::ResolvConf;
 use std::alloc::Global;
+
+/// Copies of events, in order.
+fn copied(alloc: Global, events: &[Event]) -> Result<Events, NoMemory>
+    ensures { IfOk result (λ copies. copies ≡ events.now) }
+{
+    let mut copies = Events::new(alloc);
+    for event in events {
+        copies.push(event.try_clone(alloc)?)?;
+    }
+    Ok(copies)
+}
 
 /// The replay of a list of events by a client that is made for it.
 pub trait Replay {
@@ -47,6 +62,22 @@ pub trait Replay {
         ensures cut { IfOk result (λ t. MayBeCut redundant cache conf.now (W.stream words.old) events.now t.rows) }
         ensures numbers { IsErrOf result Error.NumbersUsed → plain_trace redundant cache conf.now (W.stream words.old) events.now ≡ None }
         ensures refused { IfErr result IsWant };
+
+    /// The same, where each row is taken as soon as it is made, so that no trace stands in memory. After an error some of
+    /// the rows were taken.
+    fn replay_into<W: Words, T: TakeRow>(
+        alloc: Global,
+        conf: &ResolvConf,
+        redundant: redundant::Config,
+        cache: cache::Config,
+        words: &mut W,
+        events: Events,
+        taker: &mut T,
+    ) -> Result<(), Error>
+        requires none_taken { T.has taker.old [] }
+        ensures replay { IfOk result (λ _. (rows : List Row) × IsReplay redundant cache conf.now (W.stream words.old) events rows × T.has taker.new rows) }
+        ensures numbers { IsErrOf result Error.NumbersUsed → plain_trace redundant cache conf.now (W.stream words.old) events ≡ None }
+        ensures refused { IfErr result IsWant };
 }
 
 impl Replay for Client {
@@ -58,20 +89,33 @@ impl Replay for Client {
         words: &mut W,
         events: &[Event],
     ) -> Result<Trace, Error> {
-        cache.max_validity_is_limited();
-        let mut client = Client::new(alloc, conf, redundant, cache)?;
+        let copies = copied(alloc, events)?;
         let mut rows = Rows::new(alloc);
-        for event in events {
-            let event = event.try_clone(alloc)?;
-            let row = client.step(words, event)?;
-            rows.push(row)?;
-        }
-        all_asked_in_octets(events);
-        all_in_octets(events);
+        Client::replay_into(alloc, conf, redundant, cache, words, copies, &mut rows)?;
+        Ok(Trace { rows })
+    }
+
+    fn replay_into<W: Words, T: TakeRow>(
+        alloc: Global,
+        conf: &ResolvConf,
+        redundant: redundant::Config,
+        cache: cache::Config,
+        words: &mut W,
+        events: Events,
+        taker: &mut T,
+    ) -> Result<(), Error> {
+        cache.max_validity_is_limited();
+        all_asked_in_octets(events.as_slice());
+        all_in_octets(events.as_slice());
         every_plain_trace_is_right();
         every_plain_trace_hits();
         every_plain_trace_serves_stale();
         every_plain_trace_may_be_cut();
-        Ok(Trace { rows })
+        let mut client = Client::new(alloc, conf, redundant, cache)?;
+        for event in events.into_vec() {
+            let row = client.step(words, event)?;
+            taker.take(row)?;
+        }
+        Ok(())
     }
 }

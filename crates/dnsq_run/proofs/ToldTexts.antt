@@ -1,93 +1,62 @@
 -- The text of a trace, row by row.
-use Rattle.std.proofs.Common.{◌≡◌, ℕ, Bool, true, false, ◌||◌, List, [], ◌∷◌, ◌++◌, Option, Some, None, refl, ap, sym, ◌∙◌, append_assoc, append-nil}
+use Rattle.std.proofs.Common.{◌≡◌, ℕ, Bool, true, false, ◌||◌, List, [], ◌∷◌, ◌++◌, refl, ap, sym, ◌∙◌, append_assoc, append-nil}
 use Rattle.std.specs.List.{flat_map}
-use Rattle.std.specs.Prelude.{option_map, option_and_then}
-use Rattle.client_request.specs.declared.event.Event.{Event}
 use Rattle.client_request.specs.declared.event.Row.{Row}
-use Rattle.client_steps.specs.Client.{Client, Machine, plain_rows, row_step, then_rows}
-use Rattle.client_request.specs.Words.{listed}
-use Rattle.proof_client.specs.Ties.{AreHandedIn, EveryPlainTraceHits, EveryPlainTraceIsRight, EveryPlainTraceServesStale}
+use Rattle.client_replay.specs.Replayed.{IsReplay}
 use Rattle.dns_script.specs.TraceText.{IsOfFirst, behind_first, first_line, has_stale, have_stale, last_line, row_text, trace_text_of}
 use Rattle.dns_script.specs.declared.script.Script.{Script}
-use Rattle.dnsq_run.specs.Program.{IsTold, first_lane, rows_of}
+use Rattle.dnsq_run.specs.Program.{IsPlayed, IsTextOf, IsTold}
 
--- what is written so far behind the first line, in which a reply is stale or none is, and the rows that follow
-abbrev pub text_with : (stale : Bool) → List ℕ → List Row → List ℕ
-text_with stale body rest = first_line (stale || have_stale rest) ++ (body ++ flat_map row_text rest ++ last_line)
+rows_told : (rows : List Row) (row : Row) → flat_map row_text (rows ++ row ∷ []) ≡ flat_map row_text rows ++ row_text row
+rows_told [] row = append-nil (row_text row)
+rows_told (r ∷ rows) row = ap (λ (xs : List ℕ). row_text r ++ xs) (rows_told rows row) ∙ sym (append_assoc (row_text r) (flat_map row_text rows) (row_text row))
 
-or_later : (a b c : Bool) → ((a || b) || c) ≡ (a || (b || c))
+or_none : (a : Bool) → (a || false) ≡ a
+or_none true = refl
+or_none false = refl
+
+or_later : (a b c : Bool) → (a || (b || c)) ≡ ((a || b) || c)
 or_later true b c = refl
 or_later false b c = refl
 
-one_more : (stale : Bool) (body : List ℕ) (row : Row) (rest : List Row) → text_with stale body (row ∷ rest) ≡ text_with (stale || has_stale row) (body ++ row_text row) rest
-one_more stale body row rest =
-    ap (λ (b : Bool). first_line b ++ (body ++ flat_map row_text (row ∷ rest) ++ last_line)) (sym (or_later stale (has_stale row) (have_stale rest)))
-    ∙ ap (λ (xs : List ℕ). first_line ((stale || has_stale row) || have_stale rest) ++ (xs ++ last_line)) (sym (append_assoc body (row_text row) (flat_map row_text rest)))
+stale_so_far : (rows : List Row) (row : Row) → have_stale (rows ++ row ∷ []) ≡ (have_stale rows || has_stale row)
+stale_so_far [] row = or_none (has_stale row)
+stale_so_far (r ∷ rows) row = ap (λ (b : Bool). has_stale r || b) (stale_so_far rows row) ∙ or_later (has_stale r) (have_stale rows) (has_stale row)
 
-behind : (stale : Bool) (body : List ℕ) (row : Row) (rest : Option (List Row)) → option_map (text_with stale body) (option_map (λ xs. row ∷ xs) rest) ≡ option_map (text_with (stale || has_stale row) (body ++ row_text row)) rest
-behind stale body row None = refl
-behind stale body row (Some xs) = ap Some (one_more stale body row xs)
+-- One more row is told behind those before.
+pub more_told : (text out : List ℕ) (stale after : Bool) (row : Row) → out ≡ text ++ row_text row → after ≡ (stale || has_stale row)
+    → (rows : List Row) → IsTextOf text stale rows → IsTextOf out after (rows ++ row ∷ [])
+more_told text out stale after row adds is rows so = record {
+  octets =
+      adds
+      ∙ ap (λ (xs : List ℕ). xs ++ row_text row) so.octets
+      ∙ append_assoc (first_line false) (flat_map row_text rows) (row_text row)
+      ∙ ap (λ (xs : List ℕ). first_line false ++ xs) (sym (rows_told rows row));
+  told = is ∙ ap (λ (b : Bool). b || has_stale row) so.told ∙ sym (stale_so_far rows row);
+}
 
--- The first line alone is written.
-pub first_written : (text : List ℕ) (rows : Option (List Row)) → text ≡ first_line false → option_map trace_text_of rows ≡ option_map (text_with false (behind_first text)) rows
-first_written text rows is = by rows ∙ ap (λ (t : List ℕ). option_map (text_with false (behind_first t)) rows) (sym is)
-  where
-    by : (rows : Option (List Row)) → option_map trace_text_of rows ≡ option_map (text_with false []) rows
-    by None = refl
-    by (Some rows) = ap Some (append_assoc (first_line (have_stale rows)) (flat_map row_text rows) last_line)
-
--- What is written behind a text stands behind its first line.
-pub more_behind : (text more : List ℕ) → IsOfFirst text → IsOfFirst (text ++ more) × (behind_first (text ++ more) ≡ behind_first text ++ more)
-more_behind text more is =
-    let whole : text ++ more ≡ first_line false ++ (behind_first text ++ more) = ap (λ (t : List ℕ). t ++ more) is ∙ append_assoc (first_line false) (behind_first text) more in
-    let rest : behind_first (text ++ more) ≡ behind_first text ++ more = ap behind_first whole in
-    (whole ∙ ap (λ (t : List ℕ). first_line false ++ t) (sym rest), rest)
-
-module _ {U P : Type 0} (m : Machine U P) (timeout : ℕ) where
-  -- one more event writes one more row
-  pub next_written : (stale : Bool) (body : List ℕ) (row : Row) (e : Event) (es : List Event) (c d : Client U P) → row_step m timeout e c ≡ Some (row, d)
-      → option_map (text_with stale body) (plain_rows m timeout (e ∷ es) c) ≡ option_map (text_with (stale || has_stale row) (body ++ row_text row)) (plain_rows m timeout es d)
-  next_written stale body row e es c d h =
-      ap (λ o. option_map (text_with stale body) (option_and_then (then_rows (plain_rows m timeout es)) o)) h
-      ∙ behind stale body row (plain_rows m timeout es d)
-
-  -- where a number would pass 64 bits there are no rows
-  pub none_written : (stale : Bool) (body : List ℕ) (e : Event) (es : List Event) (c : Client U P) → row_step m timeout e c ≡ None
-      → option_map (text_with stale body) (plain_rows m timeout (e ∷ es) c) ≡ None
-  none_written stale body e es c h = ap (λ o. option_map (text_with stale body) (option_and_then (then_rows (plain_rows m timeout es)) o)) h
+-- Such a text begins with the first line of the first version, whatever stands behind.
+pub is_of_first : (text more : List ℕ) (stale : Bool) (rows : List Row) → IsTextOf text stale rows → IsOfFirst (text ++ more)
+is_of_first text more stale rows so =
+    let whole : text ++ more ≡ first_line false ++ (flat_map row_text rows ++ more) = ap (λ (t : List ℕ). t ++ more) so.octets ∙ append_assoc (first_line false) (flat_map row_text rows) more in
+    whole ∙ ap (λ (t : List ℕ). first_line false ++ t) (sym (ap behind_first whole))
 
 -- the text with its first line set
-pub whole_text : (stale : Bool) (text out : List ℕ) → IsOfFirst text → out ≡ first_line stale ++ behind_first (text ++ last_line) → text_with stale (behind_first text) [] ≡ out
-whole_text stale text out is set =
-    ap (λ (b : Bool). first_line b ++ (behind_first text ++ [] ++ last_line)) (or_none stale)
-    ∙ ap (λ (xs : List ℕ). first_line stale ++ (xs ++ last_line)) (append-nil (behind_first text))
-    ∙ ap (λ (xs : List ℕ). first_line stale ++ xs) (sym (more_behind text last_line is).1)
-    ∙ sym set
-  where
-    or_none : (a : Bool) → (a || false) ≡ a
-    or_none true = refl
-    or_none false = refl
-
-pub none_told : (rows : Option (List Row)) → option_map trace_text_of rows ≡ None → rows ≡ None
-none_told None h = refl
-none_told (Some rows) h = absurd cc
-
-told_among : (rows : Option (List Row)) (out : List ℕ) → option_map trace_text_of rows ≡ Some out → (xs : List Row) × ((rows ≡ Some xs) × (out ≡ trace_text_of xs))
-told_among None out h = absurd cc
-told_among (Some xs) out h = (xs, (refl, cc))
+pub whole_text : (text out : List ℕ) (stale : Bool) → out ≡ first_line stale ++ behind_first (text ++ last_line) → (rows : List Row) → IsTextOf text stale rows → out ≡ trace_text_of rows
+whole_text text out stale set rows so =
+    let whole : text ++ last_line ≡ first_line false ++ (flat_map row_text rows ++ last_line) = ap (λ (t : List ℕ). t ++ last_line) so.octets ∙ append_assoc (first_line false) (flat_map row_text rows) last_line in
+    set
+    ∙ ap (λ (t : List ℕ). first_line stale ++ behind_first t) whole
+    ∙ ap (λ (b : Bool). first_line b ++ (flat_map row_text rows ++ last_line)) so.told
 
 -- what was written is told of the script
-pub is_told : EveryPlainTraceIsRight → EveryPlainTraceHits → EveryPlainTraceServesStale → (script : Script) (out : List ℕ) → AreHandedIn script.cache (listed script.words) (first_lane script.lanes)
-    → option_map trace_text_of (rows_of script) ≡ Some out → IsTold script out
-is_told law hits serves script out handed h =
-    let told = told_among (rows_of script) out h in
-    let right = law script.redundant script.cache script.conf (listed script.words) (first_lane script.lanes) told.0 told.1.0 handed in
-    record {
-      rows = told.0;
-      plain = told.1.0;
-      right = right.0;
-      timely = right.1;
-      hits = hits script.redundant script.cache script.conf (listed script.words) (first_lane script.lanes) told.0 told.1.0 handed;
-      stale = serves script.redundant script.cache script.conf (listed script.words) (first_lane script.lanes) told.0 told.1.0 handed;
-      says = told.1.1;
-    }
+pub is_told : (script : Script) (text : List ℕ) (rows : List Row) → IsPlayed script rows → text ≡ trace_text_of rows → IsTold script text
+is_told script text rows played says = record {
+  rows = rows;
+  plain = played.plain;
+  right = played.right;
+  timely = played.timely;
+  hits = played.hits;
+  stale = played.stale;
+  says = says;
+}

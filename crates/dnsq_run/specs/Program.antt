@@ -1,5 +1,6 @@
 -- What the program writes for an input.
-use Rattle.std.specs.Prelude.{◌≡◌, ◌⊎◌, ◌<◌, ◌≤◌, ℕ, List, [], ◌∷◌, length, Option, Some, None, IfSome, Ok, false, codes}
+use Rattle.std.specs.List.{flat_map}
+use Rattle.std.specs.Prelude.{◌≡◌, ◌⊎◌, ◌<◌, ◌≤◌, ℕ, Bool, List, [], ◌∷◌, ◌++◌, length, Option, Some, None, IfSome, Ok, false, codes}
 use Rattle.dns_values.specs.Sink.{with_octets}
 use Rattle.client_request.specs.Words.{listed}
 use Rattle.client_request.specs.declared.event.Event.{Event}
@@ -7,13 +8,14 @@ use Rattle.client_request.specs.declared.event.Row.{Row}
 use Rattle.client_steps.specs.Headline.{conf_of, settings_of}
 use Rattle.client_steps.specs.Whole.{plain_trace}
 use Rattle.client_cache.specs.Plain.{room_of}
+use Rattle.client_replay.specs.Replayed.{IsReplay}
 use Rattle.client_request.specs.Composed.{composed}
 use Rattle.right_trace.specs.Hit.{AllHit}
 use Rattle.right_trace.specs.Right.{Right}
 use Rattle.right_trace.specs.StaleServed.{AllServeStale}
 use Rattle.right_trace.specs.Timely.{Timely}
 use Rattle.dns_script.specs.ScriptReading.{IsScript, RefusesLine}
-use Rattle.dns_script.specs.TraceText.{trace_text_of}
+use Rattle.dns_script.specs.TraceText.{first_line, have_stale, row_text, trace_text_of}
 use Rattle.dns_script.specs.declared.script.Script.{Script}
 use Rattle.resolv_conf.specs.Final.{finalized}
 use Rattle.resolv_conf.specs.Parse.{ParseAnswers}
@@ -33,6 +35,15 @@ first_lane (events ∷ lanes) = events
 -- the rows of a script: the plain trace of its events with its settings, with its words and 0 past their end; none where a number would pass 64 bits
 abbrev pub rows_of : Script → Option (List Row)
 rows_of script = plain_trace script.redundant script.cache script.conf (listed script.words) (first_lane script.lanes)
+
+-- these rows are what a replay of the script makes
+abbrev pub IsPlayed : Script → List Row → Type 0
+IsPlayed script rows = IsReplay script.redundant script.cache script.conf (listed script.words) (first_lane script.lanes) rows
+
+-- These octets are the text of some rows without its last line, begun before it was known whether a reply is stale, and whether one is.
+pub record IsTextOf (text : List ℕ) (stale : Bool) (rows : List Row) : Type 0 where
+  pub octets : text ≡ first_line false ++ flat_map row_text rows
+  pub told : stale ≡ have_stale rows
 
 -- These octets are the text of the plain trace of a script, which is right and timely, gives what is kept, and serves what has expired.
 pub record IsTold (script : Script) (out : List ℕ) : Type 0 where

@@ -7,8 +7,9 @@ ghost use Rattle.command_parts.specs.Ends.{IsEarly, line_of, status_of};
 ghost use Rattle.dnsq_run.specs.Program.{numbers_line, rows_of};
 ghost use Rattle.dnsq_run.specs.QueryWords.{query_of};
 
-use crate::replay::trace_of;
+use crate::telling::play;
 use crate::usage::number_of;
+use client_request::{Rows, Trace};
 use command_parts::Ending;
 use dns_script::{generate, summary_text};
 use std::alloc::Global;
@@ -43,6 +44,7 @@ pub fn summary(alloc: Global, n: u32) -> Result<Vec<u8>, Ending>
     ensures numbers_line { IfErr result (λ e. status_of e ≡ 7 → line_of e ≡ numbers_line) }
 {
     let script = generate(alloc, n)?;
-    let trace = trace_of(alloc, script)?;
-    Ok(summary_text(alloc, &trace)?)
+    let mut rows = Rows::new(alloc);
+    play(alloc, script, &mut rows)?;
+    Ok(summary_text(alloc, &Trace { rows })?)
 }

@@ -19,7 +19,6 @@ mod query;
 mod query_words;
 mod replay;
 mod run;
-mod short_words;
 mod telling;
 mod usage;
 

@@ -1,24 +1,13 @@
 //! The command that replays a script.
 
-ghost use Rattle.std.specs.Prelude.{◌≡◌, ◌≢◌, ◌≤◌, [], length, false, Some, None, IfSome, IfOk, IfErr};
+ghost use Rattle.std.specs.Prelude.{◌≡◌, ◌≢◌, ◌≤◌, [], length, false, Some, IfSome, IfOk, IfErr};
 ghost use Rattle.dns_values.specs.Source.{Rose};
-ghost use Rattle.client_steps.specs.Headline.{conf_of, settings_of};
-ghost use Rattle.client_cache.specs.Plain.{room_of};
-ghost use Rattle.client_request.specs.Composed.{composed};
-ghost use Rattle.right_trace.specs.Hit.{AllHit};
-ghost use Rattle.right_trace.specs.Right.{Right};
-ghost use Rattle.right_trace.specs.StaleServed.{AllServeStale};
-ghost use Rattle.right_trace.specs.Timely.{Timely};
 ghost use Rattle.dns_script.specs.ScriptReading.{IsScript};
 ghost use Rattle.command_parts.specs.Ends.{IsEarly, status_of, line_of};
-ghost use Rattle.dnsq_run.specs.Program.{rows_of, IsReplayed, IsRefused, StopsForNumbers, numbers_line};
+ghost use Rattle.dnsq_run.specs.Program.{IsReplayed, IsRefused, StopsForNumbers, numbers_line};
 
-use crate::lines::refusal;
-use crate::telling::{first_lane, text_of};
+use crate::telling::text_of;
 use crate::usage::Command;
-use client_core::Client;
-use client_replay::Replay;
-use client_request::{ListWords, Trace};
 use command_parts::statuses::{NO_MEMORY, REFUSED, SOURCE_FAULT};
 use command_parts::{Ending, refused_line, says};
 use dns_script::{Script, ScriptFault, read_script};
@@ -57,40 +46,6 @@ fn script_of(alloc: Global, text: &[u8]) -> Result<Script, Ending>
         Ok(script) => Ok(script),
         Err(ScriptFault::Line(line)) => Err(refused_line(alloc, line)),
         Err(ScriptFault::NoMemory) => Err(Ending::Silent(NO_MEMORY)),
-    }
-}
-
-/// The trace of a script with one lane.
-pub fn trace_of(alloc: Global, script: Script) -> Result<Trace, Ending>
-    ensures plain { IfOk result (λ t. rows_of script ≡ Some t.rows) }
-    ensures right { IfOk result (λ t. Right (conf_of script.conf) (settings_of script.redundant script.cache) t.rows) }
-    ensures timely { IfOk result (λ t. Timely (conf_of script.conf) t.rows) }
-    ensures hits { IfOk result (λ t. AllHit (conf_of script.conf) (settings_of script.redundant script.cache) composed (room_of script.cache) [] t.rows) }
-    ensures stale { IfOk result (λ t. AllServeStale (conf_of script.conf) (settings_of script.redundant script.cache) (room_of script.cache) [] t.rows) }
-    ensures early { IfErr result IsEarly }
-    ensures numbers { IfErr result (λ e. status_of e ≡ 7 → rows_of script ≡ None) }
-    ensures numbers_line { IfErr result (λ e. status_of e ≡ 7 → line_of e ≡ numbers_line) }
-    ensures no_fault { IfErr result (λ e. (status_of e ≢ 3) × (status_of e ≢ 1)) }
-{
-    let Script {
-        conf,
-        redundant,
-        cache,
-        words,
-        lanes,
-    } = script;
-    let mut words = ListWords::new(words);
-    let events = first_lane(alloc, lanes);
-    match Client::replay(
-        alloc,
-        &conf,
-        redundant,
-        cache,
-        &mut words,
-        events.as_slice(),
-    ) {
-        Ok(trace) => Ok(trace),
-        Err(error) => Err(refusal(alloc, error)),
     }
 }
 

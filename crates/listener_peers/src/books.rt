@@ -32,7 +32,6 @@ const PIECE: usize = 4_096;
 /// that is accepted is that of a peer, until it is closed or told to be no more. Octets for a peer that its stream does not take wait;
 /// meanwhile nothing is read of it, and where more than 1,048,576 octets wait it is no more. After want of memory what was done last
 /// may be lost: the books are not to be used again.
-#[derive(Drop)]
 pub struct PeerBooks<D: DgramListener + Drop, L: Listener + Drop> {
     alloc: Global,
     dgrams: Vec<DgramDoor<D>>,
@@ -43,6 +42,21 @@ pub struct PeerBooks<D: DgramListener + Drop, L: Listener + Drop> {
     /// Where sockets put what they give.
     datagram: Vec<u8>,
     piece: Vec<u8>,
+}
+
+impl<D: DgramListener + Drop, L: Listener + Drop> Drop for PeerBooks<D, L> {
+    fn drop(self) {
+        let PeerBooks {
+            alloc: _,
+            dgrams: _,
+            doors: _,
+            senders: _,
+            peers: _,
+            found: _,
+            datagram: _,
+            piece: _,
+        } = self;
+    }
 }
 
 impl<D: DgramListener + Drop, L: Listener + Drop> Model for PeerBooks<D, L> {

@@ -17,10 +17,18 @@ use std::marker::Model;
 const BURST: u32 = 63;
 
 /// A socket that takes datagrams of anyone.
-#[derive(Drop)]
 pub struct DgramDoor<D: DgramListener + Drop> {
     listener: D,
     descriptor: i32,
+}
+
+impl<D: DgramListener + Drop> Drop for DgramDoor<D> {
+    fn drop(self) {
+        let DgramDoor {
+            listener: _,
+            descriptor: _,
+        } = self;
+    }
 }
 
 impl<D: DgramListener + Drop> Model for DgramDoor<D> {
@@ -70,10 +78,18 @@ impl<D: DgramListener + Drop> DgramDoor<D> {
 }
 
 /// A listener for streams.
-#[derive(Drop)]
 pub struct StreamDoor<L: Listener + Drop> {
     listener: L,
     descriptor: i32,
+}
+
+impl<L: Listener + Drop> Drop for StreamDoor<L> {
+    fn drop(self) {
+        let StreamDoor {
+            listener: _,
+            descriptor: _,
+        } = self;
+    }
 }
 
 impl<L: Listener + Drop> Model for StreamDoor<L> {

@@ -12,11 +12,20 @@ use std::collections::VecDeque;
 use std::marker::Model;
 
 /// A listener that accepts the streams of one list, or fails, call by call, and keeps what it answered. Past its end there is none.
-#[derive(Drop)]
 pub struct ListListener {
     descriptor: i32,
     streams: VecDeque<Answer<ListSocket>>,
     accepts: Seq<Answer<()>>,
+}
+
+impl Drop for ListListener {
+    fn drop(self) {
+        let ListListener {
+            descriptor: _,
+            streams: _,
+            accepts: _,
+        } = self;
+    }
 }
 
 impl Model for ListListener {
@@ -83,13 +92,24 @@ impl Listener for ListListener {
 /// A socket for datagrams of anyone that gives those of one list, and answers by another what it takes, call by call, and keeps what
 /// was done with it. Past their ends it has none to give, and takes all octets. It takes no more octets than it is handed, whatever
 /// its list says.
-#[derive(Drop)]
 pub struct ListDgrams {
     alloc: Global,
     descriptor: i32,
     letters: VecDeque<Answer<Letter>>,
     sends: VecDeque<Answer<usize>>,
     posts: Seq<Post>,
+}
+
+impl Drop for ListDgrams {
+    fn drop(self) {
+        let ListDgrams {
+            alloc: _,
+            descriptor: _,
+            letters: _,
+            sends: _,
+            posts: _,
+        } = self;
+    }
 }
 
 impl Model for ListDgrams {

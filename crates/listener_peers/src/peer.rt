@@ -14,12 +14,22 @@ use std::marker::Model;
 const MOST_UNSENT: usize = 1_048_576;
 
 /// The stream of a peer.
-#[derive(Drop)]
 pub struct Peer<K: Socket + Drop> {
     socket: K,
     descriptor: i32,
     unsent: Unsent,
     is_broken: bool,
+}
+
+impl<K: Socket + Drop> Drop for Peer<K> {
+    fn drop(self) {
+        let Peer {
+            socket: _,
+            descriptor: _,
+            unsent: _,
+            is_broken: _,
+        } = self;
+    }
 }
 
 impl<K: Socket + Drop> Model for Peer<K> {

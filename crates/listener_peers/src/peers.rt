@@ -14,10 +14,18 @@ use std::collections::BTreeMap;
 use std::marker::Model;
 
 /// The peers whose streams are open. Each that is taken in has the next number, and no number comes twice.
-#[derive(Drop)]
 pub struct Peers<K: Socket + Drop> {
     next: u64,
     by_number: BTreeMap<u64, Peer<K>>,
+}
+
+impl<K: Socket + Drop> Drop for Peers<K> {
+    fn drop(self) {
+        let Peers {
+            next: _,
+            by_number: _,
+        } = self;
+    }
 }
 
 impl<K: Socket + Drop> Model for Peers<K> {

@@ -22,10 +22,18 @@ pub struct Sender {
 
 /// The senders of datagrams that have had no answer yet. Each datagram has a number of its own; the oldest sender is forgotten where
 /// there are more than can be kept.
-#[derive(Drop)]
 pub struct Senders {
     next: u64,
     by_number: BTreeMap<u64, Sender>,
+}
+
+impl Drop for Senders {
+    fn drop(self) {
+        let Senders {
+            next: _,
+            by_number: _,
+        } = self;
+    }
 }
 
 impl Model for Senders {

@@ -26,13 +26,23 @@ pub enum Told {
 /// The places of a client, and the listeners and peers of a server.
 ///
 /// After want of memory what was done last may be lost: the books are not to be used again.
-#[derive(Drop)]
 pub struct ServerBooks<N: Network + Drop, D: DgramListener + Drop, L: Listener + Drop> {
     places: Books<N>,
     peers: PeerBooks<D, L>,
     /// What the last wait looked for beside the places, and where, kept for their memory.
     asked: Vec<Asked>,
     spots: Vec<Spot>,
+}
+
+impl<N: Network + Drop, D: DgramListener + Drop, L: Listener + Drop> Drop for ServerBooks<N, D, L> {
+    fn drop(self) {
+        let ServerBooks {
+            places: _,
+            peers: _,
+            asked: _,
+            spots: _,
+        } = self;
+    }
 }
 
 impl<N: Network + Drop, D: DgramListener + Drop, L: Listener + Drop> Model

@@ -22,7 +22,6 @@ const SIZE: usize = 65535;
 ///
 /// Nobody is told of a place that is closed. A server that was not learned can't be opened, with the fault `Other`. After want of
 /// memory what was done last may be lost: the books are not to be used again.
-#[derive(Drop)]
 pub struct Books<N: Network + Drop> {
     alloc: Global,
     network: N,
@@ -34,6 +33,21 @@ pub struct Books<N: Network + Drop> {
     asked: Vec<Asked>,
     /// Where sockets put what they give.
     buf: Vec<u8>,
+}
+
+impl<N: Network + Drop> Drop for Books<N> {
+    fn drop(self) {
+        let Books {
+            alloc: _,
+            network: _,
+            servers: _,
+            places: _,
+            happened: _,
+            found: _,
+            asked: _,
+            buf: _,
+        } = self;
+    }
 }
 
 impl<N: Network + Drop> Model for Books<N> {

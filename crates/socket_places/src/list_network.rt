@@ -15,7 +15,6 @@ use std::marker::Model;
 /// what was asked of it.
 ///
 /// Past their ends it opens nothing, with the fault `Other`, and finds nothing. It doesn't wait.
-#[derive(Drop)]
 pub struct ListNetwork {
     alloc: Global,
     sockets: VecDeque<Result<ListSocket, Fault>>,
@@ -23,6 +22,19 @@ pub struct ListNetwork {
     openings: Seq<Opening>,
     asks: Seq<Seq<Asked>>,
     found: Seq<bool>,
+}
+
+impl Drop for ListNetwork {
+    fn drop(self) {
+        let ListNetwork {
+            alloc: _,
+            sockets: _,
+            rounds: _,
+            openings: _,
+            asks: _,
+            found: _,
+        } = self;
+    }
 }
 
 impl Model for ListNetwork {

@@ -15,13 +15,23 @@ use std::collections::VecDeque;
 use std::marker::Model;
 
 /// A socket at a place.
-#[derive(Drop)]
 pub struct Place<K: Socket + Drop> {
     socket: K,
     descriptor: i32,
     stage: Stage,
     /// What the socket did not take, in order.
     waiting: VecDeque<Octets>,
+}
+
+impl<K: Socket + Drop> Drop for Place<K> {
+    fn drop(self) {
+        let Place {
+            socket: _,
+            descriptor: _,
+            stage: _,
+            waiting: _,
+        } = self;
+    }
 }
 
 impl<K: Socket + Drop> Model for Place<K> {

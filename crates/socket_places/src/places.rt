@@ -13,9 +13,14 @@ use std::collections::{BTreeMap, VecDeque};
 use std::marker::Model;
 
 /// The places that are open, in rising order of their numbers.
-#[derive(Drop)]
 pub struct Places<K: Socket + Drop> {
     by_number: BTreeMap<u64, Place<K>>,
+}
+
+impl<K: Socket + Drop> Drop for Places<K> {
+    fn drop(self) {
+        let Places { by_number: _ } = self;
+    }
 }
 
 impl<K: Socket + Drop> Model for Places<K> {
