@@ -1,9 +1,9 @@
 //! What a server's peers get and tell.
 
-use crate::scenes::{ListServer, answers, dgrams, polled, server, streams};
+use crate::scenes::{ListServer, Tells, answers, dgrams, server, streams, told_by};
 use client_request::Fault;
 use dns_values::NoMemory;
-use listener_peers::{FIRST_STREAM, Heard, Told};
+use listener_peers::FIRST_STREAM;
 use socket_places::Answer;
 use std::alloc::Global;
 
@@ -14,22 +14,13 @@ const LISTENER: &[bool] = &[false, true];
 
 const STREAM: &[bool] = &[false, false, true];
 
-fn is_datagram(told: &Option<Told>, wanted: u64) -> bool {
-    matches!(told, Some(Told::Peer { heard: Heard::Datagram { peer, octets } })
-        if *peer == wanted && octets.as_slice() == [7u8, 8].as_slice())
+/// Whether nothing is told.
+fn is_silent(server: &mut ListServer) -> bool {
+    matches!(told_by(server), Tells::Nothing)
 }
 
-fn is_accepted(told: &Option<Told>) -> bool {
-    matches!(told, Some(Told::Peer { heard: Heard::Accepted { peer } }) if *peer == FIRST_STREAM)
-}
-
-fn are_bytes(told: &Option<Told>) -> bool {
-    matches!(told, Some(Told::Peer { heard: Heard::Bytes { peer, octets } })
-        if *peer == FIRST_STREAM && octets.as_slice() == [7u8, 8].as_slice())
-}
-
-fn is_gone(told: &Option<Told>) -> bool {
-    matches!(told, Some(Told::Peer { heard: Heard::Gone { peer } }) if *peer == FIRST_STREAM)
+fn is_accepted(server: &mut ListServer) -> bool {
+    matches!(told_by(server), Tells::Accepted(FIRST_STREAM))
 }
 
 /// A server to which a datagram comes, and a stream that answers so to what it is handed.
@@ -52,31 +43,31 @@ fn scene(
 
 /// Whether a datagram comes and is answered, and the answer to another is not one.
 fn answers_a_datagram(alloc: Global, server: &mut ListServer) -> bool {
-    is_datagram(&polled(server), 0)
+    matches!(told_by(server), Tells::Datagram(0))
         && answers(alloc, server, 0)
         && answers(alloc, server, 1)
-        && polled(server).is_none()
+        && is_silent(server)
 }
 
 /// Whether a stream comes, gives octets and is answered, and nothing is told of it once it is closed.
 fn answers_a_stream(alloc: Global, server: &mut ListServer) -> bool {
-    if !is_accepted(&polled(server)) || polled(server).is_some() {
-        return false;
-    }
-    let came = are_bytes(&polled(server)) && answers(alloc, server, FIRST_STREAM);
+    let came = is_accepted(server)
+        && is_silent(server)
+        && matches!(told_by(server), Tells::Bytes(FIRST_STREAM))
+        && answers(alloc, server, FIRST_STREAM);
     server.close(FIRST_STREAM);
-    came && polled(server).is_none()
+    came && is_silent(server)
 }
 
 /// Whether a stream that takes one octet takes the others later, and one that fails is told to be gone once.
 fn fails_later(alloc: Global, server: &mut ListServer) -> bool {
-    is_accepted(&polled(server))
-        && polled(server).is_none()
+    is_accepted(server)
+        && is_silent(server)
         && answers(alloc, server, FIRST_STREAM)
         && server.wait(1).is_ok()
-        && polled(server).is_none()
-        && is_gone(&polled(server))
-        && polled(server).is_none()
+        && is_silent(server)
+        && matches!(told_by(server), Tells::Gone(FIRST_STREAM))
+        && is_silent(server)
 }
 
 #[test]

@@ -2,7 +2,7 @@
 
 use dns_values::{IpAddr, NoMemory, Octets, Seq, SocketAddr};
 use listener_peers::{
-    DgramDoor, Letter, ListDgrams, ListListener, PeerBooks, ServerBooks, StreamDoor, Told,
+    DgramDoor, Heard, Letter, ListDgrams, ListListener, PeerBooks, ServerBooks, StreamDoor, Told,
 };
 use socket_places::{Answer, Books, ListNetwork, ListSocket};
 use std::alloc::Global;
@@ -57,11 +57,35 @@ pub fn server(
     Ok(ServerBooks::new(alloc, Books::new(alloc, network), peers))
 }
 
-/// What the books tell, or nothing where they find no memory.
-pub fn polled(server: &mut ListServer) -> Option<Told> {
+/// What the books tell of a peer, by its number; octets are 7 and 8.
+#[derive(Clone, Copy)]
+pub enum Tells {
+    Datagram(u64),
+    Accepted(u64),
+    Bytes(u64),
+    Gone(u64),
+    Nothing,
+    Other,
+}
+
+fn heard(heard: &Heard) -> Tells {
+    match heard {
+        Heard::Datagram { peer, octets } if octets.as_slice() == [7u8, 8].as_slice() =>
+            Tells::Datagram(*peer),
+        Heard::Bytes { peer, octets } if octets.as_slice() == [7u8, 8].as_slice() => Tells::Bytes(
+            *peer,
+        ),
+        Heard::Accepted { peer } => Tells::Accepted(*peer),
+        Heard::Gone { peer } => Tells::Gone(*peer),
+        _ => Tells::Other,
+    }
+}
+
+pub fn told_by(server: &mut ListServer) -> Tells {
     match server.poll() {
-        Ok(told) => told,
-        Err(NoMemory) => None,
+        Ok(None) => Tells::Nothing,
+        Ok(Some(Told::Peer { heard: it })) => heard(&it),
+        _ => Tells::Other,
     }
 }
 

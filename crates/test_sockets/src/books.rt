@@ -1,23 +1,15 @@
 //! What books over a network in memory do and tell.
 
-use crate::scenes::{ListBooks, books, giving, opens, opens_stream, polled, puts, slow};
-use client_request::{Fault, Out, What};
+use crate::scenes::{ListBooks, Tells, books, giving, opens, opens_stream, puts, slow, told_by};
+use client_request::Out;
 use std::alloc::Global;
-
-fn is_opened(what: &Option<What>) -> bool {
-    matches!(what, Some(What::Opened { place: 0 }))
-}
-
-fn is_datagram(what: &Option<What>, wanted: &[u8]) -> bool {
-    matches!(what, Some(What::Datagram { place: 0, octets }) if octets.as_slice() == wanted)
-}
 
 /// Whether a datagram goes out, and another comes.
 fn there_and_back(alloc: Global, books: &mut ListBooks) -> bool {
     opens(books, 1)
-        && is_opened(&polled(books))
+        && matches!(told_by(books), Tells::Opened)
         && puts(books, alloc)
-        && is_datagram(&polled(books), &[4, 5])
+        && matches!(told_by(books), Tells::Datagram)
 }
 
 #[test]
@@ -29,10 +21,10 @@ fn a_datagram_goes_there_and_back(rt: HostRuntime) {
 /// Whether a stream takes what it did not take at once.
 fn takes_later(alloc: Global, books: &mut ListBooks) -> bool {
     opens_stream(books, 0)
-        && is_opened(&polled(books))
+        && matches!(told_by(books), Tells::Opened)
         && puts(books, alloc)
         && books.wait(1).is_ok()
-        && matches!(polled(books), Some(What::Wrote { place: 0, count: 2 }))
+        && matches!(told_by(books), Tells::Wrote(2))
 }
 
 #[test]
@@ -45,15 +37,9 @@ fn a_stream_takes_octets_later(rt: HostRuntime) {
 fn tells_no_more(books: &mut ListBooks) -> bool {
     opens(books, 1)
         && books.act(&Out::Close { place: 0 }).is_ok()
-        && polled(books).is_none()
+        && matches!(told_by(books), Tells::Nothing)
         && opens(books, 2)
-        && matches!(
-            polled(books),
-            Some(What::OpenFailed {
-                place: 0,
-                fault: Fault::Other
-            })
-        )
+        && matches!(told_by(books), Tells::OpenFailed)
 }
 
 #[test]

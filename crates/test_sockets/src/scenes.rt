@@ -1,6 +1,6 @@
 //! Books over a network in memory, and sockets for it.
 
-use client_request::{Out, What};
+use client_request::{Fault, Out, What};
 use dns_values::{IpAddr, NoMemory, Octets, Seq, SocketAddr};
 use socket_places::{Answer, Books, ListNetwork, ListSocket};
 use std::alloc::Global;
@@ -80,10 +80,35 @@ pub fn puts(books: &mut ListBooks, alloc: Global) -> bool {
     }
 }
 
-/// What the books tell, or nothing where they find no memory.
-pub fn polled(books: &mut ListBooks) -> Option<What> {
+/// What the books tell of place 0; a datagram's octets are 4 and 5.
+#[derive(Clone, Copy)]
+pub enum Tells {
+    Opened,
+    Datagram,
+    Wrote(u64),
+    OpenFailed,
+    Nothing,
+    Other,
+}
+
+fn told(what: &What) -> Tells {
+    match what {
+        What::Opened { place: 0 } => Tells::Opened,
+        What::Datagram { place: 0, octets } if octets.as_slice() == [4u8, 5].as_slice() =>
+            Tells::Datagram,
+        What::Wrote { place: 0, count } => Tells::Wrote(*count),
+        What::OpenFailed {
+            place: 0,
+            fault: Fault::Other,
+        } => Tells::OpenFailed,
+        _ => Tells::Other,
+    }
+}
+
+pub fn told_by(books: &mut ListBooks) -> Tells {
     match books.poll() {
-        Ok(what) => what,
-        Err(NoMemory) => None,
+        Ok(None) => Tells::Nothing,
+        Ok(Some(what)) => told(&what),
+        Err(NoMemory) => Tells::Other,
     }
 }
