@@ -7,6 +7,7 @@
 mod connection;
 mod entry;
 mod finding;
+mod form;
 mod keeping;
 mod settling;
 mod steps;
