@@ -1,19 +1,22 @@
 -- Which entry a request finds first, and what using it leaves.
-use Rattle.std.proofs.Common.{◌≡◌, ℕ, Bool, true, false, cond, ◌&&◌, not, List, [], ◌∷◌, Option, Some, None, IsSome, refl, sym, ap, subst, ◌∙◌, arith}
+use Rattle.std.proofs.Common.{◌≡◌, ℕ, Bool, true, false, cond, ◌&&◌, not, List, ◌∷◌, Option, Some, None, IsSome, IsOk, IfOk, Ok, Err, refl, sym, ap, ◌∙◌}
 use Rattle.std.specs.Prelude.{is_some, option_map, if◌then◌else◌}
 use Rattle.std.specs.Option.{option_map_or}
 use Rattle.std.specs.Map.{lookup, lookup_entry, remove_entry, set_value}
 use Rattle.lru.specs.LruCache.{lru_cache, promoted}
 use Rattle.lru.proofs.CallerLemmas.{Contains-lookup_entry}
 use Rattle.lru.proofs.Pairs.{lookup-lookup_entry}
+use Rattle.dns_names.specs.Name.{Labels}
+use Rattle.dns_base.specs.Message.{sole_question}
 use Rattle.client_settings.specs.Settings.{CacheSettings}
-use Rattle.right_trace.specs.Keys.{FlagClass, Do, Ad, Plain, Key}
+use Rattle.right_trace.specs.Keys.{FlagClass, Do, Ad, Plain, Key, question_or}
 use Rattle.cache_rules.specs.declared.key.AdDo.{AdDo}
 use Rattle.cache_rules.specs.declared.key.AdDo.TheVariants as classes
-use Rattle.cache_rules.specs.Key.{flag_class, same_key}
+use Rattle.cache_rules.specs.Key.{flag_class, key_in, same_key}
 use Rattle.client_cache.specs.declared.table.Flags.{Flags}
-use Rattle.client_cache.specs.Keeping.{Outcome, Entry, Table, Asked, Found, entry_under, uses, with_flags, if_kept, or_else, flags, first_above_ad, first_from_ad, first_of_class, first_class, first_kept, same_class, is_own, serves, gives_own, takes_own, takes_other, takes, found}
+use Rattle.client_cache.specs.Keeping.{Outcome, Entry, Table, Asked, asked_in, entry_under, uses, with_flags, if_kept, or_else, flags, first_above_ad, first_from_ad, first_of_class, first_class, first_kept, same_class, is_own, serves, gives_own, takes_own, takes_other, takes, found}
 use Rattle.client_cache.specs.Plain.{way_asked, way_looked, way_found, found_way}
+use Rattle.client_cache.specs.Serving.{is_given, is_served}
 
 -- an entry that is used and stays as it was
 module _ {K V : Type 0} (test : K → Bool) (es : List (K × V)) where
@@ -116,3 +119,22 @@ above_ad t k none own = ap (first_of_class t k k.rd) (sym own) ∙ ap (λ o. or_
 
 pub above_plain : (t : Table) (k : Key) → entry_under k t ≡ None → Plain ≡ k.flags → first_class t k k.rd ≡ first_from_ad t k k.rd
 above_plain t k none own = ap (first_of_class t k k.rd) (sym own) ∙ ap (λ o. or_else o (first_from_ad t k k.rd)) (none_own t k classes.None none own)
+
+-- what is given of another entry is what its request has at once
+given_is : (s : CacheSettings) (a : Asked) (t : Table) (answer : Option Outcome) → is_given (way_found s a t answer) ≡ is_some answer
+given_is s a t None = refl
+given_is s a t (Some outcome) = refl
+
+pub other_served : (s : CacheSettings) (header : List ℕ) (dnssec_ok : Bool) (now : ℕ) (t : Table) (composed : Outcome) (k : Key) (name : Labels) (f : Flags) → IsOk composed
+    → IfOk composed (λ message. Some k ≡ key_in header dnssec_ok message) → IfOk composed (λ message. name ≡ (question_or (sole_question message)).name) → first_kept t k ≡ Some f
+    → is_some (takes s (record { key = k; name = name }) now t (Some f)).answer ≡ is_served s header dnssec_ok now t composed
+other_served s header dnssec_ok now t (Err e) k name f made key spelled first = absurd cc
+other_served s header dnssec_ok now t (Ok message) k name f made key spelled first =
+    let a : Asked = record { key = k; name = name } in
+    let named : ℕ → Asked = λ _. record { key = k; name = (question_or (sole_question message)).name } in
+    let same : named 0 ≡ a = ap (λ (n : Labels). let x : Asked = record { key = k; name = n } in x) (sym spelled) in
+    let asked : asked_in header dnssec_ok message ≡ Some a =
+    ap (λ (o : Option Key). option_map (λ (j : Key). let x : Asked = record { key = j; name = (question_or (sole_question message)).name } in x) o) (sym key) ∙ ap (λ (x : Asked). Some x) same in
+    sym (given_is s a (takes s a now t (Some f)).table (takes s a now t (Some f)).answer)
+    ∙ sym (ap (λ (o : Option Flags). is_given (way_looked s a now t o).0) first)
+    ∙ sym (ap (λ (o : Option Asked). is_given (way_asked s now t o).0) asked)

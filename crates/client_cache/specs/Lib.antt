@@ -1,3 +1,4 @@
 pub mod Keeping
 pub mod Plain
 pub mod Forms
+pub mod Serving

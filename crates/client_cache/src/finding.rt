@@ -112,6 +112,27 @@ fn derive_from(
     }
 }
 
+/// The same, and it is not used.
+pub(crate) fn derive_unused(
+    table: &Table,
+    alloc: Global,
+    config: &Config,
+    asked: &Asked,
+    flags: Flags,
+) -> Result<Option<Result<Entry, Error>>, NoMemory>
+    ensures { IfOk result (λ e. e ≡ option_map (plain.derived config.now (flag_class flags.class) asked.now) (plain.entry_under (plain.with_flags flags asked.now.key) table.now)) }
+{
+    let mut key = asked.key.try_clone(alloc)?;
+    set_flags(&mut key, flags);
+    match table.peek(&key) {
+        None => Ok(None),
+        Some(entry) => {
+            let derived = entry.derive(alloc, config, flags.class, asked)?;
+            Ok(Some(derived))
+        }
+    }
+}
+
 /// Stores an entry under the request's own key, and says what it gives.
 fn store_and_serve(
     table: &mut Table,
@@ -185,7 +206,7 @@ fn answer_from_other(
 }
 
 /// Whether these are the flags of a key itself.
-fn is_own(flags: Flags, key: &Key) -> bool
+pub(crate) fn is_own(flags: Flags, key: &Key) -> bool
     ensures { result ≡ plain.is_own flags key.now }
 {
     let clears_rd = flags.rd && !key.rd();

@@ -9,6 +9,7 @@ mod entry;
 mod finding;
 mod form;
 mod keeping;
+mod serving;
 mod settling;
 mod steps;
 mod table;

@@ -34,7 +34,10 @@ pub enum Way {
 }
 
 /// The key of a request, unless its results are not kept.
-fn key_of<CR: ComposeRequest>(alloc: Global, request: &CR) -> Result<Option<Key>, NoMemory>
+pub(crate) fn key_of<CR: ComposeRequest>(
+    alloc: Global,
+    request: &CR,
+) -> Result<Option<Key>, NoMemory>
     ensures { IfOk result (λ key. IfOk (CR.requests.composed request.now) (λ message. key ≡ key_in (CR.header_of request.now) (CR.is_dnssec_ok request.now) message)) }
 {
     let question = request.sole_question();
@@ -89,7 +92,10 @@ fn way_found(
 }
 
 /// The name of a request's only question, as its message spells it.
-fn spelled_name<CR: ComposeRequest>(alloc: Global, request: &CR) -> Result<Name, NoMemory>
+pub(crate) fn spelled_name<CR: ComposeRequest>(
+    alloc: Global,
+    request: &CR,
+) -> Result<Name, NoMemory>
     requires { IsOk (CR.requests.composed request.now) }
     ensures { IfOk result (λ name. IfOk (CR.requests.composed request.now) (λ message. name ≡ (question_or (sole_question message)).name)) }
 {

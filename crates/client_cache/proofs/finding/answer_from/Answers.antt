@@ -1,4 +1,4 @@
-use Rattle.std.proofs.Common.{◌≡◌, ◌∙◌, sym, ap}
+use Rattle.std.proofs.Common.{◌∙◌, sym, ap}
 use Rattle.client_cache.specs.Keeping.{Asked, is_own}
 use Rattle.client_cache.proofs.LookUps.{none_taken}
 use Rattle.client_cache.proofs.finding.answer_from.Goals as goal

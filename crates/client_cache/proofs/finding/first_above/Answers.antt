@@ -1,4 +1,4 @@
-use Rattle.std.proofs.Common.{◌≡◌, ◌∙◌, sym, ap, Bool}
+use Rattle.std.proofs.Common.{◌∙◌, sym, ap}
 use Rattle.cache_rules.specs.Key.{flag_class}
 use Rattle.client_cache.specs.Keeping.{first_above_ad, first_from_ad}
 use Rattle.client_cache.proofs.LookUps.{above_ad, above_plain}
