@@ -6,3 +6,4 @@ pub mod Carrying
 pub mod Saying
 pub mod ViewLaws
 pub mod EmptySections
+pub mod LowerNames

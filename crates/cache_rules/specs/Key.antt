@@ -4,11 +4,10 @@ use Rattle.std.specs.Bool.{beq}
 use Rattle.std.specs.Cmp.{IsEquivalence, IsPartialEquivalence, both_ways}
 use Rattle.std.specs.Cmp.Lexicographic.{pointwise}
 use Rattle.std.specs.Ordering.{on, eq_of_both}
-use Rattle.std.specs.Hash as fed
+use Rattle.std.specs.Int.{w16, to_be_bytes}
 use Rattle.std.proofs.Common.{refl, ap, subst, ◌∙◌, eq-eqb}
 use Rattle.std.proofs.lemmas.Bool.{eqb-true}
-use Rattle.dns_names.specs.Name.{Labels, lowered}
-use Rattle.dns_names.specs.NameHash.{labels_hash}
+use Rattle.dns_names.specs.Name.{Labels, lowered, spelling}
 use Rattle.dns_base.specs.Header.{ad_of, cd_of, rd_of, opcode_of}
 use Rattle.dns_base.specs.Message.{Asked, sole_question}
 use Rattle.right_trace.specs.Keys.{FlagClass, Do, Ad, Plain, Key}
@@ -59,9 +58,16 @@ same_key =
     (eq_of_both (on (λ k. class_number k.flags) nat_eq)
     (eq_of_both (on (λ k. k.cd) beq) (on (λ k. k.rd) beq)))))
 
--- what is hashed of a key
+abbrev pub bit : Bool → ℕ
+bit b = if b then 1 else 0
+
+-- a key without its name in eight octets
+abbrev pub key_octets : Key → List ℕ
+key_octets k = to_be_bytes w16 k.rtype ++ (to_be_bytes w16 k.class ++ (class_number k.flags ∷ bit k.cd ∷ bit k.rd ∷ 0 ∷ []))
+
+-- what is hashed of a key: these, and its name in lower case as it is spelled in a message
 abbrev pub key_hash : Key → List (List ℕ)
-key_hash k = labels_hash k.name ++ (fed.u16 k.rtype ++ (fed.u16 k.class ++ (fed.u8 (class_number k.flags) ++ (fed.bool k.cd ++ fed.bool k.rd))))
+key_hash k = key_octets k ∷ spelling k.name ∷ []
 
 both : (a b : Bool) → (a && b) ≡ true → (a ≡ true) × (b ≡ true)
 both true true e = (refl, refl)

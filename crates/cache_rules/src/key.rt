@@ -1,9 +1,10 @@
 //! What two requests share where one result may serve both.
 
-ghost use Rattle.std.specs.Prelude.{◌≡◌, IfOk};
-ghost use Rattle.dns_names.specs.Name.{lowered};
+ghost use Rattle.std.specs.Prelude.{◌≡◌, ◌≤◌, length, map, IfOk};
+ghost use Rattle.std.specs.Char.{to_ascii_lowercase};
+ghost use Rattle.dns_names.specs.Name.{lowered, spelling};
 ghost use Rattle.right_trace.specs.Keys as keys;
-ghost use Rattle.cache_rules.specs.Key.{flag_class, class_in, class_number, key_asking, key_in, same_key, same_key_laws, same_key_partly, key_hash, same_key_hash};
+ghost use Rattle.cache_rules.specs.Key.{flag_class, class_in, class_number, key_asking, key_in, same_key, same_key_laws, same_key_partly, key_octets, key_hash, same_key_hash};
 
 use dns_base::{Class, Header, Message, Name, NoMemory, Opcode, Question, Rtype, ToName};
 use std::alloc::Global;
@@ -178,6 +179,24 @@ impl Key {
         self.rd = rd;
     }
 
+    /// All of it but its name.
+    fn to_octets(&self) -> [u8; 8]
+        ensures { result ≡ key_octets self.now }
+    {
+        let [t1, t0] = self.qtype.0.to_be_bytes();
+        let [c1, c0] = self.qclass.0.to_be_bytes();
+        [
+            t1,
+            t0,
+            c1,
+            c0,
+            self.addo.number(),
+            u8::from(self.cd),
+            u8::from(self.rd),
+            0,
+        ]
+    }
+
     /// The same key.
     pub fn try_clone(&self, alloc: Global) -> Result<Key, NoMemory>
         ensures { IfOk result (λ k. k ≡ self.now) }
@@ -185,6 +204,26 @@ impl Key {
         let qname = self.qname.try_clone(alloc)?;
         Ok(Key { qname, ..*self })
     }
+}
+
+/// Hashes octets in lower case.
+fn hash_lower<H: Hasher>(octets: &[u8], state: &mut H)
+    requires { length octets.now ≤ 255 }
+    ensures { state.new ≡ H.write state.old (map to_ascii_lowercase octets.now) }
+{
+    let mut room = [0; 255];
+    let lower = &mut room[..octets.len()];
+    lower.copy_from_slice(octets);
+    lower.make_ascii_lowercase();
+    state.write(lower);
+}
+
+/// Hashes a name in lower case, as it is spelled in a message.
+#[tactic(auto, using(crate::proofs::LowerNames::spelled_in_lower_case, crate::proofs::LowerNames::spelled_short))]
+fn hash_name<H: Hasher>(name: &Name, state: &mut H)
+    ensures { state.new ≡ H.write state.old (spelling (lowered name.now)) }
+{
+    hash_lower(name.as_octets(), state);
 }
 
 impl PartialEq for Key {
@@ -212,11 +251,7 @@ impl Hash for Key {
     ghost respects_eq = { same_key_hash };
 
     fn hash<H: Hasher>(&self, state: &mut H) {
-        self.qname.hash(state);
-        state.write_u16(self.qtype.0);
-        state.write_u16(self.qclass.0);
-        state.write_u8(self.addo.number());
-        self.cd.hash(state);
-        self.rd.hash(state);
+        state.write(&self.to_octets());
+        hash_name(&self.qname, state);
     }
 }

@@ -14,4 +14,4 @@ pub use copying::Ttls;
 pub use keeping::validity;
 pub use key::{AdDo, Key, is_signing};
 pub use laws::{keys_are_of_requests, keys_are_told_apart, view_laws};
-pub use viewing::{derived_header, stale_under, view, view_under};
+pub use viewing::{derived_header, is_viewable, stale_under, view, view_under};

@@ -62,7 +62,7 @@ fn are_octets(octets: &[u8])
 }
 
 /// The parts of a view have the ranges of what they are made of.
-fn is_viewable(header: Header, msg: &Message, question: &Name)
+pub fn is_viewable(header: Header, msg: &Message, question: &Name)
     ensures { IsViewable header question.now msg.now }
 {
     are_octets(msg.as_slice());

@@ -1,2 +1,4 @@
 pub mod Keeping
 pub mod Plain
+pub mod Forms
+pub mod Serving

@@ -14,11 +14,13 @@ ghost use Rattle.client_request.specs.declared.error.Error.TheVariants as errors
 ghost use Rattle.std.specs.Borrow.{Lends, sem};
 ghost use Rattle.client_settings.specs.Settings.{default_cache};
 ghost use Rattle.client_cache.specs.Plain as plain;
+ghost use Rattle.client_cache.specs.Serving.{would_serve};
 
+use crate::serving::would_serve;
 use crate::settling::Kept;
 use crate::steps::{give_up, hear, stale_for, take_on};
 use client_request::{
-    Board, ComposeRequest, Cx, Error, GetResponse, Latch, Poll, SendRequest, Signal, Words,
+    Board, ComposeRequest, Cx, Error, GetResponse, Latch, Moment, Poll, SendRequest, Signal, Words,
     take_response,
 };
 use client_settings::cache::Config;
@@ -117,6 +119,14 @@ impl<CR, U: SendRequest<CR>> Connection<CR, U> {
 }
 
 impl<CR: ComposeRequest, U: SendRequest<CR>> Connection<CR, U> {
+    /// Whether a request that is asked at a moment has its result at once, so that nothing is started for it: what is kept
+    /// serves it, or no message can be composed of it. No entry is used by that.
+    pub fn would_serve(&self, now: Moment, request: &CR) -> Result<bool, NoMemory>
+        ensures { IfOk result (λ served. served ≡ would_serve (plain.read CR.requests CR.header_of CR.is_dnssec_ok) request.now now.0 self.now.kept) }
+    {
+        would_serve(&self.kept, now.0, request)
+    }
+
     /// What stands in now for the result of a request that waits: the message that had expired when it was asked, with
     /// TTLs of 30 seconds, while it may serve (RFC 8767). None where there is no such message, or the result was given.
     ///

@@ -1,13 +1,15 @@
 //! What is kept of a result, and what a request is given of it.
 
-ghost use Rattle.std.specs.Prelude.{◌≡◌, IfOk, Ok};
+ghost use Rattle.std.specs.Prelude.{◌≡◌, ◌-◌, false, nat_le, IfOk, IfSome, Ok};
 ghost use Rattle.dns_base.specs.OptRecord.{opt_rcode};
 ghost use Rattle.right_trace.specs.Keys as keys;
 ghost use Rattle.right_trace.specs.Views.{tells_of_name};
 ghost use Rattle.cache_rules.specs.Key.{flag_class};
+ghost use Rattle.cache_rules.specs.Viewing.{view_octets};
 ghost use Rattle.client_cache.specs.Keeping as plain;
 
-use cache_rules::{AdDo, Key, derived_header, stale_under, validity, view_under};
+use crate::form::{Form, form_of};
+use cache_rules::{AdDo, Key, Ttls, derived_header, stale_under, validity, view_under};
 use client_request::Error;
 use client_settings::cache::Config;
 use dns_base::{Duration, Header, Message, Name, NoMemory, OptRcode};
@@ -41,14 +43,20 @@ impl Model for Asked {
 pub struct Stored {
     header: Header,
     message: Message,
+    /// How it is given to requests with the flags of its key. It takes at most twice the octets that came and 512, and
+    /// four for each record of these.
+    form: Form,
 }
 
 impl Model for Stored {
     ghost use Rattle.client_cache.specs.Keeping.{Stored};
+    ghost use Rattle.client_cache.specs.Forms.{IsFormOf};
 
     ghost Value = { Stored };
 
     ghost view = { λ s. record { header = s.header; message = s.message } };
+
+    ghost invariant = { λ s. IsFormOf s.message s.form };
 }
 
 /// What is kept of a result.
@@ -70,15 +78,23 @@ impl Model for Entry {
 }
 
 impl Stored {
+    /// A message that was not given yet, under a header.
+    fn new(header: Header, message: Message) -> Stored
+        ensures { result ≡ record { header = header; message = message } }
+    {
+        Stored {
+            header,
+            message,
+            form: Form::Untried,
+        }
+    }
+
     /// The same message.
     fn copy(&self) -> Result<Stored, NoMemory>
         ensures { IfOk result (λ s. s ≡ self.now) }
     {
         let message = self.message.try_clone()?;
-        Ok(Stored {
-            header: self.header,
-            message,
-        })
+        Ok(Stored::new(self.header, message))
     }
 
     /// The same message under the header that it has for a request of the second class, where it was asked for with the
@@ -87,10 +103,47 @@ impl Stored {
         ensures { IfOk result (λ s. s ≡ plain.reflagged (flag_class from) (flag_class to) clear_rd self.now) }
     {
         let message = self.message.try_clone()?;
-        Ok(Stored {
-            header: derived_header(self.header, from, to, clear_rd),
-            message,
-        })
+        let header = derived_header(self.header, from, to, clear_rd);
+        Ok(Stored::new(header, message))
+    }
+
+    /// Composed once, so that it may be patched from then on.
+    fn compose_once(&mut self, alloc: Global, class: AdDo, name: &Name)
+        ensures { self.new ≡ self.old }
+    {
+        if matches!(self.form, Form::Untried) {
+            self.form = form_of(alloc, self.header, &self.message, class, name);
+        }
+    }
+
+    /// What a request with the flags of its key is given of it so many seconds later, if it is patched.
+    fn patch(&self, alloc: Global, name: &Name, seconds: u32) -> Result<Option<Message>, NoMemory>
+        ensures { IfOk result (λ given. IfSome given (λ m. view_octets self.now.header name.now false seconds self.now.message ≡ Ok m)) }
+    {
+        match &self.form {
+            Form::Patched(template) => {
+                template.patch(alloc, self.header, name, Ttls::Lessened(seconds))
+            }
+            Form::Untried | Form::Composed => Ok(None),
+        }
+    }
+
+    /// The same, which is composed where it is not patched. What is composed for the first time is patched later.
+    fn give(
+        &mut self,
+        alloc: Global,
+        class: AdDo,
+        name: &Name,
+        seconds: u32,
+    ) -> Result<Result<Message, Error>, NoMemory>
+        ensures given { IfOk result (λ m. m ≡ plain.viewed (flag_class class) (flag_class class) name.now seconds self.old) }
+        ensures same { self.new ≡ self.old }
+    {
+        self.compose_once(alloc, class, name);
+        match self.patch(alloc, name, seconds)? {
+            Some(message) => Ok(Ok(message)),
+            None => self.view(alloc, class, class, name, seconds),
+        }
     }
 
     /// What a request of the second class is given of it so many seconds later, where it was asked for with the first.
@@ -150,7 +203,7 @@ fn under(header: Header, outcome: Result<Message, Error>) -> Result<Stored, Erro
     ensures { result ≡ plain.under header outcome }
 {
     match outcome {
-        Ok(message) => Ok(Stored { header, message }),
+        Ok(message) => Ok(Stored::new(header, message)),
         Err(error) => Err(error),
     }
 }
@@ -165,7 +218,7 @@ pub(crate) fn kept_of(outcome: &Result<Message, Error>) -> Result<Result<Stored,
             let mut header = message.header();
             header.set_aa(false);
             let message = message.try_clone()?;
-            Ok(Ok(Stored { header, message }))
+            Ok(Ok(Stored::new(header, message)))
         }
     }
 }
@@ -201,16 +254,17 @@ fn seconds_of(age: u64) -> u32
 /// What is kept, as it is at an age in microseconds.
 fn show(
     alloc: Global,
-    asked: &Asked,
+    key: &Key,
+    name: &Name,
     age: u64,
-    outcome: &Result<Stored, Error>,
+    outcome: &mut Result<Stored, Error>,
 ) -> Result<Result<Message, Error>, NoMemory>
-    ensures { IfOk result (λ shown. shown ≡ plain.shown asked.now age outcome.now) }
+    ensures shown { IfOk result (λ shown. shown ≡ plain.shown (record { key = key.now; name = name.now }) age outcome.old) }
+    ensures same { outcome.new ≡ outcome.old }
 {
-    let class = asked.key.addo();
     match outcome {
         Err(error) => Ok(Err(*error)),
-        Ok(stored) => stored.view(alloc, class, class, &asked.name, seconds_of(age)),
+        Ok(stored) => stored.give(alloc, key.addo(), name, seconds_of(age)),
     }
 }
 
@@ -233,17 +287,31 @@ pub(crate) fn is_same_class(first: AdDo, second: AdDo) -> bool
 }
 
 impl Entry {
-    /// What it gives at a moment, unless its validity has passed.
-    pub(crate) fn serve(&self, alloc: Global, asked: &Asked, now: u64) -> Result<Answer, NoMemory>
-        ensures { IfOk result (λ answer. answer ≡ plain.serves asked.now now self.now) }
+    /// Whether its validity has not passed at a moment.
+    pub(crate) fn is_valid(&self, now: u64) -> bool
+        ensures { result ≡ nat_le (now - self.now.moment) self.now.validity }
     {
         let age = now.saturating_sub(self.moment);
-        if u128::from(age) <= self.validity.as_micros() {
-            let shown = show(alloc, asked, age, &self.outcome)?;
-            Ok(Some(shown))
-        } else {
-            Ok(None)
+        u128::from(age) <= self.validity.as_micros()
+    }
+
+    /// What it gives at a moment, unless its validity has passed.
+    pub(crate) fn serve(
+        &mut self,
+        alloc: Global,
+        key: &Key,
+        name: &Name,
+        now: u64,
+    ) -> Result<Answer, NoMemory>
+        ensures given { IfOk result (λ answer. answer ≡ plain.serves (record { key = key.now; name = name.now }) now self.old) }
+        ensures same { self.new ≡ self.old }
+    {
+        if !self.is_valid(now) {
+            return Ok(None);
         }
+        let age = now.saturating_sub(self.moment);
+        let shown = show(alloc, key, name, age, &mut self.outcome)?;
+        Ok(Some(shown))
     }
 
     /// The same entry.

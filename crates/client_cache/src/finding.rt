@@ -1,6 +1,6 @@
 //! Which entry serves a request.
 
-ghost use Rattle.std.specs.Prelude.{◌≡◌, IfOk, OnOk, Ok, Some, option_map};
+ghost use Rattle.std.specs.Prelude.{◌≡◌, IfOk, OnOk, Ok, None, Some, option_map};
 ghost use Rattle.cache_rules.specs.Key.{flag_class};
 ghost use Rattle.client_cache.specs.Keeping as plain;
 
@@ -62,32 +62,31 @@ fn first_class(table: &Table, key: &mut Key, rd: bool) -> Option<Flags>
     }
 }
 
-/// The flags of the first entry that is there, of those that may serve a request with this key. The key is then as it
-/// was.
-pub(crate) fn first_kept(table: &Table, key: &mut Key) -> Option<Flags>
-    ensures kept { result ≡ plain.first_kept table.now key.old }
+/// The same without the key's own class, whose entry is not there.
+fn first_above(table: &Table, key: &mut Key) -> Option<Flags>
+    requires { plain.entry_under key.old table.now ≡ None }
+    ensures kept { result ≡ plain.first_class table.now key.old key.old.rd }
     ensures same { key.new ≡ key.old }
 {
     let rd = key.rd();
-    match first_class(table, key, rd) {
-        Some(flags) => Some(flags),
-        None if rd => None,
-        None => first_class(table, key, true),
+    match key.addo() {
+        AdDo::Do => None,
+        AdDo::Ad => first_above_ad(table, key, rd),
+        AdDo::None => first_from_ad(table, key, rd),
     }
 }
 
-/// The message or error that serves a request, from the entry under its own key, which is used.
-fn answer_from_own(
-    table: &mut Table,
-    alloc: Global,
-    asked: &Asked,
-    now: u64,
-) -> Result<Answer, NoMemory>
-    ensures { IfOk result (λ answer. plain.takes_own asked.now now table.old ≡ plain.found answer table.new) }
+/// The flags of the first entry that is there, of those that may serve a request with this key, where none is there
+/// under the key itself. The key is then as it was.
+pub(crate) fn first_other(table: &Table, key: &mut Key) -> Option<Flags>
+    requires { plain.entry_under key.old table.now ≡ None }
+    ensures kept { result ≡ plain.first_kept table.now key.old }
+    ensures same { key.new ≡ key.old }
 {
-    match table.get(&asked.key) {
-        None => Ok(None),
-        Some(entry) => entry.serve(alloc, asked, now),
+    match first_above(table, key) {
+        Some(flags) => Some(flags),
+        None if key.rd() => None,
+        None => first_class(table, key, true),
     }
 }
 
@@ -113,17 +112,38 @@ fn derive_from(
     }
 }
 
+/// The same, and it is not used.
+pub(crate) fn derive_unused(
+    table: &Table,
+    alloc: Global,
+    config: &Config,
+    asked: &Asked,
+    flags: Flags,
+) -> Result<Option<Result<Entry, Error>>, NoMemory>
+    ensures { IfOk result (λ e. e ≡ option_map (plain.derived config.now (flag_class flags.class) asked.now) (plain.entry_under (plain.with_flags flags asked.now.key) table.now)) }
+{
+    let mut key = asked.key.try_clone(alloc)?;
+    set_flags(&mut key, flags);
+    match table.peek(&key) {
+        None => Ok(None),
+        Some(entry) => {
+            let derived = entry.derive(alloc, config, flags.class, asked)?;
+            Ok(Some(derived))
+        }
+    }
+}
+
 /// Stores an entry under the request's own key, and says what it gives.
 fn store_and_serve(
     table: &mut Table,
     alloc: Global,
     asked: &Asked,
     now: u64,
-    entry: Entry,
+    mut entry: Entry,
 ) -> Result<Answer, NoMemory>
     ensures { IfOk result (λ answer. plain.stores_and_serves asked.now now entry table.old ≡ plain.found answer table.new) }
 {
-    let answer = entry.serve(alloc, asked, now)?;
+    let answer = entry.serve(alloc, &asked.key, &asked.name, now)?;
     let key = asked.key.try_clone(alloc)?;
     store(table, key, entry)?;
     Ok(answer)
@@ -185,7 +205,15 @@ fn answer_from_other(
     }
 }
 
-/// What a request is given from the entry with these flags.
+/// Whether these are the flags of a key itself.
+pub(crate) fn is_own(flags: Flags, key: &Key) -> bool
+    ensures { result ≡ plain.is_own flags key.now }
+{
+    let clears_rd = flags.rd && !key.rd();
+    is_same_class(flags.class, key.addo()) && !clears_rd
+}
+
+/// What a request is given from the entry with these flags, where none is there under its own key.
 pub(crate) fn answer_from(
     table: &mut Table,
     alloc: Global,
@@ -194,11 +222,11 @@ pub(crate) fn answer_from(
     flags: Flags,
     now: u64,
 ) -> Result<Answer, NoMemory>
+    requires { plain.entry_under asked.now.key table.old ≡ None }
     ensures { IfOk result (λ answer. plain.takes config.now asked.now now table.old (Some flags) ≡ plain.found answer table.new) }
 {
-    let clears_rd = flags.rd && !asked.key.rd();
-    if is_same_class(flags.class, asked.key.addo()) && !clears_rd {
-        answer_from_own(table, alloc, asked, now)
+    if is_own(flags, &asked.key) {
+        Ok(None)
     } else {
         answer_from_other(table, alloc, config, asked, flags, now)
     }

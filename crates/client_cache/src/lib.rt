@@ -7,7 +7,9 @@
 mod connection;
 mod entry;
 mod finding;
+mod form;
 mod keeping;
+mod serving;
 mod settling;
 mod steps;
 mod table;

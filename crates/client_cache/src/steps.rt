@@ -1,6 +1,6 @@
 //! What each call of a cache does.
 
-ghost use Rattle.std.specs.Prelude.{◌≡◌, OnOk, IfOk, [], Some, Ok, Err, option_map};
+ghost use Rattle.std.specs.Prelude.{◌≡◌, OnOk, IfOk, IfNone, IfSome, IsOk, IsSome, [], None, Some, Ok, Err, option_map};
 ghost use Rattle.client_request.specs.Calls.{Holds};
 ghost use Rattle.client_request.specs.Cx.{view_of, heard};
 ghost use Rattle.dns_base.specs.Message.{sole_question};
@@ -11,8 +11,8 @@ ghost use Rattle.client_cache.specs.Plain as plain;
 ghost use Rattle.client_cache.specs.Plain.{read};
 
 use crate::connection::Request;
-use crate::entry::{Asked, Spare};
-use crate::finding::{answer_from, first_kept};
+use crate::entry::{Answer, Asked, Spare};
+use crate::finding::{answer_from, first_other};
 use crate::settling::{Job, Kept, part_of, settle_all, stand_in};
 use crate::table::{Flags, Table};
 use cache_rules::Key;
@@ -34,7 +34,10 @@ pub enum Way {
 }
 
 /// The key of a request, unless its results are not kept.
-fn key_of<CR: ComposeRequest>(alloc: Global, request: &CR) -> Result<Option<Key>, NoMemory>
+pub(crate) fn key_of<CR: ComposeRequest>(
+    alloc: Global,
+    request: &CR,
+) -> Result<Option<Key>, NoMemory>
     ensures { IfOk result (λ key. IfOk (CR.requests.composed request.now) (λ message. key ≡ key_in (CR.header_of request.now) (CR.is_dnssec_ok request.now) message)) }
 {
     let question = request.sole_question();
@@ -69,30 +72,70 @@ fn spare_in(
     }
 }
 
-/// How a request goes on for which an entry with these flags is there.
-fn way_taken(
-    table: &mut Table,
+/// How a request goes on that an entry served or did not serve any more.
+fn way_found(
+    table: &Table,
     alloc: Global,
     config: &Config,
-    now: u64,
     asked: Asked,
-    flags: Flags,
+    answer: Answer,
 ) -> Result<Way, NoMemory>
-    requires { keeping.first_kept table.old asked.key ≡ Some flags }
-    ensures way { IfOk result (λ way. way ≡ (plain.way_asked config.now now table.old (Some asked)).0) }
-    ensures table { OnOk result (table.new ≡ (plain.way_asked config.now now table.old (Some asked)).1) }
+    ensures { IfOk result (λ way. way ≡ plain.way_found config.now asked table.now answer) }
 {
-    match answer_from(table, alloc, config, &asked, flags, now)? {
+    match answer {
         Some(outcome) => Ok(Way::Given(outcome)),
         None => {
-            let spare = spare_in(&*table, alloc, config, &asked)?;
+            let spare = spare_in(table, alloc, config, &asked)?;
             Ok(Way::Asks(Some(asked.key), spare))
         }
     }
 }
 
-/// The same, of a request with this key: its message spells the name that is given back.
-fn way_served<CR: ComposeRequest>(
+/// The name of a request's only question, as its message spells it.
+pub(crate) fn spelled_name<CR: ComposeRequest>(
+    alloc: Global,
+    request: &CR,
+) -> Result<Name, NoMemory>
+    requires { IsOk (CR.requests.composed request.now) }
+    ensures { IfOk result (λ name. IfOk (CR.requests.composed request.now) (λ message. name ≡ (question_or (sole_question message)).name)) }
+{
+    match request.to_message() {
+        Ok(message) => name_in(alloc, &message),
+        Err(_) => Err(NoMemory),
+    }
+}
+
+/// What the entry under a request's own key gives, which is used, and the request's name as it is spelled. None where no
+/// entry is there. An empty table says so at once, since a search would hash the key first.
+fn serve_own<CR: ComposeRequest>(
+    table: &mut Table,
+    alloc: Global,
+    now: u64,
+    request: &CR,
+    key: &Key,
+) -> Result<Option<(Name, Answer)>, NoMemory>
+    requires { IsOk (CR.requests.composed request.now) }
+    ensures absent { IfOk result (λ served. IfNone served (keeping.entry_under key.now table.old ≡ None)) }
+    ensures stays { IfOk result (λ served. IfNone served (table.new ≡ table.old)) }
+    ensures present { IfOk result (λ served. IfSome served (λ _. IsSome (keeping.entry_under key.now table.old))) }
+    ensures name { IfOk result (λ served. IfSome served (λ x. IfOk (CR.requests.composed request.now) (λ message. x.0 ≡ (question_or (sole_question message)).name))) }
+    ensures given { IfOk result (λ served. IfSome served (λ x. keeping.takes_own (record { key = key.now; name = x.0 }) now table.old ≡ keeping.found x.1 table.new)) }
+{
+    if table.is_empty() {
+        return Ok(None);
+    }
+    match table.get_mut(key) {
+        None => Ok(None),
+        Some(entry) => {
+            let name = spelled_name(alloc, request)?;
+            let answer = entry.serve(alloc, key, &name, now)?;
+            Ok(Some((name, answer)))
+        }
+    }
+}
+
+/// How a request goes on for which no entry is there under its key, but one with these flags.
+fn way_derived<CR: ComposeRequest>(
     table: &mut Table,
     alloc: Global,
     config: &Config,
@@ -101,28 +144,39 @@ fn way_served<CR: ComposeRequest>(
     key: Key,
     flags: Flags,
 ) -> Result<Way, NoMemory>
+    requires composed { IsOk (CR.requests.composed request.now) }
     requires kept { keeping.first_kept table.old key ≡ Some flags }
+    requires absent { keeping.entry_under key table.old ≡ None }
     requires key { IfOk (CR.requests.composed request.now) (λ message. Some key ≡ key_in (CR.header_of request.now) (CR.is_dnssec_ok request.now) message) }
     ensures way { IfOk result (λ way. way ≡ (plain.way_of config.now (CR.header_of request.now) (CR.is_dnssec_ok request.now) now table.old (CR.requests.composed request.now)).0) }
     ensures table { OnOk result (table.new ≡ (plain.way_of config.now (CR.header_of request.now) (CR.is_dnssec_ok request.now) now table.old (CR.requests.composed request.now)).1) }
 {
-    match request.to_message() {
-        Ok(message) => {
-            let name = name_in(alloc, &message)?;
-            way_taken(table, alloc, config, now, Asked { key, name }, flags)
-        }
-        Err(Error::NoMemory) => Err(NoMemory),
-        Err(error) => Ok(Way::Given(Err(error))),
-    }
+    let name = spelled_name(alloc, request)?;
+    let asked = Asked { key, name };
+    let answer = answer_from(table, alloc, config, &asked, flags, now)?;
+    way_found(&*table, alloc, config, asked, answer)
 }
 
-/// How a request goes on that no entry serves: whether a message can be made of it is told without making one.
-fn way_unserved<CR: ComposeRequest>(request: &CR, key: Option<Key>) -> Way
-    ensures { result ≡ plain.way_unserved key (CR.requests.composed request.now) }
+/// How a request with this key goes on, of which a message can be composed.
+fn way_keyed<CR: ComposeRequest>(
+    table: &mut Table,
+    alloc: Global,
+    config: &Config,
+    now: u64,
+    request: &CR,
+    mut key: Key,
+) -> Result<Way, NoMemory>
+    requires composed { IsOk (CR.requests.composed request.now) }
+    requires key { IfOk (CR.requests.composed request.now) (λ message. Some key ≡ key_in (CR.header_of request.now) (CR.is_dnssec_ok request.now) message) }
+    ensures way { IfOk result (λ way. way ≡ (plain.way_of config.now (CR.header_of request.now) (CR.is_dnssec_ok request.now) now table.old (CR.requests.composed request.now)).0) }
+    ensures table { OnOk result (table.new ≡ (plain.way_of config.now (CR.header_of request.now) (CR.is_dnssec_ok request.now) now table.old (CR.requests.composed request.now)).1) }
 {
-    match request.check_message() {
-        Ok(()) => Way::Asks(key, None),
-        Err(error) => Way::Given(Err(error)),
+    match serve_own(table, alloc, now, request, &key)? {
+        Some((name, answer)) => way_found(&*table, alloc, config, Asked { key, name }, answer),
+        None => match first_other(table, &mut key) {
+            Some(flags) => way_derived(table, alloc, config, now, request, key, flags),
+            None => Ok(Way::Asks(Some(key), None)),
+        },
     }
 }
 
@@ -137,12 +191,12 @@ fn way_of<CR: ComposeRequest>(
     ensures way { IfOk result (λ way. way ≡ (plain.way_of config.now (CR.header_of request.now) (CR.is_dnssec_ok request.now) now table.old (CR.requests.composed request.now)).0) }
     ensures table { OnOk result (table.new ≡ (plain.way_of config.now (CR.header_of request.now) (CR.is_dnssec_ok request.now) now table.old (CR.requests.composed request.now)).1) }
 {
-    let Some(mut key) = key_of(alloc, request)? else {
-        return Ok(way_unserved(request, None));
-    };
-    match first_kept(table, &mut key) {
-        Some(flags) => way_served(table, alloc, config, now, request, key, flags),
-        None => Ok(way_unserved(request, Some(key))),
+    if let Err(error) = request.check_message() {
+        return Ok(Way::Given(Err(error)));
+    }
+    match key_of(alloc, request)? {
+        Some(key) => way_keyed(table, alloc, config, now, request, key),
+        None => Ok(Way::Asks(None, None)),
     }
 }
 

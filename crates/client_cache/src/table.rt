@@ -1,8 +1,6 @@
 //! The table of what is kept.
 
-ghost use Rattle.std.specs.Prelude.{◌≡◌, [], IfOk, OnOk, fold, is_some};
-ghost use Rattle.std.specs.Hash as fed;
-ghost use Rattle.std.specs.Hash.DefaultHasher as sip;
+ghost use Rattle.std.specs.Prelude.{◌≡◌, [], IfOk, OnOk, is_some};
 ghost use Rattle.std.specs.NonZero.{non_zero_usize_get};
 ghost use Rattle.lru.specs.LruCache.{lru_cache};
 ghost use Rattle.cache_rules.specs.Key.{flag_class};
@@ -21,18 +19,24 @@ use std::num::NonZeroUsize;
 /// Makes hashers that begin with a seed, so that who doesn't know it can't pick names of equal hash.
 #[derive(Clone, Copy)]
 pub struct Seeded {
-    seed: u64,
+    seeded: DefaultHasher,
+}
+
+impl Seeded {
+    fn new(seed: u64) -> Seeded {
+        let mut seeded = DefaultHasher::new();
+        seeded.write_u64(seed);
+        Seeded { seeded }
+    }
 }
 
 impl BuildHasher for Seeded {
     type Hasher = DefaultHasher;
 
-    ghost build_hasher = { λ s. fold sip.write sip.initial (fed.u64 s.seed) };
+    ghost build_hasher = { λ s. s.seeded };
 
     fn build_hasher(&self) -> DefaultHasher {
-        let mut hasher = DefaultHasher::new();
-        hasher.write_u64(self.seed);
-        hasher
+        self.seeded
     }
 }
 
@@ -53,7 +57,7 @@ fn room_of(config: &Config) -> NonZeroUsize
 pub(crate) fn new_table(alloc: Global, config: &Config, seed: u64) -> Result<Table, NoMemory>
     ensures { IfOk result (λ t. t ≡ lru_cache [] (machine.room_of config.now)) }
 {
-    let mut table = LruCache::unbounded_with_hasher(alloc, Seeded { seed })?;
+    let mut table = LruCache::unbounded_with_hasher(alloc, Seeded::new(seed))?;
     table.resize(room_of(config));
     Ok(table)
 }

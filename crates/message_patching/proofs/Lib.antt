@@ -8,3 +8,4 @@ pub mod Spellings
 pub mod Headed
 pub mod Views
 pub mod Finding
+pub mod OwnViews

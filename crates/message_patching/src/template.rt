@@ -1,12 +1,15 @@
 //! A composed message, with the places of what is written over it.
 
-ghost use Rattle.std.specs.Prelude.{◌≡◌, ◌+◌, ◌≤◌, ◌↔◌, length, IfOk, IfSome, IsTrue, MatchOption};
+ghost use Rattle.std.specs.Prelude.{◌≡◌, ◌+◌, ◌*◌, ◌≤◌, ◌↔◌, false, nat_lt, length, IfOk, IfSome, IsTrue, MatchOption};
 ghost use Rattle.std.specs.List.{AllByRecursion};
+ghost use Rattle.dns_names.specs.Name.{IsLegal};
 ghost use Rattle.message_patching.specs.Patching as spec;
+ghost use Rattle.message_patching.specs.Laws.{GivesViews, IsViewOfEach};
 
 use crate::places::{places_in, u16_at};
 use crate::writes::{put_name, put_over, put_ttls};
-use cache_rules::Ttls;
+use cache_rules::{AdDo, Ttls, is_viewable, view_under};
+use client_request::Error;
 use dns_base::{Header, Message, Name, NoMemory, Octets};
 use std::alloc::Global;
 use std::marker::Model;
@@ -20,6 +23,14 @@ fn message_of(octets: Vec<u8>) -> Result<Message, NoMemory>
         unreachable!()
     };
     Ok(message)
+}
+
+/// Whether what was composed of a message is long beside it.
+fn is_long(composed: &Message, message: &Message) -> bool
+    ensures { result ≡ nat_lt (2 * length message.now + 512) (length composed.now) }
+{
+    let came = message.as_slice().len();
+    came.saturating_mul(2).saturating_add(512) < composed.as_slice().len()
 }
 
 /// A message that was composed, and the places of its question's name and of its TTLs.
@@ -60,16 +71,41 @@ impl Template {
         }
     }
 
+    /// The template of a message's views, made of the view of no age: for a request with the same flags, under any
+    /// header, with the name in any spelling. None where the message has several questions or its view is long, that is
+    /// of more than twice its own octets and 512.
+    ///
+    /// `NoMemory`, or `MessageParseError` where the message or the data of a record can't be read by its type.
+    pub fn of_views(
+        alloc: Global,
+        header: Header,
+        message: &Message,
+        class: AdDo,
+        name: &Name,
+    ) -> Result<Option<Template>, Error>
+        ensures gives { IfOk result (λ found. IfSome found (GivesViews false message.now)) }
+        ensures short { IfOk result (λ found. IfSome found (λ t. length t.octets ≤ 2 * length message.now + 512)) }
+    {
+        is_viewable(header, message, name);
+        let composed = view_under(alloc, header, message, class, class, name, 0)?;
+        if is_long(&composed, message) || u16_at(composed.as_slice(), 4) > 1 {
+            return Ok(None);
+        }
+        let template = Template::of(alloc, composed)?;
+        Ok(template)
+    }
+
     /// Whether a name is that of the question, but for its case.
     fn is_for(&self, name: &Name) -> bool
         ensures same { IsTrue result ↔ spec.IsFor self.now name.now }
+        ensures legal { IsLegal name.now }
         ensures room { IsTrue result → 12 + spec.name_room self.now.is_named name.now ≤ length self.now.octets }
     {
         let octets = self.message.as_slice();
+        let spelling = name.as_octets();
         if !self.is_named {
             return true;
         }
-        let spelling = name.as_octets();
         let end = 12 + spelling.len();
         if octets.len() < end {
             return false;
@@ -89,6 +125,7 @@ impl Template {
     ) -> Result<Option<Message>, NoMemory>
         ensures given { IfOk result (λ given. MatchOption given (spec.IsOther self.now name.now) (λ m. m ≡ spec.patched header name.now ttls self.now)) }
         ensures named { IfOk result (λ given. IfSome given (λ _. spec.IsFor self.now name.now)) }
+        ensures views { IfOk result (λ given. IfSome given (IsViewOfEach self.now header name.now ttls)) }
     {
         if !self.is_for(name) {
             return Ok(None);
