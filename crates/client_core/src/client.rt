@@ -1,6 +1,6 @@
 //! The client: one step for each event.
 
-ghost use Rattle.std.specs.Prelude.{◌≡◌, if◌then◌else◌, true, false, Some, None, Ok, Err, OnOk, OnErr, IfOk, IfErr, IsErrOf, option_map};
+ghost use Rattle.std.specs.Prelude.{◌≡◌, if◌then◌else◌, true, false, Some, None, Ok, Err, OnOk, OnErr, IfOk, IfErr, IsErrOf, max, option_map};
 ghost use Rattle.client_request.specs.Calls.{NumbersRunOut, AnswersFailed};
 ghost use Rattle.client_request.specs.Response.{IsRefusal};
 ghost use Rattle.client_request.specs.Timers.{due_now, next_due};
@@ -8,17 +8,18 @@ ghost use Rattle.client_steps.specs.Client as plain;
 ghost use Rattle.client_steps.specs.Machines.{ClientHolds};
 ghost use Rattle.client_core.specs.Waiting.{time_left, wait_of};
 ghost use Rattle.client_steps.specs.Upstream as below;
-ghost use Rattle.client_steps.specs.Whole.{machine, started, with_one_more, plain_step, client_with};
+ghost use Rattle.client_steps.specs.Whole.{machine, reading, started, with_one_more, plain_step, client_with};
 ghost use Rattle.client_cache.specs.Plain as caching;
+ghost use Rattle.client_cache.specs.Serving.{would_serve};
 ghost use Rattle.client_choice.specs.Redundant as choosing;
 
 use crate::servers::{Layers, add_server, servers_of};
 use crate::{cache, redundant};
 use client_cache::Request;
 use client_choice::redundant as choice;
-use client_request::{Board, Cx, Error, Event, Moment, Outs, Row, Timers, Words};
+use client_request::{Board, Cx, Error, Event, Moment, Outs, RequestMessage, Row, Timers, Words};
 use client_steps::{Asked, take_in};
-use dns_base::Duration;
+use dns_base::{Duration, NoMemory};
 use resolv_conf::{ResolvConf, ServerConf};
 use std::alloc::Global;
 use std::marker::Model;
@@ -244,6 +245,15 @@ impl Client {
         ensures { result.now ≡ self.entry.now.layer }
     {
         &self.layer
+    }
+
+    /// Whether a request that is asked at a moment has its reply at once, so that nothing is started for it: what is kept
+    /// serves it, or no message can be composed of it. No entry is used by that, and timers that are due by then don't fire.
+    pub fn would_serve(&self, moment: Moment, request: &RequestMessage) -> Result<bool, NoMemory>
+        ensures { IfOk result (λ served. served ≡ would_serve reading request.now (max self.now.now moment.0) self.now.layer.kept) }
+    {
+        let now = Moment(self.now.0.max(moment.0));
+        self.layer.would_serve(now, request)
     }
 
     /// The number that the reply to the next request will name. It takes no memory.

@@ -123,3 +123,24 @@ fn a_server_that_is_added_is_asked(rt: HostRuntime) -> Result<(), Fail> {
     assert_eq!(rt; asks_who_is_added(rt.alloc(), &mut client), Ok(true));
     Ok(())
 }
+
+/// Whether the query would be served at a moment.
+fn is_kept(alloc: Global, client: &Client, moment: u64) -> Result<bool, Error> {
+    let request = request(alloc)?;
+    Ok(client.would_serve(Moment(moment), &request)?)
+}
+
+/// Whether it would be at the last moment at which the error that it got is kept, and not before it got it, nor later.
+fn tells_what_it_keeps(alloc: Global, client: &mut Client) -> Result<bool, Error> {
+    if is_kept(alloc, client, 7)? || !is_told_of_none(alloc, client, &mut words(alloc)?, 7, 0)? {
+        return Ok(false);
+    }
+    Ok(is_kept(alloc, client, 30_000_007)? && !is_kept(alloc, client, 30_000_008)?)
+}
+
+#[test]
+fn a_client_tells_what_it_would_serve(rt: HostRuntime) -> Result<(), Fail> {
+    let mut client = client_of_none(rt.alloc())?;
+    assert_eq!(rt; tells_what_it_keeps(rt.alloc(), &mut client), Ok(true));
+    Ok(())
+}
