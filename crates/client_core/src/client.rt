@@ -250,7 +250,7 @@ impl Client {
     /// Whether a request that is asked at a moment has its reply at once, so that nothing is started for it: what is kept
     /// serves it, or no message can be composed of it. No entry is used by that, and timers that are due by then don't fire.
     pub fn would_serve(&self, moment: Moment, request: &RequestMessage) -> Result<bool, NoMemory>
-        ensures { IfOk result (λ served. served ≡ would_serve reading request.now (max self.now.now moment.0) self.now.layer.kept) }
+        ensures { IfOk result (λ served. served ≡ would_serve reading request.now (max self.entry.now.now moment.0) self.entry.now.layer.kept) }
     {
         let now = Moment(self.now.0.max(moment.0));
         self.layer.would_serve(now, request)
