@@ -1,42 +1,52 @@
--- What a replay has made when no event is left is right and timely, hits and serves stale, and its events may be cut.
-use Rattle.std.proofs.Common.{◌≡◌, ℕ, ◌≤◌, List, [], ◌++◌, length, drop, Some, ap, ◌∙◌, append-nil}
-use Rattle.std.proofs.lemmas.List.{drop_all}
-use Rattle.std.specs.Prelude.{option_map}
+-- What a replay has made when no event is left.
+use Rattle.std.proofs.Common.{◌≡◌, ℕ, List, [], ◌∷◌, ◌++◌, map, Option, Some, None, refl, ap, ◌∙◌, append-nil}
+use Rattle.std.specs.Prelude.{option_map, option_and_then}
+use Rattle.client_core.proofs.Replaying.{row_event}
 use Rattle.client_request.specs.declared.event.Event.{Event}
 use Rattle.client_request.specs.declared.event.Row.{Row}
-use Rattle.client_steps.specs.Client.{plain_rows}
-use Rattle.proof_cutting.specs.Cuts.{EveryPlainTraceMayBeCut, MayBeCut}
+use Rattle.client_steps.specs.Client.{Client, Machine, plain_rows, row_step, then_rows}
+use Rattle.proof_cutting.specs.Cuts.{EveryPlainTraceMayBeCut}
 use Rattle.proof_client.specs.Ties.{AreHandedIn, EveryPlainTraceHits, EveryPlainTraceIsRight, EveryPlainTraceServesStale}
 use Rattle.client_settings.specs.Settings.{CacheSettings, RedundantSettings}
-use Rattle.client_steps.specs.Headline.{conf_of, settings_of}
-use Rattle.client_steps.specs.Whole.{Client, machine, plain_trace}
-use Rattle.client_cache.specs.Plain.{room_of}
-use Rattle.client_request.specs.Composed.{composed}
-use Rattle.right_trace.specs.Hit.{AllHit}
-use Rattle.right_trace.specs.Right.{Right}
-use Rattle.right_trace.specs.StaleServed.{AllServeStale}
-use Rattle.right_trace.specs.Timely.{Timely}
+use Rattle.client_steps.specs.Whole.{machine, plain_trace}
+use Rattle.client_replay.specs.Replayed.{IsReplay}
 use Rattle.resolv_conf.specs.declared.conf.ResolvConf.{ResolvConf}
 
-module _ (redundant : RedundantSettings) (cache : CacheSettings) (conf : ResolvConf) (words : ℕ → ℕ) (events : List Event) (rows : List Row) (i timeout : ℕ) (client : Client) where
-  -- what was made is the plain trace
-  plain_at_the_end : plain_trace redundant cache conf words events ≡ option_map (λ rest. rows ++ rest) (plain_rows machine timeout (drop i events) client) → length events ≤ i → plain_trace redundant cache conf words events ≡ Some rows
-  plain_at_the_end same le =
-      let ended = ap (λ (es : List Event). option_map (λ rest. rows ++ rest) (plain_rows machine timeout es client)) (drop_all i events le) in
-      same ∙ ended ∙ ap Some (append-nil rows)
+-- no row was made yet
+pub none_made : (o : Option (List Row)) → o ≡ option_map (λ rest. [] ++ rest) o
+none_made None = refl
+none_made (Some rows) = refl
 
-  pub right_at_the_end : EveryPlainTraceIsRight → plain_trace redundant cache conf words events ≡ option_map (λ rest. rows ++ rest) (plain_rows machine timeout (drop i events) client)
-      → length events ≤ i → AreHandedIn cache words events → Right (conf_of conf) (settings_of redundant cache) rows × Timely (conf_of conf) rows
-  right_at_the_end law same le handed = law redundant cache conf words events rows (plain_at_the_end same le) handed
+-- the rows of events, one for each
+module _ {U P : Type 0} (m : Machine U P) (timeout : ℕ) where
+  behind : (row : Row) (e : Event) (es : List Event) (o : Option (List Row)) (rows : List Row)
+      → ((xs : List Row) → o ≡ Some xs → map (λ r. r.event) xs ≡ es) → row.event ≡ e → option_map (λ xs. row ∷ xs) o ≡ Some rows → map (λ r. r.event) rows ≡ e ∷ es
+  behind row e es None rows rest is h = absurd cc
+  behind row e es (Some xs) rows rest is h = let later = rest xs refl in cc
 
-  pub hits_at_the_end : EveryPlainTraceHits → plain_trace redundant cache conf words events ≡ option_map (λ rest. rows ++ rest) (plain_rows machine timeout (drop i events) client)
-      → length events ≤ i → AreHandedIn cache words events → AllHit (conf_of conf) (settings_of redundant cache) composed (room_of cache) [] rows
-  hits_at_the_end law same le handed = law redundant cache conf words events rows (plain_at_the_end same le) handed
+  of_step : (e : Event) (es : List Event) (c : Client U P) (rows : List Row)
+      → ((d : Client U P) (xs : List Row) → plain_rows m timeout es d ≡ Some xs → map (λ r. r.event) xs ≡ es)
+      → (o : Option (Row × Client U P)) → row_step m timeout e c ≡ o → option_and_then (then_rows (plain_rows m timeout es)) o ≡ Some rows → map (λ r. r.event) rows ≡ e ∷ es
+  of_step e es c rows rest None is h = absurd cc
+  of_step e es c rows rest (Some x) is h = behind x.0 e es (plain_rows m timeout es x.1) rows (rest x.1) (row_event m timeout x.0 e c x.1 is) h
 
-  pub serves_at_the_end : EveryPlainTraceServesStale → plain_trace redundant cache conf words events ≡ option_map (λ rest. rows ++ rest) (plain_rows machine timeout (drop i events) client)
-      → length events ≤ i → AreHandedIn cache words events → AllServeStale (conf_of conf) (settings_of redundant cache) (room_of cache) [] rows
-  serves_at_the_end law same le handed = law redundant cache conf words events rows (plain_at_the_end same le) handed
+  pub each_row : (es : List Event) (c : Client U P) (rows : List Row) → plain_rows m timeout es c ≡ Some rows → map (λ r. r.event) rows ≡ es
+  each_row [] c rows h = cc
+  each_row (e ∷ es) c rows h = of_step e es c rows (each_row es) (row_step m timeout e c) refl h
 
-  pub cut_at_the_end : EveryPlainTraceMayBeCut → plain_trace redundant cache conf words events ≡ option_map (λ rest. rows ++ rest) (plain_rows machine timeout (drop i events) client)
-      → length events ≤ i → AreHandedIn cache words events → MayBeCut redundant cache conf words events rows
-  cut_at_the_end law same le handed = law redundant cache conf words events rows (plain_at_the_end same le) handed
+-- What was made is what a replay makes.
+pub is_replay : (redundant : RedundantSettings) (cache : CacheSettings) (conf : ResolvConf) (words : ℕ → ℕ) (events : List Event) (rows : List Row)
+    → EveryPlainTraceIsRight → EveryPlainTraceHits → EveryPlainTraceServesStale → EveryPlainTraceMayBeCut
+    → plain_trace redundant cache conf words events ≡ Some (rows ++ []) → AreHandedIn cache words events → IsReplay redundant cache conf words events rows
+is_replay redundant cache conf words events rows right hits serves cuts made handed =
+    let plain = made ∙ ap Some (append-nil rows) in
+    let law = right redundant cache conf words events rows plain handed in
+    record {
+      plain = plain;
+      each = each_row machine conf.options.timeout events _ rows plain;
+      right = law.0;
+      timely = law.1;
+      hits = hits redundant cache conf words events rows plain handed;
+      stale = serves redundant cache conf words events rows plain handed;
+      cut = cuts redundant cache conf words events rows plain handed;
+    }

@@ -105,8 +105,9 @@ impl Replay for Client {
         taker: &mut T,
     ) -> Result<(), Error> {
         cache.max_validity_is_limited();
-        all_asked_in_octets(events.as_slice());
-        all_in_octets(events.as_slice());
+        let told = events.as_slice();
+        all_asked_in_octets(told);
+        all_in_octets(told);
         every_plain_trace_is_right();
         every_plain_trace_hits();
         every_plain_trace_serves_stale();
