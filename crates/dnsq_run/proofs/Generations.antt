@@ -11,7 +11,10 @@ use Rattle.dns_values.specs.declared.numbers.Status.{Status}
 use Rattle.dns_script.specs.Generated.{generated}
 use Rattle.dnsq_run.specs.Generating.{IsSummary, SummarizesSo, count_in, count_of, is_summary, stops}
 use Rattle.command_parts.specs.Ends.{IsBegun}
-use Rattle.dnsq_run.specs.Program.{numbers_line, rows_of}
+use Rattle.dns_script.specs.Summary.{summary_text_of}
+use Rattle.dns_script.specs.declared.script.Script.{Script}
+use Rattle.client_request.specs.declared.event.Row.{Row}
+use Rattle.dnsq_run.specs.Program.{IsPlayed, numbers_line, rows_of}
 use Rattle.dnsq_run.specs.QueryWords.{asked, nothing_said, query_of, said_by}
 use Rattle.dnsq_run.specs.Words.{is_word}
 use Rattle.dnsq_run.specs.declared.query_words.Query.{Query}
@@ -92,3 +95,17 @@ pub only_seven : (n : ℕ) → (n ≡ 1) ⊎ (n ≡ 7) → (n ≡ 6) ⊎ (n ≡ 
 only_seven n (inr seven) others = seven
 only_seven n (inl one) (inr seven) = seven
 only_seven n (inl one) (inl six) = absurd (omega arith)
+
+-- What the rows of the generated script are summed up to is its summary.
+pub sums_up : (n : ℕ) (script : Script) (rows : List Row) (out : List ℕ) → script ≡ generated n → IsPlayed script rows → out ≡ summary_text_of rows → IsSummary n out
+sums_up n script rows out is played says =
+    let made = subst (λ s. IsPlayed s rows) is played in
+    record {
+      rows = rows;
+      plain = made.plain;
+      right = made.right;
+      timely = made.timely;
+      hits = made.hits;
+      stale = made.stale;
+      says = says;
+    }

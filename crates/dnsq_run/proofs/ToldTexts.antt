@@ -2,7 +2,6 @@
 use Rattle.std.proofs.Common.{◌≡◌, ℕ, Bool, true, false, ◌||◌, List, [], ◌∷◌, ◌++◌, refl, ap, sym, ◌∙◌, append_assoc, append-nil}
 use Rattle.std.specs.List.{flat_map}
 use Rattle.client_request.specs.declared.event.Row.{Row}
-use Rattle.client_replay.specs.Replayed.{IsReplay}
 use Rattle.dns_script.specs.TraceText.{IsOfFirst, behind_first, first_line, has_stale, have_stale, last_line, row_text, trace_text_of}
 use Rattle.dns_script.specs.declared.script.Script.{Script}
 use Rattle.dnsq_run.specs.Program.{IsPlayed, IsTextOf, IsTold}
@@ -48,6 +47,7 @@ whole_text text out stale set rows so =
     set
     ∙ ap (λ (t : List ℕ). first_line stale ++ behind_first t) whole
     ∙ ap (λ (b : Bool). first_line b ++ (flat_map row_text rows ++ last_line)) so.told
+    ∙ sym (append_assoc (first_line (have_stale rows)) (flat_map row_text rows) last_line)
 
 -- what was written is told of the script
 pub is_told : (script : Script) (text : List ℕ) (rows : List Row) → IsPlayed script rows → text ≡ trace_text_of rows → IsTold script text
