@@ -1,0 +1,11 @@
+//! Tests of a client that two callers share.
+#![tactic(auto)]
+
+#[cfg(test)]
+mod calls;
+#[cfg(test)]
+mod crossing;
+#[cfg(test)]
+mod scenes;
+#[cfg(test)]
+mod tests;
