@@ -75,8 +75,9 @@ def run(program, command, text):
 def difference(program, head, lanes, status, text):
     """What is not as it should be, or None."""
     lines = text.splitlines()
-    if status != 0 or lines[:1] != ["many 1"] or lines[-1:] != ["end"]:
+    if status != 0 or lines[:1] not in (["many 1"], ["many 2"]) or lines[-1:] != ["end"]:
         return "status %d" % status
+    version = lines[0].removeprefix("many ")
     made = [[] for _ in lanes]
     events, rows = [], []
     for line in lines[1:-1]:
@@ -88,7 +89,7 @@ def difference(program, head, lanes, status, text):
     if made != lanes:
         return "the events of a lane are others"
     replayed = run(program, "replay", "\n".join(head + events) + "\n")
-    if replayed != (0, "\n".join(["trace 1"] + rows + ["end"]) + "\n"):
+    if replayed != (0, "\n".join(["trace " + version] + rows + ["end"]) + "\n"):
         return "the replay of its events is another"
     return None
 

@@ -62,7 +62,8 @@ fn read<R: Threads + Wait + Sync>(threads: &R, rt: HostRuntime, words: &[String]
 }
 
 /// Does what the command line asks for. Without random words nothing is asked.
-fn run(
+fn run<R: Threads + Wait + Sync>(
+    threads: &R,
     rt: HostRuntime,
     files: FileOpener<HostRuntime>,
     mut edge: SocketEdge<HostRuntime>,
@@ -73,7 +74,7 @@ fn run(
         return NO_MEMORY;
     };
     if !asks_servers(&words) {
-        return read(&rt, rt, &words);
+        return read(threads, rt, &words);
     }
     match random {
         Some(mut random) => ask(rt, &words, files, &mut edge, &mut clock, &mut random),
@@ -83,6 +84,7 @@ fn run(
 
 fn main(rt: HostRuntime) -> ExitCode {
     ExitCode::from(run(
+        &rt,
         rt,
         FileOpener::new(rt),
         SocketEdge::new(rt, rt.alloc()),

@@ -4,10 +4,12 @@ use Rattle.std.specs.Prelude.{All, slice_get, slice_index_or, if◌then◌else�
 use Rattle.std.specs.Option.{option_map_or}
 use Rattle.std.proofs.lemmas.Option.{slice_get_past, slice_get_within, get_or_from_slice_get, slice_get-get_or}
 use Rattle.std.proofs.lemmas.List.{append-nil}
+use Rattle.std.proofs.Math.Seq.{take-append_seam}
 use mathlib.Core.List.{IsPrefix}
 use native.Mathlib.Decide.{dec_le}
 use Rattle.joint_history.specs.Views.{own, own_from}
 use Rattle.joint_history.proofs.Beginnings.{prefix_trans, own-append}
+use Rattle.client_request.specs.Words.{listed}
 use Rattle.client_request.specs.declared.event.Event.{Event}
 use Rattle.client_shared.specs.declared.entry.Entry.{Entry}
 use Rattle.client_shared.specs.declared.entry.Item.{Item}
@@ -56,18 +58,19 @@ none_by n count (e ∷ entries) le below =
 
 -- ---- lanes by their numbers
 
-numbered_length : (n : ℕ) → length (numbered n) ≡ n
+pub numbered_length : (n : ℕ) → length (numbered n) ≡ n
 numbered_length zero = refl
 numbered_length (suc n) = omega (arith, length-append (numbered n) (newcomer n ∷ []), numbered_length n)
 
+last_or_before : (n k : ℕ) → k < suc n → Dec (n ≤ k) → (k < n → slice_get (numbered n) k ≡ Some (newcomer k)) → slice_get (numbered n ++ newcomer n ∷ []) k ≡ Some (newcomer k)
+last_or_before n k lt (yes le) before =
+    let last : k ≡ n = omega (arith, lt, le) in
+    ap (λ (i : ℕ). slice_get (numbered n ++ newcomer n ∷ []) i) (last ∙ sym (numbered_length n)) ∙ (get_end (numbered n) (newcomer n) ∙ ap (λ (i : ℕ). Some (newcomer i)) (sym last))
+last_or_before n k lt (no more) before = get_front (numbered n) (newcomer n ∷ []) k (newcomer k) (before (lt_of_not-le more))
+
 numbered_at : (n k : ℕ) → k < n → slice_get (numbered n) k ≡ Some (newcomer k)
-numbered_at (suc n) k lt = at_or_end (dec_le n k)
-  where
-    at_or_end : Dec (n ≤ k) → slice_get (numbered n ++ newcomer n ∷ []) k ≡ Some (newcomer k)
-    at_or_end (yes le) =
-        let last : k ≡ n = omega (arith, lt, le) in
-        ap (λ (i : ℕ). slice_get (numbered n ++ newcomer n ∷ []) i) (last ∙ sym (numbered_length n)) ∙ (get_end (numbered n) (newcomer n) ∙ ap (λ (i : ℕ). Some (newcomer i)) (sym last))
-    at_or_end (no more) = get_front (numbered n) (newcomer n ∷ []) k (newcomer k) (numbered_at n k (lt_of_not-le more))
+numbered_at zero k lt = absurd (omega (arith, lt))
+numbered_at (suc n) k lt = last_or_before n k lt (dec_le n k) (numbered_at n k)
 
 -- a lane and its pass, before and after
 record Lane (P : Passed → Passed → List Event → Type 0) (ps qs : List Passed) (k : ℕ) (events : List Event) : Type 0 where
@@ -138,7 +141,7 @@ next_begins (e ∷ events) zero event at = (events, ap (λ x. x ∷ events) (sym
 next_begins (e ∷ events) (suc n) event at = let rest = next_begins events n event at in (rest.0, ap (λ es. e ∷ es) rest.1)
 
 module _ (lanes : List (List Event)) (qs : List Passed) (entries : List Entry) (lost : Option ℕ) (closed : All (IsClosed entries lost) qs) (below : All (λ (e : Entry). e.caller < length lanes) entries) where
-  ps : List Passed
+  abbrev ps : List Passed
   ps = numbered (length lanes)
 
   newcomer_at : (k : ℕ) (events : List Event) (p : Passed) → slice_get lanes k ≡ Some events → slice_get ps k ≡ Some p → p ≡ newcomer k
@@ -165,7 +168,7 @@ module _ (lanes : List (List Event)) (qs : List Passed) (entries : List Entry) (
   past_lanes n le = ap (λ (o : Option (List Event)). option_map_or (λ (es : List Event). es) o []) (slice_get_past lanes n le)
 
   -- each lane's events, each once and in order, and nothing else
-  pub all_lanes : (receipts : List Receipt) → AreLanes ps qs lanes receipts → (n : ℕ) → events_by n entries ≡ lane_at lanes n
+  all_lanes : (receipts : List Receipt) → AreLanes ps qs lanes receipts → (n : ℕ) → events_by n entries ≡ lane_at lanes n
   all_lanes receipts made n = by_number (dec_le (length lanes) n)
     where
       by_number : Dec (length lanes ≤ n) → events_by n entries ≡ lane_at lanes n
@@ -202,7 +205,7 @@ module _ (lanes : List (List Event)) (qs : List Passed) (entries : List Entry) (
             ∙ (ap (λ (items : List Item). events_in (own caller_of n items)) p.1 ∙ own_events n 0 entries lost))),
       )
 
-  pub may_stop : (o : Opening) (laws : LegalHistories) (script : Script) → o ≡ opening_for script → script.lanes ≡ lanes → AreBegunLanes ps qs lanes → IsSomeStopped o ps qs lanes → MayStop script
+  may_stop : (o : Opening) (laws : LegalHistories) (script : Script) → o ≡ opening_for script → script.lanes ≡ lanes → AreBegunLanes ps qs lanes → IsSomeStopped o ps qs lanes → MayStop script
   may_stop o laws script is same begun some_one =
       let s = stopped_at o ps qs lanes some_one in
       let k = s.place in
@@ -227,18 +230,62 @@ module _ (lanes : List (List Event)) (qs : List Passed) (entries : List Entry) (
         stops = subst (λ (p : Opening). plain_trace p.redundant p.cache p.conf p.words (events_of before ++ st.event ∷ []) ≡ None) is none;
       }
 
-  pub are_made : (o : Opening) (laws : LegalHistories) (script : Script) (receipts : List Receipt) (left : ℕ → ℕ) → o ≡ opening_for script → script.lanes ≡ lanes → AreLanes ps qs lanes receipts → IsLegal o (history entries lost)
-      → AreHandedIn script.cache o.words (events_of entries) → AreDrawn o.words entries lost left → AreMade script entries
+  are_made : (o : Opening) (laws : LegalHistories) (script : Script) (receipts : List Receipt) (left : ℕ → ℕ) → o ≡ opening_for script → script.lanes ≡ lanes → AreLanes ps qs lanes receipts → IsLegal o (history entries lost)
+      → AreHandedIn script.cache (listed script.words) (events_of entries) → AreDrawn o.words entries lost left → AreMade script entries
   are_made o laws script receipts left is same made legal handed drawn =
       let p : Opening = opening_for script in
       let at_script : IsLegal p (history entries lost) = subst (λ (z : Opening). IsLegal z (history entries lost)) is legal in
-      let here : AreHandedIn script.cache p.words (events_of entries) = subst (λ (z : Opening). AreHandedIn script.cache z.words (events_of entries)) is handed in
       record {
         lanes = λ n. all_lanes receipts made n ∙ ap (λ (ls : List (List Event)). lane_at ls n) (sym same);
         plain = laws.plain p entries lost at_script;
-        right = laws.right p entries lost at_script here;
-        timely = laws.timely p entries lost at_script here;
-        hits = laws.hits p entries lost at_script here;
-        stale = laws.stale p entries lost at_script here;
+        right = laws.right p entries lost at_script handed;
+        timely = laws.timely p entries lost at_script handed;
+        hits = laws.hits p entries lost at_script handed;
+        stale = laws.stale p entries lost at_script handed;
         words = λ k lt. drawn.first k lt ∙ ap (λ (z : Opening). z.words k) is;
       }
+
+-- what a vector has once its slice was written to
+written_back : (new items : List Passed) (n : ℕ) → n ≡ length new → take n (new ++ drop (length new) items) ≡ new
+written_back new items n is = ap (λ (k : ℕ). take k (new ++ drop (length new) items)) is ∙ take-append_seam new (drop (length new) items)
+
+-- Lanes of a script were run on passes that had seen nothing, and then the client was closed with them.
+pub record IsRun (o : Opening) (script : Script) (lanes : List (List Event)) (ps qs : List Passed) (count : ℕ) (entries : List Entry) (lost : Option ℕ) : Type 0 where
+  pub opening : o ≡ opening_for script
+  pub lanes_are : lanes ≡ script.lanes
+  pub passes_are : ps ≡ numbered (length script.lanes)
+  pub count_is : count ≡ length script.lanes
+  pub closed : All (IsClosed entries lost) qs
+  pub below : All (λ (e : Entry). e.caller < count) entries
+
+-- by what each call tells: lanes and passes as slices, how many there are, and the passes as the vector has them
+pub run_of : (o : Opening) (script : Script) (lanes given : List (List Event)) (ps made qs : List Passed) (count n m len callers : ℕ) (entries : List Entry) (lost : Option ℕ)
+    → o ≡ opening_for script → lanes ≡ given → given ≡ script.lanes → length lanes ≡ m → n ≡ m → count ≡ n → ps ≡ made → made ≡ numbered count → length qs ≡ length ps → length ps ≡ len
+    → All (IsClosed entries lost) (take len (qs ++ drop (length qs) made)) → callers ≡ count → All (λ (e : Entry). e.caller < callers) entries → IsRun o script lanes ps qs count entries lost
+run_of o script lanes given ps made qs count n m len callers entries lost opening value kept long by_len counted lent numbers long_new long_old closed shared below =
+    let lanes_are : lanes ≡ script.lanes = value ∙ kept in
+    let count_is : count ≡ length script.lanes = counted ∙ (by_len ∙ (sym long ∙ ap length lanes_are)) in
+    record {
+      opening = opening;
+      lanes_are = lanes_are;
+      passes_are = lent ∙ (numbers ∙ ap numbered count_is);
+      count_is = count_is;
+      closed = subst (All (IsClosed entries lost)) (written_back qs made len (sym (long_new ∙ long_old))) closed;
+      below = subst (λ (k : ℕ). All (λ (e : Entry). e.caller < k) entries) shared below;
+    }
+
+below_lanes : (n m : ℕ) (entries : List Entry) → n ≡ m → All (λ (e : Entry). e.caller < n) entries → All (λ (e : Entry). e.caller < m) entries
+below_lanes n m entries same below = subst (λ (k : ℕ). All (λ (e : Entry). e.caller < k) entries) same below
+
+pub made_of : (o : Opening) (laws : LegalHistories) (script : Script) (lanes : List (List Event)) (ps qs : List Passed) (count : ℕ) (entries : List Entry) (lost : Option ℕ) (receipts : List Receipt) (left : ℕ → ℕ)
+    → IsRun o script lanes ps qs count entries lost → AreLanes ps qs lanes receipts → IsLegal o (history entries lost) → AreHandedIn script.cache (listed script.words) (events_of entries) → AreDrawn o.words entries lost left → AreMade script entries
+made_of o laws script lanes ps qs count entries lost receipts left run made legal handed drawn =
+    let here = subst (λ (z : List Passed × List (List Event)). AreLanes z.0 qs z.1 receipts) (λ i. (run.passes_are i, run.lanes_are i)) made in
+    are_made script.lanes qs entries lost run.closed (below_lanes count (length script.lanes) entries run.count_is run.below) o laws script receipts left run.opening refl here legal handed drawn
+
+pub stopped_of : (o : Opening) (laws : LegalHistories) (script : Script) (lanes : List (List Event)) (ps qs : List Passed) (count : ℕ) (entries : List Entry) (lost : Option ℕ)
+    → IsRun o script lanes ps qs count entries lost → AreBegunLanes ps qs lanes → IsSomeStopped o ps qs lanes → MayStop script
+stopped_of o laws script lanes ps qs count entries lost run begun stops =
+    let began = subst (λ (z : List Passed × List (List Event)). AreBegunLanes z.0 qs z.1) (λ i. (run.passes_are i, run.lanes_are i)) begun in
+    let stopped = subst (λ (z : List Passed × List (List Event)). IsSomeStopped o z.0 qs z.1) (λ i. (run.passes_are i, run.lanes_are i)) stops in
+    may_stop script.lanes qs entries lost run.closed (below_lanes count (length script.lanes) entries run.count_is run.below) o laws script run.opening refl began stopped

@@ -1,6 +1,7 @@
 -- What the status says of a script with lanes.
 use Rattle.std.proofs.Common.{◌≡◌, ◌≢◌, ◌⊎◌, inl, inr, ℕ, ◌<◌, ◌≤◌, List, ◌++◌, [], length, true, Option, Some, None, subst, ap, sym, ◌∙◌, refl, arith}
-use Rattle.std.specs.Prelude.{IfSome, codes}
+use Rattle.std.specs.Prelude.{IfSome, IfOk, IfErr, Result, Ok, Err, Vec, codes}
+use Rattle.std.specs.declared.alloc.Global.{Global}
 use Rattle.std.specs.Fmt.{decimal}
 use Rattle.dns_values.specs.Sink.{with_octets}
 use Rattle.dns_values.specs.declared.numbers.Status.{Status}
@@ -29,16 +30,27 @@ pub refused_source : (told after : Option (List ℕ)) (octets : List ℕ) (e : E
     → length octets ≤ 16777216 → (length octets ≤ 16777216 → status_of e ≡ 1 → IsRefused octets (line_of e)) → status_of e ≡ 1 → IfSome told (λ text. IsRefused text (line_of e))
 refused_source told after octets e whole fits refused is_one = of_source told after octets (λ text. IsRefused text (line_of e)) whole (refused fits is_one)
 
-pub stopped_source : (told after : Option (List ℕ)) (octets : List ℕ) (script : Script) → IfSome told (λ text. (octets ≡ text) × (after ≡ Some []))
+stopped_source : (told after : Option (List ℕ)) (octets : List ℕ) (script : Script) → IfSome told (λ text. (octets ≡ text) × (after ≡ Some []))
     → length octets ≤ 16777216 → IsScript true octets script → MayStop script → IfSome told Stops
 stopped_source told after octets script whole fits is may =
     of_source told after octets Stops whole (record { taken = record { script = script; is_script = is; fits = fits }; stops = may })
 
-pub made_source : (told after : Option (List ℕ)) (octets out : List ℕ) (script : Script) → IfSome told (λ text. (octets ≡ text) × (after ≡ Some []))
+made_source : (told after : Option (List ℕ)) (octets out : List ℕ) (script : Script) → IfSome told (λ text. (octets ≡ text) × (after ≡ Some []))
     → length octets ≤ 16777216 → IsScript true octets script → IsTextOf script out → IfSome told (λ text. IsMade text out × (after ≡ Some []))
 made_source None after octets out script whole fits is made = tt
 made_source (Some text) after octets out script whole fits is made =
     (subst (λ (t : List ℕ). IsMade t out) whole.0 (record { taken = record { script = script; is_script = is; fits = fits }; made = made }), whole.1)
+
+-- what a script comes to is what its source's text comes to
+pub all_stopped : (told after : Option (List ℕ)) (octets : List ℕ) (script : Script) (r : Result (Vec ℕ Global) Ending) → IfSome told (λ text. (octets ≡ text) × (after ≡ Some []))
+    → length octets ≤ 16777216 → IsScript true octets script → IfErr r (λ e. status_of e ≡ 7 → MayStop script) → IfErr r (λ e. status_of e ≡ 7 → IfSome told Stops)
+all_stopped told after octets script (Ok out) whole fits is may = tt
+all_stopped told after octets script (Err e) whole fits is may = λ seven. stopped_source told after octets script whole fits is (may seven)
+
+pub all_made : (told after : Option (List ℕ)) (octets : List ℕ) (script : Script) (r : Result (Vec ℕ Global) Ending) → IfSome told (λ text. (octets ≡ text) × (after ≡ Some []))
+    → length octets ≤ 16777216 → IsScript true octets script → IfOk r (λ v. IsTextOf script v.items) → IfOk r (λ v. IfSome told (λ text. IsMade text v.items × (after ≡ Some [])))
+all_made told after octets script (Ok out) whole fits is made = made_source told after octets out.items script whole fits is made
+all_made told after octets script (Err e) whole fits is made = tt
 
 -- what is told of a text is told otherwise
 told_as : (told : Option (List ℕ)) (P Q : List ℕ → Type 0) → ((text : List ℕ) → P text → Q text) → IfSome told P → IfSome told Q

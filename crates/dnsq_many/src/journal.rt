@@ -29,7 +29,7 @@ fn are_in_octets(entries: &[Entry])
 }
 
 /// The journal of a client that the lanes of a script share, each by a thread of its own.
-#[tactic(auto, using(crate::proofs::Journals::are_made, crate::proofs::Journals::may_stop))]
+#[tactic(auto, using(crate::proofs::Journals::numbered_length))]
 fn journal_by<R: Threads + Wait + Sync, L: ClientKey + Send + Sync>(
     rt: &R,
     alloc: Global,

@@ -55,7 +55,6 @@ fn text_of<R: Threads + Wait + Sync>(
 }
 
 /// The text of what the lanes of the script that a source gives make of one client.
-#[tactic(auto, using(crate::proofs::Outcomes::stopped_source, crate::proofs::Outcomes::made_source))]
 pub fn many<R: Threads + Wait + Sync, S: Source>(
     rt: &R,
     alloc: Global,
@@ -69,9 +68,8 @@ pub fn many<R: Threads + Wait + Sync, S: Source>(
     ensures numbers_line { IfErr result (λ e. status_of e ≡ 7 → line_of e ≡ numbers_line) }
 {
     let text = input(alloc, source)?;
-    let script = match script_of(alloc, &text) {
-        Ok(script) => script,
-        Err(ending) => return Err(ending),
-    };
-    text_of(rt, alloc, script)
+    match script_of(alloc, &text) {
+        Ok(script) => text_of(rt, alloc, script),
+        Err(ending) => Err(ending),
+    }
 }

@@ -7,7 +7,7 @@ loop-entry-init c = (tt, tt)
 
 pub loop-entry-preserved : goal.loop-entry-preserved
 loop-entry-preserved c =
-    next_in_octets c.args.entries.now c.loop-entry.entry-index c.entry-item.result c.loop-entry-test.true c.entry-item.is c.loop-entry.invariant c.all_asked_in_octets.ensures c.all_in_octets.ensures
+    next_in_octets c.args.entries.now c.loop-entry.entry-index c.entry-item.result c.loop-entry-test.true c.entry-item.is c.loop-entry.invariant (rw c.from_ref-event.ensures.value at c.all_asked_in_octets.ensures) (rw c.from_ref-event.ensures.value at c.all_in_octets.ensures)
 
 pub returns : goal.returns
 returns c = all_in_octets c.args.entries.now c.loop-entry.entry-index c.loop-entry-test.false c.loop-entry.invariant
