@@ -9,6 +9,6 @@ pub returns-in-Ok-clause-numbers : goal.returns-in-Ok-clause-numbers
 returns-in-Ok-clause-numbers g c =
     all_stopped _ _ _ c.in-Ok.script c.text_of.result c.in_ok-text.ensures.whole c.in_ok-text.ensures.fits (rw c.deref.ensures.value at c.in-Ok.ensures.script) c.text_of.ensures.numbers
 
-pub returns-in-Err-clause-refused : goal.returns-in-Err-clause-refused
-returns-in-Err-clause-refused g c =
+pub returns-clause-refused : goal.returns-clause-refused
+returns-clause-refused g c =
     refused_source _ _ _ c.in-Err.ending c.in_ok-text.ensures.whole c.in_ok-text.ensures.fits (rw c.deref.ensures.value at c.in-Err.ensures.refused)
