@@ -1,4 +1,4 @@
-//! Tests of a client that two callers share.
+//! Tests of a client that callers share, and of the command whose lanes share one.
 #![tactic(auto)]
 
 #[cfg(test)]
@@ -6,6 +6,10 @@ mod calls;
 #[cfg(test)]
 mod crossing;
 #[cfg(test)]
+mod many;
+#[cfg(test)]
 mod scenes;
 #[cfg(test)]
 mod tests;
+#[cfg(test)]
+mod texts;
