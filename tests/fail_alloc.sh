@@ -1,14 +1,16 @@
 #!/usr/bin/env bash
 # Lets one allocation fail, once for each number given, and says what came out.
 #
-#     bash tests/fail_alloc.sh example|flood|fallback|use_vc|back_off|dgram N..      N is a number or a range, as 1-50
+#     bash tests/fail_alloc.sh example|flood|fallback|use_vc|back_off|dgram|shared N..      N is a number or a range, as 1-50
 #
-# All but `dgram` are runs of `dnsq replay`: on the script crates/dnsq/stdin; on one that asks 101 times where 100 may be at
+# All but `dgram` and `shared` are runs of `dnsq replay`: on the script crates/dnsq/stdin; on one that asks 101 times where 100 may be at
 # work and then opens one place in vain; and on examples/NAME.script, where a truncated datagram goes on by a stream, where
 # two requests share a stream, and where streams fail and others are opened. Status 6 and no output are wanted, and status 0
 # and the trace of that example past the last allocation. `dgram` is the test of test_dgram that runs three requests over
-# two slots: it passes where the want of memory was told and each later call answers `Failed`; that other tests of the crate
-# then fail is of no account.
+# two slots: it passes where the want of memory was told and each later call answers `Failed`. `shared` is the test of test_shared
+# in which two callers share a client: it passes where one of them was told of the want, and each later call of either answers
+# `Failed` where the call was lost, and what it should where it was not. That other tests of these crates then fail is of no
+# account.
 # Each number builds anew, in half a minute or more. JOBS of them (2) run at a time.
 set -u
 cd "$(dirname "$0")/../crates" || exit 2
@@ -34,10 +36,12 @@ replay() { # NUMBER
     [ "$status" = 0 ] && [ -e "$work/trace" ] && ! cmp -s "$work/trace" "$work/out.$1" && status="0, but another trace was written"
     echo "$status"
 }
-dgram() { # NUMBER
+tested() { # NUMBER TEST
     rt try --test --fail-alloc "$1" > "$work/said.$1" 2>&1
-    sed -n 's/^test .*::a_connection_that_found_no_memory_answers_failed \.\.\. //p' "$work/said.$1"
+    sed -n "s/^test .*::$2 \.\.\. //p" "$work/said.$1"
 }
+dgram() { tested "$1" a_connection_that_found_no_memory_answers_failed; }
+shared() { tested "$1" a_call_behind_a_loss_fails; }
 one() { # NUMBER
     local came
     came=$("$run" "$1")
@@ -49,11 +53,12 @@ case $what in
     fallback | use_vc | back_off)
         run=replay && cp "../examples/$what.script" "$work/script" && cp "../examples/$what.trace" "$work/trace" && cd dnsq ;;
     dgram) run=dgram && cd test_dgram ;;
+    shared) run=shared && cd test_shared ;;
     *) false ;;
-esac && [ $# -gt 1 ] || { echo "usage: bash tests/fail_alloc.sh example|flood|fallback|use_vc|back_off|dgram N.." >&2; exit 2; }
+esac && [ $# -gt 1 ] || { echo "usage: bash tests/fail_alloc.sh example|flood|fallback|use_vc|back_off|dgram|shared N.." >&2; exit 2; }
 shift
 export run work
-export -f one replay dgram
+export -f one replay tested dgram shared
 printf '%s\n' "$@" | numbers > "$work/numbers"
 xargs -P "${JOBS:-2}" -I N bash -c 'one N' < "$work/numbers"
 tried=$(wc -l < "$work/numbers")

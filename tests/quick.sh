@@ -27,6 +27,8 @@ examples() {
     for script in examples/*.script; do
         crates/dnsq/out/dnsq replay < "$script" | cmp -s - "${script%script}trace" || { echo "another trace: $script"; bad=1; }
     done
+    script=examples/lanes/stale.script # one lane, so that none comes before another
+    crates/dnsq/out/dnsq many < "$script" | cmp -s - "${script%script}trace" || { echo "another text: $script"; bad=1; }
     return $bad
 }
 stored() { cmp -s examples/first.script crates/dnsq/stdin && cmp -s examples/first.trace crates/dnsq/stdout; }

@@ -2,10 +2,11 @@
 
 usage: python3 tests/refuse_memory.py PROGRAM [SCRIPT..]
 
-PROGRAM is the built dnsq. Each SCRIPT (those of examples/ where none is given) is replayed as often as its replay asks the C
-library for memory, and each time another one of these calls is refused: malloc, calloc, realloc or aligned_alloc. Status 6 and
-no output are wanted; or status 0 and the whole trace, where the library itself was refused and went on without. Anything else
-ends with status 1. A small library in C that is loaded before the program does the refusing; it is made anew by `cc`.
+PROGRAM is the built dnsq. Each SCRIPT (those of examples/ and examples/lanes/ where none is given) is replayed, or run by `many`
+where it has lanes, as often as that asks the C library for memory, and each time another one of these calls is refused: malloc,
+calloc, realloc or aligned_alloc. Status 6 and no output are wanted; or status 0 and all that is due, where the library itself was
+refused and went on without: the whole trace, or for lanes what is the replay of its own events. Anything else ends with status 1.
+A small library in C that is loaded before the program does the refusing; it is made anew by `cc`.
 """
 
 import os
@@ -14,6 +15,8 @@ import sys
 import tempfile
 from concurrent.futures import ThreadPoolExecutor
 from pathlib import Path
+
+from replay_lanes import difference
 
 ROOT = Path(__file__).resolve().parent.parent
 REFUSING = r"""
@@ -92,16 +95,29 @@ def made(room):
     return library
 
 
+def parts_of(script):
+    """The lines before the lanes, and those of each lane; no lanes where the script has none."""
+    head, *lanes = [part.splitlines() for part in ("\n" + Path(script).read_text()).split("\nlane\n")]
+    return head[1:], lanes
+
+
 def run(program, library, script, **more):
     with open(script, "rb") as text:
-        return subprocess.run([program, "replay"], stdin=text, capture_output=True, timeout=60,
+        return subprocess.run([program, "many" if parts_of(script)[1] else "replay"], stdin=text, capture_output=True, timeout=60,
                               env={**os.environ, "LD_PRELOAD": library, **more})
 
 
-def outcome(ran, trace):
+def is_whole(program, script, ran, trace):
+    head, lanes = parts_of(script)
+    if lanes:
+        return difference(program, head, lanes, ran.returncode, ran.stdout.decode()) is None
+    return ran.returncode == 0 and ran.stdout == trace
+
+
+def outcome(program, script, ran, trace):
     if ran.returncode == 6 and ran.stdout == b"":
         return "6"
-    return "0" if ran.returncode == 0 and ran.stdout == trace else "%d, %d octets" % (ran.returncode, len(ran.stdout))
+    return "0" if is_whole(program, script, ran, trace) else "%d, %d octets" % (ran.returncode, len(ran.stdout))
 
 
 def refuse_each(program, library, script, room):
@@ -109,7 +125,7 @@ def refuse_each(program, library, script, room):
     whole = run(program, library, script, CALLS_FILE=counted)
     calls = int(Path(counted).read_text())
     with ThreadPoolExecutor(os.cpu_count()) as pool:
-        ends = list(pool.map(lambda call: outcome(run(program, library, script, REFUSED_CALL=str(call)), whole.stdout),
+        ends = list(pool.map(lambda call: outcome(program, script, run(program, library, script, REFUSED_CALL=str(call)), whole.stdout),
                              range(1, calls + 1)))
     bad = ["call %d: status %s" % (1 + at, end) for at, end in enumerate(ends) if end not in ("0", "6")]
     print("%s: %d calls: status 6 at %d, 0 at %d" % (Path(script).name, calls, ends.count("6"), ends.count("0")))
@@ -121,7 +137,7 @@ def refuse_each(program, library, script, room):
 def main():
     if len(sys.argv) < 2:
         sys.exit(__doc__)
-    scripts = sys.argv[2:] or sorted(str(path) for path in (ROOT / "examples").glob("*.script"))
+    scripts = sys.argv[2:] or sorted(str(path) for folder in ("examples", "examples/lanes") for path in (ROOT / folder).glob("*.script"))
     with tempfile.TemporaryDirectory() as room:
         library = made(room)
         good = [refuse_each(os.path.abspath(sys.argv[1]), library, script, room) for script in scripts]

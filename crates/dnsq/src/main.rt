@@ -1,4 +1,4 @@
-//! The program `dnsq`: it replays scripts of events, prints configurations, and asks servers.
+//! The program `dnsq`: it replays scripts of events, alone or by several threads, prints configurations, and asks servers.
 #![tactic(auto)]
 
 use client_core::{ListClock, ListEdge};
@@ -8,6 +8,8 @@ use dns_values::{StdSink, StdSource};
 use dnsq_run::run_alone;
 use rand::rngs::StdRng;
 use std::process::ExitCode;
+use std::sync::Wait;
+use std::thread::Threads;
 
 /// The exit status where memory, or the system's random words, can't be had.
 const NO_MEMORY: u8 = 6;
@@ -44,9 +46,10 @@ fn ask(
 }
 
 /// Does what the words ask for, which asks no server.
-fn read(rt: HostRuntime, words: &[String]) -> u8 {
+fn read<R: Threads + Wait + Sync>(threads: &R, rt: HostRuntime, words: &[String]) -> u8 {
     let alloc = rt.alloc();
-    let status = run_alone(
+    let status = dnsq_many::run(
+        threads,
         alloc,
         words,
         &mut StdSource::new(rt.stdin()),
@@ -59,7 +62,8 @@ fn read(rt: HostRuntime, words: &[String]) -> u8 {
 }
 
 /// Does what the command line asks for. Without random words nothing is asked.
-fn run(
+fn run<R: Threads + Wait + Sync>(
+    threads: &R,
     rt: HostRuntime,
     files: FileOpener<HostRuntime>,
     mut edge: SocketEdge<HostRuntime>,
@@ -70,7 +74,7 @@ fn run(
         return NO_MEMORY;
     };
     if !asks_servers(&words) {
-        return read(rt, &words);
+        return read(threads, rt, &words);
     }
     match random {
         Some(mut random) => ask(rt, &words, files, &mut edge, &mut clock, &mut random),
@@ -80,6 +84,7 @@ fn run(
 
 fn main(rt: HostRuntime) -> ExitCode {
     ExitCode::from(run(
+        &rt,
         rt,
         FileOpener::new(rt),
         SocketEdge::new(rt, rt.alloc()),

@@ -1,0 +1,5 @@
+pub mod InOctets
+pub mod Journals
+pub mod Outcomes
+pub mod Entries
+pub mod Words

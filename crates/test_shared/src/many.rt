@@ -1,0 +1,145 @@
+//! The command whose lanes share one client.
+
+use crate::texts::{begun, put_all};
+use client_core::{ListClock, ListEdge};
+use client_request::{ListWords, WordList};
+use dns_base::Octets;
+use dns_values::{MemSink, MemSource};
+use dnsq_many::run;
+use std::alloc::Global;
+use std::sync::Wait;
+use std::thread::Threads;
+
+/// What stands before the lanes.
+const HEAD: &str = "conf nameserver 192.0.2.53\nwords 4660 4661 4662 4663 4664 4665\n";
+
+/// The first lane.
+const FIRST: &str =
+    "at 0 ask 000001000001000000000000076578616d706c6503636f6d0000010001 00000100 -\n\
+    at 10 ask 000001000001000000000000076578616d706c6503636f6d00001c0001 00000100 -\n\
+    at 20 ask 00000100000100000000000003777777076578616d706c6503636f6d0000010001 00000100 -\n";
+
+/// The second lane.
+const SECOND: &str =
+    "at 5 ask 000001000001000000000000046d61696c076578616d706c6503636f6d0000010001 00000100 -\n\
+    at 15 ask 000001000001000000000000046d61696c076578616d706c6503636f6d00001c0001 00000100 -\n\
+    at 25 ask 000001000001000000000000036e7331076578616d706c6503636f6d0000010001 00000100 -\n";
+
+/// Both, behind the head.
+const SIX: &str = "conf nameserver 192.0.2.53\nwords 4660 4661 4662 4663 4664 4665\n\
+    lane\n\
+    at 0 ask 000001000001000000000000076578616d706c6503636f6d0000010001 00000100 -\n\
+    at 10 ask 000001000001000000000000076578616d706c6503636f6d00001c0001 00000100 -\n\
+    at 20 ask 00000100000100000000000003777777076578616d706c6503636f6d0000010001 00000100 -\n\
+    lane\n\
+    at 5 ask 000001000001000000000000046d61696c076578616d706c6503636f6d0000010001 00000100 -\n\
+    at 15 ask 000001000001000000000000046d61696c076578616d706c6503636f6d00001c0001 00000100 -\n\
+    at 25 ask 000001000001000000000000036e7331076578616d706c6503636f6d0000010001 00000100 -\n";
+
+/// The status of these words on this input, and what is written.
+fn ran<R: Threads + Wait + Sync>(
+    rt: &R,
+    alloc: Global,
+    text: &str,
+    input: &[u8],
+) -> Option<(u8, Vec<u8>)> {
+    let mut words = Vec::new(alloc);
+    for word in text.split(' ') {
+        words.push(String::from_str(alloc, word).ok()?).ok()?;
+    }
+    let octets = Octets::from_slice(alloc, input).ok()?;
+    let mut sink = MemSink::new(alloc, Vec::new(alloc), Vec::new(alloc));
+    let status = run(
+        rt,
+        alloc,
+        &words,
+        &mut MemSource::new(octets, Vec::new(alloc)),
+        &mut sink,
+        &mut ListEdge::new(alloc, Vec::new(alloc)),
+        &mut ListClock::new(Vec::new(alloc)),
+        &mut ListWords::new(WordList::new(alloc)),
+    );
+    Some((status.0, Vec::from_slice(alloc, sink.as_slice()).ok()?))
+}
+
+/// Whether two lanes' rows are those of a replay of their events in that order, and each lane has its own, each once.
+fn are_replayed<R: Threads + Wait + Sync>(rt: &R, alloc: Global, text: &[u8]) -> Option<bool> {
+    let rows = text.strip_prefix(b"many 1\n".as_slice())?;
+    let mut texts = begun(alloc, HEAD)?;
+    put_all(rows, &mut texts)?;
+    let (status, trace) = ran(rt, alloc, "replay", texts.script.as_slice())?;
+    Some(
+        status == 0
+            && texts.first.as_slice() == FIRST.as_bytes()
+            && texts.second.as_slice() == SECOND.as_bytes()
+            && texts.trace.as_slice() == trace.as_slice(),
+    )
+}
+
+fn replays<R: Threads + Wait + Sync>(rt: &R, alloc: Global) -> Option<bool> {
+    let (status, text) = ran(rt, alloc, "many", SIX.as_bytes())?;
+    Some(status == 0 && are_replayed(rt, alloc, text.as_slice())?)
+}
+
+#[test]
+fn what_lanes_make_is_a_replay(rt: HostRuntime) {
+    assert!(rt; replays(&rt, rt.alloc()) == Some(true));
+}
+
+/// One lane, in which a server fails once its answer has expired.
+const ALONE: &str = "conf nameserver 192.0.2.53\nset stale-for 3600\n\
+    lane\n\
+    at 0 ask 000001000001000000000000076578616d706c6503636f6d0000010001 00000100 -\n\
+    at 10 opened 0\n\
+    at 20 datagram 0 000081800001000100000000076578616d706c6503636f6d0000010001c00c00010001000000640004c0000201\n\
+    at 200000000 ask 000001000001000000000000076578616d706c6503636f6d0000010001 00000100 -\n\
+    at 200000010 open-failed 1 refused\n";
+
+/// What it comes to.
+const SERVED: &str = "many 2\n\
+    lane 0 at 0 ask 000001000001000000000000076578616d706c6503636f6d0000010001 00000100 -\n\
+    > start 0 0 dgram\n\
+    > open-dgram 0 0\n\
+    lane 0 at 10 opened 0\n\
+    > send 0 0 0 000001000001000000000001076578616d706c6503636f6d000001000100002904d0000000000000\n\
+    lane 0 at 20 datagram 0 000081800001000100000000076578616d706c6503636f6d0000010001c00c00010001000000640004c0000201\n\
+    > close 0\n\
+    > reply 0 ok 000081800001000100000000076578616d706c6503636f6d0000010001c00c00010001000000640004c0000201\n\
+    lane 0 at 200000000 ask 000001000001000000000000076578616d706c6503636f6d0000010001 00000100 -\n\
+    > start 1 0 dgram\n\
+    > open-dgram 1 0\n\
+    lane 0 at 200000010 open-failed 1 refused\n\
+    > stale 1\n\
+    > reply 1 ok 000081800001000100000000076578616d706c6503636f6d0000010001c00c000100010000001e0004c0000201\n\
+    end\n";
+
+/// Words and an input whose end does not depend on who comes first, the status, and what is written.
+const ENDS: [(&str, &str, u8, &str); 6] = [
+    ("many", "", 1, "line 1 refused\n"),
+    ("many", "x\nlane\n", 1, "line 1 refused\n"),
+    ("many", "lane\n", 0, "many 1\nend\n"),
+    ("many", ALONE, 0, SERVED),
+    (
+        "many many",
+        "lane\n",
+        2,
+        "usage: dnsq replay|conf|gen N|many|query NAME TYPE [--port P]\n",
+    ),
+    ("replay", "", 0, "trace 1\nend\n"),
+];
+
+/// Whether each ends as it should.
+fn ends<R: Threads + Wait + Sync>(rt: &R, alloc: Global) -> Option<bool> {
+    for (words, input, status, written) in ENDS {
+        let (ended, text) = ran(rt, alloc, words, input.as_bytes())?;
+        if ended != status || text.as_slice() != written.as_bytes() {
+            return Some(false);
+        }
+    }
+    Some(true)
+}
+
+#[test]
+fn others_end_as_they_should(rt: HostRuntime) {
+    assert!(rt; ends(&rt, rt.alloc()) == Some(true));
+}

@@ -1,0 +1,125 @@
+"""Runs `dnsq many` on random scripts with lanes, and looks at what it writes.
+
+usage: python3 tests/replay_lanes.py PROGRAM [--runs N] [--lanes N] [--events N] [--busy N] [--seed N]
+
+PROGRAM is the built dnsq. Each run makes a script of so many lanes (4) with so many events each (100), by datagrams or by
+stream, with names that come again, so that the cache answers some. Of what is written, each lane's events must stand in
+their order, each once, and nothing else; and without its lanes it must be what `dnsq replay` writes for its own events. A run
+may take a minute. So many processes (0) keep the processors busy beside it. The first run that is otherwise ends all with
+status 1; its script lies in the file that is named.
+"""
+
+import argparse
+import random
+import subprocess
+import sys
+import tempfile
+
+MOMENT = 10_000
+
+
+def name_of(labels):
+    return b"".join(bytes([len(label)]) + label for label in labels) + b"\0"
+
+
+def question(number):
+    """Of one of 50 names, A or AAAA."""
+    name = name_of([b"h%d" % (number % 25), b"example", b"com"])
+    return name + (b"\0\1" if number % 50 < 25 else b"\0\x1c") + b"\0\1"
+
+
+def query(number):
+    return b"\0\0\1\0\0\1\0\0\0\0\0\0" + question(number)
+
+
+def answer(number, ident):
+    """One record of five minutes, of no octets of data but four."""
+    rtype = question(number)[-4:-2]
+    data = b"\xc0\0\2\1" if rtype == b"\0\1" else b"\x20\1" + b"\0" * 14
+    head = ident.to_bytes(2, "big") + b"\x81\x80\0\1\0\1\0\0\0\0"
+    record = b"\xc0\x0c" + rtype + b"\0\1" + (300).to_bytes(4, "big") + len(data).to_bytes(2, "big") + data
+    return head + question(number) + record
+
+
+def event(pick, streams):
+    """An event that may concern what the client does: places and ids are small numbers."""
+    place = pick.randrange(6) if streams else pick.randrange(40)
+    number = pick.randrange(50)
+    kind = pick.random()
+    if kind < 0.35:
+        return "ask %s 00000100 -" % query(number).hex()
+    if kind < 0.60:
+        return "opened %d" % place
+    if kind < 0.90:
+        octets = answer(number, pick.randrange(8) if streams else 0)
+        if streams:
+            return "bytes %d %s" % (place, (len(octets).to_bytes(2, "big") + octets).hex())
+        return "datagram %d %s" % (place, octets.hex())
+    if kind < 0.95:
+        return "ended %d" % place if streams else "recv-failed %d reset" % place
+    return "tick"
+
+
+def script_of(pick, lanes, events):
+    """The lines before the lanes, and the events of each lane. Without words each id of a datagram is 0."""
+    streams = pick.random() < 0.5
+    head = ["conf nameserver 192.0.2.53"] + (["conf options use-vc"] if streams else [])
+    return head, [["at %d %s" % (MOMENT * i, event(pick, streams)) for i in range(events)] for _ in range(lanes)]
+
+
+def run(program, command, text):
+    ran = subprocess.run([program, command], input=text.encode(), capture_output=True, timeout=600, check=False)
+    return ran.returncode, ran.stdout.decode()
+
+
+def difference(program, head, lanes, status, text):
+    """What is not as it should be, or None."""
+    lines = text.splitlines()
+    if status != 0 or lines[:1] not in (["many 1"], ["many 2"]) or lines[-1:] != ["end"]:
+        return "status %d" % status
+    version = lines[0].removeprefix("many ")
+    made = [[] for _ in lanes]
+    events, rows = [], []
+    for line in lines[1:-1]:
+        if line.startswith("lane "):
+            _, lane, line = line.split(" ", 2)
+            made[int(lane)].append(line)
+            events.append(line)
+        rows.append(line)
+    if made != lanes:
+        return "the events of a lane are others"
+    replayed = run(program, "replay", "\n".join(head + events) + "\n")
+    if replayed != (0, "\n".join(["trace " + version] + rows + ["end"]) + "\n"):
+        return "the replay of its events is another"
+    return None
+
+
+def main():
+    words = argparse.ArgumentParser(usage=__doc__)
+    words.add_argument("program")
+    for name, value in (("runs", 20), ("lanes", 4), ("events", 100), ("busy", 0), ("seed", 1)):
+        words.add_argument("--" + name, type=int, default=value)
+    asked = words.parse_args()
+    busy = [subprocess.Popen([sys.executable, "-c", "while True: pass"]) for _ in range(asked.busy)]
+    try:
+        pick = random.Random(asked.seed)
+        orders = set()
+        for number in range(asked.runs):
+            head, lanes = script_of(pick, asked.lanes, asked.events)
+            text = "\n".join(head + [line for lane in lanes for line in ["lane"] + lane]) + "\n"
+            status, written = run(asked.program, "many", text)
+            wrong = difference(asked.program, head, lanes, status, written)
+            if wrong:
+                with tempfile.NamedTemporaryFile("w", suffix=".script", delete=False) as file:
+                    file.write(text)
+                sys.exit("run %d: %s: %s" % (number, wrong, file.name))
+            turns = [line.split(" ", 2)[1] for line in written.splitlines() if line.startswith("lane ")]
+            orders.add(sum(a != b for a, b in zip(turns, turns[1:])))
+        print("%d runs; the lanes took turns %d to %d times" % (asked.runs, min(orders), max(orders)))
+    finally:
+        for process in busy:
+            process.kill()
+
+
+if __name__ == "__main__":
+    main()
