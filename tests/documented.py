@@ -35,7 +35,10 @@ def compared(what, documented, real):
 
 def main():
     scripts = (TOP / "docs/SCRIPTS.md").read_text(encoding="utf-8")
-    faults = compared("line", rows(scripts, "## A script"), names(SPECS / "Names.antt", "script_names"))
+    lines = names(SPECS / "Names.antt", "script_names")
+    # A line of this one word has no parts, so it is read apart from the others.
+    lines |= set(re.findall(r'line ≡ codes "(lane)"', (SPECS / "ScriptReading.antt").read_text(encoding="utf-8")))
+    faults = compared("line", rows(scripts, "## A script"), lines)
     faults += compared("event", rows(scripts, "### Events"), names(SPECS / "Names.antt", "event_names"))
     faults += compared("fault", rows(scripts, "| Fault |"), names(SPECS / "Names.antt", "fault_names"))
     faults += compared("setting", rows(scripts, "### Settings"), names(SPECS / "Settings.antt", "setting_names"))
