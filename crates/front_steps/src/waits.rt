@@ -1,0 +1,163 @@
+//! The queries that wait.
+
+ghost use Rattle.std.specs.Prelude.{◌≡◌, true, OnOk, IfErr};
+ghost use Rattle.client_request.specs.Timers.{IsWant};
+ghost use Rattle.number_table.specs.Entries.{entry_at, puts};
+ghost use Rattle.std.specs.Map.{lookup};
+ghost use Rattle.front_steps.specs.Waits as spec;
+
+use crate::asked_key::AskedKey;
+use client_request::Error;
+use dns_base::{NoMemory, Seq};
+use front_peers::Asker;
+use number_table::NumberTable;
+use std::alloc::Global;
+use std::collections::BTreeMap;
+use std::marker::Model;
+
+/// How many queries may wait.
+const MOST_WAITING: u64 = 10000;
+
+/// The queries that wait for the reply to one request.
+#[derive(Drop)]
+pub struct Waiting {
+    /// What they ask.
+    pub key: AskedKey,
+    /// The query of which the request was made.
+    pub first: Asker,
+    /// Those that came while it waited, in order.
+    pub others: Seq<Asker>,
+}
+
+/// The queries that wait, by their requests.
+pub struct Waits {
+    alloc: Global,
+    requests: NumberTable<Waiting>,
+    /// The numbers of the requests by what they ask.
+    numbers: BTreeMap<AskedKey, u64>,
+    /// The number of the next request.
+    next: u64,
+    /// How many queries wait.
+    count: u64,
+}
+
+impl Model for Waits {
+    ghost use Rattle.front_steps.specs.Waiting as waiting;
+
+    ghost Value = { waiting.Waits };
+
+    ghost view = { λ w. record { requests = w.requests; numbers = w.numbers.entries; next = w.next; count = w.count } };
+}
+
+impl Drop for Waits {
+    fn drop(self) {
+        let Waits {
+            alloc: _,
+            requests: _,
+            numbers: _,
+            next: _,
+            count: _,
+        } = self;
+    }
+}
+
+impl Waits {
+    /// No query waits.
+    pub(crate) fn new(alloc: Global) -> Waits
+        ensures { result ≡ spec.none_waits }
+    {
+        Waits {
+            alloc,
+            requests: NumberTable::new(alloc),
+            numbers: BTreeMap::new(alloc),
+            next: 0,
+            count: 0,
+        }
+    }
+
+    /// Whether one more query may wait.
+    pub(crate) fn has_room(&self) -> bool
+        ensures { result ≡ spec.has_room self.now }
+    {
+        self.count < MOST_WAITING
+    }
+
+    /// The number that was given to what is asked.
+    fn number_of(&self, key: &AskedKey) -> Option<u64>
+        ensures { result ≡ lookup (spec.is_key key.now) self.now.numbers }
+    {
+        self.numbers.get(key).copied()
+    }
+
+    /// The number of the request that waits and asks the same.
+    pub(crate) fn same_asked(&self, key: &AskedKey) -> Option<u64>
+        ensures { result ≡ spec.same_asked key.now self.now }
+    {
+        let number = self.number_of(key)?;
+        if self.requests.contains_key(number) {
+            Some(number)
+        } else {
+            None
+        }
+    }
+
+    fn put(&mut self, number: u64, waiting: Waiting) -> Result<(), NoMemory>
+        ensures { OnOk result (self.new ≡ record self.old { requests = puts number waiting self.old.requests }) }
+    {
+        match self.requests.insert(number, waiting) {
+            Ok(_) => Ok(()),
+            Err(_) => Err(NoMemory),
+        }
+    }
+
+    /// A query waits for the reply to a request that was asked before.
+    pub(crate) fn join(&mut self, number: u64, asker: Asker) -> Result<(), NoMemory>
+        requires { spec.has_room self.old ≡ true }
+        ensures { OnOk result (self.new ≡ spec.joins number asker self.old) }
+    {
+        let Some(mut waiting) = self.requests.remove(number) else {
+            return Ok(());
+        };
+        waiting.others.push(asker)?;
+        self.put(number, waiting)?;
+        self.count += 1;
+        Ok(())
+    }
+
+    /// A query waits for the reply to its own request. `NumbersUsed` where no number is left for it.
+    pub(crate) fn ask_anew(&mut self, asker: Asker) -> Result<(), Error>
+        ensures ok { OnOk result (self.new ≡ spec.asks_anew asker self.old) }
+        ensures want { IfErr result IsWant }
+    {
+        if self.next == u64::MAX || self.count == u64::MAX {
+            return Err(Error::NumbersUsed);
+        }
+        let key = AskedKey::new(asker.query.key(self.alloc)?);
+        let stored = key.try_clone(self.alloc)?;
+        let waiting = Waiting {
+            key,
+            first: asker,
+            others: Seq::new(self.alloc),
+        };
+        let number = self.next;
+        self.put(number, waiting)?;
+        if self.numbers.insert(stored, number).is_err() {
+            return Err(Error::NoMemory);
+        }
+        self.next = number + 1;
+        self.count += 1;
+        Ok(())
+    }
+
+    /// The queries that wait for the reply to a request wait no longer.
+    pub(crate) fn answer(&mut self, number: u64) -> Option<Waiting>
+        ensures found { result ≡ entry_at number self.old.requests }
+        ensures left { self.new ≡ spec.answered_if number (entry_at number self.old.requests) self.old }
+    {
+        let waiting = self.requests.remove(number)?;
+        let _number = self.numbers.remove(&waiting.key);
+        let others = waiting.others.len() as u64;
+        self.count = self.count.saturating_sub(1).saturating_sub(others);
+        Some(waiting)
+    }
+}
