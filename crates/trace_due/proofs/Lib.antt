@@ -1,0 +1,4 @@
+pub mod Waits
+pub mod Keeping
+pub mod ReadTimers
+pub mod IdleTimers

@@ -1,0 +1,11 @@
+-- those that are left tell what all tell
+use Rattle.std.proofs.Common.{◌≡◌}
+use Rattle.trace_due.specs.Due.{has_old}
+use Rattle.trace_due.proofs.due.has_old.Given as goal
+
+abbrev pub invariant-loop-written : goal.invariant-loop-written
+invariant-loop-written l = record {
+  can_next : (goal.iterator-loop-written).can_next l.written-iterator;
+  is_finite : (goal.iterator-loop-written).is_finite l.written-iterator;
+  same : has_old l.moment l.written-iterator ≡ has_old l.moment l.writes;
+}

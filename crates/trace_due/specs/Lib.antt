@@ -1,0 +1,4 @@
+pub mod Loose
+pub mod Invalid
+pub mod Timers
+pub mod Due

@@ -1,0 +1,4 @@
+pub mod Asking
+pub mod Opening
+pub mod Finding
+pub mod Telling

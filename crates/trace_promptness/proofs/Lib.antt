@@ -1,0 +1,4 @@
+pub mod Settling
+pub mod Hearing
+pub mod Delaying
+pub mod Prompting

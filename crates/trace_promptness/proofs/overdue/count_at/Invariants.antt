@@ -1,0 +1,12 @@
+-- those that are left are still to be counted
+use Rattle.std.proofs.Common.{◌≡◌, ◌+◌, ◌≤◌, min}
+use Rattle.trace_tables.specs.Sends.{count_at}
+use Rattle.trace_promptness.proofs.overdue.count_at.Given as goal
+
+abbrev pub invariant-loop-tried : goal.invariant-loop-tried
+invariant-loop-tried l = record {
+  can_next : (goal.iterator-loop-tried).can_next l.tried-iterator;
+  is_finite : (goal.iterator-loop-tried).is_finite l.tried-iterator;
+  few : l.count ≤ 7;
+  same : min 7 (l.count + count_at l.server l.tried-iterator) ≡ min 7 (count_at l.server l.tries);
+}

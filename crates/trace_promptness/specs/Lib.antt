@@ -1,0 +1,4 @@
+pub mod Settings
+pub mod Heard
+pub mod Overdue
+pub mod Prompt

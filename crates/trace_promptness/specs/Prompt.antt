@@ -1,0 +1,81 @@
+-- Whether each final message that comes is its request's reply, as a walk finds it.
+use Rattle.std.specs.Prelude.{ℕ, ◌==◌, ◌&&◌, ◌||◌, not, Bool, true, false, List, [], ◌∷◌, Option, Some, None, Ok}
+use Rattle.number_table.specs.Entries.{entry_at}
+use Rattle.client_request.specs.declared.event.Out.{Out}
+use Rattle.client_request.specs.declared.event.Out.TheVariants.{Reply}
+use Rattle.client_request.specs.declared.event.Row.{Row}
+use Rattle.client_request.specs.declared.event.Via.{Via}
+use Rattle.client_request.specs.declared.event.Via.TheVariants.{Dgram, Stream}
+use Rattle.dns_base.specs.Header.{tc_of}
+use Rattle.right_trace.specs.Trace.{History, Conf, after}
+use Rattle.right_trace.specs.Settings.{Settings}
+use Rattle.right_trace.specs.Messages.{Octets}
+use Rattle.right_trace.specs.Requests.{same_via}
+use Rattle.right_trace.specs.Right.{Prompt}
+use Rattle.trace_tables.specs.declared.books.Books.{Books}
+use Rattle.trace_tables.specs.declared.places.Place.{Place}
+use Rattle.trace_frames.specs.declared.frames.Brought.{Brought}
+use Rattle.trace_frames.specs.declared.here.Here.{Here}
+use Rattle.trace_frames.specs.declared.ledger.Ledger.{Ledger}
+use Rattle.trace_frames.specs.Ledger as ledger
+use Rattle.trace_frames.specs.Here as here_outs
+use Rattle.message_matching.specs.Shapes.{same_octets}
+use Rattle.trace_due.specs.declared.timers.Timers.{Timers}
+use Rattle.trace_due.specs.Timers as timers
+use Rattle.trace_exchanges.specs.declared.coming.Coming.{Coming}
+use Rattle.trace_exchanges.specs.Coming.{AllComing}
+use Rattle.trace_questions.specs.Outs.{Tells}
+use Rattle.trace_promptness.specs.Settings.{is_final_for}
+use Rattle.trace_promptness.specs.Heard.{Heards, is_passed_over}
+use Rattle.trace_promptness.specs.Heard as heards
+use Rattle.trace_promptness.specs.Overdue.{is_overdue}
+
+-- an out is the reply to request k with this message
+abbrev pub gives : (k : ℕ) → Octets → Out → Bool
+gives k m (Reply j (Ok x)) = (j == k) && same_octets x m
+gives k m _ = false
+
+abbrev pub is_given : (k : ℕ) → Octets → List Out → Bool
+is_given k m [] = false
+is_given k m (o ∷ os) = gives k m o || is_given k m os
+
+-- a datagram has TC clear
+abbrev pub is_uncut : Via → Octets → Bool
+is_uncut Dgram m = not (tc_of m)
+is_uncut Stream m = true
+
+abbrev pub matches : Coming → Bool
+matches x = x.agrees && is_uncut x.via x.message
+
+-- a message is the reply, or need not be
+abbrev pub is_answered : Conf → Settings → (moment : ℕ) → (past : Books) → Heards → List Out → Coming → Bool
+is_answered c s n past heard os x =
+    not (matches x && is_final_for s x.message (entry_at x.request past.requests.askings))
+    || (is_given x.request x.message os || is_overdue c s x.request n past heard)
+
+abbrev pub are_answered : Conf → Settings → (moment : ℕ) → (past : Books) → Heards → List Out → List Coming → Bool
+are_answered c s n past heard os [] = true
+are_answered c s n past heard os (x ∷ xs) = is_answered c s n past heard os x && are_answered c s n past heard os xs
+
+-- so it is of all that came in a row, unless they are excused
+abbrev pub are_prompt : Conf → Settings → (moment : ℕ) → (past : Books) → Heards → List Out → (excused : Bool) → List Coming → Bool
+are_prompt c s n past heard os true xs = true
+are_prompt c s n past heard os false xs = are_answered c s n past heard os xs
+
+abbrev pub is_stream : Option Place → Bool
+is_stream None = false
+is_stream (Some x) = same_via x.via Stream
+
+-- the place where something came is a stream that was closed in the row, and its read timer was due then
+abbrev pub excused_in : Option Brought → (moment : ℕ) → (past : Ledger) → Timers → (here : Ledger) → Here → Bool
+excused_in None n past t here o = false
+excused_in (Some b) n past t here o = is_passed_over b.place n past t o && is_stream (entry_at b.place here.books.places)
+
+abbrev pub prompt_seen : Conf → Settings → (past : Ledger) → Timers → Heards → (here : Ledger) → Here → List Out → List Coming → Bool
+prompt_seen c s past t heard here o os xs = are_prompt c s here.books.requests.clock past.books heard os (excused_in here.frames.brought here.books.requests.clock past t here o) xs
+
+-- the answer, of every history that the tables know, for a row behind it
+abbrev pub TellsPrompt : Conf → Settings → (past : Ledger) → Timers → Heards → (here : Ledger) → Here → Row → List Coming → Bool → Type 0
+TellsPrompt c s past t heard here o row xs b =
+    (x : History) → ledger.Known x past → timers.Known x t → heards.Known c x heard → ledger.Known (after row x) here → here_outs.Known past.books.places (after row x) o → AllComing c None x (after row x) xs
+    → Tells (Prompt c s x row) b
