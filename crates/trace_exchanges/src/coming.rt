@@ -214,7 +214,7 @@ impl<'a> Arrival<'a> {
         message: &Message,
         found: &mut Seq<Coming>,
     ) -> Result<(), NoMemory>
-        ensures { OnOk result (found.new ≡ found.old ++ plain.on_writes self.now.wanted self.now.past.now self.now.here.now.books self.now.place self.now.number id message.now (waiting_seen self.now.number id self.now.here.now.waiting)) }
+        ensures { let s = self.now in OnOk result (found.new ≡ found.old ++ plain.on_writes s.wanted s.past.now s.here.now.books s.place s.number id message.now (waiting_seen s.number id s.here.now.waiting)) }
     {
         let Some(at) = self.here.waiting.get(self.number) else {
             return Ok(());
