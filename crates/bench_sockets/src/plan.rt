@@ -25,9 +25,12 @@ pub fn planned(rt: &HostRuntime) -> Result<Plan, SocketFault> {
     let mut words = env::args(rt)?;
     let _name = words.next();
     let (port, servers) = (number(&mut words)?, number(&mut words)?);
+    let (Ok(port), Ok(servers)) = (u16::try_from(port), u8::try_from(servers)) else {
+        return Err(SocketFault::Usage);
+    };
     Ok(Plan {
-        port: port as u16,
-        servers: servers as u8,
+        port,
+        servers,
         names: number(&mut words)?,
         at_once: number(&mut words)?,
     })
