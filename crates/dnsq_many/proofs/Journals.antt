@@ -141,14 +141,14 @@ next_begins (e ∷ events) zero event at = (events, ap (λ x. x ∷ events) (sym
 next_begins (e ∷ events) (suc n) event at = let rest = next_begins events n event at in (rest.0, ap (λ es. e ∷ es) rest.1)
 
 module _ (lanes : List (List Event)) (qs : List Passed) (entries : List Entry) (lost : Option ℕ) (closed : All (IsClosed entries lost) qs) (below : All (λ (e : Entry). e.caller < length lanes) entries) where
-  abbrev ps : List Passed
-  ps = numbered (length lanes)
+  abbrev fresh : List Passed
+  fresh = numbered (length lanes)
 
-  newcomer_at : (k : ℕ) (events : List Event) (p : Passed) → slice_get lanes k ≡ Some events → slice_get ps k ≡ Some p → p ≡ newcomer k
-  newcomer_at k events p at old = one_of (slice_get ps k) p (newcomer k) old (numbered_at (length lanes) k (slice_get_within lanes k events at))
+  newcomer_at : (k : ℕ) (events : List Event) (p : Passed) → slice_get lanes k ≡ Some events → slice_get fresh k ≡ Some p → p ≡ newcomer k
+  newcomer_at k events p at old = one_of (slice_get fresh k) p (newcomer k) old (numbered_at (length lanes) k (slice_get_within lanes k events at))
 
   -- the events of a lane's pass are those of its entries in the journal
-  pass_events : (k : ℕ) (events sent : List Event) (p q : Passed) (mine : List Receipt) → slice_get lanes k ≡ Some events → slice_get ps k ≡ Some p → slice_get qs k ≡ Some q → IsLane p q sent mine
+  pass_events : (k : ℕ) (events sent : List Event) (p q : Passed) (mine : List Receipt) → slice_get lanes k ≡ Some events → slice_get fresh k ≡ Some p → slice_get qs k ≡ Some q → IsLane p q sent mine
       → (q.number ≡ k) × (events_by k entries ≡ sent) × (passes.events_of q ≡ sent)
   pass_events k events sent p q mine at old new lane =
       let first : p ≡ newcomer k = newcomer_at k events p at old in
@@ -168,7 +168,7 @@ module _ (lanes : List (List Event)) (qs : List Passed) (entries : List Entry) (
   past_lanes n le = ap (λ (o : Option (List Event)). option_map_or (λ (es : List Event). es) o []) (slice_get_past lanes n le)
 
   -- each lane's events, each once and in order, and nothing else
-  all_lanes : (receipts : List Receipt) → AreLanes ps qs lanes receipts → (n : ℕ) → events_by n entries ≡ lane_at lanes n
+  all_lanes : (receipts : List Receipt) → AreLanes fresh qs lanes receipts → (n : ℕ) → events_by n entries ≡ lane_at lanes n
   all_lanes receipts made n = by_number (dec_le (length lanes) n)
     where
       by_number : Dec (length lanes ≤ n) → events_by n entries ≡ lane_at lanes n
@@ -176,11 +176,11 @@ module _ (lanes : List (List Event)) (qs : List Passed) (entries : List Entry) (
       by_number (no more) =
           let events : List Event = slice_index_or lanes n [] in
           let at : slice_get lanes n ≡ Some events = slice_get-get_or lanes n [] (lt_of_not-le more) in
-          let l = lane_of ps qs lanes receipts n events made at in
+          let l = lane_of fresh qs lanes receipts n events made at in
           (pass_events n events events l.old l.new l.holds.0 at l.old_at l.new_at l.holds.1).1 ∙ sym (at_lane n events at)
 
   -- first events of each lane, and nothing else
-  begun_lanes : AreBegunLanes ps qs lanes → (n : ℕ) → IsPrefix (events_by n entries) (lane_at lanes n)
+  begun_lanes : AreBegunLanes fresh qs lanes → (n : ℕ) → IsPrefix (events_by n entries) (lane_at lanes n)
   begun_lanes begun n = by_number (dec_le (length lanes) n)
     where
       by_number : Dec (length lanes ≤ n) → IsPrefix (events_by n entries) (lane_at lanes n)
@@ -188,7 +188,7 @@ module _ (lanes : List (List Event)) (qs : List Passed) (entries : List Entry) (
       by_number (no more) =
           let events : List Event = slice_index_or lanes n [] in
           let at : slice_get lanes n ≡ Some events = slice_get-get_or lanes n [] (lt_of_not-le more) in
-          let l = begun_at ps qs lanes n events begun at in
+          let l = begun_at fresh qs lanes n events begun at in
           let b = l.holds in
           let there = (pass_events n events (take b.count events) l.old l.new b.receipts at l.old_at l.new_at b.lane).1 in
           subst (λ (z : List Event × List Event). IsPrefix z.0 z.1) (λ i. (sym there i, sym (at_lane n events at) i)) (taken_begins events b.count)
@@ -205,9 +205,9 @@ module _ (lanes : List (List Event)) (qs : List Passed) (entries : List Entry) (
             ∙ (ap (λ (items : List Item). events_in (own caller_of n items)) p.1 ∙ own_events n 0 entries lost))),
       )
 
-  may_stop : (o : Opening) (laws : LegalHistories) (script : Script) → o ≡ opening_for script → script.lanes ≡ lanes → AreBegunLanes ps qs lanes → IsSomeStopped o ps qs lanes → MayStop script
+  may_stop : (o : Opening) (laws : LegalHistories) (script : Script) → o ≡ opening_for script → script.lanes ≡ lanes → AreBegunLanes fresh qs lanes → IsSomeStopped o fresh qs lanes → MayStop script
   may_stop o laws script is same begun some_one =
-      let s = stopped_at o ps qs lanes some_one in
+      let s = stopped_at o fresh qs lanes some_one in
       let k = s.place in
       let q = s.lane.new in
       let st = s.lane.holds in
@@ -230,7 +230,7 @@ module _ (lanes : List (List Event)) (qs : List Passed) (entries : List Entry) (
         stops = subst (λ (p : Opening). plain_trace p.redundant p.cache p.conf p.words (events_of before ++ st.event ∷ []) ≡ None) is none;
       }
 
-  are_made : (o : Opening) (laws : LegalHistories) (script : Script) (receipts : List Receipt) (left : ℕ → ℕ) → o ≡ opening_for script → script.lanes ≡ lanes → AreLanes ps qs lanes receipts → IsLegal o (history entries lost)
+  are_made : (o : Opening) (laws : LegalHistories) (script : Script) (receipts : List Receipt) (left : ℕ → ℕ) → o ≡ opening_for script → script.lanes ≡ lanes → AreLanes fresh qs lanes receipts → IsLegal o (history entries lost)
       → AreHandedIn script.cache (listed script.words) (events_of entries) → AreDrawn o.words entries lost left → AreMade script entries
   are_made o laws script receipts left is same made legal handed drawn =
       let p : Opening = opening_for script in

@@ -6,7 +6,7 @@ use Rattle.std.specs.Option.{option_and_then}
 use Rattle.std.specs.String.{string_bytes}
 use Rattle.std.specs.declared.alloc.Global.{Global}
 use Rattle.std.proofs.lemmas.Slice.Eq.{slice_eq-Decides}
-use Rattle.std.proofs.Math.Dec.{Decides-eqb}
+use Rattle.std.proofs.lemmas.Bool.Decides.{Decides-eqb}
 use Rattle.dnsq_run.specs.Generating.{count_of}
 use Rattle.dnsq_run.specs.QueryWords.{query_of, asked, said_by, nothing_said}
 use Rattle.dnsq_run.specs.Words.{command_of}

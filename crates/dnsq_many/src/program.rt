@@ -24,17 +24,22 @@ use std::sync::Wait;
 use std::thread::Threads;
 
 /// Whether the words are `many` alone.
-#[tactic(auto, using(crate::proofs::Words::no_other))]
 fn is_many(words: &[String]) -> bool
-    ensures many { result ≡ is_many words.now }
-    ensures no_command { result ≡ true → command_of words.now ≡ None }
-    ensures no_query { result ≡ true → query_of words.now ≡ None }
-    ensures no_count { result ≡ true → count_of words.now ≡ None }
+    ensures { result ≡ is_many words.now }
 {
     match words {
         [word] => word.as_bytes() == b"many".as_slice(),
         _ => false,
     }
+}
+
+/// Words that are `many` alone are no other command. It does nothing.
+fn no_other(words: &[String])
+    ensures no_command { is_many words.now ≡ true → command_of words.now ≡ None }
+    ensures no_query { is_many words.now ≡ true → query_of words.now ≡ None }
+    ensures no_count { is_many words.now ≡ true → count_of words.now ≡ None }
+{
+    let _count = words.len();
 }
 
 /// Writes what the lanes of a script make of one client.
@@ -120,6 +125,7 @@ pub fn run<R: Threads + Wait + Sync, S: Source, K: Sink, E: Edge, C: Clock, W: W
     // Lanes that share one client.
     ensures many { is_many words.now ≡ true → EndsSo result.0 (S.left source.old) (S.left source.new) (K.held sink.old) (K.held sink.new) (K.faults sink.old) (K.faults sink.new) }
 {
+    no_other(words);
     if is_many(words) {
         return run_many(rt, alloc, source, sink);
     }

@@ -28,7 +28,7 @@ returns-in-Ok-result-clause-made g c =
 
 pub returns-clause-numbers : goal.returns-clause-numbers
 returns-clause-numbers g c = λ is.
+    let used : c.in-Err.error ≡ NumbersUsed = cc is in
     let run = run_of _ c.args.script _ _ _ _ _ _ _ _ _ _ _ _ c.requires.opening c.as_slice-2.ensures.value c.into_vec-lanes.ensures c.as_slice-2.ensures.len c.len.ensures c.in-Ok.ensures.1
     c.as_mut_slice.ensures.value c.in_ok-shared.ensures.passes c.run_lanes-result.auto.passes c.as_mut_slice.ensures.len c.in-Ok-close.ensures.passes c.in_ok-shared.ensures.shared c.in-Ok-close.ensures.callers in
-    let used : c.in-Err.error ≡ NumbersUsed = cc is in
     stopped_of _ c.legal_histories.ensures c.args.script _ _ _ _ _ _ run c.in-Err.ensures.begun (c.in-Err.ensures.numbers (ap Err used))
