@@ -71,7 +71,10 @@ pub trait Resolver {
         name: &Name,
         first: Rtype,
         second: Rtype,
-    ) -> (Result<Self::Answer, QueryFault>, Result<Self::Answer, QueryFault>)
+    ) -> (
+        Result<Self::Answer, QueryFault>,
+        Result<Self::Answer, QueryFault>,
+    )
         ensures asked { AsksBoth says together asked self.old (asking name.now first.0 (octets_in Self.Answer.octets_of result.0)) (asking name.now second.0 (octets_in Self.Answer.octets_of result.1)) self.new }
         ensures count { faults self.old ≤ faults self.new }
         ensures first_failed { IfErr result.0 (IsCounted (faults self.old) (faults self.new)) }
