@@ -19,6 +19,7 @@ use dns_base::{NoMemory, ReadFault, Sink, SinkFault, Status, read_to_end};
 use resolv_conf::OpenFile;
 use std::alloc::Global;
 use zone_records::Zone;
+use zone_transfer::Progress;
 
 /// The octets of the file at a path.
 fn octets_at<O: OpenFile>(alloc: Global, opener: &mut O, path: &str) -> Result<Vec<u8>, Stop>
@@ -73,7 +74,7 @@ fn zone_before<O: OpenFile>(alloc: Global, command: &Command, opener: &mut O) ->
 }
 
 /// The zone that the words ask for, and whether it is written in the form that name servers load.
-fn zone_asked<O: OpenFile, E: Edge, C: Clock, W: Words>(
+fn zone_asked<O: OpenFile, E: Edge, C: Clock, W: Words, P: Progress>(
     alloc: Global,
     words: &[String],
     opener: &mut O,
@@ -81,6 +82,7 @@ fn zone_asked<O: OpenFile, E: Edge, C: Clock, W: Words>(
     later: &mut E,
     clock: &mut C,
     random: &mut W,
+    progress: &mut P,
 ) -> Result<(Zone, bool), Stop>
     ensures zone { IfOk result (λ x. over E.deeds E.polls C.given (edge.old, later.old, clock.old) (edge.new, later.new, clock.new) (HasZone words.now (O.files opener.old) (W.stream random.old) x.0 x.1)) }
     ensures stop { IfErr result (over E.deeds E.polls C.given (edge.old, later.old, clock.old) (edge.new, later.new, clock.new) (HasStopped words.now (O.files opener.old) (W.stream random.old))) }
@@ -94,7 +96,11 @@ fn zone_asked<O: OpenFile, E: Edge, C: Clock, W: Words>(
         Ok(zone) => zone,
         Err(stop) => return Err(stop),
     };
-    match bring(alloc, &command, &mut zone, edge, later, clock, random) {
+    let brought = bring(
+        alloc, &command, &mut zone, edge, later, clock, random, progress,
+    );
+    progress.end();
+    match brought {
         Ok(()) => Ok((zone, command.text)),
         Err(fault) => Err(Stop::NotFetched(fault)),
     }
@@ -120,8 +126,9 @@ fn tell_zone<K: Sink>(alloc: Global, sink: &mut K, zone: &Zone, is_loaded: bool)
 /// 2: the words are others; nothing is written. 3: the file can't be read; nothing is written. 4: the sink failed. 5: the zone was not
 /// fetched, and the line says why. 6: memory ran out. 7: numbers are used up.
 ///
-/// No edge was used before. The later one is used where changes were asked for and the server has none to another serial.
-pub fn run_fetch<O: OpenFile, K: Sink, E: Edge, C: Clock, W: Words>(
+/// No edge was used before. The later one is used where changes were asked for and the server has none to another serial. While it
+/// turns, `progress` is told how far the transfer is.
+pub fn run_fetch<O: OpenFile, K: Sink, E: Edge, C: Clock, W: Words, P: Progress>(
     alloc: Global,
     words: &[String],
     opener: &mut O,
@@ -130,12 +137,13 @@ pub fn run_fetch<O: OpenFile, K: Sink, E: Edge, C: Clock, W: Words>(
     later: &mut E,
     clock: &mut C,
     random: &mut W,
+    progress: &mut P,
 ) -> Status
     ensures ends { over E.deeds E.polls C.given (edge.old, later.old, clock.old) (edge.new, later.new, clock.new) (FetchEnds K.held K.faults words.now (O.files opener.old) (W.stream random.old) result sink.old sink.new) }
     ensures unread { result.0 ≡ 3 → Rose (O.faults opener.old) (O.faults opener.new) }
     ensures flushed { result.0 ≡ 0 → IsFlushed (K.held sink.new) (K.flushed sink.new) }
 {
-    match zone_asked(alloc, words, opener, edge, later, clock, random) {
+    match zone_asked(alloc, words, opener, edge, later, clock, random, progress) {
         Ok((zone, is_loaded)) => tell_zone(alloc, sink, &zone, is_loaded),
         Err(stop) => tell(sink, stop),
     }
