@@ -10,7 +10,7 @@ ghost use Rattle.zone_fetch_run.specs.Lines.{zone_text};
 use crate::command::{Command, command_of};
 use crate::fetching::bring;
 use crate::lines::write_zone;
-use crate::printed::{Unread, zone_of};
+use crate::printed::{Flaw, Unread, zone_of};
 use crate::stop::{Stop, tell};
 use client_core::{Clock, Edge};
 use client_request::Words;
@@ -24,7 +24,7 @@ use zone_transfer::Progress;
 /// The octets of the file at a path.
 fn octets_at<O: OpenFile>(alloc: Global, opener: &mut O, path: &str) -> Result<Vec<u8>, Stop>
     ensures octets { IfOk result (λ v. IfSome (O.files opener.old) (λ file_at. file_at path.now ≡ Some v.items)) }
-    ensures stopped { IfErr result IsOfFile }
+    ensures stopped { IfErr result (IsOfFile path.now (O.files opener.old)) }
     ensures unread { IfErr result (RoseUnread (O.faults opener.old) (O.faults opener.new)) }
 {
     if opener.open_file(path).is_err() {
@@ -33,7 +33,7 @@ fn octets_at<O: OpenFile>(alloc: Global, opener: &mut O, path: &str) -> Result<V
     match read_to_end(alloc, opener, usize::MAX) {
         Ok(octets) => Ok(octets),
         Err(ReadFault::Failed) => Err(Stop::Unread),
-        Err(ReadFault::TooLong) => Err(Stop::NotPrinted),
+        Err(ReadFault::TooLong) => Err(Stop::NotPrinted(Flaw::Text)),
         Err(ReadFault::NoMemory) => Err(Stop::NoMemory),
     }
 }
@@ -46,14 +46,14 @@ fn zone_at<O: OpenFile>(
     path: &str,
 ) -> Result<Zone, Stop>
     ensures zone { IfOk result (IsFiled command.now.apex path.now (O.files opener.old)) }
-    ensures stopped { IfErr result IsOfFile }
+    ensures stopped { IfErr result (IsOfFile path.now (O.files opener.old)) }
     ensures unread { IfErr result (RoseUnread (O.faults opener.old) (O.faults opener.new)) }
 {
     let octets = octets_at(alloc, opener, path)?;
     let apex = command.apex.try_clone(alloc)?;
     match zone_of(alloc, octets.as_slice(), apex) {
         Ok(zone) => Ok(zone),
-        Err(Unread::NotPrinted) => Err(Stop::NotPrinted),
+        Err(Unread::NotPrinted(flaw)) => Err(Stop::NotPrinted(flaw)),
         Err(Unread::NoMemory) => Err(Stop::NoMemory),
     }
 }
@@ -61,7 +61,7 @@ fn zone_at<O: OpenFile>(
 /// The zone before: what the file has that the words name, or none.
 fn zone_before<O: OpenFile>(alloc: Global, command: &Command, opener: &mut O) -> Result<Zone, Stop>
     ensures zone { IfOk result (IsBase command.now (O.files opener.old)) }
-    ensures stopped { IfErr result (IsUnbased command.now) }
+    ensures stopped { IfErr result (IsUnbased command.now (O.files opener.old)) }
     ensures unread { IfErr result (RoseUnread (O.faults opener.old) (O.faults opener.new)) }
 {
     match &command.file {
@@ -122,8 +122,8 @@ fn tell_zone<K: Sink>(alloc: Global, sink: &mut K, zone: &Zone, is_loaded: bool)
 
 /// Does what the words ask for, `[--text] [--port P] [--most OCTETS] [--from FILE] ZONE ADDRESS`, and answers the exit status.
 ///
-/// 0: the zone was written whole, a line for each record. 1: the file has no zone that was printed in numbers and hexadecimal digits.
-/// 2: the words are others; nothing is written. 3: the file can't be read; nothing is written. 4: the sink failed. 5: the zone was not
+/// 0: the zone was written whole, a line for each record. 1: the file has no zone that was printed in numbers and hexadecimal digits, and
+/// the line says which line of it is not, and why. 2: the words are others; nothing is written. 3: the file can't be read; nothing is written. 4: the sink failed. 5: the zone was not
 /// fetched, and the line says why. 6: memory ran out. 7: numbers are used up.
 ///
 /// No edge was used before. The later one is used where changes were asked for and the server has none to another serial. While it
@@ -145,6 +145,6 @@ pub fn run_fetch<O: OpenFile, K: Sink, E: Edge, C: Clock, W: Words, P: Progress>
 {
     match zone_asked(alloc, words, opener, edge, later, clock, random, progress) {
         Ok((zone, is_loaded)) => tell_zone(alloc, sink, &zone, is_loaded),
-        Err(stop) => tell(sink, stop),
+        Err(stop) => tell(alloc, sink, stop),
     }
 }
