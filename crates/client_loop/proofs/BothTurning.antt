@@ -1,21 +1,21 @@
 -- Two requests that are asked together, and one turn more.
 use Rattle.std.proofs.Common.{◌≡◌, ℕ, ◌+◌, ◌-◌, ◌<◌, ◌≤◌, List, [], ◌∷◌, ◌++◌, ◌⊎◌, inl, inr, Bool, true, false, length, map, Option, Some, None, Result, refl, ap, sym, subst, ◌∙◌, arith, append_assoc, length-append}
 use Rattle.std.specs.Prelude.{option_map}
+use Rattle.dns_values.specs.Source.{one_more}
 use Rattle.client_request.specs.Request.{Request}
 use Rattle.client_request.specs.declared.error.Error.{Error}
 use Rattle.client_request.specs.declared.event.Event.{Event}
-use Rattle.client_request.specs.declared.event.Out.{Out}
 use Rattle.client_request.specs.declared.event.Row.{Row}
 use Rattle.client_steps.specs.Client.{plain_rows}
 use Rattle.client_steps.specs.Whole.{Client, machine}
 use Rattle.client_loop.specs.declared.both.BothReplies.{BothReplies}
 use Rattle.client_loop.specs.Asking.{Asked, Begun, Scene, client_of, rows_of}
-use Rattle.client_loop.specs.Both.{AreAnswered, AreBegun, AreNeeded, AskedBoth, all_rows, are_there, first_replies, or_replies, replies_in, replies_of}
-use Rattle.client_loop.specs.Replies.{first_reply, or_later, reply_in, reply_of}
-use Rattle.client_loop.specs.Turns.{Leads, Turn, events_of}
+use Rattle.client_loop.specs.Both.{AreAnswered, AreBegun, AreNeeded, AskedBoth, StopForNumbers, all_rows, are_there, at_second, first_replies, or_replies, replies_in}
+use Rattle.client_loop.specs.Replies.{first_reply, or_later, reply_in}
+use Rattle.client_loop.specs.Turns.{Leads, StopsAt, Turn, events_of}
 use Rattle.client_loop.proofs.Deeds.{append_nil}
 use Rattle.client_loop.proofs.Rows.{plain_of}
-use Rattle.client_loop.proofs.Turning.{OneMore, rows_more}
+use Rattle.client_loop.proofs.Turning.{OneMore, rows_more, stops_more}
 
 abbrev Reply : Type 0
 Reply = Option (Result (List ℕ) Error)
@@ -33,14 +33,6 @@ or_none (Some reply) = refl
 or_assoc : (a b c : Reply) → or_later (or_later a b) c ≡ or_later a (or_later b c)
 or_assoc None b c = refl
 or_assoc (Some reply) b c = refl
-
--- one out more, of those that are left
-pub heard_more : (number : ℕ) (r : BothReplies) (out : Out) (left : List Out) → or_replies (or_replies r (replies_of number out)) (replies_in number left) ≡ or_replies r (replies_in number (out ∷ left))
-heard_more number r out left = same_replies _ _ _ _ (or_assoc r.first (reply_of number out) (reply_in number left)) (or_assoc r.second (reply_of (number + 1) out) (reply_in (number + 1) left))
-
--- no out is left
-pub heard_all : (number : ℕ) (r : BothReplies) → or_replies r (replies_in number []) ≡ r
-heard_all number r = same_replies _ _ _ _ (or_none r.first) (or_none r.second)
 
 -- one row more
 reply_more : (number : ℕ) (rows : List Row) (row : Row) → first_reply number (rows ++ row ∷ []) ≡ or_later (first_reply number rows) (reply_in number row.outs)
@@ -91,12 +83,17 @@ asked_alone {row = row} h = ap (λ (r : Row). rows_of r h.asked.turns) h.asking_
 
 module _ (number : ℕ) (first second : Request) (old : Scene) where
   -- both are asked
-  pub both_begun : (middle new : Scene) (row behind : Row) → Begun first old middle row → middle.client.timeout ≡ old.client.timeout → Begun second middle new behind
-      → AreBegun number first second old new (or_replies (replies_in number row.outs) (replies_in number behind.outs))
-  both_begun middle new row behind h same i = record {
+  pub both_begun : (middle new : Scene) (row behind : Row) (r one other : BothReplies) → Begun first old middle row → middle.client.timeout ≡ old.client.timeout → Begun second middle new behind
+      → one ≡ replies_in number row.outs → other ≡ replies_in number behind.outs → r ≡ or_replies one other → AreBegun number first second old new r
+  both_begun middle new row behind r one other h same i at_first behind_that is = record {
     both = record { row = row; middle = middle; begun = h; timeout = same; asked = i.asked };
     no_turns = i.no_turns;
-    replies_are = same_replies _ _ _ _ (two_rows number row behind) (two_rows (number + 1) row behind) ∙ ap (λ (rows : List Row). first_replies number (row ∷ rows)) (sym (asked_alone i));
+    replies_are =
+        is
+        ∙ ap (λ (x : BothReplies). or_replies x other) at_first
+        ∙ ap (λ (x : BothReplies). or_replies (replies_in number row.outs) x) behind_that
+        ∙ same_replies _ _ _ _ (two_rows number row behind) (two_rows (number + 1) row behind)
+        ∙ ap (λ (rows : List Row). first_replies number (row ∷ rows)) (sym (asked_alone i));
   }
 
   -- no turn is made yet
@@ -111,9 +108,9 @@ module _ (number : ℕ) (first second : Request) (old : Scene) where
       }
 
   -- one turn more is made
-  pub pending_more : (left most : ℕ) (mid new : Scene) (r : BothReplies) (p : Pending number left most first second old mid r) (row : Row) → OneMore second p.both.middle mid new p.both.asked row
-      → are_there r ≡ false → 0 < left → Pending number (left - 1) most first second old new (or_replies r (replies_in number row.outs))
-  pending_more left most mid new r p row o missing some =
+  pub pending_more : (left most : ℕ) (mid new : Scene) (r one after : BothReplies) (p : Pending number left most first second old mid r) (row : Row) → OneMore second p.both.middle mid new p.both.asked row
+      → are_there r ≡ false → 0 < left → one ≡ replies_in number row.outs → after ≡ or_replies r one → Pending number (left - 1) most first second old new after
+  pending_more left most mid new r one after p row o missing some is joins =
       let a = p.both.asked in
       let b = o.asked in
       let rows : rows_of b.asking b.turns ≡ rows_of a.asking a.turns ++ row ∷ [] =
@@ -123,7 +120,9 @@ module _ (number : ℕ) (first second : Request) (old : Scene) where
       record {
         both = record { row = p.both.row; middle = p.both.middle; begun = p.both.begun; timeout = p.both.timeout; asked = b };
         replies_are =
-            ap (λ (x : BothReplies). or_replies x (replies_in number row.outs)) p.replies_are
+            joins
+            ∙ ap (λ (x : BothReplies). or_replies r x) is
+            ∙ ap (λ (x : BothReplies). or_replies x (replies_in number row.outs)) p.replies_are
             ∙ sym (replies_more number (all_rows p.both) row)
             ∙ sym (ap (λ (rs : List Row). first_replies number (p.both.row ∷ rs)) rows);
         needed =
@@ -132,6 +131,12 @@ module _ (number : ℕ) (first second : Request) (old : Scene) where
             (needed_more number (p.both.row ∷ a.asking ∷ []) a.turns o.turn p.needed (sym (ap (λ (x : BothReplies). are_there x) p.replies_are) ∙ missing)));
         left_are = omega arith;
       }
+
+  -- a number would pass 64 bits in a turn
+  pub stop_pending : (left most : ℕ) (mid new : Scene) (r : BothReplies) → Pending number left most first second old mid r → mid.client.timeout ≡ old.client.timeout
+      → StopsAt mid.words mid.client mid.deeds new.deeds mid.moments new.moments → new.polls ≡ one_more mid.polls → StopForNumbers first second old new
+  stop_pending left most mid new r p same stops counted =
+      at_second p.both.middle p.both.row p.both.begun (stops_more second p.both.middle mid new p.both.asked (same ∙ sym p.both.timeout) stops counted)
 
   -- both are there, or no turn is left
   pub both_answered : (left most : ℕ) (new : Scene) (r : BothReplies) → Pending number left most first second old new r → (are_there r ≡ true) ⊎ (left ≤ 0) → AreAnswered number most first second old new r

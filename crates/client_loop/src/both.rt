@@ -110,7 +110,10 @@ fn begin_both<E: Edge, C: Clock, W: Words>(
 {
     let row = begin(client, edge, clock, words, first)?;
     let at_first = replies_in(number, row);
-    let behind = begin(client, edge, clock, words, second)?;
+    let behind = match begin(client, edge, clock, words, second) {
+        Ok(row) => row,
+        Err(error) => return Err(error),
+    };
     Ok(at_first.or(replies_in(number, behind)))
 }
 
@@ -137,7 +140,10 @@ pub fn ask_both<E: Edge, C: Clock, W: Words>(
     ensures refused { IfErr result IsRefusal }
     ensures failed_only { IsErrOf result Error.Failed → client.old.failed ≡ true }
 {
-    let mut replies = begin_both(client, edge, clock, words, number, first, second)?;
+    let mut replies = match begin_both(client, edge, clock, words, number, first, second) {
+        Ok(replies) => replies,
+        Err(error) => return Err(error),
+    };
     let mut left = MOST_TURNS;
     while left > 0 && !replies.are_there() {
         let row = match turn(client, edge, clock, words) {
