@@ -89,8 +89,14 @@ fn both_settled<E: Edge, C: Clock, W: Words>(
     ensures refused { IfErr result IsRefusal }
     ensures failed_only { IsErrOf result Error.Failed → client.old.failed ≡ true }
 {
-    let one = settled(client, edge, clock, words, first, replies.first)?;
-    let other = settled(client, edge, clock, words, second, replies.second)?;
+    let one = match settled(client, edge, clock, words, first, replies.first) {
+        Ok(reply) => reply,
+        Err(error) => return Err(error),
+    };
+    let other = match settled(client, edge, clock, words, second, replies.second) {
+        Ok(reply) => reply,
+        Err(error) => return Err(error),
+    };
     Ok(BothReplies {
         first: one,
         second: other,
@@ -114,10 +120,13 @@ fn replies_to_both<E: Edge, C: Clock, W: Words>(
     ensures refused { IfErr result IsRefusal }
     ensures failed_only { IsErrOf result Error.Failed → client.old.failed ≡ true }
 {
-    let (one, other) = (first.try_clone(alloc)?, second.try_clone(alloc)?);
+    let one = first.try_clone(alloc)?;
+    let other = second.try_clone(alloc)?;
     let number = client.next_request();
-    let replies = ask_both(client, edge, clock, words, number, first, second)?;
-    both_settled(client, edge, clock, words, one, other, replies)
+    match ask_both(client, edge, clock, words, number, first, second) {
+        Ok(replies) => both_settled(client, edge, clock, words, one, other, replies),
+        Err(error) => Err(error),
+    }
 }
 
 /// What two questions get whose requests wait at once.
