@@ -84,6 +84,8 @@ TakeTurns {E} {C} {W} see first second old new one other = (between : Stub E C W
 pub data AskBoth {E C W : Type 0} (see : Stub E C W → Scene) (first second : List ℕ) (old new : Stub E C W) (one other : Got) : Type 0 where
   at_once : CanWait first second old → QueriesBoth see (recorded_from first) (recorded_from second) old new one other → AskBoth see first second old new one other
   by_turns : MustTakeTurns first second old → TakeTurns see first second old new one other → AskBoth see first second old new one other
+  -- memory ran out for both before they were asked
+  no_memory : one ≡ Err (Client errors.NoMemory) → QueriesBoth see (recorded_from first) (recorded_from second) old new one other → AskBoth see first second old new one other
 
 -- The requests of two questions were asked side by side, as a resolver says of such a call.
 abbrev pub AsksTogether : {E C W : Type 0} → (Stub E C W → Scene) → Stub E C W → Asking → Asking → Stub E C W → Type 0

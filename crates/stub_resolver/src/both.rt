@@ -1,13 +1,15 @@
 //! Two requests that are asked side by side, and each once more whose reply says that it could not be read.
 
-ghost use Rattle.std.specs.Prelude.{◌≡◌, ◌<◌, ◌⊎◌, ◌||◌, true, false, OnOk, IfOk, IfErr, IsErrOf};
+ghost use Rattle.std.specs.Prelude.{◌≡◌, ◌<◌, ◌⊎◌, ◌≤◌, ◌||◌, true, false, OnErr, OnOk, IfOk, IfErr, IsErrOf};
+ghost use Rattle.dns_values.specs.Source.{Rose};
 ghost use Rattle.client_request.specs.Request.{is_misformed, recorded_from};
 ghost use Rattle.client_request.specs.Response.{IsRefusal};
 ghost use Rattle.client_loop.specs.Asking.{StopsForNumbers, between};
+ghost use Rattle.resolv_lookup.specs.ListAnswers.{faults_after};
 ghost use Rattle.stub_resolver.specs.Both.{AreGot, ReplyBoth, SettleBoth, Settles, StopBoth, StopSettling};
 ghost use Rattle.stub_resolver.specs.Queries.{is_formerr, is_want, question};
 
-use crate::asking::{Reply, got_of, is_formerr, reply_to};
+use crate::asking::{Reply, got_of, is_formerr, is_want, reply_to};
 use crate::question::question;
 use client_core::{Client, Clock, Edge};
 use client_loop::{BothReplies, ask_both};
@@ -149,5 +151,24 @@ pub(crate) fn got_to_both<E: Edge, C: Clock, W: Words>(
             Err(QueryFault::Client(error)),
             Err(QueryFault::Client(error)),
         ),
+    }
+}
+
+/// Whether memory or numbers ran out for one of two questions.
+pub(crate) fn are_want(both: &BothGot) -> bool
+    ensures { result ≡ (is_want both.now.0 || is_want both.now.1) }
+{
+    is_want(&both.0) || is_want(&both.1)
+}
+
+/// The count of faults behind what a question got. It stands still at its last value.
+pub(crate) fn faults_after(got: &Result<Answer, QueryFault>, faults: u64) -> u64
+    ensures is { result ≡ faults_after got.now faults }
+    ensures rose { OnErr got.now (Rose faults result) }
+    ensures count { faults ≤ result }
+{
+    match got {
+        Ok(_) => faults,
+        Err(_) => faults.saturating_add(1),
     }
 }

@@ -48,12 +48,7 @@ impl<E: Edge + Drop, C: Clock + Drop, W: Words + Drop> Resolver for StubResolver
         name: &Name,
         first: Rtype,
         second: Rtype,
-    ) -> (Result<Answer, QueryFault>, Result<Answer, QueryFault>)
-        ensures asked { AsksStubBoth (seen E.deeds E.waits E.polls C.given W.stream) self.old (asking name.now first.0 result.0) (asking name.now second.0 result.1) self.new }
-        ensures count { self.old.faults ≤ self.new.faults }
-        ensures first_failed { IfErr result.0 (IsCounted self.old.faults self.new.faults) }
-        ensures second_failed { IfErr result.1 (IsCounted self.old.faults self.new.faults) }
-    {
+    ) -> (Result<Answer, QueryFault>, Result<Answer, QueryFault>) {
         StubResolver::query_both(self, alloc, name, first, second)
     }
 }

@@ -12,7 +12,7 @@ ghost use Rattle.stub_resolver.specs.Queries.{Gets, question, is_want};
 ghost use Rattle.stub_resolver.specs.Stub.{seen, with_fault};
 
 use crate::asking::{got_to, is_want};
-use crate::both::{BothGot, got_to_both, requests_of};
+use crate::both::{BothGot, are_want, faults_after, got_to_both, requests_of};
 use crate::question::question;
 use client_core::{Client, Clock, Edge, cache, redundant};
 use client_loop::learn_all;
@@ -200,8 +200,8 @@ impl<E: Edge + Drop, C: Clock + Drop, W: Words + Drop> StubResolver<E, C, W> {
         match requests_of(alloc, name, first, second) {
             Ok((one, other)) => self.ask_both(alloc, one, other),
             Err(Error::FormError) => self.query_by_turns(alloc, name, first, second),
-            Err(error) => {
-                let fault = QueryFault::Client(error);
+            Err(_) => {
+                let fault = QueryFault::from(NoMemory);
                 (self.fail(fault), self.fail(fault))
             }
         }
@@ -228,7 +228,7 @@ impl<E: Edge + Drop, C: Clock + Drop, W: Words + Drop> StubResolver<E, C, W> {
         ensures first_rose { OnErr result.0 (Rose self.old.faults self.new.faults) }
         ensures second_rose { OnErr result.1 (Rose self.old.faults self.new.faults) }
     {
-        let (one, other) = got_to_both(
+        let both = got_to_both(
             alloc,
             &mut self.client,
             &mut self.edge,
@@ -237,10 +237,9 @@ impl<E: Edge + Drop, C: Clock + Drop, W: Words + Drop> StubResolver<E, C, W> {
             first,
             second,
         );
-        self.failed = is_want(&one) || is_want(&other);
-        self.faults = self.faults.saturating_add(u64::from(one.is_err()));
-        self.faults = self.faults.saturating_add(u64::from(other.is_err()));
-        (one, other)
+        self.failed = are_want(&both);
+        self.faults = faults_after(&both.1, faults_after(&both.0, self.faults));
+        both
     }
 
     /// Asks what a message asks, and once more where `again` is set and the first answer says that it could not be read.
