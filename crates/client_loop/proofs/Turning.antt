@@ -56,7 +56,7 @@ reply_behind number (r ∷ rows) row h none = by (reply_in number r.outs) (λ e.
     by (Some reply) goes_on e = absurd (cc)
 
 -- the rows of one turn more
-rows_more : (asking : Row) (turns : List Turn) (turn : Turn) → rows_of asking (turns ++ turn ∷ []) ≡ rows_of asking turns ++ turn.row ∷ []
+pub rows_more : (asking : Row) (turns : List Turn) (turn : Turn) → rows_of asking (turns ++ turn ∷ []) ≡ rows_of asking turns ++ turn.row ∷ []
 rows_more asking turns turn = ap (λ (rows : List Row). asking ∷ rows) (mapped turns)
   where
     mapped : (ts : List Turn) → map (λ t. t.row) (ts ++ turn ∷ []) ≡ map (λ t. t.row) ts ++ turn.row ∷ []

@@ -1,3 +1,4 @@
 pub mod Turns
 pub mod Replies
 pub mod Asking
+pub mod Both

@@ -37,7 +37,7 @@ pub fn ask<E: Edge, C: Clock, W: Words>(
 }
 
 /// A client is asked a request at the clock's moment, and its edge acts on what it puts out.
-fn begin<E: Edge, C: Clock, W: Words>(
+pub(crate) fn begin<E: Edge, C: Clock, W: Words>(
     client: &mut Client,
     edge: &mut E,
     clock: &mut C,

@@ -33,17 +33,15 @@ checked_counted old new false true hosts = tt
 checked_counted old new false false hosts = tt
 
 -- The fault of a host is counted as that of its second question.
-pub hosts_counted : {A : Type 0} (octets_of : A → List ℕ) (aaaa a : Result A QueryFault) (result : Result Hosts HostFault) (old between new : ℕ)
-    → result ≡ hosts_found (octets_in octets_of aaaa) (octets_in octets_of a) → old ≤ between → IfErr aaaa (IsCounted between new)
-    → IfErr result (HostIsCounted old new)
-hosts_counted octets_of (Ok x) a result old between new is le counted =
+pub hosts_counted : {A : Type 0} (octets_of : A → List ℕ) (aaaa a : Result A QueryFault) (result : Result Hosts HostFault) (old new : ℕ)
+    → result ≡ hosts_found (octets_in octets_of aaaa) (octets_in octets_of a) → IfErr aaaa (IsCounted old new) → IfErr result (HostIsCounted old new)
+hosts_counted octets_of (Ok x) a result old new is counted =
     subst (λ r. IfErr r (HostIsCounted old new)) (sym is)
     (checked_counted old new (is_none (first_question (octets_of x))) (is_none (canonical_name (octets_of x))) (record { aaaa = Ok (octets_of x); a = octets_in octets_of a }))
-hosts_counted octets_of (Err fault) (Ok x) result old between new is le counted =
+hosts_counted octets_of (Err fault) (Ok x) result old new is counted =
     subst (λ r. IfErr r (HostIsCounted old new)) (sym is)
     (checked_counted old new (is_none (first_question (octets_of x))) (is_none (canonical_name (octets_of x))) (record { aaaa = Err fault; a = Ok (octets_of x) }))
-hosts_counted octets_of (Err fault) (Err other) result old between new is le counted =
-    subst (λ r. IfErr r (HostIsCounted old new)) (sym is) (counted_since old between new fault le counted)
+hosts_counted octets_of (Err fault) (Err other) result old new is counted = subst (λ r. IfErr r (HostIsCounted old new)) (sym is) counted
 
 -- What was counted at the end was counted since an earlier moment.
 pub counted_before : (old between new : ℕ) (result : Result Hosts HostFault) → old ≤ between → IfErr result (HostIsCounted between new) → IfErr result (HostIsCounted old new)

@@ -41,6 +41,15 @@ abbrev pub AreAsked : {R : Type 0} → (R → Asking → R → Type 0) → List 
 AreAsked asks [] old new = new ≡ old
 AreAsked {R} asks (one ∷ others) old new = (between : R) × asks old one between × AreAsked asks others between new
 
+-- These two questions are told in order, each as one is.
+abbrev pub AreTold : (one other : Asking) → Option (List Asking) → Option (List Asking) → Type 0
+AreTold one other old new = (between : Option (List Asking)) × IsTold one old between × IsTold other between new
+
+-- Two questions were asked of a resolver: one after the other, or side by side, where this is what the resolver says of such a call. They are told in order.
+pub data AsksBoth {R : Type 0} (says : R → Asking → R → Type 0) (together : R → Asking → Asking → R → Type 0) (asked : R → Option (List Asking)) (old : R) (one other : Asking) (new : R) : Type 0 where
+  in_turn : AreAsked (Asks says asked) (one ∷ other ∷ []) old new → AsksBoth says together asked old one other new
+  side_by_side : together old one other new → AreTold one other (asked old) (asked new) → AsksBoth says together asked old one other new
+
 -- The count rose with the fault; of want of memory it need not.
 abbrev pub IsCounted : ℕ → ℕ → QueryFault → Type 0
 IsCounted old new fault = fault ≢ out_of_memory → Rose old new

@@ -9,7 +9,7 @@ use Rattle.dns_base.specs.Canonical.{canonical_name}
 use Rattle.resolv_lookup.specs.declared.fault.HostFault.{HostFault}
 use Rattle.resolv_lookup.specs.declared.fault.HostFault.TheVariants.{Query, NoQuestion, CnameLoop, NoMemory}
 use Rattle.resolv_lookup.specs.declared.resolver.Asking.{Asking}
-use Rattle.resolv_lookup.specs.Asked.{Got, asking, AreAsked, IsCounted}
+use Rattle.resolv_lookup.specs.Asked.{Got, asking, IsCounted}
 use Rattle.resolv_lookup.specs.Owned.{owned_records}
 use Rattle.resolv_lookup.specs.declared.address_iter.Kind.{Kind}
 use Rattle.resolv_lookup.specs.declared.address_iter.Kind.TheVariants.{Ipv4, Ipv6}
@@ -67,14 +67,10 @@ addresses_found hosts = addresses_got Ipv6 hosts.aaaa ++ addresses_got Ipv4 host
 abbrev pub with_port : ℕ → List IpAddr → List SocketAddr
 with_port port addresses = map (λ ip. record { ip = ip; port = port }) addresses
 
--- the questions for a host's addresses, in order
-abbrev pub host_askings : Labels → Hosts → List Asking
-host_askings name hosts = asking name 1 hosts.a ∷ asking name 28 hosts.aaaa ∷ []
-
--- A host was looked up: these two questions were asked, and the result is made of what they got.
-pub record LooksUpHost {R : Type 0} (asks : R → Asking → R → Type 0) (name : Labels) (old new : R) (result : Result Hosts HostFault) : Type 0 where
+-- A host was looked up: its A records were asked for, then its AAAA records, as a resolver says of two questions, and the result is made of what they got.
+pub record LooksUpHost {R : Type 0} (asks_both : R → Asking → Asking → R → Type 0) (name : Labels) (old new : R) (result : Result Hosts HostFault) : Type 0 where
   pub got : Hosts
-  pub asked : AreAsked asks (host_askings name got) old new
+  pub asked : asks_both old (asking name 1 got.a) (asking name 28 got.aaaa) new
   pub made : result ≡ hosts_found got.aaaa got.a
 
 -- A fault of a question comes only where the count of faults rose; want of memory aside.

@@ -22,9 +22,9 @@ abbrev pub MemoryAside : Result Resolved HostFault → Result Resolved HostFault
 MemoryAside wanted result = (result ≡ wanted) ⊎ (result ≡ Err NoMemory)
 
 -- A server with addresses is reached there, and nothing is asked; else its target is looked up.
-abbrev pub ResolvesAt : {R : Type 0} → (R → Asking → R → Type 0) → Srv → List IpAddr → R → R → Result Resolved HostFault → Type 0
-ResolvesAt asks srv [] old new result = (found : Result Hosts HostFault) × LooksUpHost asks srv.target old new found × MemoryAside (at_host srv found) result
-ResolvesAt asks srv (first ∷ others) old new result = (new ≡ old) × MemoryAside (Ok (at_addresses srv (first ∷ others))) result
+abbrev pub ResolvesAt : {R : Type 0} → (R → Asking → Asking → R → Type 0) → Srv → List IpAddr → R → R → Result Resolved HostFault → Type 0
+ResolvesAt asks_both srv [] old new result = (found : Result Hosts HostFault) × LooksUpHost asks_both srv.target old new found × MemoryAside (at_host srv found) result
+ResolvesAt asks_both srv (first ∷ others) old new result = (new ≡ old) × MemoryAside (Ok (at_addresses srv (first ∷ others))) result
 
-abbrev pub Resolves : {R : Type 0} → (R → Asking → R → Type 0) → Item → R → R → Result Resolved HostFault → Type 0
-Resolves asks item old new result = ResolvesAt asks item.srv item.addresses old new result
+abbrev pub Resolves : {R : Type 0} → (R → Asking → Asking → R → Type 0) → Item → R → R → Result Resolved HostFault → Type 0
+Resolves asks_both item old new result = ResolvesAt asks_both item.srv item.addresses old new result

@@ -4,7 +4,7 @@ ghost use Rattle.std.specs.Prelude.{◌≡◌, ◌≤◌, IfErr, Some, option_ma
 ghost use Rattle.std.specs.Iterator.{YieldsFirst, item_count};
 ghost use Rattle.dns_base.specs.Message.{first_question};
 ghost use Rattle.dns_base.specs.Canonical.{canonical_name};
-ghost use Rattle.resolv_lookup.specs.Asked.{Asks, octets_in};
+ghost use Rattle.resolv_lookup.specs.Asked.{AsksBoth, octets_in};
 ghost use Rattle.resolv_lookup.specs.Codes.{code_got};
 ghost use Rattle.resolv_lookup.specs.Hosts.{hosts_found, chosen_of, has_none, are_empty, addresses_found, with_port, LooksUpHost, HostIsCounted, AreChecked};
 
@@ -16,18 +16,17 @@ use std::alloc::{AllocError, Global};
 use std::fmt;
 use std::marker::Model;
 
-/// Asks for the addresses of a host: for its A records, and then for its AAAA records.
+/// Asks for the addresses of a host: for its A records, and then for its AAAA records, side by side where the resolver can.
 pub fn lookup_host<R: Resolver>(
     alloc: Global,
     resolver: &mut R,
     name: &Name,
 ) -> Result<FoundHosts<R>, HostFault>
-    ensures asked { LooksUpHost (Asks R.says R.asked) name.now resolver.old resolver.new result }
+    ensures asked { LooksUpHost (AsksBoth R.says R.together R.asked) name.now resolver.old resolver.new result }
     ensures count { R.faults resolver.old ≤ R.faults resolver.new }
     ensures failed { IfErr result (HostIsCounted (R.faults resolver.old) (R.faults resolver.new)) }
 {
-    let a = resolver.query(alloc, name, Rtype::A);
-    let aaaa = resolver.query(alloc, name, Rtype::AAAA);
+    let (a, aaaa) = resolver.query_both(alloc, name, Rtype::A, Rtype::AAAA);
     FoundHosts::new(aaaa, a)
 }
 

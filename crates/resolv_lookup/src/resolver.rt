@@ -3,7 +3,7 @@
 ghost use Rattle.std.specs.Prelude.{◌≡◌, ◌≤◌, ℕ, List, Option, IfErr};
 ghost use Rattle.dns_names.specs.Name.{Labels};
 ghost use Rattle.resolv_lookup.specs.declared.resolver.Asking.{Asking};
-ghost use Rattle.resolv_lookup.specs.Asked.{asking, octets_in, IsTold, IsCounted};
+ghost use Rattle.resolv_lookup.specs.Asked.{AsksBoth, IsCounted, IsTold, asking, octets_in};
 
 use crate::fault::QueryFault;
 use crate::search_iter::SearchIter;
@@ -41,6 +41,10 @@ pub trait Resolver {
     /// What is said of a call: the resolver before it, the question with what it got, and the resolver after it.
     ghost says: { Self → Asking → Self → Type 0 };
 
+    /// What is said of a call that asks two questions side by side: the resolver before it, both with what they got, and the
+    /// resolver after it. Nothing is, where they are asked one after the other.
+    ghost together: { Self → Asking → Asking → Self → Type 0 } = { λ _ _ _ _. ⊥ };
+
     ghost asked: { Self → Option (List Asking) };
 
     ghost faults: { Self → ℕ };
@@ -58,6 +62,28 @@ pub trait Resolver {
         ensures asked { IsTold (asking name.now rtype.0 (octets_in Self.Answer.octets_of result)) (asked self.old) (asked self.new) }
         ensures count { faults self.old ≤ faults self.new }
         ensures failed { IfErr result (IsCounted (faults self.old) (faults self.new)) };
+
+    /// Asks for the records of two types that a name has, and gives what each question got. A resolver that can asks them side by
+    /// side, so that both wait at once; one that leaves this out asks one after the other. They are told in this order.
+    fn query_both(
+        &mut self,
+        alloc: Global,
+        name: &Name,
+        first: Rtype,
+        second: Rtype,
+    ) -> (
+        Result<Self::Answer, QueryFault>,
+        Result<Self::Answer, QueryFault>,
+    )
+        ensures asked { AsksBoth says together asked self.old (asking name.now first.0 (octets_in Self.Answer.octets_of result.0)) (asking name.now second.0 (octets_in Self.Answer.octets_of result.1)) self.new }
+        ensures count { faults self.old ≤ faults self.new }
+        ensures first_failed { IfErr result.0 (IsCounted (faults self.old) (faults self.new)) }
+        ensures second_failed { IfErr result.1 (IsCounted (faults self.old) (faults self.new)) }
+    {
+        let one = self.query(alloc, name, first);
+        let other = self.query(alloc, name, second);
+        (one, other)
+    }
 }
 
 /// What knows suffixes that are put behind a name that is looked for.

@@ -1,7 +1,7 @@
 //! The search of a host by the suffixes that a resolver knows.
 
 ghost use Rattle.std.specs.Prelude.{◌≡◌, ◌≤◌, IfOk, IfErr};
-ghost use Rattle.resolv_lookup.specs.Asked.{Asks};
+ghost use Rattle.resolv_lookup.specs.Asked.{AsksBoth};
 ghost use Rattle.resolv_lookup.specs.Hosts.{HostIsCounted};
 ghost use Rattle.resolv_lookup.specs.Search.{chained, is_of_use, Searches, SearchesHost};
 
@@ -20,7 +20,7 @@ pub fn search_host<R: Resolver + SearchNames>(
     resolver: &mut R,
     name: &RelativeName,
 ) -> Result<FoundHosts<R>, HostFault>
-    ensures asked { SearchesHost (Asks R.says R.asked) (R.suffixes resolver.old) name.now resolver.old resolver.new result }
+    ensures asked { SearchesHost (AsksBoth R.says R.together R.asked) (R.suffixes resolver.old) name.now resolver.old resolver.new result }
     ensures count { R.faults resolver.old ≤ R.faults resolver.new }
     ensures failed { IfErr result (HostIsCounted (R.faults resolver.old) (R.faults resolver.new)) }
 {
@@ -36,7 +36,7 @@ fn first_of_use<R: Resolver>(
     names: &[Name],
     last: &Name,
 ) -> Result<FoundHosts<R>, HostFault>
-    ensures asked { Searches (Asks R.says R.asked) last.now names.now resolver.old resolver.new result }
+    ensures asked { Searches (AsksBoth R.says R.together R.asked) last.now names.now resolver.old resolver.new result }
     ensures count { R.faults resolver.old ≤ R.faults resolver.new }
     ensures failed { IfErr result (HostIsCounted (R.faults resolver.old) (R.faults resolver.new)) }
 {

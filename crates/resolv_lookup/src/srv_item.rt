@@ -1,7 +1,7 @@
 //! The servers of a service.
 
 ghost use Rattle.std.specs.Prelude.{◌≡◌, ◌≤◌, [], IfOk, IfErr};
-ghost use Rattle.resolv_lookup.specs.Asked.{Asks};
+ghost use Rattle.resolv_lookup.specs.Asked.{AsksBoth};
 ghost use Rattle.resolv_lookup.specs.Hosts.{HostIsCounted, with_port};
 ghost use Rattle.resolv_lookup.specs.Resolving.{Resolves};
 
@@ -93,7 +93,7 @@ impl SrvItem {
         alloc: Global,
         resolver: &mut R,
     ) -> Result<ResolvedSrvItem, HostFault>
-        ensures asked { Resolves (Asks R.says R.asked) self resolver.old resolver.new result }
+        ensures asked { Resolves (AsksBoth R.says R.together R.asked) self resolver.old resolver.new result }
         ensures count { R.faults resolver.old ≤ R.faults resolver.new }
         ensures failed { IfErr result (HostIsCounted (R.faults resolver.old) (R.faults resolver.new)) }
     {

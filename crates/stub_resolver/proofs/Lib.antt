@@ -1,3 +1,4 @@
 pub mod Replying
 pub mod Counting
 pub mod Operating
+pub mod BothReplying

@@ -1,3 +1,4 @@
 pub mod Stub
 pub mod Queries
+pub mod Both
 pub mod Making

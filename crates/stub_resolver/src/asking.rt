@@ -13,10 +13,10 @@ use resolv_lookup::{Answer, QueryFault};
 use std::alloc::Global;
 
 /// The client's reply to a request; none where a million turns had none.
-type Reply = Option<Result<Message, Error>>;
+pub(crate) type Reply = Option<Result<Message, Error>>;
 
 /// Whether a reply is a message that says that its question could not be read (RFC 1035 4.1.1, code 1).
-fn is_formerr(reply: &Reply) -> bool
+pub(crate) fn is_formerr(reply: &Reply) -> bool
     ensures { result ≡ is_formerr reply.now }
 {
     match reply {
@@ -26,7 +26,7 @@ fn is_formerr(reply: &Reply) -> bool
 }
 
 /// What a query gets of a reply.
-fn got_of(reply: Reply) -> Result<Answer, QueryFault>
+pub(crate) fn got_of(reply: Reply) -> Result<Answer, QueryFault>
     ensures { result ≡ got_of reply }
 {
     match reply {
@@ -47,7 +47,7 @@ pub(crate) fn is_want(got: &Result<Answer, QueryFault>) -> bool
 }
 
 /// The client's reply to a request.
-fn reply_to<E: Edge, C: Clock, W: Words>(
+pub(crate) fn reply_to<E: Edge, C: Clock, W: Words>(
     client: &mut Client,
     edge: &mut E,
     clock: &mut C,

@@ -12,6 +12,7 @@
 #![tactic(auto)]
 
 mod asking;
+mod both;
 mod lookups;
 mod query;
 mod question;

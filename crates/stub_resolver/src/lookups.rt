@@ -7,6 +7,7 @@ ghost use Rattle.resolv_lookup.specs.Names.{LooksUpAddr};
 ghost use Rattle.resolv_lookup.specs.Search.{SearchesHost};
 ghost use Rattle.resolv_lookup.specs.Services.{AsksNothing, IsLong, SrvIsCounted};
 ghost use Rattle.resolv_lookup.specs.declared.fault.SrvError.TheVariants as services;
+ghost use Rattle.stub_resolver.specs.Both.{AsksStubBoth, AsksTogether};
 ghost use Rattle.stub_resolver.specs.Queries.{AsksStub, FindsSrv, Queries, question};
 ghost use Rattle.stub_resolver.specs.Stub.{seen};
 
@@ -20,11 +21,13 @@ use resolv_lookup::{
 };
 use std::alloc::Global;
 
-/// It counts its faults, and tells no list of its questions.
+/// It counts its faults, tells no list of its questions, and asks two of a name side by side.
 impl<E: Edge + Drop, C: Clock + Drop, W: Words + Drop> Resolver for StubResolver<E, C, W> {
     type Answer = Answer;
 
     ghost says = { λ old one new. Queries (seen E.deeds E.waits E.polls C.given W.stream) true (question one.name one.rtype.0) old new one.got };
+
+    ghost together = { AsksTogether (seen E.deeds E.waits E.polls C.given W.stream) };
 
     ghost asked = { λ _. None };
 
@@ -37,6 +40,16 @@ impl<E: Edge + Drop, C: Clock + Drop, W: Words + Drop> Resolver for StubResolver
         ensures failed { IfErr result (IsCounted self.old.faults self.new.faults) }
     {
         StubResolver::query(self, alloc, name, rtype)
+    }
+
+    fn query_both(
+        &mut self,
+        alloc: Global,
+        name: &Name,
+        first: Rtype,
+        second: Rtype,
+    ) -> (Result<Answer, QueryFault>, Result<Answer, QueryFault>) {
+        StubResolver::query_both(self, alloc, name, first, second)
     }
 }
 
@@ -62,13 +75,13 @@ impl<E: Edge + Drop, C: Clock + Drop, W: Words + Drop> StubResolver<E, C, W> {
         lookup_addr(alloc, self, addr)
     }
 
-    /// Asks for the addresses of a host, as `resolv_lookup::lookup_host` does.
+    /// Asks for the addresses of a host, as `resolv_lookup::lookup_host` does: both questions wait at once.
     pub fn lookup_host(
         &mut self,
         alloc: Global,
         name: &Name,
     ) -> Result<FoundHosts<StubResolver<E, C, W>>, HostFault>
-        ensures asked { LooksUpHost (AsksStub (seen E.deeds E.waits E.polls C.given W.stream)) name.now self.old self.new result }
+        ensures asked { LooksUpHost (AsksStubBoth (seen E.deeds E.waits E.polls C.given W.stream)) name.now self.old self.new result }
         ensures count { self.old.faults ≤ self.new.faults }
         ensures failed { IfErr result (HostIsCounted self.old.faults self.new.faults) }
     {
@@ -81,7 +94,7 @@ impl<E: Edge + Drop, C: Clock + Drop, W: Words + Drop> StubResolver<E, C, W> {
         alloc: Global,
         name: &RelativeName,
     ) -> Result<FoundHosts<StubResolver<E, C, W>>, HostFault>
-        ensures asked { SearchesHost (AsksStub (seen E.deeds E.waits E.polls C.given W.stream)) self.old.options.search name.now self.old self.new result }
+        ensures asked { SearchesHost (AsksStubBoth (seen E.deeds E.waits E.polls C.given W.stream)) self.old.options.search name.now self.old self.new result }
         ensures count { self.old.faults ≤ self.new.faults }
         ensures failed { IfErr result (HostIsCounted self.old.faults self.new.faults) }
     {

@@ -1,20 +1,22 @@
 //! The stub resolver.
 
-ghost use Rattle.std.specs.Prelude.{◌≡◌, ◌≤◌, ◌||◌, if◌then◌else◌, true, false, Err, IfOk, IfErr, OnOk, OnErr};
+ghost use Rattle.std.specs.Prelude.{◌≡◌, ◌<◌, ◌≤◌, ◌||◌, if◌then◌else◌, true, false, Err, IfOk, IfErr, OnOk, OnErr};
 ghost use Rattle.dns_values.specs.Source.{Rose, one_more};
 ghost use Rattle.client_core.specs.Edge.{after_deed};
 ghost use Rattle.client_core.specs.declared.edge.Deed.TheVariants.{Learned};
 ghost use Rattle.client_steps.specs.Whole.{with_one_more};
 ghost use Rattle.resolv_lookup.specs.ListAnswers.{faults_after};
+ghost use Rattle.stub_resolver.specs.Both.{AskBoth, QueriesBoth, TakeTurns};
 ghost use Rattle.stub_resolver.specs.Making.{IsNew, IsNewWith, ByFile};
 ghost use Rattle.stub_resolver.specs.Queries.{Gets, question, is_want};
 ghost use Rattle.stub_resolver.specs.Stub.{seen, with_fault};
 
 use crate::asking::{got_to, is_want};
+use crate::both::{BothGot, are_want, faults_after, got_to_both, requests_of};
 use crate::question::question;
 use client_core::{Client, Clock, Edge, cache, redundant};
 use client_loop::learn_all;
-use client_request::{Error, Words};
+use client_request::{Error, RequestMessage, Words};
 use dns_base::{Message, Name, NoMemory, Rtype};
 use resolv_conf::{OpenFile, ResolvConf, ResolvOptions, ServerConf};
 use resolv_lookup::{Answer, QueryFault};
@@ -173,6 +175,71 @@ impl<E: Edge + Drop, C: Clock + Drop, W: Words + Drop> StubResolver<E, C, W> {
             Ok(message) => self.ask(alloc, message, true),
             Err(NoMemory) => self.fail(QueryFault::from(NoMemory)),
         }
+    }
+
+    /// Asks for the records of two types that a name has, each as `query` does, so that both questions wait at once: a server that is
+    /// silent costs the time of one. Where that can't be, since the resolver has failed, one of the types is AXFR or no two numbers
+    /// are left, it asks one after the other. A question that could not be read is asked once more when both have their replies.
+    ///
+    /// The faults of each are those of `query`; where memory or numbers ran out, both have that fault.
+    pub fn query_both(
+        &mut self,
+        alloc: Global,
+        name: &Name,
+        first: Rtype,
+        second: Rtype,
+    ) -> (Result<Answer, QueryFault>, Result<Answer, QueryFault>)
+        ensures asks { AskBoth (seen E.deeds E.waits E.polls C.given W.stream) (question name.now first.0) (question name.now second.0) self.old self.new result.0 result.1 }
+        ensures count { self.old.faults ≤ self.new.faults }
+        ensures first_rose { OnErr result.0 (Rose self.old.faults self.new.faults) }
+        ensures second_rose { OnErr result.1 (Rose self.old.faults self.new.faults) }
+    {
+        if self.failed || self.client.next_request() == u64::MAX {
+            return self.query_by_turns(alloc, name, first, second);
+        }
+        match requests_of(alloc, name, first, second) {
+            Ok((one, other)) => self.ask_both(alloc, one, other),
+            Err(Error::FormError) => self.query_by_turns(alloc, name, first, second),
+            Err(_) => {
+                let fault = QueryFault::from(NoMemory);
+                (self.fail(fault), self.fail(fault))
+            }
+        }
+    }
+
+    /// The same, one after the other.
+    fn query_by_turns(&mut self, alloc: Global, name: &Name, first: Rtype, second: Rtype) -> BothGot
+        ensures turns { TakeTurns (seen E.deeds E.waits E.polls C.given W.stream) (question name.now first.0) (question name.now second.0) self.old self.new result.0 result.1 }
+        ensures count { self.old.faults ≤ self.new.faults }
+        ensures first_rose { OnErr result.0 (Rose self.old.faults self.new.faults) }
+        ensures second_rose { OnErr result.1 (Rose self.old.faults self.new.faults) }
+    {
+        let one = self.query(alloc, name, first);
+        let other = self.query(alloc, name, second);
+        (one, other)
+    }
+
+    /// Asks two requests side by side.
+    fn ask_both(&mut self, alloc: Global, first: RequestMessage, second: RequestMessage) -> BothGot
+        requires lasts { self.old.failed ≡ false }
+        requires room { self.old.client.asked.next < u64.MAX }
+        ensures both { QueriesBoth (seen E.deeds E.waits E.polls C.given W.stream) first second self.old self.new result.0 result.1 }
+        ensures count { self.old.faults ≤ self.new.faults }
+        ensures first_rose { OnErr result.0 (Rose self.old.faults self.new.faults) }
+        ensures second_rose { OnErr result.1 (Rose self.old.faults self.new.faults) }
+    {
+        let both = got_to_both(
+            alloc,
+            &mut self.client,
+            &mut self.edge,
+            &mut self.clock,
+            &mut self.words,
+            first,
+            second,
+        );
+        self.failed = are_want(&both);
+        self.faults = faults_after(&both.1, faults_after(&both.0, self.faults));
+        both
     }
 
     /// Asks what a message asks, and once more where `again` is set and the first answer says that it could not be read.

@@ -51,6 +51,16 @@ const ROWS: &[&[Task]] = &[
         Task::Add(Err(Error::Failed)),
     ],
     &[
+        Task::Both(
+            Rtype::A,
+            Rtype::AAAA,
+            Err(QueryFault::Client(Error::NoMemory)),
+            Err(QueryFault::Client(Error::NoMemory)),
+        ),
+        Task::Both(Rtype::A, Rtype::AAAA, Err(FAILED), Err(FAILED)),
+        Task::Add(Err(Error::Failed)),
+    ],
+    &[
         Task::Add(Err(Error::NoMemory)),
         Task::Message(&[0; 12], false, Err(FAILED)),
     ],

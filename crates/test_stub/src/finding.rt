@@ -49,6 +49,21 @@ pub fn finds_host<E: Edge + Drop, C: Clock + Drop, W: Words + Drop>(
     }
 }
 
+/// Whether the host's addresses are not found, for this reason.
+pub fn finds_no_host<E: Edge + Drop, C: Clock + Drop, W: Words + Drop>(
+    alloc: Global,
+    resolver: &mut StubResolver<E, C, W>,
+    wanted: HostFault,
+) -> bool {
+    match host(alloc) {
+        Some(host) => match resolver.lookup_host(alloc, &host) {
+            Ok(_) => false,
+            Err(fault) => fault == wanted,
+        },
+        None => false,
+    }
+}
+
 /// Whether the host has these addresses, which is searched behind the suffix.
 pub fn searches_host<E: Edge + Drop, C: Clock + Drop, W: Words + Drop>(
     alloc: Global,

@@ -54,6 +54,15 @@ fn push_answer(
     Ok(())
 }
 
+/// An edge at which these places are open, in order, and then datagrams with these answers come there.
+pub fn edge_of(alloc: Global, answers: &[(u64, &[u8])]) -> Option<ListEdge> {
+    let mut events = Vec::new(alloc);
+    for (place, answer) in answers {
+        push_answer(&mut events, alloc, *place, answer).ok()?;
+    }
+    Some(ListEdge::new(alloc, events))
+}
+
 /// An edge at which each next place is open, and then a datagram with the next answer comes there.
 pub fn edge(alloc: Global, answers: &[&[u8]]) -> Option<ListEdge> {
     let mut events = Vec::new(alloc);

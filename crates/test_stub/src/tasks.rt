@@ -1,12 +1,12 @@
 //! What is asked of a resolver, and what it is to give.
 
-use crate::finding::{finds_host, finds_name, finds_service, searches_host};
+use crate::finding::{finds_host, finds_name, finds_no_host, finds_service, searches_host};
 use crate::scenes::server;
 use client_core::{Clock, Edge};
 use client_request::{Error, Words};
 use dns_base::{IpAddr, Message, Name, Octets, Rcode, Rtype};
 use std::alloc::Global;
-use stub_resolver::{Answer, Query, QueryFault, StubResolver};
+use stub_resolver::{Answer, HostFault, Query, QueryFault, StubResolver};
 
 /// What a query gets: a message with this response code and so many answers, or a fault.
 pub type Got = Result<(Rcode, u16), QueryFault>;
@@ -17,10 +17,14 @@ pub enum Task {
     Add(Result<(), Error>),
     /// Records of a type that the host has.
     Query(Rtype, Got),
+    /// Records of two types that the host has.
+    Both(Rtype, Rtype, Got, Got),
     /// What a message asks; once where that is set, and else once more where its answer says that it was not read.
     Message(&'static [u8], bool, Got),
     /// The host's addresses.
     Host(&'static [IpAddr]),
+    /// Why the host's addresses are not found.
+    NoHost(HostFault),
     /// The addresses of www behind the suffix.
     Search(&'static [IpAddr]),
     /// The name of 192.0.2.1: the host's alone.
@@ -56,6 +60,20 @@ fn asks<E: Edge + Drop, C: Clock + Drop, W: Words + Drop>(
     }
 }
 
+/// Whether a query for records of two types of the host gets these.
+fn asks_both<E: Edge + Drop, C: Clock + Drop, W: Words + Drop>(
+    alloc: Global,
+    resolver: &mut StubResolver<E, C, W>,
+    rtypes: (Rtype, Rtype),
+    wanted: (&Got, &Got),
+) -> bool {
+    let Ok(host) = Name::from_text(alloc, "www.example.com") else {
+        return false;
+    };
+    let (one, other) = resolver.query_both(alloc, &host, rtypes.0, rtypes.1);
+    is_got(&one, wanted.0) && is_got(&other, wanted.1)
+}
+
 /// Whether a query of a message, asked once or not, is as it was told, and gets that.
 fn runs<E: Edge + Drop, C: Clock + Drop, W: Words + Drop>(
     alloc: Global,
@@ -88,11 +106,15 @@ fn does<E: Edge + Drop, C: Clock + Drop, W: Words + Drop>(
     match task {
         Task::Add(wanted) => resolver.add_connection(&server(54)) == *wanted,
         Task::Query(rtype, wanted) => asks(alloc, resolver, *rtype, wanted),
+        Task::Both(first, second, one, other) => {
+            asks_both(alloc, resolver, (*first, *second), (one, other))
+        }
         Task::Message(octets, once, wanted) => match message(alloc, octets) {
             Some(message) => runs(alloc, resolver, message, *once, wanted),
             None => false,
         },
         Task::Host(wanted) => finds_host(alloc, resolver, wanted),
+        Task::NoHost(fault) => finds_no_host(alloc, resolver, *fault),
         Task::Search(wanted) => searches_host(alloc, resolver, wanted),
         Task::Name => finds_name(alloc, resolver),
         Task::Service => finds_service(alloc, resolver),

@@ -24,7 +24,7 @@ fn letter(deed: &Deed) -> u8 {
 }
 
 /// Whether these are the deeds of an edge, in order.
-fn did(edge: &ListEdge, letters: &[u8]) -> bool {
+pub fn did(edge: &ListEdge, letters: &[u8]) -> bool {
     let deeds = edge.deeds();
     deeds.len() == letters.len()
         && deeds
@@ -34,7 +34,7 @@ fn did(edge: &ListEdge, letters: &[u8]) -> bool {
 }
 
 /// Whether the answer is the message that came.
-fn is_answer(reply: &Option<Result<Message, Error>>) -> bool {
+pub fn is_answer(reply: &Option<Result<Message, Error>>) -> bool {
     match reply {
         Some(Ok(message)) => message.as_slice() == ANSWER.as_slice(),
         _ => false,

@@ -4,6 +4,8 @@
 #[cfg(test)]
 mod asks;
 #[cfg(test)]
+mod both;
+#[cfg(test)]
 mod poor;
 #[cfg(test)]
 mod scenes;
