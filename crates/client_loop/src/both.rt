@@ -2,6 +2,7 @@
 
 ghost use Rattle.std.specs.Prelude.{◌≡◌, ◌<◌, true, false, OnOk, IfOk, IfErr, IsErrOf};
 ghost use Rattle.client_request.specs.Response.{IsRefusal};
+ghost use Rattle.client_request.specs.declared.error.Error.TheVariants.{NumbersUsed};
 ghost use Rattle.client_loop.specs.Asking.{between};
 ghost use Rattle.client_loop.specs.Both.{AreAnswered, AreBegun, StopForNumbers, are_there, no_replies, or_replies, replies_in, replies_of};
 
@@ -102,7 +103,7 @@ fn begin_both<E: Edge, C: Clock, W: Words>(
 ) -> Result<BothReplies, Error>
     requires { number < u64.MAX }
     ensures begun { IfOk result (between E.deeds E.waits E.polls C.given W.stream (client.old, edge.old, clock.old, words.old) (client.new, edge.new, clock.new, words.new) (AreBegun number first second)) }
-    ensures numbers { IsErrOf result Error.NumbersUsed → between E.deeds E.waits E.polls C.given W.stream (client.old, edge.old, clock.old, words.old) (client.new, edge.new, clock.new, words.new) (StopForNumbers first second) }
+    ensures numbers { IsErrOf result NumbersUsed → between E.deeds E.waits E.polls C.given W.stream (client.old, edge.old, clock.old, words.old) (client.new, edge.new, clock.new, words.new) (StopForNumbers first second) }
     ensures timeout { OnOk result (client.new.timeout ≡ client.old.timeout) }
     ensures lasts { OnOk result (client.new.failed ≡ false) }
     ensures refused { IfErr result IsRefusal }
@@ -134,7 +135,7 @@ pub fn ask_both<E: Edge, C: Clock, W: Words>(
 ) -> Result<BothReplies, Error>
     requires { number < u64.MAX }
     ensures answered { IfOk result (between E.deeds E.waits E.polls C.given W.stream (client.old, edge.old, clock.old, words.old) (client.new, edge.new, clock.new, words.new) (AreAnswered number 1000000 first second)) }
-    ensures numbers { IsErrOf result Error.NumbersUsed → between E.deeds E.waits E.polls C.given W.stream (client.old, edge.old, clock.old, words.old) (client.new, edge.new, clock.new, words.new) (StopForNumbers first second) }
+    ensures numbers { IsErrOf result NumbersUsed → between E.deeds E.waits E.polls C.given W.stream (client.old, edge.old, clock.old, words.old) (client.new, edge.new, clock.new, words.new) (StopForNumbers first second) }
     ensures timeout { OnOk result (client.new.timeout ≡ client.old.timeout) }
     ensures lasts { OnOk result (client.new.failed ≡ false) }
     ensures refused { IfErr result IsRefusal }

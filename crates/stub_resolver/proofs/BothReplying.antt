@@ -12,13 +12,13 @@ use Rattle.client_loop.specs.declared.both.BothReplies.{BothReplies}
 use Rattle.resolv_lookup.specs.Asked.{Got, asking, in_turn, octets_in, side_by_side}
 use Rattle.resolv_lookup.specs.declared.fault.QueryFault.TheVariants.{Client}
 use Rattle.resolv_lookup.proofs.Counting.{rises}
-use Rattle.stub_resolver.specs.Both.{AskBoth, AsksStubBoth, GetBoth, StopBoth, StopSettling, at_once, by_turns, no_memory, starved, stopped}
+use Rattle.stub_resolver.specs.Both.{AskBoth, AsksStubBoth, GetBoth, StopBoth, StopAgain, at_once, by_turns, no_memory, starved, stopped}
 use Rattle.stub_resolver.specs.Queries.{question}
 use Rattle.stub_resolver.specs.Stub.{Stub}
 
 -- copies of requests are those
-pub of_copies : (first second one other : Request) (early : BothReplies) (old new : Scene) → one ≡ first → other ≡ second → StopSettling one other early old new → StopSettling first second early old new
-of_copies first second one other early old new a b h = subst (λ (q : Request). StopSettling first q early old new) b (subst (λ (q : Request). StopSettling q other early old new) a h)
+pub of_copies : (first second one other : Request) (early : BothReplies) (old new : Scene) → one ≡ first → other ≡ second → StopAgain one other early old new → StopAgain first second early old new
+of_copies first second one other early old new a b h = subst (λ (q : Request). StopAgain first q early old new) b (subst (λ (q : Request). StopAgain q other early old new) a h)
 
 -- the client refused
 pub both_refused : (first second : Request) (old new : Scene) (error : Error) → IsRefusal error → (IsErrOf {T = BothReplies} (Err error) errors.NumbersUsed → StopBoth first second old new)

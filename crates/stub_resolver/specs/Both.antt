@@ -33,15 +33,15 @@ pub record ReplyBoth (first second : Request) (old new : Scene) (replies : BothR
   pub settle : SettleBoth first second early middle new replies
 
 -- A number would pass 64 bits when one of two requests is asked once more.
-pub data StopSettling (first second : Request) (early : BothReplies) (old new : Scene) : Type 0 where
-  at_first : is_formerr early.first ≡ true → StopsForNumbers first old new → StopSettling first second early old new
+pub data StopAgain (first second : Request) (early : BothReplies) (old new : Scene) : Type 0 where
+  at_first : is_formerr early.first ≡ true → StopsForNumbers first old new → StopAgain first second early old new
   at_second : (between : Scene) (reply : Reply) → Settles first early.first old between reply → is_formerr early.second ≡ true → StopsForNumbers second between new
-      → StopSettling first second early old new
+      → StopAgain first second early old new
 
 -- A number would pass 64 bits while two requests are asked side by side, or behind that.
 pub data StopBoth (first second : Request) (old new : Scene) : Type 0 where
   while_both : StopForNumbers first second old new → StopBoth first second old new
-  when_settling : (early : BothReplies) (middle : Scene) → AreAnswered old.client.asked.next 1000000 first second old middle early → StopSettling first second early middle new
+  when_settling : (early : BothReplies) (middle : Scene) → AreAnswered old.client.asked.next 1000000 first second old middle early → StopAgain first second early middle new
       → StopBoth first second old new
 
 -- what two requests that are asked side by side get
@@ -52,8 +52,8 @@ pub data GetBoth (first second : Request) (old new : Scene) (one other : Got) : 
   -- memory ran out
   starved : one ≡ Err (Client errors.NoMemory) → other ≡ Err (Client errors.NoMemory) → GetBoth first second old new one other
 
-abbrev pub AreGot : (one other : Got) → (first second : Request) → (old new : Scene) → Type 0
-AreGot one other first second old new = GetBoth first second old new one other
+abbrev pub AreGot : (got : Got × Got) → (first second : Request) → (old new : Scene) → Type 0
+AreGot got first second old new = GetBoth first second old new got.0 got.1
 
 -- What asking two requests side by side does. `see` is what is seen of a resolver.
 pub record QueriesBoth {E C W : Type 0} (see : Stub E C W → Scene) (first second : Request) (old new : Stub E C W) (one other : Got) : Type 0 where

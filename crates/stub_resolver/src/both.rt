@@ -4,9 +4,10 @@ ghost use Rattle.std.specs.Prelude.{◌≡◌, ◌<◌, ◌⊎◌, ◌≤◌, �
 ghost use Rattle.dns_values.specs.Source.{Rose};
 ghost use Rattle.client_request.specs.Request.{is_misformed, recorded_from};
 ghost use Rattle.client_request.specs.Response.{IsRefusal};
+ghost use Rattle.client_request.specs.declared.error.Error.TheVariants.{NumbersUsed};
 ghost use Rattle.client_loop.specs.Asking.{StopsForNumbers, between};
 ghost use Rattle.resolv_lookup.specs.ListAnswers.{faults_after};
-ghost use Rattle.stub_resolver.specs.Both.{AreGot, ReplyBoth, SettleBoth, Settles, StopBoth, StopSettling};
+ghost use Rattle.stub_resolver.specs.Both.{AreGot, ReplyBoth, SettleBoth, Settles, StopBoth, StopAgain};
 ghost use Rattle.stub_resolver.specs.Queries.{is_formerr, is_want, question};
 
 use crate::asking::{Reply, got_of, is_formerr, is_want, reply_to};
@@ -86,7 +87,7 @@ fn both_settled<E: Edge, C: Clock, W: Words>(
     replies: BothReplies,
 ) -> Result<BothReplies, Error>
     ensures settle { IfOk result (between E.deeds E.waits E.polls C.given W.stream (client.old, edge.old, clock.old, words.old) (client.new, edge.new, clock.new, words.new) (SettleBoth first second replies)) }
-    ensures numbers { IsErrOf result Error.NumbersUsed → between E.deeds E.waits E.polls C.given W.stream (client.old, edge.old, clock.old, words.old) (client.new, edge.new, clock.new, words.new) (StopSettling first second replies) }
+    ensures numbers { IsErrOf result NumbersUsed → between E.deeds E.waits E.polls C.given W.stream (client.old, edge.old, clock.old, words.old) (client.new, edge.new, clock.new, words.new) (StopAgain first second replies) }
     ensures lasts { OnOk result (client.old.failed ≡ false → client.new.failed ≡ false) }
     ensures refused { IfErr result IsRefusal }
     ensures failed_only { IsErrOf result Error.Failed → client.old.failed ≡ true }
@@ -142,7 +143,7 @@ pub(crate) fn got_to_both<E: Edge, C: Clock, W: Words>(
     second: RequestMessage,
 ) -> BothGot
     requires { client.old.asked.next < u64.MAX }
-    ensures gets { client.old.failed ≡ false → between E.deeds E.waits E.polls C.given W.stream (client.old, edge.old, clock.old, words.old) (client.new, edge.new, clock.new, words.new) (AreGot result.0 result.1 first second) }
+    ensures gets { client.old.failed ≡ false → between E.deeds E.waits E.polls C.given W.stream (client.old, edge.old, clock.old, words.old) (client.new, edge.new, clock.new, words.new) (AreGot result first second) }
     ensures lasts { client.old.failed ≡ false → (is_want result.0 || is_want result.1) ≡ false → client.new.failed ≡ false }
 {
     match replies_to_both(alloc, client, edge, clock, words, first, second) {
