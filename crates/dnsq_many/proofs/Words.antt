@@ -18,10 +18,10 @@ use Rattle.dnsq_many.specs.Many.{is_many}
 word_is : (octets text : List ℕ) → pointwise ◌==◌ octets text ≡ true → octets ≡ text
 word_is octets text e = (slice_eq-Decides Decides-eqb octets text (pointwise ◌==◌ octets text) refl).0 e
 
-if_command : List ℕ → Option Command
+abbrev if_command : List ℕ → Option Command
 if_command octets = if pointwise ◌==◌ octets (codes "replay") then Some Replay else if pointwise ◌==◌ octets (codes "conf") then Some Conf else None
 
-if_query : List ℕ → Option Query
+abbrev if_query : List ℕ → Option Query
 if_query octets = if pointwise ◌==◌ octets (codes "query") then option_and_then asked (said_by [] nothing_said) else None
 
 pub no_command : (words : List (String Global)) → is_many words ≡ true → command_of words ≡ None
