@@ -4,8 +4,10 @@
 use client_edge::{FileOpener, RandWords, RealClock, SocketEdge, command_words};
 use dns_values::StdSink;
 use rand::rngs::StdRng;
+use std::fs;
+use std::io::Stderr;
 use std::process::ExitCode;
-use zone_fetch_run::run_fetch;
+use zone_fetch_run::{ProgressLine, run_fetch};
 
 /// The exit status where memory, or the system's random words, can't be had.
 const NO_MEMORY: u8 = 6;
@@ -15,6 +17,16 @@ fn random_words(rt: &HostRuntime) -> Option<RandWords<StdRng>> {
     match rand::make_rng::<StdRng, _>(rt) {
         Ok(generator) => Some(RandWords::new(generator)),
         Err(_) => None,
+    }
+}
+
+/// Standard error, where it is a terminal: where what its descriptor names is a device of one.
+fn terminal(rt: &HostRuntime) -> Option<StdSink<Stderr>> {
+    let path = fs::read_link(rt, "/proc/self/fd/2").ok()?;
+    if path.starts_with("/dev/pts") {
+        Some(StdSink::new(rt.stderr()))
+    } else {
+        None
     }
 }
 
@@ -41,6 +53,7 @@ fn fetch(
         &mut later,
         &mut clock,
         &mut random,
+        &mut ProgressLine::new(rt.alloc(), terminal(&rt)),
     );
     status.0
 }

@@ -4,3 +4,4 @@ pub mod Writing
 pub mod Brought
 pub mod Ended
 pub mod Digits
+pub mod Flaws

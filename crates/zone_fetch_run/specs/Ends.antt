@@ -11,10 +11,12 @@ use Rattle.zone_transfer.specs.Turning.{Scene}
 use Rattle.zone_transfer.specs.declared.fault.FetchFault.{FetchFault}
 use Rattle.zone_fetch_run.specs.Fetching.{IsBrought, IsLeft}
 use Rattle.zone_fetch_run.specs.Lines.{zone_text}
-use Rattle.zone_fetch_run.specs.Printed.{IsPrinted}
+use Rattle.zone_fetch_run.specs.Printed.{IsPrinted, StopsAt}
 use Rattle.zone_fetch_run.specs.Stops.{Tells, line_of, status_of}
 use Rattle.zone_fetch_run.specs.Words.{IsCommand}
 use Rattle.zone_fetch_run.specs.declared.command.Command.{Command}
+use Rattle.zone_fetch_run.specs.declared.printed.Flaw.{Flaw}
+use Rattle.zone_fetch_run.specs.declared.printed.Flaw.TheVariants.{Line}
 use Rattle.zone_fetch_run.specs.declared.stop.Stop.{Stop}
 use Rattle.zone_fetch_run.specs.declared.stop.Stop.TheVariants.{Usage, Unread, NotPrinted, NotFetched, NoMemory}
 
@@ -34,21 +36,30 @@ IsBaseAt (Some path) apex files zone = IsFiled apex (string_bytes path) files zo
 abbrev pub IsBase : Command → Option (List ℕ → Option (List ℕ)) → Zone → Type 0
 IsBase command files zone = IsBaseAt command.file command.apex files zone
 
--- why a file has none: it can't be read, it has no zone that was printed, or memory ran out
-abbrev pub IsOfFile : Stop → Type 0
-IsOfFile Unread = Unit {0}
-IsOfFile NotPrinted = Unit {0}
-IsOfFile NoMemory = Unit {0}
-IsOfFile Usage = ⊥
-IsOfFile (NotFetched fault) = ⊥
+-- Where a line is wrong, as many lines of the file before it as its number says are records.
+abbrev pub IsFlawIn : (path : List ℕ) → Option (List ℕ → Option (List ℕ)) → Flaw → Type 0
+IsFlawIn path files (Line line part) = (text : List ℕ) × IfSome files (λ file_at. file_at path ≡ Some text) × StopsAt text line
+IsFlawIn path files flaw = Unit {0}
 
-abbrev pub IsUnbased : Command → Stop → Type 0
-IsUnbased command stop = (stop ≡ NoMemory) ⊎ (IsSome command.file × IsOfFile stop)
+-- why the file at a path has none: it can't be read, it has no zone that was printed, or memory ran out
+abbrev pub IsOfFile : (path : List ℕ) → Option (List ℕ → Option (List ℕ)) → Stop → Type 0
+IsOfFile path files Unread = Unit {0}
+IsOfFile path files (NotPrinted flaw) = IsFlawIn path files flaw
+IsOfFile path files NoMemory = Unit {0}
+IsOfFile path files Usage = ⊥
+IsOfFile path files (NotFetched fault) = ⊥
+
+abbrev pub IsUnbasedAt : Option (String Global) → Option (List ℕ → Option (List ℕ)) → Stop → Type 0
+IsUnbasedAt None files stop = ⊥
+IsUnbasedAt (Some path) files stop = IsOfFile (string_bytes path) files stop
+
+abbrev pub IsUnbased : Command → Option (List ℕ → Option (List ℕ)) → Stop → Type 0
+IsUnbased command files stop = (stop ≡ NoMemory) ⊎ IsUnbasedAt command.file files stop
 
 -- Where a file can't be read, the count of faults rose.
 abbrev pub RoseUnread : (faults faults_after : ℕ) → Stop → Type 0
 RoseUnread faults faults_after Unread = Rose faults faults_after
-RoseUnread faults faults_after NotPrinted = Unit {0}
+RoseUnread faults faults_after (NotPrinted flaw) = Unit {0}
 RoseUnread faults faults_after NoMemory = Unit {0}
 RoseUnread faults faults_after Usage = Unit {0}
 RoseUnread faults faults_after (NotFetched fault) = Unit {0}
@@ -75,7 +86,7 @@ pub record HasZone (words : Texts) (files : Files) (random : ℕ → ℕ) (after
 pub data HasStopped (words : Texts) (files : Files) (random : ℕ → ℕ) (old new later later_new : Scene) (stop : Stop) : Type 0 where
   no_memory : stop ≡ NoMemory → HasStopped words files random old new later later_new stop
   no_command : stop ≡ Usage → IsCommand words None → HasStopped words files random old new later later_new stop
-  no_base : (command : Command) → IsCommand words (Some command) → IsUnbased command stop → HasStopped words files random old new later later_new stop
+  no_base : (command : Command) → IsCommand words (Some command) → IsUnbased command files stop → HasStopped words files random old new later later_new stop
   not_fetched : (command : Command) (zone : Zone) (fault : FetchFault) → stop ≡ NotFetched fault → IsCommand words (Some command) → IsBase command files zone
       → IsLeft command random zone old new later later_new fault → HasStopped words files random old new later later_new stop
 

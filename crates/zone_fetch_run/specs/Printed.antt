@@ -1,5 +1,5 @@
 -- A zone that was printed before.
-use Rattle.std.specs.Prelude.{◌≡◌, ℕ, ◌-◌, Bool, true, false, if◌then◌else◌, List, [], ◌∷◌, ◌++◌, length, map, nat_lt, find, Option, None, Some, option_map, IfSome, IsSome}
+use Rattle.std.specs.Prelude.{◌≡◌, ◌≢◌, ℕ, ◌+◌, ◌-◌, Bool, true, false, if◌then◌else◌, List, [], ◌∷◌, ◌++◌, length, map, nat_lt, find, Option, None, Some, option_map, IfSome, IsSome}
 use Rattle.std.specs.Char.{to_ascii_lowercase}
 use Rattle.std.specs.Result.{result_ok}
 use Rattle.dns_base.specs.Numbers.{u32_at}
@@ -12,6 +12,13 @@ use Rattle.zone_records.specs.Records.{is_soa}
 use Rattle.zone_records.specs.declared.record.ZoneRecord.{ZoneRecord}
 use Rattle.zone_fetch_run.specs.Lines.{hex_word, zone_text}
 use Rattle.zone_fetch_run.specs.Words.{number_in}
+use Rattle.zone_fetch_run.specs.declared.printed.LineFault.{LineFault}
+use Rattle.zone_fetch_run.specs.declared.printed.LineFault.TheVariants.{Wrong}
+use Rattle.zone_fetch_run.specs.declared.printed.LineFault.TheVariants as line_faults
+use Rattle.zone_fetch_run.specs.declared.printed.Flaw.TheVariants.{Line}
+use Rattle.zone_fetch_run.specs.declared.printed.Unread.{Unread}
+use Rattle.zone_fetch_run.specs.declared.printed.Unread.TheVariants.{NotPrinted}
+use Rattle.zone_fetch_run.specs.declared.printed.Unread.TheVariants as unread
 
 -- the serial in the data of an SOA without compression, which 16 octets follow (RFC 1035 3.3.13)
 abbrev pub serial_of : List ℕ → Option ℕ
@@ -71,3 +78,37 @@ pub record AddsZone (text : List ℕ) (us : List (Update ZoneRecord)) : Type 0 w
   pub adds : Adds text [] None before (Some soa)
   pub serial_is : serial_of soa.rdata ≡ Some serial
   pub updates_are : us ≡ before ++ Finished serial soa ∷ []
+
+-- ---- a line that is wrong
+
+-- the fault of the line of a number
+abbrev pub at_line : ℕ → LineFault → Unread
+at_line line (Wrong part) = NotPrinted (Line line part)
+at_line line line_faults.NoMemory = unread.NoMemory
+
+-- A text begins with the line of a record, and this stands behind it.
+pub record BeginsWith (text : List ℕ) (item : ZoneRecord) (behind : List ℕ) : Type 0 where
+  pub line : List ℕ
+  pub text_is : text ≡ line ++ 10 ∷ behind
+  pub is_record : IsRecordLine line item
+
+-- so many lines, each with a line feed behind it, that are records
+pub data HasRecords : ℕ → List ℕ → Type 0 where
+  no_record : HasRecords 0 []
+  record_more : (lines : ℕ) (text behind : List ℕ) (item : ZoneRecord) → BeginsWith text item behind → HasRecords lines behind → HasRecords (lines + 1) text
+
+-- The line of a number is not a record: as many lines before it are, and more octets stand behind those.
+pub record StopsAt (text : List ℕ) (line : ℕ) : Type 0 where
+  pub lines : ℕ
+  pub before : List ℕ
+  pub rest : List ℕ
+  pub line_is : line ≡ lines + 1
+  pub text_is : text ≡ before ++ rest
+  pub records : HasRecords lines before
+  pub more : rest ≢ []
+
+-- what a flaw tells of a text
+abbrev pub HasFlaw : List ℕ → Unread → Type 0
+HasFlaw text (NotPrinted (Line line part)) = StopsAt text line
+HasFlaw text (NotPrinted flaw) = Unit {0}
+HasFlaw text unread.NoMemory = Unit {0}

@@ -1,10 +1,14 @@
 -- How the program ends where no zone is written.
-use Rattle.std.specs.Prelude.{◌≡◌, ℕ, List, [], ◌∷◌, codes, Option}
+use Rattle.std.specs.Prelude.{◌≡◌, ℕ, List, [], ◌∷◌, ◌++◌, codes, decimal, Option}
 use Rattle.client_request.specs.declared.error.Error.{Error}
 use Rattle.client_request.specs.declared.error.Error.TheVariants as errors
 use Rattle.command_parts.specs.Ends.{IsSaid}
 use Rattle.zone_transfer.specs.declared.fault.FetchFault.{FetchFault}
 use Rattle.zone_transfer.specs.declared.fault.FetchFault.TheVariants as faults
+use Rattle.zone_fetch_run.specs.declared.printed.Flaw.{Flaw}
+use Rattle.zone_fetch_run.specs.declared.printed.Flaw.TheVariants as flaws
+use Rattle.zone_fetch_run.specs.declared.printed.Part.{Part}
+use Rattle.zone_fetch_run.specs.declared.printed.Part.TheVariants as parts
 use Rattle.zone_fetch_run.specs.declared.stop.Stop.{Stop}
 use Rattle.zone_fetch_run.specs.declared.stop.Stop.TheVariants as stops
 
@@ -31,12 +35,28 @@ fault_line faults.NoMemory = []
 abbrev pub status_of : Stop → ℕ
 status_of stops.Usage = 2
 status_of stops.Unread = 3
-status_of stops.NotPrinted = 1
+status_of (stops.NotPrinted flaw) = 1
 status_of (stops.NotFetched fault) = fault_status fault
 status_of stops.NoMemory = 6
 
+-- what is told of a file that has no printed zone
+abbrev pub part_text : Part → List ℕ
+part_text parts.End = codes "no line feed behind it"
+part_text parts.Words = codes "fewer than five words"
+part_text parts.Owner = codes "the owner is no name"
+part_text parts.Ttl = codes "the TTL is no number of 32 bits"
+part_text parts.Class = codes "the class is no number of 16 bits"
+part_text parts.«Type» = codes "the type is no number of 16 bits"
+part_text parts.Data = codes "the data is not in pairs of lower-case hexadecimal digits"
+
+abbrev pub flaw_text : Flaw → List ℕ
+flaw_text flaws.Text = codes "the file is no text"
+flaw_text flaws.Soa = codes "no SOA with a serial"
+flaw_text (flaws.Form line) = codes "line " ++ decimal line ++ codes ": in another order or spelling"
+flaw_text (flaws.Line line part) = codes "line " ++ decimal line ++ codes ": " ++ part_text part
+
 abbrev pub line_of : Stop → List ℕ
-line_of stops.NotPrinted = codes "no printed zone\n"
+line_of (stops.NotPrinted flaw) = codes "no printed zone: " ++ flaw_text flaw ++ 10 ∷ []
 line_of (stops.NotFetched fault) = fault_line fault
 line_of stops.Usage = []
 line_of stops.Unread = []

@@ -11,10 +11,10 @@ use dns_base::Serial;
 use resolv_conf::{ServerConf, Transport};
 use std::alloc::Global;
 use zone_records::{XfrFault, XfrKind, Zone};
-use zone_transfer::{FetchFault, fetch_within};
+use zone_transfer::{FetchFault, Progress, fetch_told};
 
 /// An edge learns the server as its first, and a zone or its changes are fetched over it.
-pub(crate) fn fetch_by<E: Edge, C: Clock, W: Words>(
+pub(crate) fn fetch_by<E: Edge, C: Clock, W: Words, P: Progress>(
     alloc: Global,
     command: &Command,
     kind: XfrKind,
@@ -22,13 +22,23 @@ pub(crate) fn fetch_by<E: Edge, C: Clock, W: Words>(
     edge: &mut E,
     clock: &mut C,
     random: &mut W,
+    progress: &mut P,
 ) -> Result<(), FetchFault>
     ensures fetched { OnOk result (between E.deeds E.polls C.given (edge.old, clock.old) (edge.new, clock.new) (IsFetchedBy command.now kind (W.stream random.old) zone.old zone.new)) }
     ensures missed { IfErr result (λ fault. between E.deeds E.polls C.given (edge.old, clock.old) (edge.new, clock.new) (λ old new. IsMissed command.now kind (W.stream random.old) zone.old old new fault)) }
     ensures kept { OnErr result (zone.new ≡ zone.old) }
 {
     edge.learn_server(&ServerConf::new(command.server, Transport::Tcp))?;
-    fetch_within(alloc, zone, kind, command.most, edge, clock, random)?;
+    fetch_told(
+        alloc,
+        zone,
+        kind,
+        command.most,
+        edge,
+        clock,
+        random,
+        progress,
+    )?;
     Ok(())
 }
 
@@ -43,7 +53,7 @@ fn has_serial(zone: &Zone, serial: Serial) -> bool
 
 /// Brings a zone to what the server has: its changes where a file has it, and the whole zone otherwise, or where the server says that
 /// it has no changes to another serial. The later edge is used in that case alone.
-pub(crate) fn bring<E: Edge, C: Clock, W: Words>(
+pub(crate) fn bring<E: Edge, C: Clock, W: Words, P: Progress>(
     alloc: Global,
     command: &Command,
     zone: &mut Zone,
@@ -51,20 +61,48 @@ pub(crate) fn bring<E: Edge, C: Clock, W: Words>(
     later: &mut E,
     clock: &mut C,
     random: &mut W,
+    progress: &mut P,
 ) -> Result<(), FetchFault>
     ensures brought { OnOk result (over E.deeds E.polls C.given (edge.old, later.old, clock.old) (edge.new, later.new, clock.new) (IsBrought command.now (W.stream random.old) zone.old zone.new)) }
     ensures left { IfErr result (over E.deeds E.polls C.given (edge.old, later.old, clock.old) (edge.new, later.new, clock.new) (IsLeft command.now (W.stream random.old) zone.old)) }
 {
     if command.file.is_none() {
-        return fetch_by(alloc, command, XfrKind::Axfr, zone, edge, clock, random);
+        return fetch_by(
+            alloc,
+            command,
+            XfrKind::Axfr,
+            zone,
+            edge,
+            clock,
+            random,
+            progress,
+        );
     }
-    match fetch_by(alloc, command, XfrKind::Ixfr, zone, edge, clock, random) {
+    match fetch_by(
+        alloc,
+        command,
+        XfrKind::Ixfr,
+        zone,
+        edge,
+        clock,
+        random,
+        progress,
+    ) {
         Ok(()) => Ok(()),
         Err(FetchFault::Xfr(XfrFault::SingleSoa(serial))) => {
             if has_serial(zone, serial) {
                 return Ok(());
             }
-            fetch_by(alloc, command, XfrKind::Axfr, zone, later, clock, random)
+            fetch_by(
+                alloc,
+                command,
+                XfrKind::Axfr,
+                zone,
+                later,
+                clock,
+                random,
+                progress,
+            )
         }
         Err(fault) => Err(fault),
     }

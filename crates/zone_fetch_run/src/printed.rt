@@ -2,12 +2,12 @@
 //!
 //! What was read is printed again and compared, so whatever is taken is, octet for octet, what a zone prints.
 
-ghost use Rattle.std.specs.Prelude.{◌≡◌, ◌≤◌, ◌<◌, ◌∷◌, ◌++◌, [], length, true, Some, None, IfOk, OnOk, IfSome, IsSome, find};
+ghost use Rattle.std.specs.Prelude.{◌≡◌, ◌≤◌, ◌<◌, ◌∷◌, ◌++◌, [], length, true, Some, None, IfErr, IfOk, OnOk, IfSome, IsSome, find};
 ghost use Rattle.std.specs.Char.{digit_char};
 ghost use Rattle.std.specs.Option.{option_copied};
 ghost use Rattle.zone_records.specs.Records.{is_soa};
 ghost use Rattle.zone_fetch_run.specs.Lines.{hex_word, octet_digits};
-ghost use Rattle.zone_fetch_run.specs.Printed.{Adds, AddsZone, IsPrinted, IsRecordLine, added, own_serial, owner_of, serial_of, soa_after};
+ghost use Rattle.zone_fetch_run.specs.Printed.{Adds, AddsZone, BeginsWith, HasFlaw, IsPrinted, IsRecordLine, added, at_line, own_serial, owner_of, serial_of, soa_after};
 ghost use Rattle.zone_fetch_run.specs.Words.{number_in};
 
 use crate::lines::zone_text;
@@ -16,12 +16,63 @@ use dns_base::{Class, Name, NameFault, NoMemory, Rtype, Serial, Ttl};
 use std::alloc::Global;
 use zone_records::{ApplyFault, OctetList, Update, Zone, ZoneRecord};
 
+/// What is wrong with a line.
+#[derive(Clone, Copy)]
+pub(crate) enum Part {
+    /// No line feed ends it.
+    End,
+    /// It has fewer than five words.
+    Words,
+    /// The owner is no name.
+    Owner,
+    /// The TTL is no number of 32 bits.
+    Ttl,
+    /// The class is no number of 16 bits.
+    Class,
+    /// The type is no number of 16 bits.
+    Type,
+    /// The data is neither pairs of lower-case hexadecimal digits nor a hyphen.
+    Data,
+}
+
+/// Why octets are not those of a zone that was printed.
+#[derive(Clone, Copy)]
+pub(crate) enum Flaw {
+    /// They are no text in UTF-8, or too many.
+    Text,
+    /// A line is no record: its number, counted from 1, and what is wrong with it.
+    Line(usize, Part),
+    /// No record is an SOA that has a serial.
+    Soa,
+    /// Of the records that they are, other lines are printed, in another order or spelling: the number of the first one that differs.
+    Form(usize),
+}
+
 /// Why no zone was read.
 #[derive(Clone, Copy)]
 pub(crate) enum Unread {
     /// The octets are not those of a zone that was printed.
-    NotPrinted,
+    NotPrinted(Flaw),
     NoMemory,
+}
+
+/// Why no record was read of a line.
+#[derive(Clone, Copy)]
+enum LineFault {
+    Wrong(Part),
+    NoMemory,
+}
+
+impl LineFault {
+    /// The same of the line of a number.
+    fn at(self, line: usize) -> Unread
+        ensures { result ≡ at_line line self }
+    {
+        match self {
+            LineFault::Wrong(part) => Unread::NotPrinted(Flaw::Line(line, part)),
+            LineFault::NoMemory => Unread::NoMemory,
+        }
+    }
 }
 
 impl From<NoMemory> for Unread {
@@ -58,7 +109,7 @@ fn octet_of(high: u8, low: u8) -> Option<u8>
 
 /// The octets that hexadecimal digits spell; a hyphen is none.
 #[tactic(auto, using(crate::proofs::Digits::spelled_first, crate::proofs::Digits::spelled_more, crate::proofs::Digits::spelled_whole))]
-fn octets_of(alloc: Global, word: &[u8]) -> Result<Vec<u8>, Unread>
+fn octets_of(alloc: Global, word: &[u8]) -> Result<Vec<u8>, LineFault>
     ensures { IfOk result (λ v. hex_word v.items ≡ word.now) }
 {
     let mut octets = Vec::new(alloc);
@@ -68,71 +119,71 @@ fn octets_of(alloc: Global, word: &[u8]) -> Result<Vec<u8>, Unread>
     }
     while let [high, low, behind @ ..] = rest {
         let Some(octet) = octet_of(*high, *low) else {
-            return Err(Unread::NotPrinted);
+            return Err(LineFault::Wrong(Part::Data));
         };
         if octets.push(octet).is_err() {
-            return Err(Unread::NoMemory);
+            return Err(LineFault::NoMemory);
         }
         rest = behind;
     }
     if octets.is_empty() {
-        return Err(Unread::NotPrinted);
+        return Err(LineFault::Wrong(Part::Data));
     }
     if !rest.is_empty() {
-        return Err(Unread::NotPrinted);
+        return Err(LineFault::Wrong(Part::Data));
     }
     Ok(octets)
 }
 
 /// The octets of an owner, in lower case.
-fn owner_of(alloc: Global, word: &str) -> Result<OctetList, Unread>
+fn owner_of(alloc: Global, word: &str) -> Result<OctetList, LineFault>
     ensures { IfOk result (λ o. owner_of word.now ≡ Some o) }
 {
     let name = match Name::from_text(alloc, word) {
         Ok(name) => name,
-        Err(NameFault::NoMemory) => return Err(Unread::NoMemory),
-        Err(_) => return Err(Unread::NotPrinted),
+        Err(NameFault::NoMemory) => return Err(LineFault::NoMemory),
+        Err(_) => return Err(LineFault::Wrong(Part::Owner)),
     };
     let Ok(mut octets) = Vec::from_slice(alloc, name.as_octets()) else {
-        return Err(Unread::NoMemory);
+        return Err(LineFault::NoMemory);
     };
     octets.make_ascii_lowercase();
     Ok(OctetList::from_vec(octets))
 }
 
-fn number(greatest: usize, word: &str) -> Result<usize, Unread>
+fn number(greatest: usize, word: &str, part: Part) -> Result<usize, LineFault>
     ensures value { IfOk result (λ n. number_in 0 greatest word.now ≡ Some n) }
     ensures range { IfOk result (λ n. n ≤ greatest) }
 {
     match number_in(0, greatest, word) {
         Some(number) => Ok(number),
-        None => Err(Unread::NotPrinted),
+        None => Err(LineFault::Wrong(part)),
     }
 }
 
 /// What stands before the first such character, and what stands behind it.
-fn cut(text: &str, at: char) -> Result<(&str, &str), Unread>
+fn cut(text: &str, at: char, part: Part) -> Result<(&str, &str), LineFault>
     requires { at < 128 }
     ensures parts { IfOk result (λ x. text.now ≡ x.0.now ++ at ∷ x.1.now) }
     ensures shorter { IfOk result (λ x. length x.1.now < length text.now) }
 {
     match text.split_once(at) {
         Some(parts) => Ok(parts),
-        None => Err(Unread::NotPrinted),
+        None => Err(LineFault::Wrong(part)),
     }
 }
 
 /// The record that a line is, `OWNER TTL CLASS TYPE HEX`.
-fn record_of(alloc: Global, line: &str) -> Result<ZoneRecord, Unread>
+fn record_of(alloc: Global, line: &str) -> Result<ZoneRecord, LineFault>
     ensures { IfOk result (IsRecordLine line.now) }
 {
-    let (owner_text, behind_owner) = cut(line, ' ')?;
-    let (ttl_text, behind_ttl) = cut(behind_owner, ' ')?;
-    let (class_text, behind_class) = cut(behind_ttl, ' ')?;
-    let (rtype_text, hex_text) = cut(behind_class, ' ')?;
-    let ttl = number(4_294_967_295, ttl_text)?;
-    let class = number(65535, class_text)?;
-    let rtype = number(65535, rtype_text)?;
+    let (owner_text, behind_owner) = cut(line, ' ', Part::Words)?;
+    let (ttl_text, behind_ttl) = cut(behind_owner, ' ', Part::Words)?;
+    let (class_text, behind_class) = cut(behind_ttl, ' ', Part::Words)?;
+    let (rtype_text, hex_text) = cut(behind_class, ' ', Part::Words)?;
+    let ttl = number(4_294_967_295, ttl_text, Part::Ttl)?;
+    let class = number(65535, class_text, Part::Class)?;
+    let rtype = number(65535, rtype_text, Part::Type)?;
     let owner = owner_of(alloc, owner_text)?;
     let octets = octets_of(alloc, hex_text.as_bytes())?;
     Ok(ZoneRecord {
@@ -160,6 +211,7 @@ fn add(
 ) -> Result<(), Unread>
     ensures updates { OnOk result (updates.new.items ≡ added item updates.old.items) }
     ensures soa { OnOk result (soa.new ≡ soa_after item soa.old) }
+    ensures refused { IfErr result (λ e. e ≡ Unread.NoMemory) }
 {
     if item.is_soa() {
         *soa = Some(item);
@@ -171,18 +223,37 @@ fn add(
     }
 }
 
+/// The record of the line that begins a text, and what stands behind the line.
+fn first_record(alloc: Global, text: &str) -> Result<(ZoneRecord, &str), LineFault>
+    ensures record { IfOk result (λ x. BeginsWith text.now x.0 x.1.now) }
+    ensures shorter { IfOk result (λ x. length x.1.now < length text.now) }
+{
+    let (line, behind) = cut(text, '\n', Part::End)?;
+    match record_of(alloc, line) {
+        Ok(item) => Ok((item, behind)),
+        Err(fault) => Err(fault),
+    }
+}
+
 /// The updates that add the records of lines, and the last SOA among them.
 fn added_lines(alloc: Global, text: &str) -> Result<(Vec<Update>, Option<ZoneRecord>), Unread>
-    ensures { IfOk result (λ x. Adds text.now [] None x.0.items x.1) }
+    ensures adds { IfOk result (λ x. Adds text.now [] None x.0.items x.1) }
+    ensures flaw { IfErr result (HasFlaw text.now) }
 {
     let mut updates = Vec::new(alloc);
     let mut soa = None;
     let mut rest = text;
+    let mut lines = 0;
     while !rest.is_empty() {
-        let (line, behind) = cut(rest, '\n')?;
-        let item = record_of(alloc, line)?;
-        add(&mut updates, &mut soa, item)?;
-        rest = behind;
+        lines += 1;
+        let (item, behind) = match first_record(alloc, rest) {
+            Ok(first) => first,
+            Err(fault) => return Err(fault.at(lines)),
+        };
+        match add(&mut updates, &mut soa, item) {
+            Ok(()) => rest = behind,
+            Err(fault) => return Err(fault),
+        }
     }
     Ok((updates, soa))
 }
@@ -190,14 +261,18 @@ fn added_lines(alloc: Global, text: &str) -> Result<(Vec<Update>, Option<ZoneRec
 /// The updates that add the records of lines to an empty zone, and end it by its SOA.
 #[tactic(auto, using(crate::proofs::Digits::adds_zone))]
 fn updates_of(alloc: Global, text: &str) -> Result<Vec<Update>, Unread>
-    ensures { IfOk result (λ us. AddsZone text.now us.items) }
+    ensures adds { IfOk result (λ us. AddsZone text.now us.items) }
+    ensures flaw { IfErr result (HasFlaw text.now) }
 {
-    let (mut updates, soa) = added_lines(alloc, text)?;
+    let (mut updates, soa) = match added_lines(alloc, text) {
+        Ok(added) => added,
+        Err(fault) => return Err(fault),
+    };
     let Some(soa) = soa else {
-        return Err(Unread::NotPrinted);
+        return Err(Unread::NotPrinted(Flaw::Soa));
     };
     let Some(serial) = serial_of(soa.rdata.as_slice()) else {
-        return Err(Unread::NotPrinted);
+        return Err(Unread::NotPrinted(Flaw::Soa));
     };
     match updates.push(Update::Finished { serial, soa }) {
         Ok(()) => Ok(updates),
@@ -233,23 +308,34 @@ fn has_own_serial(zone: &Zone) -> bool
     }
 }
 
+/// The number of the first line in which two texts differ, counted from 1.
+fn first_difference(one: &[u8], other: &[u8]) -> usize {
+    let same = one.iter().zip(other).take_while(|(a, b)| a == b);
+    1 + same.filter(|(a, _)| **a == b'\n').count()
+}
+
 /// The zone of these octets, which it prints in numbers and hexadecimal digits.
 pub(crate) fn zone_of(alloc: Global, octets: &[u8], apex: Name) -> Result<Zone, Unread>
-    ensures { IfOk result (IsPrinted octets.now apex) }
+    ensures printed { IfOk result (IsPrinted octets.now apex) }
+    ensures flaw { IfErr result (HasFlaw octets.now) }
 {
     let Ok(text) = std::str::from_utf8(octets) else {
-        return Err(Unread::NotPrinted);
+        return Err(Unread::NotPrinted(Flaw::Text));
+    };
+    let updates = match updates_of(alloc, text) {
+        Ok(updates) => updates,
+        Err(fault) => return Err(fault),
     };
     let mut zone = Zone::empty(alloc, apex);
-    match zone.apply(updates_of(alloc, text)?) {
+    match zone.apply(updates) {
         Ok(_) => {}
         Err(ApplyFault::NoMemory) => return Err(Unread::NoMemory),
-        Err(_) => return Err(Unread::NotPrinted),
+        Err(_) => return Err(Unread::NotPrinted(Flaw::Soa)),
     }
     let again = zone_text(alloc, zone.records(), false)?;
     if again.as_slice() == octets && has_own_serial(&zone) {
         Ok(zone)
     } else {
-        Err(Unread::NotPrinted)
+        Err(Unread::NotPrinted(Flaw::Form(first_difference(octets, &again))))
     }
 }

@@ -1,12 +1,16 @@
 //! How the program ends where no zone is written.
 
-ghost use Rattle.std.specs.Prelude.{◌≡◌, ◌≢◌, ◌⊎◌};
+ghost use Rattle.std.specs.Prelude.{◌≡◌, ◌≢◌, ◌⊎◌, IfOk, Some};
+ghost use Rattle.std.specs.String.{string_bytes};
 ghost use Rattle.zone_fetch_run.specs.declared.stop.Stop.{Stop};
-ghost use Rattle.zone_fetch_run.specs.Stops.{Tells, fault_line, fault_status, line_of, status_of};
+ghost use Rattle.zone_fetch_run.specs.Stops.{Tells, fault_line, fault_status, flaw_text, line_of, part_text, status_of};
 
+use crate::printed::{Flaw, Part};
 use client_request::Error;
 use command_parts::{end_by, statuses};
 use dns_base::{NoMemory, Sink, Status};
+use std::alloc::Global;
+use std::fmt::{self, Display};
 use zone_transfer::FetchFault;
 
 /// Why no zone is written.
@@ -17,7 +21,7 @@ pub(crate) enum Stop {
     /// The file can't be read.
     Unread,
     /// The file has no zone that was printed.
-    NotPrinted,
+    NotPrinted(Flaw),
     /// The zone was not fetched.
     NotFetched(FetchFault),
     /// Memory ran out.
@@ -69,33 +73,66 @@ fn status_of(stop: Stop) -> Status
     match stop {
         Stop::Usage => statuses::USAGE,
         Stop::Unread => statuses::SOURCE_FAULT,
-        Stop::NotPrinted => statuses::REFUSED,
+        Stop::NotPrinted(_) => statuses::REFUSED,
         Stop::NotFetched(fault) => fault_status(fault),
         Stop::NoMemory => statuses::NO_MEMORY,
     }
 }
 
+fn part_text(part: Part) -> &'static str
+    ensures { result.now ≡ part_text part }
+{
+    match part {
+        Part::End => "no line feed behind it",
+        Part::Words => "fewer than five words",
+        Part::Owner => "the owner is no name",
+        Part::Ttl => "the TTL is no number of 32 bits",
+        Part::Class => "the class is no number of 16 bits",
+        Part::Type => "the type is no number of 16 bits",
+        Part::Data => "the data is not in pairs of lower-case hexadecimal digits",
+    }
+}
+
+impl Display for Flaw {
+    ghost output = { λ flaw. Some (flaw_text flaw) };
+
+    fn fmt<W: fmt::Write>(&self, f: &mut fmt::Formatter<W>) -> fmt::Result {
+        match self {
+            Flaw::Text => f.write_str("the file is no text"),
+            Flaw::Soa => f.write_str("no SOA with a serial"),
+            Flaw::Form(line) => write!(f, "line {line}: in another order or spelling"),
+            Flaw::Line(line, part) => {
+                let wrong = part_text(*part);
+                write!(f, "line {line}: {wrong}")
+            }
+        }
+    }
+}
+
 /// What is written then, if anything is.
-fn line_of(stop: Stop) -> &'static str
-    ensures { result.now ≡ line_of stop }
+fn line_of(alloc: Global, stop: Stop) -> Result<String, NoMemory>
+    ensures { IfOk result (λ s. string_bytes s ≡ line_of stop) }
 {
     match stop {
-        Stop::NotPrinted => "no printed zone\n",
-        Stop::NotFetched(fault) => fault_line(fault),
-        Stop::Usage | Stop::Unread | Stop::NoMemory => "",
+        Stop::NotPrinted(flaw) => Ok(format!(in alloc; "no printed zone: {flaw}\n")?),
+        Stop::NotFetched(fault) => Ok(String::from_str(alloc, fault_line(fault))?),
+        Stop::Usage | Stop::Unread | Stop::NoMemory => Ok(String::new(alloc)),
     }
 }
 
 /// Ends so: by a line, or by the status alone.
 #[tactic(auto, using(crate::proofs::Telling::tells_nothing, crate::proofs::Telling::tells_line))]
-pub(crate) fn tell<K: Sink>(sink: &mut K, stop: Stop) -> Status
+pub(crate) fn tell<K: Sink>(alloc: Global, sink: &mut K, stop: Stop) -> Status
     ensures status { (result.0 ≡ status_of stop) ⊎ (result.0 ≡ 6) }
     ensures unread { result.0 ≡ 3 → stop ≡ Stop.Unread }
     ensures told { result.0 ≢ 6 → Tells (line_of stop) (K.held sink.old) (K.held sink.new) (K.faults sink.old) (K.faults sink.new) }
 {
-    let (status, line) = (status_of(stop), line_of(stop).as_bytes());
+    let status = status_of(stop);
+    let Ok(line) = line_of(alloc, stop) else {
+        return statuses::NO_MEMORY;
+    };
     if line.is_empty() {
         return status;
     }
-    end_by(sink, status, line)
+    end_by(sink, status, line.as_bytes())
 }

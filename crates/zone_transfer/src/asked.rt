@@ -8,6 +8,7 @@ ghost use Rattle.zone_transfer.specs.Turning.{Asks, between};
 
 use crate::fault::{FetchFault, fault_of};
 use crate::opening::{PLACE, open};
+use crate::progress::Progress;
 use crate::reading::Reading;
 use client_core::{Clock, Edge};
 use client_request::{Part, Poll, RequestMessageMulti, Words};
@@ -92,13 +93,14 @@ impl Asked {
         Ok(false)
     }
 
-    /// Turns until the transfer has ended, as often as turns are left at most.
-    pub(crate) fn read_all<E: Edge, C: Clock, W: Words>(
+    /// Turns until the transfer has ended, as often as turns are left at most, and tells after each how far it is.
+    pub(crate) fn read_all<E: Edge, C: Clock, W: Words, P: Progress>(
         &mut self,
         reading: &mut Reading,
         edge: &mut E,
         clock: &mut C,
         words: &mut W,
+        progress: &mut P,
     ) -> Result<(), FetchFault>
         requires ticket { self.old.response.ticket ≡ 0 }
         requires open { self.old.response.ended ≡ false }
@@ -121,7 +123,7 @@ impl Asked {
             }
             self.left -= 1;
             match turn(&mut self.transfer, edge, clock, words) {
-                Ok(_row) => {}
+                Ok(row) => progress.tell(row.event.moment, reading.updates(), reading.size()),
                 Err(error) => return Err(fault_of(error)),
             }
         }

@@ -9,6 +9,7 @@ ghost use Rattle.zone_transfer.specs.Turning.{between};
 use crate::asked::Asked;
 use crate::asking::request_of;
 use crate::fault::{FetchFault, fault_of};
+use crate::progress::{Progress, Silent};
 use crate::reading::Reading;
 use client_core::{Clock, Edge};
 use client_request::Words;
@@ -53,6 +54,24 @@ pub fn fetch_within<E: Edge, C: Clock, W: Words>(
     ensures cause { IfErr result (λ fault. between E.deeds E.polls C.given (edge.old, clock.old) (edge.new, clock.new) (λ old new. IsCause kind (W.stream words.old) most zone.old old new fault)) }
     ensures kept { OnErr result (zone.new ≡ zone.old) }
 {
+    fetch_told(alloc, zone, kind, most, edge, clock, words, &mut Silent)
+}
+
+/// As `fetch_within`, and it is told after each turn how far the transfer is.
+pub fn fetch_told<E: Edge, C: Clock, W: Words, P: Progress>(
+    alloc: Global,
+    zone: &mut Zone,
+    kind: XfrKind,
+    most: u64,
+    edge: &mut E,
+    clock: &mut C,
+    words: &mut W,
+    progress: &mut P,
+) -> Result<u64, FetchFault>
+    ensures fetched { IfOk result (λ missing. between E.deeds E.polls C.given (edge.old, clock.old) (edge.new, clock.new) (IsFetched kind (W.stream words.old) most zone.old zone.new missing)) }
+    ensures cause { IfErr result (λ fault. between E.deeds E.polls C.given (edge.old, clock.old) (edge.new, clock.new) (λ old new. IsCause kind (W.stream words.old) most zone.old old new fault)) }
+    ensures kept { OnErr result (zone.new ≡ zone.old) }
+{
     let apex = zone.apex().try_clone(alloc)?;
     let request = match request_of(alloc, zone, kind) {
         Ok(request) => request,
@@ -60,7 +79,7 @@ pub fn fetch_within<E: Edge, C: Clock, W: Words>(
     };
     let mut reading = Reading::new(alloc, apex, kind, most);
     let mut asked = Asked::begin(alloc, edge, clock, words, request)?;
-    match asked.read_all(&mut reading, edge, clock, words) {
+    match asked.read_all(&mut reading, edge, clock, words, progress) {
         Ok(()) => {}
         Err(fault) => return Err(fault),
     }

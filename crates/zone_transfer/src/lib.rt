@@ -16,8 +16,10 @@ mod asking;
 mod fault;
 mod fetching;
 mod opening;
+mod progress;
 mod reading;
 
 pub use asked::MOST_TURNS;
 pub use fault::FetchFault;
-pub use fetching::{fetch, fetch_within};
+pub use fetching::{fetch, fetch_told, fetch_within};
+pub use progress::{Progress, Silent};

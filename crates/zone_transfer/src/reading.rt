@@ -1,6 +1,6 @@
 //! What the messages of a transfer said so far.
 
-ghost use Rattle.std.specs.Prelude.{◌≡◌, ◌++◌, ◌∷◌, ◌-◌, ◌^◌, [], min, IfErr, OnOk, OnErr};
+ghost use Rattle.std.specs.Prelude.{◌≡◌, ◌++◌, ◌∷◌, ◌-◌, ◌^◌, [], length, min, IfErr, OnOk, OnErr};
 ghost use Rattle.zone_records.specs.Interpreting.{is_done};
 ghost use Rattle.zone_transfer.specs.Reading as plain;
 ghost use Rattle.zone_transfer.specs.Reading.{AppendFault, IsRefusedAt, IsWithin, Reads, nothing_read, with_updates};
@@ -112,6 +112,20 @@ impl Reading {
             Ok(more) => self.append(more),
             Err(fault) => Err(refusal_of(fault)),
         }
+    }
+
+    /// How many updates there are so far.
+    pub(crate) fn updates(&self) -> usize
+        ensures { result ≡ length self.now.state.updates }
+    {
+        self.updates.len()
+    }
+
+    /// How much memory they are reckoned to take, in octets.
+    pub(crate) fn size(&self) -> u64
+        ensures { result ≡ min (plain.reckoned self.now.state.updates) (2 ^ 64 - 1) }
+    {
+        self.size
     }
 
     /// Whether the transfer has ended.

@@ -10,16 +10,16 @@ returns-in-None-clause-stop g c = no_command refl (subst (λ (o : Option Command
 pub returns-in-Err-clause-stop : goal.returns-in-Err-clause-stop
 returns-in-Err-clause-stop g c = no_base c.in-Some.command (subst (λ (o : Option Command). IsCommand c.args.words.now o) c.in-Some.is c.in_ok-command.ensures) c.in-Err.ensures.stopped
 
-pub returns-in-Ok-bring-clause-zone : goal.returns-in-Ok-bring-clause-zone
-returns-in-Ok-bring-clause-zone g c = record {
+pub returns-in-Ok-brought-clause-zone : goal.returns-in-Ok-brought-clause-zone
+returns-in-Ok-brought-clause-zone g c = record {
   command = c.in-Some.command;
   commands = subst (λ (o : Option Command). IsCommand c.args.words.now o) c.in-Some.is c.in_ok-command.ensures;
   loaded = refl;
   zone = c.in-Ok.zone;
   base = c.in-Ok.ensures.zone;
-  brought = c.in-Ok-bring.ensures.brought;
+  brought = c.in-Ok-brought.ensures.brought;
 }
 
 pub returns-clause-stop : goal.returns-clause-stop
 returns-clause-stop g c =
-    not_fetched c.in-Some.command c.in-Ok.zone c.in-Err-bring.fault refl (subst (λ (o : Option Command). IsCommand c.args.words.now o) c.in-Some.is c.in_ok-command.ensures) c.in-Ok.ensures.zone c.in-Err-bring.ensures.left
+    not_fetched c.in-Some.command c.in-Ok.zone c.in-Err-brought.fault refl (subst (λ (o : Option Command). IsCommand c.args.words.now o) c.in-Some.is c.in_ok-command.ensures) c.in-Ok.ensures.zone c.in-Err-brought.ensures.left

@@ -57,10 +57,10 @@ turns-preserved g c =
     let parts = subst (λ (b : Bool). TakesParts c.turns.reading.most c.turns.reading.state c.turns.self.transfer.layer.board (Ok b) rest c.take_parts.new.reading.state) c.if-ended.false c.in-Ok.ensures.parts in
     record {
       going =
-          going_more c.args.reading.now.state c.turns.reading.state c.take_parts.new.reading.state first last next c.args.self.now.left c.take_parts.new.self.left old mid new rest c.in-Ok-turn._row
+          going_more c.args.reading.now.state c.turns.reading.state c.take_parts.new.reading.state first last next c.args.self.now.left c.take_parts.new.self.left old mid new rest c.in-Ok-turn.row
           (subst (λ (n : ℕ). Going c.args.reading.now.state first c.args.self.now.left old mid c.turns.reading.state last n) (sym c.in-Ok.ensures.left) c.turns.invariant.going) (search rules) parts.0 parts.1
           c.in-Ok-turn.ensures.turn
-          (held_step (g.W.Words.stream c.turns.words) c.turns.self.transfer c.take_parts.new.self.transfer rest c.in-Ok-turn._row.event c.in-Ok-turn._row next c.in-Ok.ensures.rest c.in-Ok-turn.ensures.row)
+          (held_step (g.W.Words.stream c.turns.words) c.turns.self.transfer c.take_parts.new.self.transfer rest c.in-Ok-turn.row.event c.in-Ok-turn.row next c.in-Ok.ensures.rest c.in-Ok-turn.ensures.row)
           c.in-Ok-turn.ensures.polls c.in-Ok-turn.ensures.moment;
       most = c.in-Ok.ensures.most ∙ c.turns.invariant.most;
       ticket = c.in-Ok.ensures.ticket;

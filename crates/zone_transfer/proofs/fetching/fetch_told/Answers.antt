@@ -2,7 +2,7 @@ use Rattle.std.proofs.Common.{rules, sym, ◌∙◌}
 use Rattle.stream_turns.specs.Turns.{client_with}
 use Rattle.zone_transfer.specs.Turning.{scene}
 use Rattle.zone_transfer.proofs.Fetched.{cause_of_cut, cause_of_early, cause_of_unapplied, fetched_of}
-use Rattle.zone_transfer.proofs.fetching.fetch_within.Goals as goal
+use Rattle.zone_transfer.proofs.fetching.fetch_told.Goals as goal
 
 pub returns-in-Err-read_all-clause-cause : goal.returns-in-Err-read_all-clause-cause
 returns-in-Err-read_all-clause-cause g c =
