@@ -1,0 +1,90 @@
+-- Causes of errors that a row's event brings a request, or that the request has itself.
+use Rattle.std.specs.Prelude.{◌≡◌, ℕ, ◌==◌, ◌&&◌, ◌||◌, not, Bool, true, false, List, [], ◌∷◌, Option, Some, None}
+use Rattle.number_table.specs.Entries.{entry_at}
+use Rattle.client_request.specs.Request.{Request}
+use Rattle.client_request.specs.declared.error.Error.{Error}
+use Rattle.client_request.specs.declared.error.Error.TheVariants as errors
+use Rattle.client_request.specs.declared.error.QueryError.TheVariants as query
+use Rattle.client_request.specs.declared.fault.Fault.{Fault}
+use Rattle.client_request.specs.declared.fault.Fault.TheVariants as fault
+use Rattle.client_request.specs.declared.event.What.{What}
+use Rattle.client_request.specs.declared.event.What.TheVariants.{SendFailed, ShortSend, RecvFailed}
+use Rattle.client_request.specs.declared.event.Via.TheVariants.{Dgram, Stream}
+use Rattle.right_trace.specs.Trace.{History, Conf}
+use Rattle.right_trace.specs.Time.{newest}
+use Rattle.right_trace.specs.Messages.{base_is_read, passes_count}
+use Rattle.right_trace.specs.Requests.{Asking, same_via}
+use Rattle.right_trace.specs.Causes.{FailedAt, CannotBeComposed, CameWrong}
+use Rattle.trace_tables.specs.declared.books.Books.{Books}
+use Rattle.trace_tables.specs.declared.sends.Sent.{Sent}
+use Rattle.trace_tables.specs.Lists.{listed}
+use Rattle.trace_tables.specs.Requests.{started_seen}
+use Rattle.trace_tables.specs.Books as books
+use Rattle.message_matching.specs.Matching.{carries_by}
+use Rattle.trace_questions.specs.Outs.{alive_server, Tells}
+use Rattle.trace_exchanges.specs.declared.coming.Coming.{Coming}
+use Rattle.trace_exchanges.specs.Coming.{is_wanted, AllComing}
+
+-- some send of request k, which is r, carried it
+abbrev pub some_carried : Request → (k : ℕ) → List Sent → Bool
+some_carried r k [] = false
+some_carried r k (x ∷ xs) = ((x.request == k) && carries_by Dgram x.octets r x.id) || some_carried r k xs
+
+abbrev pub was_carried : (k : ℕ) → Option Asking → List Sent → Bool
+was_carried k None xs = false
+was_carried k (Some a) xs = some_carried a.request k xs
+
+abbrev pub was_sent : (past : Books) → (k p : ℕ) → Option ℕ → Bool
+was_sent past k p None = false
+was_sent past k p (Some s) = started_seen k s Dgram past.requests && was_carried k (entry_at k past.requests.askings) (listed p past.sends.sent)
+
+-- request k was sent at p, an alive place of a server that has it
+abbrev pub is_hit : (past : Books) → (k p : ℕ) → Bool
+is_hit past k p = was_sent past k p (alive_server Dgram (entry_at p past.places))
+
+abbrev pub if_hit : Bool → Error → Option Error
+if_hit true e = Some e
+if_hit false e = None
+
+-- the error that an event tells of a request
+abbrev pub failure : (past : Books) → (k : ℕ) → What → Option Error
+failure past k (SendFailed p f) = if_hit (is_hit past k p) (errors.Dgram (query.Send f))
+failure past k (ShortSend p) = if_hit (is_hit past k p) (errors.Dgram (query.Send fault.ShortSend))
+failure past k (RecvFailed p f) = if_hit (is_hit past k p) (errors.Dgram (query.Receive f))
+failure past k _ = None
+
+-- by the definitions an event tells this of a request
+pub data Fails (k : ℕ) (past : History) (w : What) : Error → Type 0 where
+  InSending : (f : Fault) → FailedAt (λ p. SendFailed p f) k past w → Fails k past w (errors.Dgram (query.Send f))
+  InPart : FailedAt ShortSend k past w → Fails k past w (errors.Dgram (query.Send fault.ShortSend))
+  InReceiving : (f : Fault) → FailedAt (λ p. RecvFailed p f) k past w → Fails k past w (errors.Dgram (query.Receive f))
+
+-- the answer, of every history that the books know
+abbrev pub TellsFailure : (past : Books) → (k : ℕ) → What → Option Error → Type 0
+TellsFailure past k w o = (x : History) → books.Known x past → (e : Error) → (o ≡ Some e → Fails k x w e) × (Fails k x w e → o ≡ Some e)
+
+-- a message came by stream and does not answer
+abbrev pub is_wrong : (k : ℕ) → Coming → Bool
+is_wrong k x = (x.request == k) && (same_via x.via Stream && not x.agrees)
+
+abbrev pub some_wrong : (k : ℕ) → List Coming → Bool
+some_wrong k [] = false
+some_wrong k (x ∷ xs) = is_wrong k x || some_wrong k xs
+
+abbrev pub TellsWrong : Option ℕ → (k : ℕ) → List Coming → Bool → Type 0
+TellsWrong want k xs b = (c : Conf) (x h : History) → is_wanted want k ≡ true → AllComing c want x h xs → Tells (CameWrong c k x (newest h) h) b
+
+-- a request that was asked can't be composed
+abbrev pub not_read : Option Asking → Bool
+not_read None = false
+not_read (Some a) = not (base_is_read a.request)
+
+abbrev pub too_many : Option Asking → Bool
+too_many None = false
+too_many (Some a) = passes_count a.request
+
+abbrev pub TellsUnread : (k : ℕ) → Books → Bool → Type 0
+TellsUnread k b t = (h : History) → books.Known h b → Tells (CannotBeComposed base_is_read false k h) t
+
+abbrev pub TellsTooMany : (k : ℕ) → Books → Bool → Type 0
+TellsTooMany k b t = (h : History) → books.Known h b → Tells (CannotBeComposed passes_count true k h) t
