@@ -1,0 +1,18 @@
+//! What holds of the client within a forwarder.
+
+ghost use Rattle.proof_front.specs.Forwarding.{EveryForwardedTraceIsRight};
+
+use proof_client::{
+    every_plain_trace_hits, every_plain_trace_is_right, every_plain_trace_serves_stale,
+};
+
+/// The rows that the client within a forwarder makes are the plain trace of their events, whatever comes: they are right and
+/// timely, give what is kept, and serve what has expired. It does nothing.
+#[tactic(auto, using(crate::proofs::Traces::forwarded_traces))]
+pub fn every_forwarded_trace_is_right()
+    ensures { EveryForwardedTraceIsRight }
+{
+    every_plain_trace_is_right();
+    every_plain_trace_hits();
+    every_plain_trace_serves_stale();
+}
