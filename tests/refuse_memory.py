@@ -26,6 +26,8 @@ REFUSING = r"""
 #include <stdio.h>
 #include <stdlib.h>
 #include <string.h>
+#include <sys/syscall.h>
+#include <unistd.h>
 
 static long refused = -1, calls = 0, is_counting = 0;
 static char early[65536];
@@ -48,8 +50,7 @@ static void find(void) {
 }
 static int refuse(void) {
     if (!is_counting) return 0;
-    calls++;
-    if (calls != refused) return 0;
+    if (__sync_add_and_fetch(&calls, 1) != refused) return 0;
     errno = ENOMEM;
     return 1;
 }
@@ -83,6 +84,11 @@ __attribute__((destructor)) static void end(void) {
     if (!file) return;
     fprintf(file, "%ld", calls);
     fclose(file);
+}
+/* A program that may start threads ends so, and then no destructor is run. */
+void _exit(int status) {
+    end();
+    for (;;) syscall(SYS_exit_group, status);
 }
 """
 
