@@ -40,7 +40,7 @@ module _ {A : Type 0} (P : A → Type 0) (one : ℕ → Option (A × ℕ)) (good
 
 -- inversions
 
-then_done : (a : Copied) (next : Draft → Copied) (d : Draft) → a >> next ≡ Ok d → (e : Draft) × (a ≡ Ok e) × (next e ≡ Ok d)
+pub then_done : (a : Copied) (next : Draft → Copied) (d : Draft) → a >> next ≡ Ok d → (e : Draft) × (a ≡ Ok e) × (next e ≡ Ok d)
 then_done (Ok e) next d h = (e, refl, h)
 then_done (Err x) next d h = absurd cc
 
@@ -51,10 +51,10 @@ not_refused (Some e) a d h = absurd cc
 room_left : (entries more : ℕ) (d : Draft) → refusal entries d more ≡ None → entries ≢ 65535
 room_left entries more d h full = let is = draft_steps.refusals.full entries d more full in absurd cc
 
-asked : (q : Asked) (d e : Draft) → asks q d ≡ Ok e → ((counts_in d).questions ≢ 65535) × (pushed_question q d ≡ e)
+pub asked : (q : Asked) (d e : Draft) → asks q d ≡ Ok e → ((counts_in d).questions ≢ 65535) × (pushed_question q d ≡ e)
 asked q d e h = let parts = not_refused _ _ e h in (room_left _ _ d parts.0, parts.1)
 
-added : (section : Section) (w : Written) (d e : Draft) → adds section w d ≡ Ok e → (entries_in section (counts_in d) ≢ 65535) × (pushed_record section w d ≡ e)
+pub added : (section : Section) (w : Written) (d e : Draft) → adds section w d ≡ Ok e → (entries_in section (counts_in d) ≢ 65535) × (pushed_record section w d ≡ e)
 added section w d e h = let parts = not_refused _ _ e h in (room_left _ _ d parts.0, parts.1)
 
 question_order : (q : Asked) (d : Draft) → HasNoRecords (counts_in d) → HasNoRecords (counts_in (pushed_question q d))
@@ -278,7 +278,7 @@ all_hold base opt e octets good is =
           ∙ ap (λ c. with_all Additional (opt_records opt) c) three ∙ four) all;
     }
 
-message_done : (a : Copied) (octets : List ℕ) → message_of a ≡ Ok octets → (d : Draft) × (a ≡ Ok d) × (finished d ≡ octets)
+pub message_done : (a : Copied) (octets : List ℕ) → message_of a ≡ Ok octets → (d : Draft) × (a ≡ Ok d) × (finished d ≡ octets)
 message_done (Ok d) octets h = (d, refl, cc)
 message_done (Err e) octets h = absurd cc
 

@@ -1,6 +1,7 @@
 pub mod Options
 pub mod Writable
 pub mod Carrying
+pub mod FirstName
 pub mod SoleQuestion
 pub mod Limiting
 pub mod TimerOrder

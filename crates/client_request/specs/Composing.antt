@@ -1,7 +1,6 @@
 -- Composing a request.
-use Rattle.std.specs.Prelude.{◌≡◌, ℕ, ◌⊎◌, List, Option, option_map, Result, Ok, Err}
+use Rattle.std.specs.Prelude.{◌≡◌, ℕ, ◌⊎◌, List, Option, Result, Ok, Err}
 use Rattle.dns_base.specs.Message.{Asked, sole_question}
-use Rattle.dns_base.specs.Knowing.{lowered_asked}
 use Rattle.client_request.specs.declared.error.Error.{Error}
 use Rattle.client_request.specs.declared.error.Error.TheVariants.{NoMemory}
 
@@ -15,6 +14,6 @@ abbrev pub without_message : Result (List ℕ) Error → Result (Unit {0}) Error
 without_message (Ok message) = Ok tt
 without_message (Err error) = Err error
 
--- the only question of a message, but for the case of its name
+-- the only question of a message
 abbrev pub IsAsked : (message : List ℕ) → Option Asked → Type 0
-IsAsked message question = option_map lowered_asked question ≡ option_map lowered_asked (sole_question message)
+IsAsked message question = question ≡ sole_question message

@@ -45,8 +45,7 @@ pub trait Compose: Drop {
         ensures { result ≡ without_message (requests.composed self.now) };
 
     /// The only question of that message, without making it: where one can be made, None exactly where it has
-    /// none or several. The name is the base's, whose case the message need not keep: what is written of a name
-    /// may point to the same name in another case (RFC 1035 4.1.4). It takes no memory.
+    /// none or several. It takes no memory.
     fn sole_question(&self) -> Option<Question<'_>>
         ensures { IfOk (requests.composed self.now) (λ message. IsAsked message result) };
 
