@@ -1,6 +1,7 @@
 //! What two requests share where one result may serve both.
 
-ghost use Rattle.std.specs.Prelude.{◌≡◌, ◌≤◌, length, map, IfOk};
+ghost use Rattle.std.specs.Prelude.{◌≡◌, ◌==◌, ◌≤◌, length, map, IfOk};
+ghost use Rattle.std.specs.Cmp.Lexicographic.{pointwise};
 ghost use Rattle.std.specs.Char.{to_ascii_lowercase};
 ghost use Rattle.dns_names.specs.Name.{lowered, spelling};
 ghost use Rattle.right_trace.specs.Keys as keys;
@@ -226,13 +227,20 @@ fn hash_name<H: Hasher>(name: &Name, state: &mut H)
     hash_lower(name.as_octets(), state);
 }
 
+/// Whether two names are the same but for case, by their octets: the counts of labels are no letters.
+fn is_spelled_alike(first: &Name, second: &Name) -> bool
+    ensures { result ≡ pointwise (pointwise ◌==◌) (lowered first.now) (lowered second.now) }
+{
+    first.as_octets().eq_ignore_ascii_case(second.as_octets())
+}
+
 impl PartialEq for Key {
     ghost eq = { same_key };
 
     ghost laws = { same_key_partly };
 
     fn eq(&self, other: &Key) -> bool {
-        self.qname == other.qname
+        is_spelled_alike(&self.qname, &other.qname)
             && self.qtype == other.qtype
             && self.qclass == other.qclass
             && self.addo.number() == other.addo.number()
