@@ -115,6 +115,9 @@ impl ToName for Name {
     }
 }
 
+/// For how many octets there is room at first. Most names have fewer.
+const USUAL: usize = 32;
+
 /// Adds a label behind its length.
 pub(crate) fn push_label(octets: &mut Vec<u8>, label: &[u8]) -> Result<(), AllocError>
     requires { length label.now < 64 }
@@ -127,7 +130,7 @@ pub(crate) fn push_label(octets: &mut Vec<u8>, label: &[u8]) -> Result<(), Alloc
 fn owned(alloc: Global, name: &ParsedName<'_>) -> Result<Name, NoMemory>
     ensures { IfOk result (λ n. n ≡ name.now) }
 {
-    let mut octets = Vec::new(alloc);
+    let mut octets = Vec::with_capacity(alloc, USUAL)?;
     for label in name.labels() {
         push_label(&mut octets, label)?;
     }
