@@ -1,5 +1,5 @@
 -- Which entry a request finds first, and what using it leaves.
-use Rattle.std.proofs.Common.{◌≡◌, ℕ, Bool, true, false, cond, ◌&&◌, not, List, ◌∷◌, Option, Some, None, IsSome, IsOk, IfOk, Ok, Err, refl, sym, ap, ◌∙◌}
+use Rattle.std.proofs.Common.{◌≡◌, ℕ, Bool, true, false, cond, ◌&&◌, not, List, ◌∷◌, Option, Some, None, IsSome, IfOk, Ok, Err, refl, sym, ap, ◌∙◌}
 use Rattle.std.specs.Prelude.{is_some, option_map, if◌then◌else◌}
 use Rattle.std.specs.Option.{option_map_or}
 use Rattle.std.specs.Map.{lookup, lookup_entry, remove_entry, set_value}
@@ -7,16 +7,16 @@ use Rattle.lru.specs.LruCache.{lru_cache, promoted}
 use Rattle.lru.proofs.CallerLemmas.{Contains-lookup_entry}
 use Rattle.lru.proofs.Pairs.{lookup-lookup_entry}
 use Rattle.dns_names.specs.Name.{Labels}
-use Rattle.dns_base.specs.Message.{sole_question}
+use Rattle.dns_base.specs.Message.{sole_question, Asked as Question}
 use Rattle.client_settings.specs.Settings.{CacheSettings}
 use Rattle.right_trace.specs.Keys.{FlagClass, Do, Ad, Plain, Key, question_or}
 use Rattle.cache_rules.specs.declared.key.AdDo.{AdDo}
 use Rattle.cache_rules.specs.declared.key.AdDo.TheVariants as classes
-use Rattle.cache_rules.specs.Key.{flag_class, key_in, same_key}
+use Rattle.cache_rules.specs.Key.{flag_class, key_asking, same_key}
 use Rattle.client_cache.specs.declared.table.Flags.{Flags}
 use Rattle.client_cache.specs.Keeping.{Outcome, Entry, Table, Asked, asked_in, entry_under, uses, with_flags, if_kept, or_else, flags, first_above_ad, first_from_ad, first_of_class, first_class, first_kept, same_class, is_own, serves, gives_own, takes_own, takes_other, takes, found}
 use Rattle.client_cache.specs.Plain.{way_asked, way_looked, way_found, found_way}
-use Rattle.client_cache.specs.Serving.{is_given, is_served}
+use Rattle.client_cache.specs.Serving.{is_given}
 
 -- an entry that is used and stays as it was
 module _ {K V : Type 0} (test : K → Bool) (es : List (K × V)) where
@@ -125,16 +125,16 @@ given_is : (s : CacheSettings) (a : Asked) (t : Table) (answer : Option Outcome)
 given_is s a t None = refl
 given_is s a t (Some outcome) = refl
 
-pub other_served : (s : CacheSettings) (header : List ℕ) (dnssec_ok : Bool) (now : ℕ) (t : Table) (composed : Outcome) (k : Key) (name : Labels) (f : Flags) → IsOk composed
-    → IfOk composed (λ message. Some k ≡ key_in header dnssec_ok message) → IfOk composed (λ message. name ≡ (question_or (sole_question message)).name) → first_kept t k ≡ Some f
-    → is_some (takes s (record { key = k; name = name }) now t (Some f)).answer ≡ is_served s header dnssec_ok now t composed
-other_served s header dnssec_ok now t (Err e) k name f made key spelled first = absurd cc
-other_served s header dnssec_ok now t (Ok message) k name f made key spelled first =
-    let a : Asked = record { key = k; name = name } in
-    let named : ℕ → Asked = λ _. record { key = k; name = (question_or (sole_question message)).name } in
-    let same : named 0 ≡ a = ap (λ (n : Labels). let x : Asked = record { key = k; name = n } in x) (sym spelled) in
-    let asked : asked_in header dnssec_ok message ≡ Some a =
-    ap (λ (o : Option Key). option_map (λ (j : Key). let x : Asked = record { key = j; name = (question_or (sole_question message)).name } in x) o) (sym key) ∙ ap (λ (x : Asked). Some x) same in
-    sym (given_is s a (takes s a now t (Some f)).table (takes s a now t (Some f)).answer)
-    ∙ sym (ap (λ (o : Option Flags). is_given (way_looked s a now t o).0) first)
-    ∙ sym (ap (λ (o : Option Asked). is_given (way_asked s now t o).0) asked)
+pub other_served : (s : CacheSettings) (now : ℕ) (t : Table) (a : Asked) (f : Flags) → first_kept t a.key ≡ Some f → is_some (takes s a now t (Some f)).answer ≡ is_given (way_asked s now t (Some a)).0
+other_served s now t a f first =
+    sym (given_is s a (takes s a now t (Some f)).table (takes s a now t (Some f)).answer) ∙ sym (ap (λ (o : Option Flags). is_given (way_looked s a now t o).0) first)
+
+-- what a request asks is what its message does
+pub asked_is : (header : List ℕ) (dnssec_ok : Bool) (composed : Outcome) (question : Option Question) (key : Key) (name : Labels) → IfOk composed (λ message. question ≡ sole_question message)
+    → Some key ≡ key_asking header dnssec_ok question → name ≡ (question_or question).name → IfOk composed (λ message. Some (record { key = key; name = name }) ≡ asked_in header dnssec_ok message)
+asked_is header dnssec_ok (Err e) question key name same keyed named = tt
+asked_is header dnssec_ok (Ok message) question key name same keyed named =
+    let asked : Option Question → Option Asked = λ q. option_map (λ (k : Key). let a : Asked = record { key = k; name = (question_or q).name } in a) (key_asking header dnssec_ok q) in
+    ap (λ (n : Labels). let a : Asked = record { key = key; name = n } in Some a) named
+    ∙ ap (λ (o : Option Key). option_map (λ (k : Key). let a : Asked = record { key = k; name = (question_or question).name } in a) o) keyed
+    ∙ ap asked same

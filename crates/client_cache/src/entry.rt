@@ -254,17 +254,16 @@ fn seconds_of(age: u64) -> u32
 /// What is kept, as it is at an age in microseconds.
 fn show(
     alloc: Global,
-    key: &Key,
-    name: &Name,
+    asked: &Asked,
     age: u64,
     outcome: &mut Result<Stored, Error>,
 ) -> Result<Result<Message, Error>, NoMemory>
-    ensures shown { IfOk result (λ shown. shown ≡ plain.shown (record { key = key.now; name = name.now }) age outcome.old) }
+    ensures shown { IfOk result (λ shown. shown ≡ plain.shown asked.now age outcome.old) }
     ensures same { outcome.new ≡ outcome.old }
 {
     match outcome {
         Err(error) => Ok(Err(*error)),
-        Ok(stored) => stored.give(alloc, key.addo(), name, seconds_of(age)),
+        Ok(stored) => stored.give(alloc, asked.key.addo(), &asked.name, seconds_of(age)),
     }
 }
 
@@ -299,18 +298,17 @@ impl Entry {
     pub(crate) fn serve(
         &mut self,
         alloc: Global,
-        key: &Key,
-        name: &Name,
+        asked: &Asked,
         now: u64,
     ) -> Result<Answer, NoMemory>
-        ensures given { IfOk result (λ answer. answer ≡ plain.serves (record { key = key.now; name = name.now }) now self.old) }
+        ensures given { IfOk result (λ answer. answer ≡ plain.serves asked.now now self.old) }
         ensures same { self.new ≡ self.old }
     {
         if !self.is_valid(now) {
             return Ok(None);
         }
         let age = now.saturating_sub(self.moment);
-        let shown = show(alloc, key, name, age, &mut self.outcome)?;
+        let shown = show(alloc, asked, age, &mut self.outcome)?;
         Ok(Some(shown))
     }
 

@@ -1,6 +1,6 @@
 //! Which entry serves a request.
 
-ghost use Rattle.std.specs.Prelude.{◌≡◌, IfOk, OnOk, Ok, None, Some, option_map};
+ghost use Rattle.std.specs.Prelude.{◌≡◌, IfOk, IfNone, IfSome, IsSome, OnOk, Ok, None, Some, option_map};
 ghost use Rattle.cache_rules.specs.Key.{flag_class};
 ghost use Rattle.client_cache.specs.Keeping as plain;
 
@@ -90,6 +90,31 @@ pub(crate) fn first_other(table: &Table, key: &mut Key) -> Option<Flags>
     }
 }
 
+/// What the entry under a request's own key gives, which is used. None where no entry is there. An empty table says so at
+/// once, since a search would hash the key first.
+pub(crate) fn serve_own(
+    table: &mut Table,
+    alloc: Global,
+    asked: &Asked,
+    now: u64,
+) -> Result<Option<Answer>, NoMemory>
+    ensures absent { IfOk result (λ served. IfNone served (plain.entry_under asked.now.key table.old ≡ None)) }
+    ensures stays { IfOk result (λ served. IfNone served (table.new ≡ table.old)) }
+    ensures present { IfOk result (λ served. IfSome served (λ _. IsSome (plain.entry_under asked.now.key table.old))) }
+    ensures given { IfOk result (λ served. IfSome served (λ answer. plain.takes_own asked.now now table.old ≡ plain.found answer table.new)) }
+{
+    if table.is_empty() {
+        return Ok(None);
+    }
+    match table.get_mut(&asked.key) {
+        None => Ok(None),
+        Some(entry) => {
+            let answer = entry.serve(alloc, asked, now)?;
+            Ok(Some(answer))
+        }
+    }
+}
+
 /// What is derived for a request from the entry under its key with other flags, which is used.
 fn derive_from(
     table: &mut Table,
@@ -143,7 +168,7 @@ fn store_and_serve(
 ) -> Result<Answer, NoMemory>
     ensures { IfOk result (λ answer. plain.stores_and_serves asked.now now entry table.old ≡ plain.found answer table.new) }
 {
-    let answer = entry.serve(alloc, &asked.key, &asked.name, now)?;
+    let answer = entry.serve(alloc, asked, now)?;
     let key = asked.key.try_clone(alloc)?;
     store(table, key, entry)?;
     Ok(answer)

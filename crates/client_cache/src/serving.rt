@@ -1,17 +1,15 @@
 //! Whether a request would be served.
 
-ghost use Rattle.std.specs.Prelude.{◌≡◌, None, Some, Ok, IfOk, IsOk, is_some};
-ghost use Rattle.cache_rules.specs.Key.{key_in};
+ghost use Rattle.std.specs.Prelude.{◌≡◌, None, Some, Ok, IfOk, is_some};
 ghost use Rattle.client_cache.specs.Keeping as keeping;
-ghost use Rattle.client_cache.specs.Plain.{read};
-ghost use Rattle.client_cache.specs.Serving.{is_served, would_serve};
+ghost use Rattle.client_cache.specs.Plain.{read, way_asked};
+ghost use Rattle.client_cache.specs.Serving.{is_given, is_served, would_serve};
 
 use crate::entry::Asked;
 use crate::finding::{derive_unused, first_other, is_own};
 use crate::settling::Kept;
-use crate::steps::{key_of, spelled_name};
+use crate::steps::asked_of;
 use crate::table::{Flags, Table};
-use cache_rules::Key;
 use client_request::ComposeRequest;
 use client_settings::cache::Config;
 use dns_base::NoMemory;
@@ -39,28 +37,41 @@ fn would_derive(
     }
 }
 
-/// The same of a request with this key, of which a message can be composed.
+/// The same of what a request asks whose results are kept.
+fn would_serve_asked(
+    table: &Table,
+    alloc: Global,
+    config: &Config,
+    now: u64,
+    mut asked: Asked,
+) -> Result<bool, NoMemory>
+    ensures { IfOk result (λ served. served ≡ is_given (way_asked config.now now table.now (Some asked)).0) }
+{
+    if let Some(entry) = table.peek(&asked.key) {
+        return Ok(entry.is_valid(now));
+    }
+    match first_other(table, &mut asked.key) {
+        None => Ok(false),
+        Some(flags) => would_derive(table, alloc, config, &asked, flags, now),
+    }
+}
+
+/// The same of a request.
 fn would_serve_by<CR: ComposeRequest>(
     table: &Table,
     alloc: Global,
     config: &Config,
     now: u64,
     request: &CR,
-    mut key: Key,
 ) -> Result<bool, NoMemory>
-    requires composed { IsOk (CR.requests.composed request.now) }
-    requires key { IfOk (CR.requests.composed request.now) (λ message. Some key ≡ key_in (CR.header_of request.now) (CR.is_dnssec_ok request.now) message) }
     ensures { IfOk result (λ served. served ≡ is_served config.now (CR.header_of request.now) (CR.is_dnssec_ok request.now) now table.now (CR.requests.composed request.now)) }
 {
-    if let Some(entry) = table.peek(&key) {
-        return Ok(entry.is_valid(now));
+    if let Err(_error) = request.check_message() {
+        return Ok(true);
     }
-    match first_other(table, &mut key) {
+    match asked_of(alloc, request)? {
+        Some(asked) => would_serve_asked(table, alloc, config, now, asked),
         None => Ok(false),
-        Some(flags) => {
-            let name = spelled_name(alloc, request)?;
-            would_derive(table, alloc, config, &Asked { key, name }, flags, now)
-        }
     }
 }
 
@@ -72,11 +83,5 @@ pub(crate) fn would_serve<CR: ComposeRequest>(
 ) -> Result<bool, NoMemory>
     ensures { IfOk result (λ served. served ≡ would_serve (read CR.requests CR.header_of CR.is_dnssec_ok) request.now now kept.now) }
 {
-    if request.check_message().is_err() {
-        return Ok(true);
-    }
-    match key_of(kept.alloc, request)? {
-        None => Ok(false),
-        Some(key) => would_serve_by(&kept.table, kept.alloc, &kept.config, now, request, key),
-    }
+    would_serve_by(&kept.table, kept.alloc, &kept.config, now, request)
 }

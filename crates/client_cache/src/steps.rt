@@ -1,27 +1,25 @@
 //! What each call of a cache does.
 
-ghost use Rattle.std.specs.Prelude.{◌≡◌, OnOk, IfOk, IfNone, IfSome, IsOk, IsSome, [], None, Some, Ok, Err, option_map};
+ghost use Rattle.std.specs.Prelude.{◌≡◌, OnOk, IfOk, [], None, Some, Ok, Err, option_map};
 ghost use Rattle.client_request.specs.Calls.{Holds};
 ghost use Rattle.client_request.specs.Cx.{view_of, heard};
-ghost use Rattle.dns_base.specs.Message.{sole_question};
 ghost use Rattle.right_trace.specs.Keys.{question_or};
-ghost use Rattle.cache_rules.specs.Key.{key_in};
 ghost use Rattle.client_cache.specs.Keeping as keeping;
 ghost use Rattle.client_cache.specs.Plain as plain;
 ghost use Rattle.client_cache.specs.Plain.{read};
 
 use crate::connection::Request;
 use crate::entry::{Answer, Asked, Spare};
-use crate::finding::{answer_from, first_other};
+use crate::finding::{answer_from, first_other, serve_own};
 use crate::settling::{Job, Kept, part_of, settle_all, stand_in};
-use crate::table::{Flags, Table};
+use crate::table::Table;
 use cache_rules::Key;
 use client_request::{
     Board, ComposeRequest, Cx, Error, GetResponse, SendRequest, Signal, Words, cancel_below,
     send_below, step_below,
 };
 use client_settings::cache::Config;
-use dns_base::{Message, Name, NoMemory, ToName};
+use dns_base::{Message, Name, NoMemory, Question, ToName};
 use std::alloc::Global;
 
 /// How a request goes on.
@@ -33,24 +31,28 @@ pub enum Way {
     Asks(Option<Key>, Option<Spare>),
 }
 
-/// The key of a request, unless its results are not kept.
-pub(crate) fn key_of<CR: ComposeRequest>(
-    alloc: Global,
-    request: &CR,
-) -> Result<Option<Key>, NoMemory>
-    ensures { IfOk result (λ key. IfOk (CR.requests.composed request.now) (λ message. key ≡ key_in (CR.header_of request.now) (CR.is_dnssec_ok request.now) message)) }
+/// The name of a question as it is spelled, or the root's where there is none.
+fn name_in(alloc: Global, question: &Option<Question<'_>>) -> Result<Name, NoMemory>
+    ensures { IfOk result (λ name. name ≡ (question_or question.now).name) }
 {
-    let question = request.sole_question();
-    Key::asking(alloc, question, *request.header(), request.dnssec_ok())
+    match question {
+        Some(question) => question.qname().to_name(alloc),
+        None => Ok(Name::root(alloc)),
+    }
 }
 
-/// The name of a message's only question as it is spelled there.
-fn name_in(alloc: Global, message: &Message) -> Result<Name, NoMemory>
-    ensures { IfOk result (λ name. name ≡ (question_or (sole_question message.now)).name) }
+/// What a request asks, unless its results are not kept. Its message is not composed for that.
+pub(crate) fn asked_of<CR: ComposeRequest>(
+    alloc: Global,
+    request: &CR,
+) -> Result<Option<Asked>, NoMemory>
+    ensures { IfOk result (λ asked. IfOk (CR.requests.composed request.now) (λ message. asked ≡ keeping.asked_in (CR.header_of request.now) (CR.is_dnssec_ok request.now) message)) }
 {
-    match message.sole_question() {
-        Ok(question) => question.qname().to_name(alloc),
-        Err(_) => Ok(Name::root(alloc)),
+    let question = request.sole_question();
+    let name = name_in(alloc, &question)?;
+    match Key::asking(alloc, question, *request.header(), request.dnssec_ok())? {
+        Some(key) => Ok(Some(Asked { key, name })),
+        None => Ok(None),
     }
 }
 
@@ -91,96 +93,30 @@ fn way_found(
     }
 }
 
-/// The name of a request's only question, as its message spells it.
-pub(crate) fn spelled_name<CR: ComposeRequest>(
-    alloc: Global,
-    request: &CR,
-) -> Result<Name, NoMemory>
-    requires { IsOk (CR.requests.composed request.now) }
-    ensures { IfOk result (λ name. IfOk (CR.requests.composed request.now) (λ message. name ≡ (question_or (sole_question message)).name)) }
-{
-    match request.to_message() {
-        Ok(message) => name_in(alloc, &message),
-        Err(_) => Err(NoMemory),
-    }
-}
-
-/// What the entry under a request's own key gives, which is used, and the request's name as it is spelled. None where no
-/// entry is there. An empty table says so at once, since a search would hash the key first.
-fn serve_own<CR: ComposeRequest>(
+/// How a request goes on whose results are kept.
+fn way_asked(
     table: &mut Table,
     alloc: Global,
+    config: &Config,
     now: u64,
-    request: &CR,
-    key: &Key,
-) -> Result<Option<(Name, Answer)>, NoMemory>
-    requires { IsOk (CR.requests.composed request.now) }
-    ensures absent { IfOk result (λ served. IfNone served (keeping.entry_under key.now table.old ≡ None)) }
-    ensures stays { IfOk result (λ served. IfNone served (table.new ≡ table.old)) }
-    ensures present { IfOk result (λ served. IfSome served (λ _. IsSome (keeping.entry_under key.now table.old))) }
-    ensures name { IfOk result (λ served. IfSome served (λ x. IfOk (CR.requests.composed request.now) (λ message. x.0 ≡ (question_or (sole_question message)).name))) }
-    ensures given { IfOk result (λ served. IfSome served (λ x. keeping.takes_own (record { key = key.now; name = x.0 }) now table.old ≡ keeping.found x.1 table.new)) }
+    mut asked: Asked,
+) -> Result<Way, NoMemory>
+    ensures way { IfOk result (λ way. way ≡ (plain.way_asked config.now now table.old (Some asked)).0) }
+    ensures table { OnOk result (table.new ≡ (plain.way_asked config.now now table.old (Some asked)).1) }
 {
-    if table.is_empty() {
-        return Ok(None);
+    if let Some(answer) = serve_own(table, alloc, &asked, now)? {
+        return way_found(&*table, alloc, config, asked, answer);
     }
-    match table.get_mut(key) {
-        None => Ok(None),
-        Some(entry) => {
-            let name = spelled_name(alloc, request)?;
-            let answer = entry.serve(alloc, key, &name, now)?;
-            Ok(Some((name, answer)))
+    match first_other(table, &mut asked.key) {
+        None => Ok(Way::Asks(Some(asked.key), None)),
+        Some(flags) => {
+            let answer = answer_from(table, alloc, config, &asked, flags, now)?;
+            way_found(&*table, alloc, config, asked, answer)
         }
     }
 }
 
-/// How a request goes on for which no entry is there under its key, but one with these flags.
-fn way_derived<CR: ComposeRequest>(
-    table: &mut Table,
-    alloc: Global,
-    config: &Config,
-    now: u64,
-    request: &CR,
-    key: Key,
-    flags: Flags,
-) -> Result<Way, NoMemory>
-    requires composed { IsOk (CR.requests.composed request.now) }
-    requires kept { keeping.first_kept table.old key ≡ Some flags }
-    requires absent { keeping.entry_under key table.old ≡ None }
-    requires key { IfOk (CR.requests.composed request.now) (λ message. Some key ≡ key_in (CR.header_of request.now) (CR.is_dnssec_ok request.now) message) }
-    ensures way { IfOk result (λ way. way ≡ (plain.way_of config.now (CR.header_of request.now) (CR.is_dnssec_ok request.now) now table.old (CR.requests.composed request.now)).0) }
-    ensures table { OnOk result (table.new ≡ (plain.way_of config.now (CR.header_of request.now) (CR.is_dnssec_ok request.now) now table.old (CR.requests.composed request.now)).1) }
-{
-    let name = spelled_name(alloc, request)?;
-    let asked = Asked { key, name };
-    let answer = answer_from(table, alloc, config, &asked, flags, now)?;
-    way_found(&*table, alloc, config, asked, answer)
-}
-
-/// How a request with this key goes on, of which a message can be composed.
-fn way_keyed<CR: ComposeRequest>(
-    table: &mut Table,
-    alloc: Global,
-    config: &Config,
-    now: u64,
-    request: &CR,
-    mut key: Key,
-) -> Result<Way, NoMemory>
-    requires composed { IsOk (CR.requests.composed request.now) }
-    requires key { IfOk (CR.requests.composed request.now) (λ message. Some key ≡ key_in (CR.header_of request.now) (CR.is_dnssec_ok request.now) message) }
-    ensures way { IfOk result (λ way. way ≡ (plain.way_of config.now (CR.header_of request.now) (CR.is_dnssec_ok request.now) now table.old (CR.requests.composed request.now)).0) }
-    ensures table { OnOk result (table.new ≡ (plain.way_of config.now (CR.header_of request.now) (CR.is_dnssec_ok request.now) now table.old (CR.requests.composed request.now)).1) }
-{
-    match serve_own(table, alloc, now, request, &key)? {
-        Some((name, answer)) => way_found(&*table, alloc, config, Asked { key, name }, answer),
-        None => match first_other(table, &mut key) {
-            Some(flags) => way_derived(table, alloc, config, now, request, key, flags),
-            None => Ok(Way::Asks(Some(key), None)),
-        },
-    }
-}
-
-/// How a request goes on. Its message is composed only where an entry is there that may serve it.
+/// How a request goes on. Whether a message can be made of it is told without making one.
 fn way_of<CR: ComposeRequest>(
     table: &mut Table,
     alloc: Global,
@@ -194,8 +130,8 @@ fn way_of<CR: ComposeRequest>(
     if let Err(error) = request.check_message() {
         return Ok(Way::Given(Err(error)));
     }
-    match key_of(alloc, request)? {
-        Some(key) => way_keyed(table, alloc, config, now, request, key),
+    match asked_of(alloc, request)? {
+        Some(asked) => way_asked(table, alloc, config, now, asked),
         None => Ok(Way::Asks(None, None)),
     }
 }
