@@ -5,3 +5,4 @@ pub mod Messages
 pub mod Zones
 pub mod Items
 pub mod Applied
+pub mod Heads

@@ -1,4 +1,5 @@
 pub mod Records
 pub mod Interpreting
 pub mod Folding
+pub mod Heads
 pub mod Transfers

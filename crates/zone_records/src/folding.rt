@@ -6,6 +6,7 @@ ghost use Rattle.zone_records.specs.Folding.{Adds, AddsPlain, Removes, Folds, Fo
 ghost use Rattle.zone_records.specs.Records.{record_cmp, is_soa};
 
 use crate::Update;
+use crate::keyed::Keyed;
 use crate::record::ZoneRecord;
 use dns_base::NoMemory;
 use std::alloc::Global;
@@ -13,10 +14,10 @@ use std::collections::BTreeSet;
 
 /// Adds a record.
 #[tactic(auto, using(crate::proofs::Folds::updated))]
-pub(crate) fn insert(set: &mut BTreeSet<ZoneRecord>, new: ZoneRecord) -> Result<(), NoMemory>
+pub(crate) fn insert(set: &mut BTreeSet<Keyed>, new: ZoneRecord) -> Result<(), NoMemory>
     ensures { OnOk result (Adds set.old.keys new set.new.keys) }
 {
-    match set.insert(new) {
+    match set.insert(Keyed::new(new)) {
         Ok(_) => Ok(()),
         Err(_) => Err(NoMemory),
     }
@@ -24,7 +25,7 @@ pub(crate) fn insert(set: &mut BTreeSet<ZoneRecord>, new: ZoneRecord) -> Result<
 
 /// Adds a record unless it is an SOA.
 #[tactic(auto, using(crate::proofs::Folds::not_added, crate::proofs::Folds::is_added))]
-fn insert_plain(set: &mut BTreeSet<ZoneRecord>, new: ZoneRecord) -> Result<(), NoMemory>
+fn insert_plain(set: &mut BTreeSet<Keyed>, new: ZoneRecord) -> Result<(), NoMemory>
     ensures { OnOk result (AddsPlain set.old.keys new set.new.keys) }
 {
     if new.is_soa() {
@@ -35,17 +36,18 @@ fn insert_plain(set: &mut BTreeSet<ZoneRecord>, new: ZoneRecord) -> Result<(), N
 
 /// Removes a record, and tells whether it is no SOA and wasn't there.
 #[tactic(auto, using(crate::proofs::Folds::taken_out))]
-fn remove(set: &mut BTreeSet<ZoneRecord>, gone: &ZoneRecord) -> bool
-    ensures removed { Removes set.old.keys gone.now set.new.keys }
-    ensures missed { result ≡ (not (is_soa gone.now) && not (has set.old.keys gone.now)) }
+fn remove(set: &mut BTreeSet<Keyed>, gone: ZoneRecord) -> bool
+    ensures removed { Removes set.old.keys gone set.new.keys }
+    ensures missed { result ≡ (not (is_soa gone) && not (has set.old.keys gone)) }
 {
-    let was_there = set.remove(gone);
-    !gone.is_soa() && !was_there
+    let is_soa = gone.is_soa();
+    let was_there = set.remove(&Keyed::new(gone));
+    !is_soa && !was_there
 }
 
 /// What one update does. Tells whether a record was to be deleted that wasn't there.
 #[tactic(auto, using(crate::proofs::Folds::cleared, crate::proofs::Folds::removed, crate::proofs::Folds::added, crate::proofs::Folds::batch_begun, crate::proofs::Folds::batch_added, crate::proofs::Folds::finished))]
-fn fold_one(set: &mut BTreeSet<ZoneRecord>, update: Update) -> Result<bool, NoMemory>
+fn fold_one(set: &mut BTreeSet<Keyed>, update: Update) -> Result<bool, NoMemory>
     ensures { IfOk result (FoldsOne set.old.keys update set.new.keys) }
 {
     match update {
@@ -53,7 +55,7 @@ fn fold_one(set: &mut BTreeSet<ZoneRecord>, update: Update) -> Result<bool, NoMe
             set.clear();
             Ok(false)
         }
-        Update::DeleteRecord(gone) => Ok(remove(set, &gone)),
+        Update::DeleteRecord(gone) => Ok(remove(set, gone)),
         Update::AddRecord(new) => {
             insert_plain(set, new)?;
             Ok(false)
@@ -67,7 +69,7 @@ fn fold_one(set: &mut BTreeSet<ZoneRecord>, update: Update) -> Result<bool, NoMe
 }
 
 /// What updates do, in order. Tells how many records were to be deleted that weren't there.
-pub(crate) fn fold(set: &mut BTreeSet<ZoneRecord>, updates: Vec<Update>) -> Result<u64, NoMemory>
+pub(crate) fn fold(set: &mut BTreeSet<Keyed>, updates: Vec<Update>) -> Result<u64, NoMemory>
     ensures { IfOk result (Folds set.old.keys updates.items set.new.keys) }
 {
     let mut missing = 0;
@@ -84,7 +86,7 @@ pub(crate) fn fold(set: &mut BTreeSet<ZoneRecord>, updates: Vec<Update>) -> Resu
 pub(crate) fn without_soas(
     alloc: Global,
     records: &[ZoneRecord],
-) -> Result<BTreeSet<ZoneRecord>, NoMemory>
+) -> Result<BTreeSet<Keyed>, NoMemory>
     ensures { IfOk result (λ set. Holds set.keys (has records.now)) }
 {
     let mut set = BTreeSet::new(alloc);
@@ -95,13 +97,13 @@ pub(crate) fn without_soas(
 }
 
 /// The records of a set, in order.
-pub(crate) fn listed(alloc: Global, set: BTreeSet<ZoneRecord>) -> Result<Vec<ZoneRecord>, NoMemory>
+pub(crate) fn listed(alloc: Global, set: BTreeSet<Keyed>) -> Result<Vec<ZoneRecord>, NoMemory>
     ensures all { IfOk result (λ v. v.items ≡ set.keys) }
     ensures sorted { IfOk result (λ v. IsStrictlySortedBy record_cmp v.items) }
 {
     let mut records = Vec::with_capacity(alloc, set.len())?;
     for item in set {
-        records.push(item)?;
+        records.push(item.into_record())?;
     }
     Ok(records)
 }

@@ -16,6 +16,7 @@
 
 mod folding;
 mod interpreter;
+mod keyed;
 mod laws;
 mod lowering;
 mod octets;
