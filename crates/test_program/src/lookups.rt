@@ -318,7 +318,9 @@ fn a_lookup_passes_a_server_by_that_says_notimp(rt: HostRuntime) -> Result<(), F
     assert!(rt; written.as_slice() == PAGE.as_bytes());
     let one = "@192.0.2.53 example.com A";
     let written = written_behind(rt.alloc(), one, &NOTIMP)?;
-    assert!(rt; written.as_slice().starts_with(b";; ->>HEADER<<- opcode: QUERY; status: NOTIMP;".as_slice()));
+    assert!(rt;
+        written.as_slice().starts_with(b";; ->>HEADER<<- opcode: QUERY; status: NOTIMP;".as_slice())
+    );
     Ok(())
 }
 
