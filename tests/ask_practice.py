@@ -7,8 +7,8 @@ PROGRAM is the built dns_lookup; without further words all three parts are run. 
 and each command is run where `/etc/resolv.conf` is a file of this test's own (by a mount of its own, so it runs as root). glibc is
 asked by a C program of twenty lines over `res_nquery`, which getent calls too, since getent knows no port but 53.
 
-servers: several servers of which the first does not serve, twenty times each. `dns_lookup` must answer wherever another one does, but
-past NOTIMP, which no setting of a client puts off; and past a server that is dead within half a second in the median.
+servers: several servers of which the first does not serve, twenty times each. `dns_lookup` must answer wherever another one does, and past a server
+that is dead within half a second in the median.
 
 loss: a server that loses three in ten of what comes and of what goes, 200 questions each. `dns_lookup` must get 178 answers with
 the options as they are, and 195 with `attempts:3`.
@@ -215,7 +215,8 @@ def conf_of(folder, kinds, options=""):
 
 
 SERVERS = [["closed", "good"], ["closed", "silent", "good"], ["good", "closed"], ["SERVFAIL", "good"], ["REFUSED", "good"],
-           ["NOTIMP", "good"], ["silent", "good"], ["silent", "silent", "good"], ["junk", "good"], ["late 1 s", "good"],
+           ["NOTIMP", "good"], ["NOTIMP", "NOTIMP", "good"], ["NOTIMP", "closed", "good"], ["NOTIMP", "silent", "good"],
+           ["silent", "good"], ["silent", "silent", "good"], ["junk", "good"], ["late 1 s", "good"],
            ["tcp silent", "good"], ["tcp refused", "good"], ["tcp reset", "good"]]
 
 
@@ -234,7 +235,7 @@ def servers(program, glibc):
                 good = sum(map(is_answered, runs))
                 medians[tool] = statistics.median(ran[3] for ran in runs)
                 cells.append("%d of %d, %s%.2f s" % (good, times, "over " if medians[tool] > 40 else "", medians[tool]))
-                if tool == "dns_lookup" and kinds[0] != "NOTIMP":
+                if tool == "dns_lookup":
                     expect(good == times, "%s: %d of %d answered: %s" % (kinds, good, times, [ran[2] for ran in runs if ran[0]][:2]))
         for one in started:
             one.close()

@@ -1,11 +1,12 @@
 """Runs `dnsq many` on random scripts with lanes, and looks at what it writes.
 
-usage: python3 tests/replay_lanes.py PROGRAM [--runs N] [--lanes N] [--events N] [--busy N] [--seed N]
+usage: python3 tests/replay_lanes.py PROGRAM [--runs N] [--lanes N] [--events N] [--busy N] [--seed N] [--short]
 
 PROGRAM is the built dnsq. Each run makes a script of so many lanes (4) with so many events each (100), by datagrams or by
 stream, with names that come again, so that the cache answers some. Of what is written, each lane's events must stand in
 their order, each once, and nothing else; and without its lanes it must be what `dnsq replay` writes for its own events. A run
-may take a minute. So many processes (0) keep the processors busy beside it. The first run that is otherwise ends all with
+may take a minute. With `--short` names are of one letter and half of the events are ticks, so that a script of 400000 events is no longer
+than `many` reads; half of the answers then are valid for no time, so that the cache answers some questions and servers are asked the others. So many processes (0) keep the processors busy beside it. The first run that is otherwise ends all with
 status 1; its script lies in the file that is named.
 """
 
@@ -60,6 +61,44 @@ def event(pick, streams):
     return "tick"
 
 
+def short_question(number):
+    """Of one of 25 names, A or AAAA."""
+    return b"\1" + bytes([97 + number % 25]) + b"\0" + (b"\0\1" if number < 25 else b"\0\x1c") + b"\0\1"
+
+
+def short_answer(number, ident):
+    """One record: of a day, or of a name that is valid for no time."""
+    question = short_question(number)
+    ttl = 86400 if number % 2 else 0
+    data = b"\xc0\0\2\1" if number < 25 else b"\x20\1" + b"\0" * 14
+    record = b"\xc0\x0c" + question[-4:] + ttl.to_bytes(4, "big") + len(data).to_bytes(2, "big") + data
+    return ident.to_bytes(2, "big") + b"\x81\x80\0\1\0\1\0\0\0\0" + question + record
+
+
+def short_event(pick, streams, done):
+    """An event of a long lane, of which so much is done. Places are about as many as were opened by then, of which nothing is known."""
+    number, kind = pick.randrange(50), pick.random()
+    place = pick.randrange(6) if streams else max(0, int(done) + pick.randrange(-40, 40))
+    if kind < 0.20:
+        return "ask %s 00000100 -" % (query(0)[:12] + short_question(number)).hex()
+    if kind < 0.40:
+        return "opened %d" % place
+    if kind < 0.53:
+        octets = short_answer(number, pick.randrange(8) if streams else 0)
+        if streams:
+            return "bytes %d %s" % (place, (len(octets).to_bytes(2, "big") + octets).hex())
+        return "datagram %d %s" % (place, octets.hex())
+    if kind < 0.54:
+        return "ended %d" % place if streams else "recv-failed %d reset" % place
+    return "tick"
+
+
+def short_script_of(pick, lanes, events):
+    streams = pick.random() < 0.5
+    head = ["conf nameserver 192.0.2.53"] + (["conf options use-vc"] if streams else [])
+    return head, [["at %d %s" % (i, short_event(pick, streams, i * lanes * 0.1)) for i in range(events)] for _ in range(lanes)]
+
+
 def script_of(pick, lanes, events):
     """The lines before the lanes, and the events of each lane. Without words each id of a datagram is 0."""
     streams = pick.random() < 0.5
@@ -99,13 +138,15 @@ def main():
     words.add_argument("program")
     for name, value in (("runs", 20), ("lanes", 4), ("events", 100), ("busy", 0), ("seed", 1)):
         words.add_argument("--" + name, type=int, default=value)
+    words.add_argument("--short", action="store_true")
     asked = words.parse_args()
     busy = [subprocess.Popen([sys.executable, "-c", "while True: pass"]) for _ in range(asked.busy)]
     try:
         pick = random.Random(asked.seed)
         orders = set()
         for number in range(asked.runs):
-            head, lanes = script_of(pick, asked.lanes, asked.events)
+            made = short_script_of if asked.short else script_of
+            head, lanes = made(pick, asked.lanes, asked.events)
             text = "\n".join(head + [line for lane in lanes for line in ["lane"] + lane]) + "\n"
             status, written = run(asked.program, "many", text)
             wrong = difference(asked.program, head, lanes, status, written)

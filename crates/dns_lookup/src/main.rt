@@ -2,7 +2,7 @@
 #![tactic(auto)]
 
 use client_edge::{ConfFile, FileOpener, RandWords, RealClock, SocketEdge, command_words};
-use dns_lookup_run::{WatchedClock, WatchedEdge, run};
+use dns_lookup_run::{PassingEdge, WatchedClock, WatchedEdge, run};
 use dns_values::StdSink;
 use rand::rngs::StdRng;
 use std::process::ExitCode;
@@ -36,7 +36,7 @@ fn ask(
         &mut ConfFile::new(files),
         &mut StdSink::new(rt.stdout()),
         &mut StdSink::new(rt.stderr()),
-        &mut WatchedEdge::new(rt.alloc(), edge),
+        &mut WatchedEdge::new(rt.alloc(), PassingEdge::new(rt.alloc(), edge)),
         &mut WatchedClock::new(clock),
         &mut random,
     );

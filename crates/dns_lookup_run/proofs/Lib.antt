@@ -2,3 +2,4 @@ pub mod Bases
 pub mod Endings
 pub mod Requests
 pub mod Runs
+pub mod Passed

@@ -5,3 +5,4 @@ pub mod Reports
 pub mod Sentences
 pub mod Watched
 pub mod Worlds
+pub mod Passing

@@ -3,7 +3,7 @@
 //! The program itself, the crate `dns_lookup`, only makes the real ones and hands them in.
 //!
 //! ```text
-//! let mut edge = WatchedEdge::new(alloc, SocketEdge::new(rt, alloc));
+//! let mut edge = WatchedEdge::new(alloc, PassingEdge::new(alloc, SocketEdge::new(rt, alloc)));
 //! let mut clock = WatchedClock::new(RealClock::new(rt));
 //! let status = run(alloc, &words, &mut conf_file, &mut sink, &mut errors, &mut edge, &mut clock, &mut random);
 //! ```
@@ -12,12 +12,14 @@
 mod asking;
 mod conf;
 mod page;
+mod passing_edge;
 mod program;
 mod reports;
 mod telling;
 mod watched_clock;
 mod watched_edge;
 
+pub use passing_edge::{Asked, PassingEdge};
 pub use program::run;
 pub use watched_clock::WatchedClock;
 pub use watched_edge::{Heard, News, Opened, Tidings, WatchedEdge};

@@ -5,3 +5,4 @@ pub mod Brought
 pub mod Ended
 pub mod Digits
 pub mod Flaws
+pub mod Names

@@ -6,7 +6,7 @@ use Rattle.dns_values.specs.Source.{Rose, last_count}
 use Rattle.zone_fetch_run.specs.Lines.{record_line, zone_text}
 use Rattle.zone_records.specs.declared.record.ZoneRecord.{ZoneRecord}
 
-nil_right : (xs : List ℕ) → xs ++ [] ≡ xs
+pub nil_right : (xs : List ℕ) → xs ++ [] ≡ xs
 nil_right [] = refl
 nil_right (x ∷ xs) = ap (λ (ys : List ℕ). x ∷ ys) (nil_right xs)
 

@@ -1,9 +1,10 @@
 //! A zone as lines of text.
 
-ghost use Rattle.std.specs.Prelude.{◌≡◌, ◌++◌, ◌<◌, true, OnOk, IfOk, IfErr};
+ghost use Rattle.std.specs.Prelude.{◌≡◌, ◌++◌, ◌∷◌, ◌<◌, true, OnOk, IfOk, IfErr, decimal};
 ghost use Rattle.std.specs.Char.{digit_char};
 ghost use Rattle.std.specs.List.{flat_map};
 ghost use Rattle.std.specs.String.{string_bytes};
+ghost use Rattle.dns_names.specs.Text.{label_text, name_text, octet_text};
 ghost use Rattle.dns_values.specs.Source.{Rose};
 ghost use Rattle.dns_values.specs.Sink.{IsFlushed, with_octets};
 ghost use Rattle.dns_values.specs.declared.sink.SinkFault.{SinkFault};
@@ -48,16 +49,85 @@ fn push_hex(text: &mut Vec<u8>, octets: &[u8]) -> Result<(), NoMemory>
     push_digits(text, octets)
 }
 
-/// What stands before the data in numbers: the owner, the seconds, the class and the type. An owner that is no name is left out;
-/// no message has one.
-fn head_of(alloc: Global, item: &ZoneRecord) -> Result<String, NoMemory>
-    ensures { IfOk result (λ s. string_bytes s ≡ head_of item.now) }
+#[tactic(auto, using(crate::proofs::Names::digit_added, crate::proofs::Names::digit_behind))]
+fn push_number(text: &mut Vec<u8>, number: u32) -> Result<(), NoMemory>
+    ensures { OnOk result (text.new.items ≡ text.old.items ++ decimal number) }
 {
-    let (ttl, class, rtype) = (item.ttl.0, item.class.0, item.rtype.0);
-    match ParsedName::parse(item.owner.as_slice(), 0) {
-        Some((owner, _)) => Ok(format!(in alloc; "{owner} {ttl} {class} {rtype} ")?),
-        None => Ok(format!(in alloc; " {ttl} {class} {rtype} ")?),
+    if number >= 10 {
+        push_number(text, number / 10)?;
     }
+    text.push(b'0' + (number % 10) as u8)?;
+    Ok(())
+}
+
+/// Adds an octet of a label: a dot and a backslash behind a backslash, and what is not printed as three digits behind one.
+fn push_octet(text: &mut Vec<u8>, octet: u8) -> Result<(), NoMemory>
+    ensures { OnOk result (text.new.items ≡ text.old.items ++ octet_text octet) }
+{
+    match octet {
+        b'.' | b'\\' => {
+            text.push(b'\\')?;
+            text.push(octet)?;
+        }
+        b'!'..=b'~' => text.push(octet)?,
+        _ => {
+            text.push(b'\\')?;
+            push_number(text, u32::from(octet / 100))?;
+            push_number(text, u32::from(octet / 10 % 10))?;
+            push_number(text, u32::from(octet % 10))?;
+        }
+    }
+    Ok(())
+}
+
+fn push_label(text: &mut Vec<u8>, label: &[u8]) -> Result<(), NoMemory>
+    ensures { OnOk result (text.new.items ≡ text.old.items ++ label_text label.now) }
+{
+    for octet in label {
+        push_octet(text, *octet)?;
+    }
+    Ok(())
+}
+
+/// Adds a name: labels with dots between, and a dot for the root.
+#[tactic(auto, using(crate::proofs::Names::name_begun, crate::proofs::Names::name_on, crate::proofs::Names::name_ended))]
+fn push_name(text: &mut Vec<u8>, name: &ParsedName<'_>) -> Result<(), NoMemory>
+    ensures { OnOk result (text.new.items ≡ text.old.items ++ name_text name.now) }
+{
+    let mut labels = name.labels();
+    let Some(first) = labels.next() else {
+        text.push(b'.')?;
+        return Ok(());
+    };
+    push_label(text, first)?;
+    for label in labels {
+        text.push(b'.')?;
+        push_label(text, label)?;
+    }
+    Ok(())
+}
+
+/// Adds a blank and a number.
+fn push_field(text: &mut Vec<u8>, number: u32) -> Result<(), NoMemory>
+    ensures { OnOk result (text.new.items ≡ text.old.items ++ 32 ∷ decimal number) }
+{
+    text.push(b' ')?;
+    push_number(text, number)
+}
+
+/// Adds what stands before the data in numbers: the owner, the seconds, the class and the type. An owner that is no name is left out;
+/// no message has one.
+fn push_head(text: &mut Vec<u8>, item: &ZoneRecord) -> Result<(), NoMemory>
+    ensures { OnOk result (text.new.items ≡ text.old.items ++ head_of item.now) }
+{
+    if let Some((owner, _)) = ParsedName::parse(item.owner.as_slice(), 0) {
+        push_name(text, &owner)?;
+    }
+    push_field(text, item.ttl.0)?;
+    push_field(text, u32::from(item.class.0))?;
+    push_field(text, u32::from(item.rtype.0))?;
+    text.push(b' ')?;
+    Ok(())
 }
 
 /// The line that name servers load.
@@ -89,8 +159,7 @@ fn push_line(
         text.extend_from_slice(line.as_bytes())?;
         return Ok(());
     }
-    let head = head_of(alloc, item)?;
-    text.extend_from_slice(head.as_bytes())?;
+    push_head(text, item)?;
     push_hex(text, item.rdata.as_slice())?;
     text.push(b'\n')?;
     Ok(())
