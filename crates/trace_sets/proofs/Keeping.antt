@@ -154,7 +154,7 @@ leave_rise key n t are = record { rise = λ k. subst (Rise 0) (sym (members_put 
     go k false = are.rise k
 
 -- how many there are
-abbrev is_in : Members → ℕ → Bool
+abbrev pub is_in : Members → ℕ → Bool
 is_in es m = is_some (entry_at m es)
 
 as_many : (least n : ℕ) (es : Members) → Rise least es → ((m : ℕ) → is_in es m ≡ true → m < n) → length es ≡ count_below (is_in es) n
@@ -191,7 +191,7 @@ counted key n f t are is =
     ∙ count_same (is_in (members key t)) f n is.same
 
 -- what a walk finds
-found_in : (f : ℕ → Bool) (es : Members) → some_of f es ≡ true → (n : ℕ) × (is_in es n ≡ true) × (f n ≡ true)
+pub found_in : (f : ℕ → Bool) (es : Members) → some_of f es ≡ true → (n : ℕ) × (is_in es n ≡ true) × (f n ≡ true)
 found_in f [] e = absurd (cc)
 found_in f (d ∷ es) e = go (f d.0) refl (found_in f es) e
   where
@@ -206,7 +206,7 @@ found_in f (d ∷ es) e = go (f d.0) refl (found_in f es) e
     go true i rest e = (d.0, ap (λ b. is_some (cond b (Some d.1) (entry_at d.0 es))) (equal d.0), i)
     go false i rest e = (let r = rest e in (r.0, more r.0 (is_eq (nat_cmp r.0 d.0)) r.1, r.2))
 
-finds_in : (f : ℕ → Bool) (n : ℕ) (es : Members) → is_in es n ≡ true → f n ≡ true → some_of f es ≡ true
+pub finds_in : (f : ℕ → Bool) (n : ℕ) (es : Members) → is_in es n ≡ true → f n ≡ true → some_of f es ≡ true
 finds_in f n [] i g = absurd (cc)
 finds_in f n (d ∷ es) i g = go (is_eq (nat_cmp n d.0)) refl i (λ i. finds_in f n es i g)
   where
