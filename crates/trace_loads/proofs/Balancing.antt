@@ -1,0 +1,293 @@
+-- Sets stay in order, and a server is noted just where its places are not met.
+use Rattle.std.proofs.Common.{◌≡◌, ℕ, suc, ◌≤◌, ◌==◌, ◌&&◌, not, Bool, true, false, List, [], ◌∷◌, length, Option, Some, None, if◌then◌else◌, refl, sym, ap, ap₂, ◌∙◌, subst, arith}
+use Rattle.std.specs.Prelude.{is_some}
+use Rattle.std.proofs.lemmas.Bool.Decides.{nat_tests}
+use Rattle.number_table.specs.Entries.{puts, frees, entry_at}
+use Rattle.client_request.specs.declared.event.What.{What}
+use Rattle.client_request.specs.declared.event.What.TheVariants.{Ask, Opened, OpenFailed, SendFailed, ShortSend, Datagram, RecvFailed, Wrote, WriteFailed, Bytes, ReadFailed, Ended, Tick}
+use Rattle.client_request.specs.declared.event.Out.{Out}
+use Rattle.client_request.specs.declared.event.Out.TheVariants.{Start, OpenDgram, OpenStream, Send, Write, Resume, Close, Stale, Reply}
+use Rattle.client_request.specs.declared.event.Via.{Via}
+use Rattle.client_request.specs.declared.event.Via.TheVariants.{Dgram, Stream}
+use Rattle.trace_tables.specs.declared.books.Books.{Books}
+use Rattle.trace_tables.specs.declared.places.Place.{Place}
+use Rattle.trace_tables.specs.declared.places.Stand.{Stand as Seen}
+use Rattle.trace_tables.specs.declared.places.Stand.TheVariants as seen
+use Rattle.trace_tables.specs.declared.requests.Requests.{Requests}
+use Rattle.trace_tables.specs.declared.requests.Started.{Started}
+use Rattle.trace_tables.specs.Tables.{begun_stand}
+use Rattle.trace_tables.specs.Lists.{listed}
+use Rattle.trace_tables.specs.Requests.{started_seen}
+use Rattle.trace_sets.specs.Sets.{Members, Sets, size, members, joins, leaves, Rise, AreSets}
+use Rattle.trace_sets.proofs.Keeping.{goes_on, at_puts, stays, rise_puts, rise_frees, freed_none, members_put}
+use Rattle.trace_loads.specs.declared.loads.Loads.{Loads}
+use Rattle.trace_loads.specs.Loads.{are_met, met_at, noted, checks, gives, takes, waits_at, goes_from, goes_from_all, fails_as, fails, closes, opens_as, opens, waits_seen, starts, met, has_put, places_of}
+
+pub record Well (t : Loads) : Type 0 where
+  pub dgrams : AreSets t.dgrams
+  pub streams : AreSets t.streams
+  pub demand : AreSets t.demand
+  pub unmet : (s : ℕ) → is_some (entry_at s t.unmet) ≡ not (met_at s t)
+  pub rise : Rise 0 t.unmet
+
+pub sets_of : (t : Loads) → Well t → (v : Via) → AreSets (places_of v t)
+sets_of t w Dgram = w.dgrams
+sets_of t w Stream = w.streams
+
+-- one server is asked anew
+noted_here : (s q : ℕ) (es : Members) (b : Bool) → Rise 0 es → (s == q) ≡ true → is_some (entry_at q (noted s b es)) ≡ not b
+noted_here s q es true r e = ap is_some (ap (λ (n : ℕ). entry_at n (frees s es)) (sym (same s q e)) ∙ freed_none 0 s es r)
+  where
+    same : (a b : ℕ) → (a == b) ≡ true → a ≡ b
+    same a b e = grind (arith, nat_tests)
+noted_here s q es false r e = ap is_some (at_puts s tt q es ∙ ap (λ b. if b then Some tt else entry_at q es) e)
+
+noted_there : (s q : ℕ) (es : Members) (b : Bool) → (s == q) ≡ false → is_some (entry_at q (noted s b es)) ≡ is_some (entry_at q es)
+noted_there s q es true e = ap is_some (stays q s es e)
+noted_there s q es false e = ap is_some (at_puts s tt q es ∙ ap (λ b. if b then Some tt else entry_at q es) e)
+
+noted_rise : (s : ℕ) (es : Members) (b : Bool) → Rise 0 es → Rise 0 (noted s b es)
+noted_rise s es true r = rise_frees 0 s es r
+noted_rise s es false r = rise_puts 0 s es (omega arith) r
+
+-- only what is said of that server changed
+checked : (s : ℕ) (t : Loads) → AreSets t.dgrams → AreSets t.streams → AreSets t.demand → Rise 0 t.unmet → ((q : ℕ) → (s == q) ≡ false → is_some (entry_at q t.unmet) ≡ not (met_at q t)) → Well (checks s t)
+checked s t d u n r others = record {
+  dgrams = d;
+  streams = u;
+  demand = n;
+  unmet = λ q. go q (s == q) refl;
+  rise = noted_rise s t.unmet (met_at s t) r;
+}
+  where
+    same : (a b : ℕ) → (a == b) ≡ true → a ≡ b
+    same a b e = grind (arith, nat_tests)
+
+    go : (q : ℕ) (b : Bool) → (s == q) ≡ b → is_some (entry_at q (noted s (met_at s t) t.unmet)) ≡ not (met_at q t)
+    go q true e = noted_here s q t.unmet (met_at s t) r e ∙ ap (λ (s : ℕ). not (met_at s t)) (same s q e)
+    go q false e = noted_there s q t.unmet (met_at s t) e ∙ others q e
+
+other_size : (s q : ℕ) (es : Members) (t : Sets) → (s == q) ≡ false → size q (puts s es (frees s t)) ≡ size q t
+other_size s q es t e = ap length (members_put s q es t ∙ ap (λ b. if b then es else members q t) e)
+
+pub nothing_well : (exact : Bool) → Well (record { dgrams = []; streams = []; demand = []; unmet = []; exact = exact })
+nothing_well true = record { dgrams = goes_on.begins; streams = goes_on.begins; demand = goes_on.begins; unmet = λ s. refl; rise = tt }
+nothing_well false = record { dgrams = goes_on.begins; streams = goes_on.begins; demand = goes_on.begins; unmet = λ s. refl; rise = tt }
+
+gives_well : (v : Via) (s p : ℕ) (t : Loads) → Well t → Well (gives v s p t)
+gives_well Dgram s p t w = checked s (record t { dgrams = joins s p t.dgrams }) (goes_on.join s p t.dgrams w.dgrams) w.streams w.demand w.rise
+    (λ q e. w.unmet q ∙ sym (ap (λ (n : ℕ). not (are_met t.exact n (size q t.demand))) (other_size s q (puts p tt (members s t.dgrams)) t.dgrams e)))
+gives_well Stream s p t w = record { dgrams = w.dgrams; streams = goes_on.join s p t.streams w.streams; demand = w.demand; unmet = w.unmet; rise = w.rise }
+
+takes_well : (v : Via) (s p : ℕ) (t : Loads) → Well t → Well (takes v s p t)
+takes_well Dgram s p t w = checked s (record t { dgrams = leaves s p t.dgrams }) (goes_on.leave s p t.dgrams w.dgrams) w.streams w.demand w.rise
+    (λ q e. w.unmet q ∙ sym (ap (λ (n : ℕ). not (are_met t.exact n (size q t.demand))) (other_size s q (frees p (members s t.dgrams)) t.dgrams e)))
+takes_well Stream s p t w = record { dgrams = w.dgrams; streams = goes_on.leave s p t.streams w.streams; demand = w.demand; unmet = w.unmet; rise = w.rise }
+
+waits_well : (s k : ℕ) (t : Loads) → Well t → Well (waits_at s k t)
+waits_well s k t w = checked s (record t { demand = joins s k t.demand }) w.dgrams w.streams (goes_on.join s k t.demand w.demand) w.rise
+    (λ q e. w.unmet q ∙ sym (ap (λ (n : ℕ). not (are_met t.exact (size q t.dgrams) n)) (other_size s q (puts k tt (members s t.demand)) t.demand e)))
+
+goes_well : (s k : ℕ) (t : Loads) → Well t → Well (goes_from s k t)
+goes_well s k t w = checked s (record t { demand = leaves s k t.demand }) w.dgrams w.streams (goes_on.leave s k t.demand w.demand) w.rise
+    (λ q e. w.unmet q ∙ sym (ap (λ (n : ℕ). not (are_met t.exact (size q t.dgrams) n)) (other_size s q (frees k (members s t.demand)) t.demand e)))
+
+all_well : (k : ℕ) (xs : List Started) (t : Loads) → Well t → Well (goes_from_all k xs t)
+all_well k [] t w = w
+all_well k (x ∷ xs) t w = all_well k xs (goes_from x.server k t) (goes_well x.server k t w)
+
+fails_well : (p : ℕ) (x : Place) (z : Seen) (t : Loads) → Well t → Well (fails_as p x z t)
+fails_well p x seen.Opening t w = takes_well x.via x.server p t w
+fails_well p x seen.Alive t w = w
+fails_well p x seen.Gone t w = w
+
+failed_well : (p : ℕ) (o : Option Place) (t : Loads) → Well t → Well (fails p o t)
+failed_well p None t w = w
+failed_well p (Some x) t w = fails_well p x x.stand t w
+
+closed_well : (p : ℕ) (o : Option Place) (t : Loads) → Well t → Well (closes p o t)
+closed_well p None t w = w
+closed_well p (Some x) t w = takes_well x.via x.server p t w
+
+opens_well : (v : Via) (s p : ℕ) (z : Seen) (t : Loads) → Well t → Well (opens_as v s p z t)
+opens_well v s p seen.Opening t w = gives_well v s p t w
+opens_well v s p seen.Alive t w = gives_well v s p t w
+opens_well v s p seen.Gone t w = w
+
+opened_well : (x : What) (v : Via) (s p : ℕ) (o : Option Place) (t : Loads) → Well t → Well (opens x v s p o t)
+opened_well x v s p (Some y) t w = w
+opened_well x v s p None t w = opens_well v s p (begun_stand x p) t w
+
+starts_well : (k s : ℕ) (v : Via) (r : Requests) (t : Loads) → Well t → Well (starts k s v r t)
+starts_well k s Dgram r t w = go (waits_seen k r && not (started_seen k s Stream r))
+  where
+    go : (b : Bool) → Well (if b then waits_at s k t else t)
+    go true = waits_well s k t w
+    go false = w
+starts_well k s Stream r t w = goes_well s k t w
+
+pub met_well : (w : What) (places : List (ℕ × Place)) (t : Loads) → Well t → Well (met w places t)
+met_well (OpenFailed p f) places t w = failed_well p (entry_at p places) t w
+met_well (Opened p) places t w = w
+met_well (Ask r) places t w = w
+met_well (SendFailed p f) places t w = w
+met_well (ShortSend p) places t w = w
+met_well (Datagram p o) places t w = w
+met_well (RecvFailed p f) places t w = w
+met_well (Wrote p n) places t w = w
+met_well (WriteFailed p f) places t w = w
+met_well (Bytes p o) places t w = w
+met_well (ReadFailed p f) places t w = w
+met_well (Ended p) places t w = w
+met_well Tick places t w = w
+
+pub put_well : (x : What) (o : Out) (b : Books) (t : Loads) → Well t → Well (has_put x o b t)
+put_well x (OpenDgram p s) b t w = opened_well x Dgram s p (entry_at p b.places) t w
+put_well x (OpenStream p s) b t w = opened_well x Stream s p (entry_at p b.places) t w
+put_well x (Close p) b t w = closed_well p (entry_at p b.places) t w
+put_well x (Start k s v) b t w = starts_well k s v b.requests t w
+put_well x (Reply k m) b t w = all_well k (listed k b.requests.starts) t w
+put_well x (Send p k i o) b t w = w
+put_well x (Write p k i o) b t w = w
+put_well x (Resume p o) b t w = w
+put_well x (Stale k) b t w = w
+
+-- what must be is set once
+
+gives_exact : (v : Via) (s p : ℕ) (t : Loads) → (gives v s p t).exact ≡ t.exact
+gives_exact Dgram s p t = refl
+gives_exact Stream s p t = refl
+
+takes_exact : (v : Via) (s p : ℕ) (t : Loads) → (takes v s p t).exact ≡ t.exact
+takes_exact Dgram s p t = refl
+takes_exact Stream s p t = refl
+
+all_exact : (k : ℕ) (xs : List Started) (t : Loads) → (goes_from_all k xs t).exact ≡ t.exact
+all_exact k [] t = refl
+all_exact k (x ∷ xs) t = all_exact k xs (goes_from x.server k t)
+
+fails_exact : (p : ℕ) (o : Option Place) (t : Loads) → (fails p o t).exact ≡ t.exact
+fails_exact p None t = refl
+fails_exact p (Some x) t = go x.stand
+  where
+    go : (z : Seen) → (fails_as p x z t).exact ≡ t.exact
+    go seen.Opening = takes_exact x.via x.server p t
+    go seen.Alive = refl
+    go seen.Gone = refl
+
+closes_exact : (p : ℕ) (o : Option Place) (t : Loads) → (closes p o t).exact ≡ t.exact
+closes_exact p None t = refl
+closes_exact p (Some x) t = takes_exact x.via x.server p t
+
+opens_exact : (x : What) (v : Via) (s p : ℕ) (o : Option Place) (t : Loads) → (opens x v s p o t).exact ≡ t.exact
+opens_exact x v s p (Some y) t = refl
+opens_exact x v s p None t = go (begun_stand x p)
+  where
+    go : (z : Seen) → (opens_as v s p z t).exact ≡ t.exact
+    go seen.Opening = gives_exact v s p t
+    go seen.Alive = gives_exact v s p t
+    go seen.Gone = refl
+
+starts_exact : (k s : ℕ) (v : Via) (r : Requests) (t : Loads) → (starts k s v r t).exact ≡ t.exact
+starts_exact k s Dgram r t = go (waits_seen k r && not (started_seen k s Stream r))
+  where
+    go : (b : Bool) → (if b then waits_at s k t else t).exact ≡ t.exact
+    go true = refl
+    go false = refl
+starts_exact k s Stream r t = refl
+
+pub met_exact : (w : What) (places : List (ℕ × Place)) (t : Loads) → (met w places t).exact ≡ t.exact
+met_exact (OpenFailed p f) places t = fails_exact p (entry_at p places) t
+met_exact (Opened p) places t = refl
+met_exact (Ask r) places t = refl
+met_exact (SendFailed p f) places t = refl
+met_exact (ShortSend p) places t = refl
+met_exact (Datagram p o) places t = refl
+met_exact (RecvFailed p f) places t = refl
+met_exact (Wrote p n) places t = refl
+met_exact (WriteFailed p f) places t = refl
+met_exact (Bytes p o) places t = refl
+met_exact (ReadFailed p f) places t = refl
+met_exact (Ended p) places t = refl
+met_exact Tick places t = refl
+
+pub put_exact : (x : What) (o : Out) (b : Books) (t : Loads) → (has_put x o b t).exact ≡ t.exact
+put_exact x (OpenDgram p s) b t = opens_exact x Dgram s p (entry_at p b.places) t
+put_exact x (OpenStream p s) b t = opens_exact x Stream s p (entry_at p b.places) t
+put_exact x (Close p) b t = closes_exact p (entry_at p b.places) t
+put_exact x (Start k s v) b t = starts_exact k s v b.requests t
+put_exact x (Reply k m) b t = all_exact k (listed k b.requests.starts) t
+put_exact x (Send p k i o) b t = refl
+put_exact x (Write p k i o) b t = refl
+put_exact x (Resume p o) b t = refl
+put_exact x (Stale k) b t = refl
+
+-- what is done to places leaves requests, and the other way
+
+takes_demand : (v : Via) (s p : ℕ) (t : Loads) → (takes v s p t).demand ≡ t.demand
+takes_demand Dgram s p t = refl
+takes_demand Stream s p t = refl
+
+gives_demand : (v : Via) (s p : ℕ) (t : Loads) → (gives v s p t).demand ≡ t.demand
+gives_demand Dgram s p t = refl
+gives_demand Stream s p t = refl
+
+fails_demand : (p : ℕ) (o : Option Place) (t : Loads) → (fails p o t).demand ≡ t.demand
+fails_demand p None t = refl
+fails_demand p (Some x) t = go x.stand
+  where
+    go : (z : Seen) → (fails_as p x z t).demand ≡ t.demand
+    go seen.Opening = takes_demand x.via x.server p t
+    go seen.Alive = refl
+    go seen.Gone = refl
+
+pub closes_demand : (p : ℕ) (o : Option Place) (t : Loads) → (closes p o t).demand ≡ t.demand
+closes_demand p None t = refl
+closes_demand p (Some x) t = takes_demand x.via x.server p t
+
+pub opens_demand : (x : What) (v : Via) (s p : ℕ) (o : Option Place) (t : Loads) → (opens x v s p o t).demand ≡ t.demand
+opens_demand x v s p (Some y) t = refl
+opens_demand x v s p None t = go (begun_stand x p)
+  where
+    go : (z : Seen) → (opens_as v s p z t).demand ≡ t.demand
+    go seen.Opening = gives_demand v s p t
+    go seen.Alive = gives_demand v s p t
+    go seen.Gone = refl
+
+pub met_demand : (w : What) (places : List (ℕ × Place)) (t : Loads) → (met w places t).demand ≡ t.demand
+met_demand (OpenFailed p f) places t = fails_demand p (entry_at p places) t
+met_demand (Opened p) places t = refl
+met_demand (Ask r) places t = refl
+met_demand (SendFailed p f) places t = refl
+met_demand (ShortSend p) places t = refl
+met_demand (Datagram p o) places t = refl
+met_demand (RecvFailed p f) places t = refl
+met_demand (Wrote p n) places t = refl
+met_demand (WriteFailed p f) places t = refl
+met_demand (Bytes p o) places t = refl
+met_demand (ReadFailed p f) places t = refl
+met_demand (Ended p) places t = refl
+met_demand Tick places t = refl
+
+goes_there : (u : Via) (s k : ℕ) (t : Loads) → places_of u (goes_from s k t) ≡ places_of u t
+goes_there Dgram s k t = refl
+goes_there Stream s k t = refl
+
+waits_there : (u : Via) (s k : ℕ) (t : Loads) → places_of u (waits_at s k t) ≡ places_of u t
+waits_there Dgram s k t = refl
+waits_there Stream s k t = refl
+
+all_there : (u : Via) (k : ℕ) (xs : List Started) (t : Loads) → places_of u (goes_from_all k xs t) ≡ places_of u t
+all_there u k [] t = refl
+all_there u k (x ∷ xs) t = all_there u k xs (goes_from x.server k t) ∙ goes_there u x.server k t
+
+pub starts_places : (u v : Via) (k s : ℕ) (b : Books) (t : Loads) → places_of u (starts k s v b.requests t) ≡ places_of u t
+starts_places u Dgram k s b t = go (waits_seen k b.requests && not (started_seen k s Stream b.requests))
+  where
+    go : (d : Bool) → places_of u (if d then waits_at s k t else t) ≡ places_of u t
+    go true = waits_there u s k t
+    go false = refl
+starts_places u Stream k s b t = goes_there u s k t
+
+pub goes_places : (u : Via) (k : ℕ) (b : Books) (t : Loads) → places_of u (goes_from_all k (listed k b.requests.starts) t) ≡ places_of u t
+goes_places u k b t = all_there u k (listed k b.requests.starts) t

@@ -1,0 +1,4 @@
+pub mod Telling
+pub mod Beginning
+pub mod Streams
+pub mod Shutting

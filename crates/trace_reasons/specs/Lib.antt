@@ -1,0 +1,3 @@
+pub mod Point
+pub mod Starting
+pub mod Closing
