@@ -57,7 +57,7 @@ same_what Tick Tick = true
 same_what a b = false
 
 abbrev pub same_event : Event → Event → Bool
-same_event a b = (a.moment == b.moment) && same_what a.what b.what
+same_event a b = (a.moment.0 == b.moment.0) && same_what a.what b.what
 
 -- an answer tells whether it is so
 abbrev pub TellsSame : Event → Event → Bool → Type 0

@@ -1,13 +1,14 @@
 //! Events compared part by part.
 
 ghost use Rattle.std.specs.Prelude.{◌≡◌};
+ghost use Rattle.message_matching.specs.Shapes.{same_octets};
 ghost use Rattle.trace_events.specs.Same as plain;
 
 use client_request::{Compose, Event, Fault, RequestMessage, What};
 use dns_base::OptRecord;
 
 fn is_same_octets(a: &[u8], b: &[u8]) -> bool
-    ensures { result ≡ plain.same_octets a.now b.now }
+    ensures { result ≡ same_octets a.now b.now }
 {
     a == b
 }
@@ -77,7 +78,7 @@ fn is_same_what(a: &What, b: &What) -> bool
         }
         (What::ShortSend { place: p }, What::ShortSend { place: q }) => *p == *q,
         (What::Datagram { place: p, octets: o }, What::Datagram { place: q, octets: u }) => {
-            *p == *q && is_same_octets(o, u)
+            *p == *q && is_same_octets(o.as_slice(), u.as_slice())
         }
         (What::RecvFailed { place: p, fault: f }, What::RecvFailed { place: q, fault: g }) => {
             *p == *q && is_same_fault(*f, *g)
@@ -89,7 +90,7 @@ fn is_same_what(a: &What, b: &What) -> bool
             *p == *q && is_same_fault(*f, *g)
         }
         (What::Bytes { place: p, octets: o }, What::Bytes { place: q, octets: u }) => {
-            *p == *q && is_same_octets(o, u)
+            *p == *q && is_same_octets(o.as_slice(), u.as_slice())
         }
         (What::ReadFailed { place: p, fault: f }, What::ReadFailed { place: q, fault: g }) => {
             *p == *q && is_same_fault(*f, *g)
