@@ -2,12 +2,13 @@
 
 usage: python3 tests/judge_by_definitions.py REFERENCE_FOLDER [--profile P] [--stage N] [--traces N] [--mutated N]
        python3 tests/judge_by_definitions.py REFERENCE_FOLDER --judge SCRIPT TRACE [--stage N]
+       python3 tests/judge_by_definitions.py REFERENCE_FOLDER --verdict SCRIPT TRACE
 
 REFERENCE_FOLDER holds the package `plain`; without it nothing is compared, and that is said. Each trace is the
 reference client's own, on a script made by its generator from its number as the seed; a mutated one has one thing or
 two changed, by the same number. Without a profile all three are gone through, and mutated traces of all three. Traces
-that the two judges see differently are kept in the folder of --keep, where that is given. With --judge no reference
-is needed.
+that the two judges see differently are kept in the folder of --keep, where that is given. With --judge and
+--verdict no reference is needed; the latter prints what an auditor of traces prints.
 """
 
 import argparse
@@ -21,7 +22,7 @@ from collections import Counter
 from definitions import texts
 from definitions.messages import end_of
 from definitions.mutations import mutated
-from definitions.right import judge
+from definitions.right import judge, verdict
 
 STAGES = {"stream1": 6, "servers": 7, "all": 17}
 FIRST_WITH_CACHE = 8
@@ -48,6 +49,14 @@ def judge_files(script, trace, stage):
     faults = faults_in(script, trace, stage)
     print("\n".join(told(faults)))
     return 1 if faults else 0
+
+
+def print_verdict(script, trace):
+    with open(script, "rb") as a, open(trace, "rb") as b:
+        text = a.read()
+        found = verdict(texts.read_script(text), texts.read_events(text), texts.read_trace(b.read()))
+    print(found)
+    return 0 if found == "right" else 5
 
 
 class Reference:
@@ -189,6 +198,7 @@ def main():
     parser = argparse.ArgumentParser()
     parser.add_argument("reference")
     parser.add_argument("--judge", nargs=2, metavar=("SCRIPT", "TRACE"))
+    parser.add_argument("--verdict", nargs=2, metavar=("SCRIPT", "TRACE"))
     parser.add_argument("--profile", choices=sorted(STAGES))
     parser.add_argument("--stage", type=int)
     parser.add_argument("--traces", type=int, default=100)
@@ -199,6 +209,8 @@ def main():
     parser.add_argument("--processes", type=int, default=2)
     parser.add_argument("--keep")
     options = parser.parse_args()
+    if options.verdict:
+        return print_verdict(*options.verdict)
     if options.judge:
         return judge_files(*options.judge, options.stage or 17)
     if not os.path.isdir(os.path.join(options.reference, "plain")):

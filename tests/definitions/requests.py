@@ -16,6 +16,12 @@ class Request:
     def __init__(self, base, header, opt):
         self.base, self.header, self.opt = base, header, opt
 
+    def __eq__(self, other):
+        return (self.base, self.header, self.opt) == (other.base, other.header, other.opt)
+
+    def __hash__(self):
+        return hash((self.base, self.header))
+
     def with_id(self, id_):
         return Request(self.base, id_.to_bytes(2, "big") + self.header[2:], self.opt)
 

@@ -41,12 +41,24 @@ def is_fault(out):
     return words[:1] == ("Dgram",) and words[1] in ("Connect", "Send", "Receive")
 
 
+def letter_of(definition, out):
+    """Which of the five parts of a right row a definition belongs to: what messages owe, that a reply is the first, what errors owe,
+    what other outs and the row's end owe, and promptness."""
+    name = definition.split(":")[0]
+    if name in ("IsFirst", "one_fault", "Prompt"):
+        return {"IsFirst": "H2", "one_fault": "H3", "Prompt": "H5"}[name]
+    if out is not None and out.kind == "reply":
+        return "H3" if isinstance(out.result, Err) else "H1"
+    return "H4"
+
+
 class Judge:
     def __init__(self, conf, settings, has_cache=True):
         self.conf, self.settings, self.has_cache = conf, settings, has_cache
         self.h = History(conf)
         self.faults = {}            # the first of each clause
         self.definitions = set()    # all that fail
+        self.wrong = {}             # row: which of H1 to H5 fail there
         self.unkept = set()         # requests whose message came, has no validity and isn't given
         self.log = []               # askings and replies in order
         self.reply_place = {}       # request: the place in the log of its newest reply
@@ -64,6 +76,8 @@ class Judge:
     def fails(self, clause, definition):
         self.definitions.add(definition.rstrip(" 0123456789"))
         self.faults.setdefault(clause, Fault(self.h.row, self.out and self.out.text, definition))
+        if clause in ("Right", "Deferred"):
+            self.wrong.setdefault(self.h.row, set()).add(letter_of(definition, self.out))
 
     def judge(self, rows):
         for moment, what, outs in rows:
@@ -82,6 +96,8 @@ class Judge:
             fault = self.out_right(out)
             if fault:
                 self.fails("Right", fault)
+            if fault == "IsFirst":
+                self.reply_apart(out.request, out.result)
             if out.kind == "reply":
                 self.note_reply(out)
             h.put(out)
@@ -192,6 +208,19 @@ class Judge:
         if self.marked == k:
             return None if self.fails_here(k) and self.is_stale(k, result) else "IsStale"
         return self.ok_is_right(k, result)
+
+    def reply_apart(self, k, result):
+        """Of a reply that is not the first: what it owes beside that."""
+        if k not in self.h.asking:
+            fault = "HasCause" if isinstance(result, Err) else "OkIsRight"
+        elif isinstance(result, Err):
+            fault = self.has_cause(k, result)
+        elif self.marked == k:
+            fault = None if self.fails_here(k) and self.is_stale(k, result) else "IsStale"
+        else:
+            fault = self.ok_is_right(k, result)
+        if fault:
+            self.fails("Right", fault)
 
     def came_for(self, k, m):
         return any(x.request == k and x.message == m for x in self.h.matching())
@@ -538,3 +567,17 @@ def judge(script, trace, has_cache=True):
     """`faults` has the first of each of the clauses `Right`, `Timely`, `Deferred`, `Hit` and `Stale` that fails, by its name."""
     conf, settings = script
     return Judge(conf, settings, has_cache).judge(trace)
+
+
+def verdict(script, events, trace):
+    """`right`, or which clause fails first at the least row where one does, and the row: `Events` where the trace has another event
+    than the script, or one of both has no more."""
+    conf, settings = script
+    judged = Judge(conf, settings)
+    for row in range(max(len(events), len(trace))):
+        if row >= len(events) or row >= len(trace) or events[row] != trace[row][:2]:
+            return "wrong Events row %d" % row
+        judged.row(*trace[row])
+        if row in judged.wrong:
+            return "wrong %s row %d" % (min(judged.wrong[row]), row)
+    return "right"

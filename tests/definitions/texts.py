@@ -104,6 +104,12 @@ def read_out(words):
     return Out(kind, place, request, server, via, id_, octets, result, " ".join(words)[:60])
 
 
+def read_events(text):
+    """The events of a script without lanes: the moment of each, and the event."""
+    lines = [line.split() for line in text.decode().split("\n")]
+    return [(int(words[1]), read_event(words[2:])) for words in lines if words[:1] == ["at"]]
+
+
 def read_trace(text):
     """The rows: the moment of each, its event and its outs."""
     rows = []
