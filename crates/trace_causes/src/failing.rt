@@ -122,7 +122,8 @@ pub fn failure(
     what: &What,
     request: u64,
 ) -> Result<Option<Error>, NoMemory>
-    ensures { IfOk result (plain.TellsFailure past.now request what.now) }
+    ensures value { IfOk result (λ e. e ≡ plain.failure past.now request what.now) }
+    ensures told { IfOk result (plain.TellsFailure past.now request what.now) }
 {
     find_failure(alloc, past, what, request)
 }

@@ -6,5 +6,5 @@ pub if_ok : {A E : Type 0} {P Q : A → Type 0} (r : Result A E) → ((a : A) �
 if_ok (Ok a) f h = f a h
 if_ok (Err x) f h = tt
 
-pub returns : goal.returns
-returns c = let a = c.args in if_ok c.find_failure.result (λ o e. tells_failure a.past.now a.request a.what.now o e) c.find_failure.ensures
+pub returns-clause-told : goal.returns-clause-told
+returns-clause-told c = let a = c.args in if_ok c.find_failure.result (λ o e. tells_failure a.past.now a.request a.what.now o e) c.find_failure.ensures
