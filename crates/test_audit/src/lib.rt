@@ -2,6 +2,8 @@
 #![tactic(auto)]
 
 #[cfg(test)]
+mod outs;
+#[cfg(test)]
 mod passes;
 #[cfg(test)]
 mod sends;
