@@ -1,0 +1,4 @@
+pub mod Front
+pub mod Words
+pub mod Turns
+pub mod Serving
