@@ -25,8 +25,11 @@ mod socket_edge;
 mod tcp;
 mod udp;
 
+pub use address::system_address;
+pub use answer::{count_of, octets_of};
 pub use command_line::command_words;
 pub use conf_file::ConfFile;
+pub use fault::{fault_of, is_for_later};
 pub use file_opener::FileOpener;
 pub use network::SystemNetwork;
 pub use rand_words::RandWords;

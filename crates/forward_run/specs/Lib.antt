@@ -1,4 +1,4 @@
 pub mod Front
-pub mod Words
+pub mod Settings
 pub mod Turns
 pub mod Serving

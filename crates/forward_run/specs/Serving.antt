@@ -4,7 +4,6 @@ use Rattle.std.specs.Cmp.Lexicographic.{pointwise}
 use Rattle.std.specs.Fmt.{decimal}
 use Rattle.std.specs.List.{list_any}
 use Rattle.std.specs.declared.alloc.Global.{Global}
-use Rattle.client_settings.specs.Settings.{CacheSettings, default_cache, default_redundant}
 use Rattle.client_steps.specs.Whole.{Whole, started}
 use Rattle.command_parts.specs.Conf.{Configures, IsConfRefused}
 use Rattle.command_parts.specs.Ends.{IsBegun, IsSaid}
@@ -19,15 +18,13 @@ use Rattle.resolv_conf.specs.declared.server.ServerConf.{ServerConf}
 use Rattle.dns_values.specs.declared.address.IpAddr.{IpAddr}
 use Rattle.dns_values.specs.declared.address.IpAddr.TheVariants.{V4, V6}
 use Rattle.forward_run.specs.Front.{after_deeds}
+use Rattle.forward_run.specs.Settings.{cache_of, choice_of, conf_of, words_left}
 use Rattle.forward_run.specs.Turns.{Scene, Turned, scene}
-use Rattle.forward_run.specs.Words.{asked_by}
+use Rattle.forward_words.specs.Words.{asked_by}
 use Rattle.forward_run.specs.declared.front.FrontDeed.{FrontDeed}
 use Rattle.forward_run.specs.declared.front.FrontDeed.TheVariants.{Learned, Listens}
-use Rattle.forward_run.specs.declared.words.Asked.{Asked}
-
--- as by default, but more answers are kept
-abbrev pub serving_cache : CacheSettings
-serving_cache = record default_cache { max_cache_entries = 100000 }
+use Rattle.forward_words.specs.declared.options.Options.{Options}
+use Rattle.forward_words.specs.declared.words.Asked.{Asked}
 
 -- A front, its count of polls and a clock, by what they tell.
 pub record Told : Type 0 where
@@ -46,49 +43,62 @@ begun_deeds port conf = Listens port ∷ map (λ server. Learned server) conf.se
 
 -- The configuration was served: it was listened, once, the servers were learned, and so many turns were made, which put out so many answers. What the client within did is
 -- right.
-pub record IsServed (asked : Asked) (conf : ResolvConf) (words : ℕ → ℕ) (answered : ℕ) (old new : Told) : Type 0 where
+pub record IsServed (options : Options) (asked : Asked) (conf : ResolvConf) (words : ℕ → ℕ) (answered : ℕ) (old new : Told) : Type 0 where
   pub last : Forwarding Whole
   pub left : ℕ → ℕ
   pub turned :
       Turned asked.turns answered
-      (scene (beginning (started default_redundant serving_cache conf)) words (after_deeds (begun_deeds asked.port conf) old.deeds) old.polls old.moments)
+      (scene (beginning (started (choice_of options.policy) (cache_of options) conf)) words (after_deeds (begun_deeds asked.port conf) old.deeds) old.polls old.moments)
       (scene last left new.deeds new.polls new.moments)
-  pub right : IsRightTrace default_redundant serving_cache conf words turned.trace
+  pub right : IsRightTrace (choice_of options.policy) (cache_of options) conf words turned.trace
 
 -- the line that is written at the end
 abbrev pub answered_line : ℕ → List ℕ
 answered_line n = codes "answered " ++ decimal n ++ codes "\n"
 
--- this host, where it is listened
-abbrev pub is_this_host : IpAddr → Bool
-is_this_host (V4 octets) = pointwise ◌==◌ octets (127 ∷ 0 ∷ 0 ∷ 1 ∷ [])
-is_this_host (V6 groups) = false
+-- two addresses are the same
+abbrev pub is_same_ip : IpAddr → IpAddr → Bool
+is_same_ip (V4 a) (V4 b) = pointwise ◌==◌ a b
+is_same_ip (V6 a) (V6 b) = pointwise ◌==◌ a b
+is_same_ip (V4 a) (V6 b) = false
+is_same_ip (V6 a) (V4 b) = false
 
--- a server is the forwarder itself
-abbrev pub is_itself : (port : ℕ) → ServerConf → Bool
-is_itself port server = server.addr.port == port && is_this_host server.addr.ip
+abbrev pub is_among : IpAddr → List IpAddr → Bool
+is_among ip listened = list_any (is_same_ip ip) listened
 
-abbrev pub asks_itself : (port : ℕ) → ResolvConf → Bool
-asks_itself port conf = list_any (is_itself port) conf.servers
+-- a server is the forwarder itself, which is listened at these addresses and this port
+abbrev pub is_itself : (listened : List IpAddr) → (port : ℕ) → ServerConf → Bool
+is_itself listened port server = server.addr.port == port && is_among server.addr.ip listened
 
--- The text is a configuration that was served, and the line says how many answers were put out.
-pub record IsAnswered (asked : Asked) (text : List ℕ) (words : ℕ → ℕ) (line : List ℕ) (old new : Told) : Type 0 where
+abbrev pub asks_itself : (listened : List IpAddr) → (port : ℕ) → ResolvConf → Bool
+asks_itself listened port conf = list_any (is_itself listened port) conf.servers
+
+-- The text is a configuration, and as the options say these servers are asked; `left` are the words that are not drawn by then.
+pub record IsConfAsked (options : Options) (text : List ℕ) (words : ℕ → ℕ) (conf : ResolvConf) (left : ℕ → ℕ) : Type 0 where
+  pub read : ResolvConf
+  pub configures : Configures text read
+  pub conf_is : conf ≡ conf_of options words read
+  pub left_is : left ≡ words_left options words read
+
+-- The text is a configuration that was served as the options say, and the line says how many answers were put out.
+pub record IsAnswered (options : Options) (asked : Asked) (text : List ℕ) (words : ℕ → ℕ) (line : List ℕ) (old new : Told) : Type 0 where
   pub conf : ResolvConf
-  pub configures : Configures text conf
+  pub left : ℕ → ℕ
+  pub conf_asked : IsConfAsked options text words conf left
   pub answered : ℕ
-  pub served : IsServed asked conf words answered old new
+  pub served : IsServed options asked conf left answered old new
   pub line_is : line ≡ answered_line answered
 
 -- It was served, and that line is written.
-pub record IsDone (asked : Asked) (text : List ℕ) (words : ℕ → ℕ) (before after : Option (List ℕ)) (old new : Told) : Type 0 where
+pub record IsDone (options : Options) (asked : Asked) (text : List ℕ) (words : ℕ → ℕ) (before after : Option (List ℕ)) (old new : Told) : Type 0 where
   pub line : List ℕ
-  pub answered : IsAnswered asked text words line old new
+  pub answered : IsAnswered options asked text words line old new
   pub written : after ≡ with_octets line before
 
 -- It was served, and that line is written, or the first of it.
-pub record IsCut (asked : Asked) (text : List ℕ) (words : ℕ → ℕ) (before after : Option (List ℕ)) (old new : Told) : Type 0 where
+pub record IsCut (options : Options) (asked : Asked) (text : List ℕ) (words : ℕ → ℕ) (before after : Option (List ℕ)) (old new : Told) : Type 0 where
   pub line : List ℕ
-  pub answered : IsAnswered asked text words line old new
+  pub answered : IsAnswered options asked text words line old new
   pub begun : IsBegun line before after
 
 -- This line says why the text is refused, and it is written whole, or the first of it, and then the sink's count of faults rose.
@@ -98,15 +108,16 @@ pub record RefusalIsSaid (text : List ℕ) (before after : Option (List ℕ)) (f
   pub said : IsSaid line before after faults faults_after
 
 -- It couldn't be listened, or the forwarder would ask itself.
-pub data IsDeaf (port : ℕ) (conf : ResolvConf) (faults faults_after : ℕ) : Type 0 where
-  front_fails : Rose faults faults_after → IsDeaf port conf faults faults_after
-  would_ask_itself : asks_itself port conf ≡ true → IsDeaf port conf faults faults_after
+pub data IsDeaf (listened : List IpAddr) (port : ℕ) (conf : ResolvConf) (faults faults_after : ℕ) : Type 0 where
+  front_fails : Rose faults faults_after → IsDeaf listened port conf faults faults_after
+  would_ask_itself : asks_itself listened port conf ≡ true → IsDeaf listened port conf faults faults_after
 
 -- the same of the text of a configuration
-pub record IsNotListened (port : ℕ) (text : List ℕ) (faults faults_after : ℕ) : Type 0 where
+pub record IsNotListened (options : Options) (port : ℕ) (text : List ℕ) (words : ℕ → ℕ) (faults faults_after : ℕ) : Type 0 where
   pub conf : ResolvConf
-  pub configures : Configures text conf
-  pub deaf : IsDeaf port conf faults faults_after
+  pub left : ℕ → ℕ
+  pub conf_asked : IsConfAsked options text words conf left
+  pub deaf : IsDeaf options.listened port conf faults faults_after
 
 abbrev pub numbers_line : List ℕ
 numbers_line = codes "numbers used\n"
@@ -119,10 +130,12 @@ IsSilent n = (n ≡ 2) ⊎ ((n ≡ 3) ⊎ (n ≡ 5))
 abbrev pub IfAsked : List (String Global) → Option (List ℕ) → (Asked → List ℕ → Type 0) → Type 0
 IfAsked words told P = IfSome (asked_by words) (λ asked. IfSome told (P asked))
 
--- the statuses of an end before there is a line of answers, and of those with a line that says why
-abbrev pub IsEnd : ℕ → Type 0
-IsEnd n = (n ≡ 1) ⊎ ((n ≡ 3) ⊎ ((n ≡ 5) ⊎ ((n ≡ 6) ⊎ (n ≡ 7))))
+-- an end without a line of answers, which may say why
+abbrev pub IsEndOfSource : Ending → Type 0
+IsEndOfSource (Says status line) = (status.0 ≡ 1) ⊎ (status.0 ≡ 7)
+IsEndOfSource (Silent status) = (status.0 ≡ 3) ⊎ ((status.0 ≡ 5) ⊎ (status.0 ≡ 6))
 
-abbrev pub IsSilentEnd : Ending → Type 0
-IsSilentEnd (Says status line) = (status.0 ≡ 1) ⊎ (status.0 ≡ 7)
-IsSilentEnd (Silent status) = (status.0 ≡ 3) ⊎ ((status.0 ≡ 5) ⊎ (status.0 ≡ 6))
+-- an end behind the configuration: a line tells that numbers are used up
+abbrev pub IsServeEnd : Ending → Type 0
+IsServeEnd (Says status line) = status.0 ≡ 7
+IsServeEnd (Silent status) = (status.0 ≡ 5) ⊎ (status.0 ≡ 6)

@@ -4,13 +4,15 @@
 
 mod front;
 mod list_front;
-mod number;
 mod serving;
+mod settings;
+mod status_line;
 mod turns;
-mod words;
+mod watch;
 
 pub use front::{Front, FrontDeed};
 pub use list_front::ListFront;
-pub use serving::serve;
+pub use serving::{serve, serve_as};
+pub use status_line::StatusLine;
 pub use turns::turn;
-pub use words::{Asked, asked_by};
+pub use watch::{Unwatched, Watch};

@@ -120,11 +120,13 @@ impl Front for ListFront {
             self.count_fault();
             return Err(fault);
         }
-        if self.keep(FrontDeed::Listens(port)).is_err() {
-            self.count_fault();
-            return Err(Fault::Other);
+        match self.keep(FrontDeed::Listens(port)) {
+            Ok(()) => Ok(()),
+            Err(NoMemory) => {
+                self.count_fault();
+                Err(Fault::Other)
+            }
         }
-        Ok(())
     }
 
     fn learn_server(&mut self, server: &ServerConf) -> Result<(), NoMemory>

@@ -10,6 +10,7 @@ ghost use Rattle.forward_run.specs.Front.{acts_on, after_deeds, happened};
 ghost use Rattle.forward_run.specs.Turns.{IsTurn, Turned, answers_in, is_answer, scene};
 
 use crate::front::Front;
+use crate::watch::Watch;
 use client_core::{Clock, What};
 use client_request::{Error, Words};
 use dns_base::NoMemory;
@@ -88,12 +89,13 @@ fn answers_in(row: &FrontRow) -> usize
         .count()
 }
 
-/// Makes so many turns. How many answers they put out.
-pub(crate) fn turn_all<F: Front, C: Clock, W: Words>(
+/// Makes so many turns, of each of which `watch` is told. How many answers they put out.
+pub(crate) fn turn_all<F: Front, C: Clock, W: Words, V: Watch>(
     forwarder: &mut Forwarder,
     front: &mut F,
     clock: &mut C,
     words: &mut W,
+    watch: &mut V,
     turns: u64,
 ) -> Result<u64, Error>
     requires { forwarder.old.failed ≡ false }
@@ -106,6 +108,7 @@ pub(crate) fn turn_all<F: Front, C: Clock, W: Words>(
     let mut left = turns;
     while left > 0 {
         let row = turn(forwarder, front, clock, words)?;
+        watch.turned(forwarder, &row);
         let Some(more) = answered.checked_add(answers_in(&row) as u64) else {
             return Err(Error::NumbersUsed);
         };

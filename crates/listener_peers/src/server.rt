@@ -1,15 +1,16 @@
 //! The places of a client and the listeners and peers of a server, over which there is one wait.
 
-ghost use Rattle.std.specs.Prelude.{◌≡◌, IfOk, OnOk};
+ghost use Rattle.std.specs.Prelude.{◌≡◌, ◌++◌, [], ◌∷◌, IfOk, OnOk};
 ghost use Rattle.listener_peers.specs.Books.{Answers, but_open};
 ghost use Rattle.listener_peers.specs.Waits.{Polls, Sleeps, TellsNext, WaitsForAll, told_of_peer};
 ghost use Rattle.socket_places.specs.Books.{Acts};
 
 use crate::books::PeerBooks;
+use crate::doors::{DgramDoor, StreamDoor};
 use crate::heard::{Heard, Spot};
 use crate::listener::{DgramListener, Listener};
 use client_request::{Out, What};
-use dns_values::{NoMemory, Octets};
+use dns_values::{NoMemory, Octets, SocketAddr};
 use socket_places::{Asked, Books, Network};
 use std::alloc::Global;
 use std::marker::Model;
@@ -91,6 +92,27 @@ impl<N: Network + Drop, D: DgramListener + Drop, L: Listener + Drop> ServerBooks
             asked: Vec::new(alloc),
             spots: Vec::new(alloc),
         }
+    }
+
+    /// The address of the client's next server, counted from 0.
+    pub fn learn(&mut self, addr: SocketAddr) -> Result<(), NoMemory>
+        ensures { OnOk result (self.new ≡ record self.old { places = record self.old.places { servers = self.old.places.servers ++ addr ∷ [] } }) }
+    {
+        self.places.learn(addr)
+    }
+
+    /// One listener more for datagrams.
+    pub fn listen_dgrams(&mut self, door: DgramDoor<D>) -> Result<(), NoMemory>
+        ensures { OnOk result (self.new ≡ record self.old { peers = record self.old.peers { dgrams = self.old.peers.dgrams ++ door ∷ [] } }) }
+    {
+        self.peers.listen_dgrams(door)
+    }
+
+    /// One listener more for streams.
+    pub fn listen_streams(&mut self, door: StreamDoor<L>) -> Result<(), NoMemory>
+        ensures { OnOk result (self.new ≡ record self.old { peers = record self.old.peers { doors = self.old.peers.doors ++ door ∷ [] } }) }
+    {
+        self.peers.listen_streams(door)
     }
 
     /// Does what an out of the client within asks for.

@@ -6,4 +6,6 @@ mod forwarder;
 #[cfg(test)]
 mod messages;
 #[cfg(test)]
+mod options;
+#[cfg(test)]
 mod program;

@@ -9,7 +9,7 @@ use front_peers::FrontWhat;
 use std::alloc::{AllocError, Global};
 
 /// The words of a line, with single blanks between.
-fn words_of(alloc: Global, line: &str) -> Result<Vec<String>, AllocError> {
+pub fn words_of(alloc: Global, line: &str) -> Result<Vec<String>, AllocError> {
     let mut words = Vec::new(alloc);
     for word in line.split(' ') {
         words.push(String::from_str(alloc, word)?)?;
@@ -87,7 +87,7 @@ const RUNS: [Run; 8] = [
 ];
 
 /// A front to which a query of another opcode comes.
-fn front(alloc: Global, deaf: bool) -> Option<ListFront> {
+pub fn front(alloc: Global, deaf: bool) -> Option<ListFront> {
     let octets = Octets::from_slice(alloc, &[0, 1, 0x28, 0, 0, 0, 0, 0, 0, 0, 0, 0]).ok()?;
     let mut events = Vec::new(alloc);
     events
@@ -97,7 +97,7 @@ fn front(alloc: Global, deaf: bool) -> Option<ListFront> {
     Some(ListFront::new(alloc, events, fault))
 }
 
-fn source(alloc: Global, text: &str) -> Option<MemSource> {
+pub fn source(alloc: Global, text: &str) -> Option<MemSource> {
     let octets = Octets::from_slice(alloc, text.as_bytes()).ok()?;
     Some(MemSource::new(octets, Vec::new(alloc)))
 }

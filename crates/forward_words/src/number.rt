@@ -2,7 +2,7 @@
 
 ghost use Rattle.std.specs.Prelude.{◌≡◌, ◌≤◌, IfSome};
 ghost use Rattle.resolv_conf.specs.Number.{number_of};
-ghost use Rattle.forward_run.specs.Words.{is_plain, number_from_1};
+ghost use Rattle.forward_words.specs.Words.{is_plain, number_in};
 
 /// The number that a text writes, where a plus may stand first.
 #[tactic(auto, using(resolv_conf::proofs::Numbers::number_is))]
@@ -22,16 +22,16 @@ fn is_plain(word: &[u8]) -> bool
     }
 }
 
-/// The number from 1 to the greatest that a text writes without a sign or a leading zero.
-pub(crate) fn number_from_1(greatest: u64, text: &str) -> Option<u64>
-    ensures value { result ≡ number_from_1 greatest text.now }
-    ensures range { IfSome result (λ n. (1 ≤ n) × (n ≤ greatest)) }
+/// The number of a range that a text writes without a sign or a leading zero.
+pub(crate) fn number_in(least: u64, greatest: u64, text: &str) -> Option<u64>
+    ensures value { result ≡ number_in least greatest text.now }
+    ensures range { IfSome result (λ n. (least ≤ n) × (n ≤ greatest)) }
 {
     if !is_plain(text.as_bytes()) {
         return None;
     }
     let number = number(text)? as u64;
-    if number < 1 || greatest < number {
+    if number < least || greatest < number {
         None
     } else {
         Some(number)

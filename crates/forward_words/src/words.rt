@@ -1,11 +1,11 @@
-//! The words of the command line.
+//! The words behind the options.
 
 ghost use Rattle.std.specs.Prelude.{◌≡◌};
-ghost use Rattle.forward_run.specs.Words.{asked_by};
+ghost use Rattle.forward_words.specs.Words.{asked_by};
 
-use crate::number::number_from_1;
+use crate::number::number_in;
 
-/// What the words ask for.
+/// What the words behind the options ask for.
 #[derive(Clone, Copy, Debug, PartialEq, Eq)]
 pub struct Asked {
     /// The port at which it is listened.
@@ -14,15 +14,14 @@ pub struct Asked {
     pub turns: u64,
 }
 
-/// What the words ask for, which do not hold the program's own name: `PORT TURNS`, decimal numbers from 1 on without a sign or a
-/// leading zero.
+/// What the words behind the options ask for: `PORT TURNS`, decimal numbers from 1 on without a sign or a leading zero.
 pub fn asked_by(words: &[String]) -> Option<Asked>
     ensures { result ≡ asked_by words.now }
 {
     match words {
         [port, turns] => {
-            let port = number_from_1(65535, port.as_str())?;
-            let turns = number_from_1(u64::MAX, turns.as_str())?;
+            let port = number_in(1, 65535, port.as_str())?;
+            let turns = number_in(1, u64::MAX, turns.as_str())?;
             Some(Asked {
                 port: port as u16,
                 turns,

@@ -1,0 +1,18 @@
+//! Who watches a forwarder at work.
+
+use front_core::Forwarder;
+use front_peers::FrontRow;
+
+/// What is told of each turn of a forwarder. It has no part in what becomes of it.
+pub trait Watch {
+    /// Told after a turn: the forwarder as it stands then, and the row that the turn made.
+    fn turned(&mut self, forwarder: &Forwarder, row: &FrontRow);
+}
+
+/// Who watches nothing.
+#[derive(Clone, Copy)]
+pub struct Unwatched;
+
+impl Watch for Unwatched {
+    fn turned(&mut self, _forwarder: &Forwarder, _row: &FrontRow) {}
+}
