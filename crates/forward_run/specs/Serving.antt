@@ -19,23 +19,13 @@ use Rattle.dns_values.specs.declared.address.IpAddr.{IpAddr}
 use Rattle.dns_values.specs.declared.address.IpAddr.TheVariants.{V4, V6}
 use Rattle.forward_run.specs.Front.{after_deeds}
 use Rattle.forward_run.specs.Settings.{cache_of, choice_of, conf_of, words_left}
-use Rattle.forward_run.specs.Turns.{Scene, Turned, scene}
+use Rattle.forward_run.specs.Turns.{Turned, World, within}
+use Rattle.forward_words.specs.Options.{finished, nothing_said}
 use Rattle.forward_words.specs.Words.{asked_by}
 use Rattle.forward_run.specs.declared.front.FrontDeed.{FrontDeed}
 use Rattle.forward_run.specs.declared.front.FrontDeed.TheVariants.{Learned, Listens}
 use Rattle.forward_words.specs.declared.options.Options.{Options}
 use Rattle.forward_words.specs.declared.words.Asked.{Asked}
-
--- A front, its count of polls and a clock, by what they tell.
-pub record Told : Type 0 where
-  pub deeds : Option (List FrontDeed)
-  pub polls : ℕ
-  pub moments : Option (List ℕ)
-
--- What holds of what a front and a clock tell before and after a call.
-abbrev pub over : {F C : Type 0} {R : Type 1} → (F → Option (List FrontDeed)) → (F → ℕ) → (C → Option (List ℕ)) → (old new : F × C) → (Told → Told → R) → R
-over deeds polls given old new P =
-    P (record { deeds = deeds old.0; polls = polls old.0; moments = given old.1 }) (record { deeds = deeds new.0; polls = polls new.0; moments = given new.1 })
 
 -- it is listened on a port, and then the servers are learned in order
 abbrev pub begun_deeds : (port : ℕ) → ResolvConf → List FrontDeed
@@ -43,14 +33,13 @@ begun_deeds port conf = Listens port ∷ map (λ server. Learned server) conf.se
 
 -- The configuration was served: it was listened, once, the servers were learned, and so many turns were made, which put out so many answers. What the client within did is
 -- right.
-pub record IsServed (options : Options) (asked : Asked) (conf : ResolvConf) (words : ℕ → ℕ) (answered : ℕ) (old new : Told) : Type 0 where
+pub record IsServed (options : Options) (asked : Asked) (conf : ResolvConf) (answered : ℕ) (old new : World) : Type 0 where
   pub last : Forwarding Whole
-  pub left : ℕ → ℕ
   pub turned :
       Turned asked.turns answered
-      (scene (beginning (started (choice_of options.policy) (cache_of options) conf)) words (after_deeds (begun_deeds asked.port conf) old.deeds) old.polls old.moments)
-      (scene last left new.deeds new.polls new.moments)
-  pub right : IsRightTrace (choice_of options.policy) (cache_of options) conf words turned.trace
+      (within (beginning (started (choice_of options.policy) (cache_of options) conf)) (record old { deeds = after_deeds (begun_deeds asked.port conf) old.deeds }))
+      (within last new)
+  pub right : IsRightTrace (choice_of options.policy) (cache_of options) conf old.words turned.trace
 
 -- the line that is written at the end
 abbrev pub answered_line : ℕ → List ℕ
@@ -81,24 +70,28 @@ pub record IsConfAsked (options : Options) (text : List ℕ) (words : ℕ → �
   pub left_is : left ≡ words_left options words read
 
 -- The text is a configuration that was served as the options say, and the line says how many answers were put out.
-pub record IsAnswered (options : Options) (asked : Asked) (text : List ℕ) (words : ℕ → ℕ) (line : List ℕ) (old new : Told) : Type 0 where
+pub record IsAnswered (options : Options) (asked : Asked) (text line : List ℕ) (old new : World) : Type 0 where
   pub conf : ResolvConf
   pub left : ℕ → ℕ
-  pub conf_asked : IsConfAsked options text words conf left
+  pub conf_asked : IsConfAsked options text old.words conf left
   pub answered : ℕ
-  pub served : IsServed options asked conf left answered old new
+  pub served : IsServed options asked conf answered (record old { words = left }) new
   pub line_is : line ≡ answered_line answered
 
+-- the same where the source tells its text
+abbrev pub IsAnsweredIf : (options : Options) (asked : Asked) (told : Option (List ℕ)) (line : List ℕ) (old new : World) → Type 0
+IsAnsweredIf options asked told line old new = IfSome told (λ text. IsAnswered options asked text line old new)
+
 -- It was served, and that line is written.
-pub record IsDone (options : Options) (asked : Asked) (text : List ℕ) (words : ℕ → ℕ) (before after : Option (List ℕ)) (old new : Told) : Type 0 where
+pub record IsDone (options : Options) (asked : Asked) (text : List ℕ) (before after : Option (List ℕ)) (old new : World) : Type 0 where
   pub line : List ℕ
-  pub answered : IsAnswered options asked text words line old new
+  pub answered : IsAnswered options asked text line old new
   pub written : after ≡ with_octets line before
 
 -- It was served, and that line is written, or the first of it.
-pub record IsCut (options : Options) (asked : Asked) (text : List ℕ) (words : ℕ → ℕ) (before after : Option (List ℕ)) (old new : Told) : Type 0 where
+pub record IsCut (options : Options) (asked : Asked) (text : List ℕ) (before after : Option (List ℕ)) (old new : World) : Type 0 where
   pub line : List ℕ
-  pub answered : IsAnswered options asked text words line old new
+  pub answered : IsAnswered options asked text line old new
   pub begun : IsBegun line before after
 
 -- This line says why the text is refused, and it is written whole, or the first of it, and then the sink's count of faults rose.
@@ -119,6 +112,10 @@ pub record IsNotListened (options : Options) (port : ℕ) (text : List ℕ) (wor
   pub conf_asked : IsConfAsked options text words conf left
   pub deaf : IsDeaf options.listened port conf faults faults_after
 
+-- and where the source tells its text
+abbrev pub IsNotListenedIf : (options : Options) (port : ℕ) (told : Option (List ℕ)) (words : ℕ → ℕ) (faults faults_after : ℕ) → Type 0
+IsNotListenedIf options port told words faults faults_after = IfSome told (λ text. IsNotListened options port text words faults faults_after)
+
 abbrev pub numbers_line : List ℕ
 numbers_line = codes "numbers used\n"
 
@@ -129,6 +126,19 @@ IsSilent n = (n ≡ 2) ⊎ ((n ≡ 3) ⊎ (n ≡ 5))
 -- a fact of what the words ask for and of the octets that the source tells
 abbrev pub IfAsked : List (String Global) → Option (List ℕ) → (Asked → List ℕ → Type 0) → Type 0
 IfAsked words told P = IfSome (asked_by words) (λ asked. IfSome told (P asked))
+
+abbrev pub IsDoneBy : {K : Type 0} → (K → Option (List ℕ)) → Options → List (String Global) → Option (List ℕ) → (before after : K) → (old new : World) → Type 0
+IsDoneBy held options words told before after old new = IfAsked words told (λ asked text. IsDone options asked text (held before) (held after) old new)
+
+abbrev pub IsCutBy : {K : Type 0} → (K → Option (List ℕ)) → Options → List (String Global) → Option (List ℕ) → (before after : K) → (old new : World) → Type 0
+IsCutBy held options words told before after old new = IfAsked words told (λ asked text. IsCut options asked text (held before) (held after) old new)
+
+abbrev pub IsNotListenedBy : Options → List (String Global) → Option (List ℕ) → (words : ℕ → ℕ) → (faults faults_after : ℕ) → Type 0
+IsNotListenedBy options said told words faults faults_after = IfAsked said told (λ asked text. IsNotListened options asked.port text words faults faults_after)
+
+-- what is said where there is no option
+abbrev pub no_options : Options
+no_options = finished nothing_said
 
 -- an end without a line of answers, which may say why
 abbrev pub IsEndOfSource : Ending → Type 0

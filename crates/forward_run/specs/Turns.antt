@@ -73,3 +73,26 @@ pub record Turned (count answered : ℕ) (old new : Scene) : Type 0 where
   pub deeds : new.deeds ≡ after_deeds (flat_map deeds_of turns) old.deeds
   pub polls : RoseBy count old.polls new.polls
   pub moments : AreGivenOn old.moments new.moments (moments_of turns)
+
+-- the words that come, what a front tells of what was done with it, its count of polls, and the moments that a clock tells
+pub record World : Type 0 where
+  pub words : ℕ → ℕ
+  pub deeds : Option (List FrontDeed)
+  pub polls : ℕ
+  pub moments : Option (List ℕ)
+
+abbrev pub world : (ℕ → ℕ) → Option (List FrontDeed) → (polls : ℕ) → (moments : Option (List ℕ)) → World
+world words deeds polls moments = record { words = words; deeds = deeds; polls = polls; moments = moments }
+
+-- What holds of the world before and after a call, by what a front, a clock and words tell.
+abbrev pub around : {F C W : Type 0} {R : Type 1} → (F → Option (List FrontDeed)) → (F → ℕ) → (C → Option (List ℕ)) → (W → ℕ → ℕ) → (old new : F × C × W) → (World → World → R) → R
+around deeds polls given stream old new P =
+    P (world (stream old.2) (deeds old.0) (polls old.0) (given old.1)) (world (stream new.2) (deeds new.0) (polls new.0) (given new.1))
+
+-- a forwarder in the world
+abbrev pub within : Forwarding Whole → World → Scene
+within forwarder w = scene forwarder w.words w.deeds w.polls w.moments
+
+-- So many turns were made from one forwarder to another.
+abbrev pub TurnedBy : (count answered : ℕ) → (first last : Forwarding Whole) → (old new : World) → Type 0
+TurnedBy count answered first last old new = Turned count answered (within first old) (within last new)

@@ -5,11 +5,11 @@ ghost use Rattle.dns_values.specs.Sink.{IsFlushed};
 ghost use Rattle.dns_values.specs.Source.{Rose};
 ghost use Rattle.command_parts.specs.Conf.{IsConfRefused};
 ghost use Rattle.command_parts.specs.Ends.{IsEarly, IsSaid, line_of, status_of};
-ghost use Rattle.forward_words.specs.Options.{finished, nothing_said};
 ghost use Rattle.forward_words.specs.Words.{asked_by};
 ghost use Rattle.forward_run.specs.Front.{after_deed, after_deeds};
 ghost use Rattle.forward_run.specs.Serving as spec;
-ghost use Rattle.forward_run.specs.Serving.{IfAsked, IsAnswered, IsConfAsked, IsCut, IsDeaf, IsDone, IsEndOfSource, IsNotListened, IsServeEnd, IsServed, IsSilent, RefusalIsSaid, over};
+ghost use Rattle.forward_run.specs.Serving.{IfAsked, IsAnsweredIf, IsConfAsked, IsCutBy, IsDeaf, IsDoneBy, IsEndOfSource, IsNotListenedBy, IsNotListenedIf, IsServeEnd, IsServed, IsSilent, RefusalIsSaid, no_options};
+ghost use Rattle.forward_run.specs.Turns.{around};
 ghost use Rattle.forward_run.specs.declared.front.FrontDeed.{FrontDeed};
 
 use crate::front::Front;
@@ -118,10 +118,10 @@ fn serve_conf<F: Front, C: Clock, W: Words, V: Watch>(
     conf: &ResolvConf,
     front: &mut F,
     clock: &mut C,
-    random: &mut W,
+    rng: &mut W,
     watch: &mut V,
 ) -> Result<u64, Ending>
-    ensures served { IfOk result (λ answered. over F.deeds F.polls C.given (front.old, clock.old) (front.new, clock.new) (IsServed options.now asked conf.now (W.stream random.old) answered)) }
+    ensures served { IfOk result (λ answered. around F.deeds F.polls C.given W.stream (front.old, clock.old, rng.old) (front.new, clock.new, rng.new) (IsServed options.now asked conf.now answered)) }
     ensures ends { IfErr result IsServeEnd }
     ensures deaf { IfErr result (λ e. status_of e ≡ 5 → IsDeaf options.now.listened asked.port conf.now (F.faults front.old) (F.faults front.new)) }
     ensures line { IfErr result (λ e. status_of e ≡ 7 → line_of e ≡ spec.numbers_line) }
@@ -134,7 +134,7 @@ fn serve_conf<F: Front, C: Clock, W: Words, V: Watch>(
         return Err(Ending::Silent(NO_MEMORY));
     };
     every_forwarded_trace_is_right();
-    match turn_all(&mut forwarder, front, clock, random, watch, asked.turns) {
+    match turn_all(&mut forwarder, front, clock, rng, watch, asked.turns) {
         Ok(answered) => Ok(answered),
         Err(error) => Err(stopped_by(alloc, error)),
     }
@@ -153,16 +153,16 @@ fn conf_asked<S: Source, W: Words>(
     alloc: Global,
     options: &Options,
     source: &mut S,
-    random: &mut W,
+    rng: &mut W,
 ) -> Result<ResolvConf, Ending>
-    ensures asked { IfOk result (λ conf. IfSome (S.left source.old) (λ text. IsConfAsked options.now text (W.stream random.old) conf (W.stream random.new))) }
+    ensures asked { IfOk result (λ conf. IfSome (S.left source.old) (λ text. IsConfAsked options.now text (W.stream rng.old) conf (W.stream rng.new))) }
     ensures early { IfErr result IsEarly }
     ensures source_fault { IfErr result (λ e. status_of e ≡ 3 → Rose (S.faults source.old) (S.faults source.new)) }
     ensures refused { IfErr result (λ e. status_of e ≡ 1 → IfSome (S.left source.old) (λ text. IsConfRefused text (line_of e))) }
     ensures no_numbers { IfErr result (λ e. status_of e ≢ 7) }
 {
     let conf = configuration(alloc, source)?;
-    let conf = conf_of(alloc, options, conf, random)?;
+    let conf = conf_of(alloc, options, conf, rng)?;
     Ok(conf)
 }
 
@@ -175,20 +175,19 @@ fn serve_source<S: Source, F: Front, C: Clock, W: Words, V: Watch>(
     source: &mut S,
     front: &mut F,
     clock: &mut C,
-    random: &mut W,
+    rng: &mut W,
     watch: &mut V,
 ) -> Result<Vec<u8>, Ending>
-    ensures done { IfOk result (λ line. IfSome (S.left source.old) (λ text.
-        over F.deeds F.polls C.given (front.old, clock.old) (front.new, clock.new) (IsAnswered options.now asked text (W.stream random.old) line.items))) }
+    ensures done { IfOk result (λ line. around F.deeds F.polls C.given W.stream (front.old, clock.old, rng.old) (front.new, clock.new, rng.new) (IsAnsweredIf options.now asked (S.left source.old) line.items)) }
     ensures source_fault { IfErr result (λ e. status_of e ≡ 3 → Rose (S.faults source.old) (S.faults source.new)) }
     ensures refused { IfErr result (λ e. status_of e ≡ 1 → IfSome (S.left source.old) (λ text. IsConfRefused text (line_of e))) }
-    ensures deaf { IfErr result (λ e. status_of e ≡ 5 → IfSome (S.left source.old) (λ text. IsNotListened options.now asked.port text (W.stream random.old) (F.faults front.old) (F.faults front.new))) }
+    ensures deaf { IfErr result (λ e. status_of e ≡ 5 → IsNotListenedIf options.now asked.port (S.left source.old) (W.stream rng.old) (F.faults front.old) (F.faults front.new)) }
     ensures ends { IfErr result IsEndOfSource }
     ensures numbers { IfErr result (λ e. status_of e ≡ 7 → line_of e ≡ spec.numbers_line) }
 {
-    let conf = conf_asked(alloc, options, source, random)?;
+    let conf = conf_asked(alloc, options, source, rng)?;
     let answered = serve_conf(
-        alloc, options, seed, asked, &conf, front, clock, random, watch,
+        alloc, options, seed, asked, &conf, front, clock, rng, watch,
     )?;
     let line = answered_line(alloc, answered)?;
     Ok(line)
@@ -212,20 +211,18 @@ pub fn serve_as<S: Source, K: Sink, F: Front, C: Clock, W: Words, V: Watch>(
     sink: &mut K,
     front: &mut F,
     clock: &mut C,
-    random: &mut W,
+    rng: &mut W,
     watch: &mut V,
 ) -> Status
     ensures usage { result.0 ≡ 2 → asked_by words.now ≡ None }
     ensures no_command { asked_by words.now ≡ None → result.0 ≡ 2 }
-    ensures done { result.0 ≡ 0 → IfAsked words.now (S.left source.old) (λ asked text.
-        over F.deeds F.polls C.given (front.old, clock.old) (front.new, clock.new) (IsDone options.now asked text (W.stream random.old) (K.held sink.old) (K.held sink.new))) }
+    ensures done { result.0 ≡ 0 → around F.deeds F.polls C.given W.stream (front.old, clock.old, rng.old) (front.new, clock.new, rng.new) (IsDoneBy K.held options.now words.now (S.left source.old) sink.old sink.new) }
     ensures flushed { result.0 ≡ 0 → IsFlushed (K.held sink.new) (K.flushed sink.new) }
     ensures refused { result.0 ≡ 1 → IfAsked words.now (S.left source.old) (λ asked text. RefusalIsSaid text (K.held sink.old) (K.held sink.new) (K.faults sink.old) (K.faults sink.new)) }
     ensures source_fault { result.0 ≡ 3 → Rose (S.faults source.old) (S.faults source.new) }
-    ensures cut { result.0 ≡ 4 → IfAsked words.now (S.left source.old) (λ asked text.
-        over F.deeds F.polls C.given (front.old, clock.old) (front.new, clock.new) (IsCut options.now asked text (W.stream random.old) (K.held sink.old) (K.held sink.new))) }
+    ensures cut { result.0 ≡ 4 → around F.deeds F.polls C.given W.stream (front.old, clock.old, rng.old) (front.new, clock.new, rng.new) (IsCutBy K.held options.now words.now (S.left source.old) sink.old sink.new) }
     ensures sink_fault { result.0 ≡ 4 → Rose (K.faults sink.old) (K.faults sink.new) }
-    ensures deaf { result.0 ≡ 5 → IfAsked words.now (S.left source.old) (λ asked text. IsNotListened options.now asked.port text (W.stream random.old) (F.faults front.old) (F.faults front.new)) }
+    ensures deaf { result.0 ≡ 5 → IsNotListenedBy options.now words.now (S.left source.old) (W.stream rng.old) (F.faults front.old) (F.faults front.new) }
     ensures silent { IsSilent result.0 → K.held sink.new ≡ K.held sink.old }
     ensures numbers { result.0 ≡ 7 → IsSaid spec.numbers_line (K.held sink.old) (K.held sink.new) (K.faults sink.old) (K.faults sink.new) }
     ensures status { result.0 < 8 }
@@ -234,7 +231,7 @@ pub fn serve_as<S: Source, K: Sink, F: Front, C: Clock, W: Words, V: Watch>(
         return USAGE;
     };
     match serve_source(
-        alloc, options, seed, asked, source, front, clock, random, watch,
+        alloc, options, seed, asked, source, front, clock, rng, watch,
     ) {
         Ok(line) => deliver(sink, &line),
         Err(Ending::Silent(status)) => status,
@@ -251,19 +248,17 @@ pub fn serve<S: Source, K: Sink, F: Front, C: Clock, W: Words>(
     sink: &mut K,
     front: &mut F,
     clock: &mut C,
-    random: &mut W,
+    rng: &mut W,
 ) -> Status
     ensures no_command { asked_by words.now ≡ None → (result.0 ≡ 2) ⊎ (result.0 ≡ 6) }
     ensures usage { result.0 ≡ 2 → asked_by words.now ≡ None }
-    ensures done { result.0 ≡ 0 → IfAsked words.now (S.left source.old) (λ asked text.
-        over F.deeds F.polls C.given (front.old, clock.old) (front.new, clock.new) (IsDone (finished nothing_said) asked text (W.stream random.old) (K.held sink.old) (K.held sink.new))) }
+    ensures done { result.0 ≡ 0 → around F.deeds F.polls C.given W.stream (front.old, clock.old, rng.old) (front.new, clock.new, rng.new) (IsDoneBy K.held no_options words.now (S.left source.old) sink.old sink.new) }
     ensures flushed { result.0 ≡ 0 → IsFlushed (K.held sink.new) (K.flushed sink.new) }
     ensures refused { result.0 ≡ 1 → IfAsked words.now (S.left source.old) (λ asked text. RefusalIsSaid text (K.held sink.old) (K.held sink.new) (K.faults sink.old) (K.faults sink.new)) }
     ensures source_fault { result.0 ≡ 3 → Rose (S.faults source.old) (S.faults source.new) }
-    ensures cut { result.0 ≡ 4 → IfAsked words.now (S.left source.old) (λ asked text.
-        over F.deeds F.polls C.given (front.old, clock.old) (front.new, clock.new) (IsCut (finished nothing_said) asked text (W.stream random.old) (K.held sink.old) (K.held sink.new))) }
+    ensures cut { result.0 ≡ 4 → around F.deeds F.polls C.given W.stream (front.old, clock.old, rng.old) (front.new, clock.new, rng.new) (IsCutBy K.held no_options words.now (S.left source.old) sink.old sink.new) }
     ensures sink_fault { result.0 ≡ 4 → Rose (K.faults sink.old) (K.faults sink.new) }
-    ensures deaf { result.0 ≡ 5 → IfAsked words.now (S.left source.old) (λ asked text. IsNotListened (finished nothing_said) asked.port text (W.stream random.old) (F.faults front.old) (F.faults front.new)) }
+    ensures deaf { result.0 ≡ 5 → IsNotListenedBy no_options words.now (S.left source.old) (W.stream rng.old) (F.faults front.old) (F.faults front.new) }
     ensures silent { IsSilent result.0 → K.held sink.new ≡ K.held sink.old }
     ensures numbers { result.0 ≡ 7 → IsSaid spec.numbers_line (K.held sink.old) (K.held sink.new) (K.faults sink.old) (K.faults sink.new) }
     ensures status { result.0 < 8 }
@@ -280,7 +275,7 @@ pub fn serve<S: Source, K: Sink, F: Front, C: Clock, W: Words>(
         sink,
         front,
         clock,
-        random,
+        rng,
         &mut Unwatched,
     )
 }

@@ -7,7 +7,7 @@ ghost use Rattle.client_request.specs.Timers.{IsWant};
 ghost use Rattle.client_request.specs.Words.{IsGivenOn};
 ghost use Rattle.front_core.specs.Forwarded.{Makes};
 ghost use Rattle.forward_run.specs.Front.{acts_on, after_deeds, happened};
-ghost use Rattle.forward_run.specs.Turns.{IsTurn, Turned, answers_in, is_answer, scene};
+ghost use Rattle.forward_run.specs.Turns.{IsTurn, TurnedBy, answers_in, around, is_answer};
 
 use crate::front::Front;
 use crate::watch::Watch;
@@ -99,16 +99,14 @@ pub(crate) fn turn_all<F: Front, C: Clock, W: Words, V: Watch>(
     turns: u64,
 ) -> Result<u64, Error>
     requires { forwarder.old.failed ≡ false }
-    ensures turned { IfOk result (λ answered. Turned turns answered
-        (scene forwarder.old (W.stream words.old) (F.deeds front.old) (F.polls front.old) (C.given clock.old))
-        (scene forwarder.new (W.stream words.new) (F.deeds front.new) (F.polls front.new) (C.given clock.new))) }
+    ensures turned { IfOk result (λ answered. around F.deeds F.polls C.given W.stream (front.old, clock.old, words.old) (front.new, clock.new, words.new) (TurnedBy turns answered forwarder.old forwarder.new)) }
     ensures want { IfErr result IsWant }
 {
     let mut answered: u64 = 0;
     let mut left = turns;
     while left > 0 {
         let row = turn(forwarder, front, clock, words)?;
-        watch.turned(forwarder, &row);
+        watch.turned(&row);
         let Some(more) = answered.checked_add(answers_in(&row) as u64) else {
             return Err(Error::NumbersUsed);
         };

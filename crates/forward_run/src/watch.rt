@@ -1,12 +1,11 @@
 //! Who watches a forwarder at work.
 
-use front_core::Forwarder;
 use front_peers::FrontRow;
 
 /// What is told of each turn of a forwarder. It has no part in what becomes of it.
 pub trait Watch {
-    /// Told after a turn: the forwarder as it stands then, and the row that the turn made.
-    fn turned(&mut self, forwarder: &Forwarder, row: &FrontRow);
+    /// Told after a turn: the row that it made.
+    fn turned(&mut self, row: &FrontRow);
 }
 
 /// Who watches nothing.
@@ -14,5 +13,5 @@ pub trait Watch {
 pub struct Unwatched;
 
 impl Watch for Unwatched {
-    fn turned(&mut self, _forwarder: &Forwarder, _row: &FrontRow) {}
+    fn turned(&mut self, _row: &FrontRow) {}
 }

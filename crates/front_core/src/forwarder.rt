@@ -78,13 +78,6 @@ impl Forwarder {
         self.over.step(words, event)
     }
 
-    /// How many queries wait for a reply.
-    pub fn waiting(&self) -> u64
-        ensures { result ≡ self.now.desk.waits.count }
-    {
-        self.over.waiting()
-    }
-
     /// How long whoever holds the forwarder may wait for something to happen, in microseconds from the moment of its last event on:
     /// until the client within has something to do, or the greatest `u128` where it has nothing.
     pub fn may_wait(&self) -> u128

@@ -312,13 +312,6 @@ impl<C: Within + Drop> Forwarder<C> {
         &self.within
     }
 
-    /// How many queries wait for a reply.
-    pub fn waiting(&self) -> u64
-        ensures { result ≡ self.now.desk.waits.count }
-    {
-        self.desk.waits.count()
-    }
-
     /// Takes an event in: what it comes to is done in order, and where nothing happens to the client within, time goes on for it.
     /// A query that is taken waits for the reply to one that waits and asks the same, or is asked; while 10,000 wait it is turned
     /// away, unless the client within serves it at once. Each reply is answered to all that wait for it in its place, and all

@@ -75,13 +75,6 @@ impl Waits {
         }
     }
 
-    /// How many queries wait.
-    pub(crate) fn count(&self) -> u64
-        ensures { result ≡ self.now.count }
-    {
-        self.count
-    }
-
     /// Whether one more query may wait.
     pub(crate) fn has_room(&self) -> bool
         ensures { result ≡ spec.has_room self.now }
