@@ -26,7 +26,7 @@ import tempfile
 import time
 from pathlib import Path
 
-from ask_servers import expect, free_port, skipped, zone
+from ask_servers import SERVERS, expect, free_port, skipped, zone
 
 NAMES = [("www.example", "A"), ("www.example", "AAAA"), ("WwW.eXample", "A"), ("alias.example", "A"), ("missing.example", "A"),
          ("mail.example", "MX"), ("example", "SOA"), ("example", "NS"), ("_sip._udp.example", "SRV"), ("many.example", "A"),
@@ -36,21 +36,6 @@ WAYS = {
     "kdig": [[], ["+tcp"], ["+dnssec"], ["+noedns"]],
     "drill": [[], ["-t"], ["-D"]],
 }
-
-
-def nsd(folder, port):
-    (folder / "nsd.conf").write_text(
-        "server:\n ip-address: 127.0.0.1\n port: %d\n username: \"\"\n zonesdir: \"%s\"\n database: \"\"\n pidfile: \"%s/nsd.pid\"\n"
-        " logfile: \"%s/nsd.log\"\n xfrdfile: \"%s/xfrd\"\n zonelistfile: \"%s/list\"\nremote-control:\n control-enable: no\n"
-        "zone:\n name: example\n zonefile: zone\n" % (port, folder, folder, folder, folder, folder))
-    return ["nsd", "-d", "-c", str(folder / "nsd.conf")]
-
-
-def bind(folder, port):
-    (folder / "named.conf").write_text(
-        "options { directory \"%s\"; listen-on port %d { 127.0.0.1; }; listen-on-v6 { none; }; pid-file none; recursion no; dnssec-validation no; };\n"
-        "controls { };\nzone \"example\" { type primary; file \"zone\"; };\n" % (folder, port))
-    return ["named", "-f", "-c", str(folder / "named.conf")]
 
 
 def question(name, rtype):
@@ -186,8 +171,8 @@ def ask_odd(what, port):
         for rtype in [1, 1]:
             plain = by_datagram(port, query(name, rtype, number=7))
             expect(plain is not None and plain[:2] == b"\0\7" and status(plain) == 0 and plain[7] == 1, "%s: a plain query behind one with %s: %r" % (what, why, plain))
-            expect(plain[-4:] == bytes([10, 9, 0, at]), "%s: a plain query behind one with %s: %r" % (what, why, plain))
-            expect(plain[11] == 0, "%s: OPT in the answer of a plain query behind one with %s: %r" % (what, why, plain))
+            expect(b"\xc0\x0c\0\1\0\1" in plain and bytes([0, 4, 10, 9, 0, at]) in plain, "%s: a plain query behind one with %s: %r" % (what, why, plain))
+            expect(opt()[:5] not in plain, "%s: OPT in the answer of a plain query behind one with %s: %r" % (what, why, plain))
     print("%s: %d odd queries poison nothing" % (what, len(odd_queries())))
 
 
@@ -225,8 +210,8 @@ def ask_streams(what, port, process):
     deaf.connect(("127.0.0.1", port))
     deaf.setblocking(False)
     asked = framed(query("huge.example", 16, number=12))
-    sent, closed, began = 0, False, time.time()
-    while sent < 1000 * len(asked) and time.time() - began < 5:
+    sent, closed, began, longest = 0, False, time.time(), 0
+    while sent < 1000 * len(asked) and time.time() - began < 60:
         try:
             sent += deaf.send(asked)
         except BlockingIOError:
@@ -236,11 +221,13 @@ def ask_streams(what, port, process):
             break
         if sent % (100 * len(asked)) == 0:
             began_one = time.time()
-            got = by_datagram(port, query("www.example", number=13))
-            expect(got is not None and time.time() - began_one < 2, "%s: nothing is served beside a peer that reads nothing" % what)
+            got = by_datagram(port, query("www.example", number=13), 20)
+            longest = max(longest, time.time() - began_one)
+            expect(got is not None, "%s: nothing is served beside a peer that reads nothing" % what)
     pages = int(Path("/proc/%d/statm" % process.pid).read_text().split()[1])
     expect(pages * 4 < 100_000, "%s: %d KiB of memory beside a peer that reads nothing" % (what, pages * 4))
-    print("%s: a peer that read nothing of what %d queries brought %s; %d KiB of memory" % (what, sent // len(asked), "was closed" if closed else "stays", pages * 4))
+    print("%s: a peer that read nothing of what %d queries brought %s; %d KiB of memory; another waited %.3f s at most"
+          % (what, sent // len(asked), "was closed" if closed else "stays", pages * 4, longest))
     deaf.close()
 
 
@@ -248,7 +235,7 @@ def main():
     if len(sys.argv) != 2:
         sys.exit(__doc__)
     program = os.path.abspath(sys.argv[1])
-    servers = [(name, start) for name, start in [("nsd", nsd), ("named", bind)] if shutil.which(name)]
+    servers = [(name, SERVERS[name]) for name in ["nsd", "named"] if shutil.which(name)]
     if not servers or not shutil.which("dig"):
         skipped("neither NSD nor BIND, or no dig")
     for name, start in servers:
@@ -262,7 +249,7 @@ def main():
             forwarder = None
             try:
                 for _ in range(100):
-                    if by_datagram(server, query("www.example"), 0.2) is not None:
+                    if status(by_datagram(server, query("www.example"), 0.2)) == 0:
                         break
                     time.sleep(0.1)
                 else:

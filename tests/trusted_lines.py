@@ -50,7 +50,7 @@ PROVED = {
     "front_edge": {
         "address.rt": ["address_of"],
         "dgrams.rt": ["new"],
-        "front.rt": ["told_as", "listen_at", "listen_all", "over", "new", "listen", "learn_server", "act", "poll", "wait"],
+        "front.rt": ["told_as", "listen_by", "listen_at", "listen_all", "over", "new", "listen", "learn_server", "act", "poll", "wait"],
         "listeners.rt": ["new"],
         "streams.rt": ["new"],
     },

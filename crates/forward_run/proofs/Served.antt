@@ -27,12 +27,12 @@ pub served : (options : Options) (asked : Asked) (conf : ResolvConf) (answered :
     → IsServed options asked conf answered old new
 served options asked conf answered first last old new listens mid polls made listened learned same every small turned =
     let begun : mid ≡ after_deeds (begun_deeds asked.port conf) old.deeds =
-        more_deeds (Listens asked.port ∷ []) (map (λ (server : ServerConf). Learned server) conf.servers) old.deeds listens mid listened learned in
+    more_deeds (Listens asked.port ∷ []) (map (λ (server : ServerConf). Learned server) conf.servers) old.deeds listens mid listened learned in
     let P : Forwarding Whole → Option (List FrontDeed) → ℕ → Type 0 = λ f deeds n. Turned asked.turns answered (scene f old.words deeds n old.moments) (within last new) in
     let start = beginning (started (choice_of options.policy) (cache_of options) conf) in
     let deeds = after_deeds (begun_deeds asked.port conf) old.deeds in
     let t : P start deeds old.polls =
-        subst (λ (f : Forwarding Whole). P f deeds old.polls) made (subst (λ (ds : Option (List FrontDeed)). P first ds old.polls) begun (subst (λ (n : ℕ). P first mid n) same turned)) in
+    subst (λ (f : Forwarding Whole). P f deeds old.polls) made (subst (λ (ds : Option (List FrontDeed)). P first ds old.polls) begun (subst (λ (n : ℕ). P first mid n) same turned)) in
     record {
       last = last;
       turned = t;

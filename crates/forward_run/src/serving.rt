@@ -186,9 +186,7 @@ fn serve_source<S: Source, F: Front, C: Clock, W: Words, V: Watch>(
     ensures numbers { IfErr result (λ e. status_of e ≡ 7 → line_of e ≡ spec.numbers_line) }
 {
     let conf = conf_asked(alloc, options, source, rng)?;
-    let answered = serve_conf(
-        alloc, options, seed, asked, &conf, front, clock, rng, watch,
-    )?;
+    let answered = serve_conf(alloc, options, seed, asked, &conf, front, clock, rng, watch)?;
     let line = answered_line(alloc, answered)?;
     Ok(line)
 }

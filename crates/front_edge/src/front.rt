@@ -47,12 +47,19 @@ pub struct ListenerFront<
 }
 
 /// A front over the system's sockets.
-pub type SocketFront<R> =
-    ListenerFront<SystemNetwork<R>, SystemDgrams, SystemStreams, SystemListeners<R>>;
+pub type SocketFront<R> = ListenerFront<
+    SystemNetwork<R>,
+    SystemDgrams,
+    SystemStreams,
+    SystemListeners<R>,
+>;
 
-impl<N: Network + Drop, D: DgramListener + Drop, L: Listener + Drop, O: OpenListeners<D, L> + Drop>
-    Model for ListenerFront<N, D, L, O>
-{
+impl<
+    N: Network + Drop,
+    D: DgramListener + Drop,
+    L: Listener + Drop,
+    O: OpenListeners<D, L> + Drop,
+> Model for ListenerFront<N, D, L, O> {
     ghost use Rattle.front_edge.specs.Fronts.{Kept};
 
     ghost Value = { Kept };
@@ -75,27 +82,44 @@ fn told_as(told: Option<Told>) -> Option<FrontWhat>
     }
 }
 
-/// Listens at an address. What finds no memory is the fault `Other`.
-fn listen_at<N: Network + Drop, D: DgramListener + Drop, L: Listener + Drop, O: OpenListeners<D, L>>(
-    opener: &mut O,
-    addr: SocketAddr,
+/// One listener of each kind more.
+#[tactic(auto, using(crate::proofs::Listening::listens_once))]
+fn listen_by<N: Network + Drop, D: DgramListener + Drop, L: Listener + Drop>(
+    dgrams: DgramDoor<D>,
+    streams: StreamDoor<L>,
     books: &mut ServerBooks<N, D, L>,
-) -> Result<(), Fault>
+) -> Result<(), NoMemory>
+    ensures { OnOk result (IsListening 1 books.old books.new) }
+{
+    books.listen_dgrams(dgrams)?;
+    books.listen_streams(streams)
+}
+
+/// Listens at an address. What finds no memory is the fault `Other`.
+fn listen_at<
+    N: Network + Drop,
+    D: DgramListener + Drop,
+    L: Listener + Drop,
+    O: OpenListeners<D, L>,
+>(opener: &mut O, addr: SocketAddr, books: &mut ServerBooks<N, D, L>) -> Result<(), Fault>
     ensures { OnOk result (IsListening 1 books.old books.new) }
 {
     let dgrams = opener.open_dgrams(addr)?;
     let streams = opener.open_streams(addr)?;
-    if books.listen_dgrams(DgramDoor::new(dgrams)).is_err() {
-        return Err(Fault::Other);
+    match listen_by(DgramDoor::new(dgrams), StreamDoor::new(streams), books) {
+        Ok(()) => Ok(()),
+        Err(NoMemory) => Err(Fault::Other),
     }
-    if books.listen_streams(StreamDoor::new(streams)).is_err() {
-        return Err(Fault::Other);
-    }
-    Ok(())
 }
 
 /// Listens at each of these addresses.
-fn listen_all<N: Network + Drop, D: DgramListener + Drop, L: Listener + Drop, O: OpenListeners<D, L>>(
+#[tactic(auto, using(crate::proofs::Listening::listens_nowhere, crate::proofs::Listening::listens_more))]
+fn listen_all<
+    N: Network + Drop,
+    D: DgramListener + Drop,
+    L: Listener + Drop,
+    O: OpenListeners<D, L>,
+>(
     opener: &mut O,
     addresses: &[IpAddr],
     port: u16,
@@ -109,9 +133,12 @@ fn listen_all<N: Network + Drop, D: DgramListener + Drop, L: Listener + Drop, O:
     Ok(())
 }
 
-impl<N: Network + Drop, D: DgramListener + Drop, L: Listener + Drop, O: OpenListeners<D, L> + Drop>
-    ListenerFront<N, D, L, O>
-{
+impl<
+    N: Network + Drop,
+    D: DgramListener + Drop,
+    L: Listener + Drop,
+    O: OpenListeners<D, L> + Drop,
+> ListenerFront<N, D, L, O> {
     /// A front over a network, which will listen at these addresses by listeners that `opener` opens.
     pub fn over(
         network: N,
@@ -137,9 +164,12 @@ impl<N: Network + Drop, D: DgramListener + Drop, L: Listener + Drop, O: OpenList
     }
 }
 
-impl<R: Net<Listener = TcpListener, Stream = TcpStream> + Copy>
-    ListenerFront<SystemNetwork<R>, SystemDgrams, SystemStreams, SystemListeners<R>>
-{
+impl<R: Net<Listener = TcpListener, Stream = TcpStream> + Copy> ListenerFront<
+    SystemNetwork<R>,
+    SystemDgrams,
+    SystemStreams,
+    SystemListeners<R>,
+> {
     /// A front over the system's sockets, which will listen at these addresses.
     pub fn new(
         rt: R,
@@ -155,9 +185,12 @@ impl<R: Net<Listener = TcpListener, Stream = TcpStream> + Copy>
     }
 }
 
-impl<N: Network + Drop, D: DgramListener + Drop, L: Listener + Drop, O: OpenListeners<D, L> + Drop>
-    Front for ListenerFront<N, D, L, O>
-{
+impl<
+    N: Network + Drop,
+    D: DgramListener + Drop,
+    L: Listener + Drop,
+    O: OpenListeners<D, L> + Drop,
+> Front for ListenerFront<N, D, L, O> {
     ghost deeds = { λ _. None };
 
     ghost polls = { λ f. f.polls };

@@ -44,9 +44,10 @@ impl<R: Net<Listener = TcpListener, Stream = TcpStream> + Copy> SystemListeners<
     }
 }
 
-impl<R: Net<Listener = TcpListener, Stream = TcpStream> + Copy>
-    OpenListeners<SystemDgrams, SystemStreams> for SystemListeners<R>
-{
+impl<R: Net<Listener = TcpListener, Stream = TcpStream> + Copy> OpenListeners<
+    SystemDgrams,
+    SystemStreams,
+> for SystemListeners<R> {
     fn open_dgrams(&mut self, addr: SocketAddr) -> Result<SystemDgrams, Fault> {
         match self.bound(addr) {
             Ok(socket) => Ok(SystemDgrams::new(socket)),

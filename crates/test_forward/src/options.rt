@@ -9,7 +9,8 @@ use forward_words::{Fault, Policy, options_of};
 use std::alloc::Global;
 
 /// All options, and the words behind them.
-const ALL: &str = "--listen 127.0.0.2 --listen ::1 --port 5300 --entries 50 --stale 0 --policy practice --status 60 53 10";
+const ALL: &str =
+    "--listen 127.0.0.2 --listen ::1 --port 5300 --entries 50 --stale 0 --policy practice --status 60 53 10";
 
 /// Words whose options are refused.
 const REFUSED: [&str; 6] = [
@@ -71,7 +72,11 @@ fn status(alloc: Global, line: &str, text: &str) -> Option<u8> {
 #[test]
 fn options_say_what_they_are_to(rt: HostRuntime) {
     assert!(rt; takes_all(rt.alloc()) == Some(true));
-    assert!(rt; REFUSED.iter().all(|line| is_refused(rt.alloc(), line) == Some(true)));
+    assert!(rt;
+        REFUSED
+            .iter()
+            .all(|line| is_refused(rt.alloc(), line) == Some(true))
+    );
 }
 
 #[test]
