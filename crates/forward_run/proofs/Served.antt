@@ -1,12 +1,11 @@
 -- A configuration that was served.
-use Rattle.std.proofs.Common.{◌≡◌, ℕ, List, [], ◌∷◌, map, Option, Some, None, subst, lit≤}
+use Rattle.std.proofs.Common.{◌≡◌, ◌<◌, ◌^◌, ℕ, List, [], ◌∷◌, map, Option, Some, None, subst, lit≤}
 use Rattle.std.specs.Prelude.{IfSome}
 use Rattle.client_steps.specs.Whole.{Whole, started}
 use Rattle.command_parts.specs.Conf.{Configures}
 use Rattle.forward_words.specs.declared.options.Options.{Options}
 use Rattle.forward_words.specs.declared.words.Asked.{Asked}
 use Rattle.front_steps.specs.Steps.{Forwarding, beginning}
-use Rattle.proof_client.specs.Above.{AreWords}
 use Rattle.proof_front.specs.Forwarding.{EveryForwardedTraceIsRight}
 use Rattle.resolv_conf.specs.declared.conf.ResolvConf.{ResolvConf}
 use Rattle.resolv_conf.specs.declared.server.ServerConf.{ServerConf}
@@ -22,7 +21,7 @@ use Rattle.forward_run.proofs.Turning.{more_deeds}
 pub served : (options : Options) (asked : Asked) (conf : ResolvConf) (answered : ℕ) (first last : Forwarding Whole) (old new : World) (listens mid : Option (List FrontDeed)) (polls : ℕ)
     → first ≡ beginning (started (choice_of options.policy) (cache_of options) conf)
     → listens ≡ after_deed (Listens asked.port) old.deeds → mid ≡ after_deeds (map (λ server. Learned server) conf.servers) listens → polls ≡ old.polls
-    → EveryForwardedTraceIsRight → AreWords old.words
+    → EveryForwardedTraceIsRight → ((k : ℕ) → old.words k < 2 ^ 64)
     → Turned asked.turns answered (scene first old.words mid polls old.moments) (within last new)
     → IsServed options asked conf answered old new
 served options asked conf answered first last old new listens mid polls made listened learned same every small turned =
