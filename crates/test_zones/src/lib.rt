@@ -8,4 +8,6 @@ mod fetches;
 #[cfg(test)]
 mod messages;
 #[cfg(test)]
+mod progress;
+#[cfg(test)]
 mod readings;

@@ -5,4 +5,5 @@ pub mod Brought
 pub mod Ended
 pub mod Digits
 pub mod Flaws
+pub mod Shown
 pub mod Names

@@ -4,3 +4,4 @@ pub mod Printed
 pub mod Fetching
 pub mod Stops
 pub mod Ends
+pub mod Progress
