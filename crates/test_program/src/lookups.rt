@@ -313,7 +313,8 @@ fn written_behind(alloc: Global, line: &str, second: &[u8]) -> Result<MemSink, F
 
 #[test]
 fn a_lookup_passes_a_server_by_that_says_notimp(rt: HostRuntime) -> Result<(), Fail> {
-    let two = "@192.0.2.54 @192.0.2.53 example.com A";
+    // By words of zeros the second server is probed first.
+    let two = "@192.0.2.53 @192.0.2.54 example.com A";
     let written = written_behind(rt.alloc(), two, &ANSWER)?;
     assert!(rt; written.as_slice() == PAGE.as_bytes());
     let one = "@192.0.2.53 example.com A";
