@@ -77,9 +77,16 @@ fn is_same_what(a: &What, b: &What) -> bool
             *p == *q && is_same_fault(*f, *g)
         }
         (What::ShortSend { place: p }, What::ShortSend { place: q }) => *p == *q,
-        (What::Datagram { place: p, octets: o }, What::Datagram { place: q, octets: u }) => {
-            *p == *q && is_same_octets(o.as_slice(), u.as_slice())
-        }
+        (
+            What::Datagram {
+                place: p,
+                octets: o,
+            },
+            What::Datagram {
+                place: q,
+                octets: u,
+            },
+        ) => { *p == *q && is_same_octets(o.as_slice(), u.as_slice()) }
         (What::RecvFailed { place: p, fault: f }, What::RecvFailed { place: q, fault: g }) => {
             *p == *q && is_same_fault(*f, *g)
         }
@@ -89,9 +96,16 @@ fn is_same_what(a: &What, b: &What) -> bool
         (What::WriteFailed { place: p, fault: f }, What::WriteFailed { place: q, fault: g }) => {
             *p == *q && is_same_fault(*f, *g)
         }
-        (What::Bytes { place: p, octets: o }, What::Bytes { place: q, octets: u }) => {
-            *p == *q && is_same_octets(o.as_slice(), u.as_slice())
-        }
+        (
+            What::Bytes {
+                place: p,
+                octets: o,
+            },
+            What::Bytes {
+                place: q,
+                octets: u,
+            },
+        ) => { *p == *q && is_same_octets(o.as_slice(), u.as_slice()) }
         (What::ReadFailed { place: p, fault: f }, What::ReadFailed { place: q, fault: g }) => {
             *p == *q && is_same_fault(*f, *g)
         }

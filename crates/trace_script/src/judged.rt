@@ -20,11 +20,7 @@ fn use_of(use_vc: bool, server: &ServerConf) -> ServerUse
     }
 }
 
-fn uses_of(
-    alloc: Global,
-    use_vc: bool,
-    servers: &[ServerConf],
-) -> Result<Vec<ServerUse>, NoMemory>
+fn uses_of(alloc: Global, use_vc: bool, servers: &[ServerConf]) -> Result<Vec<ServerUse>, NoMemory>
     ensures { IfOk result (λ uses. uses.items ≡ map (plain.use_of use_vc) servers.now) }
 {
     let mut uses = Vec::new(alloc);
