@@ -328,18 +328,26 @@ def read_by(glibc, conf):
     return read, int(retrans), int(retry)
 
 
+def asked_in(program, conf):
+    """What is told of a file, and the servers that are asked, in order."""
+    ran = beside(conf, [program, "-p", "9", "+time=1", NAME, "A"], alone=True)
+    notes = re.findall(r"dns_lookup: /etc/resolv.conf: (.*)\n", ran[2])
+    brought = re.findall(r"dns_lookup: \[?([0-9a-f.:]+?)\]?:9 \((?:UDP|TCP)\): ", ran[2])
+    return notes, list(dict.fromkeys(brought))
+
+
 def files(program, glibc):
     for name, text, told, other in FILES:
         with tempfile.TemporaryDirectory() as folder:
             conf = Path(folder) / "conf"
             conf.write_bytes(text if isinstance(text, bytes) else text.encode())
-            ran = beside(conf, [program, "-p", "9", "+time=1", NAME, "A"], alone=True)
-            notes = re.findall(r"dns_lookup: /etc/resolv.conf: (.*)\n", ran[2])
-            expect(len(notes) == len(told) and all(note.startswith(wanted) for note, wanted in zip(notes, told)), "%s: told %s" % (name, notes))
-            brought = re.findall(r"dns_lookup: \[?([0-9a-f.:]+?)\]?:9 \((?:UDP|TCP)\): ", ran[2])
-            ours = list(dict.fromkeys(brought))
             theirs, retrans, retry = read_by(glibc, conf)
-            same = ours == theirs or "rotate" in str(text) and sorted(ours) == sorted(theirs)
+            for _ in range(3):  # one lookup in twenty probes another server than the first
+                notes, ours = asked_in(program, conf)
+                same = ours == theirs or "rotate" in str(text) and sorted(ours) == sorted(theirs)
+                if same or other:
+                    break
+            expect(len(notes) == len(told) and all(note.startswith(wanted) for note, wanted in zip(notes, told)), "%s: told %s" % (name, notes))
             expect(same or other, "%s: asked %s, and glibc reads %s" % (name, ours, theirs))
             print("%s: asked %s%s%s" % (name, ", ".join(ours), "; told: %s" % "; ".join(notes) if notes else "", "" if same else "; glibc: %s, for %s" % (", ".join(theirs), other)))
 
