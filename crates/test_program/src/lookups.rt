@@ -34,12 +34,6 @@ const ANSWER: [u8; 45] = [
     0, 0, 1, 0, 1, 0xc0, 12, 0, 1, 0, 1, 0, 0, 0, 100, 0, 4, 192, 0, 2, 1,
 ];
 
-/// What a server says under the id 0 that does not know such a request.
-const NOTIMP: [u8; 29] = [
-    0, 0, 0x81, 0x84, 0, 1, 0, 0, 0, 0, 0, 0, 7, 101, 120, 97, 109, 112, 108, 101, 3, 99, 111, 109,
-    0, 0, 1, 0, 1,
-];
-
 /// That no socket could be opened for a place.
 fn unopened(place: u64) -> Option<What> {
     let fault = Fault::Refused;
@@ -286,42 +280,6 @@ fn a_lookup_ends_by_a_page_or_a_sentence(rt: HostRuntime) -> Result<(), Fail> {
     for run in RUNS.iter() {
         assert!(rt; ends(rt.alloc(), run)?, "{}", run.words);
     }
-    Ok(())
-}
-
-/// What comes where the first of two tries is answered by NOTIMP, and the second so.
-fn refused_first(alloc: Global, second: &[u8]) -> Result<Vec<Option<What>>, Fail> {
-    let mut events = Vec::new(alloc);
-    for (place, octets) in [(0, NOTIMP.as_slice()), (1, second)] {
-        let octets = Octets::from_slice(alloc, octets)?;
-        events.push(Some(What::Opened { place }))?;
-        events.push(Some(What::Datagram { place, octets }))?;
-    }
-    Ok(events)
-}
-
-/// What is written for words where the first try is answered by NOTIMP, and the second so.
-fn written_behind(alloc: Global, line: &str, second: &[u8]) -> Result<MemSink, Fail> {
-    let words = words(alloc, line)?;
-    let mut conf = source(alloc, "nonsense\n", 9)?;
-    let mut written = MemSink::new(alloc, Vec::new(alloc), Vec::new(alloc));
-    let mut said = MemSink::new(alloc, Vec::new(alloc), Vec::new(alloc));
-    let edge = ListEdge::new(alloc, refused_first(alloc, second)?);
-    let _ = status(alloc, &words, &mut conf, &mut written, &mut said, edge);
-    Ok(written)
-}
-
-#[test]
-fn a_lookup_passes_a_server_by_that_says_notimp(rt: HostRuntime) -> Result<(), Fail> {
-    // By words of zeros the second server is probed first.
-    let two = "@192.0.2.53 @192.0.2.54 example.com A";
-    let written = written_behind(rt.alloc(), two, &ANSWER)?;
-    assert!(rt; written.as_slice() == PAGE.as_bytes());
-    let one = "@192.0.2.53 example.com A";
-    let written = written_behind(rt.alloc(), one, &NOTIMP)?;
-    assert!(rt;
-        written.as_slice().starts_with(b";; ->>HEADER<<- opcode: QUERY; status: NOTIMP;".as_slice())
-    );
     Ok(())
 }
 
