@@ -91,8 +91,8 @@ impl Asker {
         Ok(self.client.step(&mut self.words, Event { moment, what })?)
     }
 
-    /// Asks for a name, and lets the server answer with so many records.
-    pub(crate) fn learn(&mut self, name: u32, records: u32) -> Result<(), HitFault> {
+    /// Asks for a name, and lets the server answer.
+    pub(crate) fn learn(&mut self, name: u32) -> Result<(), HitFault> {
         let request = request(self.alloc, name)?;
         let row = self.tell(LEARNED, What::Ask { request })?;
         let Some(place) = opened(&row) else {
@@ -102,7 +102,7 @@ impl Asker {
         let Some(query) = sent(&row) else {
             return Err(HitFault::NothingSent);
         };
-        let octets = answer_to(self.alloc, query, records)?;
+        let octets = answer_to(self.alloc, query)?;
         self.tell(LEARNED, What::Datagram { place, octets })?;
         Ok(())
     }

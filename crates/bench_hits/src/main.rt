@@ -3,7 +3,7 @@
 //! `bench_hits N M` lets a client keep the answers of N names, asks M times for one of them, and prints how many of these
 //! were answered at once. There is no socket: the client is stepped by hand, and what it sends is answered here. So the
 //! times of two runs that differ in M alone tell what it takes to ask for what is kept. `bench_hits N M S` sets for how many
-//! seconds expired answers may serve; without it they don't. `bench_hits N M S R` gives each answer R records in place of one.
+//! seconds expired answers may serve; without it they don't.
 #![tactic(auto)]
 
 mod asker;
@@ -50,11 +50,11 @@ fn number(words: &mut env::Args) -> Result<u32, HitFault> {
     }
 }
 
-/// The number that the next word is, or another one where there is none.
-fn number_or(words: &mut env::Args, other: u32) -> Result<u32, HitFault> {
+/// The number that the next word is, or 0 where there is none.
+fn number_or_zero(words: &mut env::Args) -> Result<u32, HitFault> {
     match words.next() {
         Some(word) => parsed(word.as_str()),
-        None => Ok(other),
+        None => Ok(0),
     }
 }
 
@@ -63,11 +63,10 @@ fn main(rt: HostRuntime) -> Result<(), HitFault> {
     let _name = words.next();
     let names = number(&mut words)?;
     let requests = number(&mut words)?;
-    let stale_seconds = number_or(&mut words, 0)?;
-    let records = number_or(&mut words, 1)?;
+    let stale_seconds = number_or_zero(&mut words)?;
     let mut asker = Asker::new(rt.alloc(), stale_seconds)?;
     for name in 0..names {
-        asker.learn(name, records)?;
+        asker.learn(name)?;
     }
     let hits = count_hits(&mut asker, names, requests)?;
     println!(rt; "{hits}")?;

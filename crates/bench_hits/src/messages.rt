@@ -25,13 +25,8 @@ pub(crate) fn request(alloc: Global, name: u32) -> Result<RequestMessage, HitFau
     Ok(RequestMessage::new(alloc, query)?)
 }
 
-/// The answer to a query and its question: so often 192.0.2.1 for a day.
-fn answer(
-    alloc: Global,
-    query: &Message,
-    question: &Question<'_>,
-    records: u32,
-) -> Result<Message, PushError> {
+/// The answer to a query and its question: 192.0.2.1 for a day.
+fn answer(alloc: Global, query: &Message, question: &Question<'_>) -> Result<Message, PushError> {
     let mut header = query.header();
     header.set_qr(true);
     let name = question.qname();
@@ -39,23 +34,21 @@ fn answer(
     builder.set_header(header);
     builder.push_question(&name, question.qtype(), question.qclass())?;
     let address = RecordData::A([192, 0, 2, 1]);
-    for _ in 0..records {
-        builder.push_record(
-            Section::Answer,
-            &name,
-            Class::IN,
-            Ttl(86_400),
-            Rtype::A,
-            &address,
-        )?;
-    }
+    builder.push_record(
+        Section::Answer,
+        &name,
+        Class::IN,
+        Ttl(86_400),
+        Rtype::A,
+        &address,
+    )?;
     Ok(builder.finish()?)
 }
 
-/// The octets of the answer to a query, with so many records.
-pub(crate) fn answer_to(alloc: Global, query: &Octets, records: u32) -> Result<Octets, HitFault> {
+/// The octets of the answer to a query.
+pub(crate) fn answer_to(alloc: Global, query: &Octets) -> Result<Octets, HitFault> {
     let query = Message::from_octets(query.try_clone()?)?;
     let question = query.sole_question()?;
-    let answer = answer(alloc, &query, &question, records)?;
+    let answer = answer(alloc, &query, &question)?;
     Ok(answer.into_octets())
 }
