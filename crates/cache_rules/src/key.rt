@@ -207,16 +207,30 @@ impl Key {
     }
 }
 
+/// Hashes octets in lower case, which are written to a room.
+fn hash_lower_in<H: Hasher>(room: &mut [u8], octets: &[u8], state: &mut H)
+    requires { length octets.now ≤ length room.old }
+    ensures { state.new ≡ H.write state.old (map to_ascii_lowercase octets.now) }
+{
+    let lower = &mut room[..octets.len()];
+    lower.copy_from_slice(octets);
+    lower.make_ascii_lowercase();
+    state.write(lower);
+}
+
+/// Most names take no more octets: a room of 255 costs more to clear than such a name to hash.
+const USUAL_NAME: usize = 48;
+
 /// Hashes octets in lower case.
 fn hash_lower<H: Hasher>(octets: &[u8], state: &mut H)
     requires { length octets.now ≤ 255 }
     ensures { state.new ≡ H.write state.old (map to_ascii_lowercase octets.now) }
 {
-    let mut room = [0; 255];
-    let lower = &mut room[..octets.len()];
-    lower.copy_from_slice(octets);
-    lower.make_ascii_lowercase();
-    state.write(lower);
+    if octets.len() <= USUAL_NAME {
+        hash_lower_in(&mut [0; USUAL_NAME], octets, state);
+    } else {
+        hash_lower_in(&mut [0; 255], octets, state);
+    }
 }
 
 /// Hashes a name in lower case, as it is spelled in a message.

@@ -17,7 +17,8 @@ fn is_same_question(a: &Question<'_>, b: &Question<'_>) -> bool
         && a.qclass().0 == b.qclass().0
 }
 
-fn are_same_questions(mut a: QuestionSection<'_>, mut b: QuestionSection<'_>) -> bool
+/// Whether questions are the same but for the case of names, all of them read.
+pub fn are_same_questions(mut a: QuestionSection<'_>, mut b: QuestionSection<'_>) -> bool
     ensures { result ≡ same_items a.entry b.entry }
 {
     'items: loop {

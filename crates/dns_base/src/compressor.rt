@@ -255,7 +255,7 @@ impl Compressor {
         octets.extend_from_slice(&[0; 12])?;
         Ok(Compressor {
             octets,
-            places: Vec::new(alloc),
+            places: Vec::with_capacity(alloc, FEW_PLACES)?,
             known: Suffixes::new(alloc),
             alloc,
         })

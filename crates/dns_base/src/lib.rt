@@ -22,7 +22,7 @@ mod spelling;
 mod suffixes;
 mod writing;
 
-pub use answer::is_answer;
+pub use answer::{are_same_questions, is_answer};
 pub use builder::Builder;
 pub use dns_names::{
     ChainFault, LabelIter, Name, NameFault, ParsedName, RelativeName, ToName, is_same_name,

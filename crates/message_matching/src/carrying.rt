@@ -7,9 +7,9 @@ ghost use Rattle.dns_base.specs.Answering.{is_answer};
 ghost use Rattle.message_matching.specs.Matching as spec;
 
 use crate::opt::SentOpt;
-use crate::records::{are_copies, are_same_questions};
+use crate::records::are_copies;
 use client_request::{Compose, RequestMessage, Via};
-use dns_base::{Header, Message, NoMemory, Octets, Section, is_answer};
+use dns_base::{Header, Message, NoMemory, Octets, Section, are_same_questions, is_answer};
 use std::alloc::Global;
 
 /// The records of a section, and those of a base there.

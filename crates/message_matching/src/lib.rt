@@ -9,3 +9,4 @@ mod shapes;
 
 pub use carrying::{carries, is_answer_to};
 pub use laws::{answers_are_decided, carrying_is_decided};
+pub use shapes::is_same_data;

@@ -2,16 +2,12 @@
 
 ghost use Rattle.std.specs.Prelude.{◌≡◌};
 ghost use Rattle.dns_base.specs.RecordData.{data_view};
-ghost use Rattle.dns_base.specs.Answering.{same_asked, same_items};
 ghost use Rattle.client_request.specs.Composed.{content_of, written_from, is_replaced};
 ghost use Rattle.message_matching.specs.Matching as spec;
-ghost use Rattle.message_matching.specs.Shapes as shapes;
 
 use crate::opt::SentOpt;
 use crate::shapes::{is_same_data, plain_octets};
-use dns_base::{
-    Question, QuestionSection, Record, RecordData, RecordSection, Rtype, Section, is_same_name,
-};
+use dns_base::{Record, RecordData, RecordSection, Rtype, Section, is_same_name};
 
 /// Whether data that was read is other data, by its type.
 fn says_as(found: &Record<'_>, content: &RecordData<'_>) -> bool
@@ -108,32 +104,4 @@ pub(crate) fn are_copies(
         }
     }
     is_last(opt, found)
-}
-
-fn is_same_question(a: &Question<'_>, b: &Question<'_>) -> bool
-    ensures { result ≡ same_asked a.now b.now }
-{
-    is_same_name(&a.qname(), &b.qname())
-        && a.qtype().0 == b.qtype().0
-        && a.qclass().0 == b.qclass().0
-}
-
-/// Whether questions are the same but for the case of names, all of them read.
-pub(crate) fn are_same_questions(mut a: QuestionSection<'_>, mut b: QuestionSection<'_>) -> bool
-    ensures { result ≡ same_items a.entry b.entry }
-{
-    'items: loop {
-        match a.next() {
-            None => return b.next().is_none(),
-            Some(Err(_)) => return false,
-            Some(Ok(x)) => match b.next() {
-                Some(Ok(y)) => {
-                    if !is_same_question(&x, &y) {
-                        return false;
-                    }
-                }
-                _ => return false,
-            },
-        }
-    }
 }

@@ -166,7 +166,7 @@ fn is_same_shape(a: &DataShape<'_>, b: &DataShape<'_>) -> bool
 }
 
 /// Whether data says the same but for the case of names.
-pub(crate) fn is_same_data(a: &RecordData<'_>, b: &RecordData<'_>) -> bool
+pub fn is_same_data(a: &RecordData<'_>, b: &RecordData<'_>) -> bool
     ensures { result ≡ spec.same_shape (spec.shape_of (data_view a.now)) (spec.shape_of (data_view b.now)) }
 {
     is_same_shape(&shape_of(a), &shape_of(b))

@@ -3,7 +3,6 @@
 
 mod same;
 mod serving;
-mod shapes;
 
 pub use same::is_same_message;
 pub use serving::{Flags, Served, is_kept, validity_of};

@@ -1,14 +1,11 @@
 //! Whether two messages say the same but for the case of names.
 
 ghost use Rattle.std.specs.Prelude.{◌≡◌, ◌≤◌, length};
-ghost use Rattle.dns_base.specs.Answering.{same_asked, same_items};
 ghost use Rattle.right_trace.specs.Parts.{flags_in};
 ghost use Rattle.message_views.specs.Same as spec;
 
-use crate::shapes::is_same_data;
-use dns_base::{
-    Header, Message, Question, QuestionSection, Record, RecordSection, Section, is_same_name,
-};
+use dns_base::{Header, Message, Record, RecordSection, Section, are_same_questions, is_same_name};
+use message_matching::is_same_data;
 
 /// Whether the bit of a header is set that has no meaning yet (RFC 1035 4.1.1, RFC 2535 6.1).
 fn z_of(header: Header) -> bool
@@ -93,34 +90,6 @@ fn is_same_section(section: Section, a: &Message, b: &Message) -> bool
     match (a, b) {
         (Ok(a), Ok(b)) => are_same_records(a, b),
         _ => false,
-    }
-}
-
-fn is_same_question(a: &Question<'_>, b: &Question<'_>) -> bool
-    ensures { result ≡ same_asked a.now b.now }
-{
-    is_same_name(&a.qname(), &b.qname())
-        && a.qtype().0 == b.qtype().0
-        && a.qclass().0 == b.qclass().0
-}
-
-/// Whether questions are the same, all of them read.
-fn are_same_questions(mut a: QuestionSection<'_>, mut b: QuestionSection<'_>) -> bool
-    ensures { result ≡ same_items a.entry b.entry }
-{
-    'items: loop {
-        match a.next() {
-            None => return b.next().is_none(),
-            Some(Err(_)) => return false,
-            Some(Ok(x)) => match b.next() {
-                Some(Ok(y)) => {
-                    if !is_same_question(&x, &y) {
-                        return false;
-                    }
-                }
-                _ => return false,
-            },
-        }
     }
 }
 
