@@ -1,6 +1,6 @@
 """Times the cache of a client, as it fills and beside the caches of two servers, and tells what memory it takes.
 
-usage: python3 bench/cache.py PROGRAM
+usage: python3 bench/cache.py PROGRAM [--large]
 
 PROGRAM is the built bench_hits. A client keeps the answers of 1, 10, 1,000, 100,000 and 1,000,000 names and is then asked for
 them, any one at random. Each measure is taken with a million of such requests and with none, and the difference of the
@@ -10,6 +10,10 @@ names as with 10 ends with status 1.
 
 The same is measured with 1,000 names where expired answers may serve for a day: more than a tenth longer than where they
 may not ends with status 1.
+
+100,000 names that were picked to lie in a 256th of the places of a table without a seed are asked for, in such a table and in
+one with a seed, beside as many others. With a seed more than a fifth longer than the others ends with status 1. An answer
+of 60 KB may take 50 ns an octet. With `--large` the memory of 100,000 such answers is told too, which may be 13 GB.
 
 The settings let all of these clients keep 1,000,000,000 answers. The memory that one took at most while it kept 10 is
 told, and more than 16 MB end with status 1; also what each answer takes where there are 1,000,000.
@@ -45,6 +49,11 @@ MOST = 3
 DAY = 86_400
 MOST_STALE = 1.1
 MOST_MEMORY = 16_000_000
+COLLIDING = 100_000
+MOST_SEEDED = 1.2
+LARGE_REQUESTS = 20_000
+MOST_OCTET = 50e-9
+MANY_LARGE = 100_000
 SECONDS = 10
 ADDRESS = bytes.fromhex("c00c0001000100015180" + "0004c0000201")
 UNBOUND = """
@@ -68,9 +77,9 @@ forward-zone:
 """
 
 
-def run(program, names, requests, stale=0):
+def run(program, names, requests, stale=0, way="plain"):
     """The processor seconds of a run, and the most memory in octets that was seen to be in use."""
-    command = [program, str(names), str(requests), str(stale)]
+    command = [program, str(names), str(requests), str(stale), way]
     memory = 0
     with tempfile.TemporaryFile() as told:
         process = subprocess.Popen(command, stdout=told)
@@ -121,6 +130,46 @@ def tell_hits(each, memory):
     print("memory with %d names: %.1f MB; with %d: %.0f MB, %.0f octets each"
           % (FEW, memory[FEW] / 1e6, MANY, memory[MANY] / 1e6, memory[MANY] / MANY))
     return ratio <= MOST and memory[FEW] <= MOST_MEMORY
+
+
+def time_ways(program, names, requests, ways):
+    """The seconds of one hit, and the most memory, by what is kept. All run in turn."""
+    took = {}
+    memory = dict.fromkeys(ways, 0)
+    for _ in range(RUNS):
+        for way in ways:
+            for count in (0, requests):
+                seconds, octets = run(program, names, count, way=way)
+                took.setdefault((way, count), []).append(seconds)
+                memory[way] = max(memory[way], octets)
+    least = {key: min(times) for key, times in took.items()}
+    return {way: (least[way, requests] - least[way, 0]) / requests for way in ways}, memory
+
+
+def tell_colliding(program):
+    """Whether names that were picked to collide take no longer than others in a table with a seed."""
+    each, _ = time_ways(program, COLLIDING, COLLIDING, ("plain", "seeded", "colliding"))
+    ratio = each["seeded"] / each["plain"]
+    print("%d names that collide without a seed: %.2f us each, %.2f us with a seed; other names: %.2f us, %.2f times as long"
+          % (COLLIDING, each["colliding"] * 1e6, each["seeded"] * 1e6, each["plain"] * 1e6, ratio))
+    return ratio <= MOST_SEEDED
+
+
+def tell_large(program):
+    """Whether a hit of an answer of 60 KB takes no more than its octets may, and what a hit adds to its entry."""
+    each, _ = time_ways(program, FEW, LARGE_REQUESTS, ("large",))
+    octets = 38 + 16 * 3840
+    print("an answer of %d octets and 3840 records: %.1f us each, %.2f ns an octet"
+          % (octets, each["large"] * 1e6, each["large"] * 1e9 / octets))
+    return each["large"] <= MOST_OCTET * octets
+
+
+def tell_many_large(program):
+    """The memory of many answers of 60 KB, of which some are asked for."""
+    for requests in (0, MANY_LARGE):
+        seconds, memory = run(program, MANY_LARGE, requests, way="large")
+        print("%d answers of 60 KB and %d hits: %.0f MB, %.0f octets each, %.0f s of a processor"
+              % (MANY_LARGE, requests, memory / 1e6, memory / MANY_LARGE, seconds))
 
 
 def tell_stale(program):
@@ -251,10 +300,15 @@ def beside_peers(ours):
 
 
 def main():
-    if len(sys.argv) != 2:
+    large = "--large" in sys.argv
+    words = [word for word in sys.argv[1:] if word != "--large"]
+    if len(words) != 1:
         sys.exit(__doc__)
-    each, memory = time_hits(os.path.abspath(sys.argv[1]))
-    is_well = tell_hits(each, memory) & tell_stale(os.path.abspath(sys.argv[1]))
+    program = os.path.abspath(words[0])
+    each, memory = time_hits(program)
+    is_well = tell_hits(each, memory) & tell_stale(program) & tell_colliding(program) & tell_large(program)
+    if large:
+        tell_many_large(program)
     beside_peers(each[BESIDE])
     sys.exit(0 if is_well else 1)
 

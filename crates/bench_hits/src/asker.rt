@@ -2,6 +2,7 @@
 
 use crate::fault::HitFault;
 use crate::messages::{answer_to, request};
+use crate::way::Way;
 use client_core::{Client, Event, Moment, Out, Row, What};
 use client_request::{ListWords, WordList};
 use client_settings::{cache, redundant};
@@ -16,7 +17,7 @@ const LEARNED: Moment = Moment(1_000_000);
 const ASKED: Moment = Moment(11_000_000);
 
 /// A client of one server, which keeps as many answers as settings allow, and lets expired ones serve for so many seconds.
-fn client(alloc: Global, stale_seconds: u32) -> Result<Client, HitFault> {
+fn client(alloc: Global, stale_seconds: u32, seed: u64) -> Result<Client, HitFault> {
     let addr = SocketAddr {
         ip: IpAddr::V4([192, 0, 2, 53]),
         port: 53,
@@ -26,7 +27,8 @@ fn client(alloc: Global, stale_seconds: u32) -> Result<Client, HitFault> {
     let mut cache = cache::Config::new();
     cache.set_max_cache_entries(u64::MAX);
     cache.set_stale_for(Duration::from_secs(u64::from(stale_seconds)));
-    Ok(Client::new(alloc, &conf, redundant::Config::new(), cache)?)
+    let redundant = redundant::Config::new();
+    Ok(Client::with_seed(alloc, &conf, redundant, cache, seed)?)
 }
 
 /// The place that a row wants opened, if it wants one.
@@ -73,17 +75,19 @@ pub(crate) struct Asker {
     alloc: Global,
     client: Client,
     words: ListWords,
+    way: Way,
 }
 
 impl Asker {
     /// Nothing is asked yet. Each word is 0: what is random is not measured.
-    pub(crate) fn new(alloc: Global, stale_seconds: u32) -> Result<Asker, HitFault> {
-        let client = client(alloc, stale_seconds)?;
+    pub(crate) fn new(alloc: Global, stale_seconds: u32, way: Way) -> Result<Asker, HitFault> {
+        let client = client(alloc, stale_seconds, way.seed())?;
         let words = ListWords::new(WordList::new(alloc));
         Ok(Asker {
             alloc,
             client,
             words,
+            way,
         })
     }
 
@@ -102,7 +106,7 @@ impl Asker {
         let Some(query) = sent(&row) else {
             return Err(HitFault::NothingSent);
         };
-        let octets = answer_to(self.alloc, query)?;
+        let octets = answer_to(self.alloc, query, self.way)?;
         self.tell(LEARNED, What::Datagram { place, octets })?;
         Ok(())
     }

@@ -2,7 +2,7 @@
 
 use client_request::Error;
 use dns_base::{NoMemory, ParseError, PushError, ShortMessage};
-use std::alloc::AllocError;
+use std::alloc::{AllocError, AllocFailed};
 use std::io;
 
 #[derive(Debug, Drop)]
@@ -33,6 +33,12 @@ impl From<Error> for HitFault {
 
 impl From<AllocError> for HitFault {
     fn from(_e: AllocError) -> HitFault {
+        HitFault::Client(Error::NoMemory)
+    }
+}
+
+impl<T: Drop> From<AllocFailed<T>> for HitFault {
+    fn from(_e: AllocFailed<T>) -> HitFault {
         HitFault::Client(Error::NoMemory)
     }
 }
