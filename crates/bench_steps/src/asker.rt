@@ -2,9 +2,9 @@
 
 use crate::fault::StepFault;
 use crate::messages::{datagram, frame, request};
-use client_core::{Client, Event, Moment, Out, Row, What};
-use client_request::{ListWords, WordList};
-use client_settings::{cache, redundant};
+use crate::ways::Way;
+use client_core::{Event, Moment, Out, What};
+use client_request::Outs;
 use dns_base::{IpAddr, SocketAddr};
 use resolv_conf::{ResolvConf, ServerConf, Transport};
 use std::alloc::Global;
@@ -21,8 +21,8 @@ pub(crate) enum By {
     Streams,
 }
 
-/// A client of one server.
-fn client(alloc: Global, by: By) -> Result<Client, StepFault> {
+/// The configuration with one server.
+pub(crate) fn one_server(alloc: Global, by: By) -> Result<ResolvConf, StepFault> {
     let addr = SocketAddr {
         ip: IpAddr::V4([192, 0, 2, 53]),
         port: 53,
@@ -30,7 +30,7 @@ fn client(alloc: Global, by: By) -> Result<Client, StepFault> {
     let mut conf = ResolvConf::new(alloc);
     conf.options.use_vc = by == By::Streams;
     conf.servers.push(ServerConf::new(addr, Transport::UdpTcp))?;
-    Ok(Client::new(alloc, &conf, redundant::Config::new(), cache::Config::new())?)
+    Ok(conf)
 }
 
 /// The place that an out wants opened, if it wants one.
@@ -42,9 +42,9 @@ fn place_in(out: &Out) -> Option<u64> {
     }
 }
 
-/// The place that a row wants opened, if it wants one.
-fn opened(row: &Row) -> Option<u64> {
-    for out in row.outs.as_slice() {
+/// The place that is to be opened, if one is.
+fn opened(outs: &Outs) -> Option<u64> {
+    for out in outs.as_slice() {
         if let Some(place) = place_in(out) {
             return Some(place);
         }
@@ -52,9 +52,9 @@ fn opened(row: &Row) -> Option<u64> {
     None
 }
 
-/// How many octets a row wants written, if it wants any.
-fn written(row: &Row) -> Option<u64> {
-    for out in row.outs.as_slice() {
+/// How many octets are to be written, if any are.
+fn written(outs: &Outs) -> Option<u64> {
+    for out in outs.as_slice() {
         if let Out::Write { octets, .. } = out {
             return Some(octets.as_slice().len() as u64);
         }
@@ -62,9 +62,9 @@ fn written(row: &Row) -> Option<u64> {
     None
 }
 
-/// Whether a row has a message for a request.
-fn has_message(row: &Row) -> bool {
-    for out in row.outs.as_slice() {
+/// Whether there is a message for a request.
+pub(crate) fn has_message(outs: &Outs) -> bool {
+    for out in outs.as_slice() {
         if let Out::Reply { result: Ok(_), .. } = out {
             return true;
         }
@@ -72,51 +72,47 @@ fn has_message(row: &Row) -> bool {
     false
 }
 
-/// A client, the words that it draws, the moment of the last event, and the place of its stream once there is one.
+/// A client, the moment of the last event, and the place of its stream once there is one.
 #[derive(Drop)]
-pub(crate) struct Asker {
+pub(crate) struct Asker<'a, S: Way> {
     alloc: Global,
-    client: Client,
-    words: ListWords,
+    client: &'a mut S,
     by: By,
     now: u64,
     stream: Option<u64>,
 }
 
-impl Asker {
+impl<'a, S: Way> Asker<'a, S> {
     /// Nothing is asked yet. Each word is 0, so each id is 0 where nothing else waits.
-    pub(crate) fn new(alloc: Global, by: By) -> Result<Asker, StepFault> {
-        let client = client(alloc, by)?;
-        let words = ListWords::new(WordList::new(alloc));
-        Ok(Asker {
+    pub(crate) fn new(alloc: Global, client: &'a mut S, by: By) -> Asker<'a, S> {
+        Asker {
             alloc,
             client,
-            words,
             by,
             now: 0,
             stream: None,
-        })
+        }
     }
 
-    fn tell(&mut self, what: What) -> Result<Row, StepFault> {
+    fn tell(&mut self, what: What) -> Result<Outs, StepFault> {
         self.now = self.now.saturating_add(PAUSE);
         let moment = Moment(self.now);
-        Ok(self.client.step(&mut self.words, Event { moment, what })?)
+        Ok(self.client.step(Event { moment, what })?)
     }
 
     /// Whether the server's answer for a name is the reply.
     pub(crate) fn is_answered(&mut self, name: u32) -> Result<bool, StepFault> {
         let request = request(self.alloc, name)?;
         let asked = self.tell(What::Ask { request })?;
-        let row = match self.by {
+        let outs = match self.by {
             By::Datagrams => self.answer_by_datagram(name, &asked)?,
             By::Streams => self.answer_by_stream(name, asked)?,
         };
-        Ok(has_message(&row))
+        Ok(has_message(&outs))
     }
 
     /// The place that was asked for is open, and the answer comes there.
-    fn answer_by_datagram(&mut self, name: u32, asked: &Row) -> Result<Row, StepFault> {
+    fn answer_by_datagram(&mut self, name: u32, asked: &Outs) -> Result<Outs, StepFault> {
         let Some(place) = opened(asked) else {
             return Err(StepFault::NothingSent);
         };
@@ -126,9 +122,9 @@ impl Asker {
     }
 
     /// The stream is open, all of the request is written there, and the answer comes.
-    fn answer_by_stream(&mut self, name: u32, asked: Row) -> Result<Row, StepFault> {
-        let (place, row) = self.with_stream(asked)?;
-        let Some(count) = written(&row) else {
+    fn answer_by_stream(&mut self, name: u32, asked: Outs) -> Result<Outs, StepFault> {
+        let (place, outs) = self.with_stream(asked)?;
+        let Some(count) = written(&outs) else {
             return Err(StepFault::NothingSent);
         };
         self.tell(What::Wrote { place, count })?;
@@ -136,8 +132,8 @@ impl Asker {
         self.tell(What::Bytes { place, octets })
     }
 
-    /// The place of the stream, and the row that writes there: where none is open, it is opened first.
-    fn with_stream(&mut self, asked: Row) -> Result<(u64, Row), StepFault> {
+    /// The place of the stream, and what is to be written there: where none is open, it is opened first.
+    fn with_stream(&mut self, asked: Outs) -> Result<(u64, Outs), StepFault> {
         if let Some(place) = self.stream {
             return Ok((place, asked));
         }
@@ -145,7 +141,7 @@ impl Asker {
             return Err(StepFault::NothingSent);
         };
         self.stream = Some(place);
-        let row = self.tell(What::Opened { place })?;
-        Ok((place, row))
+        let outs = self.tell(What::Opened { place })?;
+        Ok((place, outs))
     }
 }

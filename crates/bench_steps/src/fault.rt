@@ -9,9 +9,9 @@ use std::io;
 pub(crate) enum StepFault {
     /// Standard output or the arguments failed.
     Io(io::Error),
-    /// The words are not `datagrams` or `streams` and a number.
+    /// The words are not those that a measure takes.
     Usage,
-    /// A name was not asked of the server.
+    /// A name was not asked of the server, or not answered.
     NothingSent,
     /// The client gave up, or a query was not made.
     Client(Error),

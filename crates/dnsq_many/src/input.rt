@@ -1,13 +1,11 @@
-//! What a command reads, and how it ends where that or its client is refused.
+//! What a command reads.
 
 ghost use Rattle.std.specs.Prelude.{◌≡◌, ◌≢◌, ◌≤◌, [], length, Some, IfSome, IfOk, IfErr};
 ghost use Rattle.dns_values.specs.Source.{Rose};
 ghost use Rattle.command_parts.specs.Ends.{IsEarly, status_of, line_of};
-ghost use Rattle.dnsq_run.specs.Program.{numbers_line};
 ghost use Rattle.dnsq_many.specs.Many.{IsRefused};
 
-use client_request::Error;
-use command_parts::statuses::{NO_MEMORY, NUMBERS_USED, REFUSED, SOURCE_FAULT};
+use command_parts::statuses::{NO_MEMORY, REFUSED, SOURCE_FAULT};
 use command_parts::{Ending, says};
 use dns_values::{ReadFault, Source, read_to_end};
 use std::alloc::Global;
@@ -31,18 +29,5 @@ pub(crate) fn input<S: Source>(alloc: Global, source: &mut S) -> Result<Vec<u8>,
         Err(ReadFault::Failed) => Err(Ending::Silent(SOURCE_FAULT)),
         Err(ReadFault::TooLong) => Err(says(alloc, REFUSED, "input too long\n")),
         Err(ReadFault::NoMemory) => Err(Ending::Silent(NO_MEMORY)),
-    }
-}
-
-/// How a command ends of which the client refused a step: with status 7 and a line where its numbers are used up, else with 6.
-pub(crate) fn refusal(alloc: Global, error: Error) -> Ending
-    ensures early { IsEarly result }
-    ensures numbers { status_of result ≡ 7 → error ≡ Error.NumbersUsed }
-    ensures line { status_of result ≡ 7 → line_of result ≡ numbers_line }
-    ensures others { (status_of result ≢ 1) × (status_of result ≢ 3) }
-{
-    match error {
-        Error::NumbersUsed => says(alloc, NUMBERS_USED, "numbers used\n"),
-        _ => Ending::Silent(NO_MEMORY),
     }
 }

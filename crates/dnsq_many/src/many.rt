@@ -8,13 +8,14 @@ ghost use Rattle.dnsq_run.specs.Program.{numbers_line};
 ghost use Rattle.dnsq_many.specs.Lanes.{MayStop, IsTextOf};
 ghost use Rattle.dnsq_many.specs.Many.{IsMade, IsRefused, Stops};
 
-use crate::input::{input, refusal};
+use crate::input::input;
 use crate::journal::journal;
 use crate::texts::many_text;
 use command_parts::statuses::NO_MEMORY;
 use command_parts::{Ending, refused_line};
 use dns_script::{Script, ScriptFault, read_script};
 use dns_values::Source;
+use dnsq_run::refusal;
 use std::alloc::Global;
 use std::sync::Wait;
 use std::thread::Threads;

@@ -23,4 +23,5 @@ mod telling;
 mod usage;
 
 pub use laws::input_laws;
+pub use lines::refusal;
 pub use run::run_alone;

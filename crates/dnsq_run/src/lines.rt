@@ -1,4 +1,4 @@
-//! The line that tells that numbers are used up.
+//! How a command ends that its client refuses.
 
 ghost use Rattle.std.specs.Prelude.{◌≡◌, ◌≢◌};
 ghost use Rattle.command_parts.specs.Ends.{IsEarly, status_of, line_of};
@@ -9,8 +9,8 @@ use command_parts::statuses::{NO_MEMORY, NUMBERS_USED};
 use command_parts::{Ending, says};
 use std::alloc::Global;
 
-/// How a command ends of which the client refused a step.
-pub(crate) fn refusal(alloc: Global, error: Error) -> Ending
+/// How a command ends of which the client refused a step: with status 7 and a line where its numbers are used up, else with 6.
+pub fn refusal(alloc: Global, error: Error) -> Ending
     ensures early { IsEarly result }
     ensures numbers { status_of result ≡ 7 → error ≡ Error.NumbersUsed }
     ensures line { status_of result ≡ 7 → line_of result ≡ numbers_line }

@@ -11,9 +11,11 @@ ghost use Rattle.joint_history.specs.Words.{word_of};
 
 mod scripted;
 
-use client_request::ListWords;
-use client_shared::{ClientKey, NoGate, Opened, SharedClient, run_lanes};
+use client_core::{cache, redundant};
+use client_request::{Error, Events, ListWords};
+use client_shared::{ClientKey, NoGate, Opened, Pass, SharedClient, run_lanes};
 use dns_script::Script;
+use resolv_conf::ResolvConf;
 use scripted::script;
 use std::alloc::Global;
 use std::io;
@@ -21,46 +23,67 @@ use std::marker::Brand;
 use std::sync::Wait;
 use std::thread::Threads;
 
+/// How many receipts the lanes have, each of which is submitted by a thread of its own.
+fn submitted<L: ClientKey + Send + Sync, R: Threads + Wait + Sync>(
+    rt: &R,
+    alloc: Global,
+    shared: &SharedClient<L, ListWords>,
+    passes: &mut [Pass<L>],
+    lanes: &[Events],
+) -> Result<usize, Error> {
+    if lanes.len() != passes.len() {
+        return Ok(0);
+    }
+    let receipts = run_lanes(rt, alloc, shared, passes, lanes, &NoGate)?;
+    Ok(receipts.len())
+}
+
 /// How many entries two callers leave in the journal of a client, and how many receipts they have.
 fn shared_by_two<L: ClientKey + Send + Sync, R: Threads + Wait + Sync>(
     rt: &R,
     alloc: Global,
     opened: Opened,
-    script: Script,
-) -> Option<(usize, usize)>
+    conf: &ResolvConf,
+    redundant: redundant::Config,
+    cache: cache::Config,
+    words: ListWords,
+    lanes: &[Events],
+) -> Result<(usize, usize), Error>
     requires table { word_of opened.joint ≡ L.table }
-    requires opening { L.opening ≡ opening_of script.redundant script.cache script.conf (listed script.words) 2 }
+    requires opening { L.opening ≡ opening_of redundant cache conf.now (listed words.items) 2 }
 {
+    let (shared, mut passes) = SharedClient::<L, ListWords>::new(
+        alloc, opened, conf, redundant, cache, words, 2,
+    )?;
+    let receipts = submitted(rt, alloc, &shared, passes.as_mut_slice(), lanes);
+    match shared.close(passes) {
+        Ok(closed) => Ok((closed.journal.len(), receipts?)),
+        Err(_) => Err(Error::Failed),
+    }
+}
+
+/// The same for a client of its own, which the call names by the table of its history.
+fn shared<R: Threads + Wait + Sync>(rt: &R, alloc: Global) -> Option<(usize, usize)> {
+    let opened = Opened::new(alloc).ok()?;
     let Script {
         conf,
         redundant,
         cache,
         words,
         lanes,
-    } = script;
+    } = script(alloc)?;
     let words = ListWords::new(words);
-    let made = SharedClient::<L, ListWords>::new(alloc, opened, &conf, redundant, cache, words, 2);
-    let (shared, mut passes) = made.ok()?;
-    let lanes = lanes.into_vec();
-    if lanes.len() != passes.len() {
-        return None;
-    }
-    let receipts = run_lanes(
+    let counts = shared_by_two::<Brand, R>(
         rt,
         alloc,
-        &shared,
-        passes.as_mut_slice(),
+        opened,
+        &conf,
+        redundant,
+        cache,
+        words,
         lanes.as_slice(),
-        &NoGate,
     );
-    let receipts = receipts.ok()?;
-    let closed = shared.close(passes).ok()?;
-    Some((closed.journal.len(), receipts.len()))
-}
-
-/// The same for a client of its own, which the call names by the table of its history.
-fn shared<R: Threads + Wait + Sync>(rt: &R, alloc: Global) -> Option<(usize, usize)> {
-    shared_by_two::<Brand, R>(rt, alloc, Opened::new(alloc).ok()?, script(alloc)?)
+    counts.ok()
 }
 
 fn main(rt: HostRuntime) -> io::Result<()> {

@@ -8,9 +8,11 @@ ghost use Rattle.joint_history.specs.Words.{word_of};
 use crate::calls::{has_calls, share};
 use crate::crossing::cross;
 use crate::scenes::script;
-use client_request::ListWords;
+use client_core::{cache, redundant};
+use client_request::{Events, ListWords};
 use client_shared::{ClientKey, CloseFault, Closed, Opened, Pass, SharedClient};
 use dns_script::Script;
+use resolv_conf::ResolvConf;
 use std::alloc::Global;
 use std::marker::Brand;
 use std::sync::Wait;
@@ -25,23 +27,32 @@ enum Scene {
     Lanes,
 }
 
+/// The client is closed once its last pass is handed in too.
+fn closed_at_last<L: ClientKey>(
+    fault: CloseFault<L, ListWords>,
+    one: Pass<L>,
+) -> Option<Closed<ListWords>> {
+    let CloseFault {
+        shared,
+        mut passes,
+        given,
+        made,
+    } = fault;
+    let is_told = passes.push(one).is_ok() && given == 1 && made == 2;
+    let closed = shared.close(passes).ok();
+    if is_told { closed } else { None }
+}
+
 /// Closes a client with one of its two passes, which is refused, and then with both.
 fn closed_in_two<L: ClientKey>(
     shared: SharedClient<L, ListWords>,
     mut passes: Vec<Pass<L>>,
 ) -> Option<Closed<ListWords>> {
     let one = passes.pop()?;
-    let CloseFault {
-        shared,
-        mut passes,
-        given,
-        made,
-    } = shared.close(passes).err()?;
-    passes.push(one).ok()?;
-    if given != 1 || made != 2 {
-        return None;
+    match shared.close(passes) {
+        Ok(_) => None,
+        Err(fault) => closed_at_last(fault, one),
     }
-    shared.close(passes).ok()
 }
 
 /// Whether the journal is of the scene.
@@ -54,38 +65,61 @@ fn is_of(scene: Scene, closed: &Closed<ListWords>) -> bool {
         }
 }
 
+/// Whether what is left of a client is of the scene. None where it is not closed as it should be.
+fn leaves<L: ClientKey>(
+    shared: SharedClient<L, ListWords>,
+    passes: Vec<Pass<L>>,
+    scene: Scene,
+) -> Option<bool> {
+    let closed = closed_in_two(shared, passes)?;
+    Some(is_of(scene, &closed))
+}
+
 /// Whether the callers are told what they should be, and the journal has it. None where memory ran out.
 fn played<L: ClientKey + Send + Sync, R: Threads + Wait + Sync>(
     rt: &R,
     alloc: Global,
     opened: Opened,
-    script: Script,
+    conf: &ResolvConf,
+    redundant: redundant::Config,
+    cache: cache::Config,
+    words: ListWords,
+    lanes: &[Events],
     scene: Scene,
 ) -> Option<bool>
     requires table { word_of opened.joint ≡ L.table }
-    requires opening { L.opening ≡ opening_of script.redundant script.cache script.conf (listed script.words) 2 }
+    requires opening { L.opening ≡ opening_of redundant cache conf.now (listed words.items) 2 }
 {
+    let made = SharedClient::<L, ListWords>::new(alloc, opened, conf, redundant, cache, words, 2);
+    let (shared, mut passes) = made.ok()?;
+    let told = match scene {
+        Scene::Calls => share(rt, alloc, &shared, passes.as_mut_slice(), lanes),
+        Scene::Lanes => cross(rt, alloc, &shared, passes.as_mut_slice(), lanes),
+    };
+    let is_left = leaves(shared, passes, scene)?;
+    Some(told? && is_left)
+}
+
+fn plays<R: Threads + Wait + Sync>(rt: &R, alloc: Global, scene: Scene) -> Option<bool> {
+    let opened = Opened::new(alloc).ok()?;
     let Script {
         conf,
         redundant,
         cache,
         words,
         lanes,
-    } = script;
-    let words = ListWords::new(words);
-    let made = SharedClient::<L, ListWords>::new(alloc, opened, &conf, redundant, cache, words, 2);
-    let (shared, mut passes) = made.ok()?;
-    let lanes = lanes.into_vec();
-    let told = match scene {
-        Scene::Calls => share(rt, alloc, &shared, passes.as_mut_slice(), lanes.as_slice()),
-        Scene::Lanes => cross(rt, alloc, &shared, passes.as_mut_slice(), lanes.as_slice()),
-    };
-    let closed = closed_in_two(shared, passes)?;
-    Some(told? && is_of(scene, &closed))
-}
-
-fn plays<R: Threads + Wait + Sync>(rt: &R, alloc: Global, scene: Scene) -> Option<bool> {
-    played::<Brand, R>(rt, alloc, Opened::new(alloc).ok()?, script(alloc)?, scene)
+    } = script(alloc)?;
+    played::<Brand, R>(
+        rt,
+        alloc,
+        opened,
+        &conf,
+        redundant,
+        cache,
+        ListWords::new(words),
+        lanes.as_slice(),
+        scene,
+    )
 }
 
 #[test]

@@ -4,4 +4,4 @@ use Rattle.client_shared.specs.History.{opening_of}
 use Rattle.example_shared.proofs.shared.Given as goal
 
 abbrev pub ghosts-shared_by_two : goal.ghosts-shared_by_two
-ghosts-shared_by_two g a = record { table = word_of a.opened.joint; opening = opening_of a.script.redundant a.script.cache a.script.conf (listed a.script.words) 2 }
+ghosts-shared_by_two g a = record { table = word_of a.opened.joint; opening = opening_of a.redundant a.cache a.conf.now (listed a.words.items) 2 }

@@ -1,13 +1,14 @@
 //! Ways to step a client by an event.
 
 use client_core::Client;
-use client_request::{Event, ListWords};
+use client_request::{Error, Event, ListWords, Outs};
 use client_shared::{ClientKey, Pass, SharedClient, UnjournaledClient};
 use std::sync::{Mutex, Wait};
 
-/// Steps a client; false where it is refused.
+/// A client that is stepped in one of the ways.
 pub(crate) trait Way {
-    fn step(&mut self, event: Event) -> bool;
+    /// What it puts out for an event.
+    fn step(&mut self, event: Event) -> Result<Outs, Error>;
 }
 
 /// A client and its words.
@@ -18,8 +19,9 @@ pub(crate) struct Alone {
 }
 
 impl Way for Alone {
-    fn step(&mut self, event: Event) -> bool {
-        self.client.step(&mut self.words, event).is_ok()
+    fn step(&mut self, event: Event) -> Result<Outs, Error> {
+        let row = self.client.step(&mut self.words, event)?;
+        Ok(row.outs)
     }
 }
 
@@ -31,7 +33,7 @@ pub(crate) struct Locked<'a, R> {
 }
 
 impl<R: Wait> Way for Locked<'_, R> {
-    fn step(&mut self, event: Event) -> bool {
+    fn step(&mut self, event: Event) -> Result<Outs, Error> {
         self.alone.lock(self.rt).step(event)
     }
 }
@@ -45,8 +47,9 @@ pub(crate) struct Counted<'a, R, L: ClientKey> {
 }
 
 impl<R: Wait, L: ClientKey> Way for Counted<'_, R, L> {
-    fn step(&mut self, event: Event) -> bool {
-        self.shared.submit(self.rt, self.pass, event).is_ok()
+    fn step(&mut self, event: Event) -> Result<Outs, Error> {
+        let receipt = self.shared.submit(self.rt, self.pass, event)?;
+        Ok(receipt.outs)
     }
 }
 
@@ -59,7 +62,8 @@ pub(crate) struct Journaled<'a, R, L: ClientKey> {
 }
 
 impl<R: Wait, L: ClientKey> Way for Journaled<'_, R, L> {
-    fn step(&mut self, event: Event) -> bool {
-        self.shared.submit(self.rt, self.pass, event).is_ok()
+    fn step(&mut self, event: Event) -> Result<Outs, Error> {
+        let receipt = self.shared.submit(self.rt, self.pass, event)?;
+        Ok(receipt.outs)
     }
 }
