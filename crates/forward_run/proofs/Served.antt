@@ -1,37 +1,42 @@
 -- A configuration that was served.
 use Rattle.std.proofs.Common.{◌≡◌, ◌<◌, ◌^◌, ℕ, List, [], ◌∷◌, map, Option, Some, None, subst, lit≤}
 use Rattle.std.specs.Prelude.{IfSome}
-use Rattle.client_steps.specs.Whole.{Whole, started}
+use Rattle.client_steps.specs.Whole.{Whole}
 use Rattle.command_parts.specs.Conf.{Configures}
 use Rattle.forward_words.specs.declared.options.Options.{Options}
 use Rattle.forward_words.specs.declared.words.Asked.{Asked}
-use Rattle.front_steps.specs.Steps.{Forwarding, beginning}
+use Rattle.front_steps.specs.Steps.{Forwarding}
 use Rattle.proof_front.specs.Forwarding.{EveryForwardedTraceIsRight}
 use Rattle.resolv_conf.specs.declared.conf.ResolvConf.{ResolvConf}
 use Rattle.resolv_conf.specs.declared.server.ServerConf.{ServerConf}
 use Rattle.forward_run.specs.Front.{after_deed, after_deeds}
-use Rattle.forward_run.specs.Serving.{IsAnsweredIf, IsConfAsked, IsDeaf, IsNotListenedIf, IsServed, answered_line, begun_deeds}
+use Rattle.forward_run.specs.Serving.{IsAnsweredIf, IsConfAsked, IsDeaf, IsNotListenedIf, IsServed, answered_line, begun_deeds, first_of}
 use Rattle.forward_run.specs.Settings.{cache_of, choice_of, conf_of, words_left}
 use Rattle.forward_run.specs.Turns.{Turned, World, rows_of, scene, within}
 use Rattle.forward_run.specs.declared.front.FrontDeed.{FrontDeed}
 use Rattle.forward_run.specs.declared.front.FrontDeed.TheVariants.{Learned, Listens}
 use Rattle.forward_run.proofs.Turning.{more_deeds}
 
--- it is listened, the servers are learned, and turns are made
-pub served : (options : Options) (asked : Asked) (conf : ResolvConf) (answered : ℕ) (first last : Forwarding Whole) (old new : World) (listens mid : Option (List FrontDeed)) (polls : ℕ)
-    → first ≡ beginning (started (choice_of options.policy) (cache_of options) conf)
-    → listens ≡ after_deed (Listens asked.port) old.deeds → mid ≡ after_deeds (map (λ server. Learned server) conf.servers) listens → polls ≡ old.polls
+-- it is listened, and the servers are learned
+pub begun : (port : ℕ) (conf : ResolvConf) (servers : List ServerConf) (old listens new : Option (List FrontDeed))
+    → listens ≡ after_deed (Listens port) old → new ≡ after_deeds (map (λ server. Learned server) servers) listens → servers ≡ conf.servers
+    → new ≡ after_deeds (begun_deeds port conf) old
+begun port conf servers old listens new listened learned same =
+    more_deeds (Listens port ∷ []) (map (λ (server : ServerConf). Learned server) servers) old listens new listened learned
+    ∙ ap (λ (ss : List ServerConf). after_deeds (Listens port ∷ map (λ (server : ServerConf). Learned server) ss) old) same
+
+-- and turns are made
+pub served : (options : Options) (asked : Asked) (conf : ResolvConf) (answered : ℕ) (first last : Forwarding Whole) (old new : World) (deeds : Option (List FrontDeed)) (polls : ℕ)
+    → first ≡ first_of options conf → deeds ≡ after_deeds (begun_deeds asked.port conf) old.deeds → polls ≡ old.polls
     → EveryForwardedTraceIsRight → ((k : ℕ) → old.words k < 2 ^ 64)
-    → Turned asked.turns answered (scene first old.words mid polls old.moments) (within last new)
+    → Turned asked.turns answered (scene first old.words deeds polls old.moments) (within last new)
     → IsServed options asked conf answered old new
-served options asked conf answered first last old new listens mid polls made listened learned same every small turned =
-    let begun : mid ≡ after_deeds (begun_deeds asked.port conf) old.deeds =
-    more_deeds (Listens asked.port ∷ []) (map (λ (server : ServerConf). Learned server) conf.servers) old.deeds listens mid listened learned in
-    let P : Forwarding Whole → Option (List FrontDeed) → ℕ → Type 0 = λ f deeds n. Turned asked.turns answered (scene f old.words deeds n old.moments) (within last new) in
-    let start = beginning (started (choice_of options.policy) (cache_of options) conf) in
-    let deeds = after_deeds (begun_deeds asked.port conf) old.deeds in
-    let t : P start deeds old.polls =
-    subst (λ (f : Forwarding Whole). P f deeds old.polls) made (subst (λ (ds : Option (List FrontDeed)). P first ds old.polls) begun (subst (λ (n : ℕ). P first mid n) same turned)) in
+served options asked conf answered first last old new deeds polls made told same every small turned =
+    let P : Forwarding Whole → Option (List FrontDeed) → ℕ → Type 0 = λ f ds n. Turned asked.turns answered (scene f old.words ds n old.moments) (within last new) in
+    let start = first_of options conf in
+    let begins = after_deeds (begun_deeds asked.port conf) old.deeds in
+    let t : P start begins old.polls =
+    subst (λ (f : Forwarding Whole). P f begins old.polls) made (subst (λ (ds : Option (List FrontDeed)). P first ds old.polls) told (subst (λ (n : ℕ). P first deeds n) same turned)) in
     record {
       last = last;
       turned = t;
@@ -39,11 +44,11 @@ served options asked conf answered first last old new listens mid polls made lis
     }
 
 -- the servers of a configuration that was read are asked
-pub asked_of : (told : Option (List ℕ)) (rest : Type 0) (options : Options) (words left : ℕ → ℕ) (read conf : ResolvConf)
-    → IfSome told (λ text. Configures text read × rest) → conf ≡ conf_of options words read → left ≡ words_left options words read
+pub asked_of : (told left_text : Option (List ℕ)) (options : Options) (words left : ℕ → ℕ) (read conf : ResolvConf)
+    → IfSome told (λ text. Configures text read × (left_text ≡ Some [])) → conf ≡ conf_of options words read → left ≡ words_left options words read
     → IfSome told (λ text. IsConfAsked options text words conf left)
-asked_of None rest options words left read conf h is leaves = tt
-asked_of (Some text) rest options words left read conf h is leaves = record { read = read; configures = h.0; conf_is = is; left_is = leaves }
+asked_of None left_text options words left read conf h is leaves = tt
+asked_of (Some text) left_text options words left read conf h is leaves = record { read = read; configures = h.0; conf_is = is; left_is = leaves }
 
 -- with what is written then
 pub answered_so : (told : Option (List ℕ)) (options : Options) (asked : Asked) (conf : ResolvConf) (left : ℕ → ℕ) (answered : ℕ) (line : List ℕ) (old new : World)

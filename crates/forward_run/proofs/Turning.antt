@@ -1,13 +1,16 @@
 -- The turns of a forwarder, one more at a time.
-use Rattle.std.proofs.Common.{◌≡◌, ℕ, ◌+◌, ◌-◌, ◌<◌, ◌≤◌, List, [], ◌∷◌, ◌++◌, length, map, Option, Some, None, refl, ap, sym, subst, ◌∙◌, append_assoc, length-append, arith}
-use Rattle.std.specs.Prelude.{sum_by}
+use Rattle.std.proofs.Common.{◌≡◌, ℕ, ◌+◌, ◌-◌, ◌<◌, ◌≤◌, Bool, true, false, List, [], ◌∷◌, ◌++◌, length, map, Option, Some, None, refl, ap, sym, subst, ◌∙◌, append_assoc, length-append, arith}
+use Rattle.std.specs.Prelude.{sum_by, Err, IsErrOf}
 use Rattle.std.specs.List.{All, flat_map}
-use Rattle.std.proofs.lemmas.List.{flat_map_more}
 use Rattle.std.proofs.lemmas.List.Elements.{All-nil, All-push}
 use Rattle.std.proofs.lemmas.List.Sums.{sum_by-append}
 use Rattle.client_loop.specs.Turns.{AreGivenOn, RoseBy}
 use Rattle.client_loop.proofs.Deeds.{append_nil, more_moments, rose_by_none, rose_more}
+use Rattle.client_request.specs.Response.{IsRefusal}
+use Rattle.client_request.specs.Timers.{IsWant}
 use Rattle.client_request.specs.Words.{IsGivenOn}
+use Rattle.client_request.specs.declared.error.Error.{Error}
+use Rattle.client_request.specs.declared.error.Error.TheVariants.{Failed, NoMemory, NumbersUsed}
 use Rattle.dns_values.specs.Source.{one_more}
 use Rattle.front_core.specs.Forwarded.{Forwards, Makes, begins, goes_on}
 use Rattle.front_peers.specs.declared.event.FrontRow.{FrontRow}
@@ -105,3 +108,10 @@ all_turned turns left answered old new so none =
     let was : so.count + left ≡ turns = so.counted in
     let same : so.count ≡ turns = omega arith in
     subst (λ (n : ℕ). Turned n answered old new) same so.turned
+
+-- a forwarder whose steps were taken gives up for want of memory or numbers
+pub wants : {T : Type 0} (e : Error) (failed : Bool) → IsRefusal e → (IsErrOf {T = T} (Err e) Failed → failed ≡ true) → failed ≡ false → IsWant e
+wants NoMemory failed refused only lasts = tt
+wants NumbersUsed failed refused only lasts = tt
+wants Failed failed refused only lasts = let fails : failed ≡ true = only refl in absurd (cc)
+wants _ failed refused only lasts = absurd refused

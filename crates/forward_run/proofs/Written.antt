@@ -1,5 +1,5 @@
 -- What is written at the end, by the words that asked for it.
-use Rattle.std.proofs.Common.{◌≡◌, ℕ, List, Option, Some, None, subst, sym, String, Global}
+use Rattle.std.proofs.Common.{◌≡◌, ◌⊎◌, inl, inr, ℕ, List, Option, Some, None, ◌∙◌, subst, sym, String, Global}
 use Rattle.std.specs.Prelude.{IfSome}
 use Rattle.command_parts.specs.Conf.{IsConfRefused}
 use Rattle.command_parts.specs.Ends.{IsBegun, IsSaid}
@@ -7,7 +7,7 @@ use Rattle.dns_values.specs.Sink.{with_octets}
 use Rattle.forward_words.specs.Words.{asked_by}
 use Rattle.forward_words.specs.declared.options.Options.{Options}
 use Rattle.forward_words.specs.declared.words.Asked.{Asked}
-use Rattle.forward_run.specs.Serving.{IfAsked, IsAnsweredIf, IsCut, IsDone, IsNotListened, IsNotListenedBy, IsNotListenedIf, RefusalIsSaid}
+use Rattle.forward_run.specs.Serving.{IfAsked, IsAnsweredIf, IsCut, IsDone, IsNotListened, IsNotListenedBy, IsNotListenedIf, RefusalIsSaid, numbers_line}
 use Rattle.forward_run.specs.Turns.{World}
 
 asked_with : (said : List (String Global)) (asked : Asked) (told : Option (List ℕ)) (P : Asked → List ℕ → Type 0) → asked_by said ≡ Some asked → IfSome told (P asked) → IfAsked said told P
@@ -42,3 +42,12 @@ pub deaf_so : (said : List (String Global)) (asked : Asked) (told : Option (List
     → asked_by said ≡ Some asked → IsNotListenedIf options asked.port told words faults faults_after → IsNotListenedBy options said told words faults faults_after
 deaf_so said asked told options words faults faults_after is h =
     asked_with said asked told (λ a text. IsNotListened options a.port text words faults faults_after) is h
+
+pub numbers_so : (line : List ℕ) (before after : Option (List ℕ)) (faults faults_after : ℕ) → line ≡ numbers_line → IsSaid line before after faults faults_after
+    → IsSaid numbers_line before after faults faults_after
+numbers_so line before after faults faults_after is said = subst (λ (l : List ℕ). IsSaid l before after faults faults_after) is said
+
+-- an end keeps its status unless memory ran out
+pub same_status : (n status k : ℕ) → (n ≡ status) ⊎ (n ≡ 6) → n ≡ k → (k ≡ 6 → ⊥) → status ≡ k
+same_status n status k (inl same) is other = sym same ∙ is
+same_status n status k (inr six) is other = absurd (other (sym is ∙ six))

@@ -31,13 +31,17 @@ use Rattle.forward_words.specs.declared.words.Asked.{Asked}
 abbrev pub begun_deeds : (port : ℕ) → ResolvConf → List FrontDeed
 begun_deeds port conf = Listens port ∷ map (λ server. Learned server) conf.servers
 
+-- the forwarder that is made of a configuration as the options say
+abbrev pub first_of : Options → ResolvConf → Forwarding Whole
+first_of options conf = beginning (started (choice_of options.policy) (cache_of options) conf)
+
 -- The configuration was served: it was listened, once, the servers were learned, and so many turns were made, which put out so many answers. What the client within did is
 -- right.
 pub record IsServed (options : Options) (asked : Asked) (conf : ResolvConf) (answered : ℕ) (old new : World) : Type 0 where
   pub last : Forwarding Whole
   pub turned :
       Turned asked.turns answered
-      (within (beginning (started (choice_of options.policy) (cache_of options) conf)) (record old { deeds = after_deeds (begun_deeds asked.port conf) old.deeds }))
+      (within (first_of options conf) (record old { deeds = after_deeds (begun_deeds asked.port conf) old.deeds }))
       (within last new)
   pub right : IsRightTrace (choice_of options.policy) (cache_of options) conf old.words turned.trace
 
@@ -122,6 +126,14 @@ numbers_line = codes "numbers used\n"
 -- nothing is written at these statuses
 abbrev pub IsSilent : ℕ → Type 0
 IsSilent n = (n ≡ 2) ⊎ ((n ≡ 3) ⊎ (n ≡ 5))
+
+-- at these a line is written that says why there is no line of answers
+abbrev pub EndsByLine : ℕ → Type 0
+EndsByLine n = (n ≡ 1) ⊎ (n ≡ 7)
+
+-- the statuses of an end without a line of answers
+abbrev pub IsOtherEnd : ℕ → Type 0
+IsOtherEnd n = (n ≡ 1) ⊎ ((n ≡ 3) ⊎ ((n ≡ 5) ⊎ ((n ≡ 6) ⊎ (n ≡ 7))))
 
 -- a fact of what the words ask for and of the octets that the source tells
 abbrev pub IfAsked : List (String Global) → Option (List ℕ) → (Asked → List ℕ → Type 0) → Type 0

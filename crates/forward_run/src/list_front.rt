@@ -110,9 +110,12 @@ impl Front for ListFront {
     ghost faults = { λ f. f.faults };
 
     fn listen(&mut self, port: u16) -> Result<(), Fault>
-        ensures deeds { OnOk result (self.new ≡ record self.old { deeds = self.old.deeds ++ FrontDeed.Listens port ∷ [] }) }
+        ensures deeds { OnOk result (self.new.deeds ≡ self.old.deeds ++ FrontDeed.Listens port ∷ []) }
         ensures polls { self.new.polls ≡ self.old.polls }
         ensures refused { OnErr result (Rose self.old.faults self.new.faults) }
+        ensures faults { OnOk result (self.new.faults ≡ self.old.faults) }
+        ensures events { self.new.events ≡ self.old.events }
+        ensures listen_fault { self.new.listen_fault ≡ self.old.listen_fault }
         ensures fails { IfSome self.old.listen_fault (λ fault. result ≡ Err fault) }
         ensures err { OnErr result (self.new ≡ record self.old { faults = one_more self.old.faults }) }
     {
@@ -130,16 +133,22 @@ impl Front for ListFront {
     }
 
     fn learn_server(&mut self, server: &ServerConf) -> Result<(), NoMemory>
-        ensures deeds { OnOk result (self.new ≡ record self.old { deeds = self.old.deeds ++ FrontDeed.Learned server.now ∷ [] }) }
+        ensures deeds { OnOk result (self.new.deeds ≡ self.old.deeds ++ FrontDeed.Learned server.now ∷ []) }
         ensures polls { self.new.polls ≡ self.old.polls }
+        ensures faults { self.new.faults ≡ self.old.faults }
+        ensures events { self.new.events ≡ self.old.events }
+        ensures listen_fault { self.new.listen_fault ≡ self.old.listen_fault }
         ensures err { OnErr result (self.new ≡ self.old) }
     {
         self.keep(FrontDeed::Learned(*server))
     }
 
     fn act(&mut self, out: &FrontOut) -> Result<(), NoMemory>
-        ensures deeds { OnOk result (self.new ≡ record self.old { deeds = self.old.deeds ++ FrontDeed.Acted out.now ∷ [] }) }
+        ensures deeds { OnOk result (self.new.deeds ≡ self.old.deeds ++ FrontDeed.Acted out.now ∷ []) }
         ensures polls { self.new.polls ≡ self.old.polls }
+        ensures faults { self.new.faults ≡ self.old.faults }
+        ensures events { self.new.events ≡ self.old.events }
+        ensures listen_fault { self.new.listen_fault ≡ self.old.listen_fault }
         ensures err { OnErr result (self.new ≡ self.old) }
     {
         let out = out.try_clone()?;
@@ -149,6 +158,8 @@ impl Front for ListFront {
     fn poll(&mut self) -> Result<Option<FrontWhat>, NoMemory>
         ensures deeds { IfOk result (λ what. self.new.deeds ≡ self.old.deeds ++ FrontDeed.Polled what ∷ []) }
         ensures polls { OnOk result (self.new.polls ≡ one_more self.old.polls) }
+        ensures faults { self.new.faults ≡ self.old.faults }
+        ensures listen_fault { self.new.listen_fault ≡ self.old.listen_fault }
         ensures gives { IfOk result (λ what. what ≡ next_event self.old.events) }
         ensures events { OnOk result (self.new.events ≡ later_events self.old.events) }
         ensures err { OnErr result (self.new ≡ self.old) }

@@ -8,7 +8,7 @@ ghost use Rattle.command_parts.specs.Ends.{IsEarly, IsSaid, line_of, status_of};
 ghost use Rattle.forward_words.specs.Words.{asked_by};
 ghost use Rattle.forward_run.specs.Front.{after_deed, after_deeds};
 ghost use Rattle.forward_run.specs.Serving as spec;
-ghost use Rattle.forward_run.specs.Serving.{IfAsked, IsAnsweredIf, IsConfAsked, IsCutBy, IsDeaf, IsDoneBy, IsEndOfSource, IsNotListenedBy, IsNotListenedIf, IsServeEnd, IsServed, IsSilent, RefusalIsSaid, no_options};
+ghost use Rattle.forward_run.specs.Serving.{EndsByLine, IfAsked, IsAnsweredIf, IsConfAsked, IsCutBy, IsDeaf, IsDoneBy, IsEndOfSource, IsNotListenedBy, IsNotListenedIf, IsOtherEnd, IsServeEnd, IsServed, IsSilent, RefusalIsSaid, begun_deeds, first_of, no_options};
 ghost use Rattle.forward_run.specs.Turns.{around};
 ghost use Rattle.forward_run.specs.declared.front.FrontDeed.{FrontDeed};
 
@@ -109,6 +109,44 @@ fn listen<F: Front>(
     }
 }
 
+/// A forwarder that asks the servers of a configuration.
+fn forwarder_of(
+    alloc: Global,
+    options: &Options,
+    seed: u64,
+    conf: &ResolvConf,
+) -> Result<Forwarder, NoMemory>
+    ensures { IfOk result (λ forwarder. forwarder ≡ first_of options.now conf.now) }
+{
+    let choice = choice_of(options.policy);
+    match Forwarder::with_seed(alloc, conf, choice, cache_of(options), seed) {
+        Ok(forwarder) => Ok(forwarder),
+        Err(_) => Err(NoMemory),
+    }
+}
+
+/// Listens, tells the front the servers of a configuration, and makes a forwarder that asks them.
+fn begin<F: Front>(
+    alloc: Global,
+    options: &Options,
+    seed: u64,
+    port: u16,
+    conf: &ResolvConf,
+    front: &mut F,
+) -> Result<Forwarder, Ending>
+    ensures made { IfOk result (λ forwarder. forwarder ≡ first_of options.now conf.now) }
+    ensures deeds { OnOk result (F.deeds front.new ≡ after_deeds (begun_deeds port conf.now) (F.deeds front.old)) }
+    ensures polls { F.polls front.new ≡ F.polls front.old }
+    ensures ends { IfErr result IsServeEnd }
+    ensures deaf { IfErr result (λ e. status_of e ≡ 5 → IsDeaf options.now.listened port conf.now (F.faults front.old) (F.faults front.new)) }
+    ensures no_numbers { IfErr result (λ e. status_of e ≢ 7) }
+{
+    listen(options.listened.as_slice(), port, conf, front)?;
+    learn_all(front, conf.servers.as_slice())?;
+    let forwarder = forwarder_of(alloc, options, seed, conf)?;
+    Ok(forwarder)
+}
+
 /// Listens, and makes the turns. How many answers they put out.
 fn serve_conf<F: Front, C: Clock, W: Words, V: Watch>(
     alloc: Global,
@@ -126,16 +164,12 @@ fn serve_conf<F: Front, C: Clock, W: Words, V: Watch>(
     ensures deaf { IfErr result (λ e. status_of e ≡ 5 → IsDeaf options.now.listened asked.port conf.now (F.faults front.old) (F.faults front.new)) }
     ensures line { IfErr result (λ e. status_of e ≡ 7 → line_of e ≡ spec.numbers_line) }
 {
-    listen(options.listened.as_slice(), asked.port, conf, front)?;
-    learn_all(front, conf.servers.as_slice())?;
-    let choice = choice_of(options.policy);
-    let made = Forwarder::with_seed(alloc, conf, choice, cache_of(options), seed);
-    let Ok(mut forwarder) = made else {
-        return Err(Ending::Silent(NO_MEMORY));
-    };
-    every_forwarded_trace_is_right();
+    let mut forwarder = begin(alloc, options, seed, asked.port, conf, front)?;
     match turn_all(&mut forwarder, front, clock, rng, watch, asked.turns) {
-        Ok(answered) => Ok(answered),
+        Ok(answered) => {
+            every_forwarded_trace_is_right();
+            Ok(answered)
+        }
         Err(error) => Err(stopped_by(alloc, error)),
     }
 }
@@ -161,8 +195,8 @@ fn conf_asked<S: Source, W: Words>(
     ensures refused { IfErr result (λ e. status_of e ≡ 1 → IfSome (S.left source.old) (λ text. IsConfRefused text (line_of e))) }
     ensures no_numbers { IfErr result (λ e. status_of e ≢ 7) }
 {
-    let conf = configuration(alloc, source)?;
-    let conf = conf_of(alloc, options, conf, rng)?;
+    let read = configuration(alloc, source)?;
+    let conf = conf_of(alloc, options, read, rng)?;
     Ok(conf)
 }
 
@@ -185,10 +219,30 @@ fn serve_source<S: Source, F: Front, C: Clock, W: Words, V: Watch>(
     ensures ends { IfErr result IsEndOfSource }
     ensures numbers { IfErr result (λ e. status_of e ≡ 7 → line_of e ≡ spec.numbers_line) }
 {
-    let conf = conf_asked(alloc, options, source, rng)?;
-    let answered = serve_conf(alloc, options, seed, asked, &conf, front, clock, rng, watch)?;
+    let conf = match conf_asked(alloc, options, source, rng) {
+        Ok(conf) => conf,
+        Err(ending) => return Err(ending),
+    };
+    let answered = match serve_conf(alloc, options, seed, asked, &conf, front, clock, rng, watch) {
+        Ok(answered) => answered,
+        Err(ending) => return Err(ending),
+    };
     let line = answered_line(alloc, answered)?;
     Ok(line)
+}
+
+/// Ends without a line of answers: by the line that says why, if there is one.
+fn end_without<K: Sink>(sink: &mut K, ending: Ending) -> Status
+    requires { IsEndOfSource ending }
+    ensures status { (result.0 ≡ status_of ending) ⊎ (result.0 ≡ 6) }
+    ensures statuses { IsOtherEnd result.0 }
+    ensures said { EndsByLine result.0 → IsSaid (line_of ending) (K.held sink.old) (K.held sink.new) (K.faults sink.old) (K.faults sink.new) }
+    ensures silent { IsSilent result.0 → K.held sink.new ≡ K.held sink.old }
+{
+    match ending {
+        Ending::Silent(status) => status,
+        Ending::Says(status, line) => end_by(sink, status, &line),
+    }
 }
 
 /// Answers DNS clients as the options and the words behind them say, `PORT TURNS`: it is listened on PORT, the servers of the
@@ -232,8 +286,7 @@ pub fn serve_as<S: Source, K: Sink, F: Front, C: Clock, W: Words, V: Watch>(
         alloc, options, seed, asked, source, front, clock, rng, watch,
     ) {
         Ok(line) => deliver(sink, &line),
-        Err(Ending::Silent(status)) => status,
-        Err(Ending::Says(status, line)) => end_by(sink, status, &line),
+        Err(ending) => end_without(sink, ending),
     }
 }
 

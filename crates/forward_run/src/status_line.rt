@@ -84,14 +84,13 @@ impl Tally {
     }
 
     fn answered(&mut self, asker: Option<u64>, peer: u64, octets: &[u8]) {
-        let count = if is_refusal(peer, octets) {
-            &mut self.refused
+        if is_refusal(peer, octets) {
+            self.refused = self.refused.saturating_add(1);
         } else if asker == Some(peer) {
-            &mut self.hits
+            self.hits = self.hits.saturating_add(1);
         } else {
-            &mut self.misses
-        };
-        *count = count.saturating_add(1);
+            self.misses = self.misses.saturating_add(1);
+        }
     }
 
     fn take(&mut self, row: &FrontRow) {

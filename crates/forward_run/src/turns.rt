@@ -105,7 +105,10 @@ pub(crate) fn turn_all<F: Front, C: Clock, W: Words, V: Watch>(
     let mut answered: u64 = 0;
     let mut left = turns;
     while left > 0 {
-        let row = turn(forwarder, front, clock, words)?;
+        let row = match turn(forwarder, front, clock, words) {
+            Ok(row) => row,
+            Err(error) => return Err(error),
+        };
         watch.turned(&row);
         let Some(more) = answered.checked_add(answers_in(&row) as u64) else {
             return Err(Error::NumbersUsed);
