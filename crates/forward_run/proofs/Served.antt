@@ -1,5 +1,5 @@
 -- A configuration that was served.
-use Rattle.std.proofs.Common.{◌≡◌, ◌<◌, ◌^◌, ℕ, List, [], ◌∷◌, map, Option, Some, None, subst, lit≤}
+use Rattle.std.proofs.Common.{◌≡◌, ◌<◌, ◌^◌, ℕ, List, [], ◌∷◌, map, Option, Some, None, ◌∙◌, ap, subst, lit≤}
 use Rattle.std.specs.Prelude.{IfSome}
 use Rattle.client_steps.specs.Whole.{Whole}
 use Rattle.command_parts.specs.Conf.{Configures}

@@ -13,6 +13,6 @@ returns-in-Ok-clause-served g c =
     served c.args.options.now c.args.asked c.args.conf.now c.in-Ok.answered c.in_ok-forwarder.forwarder c.turn_all.new.forwarder
     (world (g.W.Words.stream c.args.rng.now) (g.F.Front.deeds c.args.front.now) (g.F.Front.polls c.args.front.now) (g.C.Clock.given c.args.clock.now))
     (world (g.W.Words.stream c.turn_all.new.words) (g.F.Front.deeds c.turn_all.new.front) (g.F.Front.polls c.turn_all.new.front) (g.C.Clock.given c.turn_all.new.clock))
-    (g.F.Front.deeds c.begin-forwarder.new.front) (g.F.Front.polls c.begin-forwarder.new.front)
+    (g.F.Front.deeds c.begin.new.front) (g.F.Front.polls c.begin.new.front)
     c.in_ok-forwarder.ensures.made c.in_ok-forwarder.ensures.deeds c.in_ok-forwarder.ensures.polls
     c.every_forwarded_trace_is_right.ensures (g.met.W.Words.words_fit c.args.rng.now) c.in-Ok.ensures.turned
