@@ -1,0 +1,170 @@
+#!/usr/bin/env python3
+"""Tells the processor time that a hit and a miss take a forwarder, beside Unbound and dnsmasq.
+
+    python3 bench/forward.py PROGRAM [ROUNDS [SECONDS]]
+
+PROGRAM is the built dns_forward. An NSD on loopback has an answer for every name. Each forwarder is one process of one thread; with two
+processors or more it is kept on the first, and dnsperf with NSD on the others. In ROUNDS rounds (5), in turn, dnsperf asks each for SECONDS seconds
+(3): first for 1,000 names that it has answered before, which are hits, then for names that were never asked, which are misses. The
+processor time of the forwarder's process by queries that were answered is told, and its share in the system, round by round, and then
+the medians and their ratios to ours. Queries that were lost, or answered by another code than NOERROR, are told too. Without NSD or
+dnsperf nothing is measured, and that is said; nor are Unbound and dnsmasq where they are missing.
+"""
+
+import os
+import re
+import shutil
+import statistics
+import subprocess
+import sys
+import tempfile
+import time
+from pathlib import Path
+
+sys.path.insert(0, os.path.dirname(os.path.abspath(__file__)))
+from sockets import free_port, serve
+
+HITS = 1000
+MISSES = 400_000
+TICKS = os.sysconf("SC_CLK_TCK")
+UNBOUND = """server:
+  interface: 127.0.0.1@%(port)d
+  port: %(port)d
+  num-threads: 1
+  do-ip6: no
+  do-daemonize: no
+  username: ""
+  chroot: ""
+  directory: "%(folder)s"
+  pidfile: ""
+  use-syslog: no
+  logfile: ""
+  verbosity: 0
+  module-config: "iterator"
+  do-not-query-localhost: no
+  access-control: 127.0.0.0/8 allow
+  outgoing-range: 4096
+  num-queries-per-thread: 2048
+forward-zone:
+  name: "."
+  forward-addr: 127.0.1.1@%(server)d
+remote-control:
+  control-enable: no
+"""
+
+
+def ours(program, folder, port, server):
+    (folder / "resolv.conf").write_text("nameserver 127.0.1.1\n")
+    return [program, "--port", str(server), str(port), "18446744073709551615"]
+
+
+def unbound(_program, folder, port, server):
+    (folder / "unbound.conf").write_text(UNBOUND % {"port": port, "folder": folder, "server": server})
+    return ["unbound", "-c", str(folder / "unbound.conf")]
+
+
+def dnsmasq(_program, _folder, port, server):
+    return ["dnsmasq", "-k", "--port=%d" % port, "--listen-address=127.0.0.1", "--bind-interfaces", "--no-resolv", "--no-hosts", "--server=127.0.1.1#%d" % server,
+            "--cache-size=10000", "--user=root", "--pid-file=", "--dns-forward-max=2000"]
+
+
+FORWARDERS = {"ours": ours, "unbound": unbound, "dnsmasq": dnsmasq}
+
+
+def pinned(words, others):
+    """A command on the first processor, or on the others."""
+    count = os.cpu_count() or 1
+    if count < 2 or not shutil.which("taskset"):
+        return words
+    return ["taskset", "-c", "1-%d" % (count - 1) if others else "0"] + words
+
+
+def ticks(pid):
+    fields = Path("/proc/%d/stat" % pid).read_text().rsplit(")", 1)[1].split()
+    return int(fields[11]), int(fields[12])
+
+
+def ask(pid, port, names, seconds, outstanding):
+    """Microseconds a query that was answered, those in the system among them, how many a second, and what was lost or of another code."""
+    before = ticks(pid)
+    words = ["dnsperf", "-s", "127.0.0.1", "-p", str(port), "-d", str(names), "-l", str(seconds), "-c", "4", "-q", str(outstanding)]
+    out = subprocess.run(pinned(words, True), capture_output=True, text=True).stdout
+    after = ticks(pid)
+    answered = int(re.search(r"Queries completed:\s+(\d+)", out).group(1))
+    lost = int(re.search(r"Queries lost:\s+(\d+)", out).group(1))
+    rate = float(re.search(r"Queries per second:\s+([\d.]+)", out).group(1))
+    good = re.search(r"NOERROR (\d+)", out)
+    user, system = (after[0] - before[0]) / TICKS, (after[1] - before[1]) / TICKS
+    each = 1e6 / max(answered, 1)
+    return (user + system) * each, system * each, rate, lost, answered - (int(good.group(1)) if good else 0)
+
+
+def names_for_misses(folder, count, begin):
+    path = folder / ("misses%d" % begin)
+    with open(path, "w") as it:
+        for n in range(begin, begin + count):
+            it.write("m%d.example A\n" % n)
+    return path
+
+
+def measure(program, folder, port_of, server, rounds, seconds):
+    running, taken = {}, {}
+    try:
+        for name, made in FORWARDERS.items():
+            if name != "ours" and not shutil.which(name):
+                print("skipped: there is no " + name)
+                continue
+            port_of[name] = free_port()
+            words = pinned(made(program, folder, port_of[name], server), False)
+            source = open(folder / "resolv.conf", "rb") if name == "ours" else subprocess.DEVNULL
+            running[name] = subprocess.Popen(words, stdin=source, stdout=subprocess.DEVNULL, stderr=subprocess.DEVNULL)
+        time.sleep(1)
+        hits = folder / "hits"
+        hits.write_text("".join("h%d.example A\n" % n for n in range(HITS)))
+        begin = 0
+        for turn in range(rounds):
+            for name, child in running.items():
+                if turn == 0:
+                    subprocess.run(["dnsperf", "-s", "127.0.0.1", "-p", str(port_of[name]), "-d", str(hits), "-n", "2", "-c", "1", "-q", "20"], capture_output=True)
+                misses = names_for_misses(folder, MISSES, begin)
+                for kind, asked, outstanding in [("hit", hits, 200), ("miss", misses, 90)]:
+                    found = ask(child.pid, port_of[name], asked, seconds, outstanding)
+                    print("%-5s %-8s %6.2f us of processor, %5.2f in the system, %8.0f a second, %d lost, %d not NOERROR" % ((kind, name) + found))
+                    taken.setdefault((kind, name), []).append(found[0])
+                os.unlink(misses)
+            begin += MISSES
+    finally:
+        for child in running.values():
+            child.kill()
+            child.wait()
+    return taken
+
+
+def main():
+    if len(sys.argv) < 2:
+        sys.exit(__doc__)
+    if not (shutil.which("nsd") or os.path.exists("/usr/sbin/nsd")) or not shutil.which("dnsperf"):
+        print("skipped: there is no nsd, or no dnsperf")
+        return 0
+    rounds = int(sys.argv[2]) if len(sys.argv) > 2 else 5
+    seconds = int(sys.argv[3]) if len(sys.argv) > 3 else 3
+    server = free_port()
+    with tempfile.TemporaryDirectory() as place:
+        os.chmod(place, 0o755)
+        nsd = serve(place, server)
+        try:
+            taken = measure(os.path.abspath(sys.argv[1]), Path(place), {}, server, rounds, seconds)
+        finally:
+            nsd.terminate()
+            nsd.wait()
+    for kind in ["hit", "miss"]:
+        own = statistics.median(taken[(kind, "ours")])
+        for name in FORWARDERS:
+            if (kind, name) in taken:
+                median = statistics.median(taken[(kind, name)])
+                print("a %s: %s %.2f us (%.2f to %.2f), ours by it %.2f" % (kind, name, median, min(taken[(kind, name)]), max(taken[(kind, name)]), own / median))
+    return 0
+
+
+if __name__ == "__main__":
+    sys.exit(main())

@@ -1,0 +1,4 @@
+pub mod Ends
+pub mod Served
+pub mod Turning
+pub mod Written

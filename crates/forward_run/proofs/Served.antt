@@ -1,0 +1,66 @@
+-- A configuration that was served.
+use Rattle.std.proofs.Common.{◌≡◌, ◌<◌, ◌^◌, ℕ, List, [], ◌∷◌, map, Option, Some, None, ◌∙◌, ap, subst, lit≤}
+use Rattle.std.specs.Prelude.{IfSome}
+use Rattle.client_steps.specs.Whole.{Whole}
+use Rattle.command_parts.specs.Conf.{Configures}
+use Rattle.forward_words.specs.declared.options.Options.{Options}
+use Rattle.forward_words.specs.declared.words.Asked.{Asked}
+use Rattle.front_steps.specs.Steps.{Forwarding}
+use Rattle.proof_front.specs.Forwarding.{EveryForwardedTraceIsRight}
+use Rattle.resolv_conf.specs.declared.conf.ResolvConf.{ResolvConf}
+use Rattle.resolv_conf.specs.declared.server.ServerConf.{ServerConf}
+use Rattle.forward_run.specs.Front.{after_deed, after_deeds}
+use Rattle.forward_run.specs.Serving.{IsAnsweredIf, IsConfAsked, IsDeaf, IsNotListenedIf, IsServed, answered_line, begun_deeds, first_of}
+use Rattle.forward_run.specs.Settings.{cache_of, choice_of, conf_of, words_left}
+use Rattle.forward_run.specs.Turns.{Turned, World, rows_of, scene, within}
+use Rattle.forward_run.specs.declared.front.FrontDeed.{FrontDeed}
+use Rattle.forward_run.specs.declared.front.FrontDeed.TheVariants.{Learned, Listens}
+use Rattle.forward_run.proofs.Turning.{more_deeds}
+
+-- it is listened, and the servers are learned
+pub begun : (port : ℕ) (conf : ResolvConf) (servers : List ServerConf) (old listens new : Option (List FrontDeed))
+    → listens ≡ after_deed (Listens port) old → new ≡ after_deeds (map (λ server. Learned server) servers) listens → servers ≡ conf.servers
+    → new ≡ after_deeds (begun_deeds port conf) old
+begun port conf servers old listens new listened learned same =
+    more_deeds (Listens port ∷ []) (map (λ (server : ServerConf). Learned server) servers) old listens new listened learned
+    ∙ ap (λ (ss : List ServerConf). after_deeds (Listens port ∷ map (λ (server : ServerConf). Learned server) ss) old) same
+
+-- and turns are made
+pub served : (options : Options) (asked : Asked) (conf : ResolvConf) (answered : ℕ) (first last : Forwarding Whole) (old new : World) (deeds : Option (List FrontDeed)) (polls : ℕ)
+    → first ≡ first_of options conf → deeds ≡ after_deeds (begun_deeds asked.port conf) old.deeds → polls ≡ old.polls
+    → EveryForwardedTraceIsRight → ((k : ℕ) → old.words k < 2 ^ 64)
+    → Turned asked.turns answered (scene first old.words deeds polls old.moments) (within last new)
+    → IsServed options asked conf answered old new
+served options asked conf answered first last old new deeds polls made told same every small turned =
+    let P : Forwarding Whole → Option (List FrontDeed) → ℕ → Type 0 = λ f ds n. Turned asked.turns answered (scene f old.words ds n old.moments) (within last new) in
+    let start = first_of options conf in
+    let begins = after_deeds (begun_deeds asked.port conf) old.deeds in
+    let t : P start begins old.polls =
+    subst (λ (f : Forwarding Whole). P f begins old.polls) made (subst (λ (ds : Option (List FrontDeed)). P first ds old.polls) told (subst (λ (n : ℕ). P first deeds n) same turned)) in
+    record {
+      last = last;
+      turned = t;
+      right = every (choice_of options.policy) (cache_of options) conf old.words (rows_of t.turns) t.trace last new.words t.forwards (lit≤ tt) small;
+    }
+
+-- the servers of a configuration that was read are asked
+pub asked_of : (told left_text : Option (List ℕ)) (options : Options) (words left : ℕ → ℕ) (read conf : ResolvConf)
+    → IfSome told (λ text. Configures text read × (left_text ≡ Some [])) → conf ≡ conf_of options words read → left ≡ words_left options words read
+    → IfSome told (λ text. IsConfAsked options text words conf left)
+asked_of None left_text options words left read conf h is leaves = tt
+asked_of (Some text) left_text options words left read conf h is leaves = record { read = read; configures = h.0; conf_is = is; left_is = leaves }
+
+-- with what is written then
+pub answered_so : (told : Option (List ℕ)) (options : Options) (asked : Asked) (conf : ResolvConf) (left : ℕ → ℕ) (answered : ℕ) (line : List ℕ) (old new : World)
+    → IfSome told (λ text. IsConfAsked options text old.words conf left) → IsServed options asked conf answered (record old { words = left }) new → line ≡ answered_line answered
+    → IsAnsweredIf options asked told line old new
+answered_so None options asked conf left answered line old new h serves is = tt
+answered_so (Some text) options asked conf left answered line old new h serves is =
+    record { conf = conf; left = left; conf_asked = h; answered = answered; served = serves; line_is = is }
+
+-- or it can't be listened
+pub not_listened : (told : Option (List ℕ)) (options : Options) (port : ℕ) (conf : ResolvConf) (words left : ℕ → ℕ) (faults faults_after : ℕ)
+    → IfSome told (λ text. IsConfAsked options text words conf left) → IsDeaf options.listened port conf faults faults_after
+    → IsNotListenedIf options port told words faults faults_after
+not_listened None options port conf words left faults faults_after h deaf = tt
+not_listened (Some text) options port conf words left faults faults_after h deaf = record { conf = conf; left = left; conf_asked = h; deaf = deaf }

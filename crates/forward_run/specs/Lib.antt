@@ -1,0 +1,4 @@
+pub mod Front
+pub mod Settings
+pub mod Turns
+pub mod Serving

@@ -1,0 +1,64 @@
+//! The front of a forwarder: where its outs are acted on and its events come from.
+
+ghost use Rattle.std.specs.Prelude.{◌≡◌, ℕ, List, Option, OnOk, OnErr, IfOk};
+ghost use Rattle.dns_values.specs.Source.{Rose, one_more};
+ghost use Rattle.forward_run.specs.Front.{after_deed};
+ghost use Rattle.forward_run.specs.declared.front.FrontDeed.{FrontDeed};
+
+use client_request::Fault;
+use dns_base::NoMemory;
+use front_peers::{FrontOut, FrontWhat};
+use resolv_conf::ServerConf;
+
+/// What was done with a front.
+#[derive(Drop)]
+pub enum FrontDeed {
+    /// It listens on this port.
+    Listens(u16),
+    /// It was told of this server.
+    Learned(ServerConf),
+    /// It acted on this out.
+    Acted(FrontOut),
+    /// It was polled, and gave this or nothing.
+    Polled(Option<FrontWhat>),
+}
+
+/// Where a forwarder's outs are acted on, and its events come from.
+///
+/// Where a front knows what was done with it, it tells that as one list. It counts its polls, and the faults of its listening; a
+/// count stands still at its last value.
+pub trait Front {
+    ghost deeds: { Self → Option (List FrontDeed) };
+
+    ghost polls: { Self → ℕ };
+
+    ghost faults: { Self → ℕ };
+
+    /// Takes queries on a port from now on.
+    fn listen(&mut self, port: u16) -> Result<(), Fault>
+        ensures deeds { OnOk result (deeds self.new ≡ after_deed (FrontDeed.Listens port) (deeds self.old)) }
+        ensures polls { polls self.new ≡ polls self.old }
+        ensures refused { OnErr result (Rose (faults self.old) (faults self.new)) };
+
+    /// The next server's address, numbered from 0.
+    fn learn_server(&mut self, server: &ServerConf) -> Result<(), NoMemory>
+        ensures deeds { OnOk result (deeds self.new ≡ after_deed (FrontDeed.Learned server.now) (deeds self.old)) }
+        ensures polls { polls self.new ≡ polls self.old };
+
+    /// Does what an out asks for.
+    fn act(&mut self, out: &FrontOut) -> Result<(), NoMemory>
+        ensures deeds { OnOk result (deeds self.new ≡ after_deed (FrontDeed.Acted out.now) (deeds self.old)) }
+        ensures polls { polls self.new ≡ polls self.old };
+
+    /// What happened, if anything did.
+    fn poll(&mut self) -> Result<Option<FrontWhat>, NoMemory>
+        ensures deeds { IfOk result (λ what. deeds self.new ≡ after_deed (FrontDeed.Polled what) (deeds self.old)) }
+        ensures polls { OnOk result (polls self.new ≡ one_more (polls self.old)) };
+
+    /// Told before a poll: where nothing happened yet, the front may sleep until something does, but for no more than so many
+    /// microseconds. It does nothing else. A front that can't sleep, or has no need to, leaves this out.
+    fn wait(&mut self, _most: u128)
+        ensures deeds { deeds self.new ≡ deeds self.old }
+        ensures polls { polls self.new ≡ polls self.old }
+    {}
+}

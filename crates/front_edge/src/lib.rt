@@ -1,0 +1,21 @@
+//! The front of a forwarder over the system's sockets: listeners for datagrams and streams at each address that is listened on, the
+//! streams of peers, and the places of the client within, over which there is one wait.
+//!
+//! The books are those of `listener_peers` and `socket_places`. What stands here adapts: it is proved what becomes of each out and
+//! of what the books tell; of what the system gives, and of what becomes of what it is handed, no clause speaks.
+//!
+//! ```text
+//! let mut front = SocketFront::new(rt, alloc, addresses);
+//! ```
+#![tactic(auto)]
+
+mod address;
+mod dgrams;
+mod front;
+mod listeners;
+mod streams;
+
+pub use dgrams::SystemDgrams;
+pub use front::{ListenerFront, SocketFront};
+pub use listeners::{OpenListeners, SystemListeners};
+pub use streams::SystemStreams;

@@ -1,0 +1,64 @@
+//! What opens listeners.
+
+use crate::dgrams::SystemDgrams;
+use crate::streams::SystemStreams;
+use client_edge::{fault_of, system_address};
+use client_request::Fault;
+use dns_values::SocketAddr;
+use std::io;
+use std::net::{Net, TcpListener, TcpStream, UdpSocket};
+
+/// Opens listeners at addresses of this host.
+pub trait OpenListeners<D, L> {
+    /// One for datagrams. The fault says why it could not be opened.
+    fn open_dgrams(&mut self, addr: SocketAddr) -> Result<D, Fault>;
+
+    /// One for streams. The fault says why it could not be opened.
+    fn open_streams(&mut self, addr: SocketAddr) -> Result<L, Fault>;
+}
+
+/// Opens listeners of the system.
+#[derive(Drop)]
+pub struct SystemListeners<R: Net<Listener = TcpListener, Stream = TcpStream> + Copy> {
+    rt: R,
+}
+
+impl<R: Net<Listener = TcpListener, Stream = TcpStream> + Copy> SystemListeners<R> {
+    /// Over the system's network.
+    pub fn new(rt: R) -> SystemListeners<R> {
+        SystemListeners { rt }
+    }
+
+    /// A socket that is bound and does not wait.
+    fn bound(&self, addr: SocketAddr) -> io::Result<UdpSocket> {
+        let socket = UdpSocket::bind(&self.rt, system_address(addr))?;
+        socket.set_nonblocking(true)?;
+        Ok(socket)
+    }
+
+    /// A listener that does not wait.
+    fn listening(&self, addr: SocketAddr) -> io::Result<TcpListener> {
+        let listener = TcpListener::bind(&self.rt, system_address(addr))?;
+        listener.set_nonblocking(true)?;
+        Ok(listener)
+    }
+}
+
+impl<R: Net<Listener = TcpListener, Stream = TcpStream> + Copy> OpenListeners<
+    SystemDgrams,
+    SystemStreams,
+> for SystemListeners<R> {
+    fn open_dgrams(&mut self, addr: SocketAddr) -> Result<SystemDgrams, Fault> {
+        match self.bound(addr) {
+            Ok(socket) => Ok(SystemDgrams::new(socket)),
+            Err(error) => Err(fault_of(error.kind())),
+        }
+    }
+
+    fn open_streams(&mut self, addr: SocketAddr) -> Result<SystemStreams, Fault> {
+        match self.listening(addr) {
+            Ok(listener) => Ok(SystemStreams::new(listener)),
+            Err(error) => Err(fault_of(error.kind())),
+        }
+    }
+}
