@@ -1,0 +1,5 @@
+pub mod Backing
+pub mod Waiting
+pub mod Opening
+pub mod Serving
+pub mod Deciding

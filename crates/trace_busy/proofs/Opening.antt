@@ -1,0 +1,277 @@
+-- Whether an exchange of a request is open is what the definitions say.
+use Rattle.std.proofs.Common.{◌≡◌, ℕ, suc, ◌+◌, ◌<◌, ◌≤◌, ◌==◌, ◌&&◌, ◌||◌, ◌⊎◌, inl, inr, not, Bool, true, false, if◌then◌else◌, List, [], ◌∷◌, reverse, length, map, Option, Some, None, refl, sym, ap, ap₂, ◌∙◌, subst, arith}
+use Rattle.std.specs.Prelude.{is_some, nat_lt}
+use Rattle.std.proofs.lemmas.Bool.Decides.{nat_tests}
+use Rattle.number_table.specs.Entries.{entry_at}
+use Rattle.client_request.specs.Request.{Request}
+use Rattle.client_request.specs.declared.event.Via.{Via}
+use Rattle.client_request.specs.declared.event.Via.TheVariants.{Dgram, Stream}
+use Rattle.right_trace.specs.Trace.{History, Conf}
+use Rattle.right_trace.specs.Time.{now, stream_timeout}
+use Rattle.right_trace.specs.Messages.{Octets, CarriesBy}
+use Rattle.right_trace.specs.Requests.{Asking, asking, replied, start, started, same_via}
+use Rattle.right_trace.specs.Places.{Site, site, is_of_kind, stand, Stand, Unused, Opening, Alive, Gone, is_alive}
+use Rattle.right_trace.specs.Parts.{IsIn}
+use Rattle.right_trace.specs.Frames.{brings, came_here}
+use Rattle.right_trace.specs.Writes.{Written, waiting_with}
+use Rattle.right_trace.specs.Exchanges.{Stands, IsOpenWith, IsLeftOpen, IsAmong, unanswered, octets_for, is_before, waited_for}
+use Rattle.right_trace.specs.Busy.{IsBusyAt, Exchanging}
+use Rattle.trace_tables.specs.declared.places.Place.{Place}
+use Rattle.trace_tables.specs.declared.sends.Sent.{Sent}
+use Rattle.trace_tables.specs.Known.{stand_of, stand_seen, site_seen}
+use Rattle.trace_tables.specs.Lists.{listed}
+use Rattle.trace_tables.specs.Requests.{start_seen, started_seen}
+use Rattle.trace_frames.specs.Frames.{frames_of}
+use Rattle.trace_frames.specs.Waiting.{waiting_seen}
+use Rattle.message_matching.specs.Matching.{carries_by}
+use Rattle.message_matching.proofs.Requests.{carries_so, so_carries}
+use Rattle.trace_questions.specs.declared.configured.ServerUse.{ServerUse}
+use Rattle.trace_questions.specs.Configured.{use_of}
+use Rattle.trace_questions.proofs.Deciding.{both, all, not_true}
+use Rattle.trace_exchanges.specs.Coming.{is_young}
+use Rattle.trace_exchanges.specs.Open.{is_for, octets_of}
+use Rattle.trace_exchanges.proofs.Finding.{own, in_reverse, reverse_in, sent_so, so_sent, written_so, so_written}
+use Rattle.trace_due.specs.Loose.{brings_seen}
+use Rattle.trace_due.proofs.Waits.{freeing, brings_is}
+use Rattle.trace_busy.specs.declared.waits.Spot.{Spot}
+use Rattle.trace_busy.specs.declared.busy.Scene.{Scene}
+use Rattle.trace_busy.specs.Waits.{is_spot}
+use Rattle.trace_busy.specs.Busy.{Known, some_sent, some_written, is_open_by, is_handed, is_open_at, some_open}
+
+pub either : (a b : Bool) → (a || b) ≡ true → (a ≡ true) ⊎ (b ≡ true)
+either true b e = inl refl
+either false b e = inr e
+
+pub first_true : (a b : Bool) → a ≡ true → (a || b) ≡ true
+first_true a b e = ap (λ a. a || b) e
+
+pub second_true : (a b : Bool) → b ≡ true → (a || b) ≡ true
+second_true true b e = refl
+second_true false b e = e
+
+same_number : (a b : ℕ) → (a == b) ≡ true → a ≡ b
+same_number a b e = grind (arith, nat_tests)
+
+lt_so : (a b : ℕ) → nat_lt a b ≡ true → a < b
+lt_so a b e = grind (arith, nat_tests)
+
+so_lt : (a b : ℕ) → a < b → nat_lt a b ≡ true
+so_lt a b lt = grind (arith, nat_tests)
+
+-- what is found of sends and writes
+record SentSo (r : Request) (k id n : ℕ) (xs : List Sent) : Type 0 where
+  send : Sent
+  there : IsIn send xs
+  is_it : is_for k id n send ≡ true
+  carries : carries_by Dgram send.octets r id ≡ true
+
+found_sent : (r : Request) (k id n : ℕ) (xs : List Sent) → some_sent r k id n xs ≡ true → SentSo r k id n xs
+found_sent r k id n [] e = absurd (cc)
+found_sent r k id n (x ∷ xs) e = go (found_sent r k id n xs) (either (is_for k id n x && carries_by Dgram x.octets r id) _ e)
+  where
+    go : (some_sent r k id n xs ≡ true → SentSo r k id n xs) → ((is_for k id n x && carries_by Dgram x.octets r id) ≡ true) ⊎ (some_sent r k id n xs ≡ true) → SentSo r k id n (x ∷ xs)
+    go rest (inl e) = (let q = both (is_for k id n x) (carries_by Dgram x.octets r id) e in record { send = x; there = inl refl; is_it = q.0; carries = q.1 })
+    go rest (inr e) = (let f = rest e in record { send = f.send; there = inr f.there; is_it = f.is_it; carries = f.carries })
+
+finds_sent : (r : Request) (k id n : ℕ) (y : Sent) (xs : List Sent) → IsIn y xs → is_for k id n y ≡ true → carries_by Dgram y.octets r id ≡ true → some_sent r k id n xs ≡ true
+finds_sent r k id n y [] i e c = absurd i
+finds_sent r k id n y (x ∷ xs) (inl s) e c = first_true _ _ (ap (λ (x : Sent). is_for k id n x && carries_by Dgram x.octets r id) s ∙ all (is_for k id n y) (carries_by Dgram y.octets r id) e c)
+finds_sent r k id n y (x ∷ xs) (inr i) e c = second_true _ _ (finds_sent r k id n y xs i e c)
+
+record WrittenSo (r : Request) (k id : ℕ) (ws : List Written) : Type 0 where
+  write : Written
+  there : IsIn write ws
+  is_request : write.request ≡ k
+  carries : carries_by Stream write.octets r id ≡ true
+
+found_written : (r : Request) (k id : ℕ) (ws : List Written) → some_written r k id ws ≡ true → WrittenSo r k id ws
+found_written r k id [] e = absurd (cc)
+found_written r k id (w ∷ ws) e = go (found_written r k id ws) (either ((w.request == k) && carries_by Stream w.octets r id) _ e)
+  where
+    go : (some_written r k id ws ≡ true → WrittenSo r k id ws) → (((w.request == k) && carries_by Stream w.octets r id) ≡ true) ⊎ (some_written r k id ws ≡ true) → WrittenSo r k id (w ∷ ws)
+    go rest (inl e) = (let q = both (w.request == k) (carries_by Stream w.octets r id) e in record { write = w; there = inl refl; is_request = same_number w.request k q.0; carries = q.1 })
+    go rest (inr e) = (let f = rest e in record { write = f.write; there = inr f.there; is_request = f.is_request; carries = f.carries })
+
+finds_written : (r : Request) (k id : ℕ) (y : Written) (ws : List Written) → IsIn y ws → y.request ≡ k → carries_by Stream y.octets r id ≡ true → some_written r k id ws ≡ true
+finds_written r k id y [] i e c = absurd i
+finds_written r k id y (w ∷ ws) (inl s) e c =
+    first_true _ _ (ap (λ (w : Written). (w.request == k) && carries_by Stream w.octets r id) s ∙ all (y.request == k) (carries_by Stream y.octets r id) (ap (λ (n : ℕ). n == k) e ∙ own k) c)
+finds_written r k id y (w ∷ ws) (inr i) e c = second_true _ _ (finds_written r k id y ws i e c)
+
+before_is : (n : ℕ) (o : Option ℕ) → is_young n o ≡ is_before n o
+unfolding stream_timeout
+before_is n None = refl
+before_is n (Some t) = refl
+
+alive_is : (x : Stand) → is_alive x ≡ true → x ≡ Alive
+alive_is Unused e = absurd (cc)
+alive_is Opening e = absurd (cc)
+alive_is Alive e = refl
+alive_is Gone e = absurd (cc)
+
+as_long : (us : List ServerUse) → length (map use_of us) ≡ length us
+as_long [] = refl
+as_long (u ∷ us) = ap suc (as_long us)
+
+abbrev via_or : Option Site → Via
+via_or None = Dgram
+via_or (Some z) = z.via
+
+abbrev server_or : Option Site → ℕ
+server_or None = 0
+server_or (Some z) = z.server
+
+module _ (c : Conf) (end : History) (t : Scene) (servers : c.servers ≡ map use_of t.servers.now) (known : Known end t) where
+  abbrev clock : ℕ
+  clock = t.ledger.now.books.requests.clock
+
+  long : length c.servers ≡ length t.servers.now
+  long = ap length servers ∙ as_long t.servers.now
+
+  -- by datagrams
+  dgram_so : (r : Request) (k p id : ℕ) (m : ℕ) → asking k end ≡ Some (record { request = r; moment = m }) → is_of_kind Stream (site p end) ≡ false → some_sent r k id t.ledger.now.books.requests.clock (listed p t.sends.now) ≡ true
+      → (o : Octets) × IsAmong o (unanswered r p k id (now end) end) × CarriesBy Dgram o r id
+  dgram_so r k p id m asked kind e =
+      let f = found_sent r k id t.ledger.now.books.requests.clock (listed p t.sends.now) e in
+      let y = f.send in
+      let q = both ((y.request == k) && (y.id == id)) (nat_lt t.ledger.now.books.requests.clock (y.moment + 5000000)) f.is_it in
+      let i = both (y.request == k) (y.id == id) q.0 in
+      let am : IsAmong y.octets (octets_of y.request y.id t.ledger.now.books.requests.clock (reverse (listed p t.sends.now))) = so_sent t.ledger.now.books.requests.clock y (reverse (listed p t.sends.now)) (reverse_in y (listed p t.sends.now) f.there) q.1 in
+      let an : IsAmong y.octets (octets_of k id (now end) (reverse (listed p t.sends.now))) =
+      subst (λ (n : ℕ). IsAmong y.octets (octets_of k id n (reverse (listed p t.sends.now)))) known.ledger.books.requests.time
+      (subst (λ (id : ℕ). IsAmong y.octets (octets_of k id t.ledger.now.books.requests.clock (reverse (listed p t.sends.now)))) (same_number y.id id i.1)
+      (subst (λ (k : ℕ). IsAmong y.octets (octets_of k y.id t.ledger.now.books.requests.clock (reverse (listed p t.sends.now)))) (same_number y.request k i.0) am)) in
+      (y.octets, subst (IsAmong y.octets) (known.sends.waits k p id (now end) (record { request = r; moment = m }) kind asked) an, carries_so Dgram y.octets r id f.carries)
+
+  so_dgram : (r : Request) (k p id : ℕ) (m : ℕ) → asking k end ≡ Some (record { request = r; moment = m }) → is_of_kind Stream (site p end) ≡ false → (o : Octets) → IsAmong o (unanswered r p k id (now end) end) → CarriesBy Dgram o r id
+      → some_sent r k id t.ledger.now.books.requests.clock (listed p t.sends.now) ≡ true
+  so_dgram r k p id m asked kind o am c =
+      let f = sent_so k id (now end) o (reverse (listed p t.sends.now)) (subst (IsAmong o) (sym (known.sends.waits k p id (now end) (record { request = r; moment = m }) kind asked)) am) in
+      let y = f.send in
+      finds_sent r k id t.ledger.now.books.requests.clock y (listed p t.sends.now) (in_reverse y (listed p t.sends.now) f.there)
+      (all ((y.request == k) && (y.id == id)) _ (all (y.request == k) (y.id == id) (ap (λ (n : ℕ). n == k) f.is_request ∙ own k) (ap (λ (n : ℕ). n == id) f.is_id ∙ own id)) (ap (λ (n : ℕ). nat_lt n (y.moment + 5000000)) known.ledger.books.requests.time ∙ f.young))
+      (so_carries Dgram y.octets r id (subst (λ (o : Octets). CarriesBy Dgram o r id) (sym f.is_octets) c))
+
+  -- by stream
+  left_waiting : (p id : ℕ) → brings_seen id (frames_of p t.ledger.now.frames.brought) ≡ false → waiting_seen p id t.ledger.now.waiting ≡ waiting_with (came_here p end) p id end
+  left_waiting p id e =
+      known.ledger.waiting.waits p id
+      ∙ sym (freeing (came_here p end) p id end ∙ ap (λ b. if b then [] else waiting_with [] p id end) (sym (brings_is id (came_here p end)) ∙ (ap (brings_seen id) (sym (known.ledger.frames.here p)) ∙ e)))
+
+  brought_gone : (p id : ℕ) → brings_seen id (frames_of p t.ledger.now.frames.brought) ≡ true → waiting_with (came_here p end) p id end ≡ []
+  brought_gone p id e = freeing (came_here p end) p id end ∙ ap (λ b. if b then [] else waiting_with [] p id end) (sym (brings_is id (came_here p end)) ∙ (ap (brings_seen id) (sym (known.ledger.frames.here p)) ∙ e))
+
+  young_is : (k s : ℕ) → is_young t.ledger.now.books.requests.clock (start_seen k s Stream t.ledger.now.books.requests) ≡ is_before (now end) (start k s Stream end)
+  young_is k s = before_is t.ledger.now.books.requests.clock (start_seen k s Stream t.ledger.now.books.requests) ∙ ap₂ is_before known.ledger.books.requests.time (known.ledger.books.requests.starts k s Stream)
+
+  stream_so : (r : Request) (k p id s : ℕ) → is_open_by Stream r k p id s t ≡ true → (o : Octets) × IsAmong o (waited_for Stream r s p k id (now end) (came_here p end) end end) × CarriesBy Stream o r id
+  stream_so r k p id s e =
+      let q = both (is_young t.ledger.now.books.requests.clock (start_seen k s Stream t.ledger.now.books.requests)) _ e in
+      let u = both (not (brings_seen id (frames_of p t.ledger.now.frames.brought))) _ q.1 in
+      let f = found_written r k id (waiting_seen p id t.ledger.now.waiting) u.1 in
+      let w = f.write in
+      let am : IsAmong w.octets (octets_for k (waiting_seen p id t.ledger.now.waiting)) = subst (λ (k : ℕ). IsAmong w.octets (octets_for k (waiting_seen p id t.ledger.now.waiting))) f.is_request (so_written w (waiting_seen p id t.ledger.now.waiting) f.there) in
+      let an : IsAmong w.octets (octets_for k (waiting_with (came_here p end) p id end)) = subst (λ (ws : List Written). IsAmong w.octets (octets_for k ws)) (left_waiting p id (not_true (brings_seen id (frames_of p t.ledger.now.frames.brought)) u.0)) am in
+      (w.octets, subst (λ b. IsAmong w.octets (if b then octets_for k (waiting_with (came_here p end) p id end) else [])) (sym (sym (young_is k s) ∙ q.0)) an, carries_so Stream w.octets r id f.carries)
+
+  so_stream : (r : Request) (k p id s : ℕ) (o : Octets) → IsAmong o (waited_for Stream r s p k id (now end) (came_here p end) end end) → CarriesBy Stream o r id → is_open_by Stream r k p id s t ≡ true
+  so_stream r k p id s o am c = young (is_before (now end) (start k s Stream end)) refl am
+    where
+      left : (b : Bool) → brings_seen id (frames_of p t.ledger.now.frames.brought) ≡ b → IsAmong o (octets_for k (waiting_with (came_here p end) p id end)) → (not b && some_written r k id (waiting_seen p id t.ledger.now.waiting)) ≡ true
+      left true i am = absurd (subst (λ (ws : List Written). IsAmong o (octets_for k ws)) (brought_gone p id i) am)
+      left false i am =
+          let f = written_so k o (waiting_seen p id t.ledger.now.waiting) (subst (λ (ws : List Written). IsAmong o (octets_for k ws)) (sym (left_waiting p id i)) am) in
+          finds_written r k id f.write (waiting_seen p id t.ledger.now.waiting) f.there f.is_request (so_carries Stream f.write.octets r id (subst (λ (o : Octets). CarriesBy Stream o r id) (sym f.is_octets) c))
+
+      young : (b : Bool) → is_before (now end) (start k s Stream end) ≡ b → IsAmong o (if b then octets_for k (waiting_with (came_here p end) p id end) else []) → is_open_by Stream r k p id s t ≡ true
+      young true i am =
+          all (is_young t.ledger.now.books.requests.clock (start_seen k s Stream t.ledger.now.books.requests)) _ (young_is k s ∙ i)
+          (left (brings_seen id (frames_of p t.ledger.now.frames.brought)) refl am)
+      young false i am = absurd am
+
+  begun_is : (k s : ℕ) (v : Via) → started_seen k s v t.ledger.now.books.requests ≡ started k s v end
+  begun_is k s v = ap is_some (known.ledger.books.requests.starts k s v)
+
+  -- at a place
+  module _ (k m : ℕ) (r : Request) (asked : asking k end ≡ Some (record { request = r; moment = m })) (waiting : replied k end ≡ false) where
+    stands_so : (y : Spot) (x : Place) → entry_at y.place t.ledger.now.books.places ≡ Some x → is_alive (stand_of x.stand) ≡ true → nat_lt x.server (length t.servers.now) ≡ true → Stands c r x.via x.server y.place k end
+    stands_so y x there alive lt = record {
+      asked = (m, asked);
+      waiting = waiting;
+      alive = sym (known.ledger.books.places.stands y.place) ∙ (ap stand_seen there ∙ alive_is (stand_of x.stand) alive);
+      at = sym (known.ledger.books.places.sites y.place) ∙ ap site_seen there;
+      known = subst (λ (n : ℕ). x.server < n) (sym long) (lt_so x.server (length t.servers.now) lt);
+    }
+
+    handed_by : (s : ℕ) → is_handed k s t ≡ true → (u : Via) × (started k s u end ≡ true)
+    handed_by s e = go (either (started_seen k s Dgram t.ledger.now.books.requests) _ e)
+      where
+        go : (started_seen k s Dgram t.ledger.now.books.requests ≡ true) ⊎ (started_seen k s Stream t.ledger.now.books.requests ≡ true) → (u : Via) × (started k s u end ≡ true)
+        go (inl e) = (Dgram, sym (begun_is k s Dgram) ∙ e)
+        go (inr e) = (Stream, sym (begun_is k s Stream) ∙ e)
+
+    waited_so : (v : Via) (p id s : ℕ) → site p end ≡ Some (record { via = v; server = s }) → is_open_by v r k p id s t ≡ true → (o : Octets) × IsAmong o (waited_for v r s p k id (now end) (came_here p end) end end) × CarriesBy v o r id
+    waited_so Dgram p id s at e = dgram_so r k p id m asked (ap (is_of_kind Stream) at) e
+    waited_so Stream p id s at e = stream_so r k p id s e
+
+    open_so : (y : Spot) (o : Option Place) → entry_at y.place t.ledger.now.books.places ≡ o → is_open_at r k y o t ≡ true → (s : ℕ) × IsBusyAt c s k end
+    open_so y None there e = absurd (cc)
+    open_so y (Some x) there e =
+        let q = both (is_alive (stand_of x.stand) && nat_lt x.server (length t.servers.now)) _ e in
+        let a = both (is_alive (stand_of x.stand)) (nat_lt x.server (length t.servers.now)) q.0 in
+        let b = both (is_handed k x.server t) _ q.1 in
+        let stands = stands_so y x there a.0 a.1 in
+        let h = handed_by x.server b.0 in
+        let w = waited_so x.via y.place y.id x.server stands.at b.1 in
+        (x.server, Exchanging r x.via h.0 y.place y.id h.1 (record { stands = stands; octets = w.0; sent = w.1; carries = w.2 }))
+
+    pub some_so : (ys : List Spot) → some_open r k ys t ≡ true → (s : ℕ) × IsBusyAt c s k end
+    some_so [] e = absurd (cc)
+    some_so (y ∷ ys) e = go (some_so ys) (either (is_open_at r k y (entry_at y.place t.ledger.now.books.places) t) _ e)
+      where
+        go : (some_open r k ys t ≡ true → (s : ℕ) × IsBusyAt c s k end) → (is_open_at r k y (entry_at y.place t.ledger.now.books.places) t ≡ true) ⊎ (some_open r k ys t ≡ true) → (s : ℕ) × IsBusyAt c s k end
+        go rest (inl e) = open_so y (entry_at y.place t.ledger.now.books.places) refl e
+        go rest (inr e) = rest e
+
+    -- the other way
+    opened_is : (v : Via) (p id s : ℕ) → site p end ≡ Some (record { via = v; server = s }) → (o : Octets) → IsAmong o (waited_for v r s p k id (now end) (came_here p end) end end) → CarriesBy v o r id → is_open_by v r k p id s t ≡ true
+    opened_is Dgram p id s at o am c = so_dgram r k p id m asked (ap (is_of_kind Stream) at) o am c
+    opened_is Stream p id s at o am c = so_stream r k p id s o am c
+
+    spot_is : (v : Via) (p id s : ℕ) (o : Octets) → IsAmong o (waited_for v r s p k id (now end) (came_here p end) end end) → is_spot p id (listed k t.waits.now.spots) ≡ true
+    spot_is Dgram p id s o am = known.waits.sent r k p id (now end) o am
+    spot_is Stream p id s o am = go (is_before (now end) (start k s Stream end)) am
+      where
+        go : (b : Bool) → IsAmong o (if b then octets_for k (waiting_with (came_here p end) p id end) else []) → is_spot p id (listed k t.waits.now.spots) ≡ true
+        go true am = known.waits.written (came_here p end) k p id o am
+        go false am = absurd am
+
+    handed_is : (s : ℕ) (u : Via) → started k s u end ≡ true → is_handed k s t ≡ true
+    handed_is s Dgram e = first_true (started_seen k s Dgram t.ledger.now.books.requests) _ (begun_is k s Dgram ∙ e)
+    handed_is s Stream e = second_true (started_seen k s Dgram t.ledger.now.books.requests) _ (begun_is k s Stream ∙ e)
+
+    at_entry : (v u : Via) (p id s : ℕ) (o : Option Place) → site_seen o ≡ Some (record { via = v; server = s }) → stand_seen o ≡ Alive → s < length c.servers → started k s u end ≡ true → is_open_by v r k p id s t ≡ true → is_open_at r k (record { place = p; id = id }) o t ≡ true
+    at_entry v u p id s None e st lt begun left = absurd (let z : None ≡ Some (record { via = v; server = s }) = e in cc)
+    at_entry v u p id s (Some x) e st lt begun left =
+        let i : x.via ≡ v = ap via_or e in
+        let j : x.server ≡ s = ap server_or e in
+        all (is_alive (stand_of x.stand) && nat_lt x.server (length t.servers.now)) _
+        (all (is_alive (stand_of x.stand)) (nat_lt x.server (length t.servers.now)) (ap is_alive st) (so_lt x.server (length t.servers.now) (subst (λ (n : ℕ). x.server < n) long (subst (λ (s : ℕ). s < length c.servers) (sym j) lt))))
+        (all (is_handed k x.server t) _ (ap (λ (s : ℕ). is_handed k s t) j ∙ handed_is s u begun)
+        (ap₂ (λ (v : Via) (s : ℕ). is_open_by v r k p id s t) i j ∙ left))
+
+    some_at : (p id : ℕ) (ys : List Spot) → is_spot p id ys ≡ true → is_open_at r k (record { place = p; id = id }) (entry_at p t.ledger.now.books.places) t ≡ true → some_open r k ys t ≡ true
+    some_at p id [] e left = absurd (cc)
+    some_at p id (y ∷ ys) e left = go (λ e. some_at p id ys e left) (either ((y.place == p) && (y.id == id)) _ e)
+      where
+        go : (is_spot p id ys ≡ true → some_open r k ys t ≡ true) → (((y.place == p) && (y.id == id)) ≡ true) ⊎ (is_spot p id ys ≡ true) → (is_open_at r k y (entry_at y.place t.ledger.now.books.places) t || some_open r k ys t) ≡ true
+        go rest (inl e) =
+            let q = both (y.place == p) (y.id == id) e in
+            first_true _ _ (ap₂ (λ (p id : ℕ). is_open_at r k (record { place = p; id = id }) (entry_at p t.ledger.now.books.places) t) (same_number y.place p q.0) (same_number y.id id q.1) ∙ left)
+        go rest (inr e) = second_true _ _ (rest e)
+
+    pub so_some : (v u : Via) (s p id : ℕ) → started k s u end ≡ true → IsLeftOpen c r v s p k id end → some_open r k (listed k t.waits.now.spots) t ≡ true
+    so_some v u s p id begun is =
+        some_at p id (listed k t.waits.now.spots) (spot_is v p id s is.octets is.sent)
+        (at_entry v u p id s (entry_at p t.ledger.now.books.places) (known.ledger.books.places.sites p ∙ is.stands.at) (known.ledger.books.places.stands p ∙ is.stands.alive) is.stands.known begun
+        (opened_is v p id s is.stands.at is.octets is.sent is.carries))

@@ -1,0 +1,205 @@
+-- What is kept of requests that wait goes on.
+use Rattle.std.proofs.Common.{◌≡◌, ℕ, suc, ◌+◌, ◌<◌, ◌≤◌, ◌==◌, ◌&&◌, ◌||◌, ◌⊎◌, inl, inr, not, max, Bool, true, false, if◌then◌else◌, List, [], ◌∷◌, Option, Some, None, refl, sym, ap, ap₂, ◌∙◌, subst, arith}
+use Rattle.std.specs.Prelude.{is_some, nat_lt}
+use Rattle.std.proofs.lemmas.Bool.Decides.{nat_tests}
+use Rattle.number_table.specs.Entries.{puts, frees, entry_at}
+use Rattle.client_request.specs.Request.{Request}
+use Rattle.client_request.specs.declared.event.Event.{Event}
+use Rattle.client_request.specs.declared.event.What.{What}
+use Rattle.client_request.specs.declared.event.What.TheVariants.{Ask, Opened, OpenFailed, SendFailed, ShortSend, Datagram, RecvFailed, Wrote, WriteFailed, Bytes, ReadFailed, Ended, Tick}
+use Rattle.client_request.specs.declared.event.Out.{Out}
+use Rattle.client_request.specs.declared.event.Out.TheVariants.{Start, OpenDgram, OpenStream, Send, Write, Resume, Close, Stale, Reply}
+use Rattle.right_trace.specs.Trace.{History, Came, Put}
+use Rattle.right_trace.specs.Time.{now, read_timeout}
+use Rattle.right_trace.specs.Messages.{Octets, is_valid}
+use Rattle.right_trace.specs.Requests.{Asking, asking, asking_of, asks, is_ask, replied, waits}
+use Rattle.right_trace.specs.Frames.{brings, came, came_here}
+use Rattle.right_trace.specs.Writes.{Written, is_write, written_by, waiting_with}
+use Rattle.right_trace.specs.Exchanges.{IsAmong, has_answer, is_send, sent_octets, unanswered, octets_for}
+use Rattle.trace_tables.specs.declared.requests.Requests.{Requests}
+use Rattle.trace_tables.specs.Lists.{listed, adds}
+use Rattle.trace_tables.specs.Requests.{replied_seen}
+use Rattle.trace_tables.specs.Requests as requests
+use Rattle.trace_tables.proofs.Listing.{listed_adds}
+use Rattle.trace_sets.specs.Sets.{Members, Rise}
+use Rattle.trace_sets.proofs.Keeping as sets
+use Rattle.trace_loads.proofs.Meeting.{asked_below}
+use Rattle.trace_busy.specs.declared.waits.Spot.{Spot}
+use Rattle.trace_busy.specs.declared.waits.Waits.{Waits}
+use Rattle.trace_busy.specs.Waits.{Known, GoesOn, nothing, joined, is_asked, met, goes_to, has_put, is_valid_asking, waits_validly, is_spot}
+
+same_number : (a b : ℕ) → (a == b) ≡ true → a ≡ b
+same_number a b e = grind (arith, nat_tests)
+
+first_true : (a b : Bool) → a ≡ true → (a || b) ≡ true
+first_true a b e = ap (λ a. a || b) e
+
+second_true : (a b : Bool) → b ≡ true → (a || b) ≡ true
+second_true true b e = refl
+second_true false b e = e
+
+-- events
+
+sent_event : (h : History) (e : Event) (r : Request) (k p id n : ℕ) (o : Octets) → IsAmong o (unanswered r p k id n (Came e ∷ h)) → IsAmong o (unanswered r p k id n h)
+sent_event h e r k p id n o = go (has_answer r id (came p e.what h))
+  where
+    go : (b : Bool) → IsAmong o (if b then [] else unanswered r p k id n h) → IsAmong o (unanswered r p k id n h)
+    go true i = absurd i
+    go false i = i
+
+written_event : (h : History) (e : Event) (ms : List Octets) (k p id : ℕ) (o : Octets) → IsAmong o (octets_for k (waiting_with ms p id (Came e ∷ h))) → IsAmong o (octets_for k (waiting_with (came_here p h) p id h))
+written_event h e ms k p id o = go (brings id ms)
+  where
+    go : (b : Bool) → IsAmong o (octets_for k (if b then [] else waiting_with (came_here p h) p id h)) → IsAmong o (octets_for k (waiting_with (came_here p h) p id h))
+    go true i = absurd i
+    go false i = i
+
+none_asked : (k : ℕ) (h : History) → asks h ≡ k → is_some (asking k h) ≡ false
+none_asked k h e = go (is_some (asking k h)) refl
+  where
+    less : (a b : ℕ) → a ≡ b → b < a → ⊥
+    less a b e lt = omega arith
+
+    go : (b : Bool) → is_some (asking k h) ≡ b → b ≡ false
+    go true i = absurd (less (asks h) k e (asked_below k h i))
+    go false i = refl
+
+-- the next request is asked
+module _ (h : History) (r : Requests) (t : Waits) (kr : requests.Known h r) (is : Known h t) (e : Event) where
+  asked_waits : (q : Request) (k : ℕ) → is_some (entry_at k (joined (is_valid q && not (replied_seen r.asked r)) r.asked t.requests)) ≡ ((is_some (if asks h == k then Some (record { request = q; moment = max e.moment.0 (now h) }) else asking k h) && not (replied k h)) && is_valid_asking (if asks h == k then Some (record { request = q; moment = max e.moment.0 (now h) }) else asking k h))
+  asked_waits q k = go (asks h == k) refl (is_valid q && not (replied_seen r.asked r)) refl
+    where
+      none : (x : Bool) (o : Option Asking) → is_some o ≡ false → ((is_some o && x) && is_valid_asking o) ≡ false
+      none x None i = refl
+      none x (Some a) i = absurd (cc)
+
+      flip : (a b : Bool) → (a && b) ≡ ((true && b) && a)
+      flip true true = refl
+      flip true false = refl
+      flip false true = refl
+      flip false false = refl
+
+      replied_is : (asks h == k) ≡ true → replied_seen r.asked r ≡ replied k h
+      replied_is i = ap (λ (n : ℕ). replied_seen n r) (kr.count ∙ same_number (asks h) k i) ∙ kr.replies k
+
+      put_here : (c : Bool) → (asks h == k) ≡ true → is_some (entry_at k (joined c r.asked t.requests)) ≡ c
+      put_here true i = ap is_some (sets.at_puts r.asked tt k t.requests ∙ ap (λ b. if b then Some tt else entry_at k t.requests) (ap (λ (n : ℕ). n == k) kr.count ∙ i))
+      put_here false i = is.requests k ∙ none (not (replied k h)) (asking k h) (none_asked k h (same_number (asks h) k i))
+
+      put_there : (c : Bool) → (asks h == k) ≡ false → is_some (entry_at k (joined c r.asked t.requests)) ≡ is_some (entry_at k t.requests)
+      put_there true i = ap is_some (sets.at_puts r.asked tt k t.requests ∙ ap (λ b. if b then Some tt else entry_at k t.requests) (ap (λ (n : ℕ). n == k) kr.count ∙ i))
+      put_there false i = refl
+
+      go : (b : Bool) → (asks h == k) ≡ b → (c : Bool) → (is_valid q && not (replied_seen r.asked r)) ≡ c
+          → is_some (entry_at k (joined c r.asked t.requests)) ≡ ((is_some (if b then Some (record { request = q; moment = max e.moment.0 (now h) }) else asking k h) && not (replied k h)) && is_valid_asking (if b then Some (record { request = q; moment = max e.moment.0 (now h) }) else asking k h))
+      go true i c j = put_here c i ∙ (sym j ∙ (ap (λ x. is_valid q && not x) (replied_is i) ∙ flip (is_valid q) (not (replied k h))))
+      go false i c j = put_there c i ∙ is.requests k
+
+  joined_rise : (c : Bool) → Rise 0 (joined c r.asked t.requests)
+  joined_rise true = sets.rise_puts 0 r.asked t.requests (omega arith) is.rise
+  joined_rise false = is.rise
+
+  asks_one : (q : Request) → e.what ≡ Ask q → Known (Came e ∷ h) (is_asked q r t)
+  asks_one q i = record {
+    requests = λ k. asked_waits q k ∙ sym (ap (λ w. (is_some (if is_ask w && (asks h == k) then asking_of w (max e.moment.0 (now h)) else asking k h) && not (replied k h)) && is_valid_asking (if is_ask w && (asks h == k) then asking_of w (max e.moment.0 (now h)) else asking k h)) i);
+    rise = joined_rise (is_valid q && not (replied_seen r.asked r));
+    sent = λ q k p id n o am. is.sent q k p id n o (sent_event h e q k p id n o am);
+    written = λ ms k p id o am. is.written (came_here p h) k p id o (written_event h e ms k p id o am);
+  }
+
+  quiet : (w : What) → e.what ≡ w → is_ask w ≡ false → Known (Came e ∷ h) t
+  quiet w i silent = record {
+    requests = λ k. is.requests k ∙ sym (ap (λ b. (is_some (if b && (asks h == k) then asking_of e.what (max e.moment.0 (now h)) else asking k h) && not (replied k h)) && is_valid_asking (if b && (asks h == k) then asking_of e.what (max e.moment.0 (now h)) else asking k h)) (ap is_ask i ∙ silent));
+    rise = is.rise;
+    sent = λ q k p id n o am. is.sent q k p id n o (sent_event h e q k p id n o am);
+    written = λ ms k p id o am. is.written (came_here p h) k p id o (written_event h e ms k p id o am);
+  }
+
+  pub known_met : Known (Came e ∷ h) (met e.what r t)
+  known_met = go e.what refl
+    where
+      go : (w : What) → e.what ≡ w → Known (Came e ∷ h) (met w r t)
+      go (Ask q) i = asks_one q i
+      go (Opened p) i = quiet (Opened p) i refl
+      go (OpenFailed p f) i = quiet (OpenFailed p f) i refl
+      go (SendFailed p f) i = quiet (SendFailed p f) i refl
+      go (ShortSend p) i = quiet (ShortSend p) i refl
+      go (Datagram p o) i = quiet (Datagram p o) i refl
+      go (RecvFailed p f) i = quiet (RecvFailed p f) i refl
+      go (Wrote p n) i = quiet (Wrote p n) i refl
+      go (WriteFailed p f) i = quiet (WriteFailed p f) i refl
+      go (Bytes p o) i = quiet (Bytes p o) i refl
+      go (ReadFailed p f) i = quiet (ReadFailed p f) i refl
+      go (Ended p) i = quiet (Ended p) i refl
+      go Tick i = quiet Tick i refl
+
+-- outs
+
+one_and : (a b : Bool) → (a && b) ≡ true → (a ≡ true) × (b ≡ true)
+one_and true true e = (refl, refl)
+one_and true false e = absurd (cc)
+one_and false b e = absurd (cc)
+
+-- a spot more
+spot_stays : (j q i : ℕ) (k p id : ℕ) (t : List (ℕ × List Spot)) → is_spot p id (listed k t) ≡ true → is_spot p id (listed k (adds j (record { place = q; id = i }) t)) ≡ true
+spot_stays j q i k p id t e = ap (is_spot p id) (listed_adds k j (record { place = q; id = i }) t) ∙ go (j == k)
+  where
+    go : (b : Bool) → is_spot p id (if b then record { place = q; id = i } ∷ listed k t else listed k t) ≡ true
+    go true = second_true ((q == p) && (i == id)) _ e
+    go false = e
+
+spot_comes : (j q i : ℕ) (k p id : ℕ) (t : List (ℕ × List Spot)) → (j == k) ≡ true → (q == p) ≡ true → (i == id) ≡ true → is_spot p id (listed k (adds j (record { place = q; id = i }) t)) ≡ true
+spot_comes j q i k p id t a b c =
+    ap (is_spot p id) (listed_adds k j (record { place = q; id = i }) t)
+    ∙ (ap (λ d. is_spot p id (if d then record { place = q; id = i } ∷ listed k t else listed k t)) a
+    ∙ first_true ((q == p) && (i == id)) _ (ap₂ (λ x y. x && y) b c))
+
+module _ (h : History) (t : Waits) (is : Known h t) where
+  sent_more : (q j i : ℕ) (m : Octets) (r : Request) (k p id n : ℕ) (o : Octets) → IsAmong o (unanswered r p k id n (Put (Send q j i m) ∷ h)) → is_spot p id (listed k (adds j (record { place = q; id = i }) t.spots)) ≡ true
+  sent_more q j i m r k p id n o = go ((q == p) && ((j == k) && (i == id))) refl (nat_lt n (now h + read_timeout))
+    where
+      go : (b : Bool) → ((q == p) && ((j == k) && (i == id))) ≡ b → (c : Bool) → IsAmong o (if b && c then m ∷ unanswered r p k id n h else unanswered r p k id n h) → is_spot p id (listed k (adds j (record { place = q; id = i }) t.spots)) ≡ true
+      go true e true am = (let x = one_and (q == p) _ e in let y = one_and (j == k) (i == id) x.1 in spot_comes j q i k p id t.spots y.0 x.0 y.1)
+      go true e false am = spot_stays j q i k p id t.spots (is.sent r k p id n o am)
+      go false e c am = spot_stays j q i k p id t.spots (is.sent r k p id n o am)
+
+  written_more : (q j i : ℕ) (m : Octets) (ms : List Octets) (k p id : ℕ) (o : Octets) → IsAmong o (octets_for k (waiting_with ms p id (Put (Write q j i m) ∷ h))) → is_spot p id (listed k (adds j (record { place = q; id = i }) t.spots)) ≡ true
+  written_more q j i m ms k p id o = go ((q == p) && (i == id)) refl (not (brings id ms))
+    where
+      here : ((q == p) && (i == id)) ≡ true → (b : Bool) → (j == k) ≡ b → IsAmong o (if b then m ∷ octets_for k (waiting_with ms p id h) else octets_for k (waiting_with ms p id h)) → is_spot p id (listed k (adds j (record { place = q; id = i }) t.spots)) ≡ true
+      here e true a am = (let x = one_and (q == p) (i == id) e in spot_comes j q i k p id t.spots a x.0 x.1)
+      here e false a am = spot_stays j q i k p id t.spots (is.written ms k p id o am)
+
+      go : (b : Bool) → ((q == p) && (i == id)) ≡ b → (c : Bool) → IsAmong o (octets_for k (if b && c then record { request = j; octets = m; moment = now h } ∷ waiting_with ms p id h else waiting_with ms p id h)) → is_spot p id (listed k (adds j (record { place = q; id = i }) t.spots)) ≡ true
+      go true e true am = here e (j == k) refl am
+      go true e false am = spot_stays j q i k p id t.spots (is.written ms k p id o am)
+      go false e c am = spot_stays j q i k p id t.spots (is.written ms k p id o am)
+
+  replied_more : (j k : ℕ) → is_some (entry_at k (frees j t.requests)) ≡ ((is_some (asking k h) && not ((j == k) || replied k h)) && is_valid_asking (asking k h))
+  replied_more j k = go (j == k) refl
+    where
+      none : (a v : Bool) → false ≡ ((a && false) && v)
+      none true v = refl
+      none false v = refl
+
+      go : (b : Bool) → (j == k) ≡ b → is_some (entry_at k (frees j t.requests)) ≡ ((is_some (asking k h) && not (b || replied k h)) && is_valid_asking (asking k h))
+      go true e = ap is_some (ap (λ (n : ℕ). entry_at n (frees j t.requests)) (sym (same_number j k e)) ∙ sets.freed_none 0 j t.requests is.rise) ∙ none (is_some (asking k h)) (is_valid_asking (asking k h))
+      go false e = ap is_some (sets.stays k j t.requests e) ∙ is.requests k
+
+  pub known_put : (o : Out) → Known (Put o ∷ h) (has_put o t)
+  known_put (Send q j i m) = record { requests = is.requests; rise = is.rise; sent = λ r k p id n o am. sent_more q j i m r k p id n o am; written = λ ms k p id o am. spot_stays j q i k p id t.spots (is.written ms k p id o am) }
+  known_put (Write q j i m) = record { requests = is.requests; rise = is.rise; sent = λ r k p id n o am. spot_stays j q i k p id t.spots (is.sent r k p id n o am); written = λ ms k p id o am. written_more q j i m ms k p id o am }
+  known_put (Reply j x) = record { requests = λ k. replied_more j k; rise = sets.rise_frees 0 j t.requests is.rise; sent = λ r k p id n o am. is.sent r k p id n o am; written = λ ms k p id o am. is.written ms k p id o am }
+  known_put (Start j s v) = record { requests = is.requests; rise = is.rise; sent = λ r k p id n o am. is.sent r k p id n o am; written = λ ms k p id o am. is.written ms k p id o am }
+  known_put (OpenDgram p s) = record { requests = is.requests; rise = is.rise; sent = λ r k p id n o am. is.sent r k p id n o am; written = λ ms k p id o am. is.written ms k p id o am }
+  known_put (OpenStream p s) = record { requests = is.requests; rise = is.rise; sent = λ r k p id n o am. is.sent r k p id n o am; written = λ ms k p id o am. is.written ms k p id o am }
+  known_put (Resume p m) = record { requests = is.requests; rise = is.rise; sent = λ r k p id n o am. is.sent r k p id n o am; written = λ ms k p id o am. is.written ms k p id o am }
+  known_put (Close p) = record { requests = is.requests; rise = is.rise; sent = λ r k p id n o am. is.sent r k p id n o am; written = λ ms k p id o am. is.written ms k p id o am }
+  known_put (Stale j) = record { requests = is.requests; rise = is.rise; sent = λ r k p id n o am. is.sent r k p id n o am; written = λ ms k p id o am. is.written ms k p id o am }
+
+pub goes_on : GoesOn
+goes_on = record {
+  begins = record { requests = λ k. refl; rise = tt; sent = λ r k p id n o am. absurd am; written = λ ms k p id o am. absurd am };
+  event = λ h r t e kr is. known_met h r t kr is e;
+  out = λ h t o is. known_put h t is o;
+}

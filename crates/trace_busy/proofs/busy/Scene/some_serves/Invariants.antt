@@ -1,0 +1,11 @@
+-- those that are left tell what all tell
+use Rattle.std.proofs.Common.{◌≡◌}
+use Rattle.trace_busy.specs.Busy.{some_serves}
+use Rattle.trace_busy.proofs.busy.Scene.some_serves.Given as goal
+
+abbrev pub invariant-loop-start : goal.invariant-loop-start
+invariant-loop-start l = record {
+  can_next : (goal.iterator-loop-start).can_next l.start-iterator;
+  is_finite : (goal.iterator-loop-start).is_finite l.start-iterator;
+  same : some_serves l.start-iterator l.self ≡ some_serves l.starts l.self;
+}

@@ -1,0 +1,112 @@
+-- Whether each valid request that waits is busy.
+use Rattle.std.specs.Prelude.{◌≡◌, ℕ, ◌+◌, ◌==◌, ◌&&◌, ◌||◌, not, nat_le, nat_lt, Bool, true, false, length, map, List, [], ◌∷◌, Option, Some, None}
+use Rattle.number_table.specs.Entries.{entry_at}
+use Rattle.client_request.specs.Request.{Request}
+use Rattle.client_request.specs.declared.event.Via.{Via}
+use Rattle.client_request.specs.declared.event.Via.TheVariants.{Dgram, Stream}
+use Rattle.right_trace.specs.Trace.{History, Conf}
+use Rattle.right_trace.specs.Requests.{Asking}
+use Rattle.right_trace.specs.Places.{is_alive, is_opening}
+use Rattle.right_trace.specs.Writes.{Written}
+use Rattle.right_trace.specs.Right.{WaitingIsBusy}
+use Rattle.message_matching.specs.Matching.{carries_by}
+use Rattle.trace_tables.specs.declared.places.Place.{Place}
+use Rattle.trace_tables.specs.declared.requests.Started.{Started}
+use Rattle.trace_tables.specs.declared.sends.Sent.{Sent}
+use Rattle.trace_tables.specs.Known.{stand_of, stand_seen}
+use Rattle.trace_tables.specs.Lists.{listed}
+use Rattle.trace_tables.specs.Requests.{start_seen, started_seen}
+use Rattle.trace_frames.specs.Frames.{frames_of}
+use Rattle.trace_frames.specs.Waiting.{waiting_seen}
+use Rattle.trace_frames.specs.Ledger as ledger
+use Rattle.trace_writes.specs.declared.writing.Writing.{Writing}
+use Rattle.trace_writes.specs.Writing.{unwritten_seen}
+use Rattle.trace_writes.specs.Writing as writing
+use Rattle.trace_questions.specs.declared.configured.ServerUse.{ServerUse}
+use Rattle.trace_questions.specs.Configured.{use_of}
+use Rattle.trace_questions.specs.Outs.{Tells}
+use Rattle.trace_exchanges.specs.Coming.{is_young}
+use Rattle.trace_exchanges.specs.Open.{is_for}
+use Rattle.trace_exchanges.specs.Open as open_sends
+use Rattle.trace_due.specs.Loose.{brings_seen}
+use Rattle.trace_sets.specs.Sets.{Members, members, size, some_of}
+use Rattle.trace_loads.specs.Loads as loads
+use Rattle.trace_busy.specs.declared.waits.Spot.{Spot}
+use Rattle.trace_busy.specs.declared.busy.Scene.{Scene}
+use Rattle.trace_busy.specs.Backs.{is_within}
+use Rattle.trace_busy.specs.Backs as backs
+use Rattle.trace_busy.specs.Waits as waits
+
+-- what is known behind a row
+pub record Known (end : History) (t : Scene) : Type 0 where
+  pub ledger : ledger.Known end t.ledger.now
+  pub sends : open_sends.Known end t.sends.now
+  pub writing : writing.Known end t.writing.now
+  pub loads : loads.Known end t.loads.now
+  pub waits : waits.Known end t.waits.now
+  pub backs : backs.Known end t.backs.now
+
+-- some of these are waited for, and carry the request
+abbrev pub some_sent : Request → (k id now : ℕ) → List Sent → Bool
+some_sent r k id n [] = false
+some_sent r k id n (x ∷ xs) = (is_for k id n x && carries_by Dgram x.octets r id) || some_sent r k id n xs
+
+abbrev pub some_written : Request → (k id : ℕ) → List Written → Bool
+some_written r k id [] = false
+some_written r k id (w ∷ ws) = ((w.request == k) && carries_by Stream w.octets r id) || some_written r k id ws
+
+-- an exchange of request k at place p is open, by the kind of the place
+abbrev pub is_open_by : Via → Request → (k p id : ℕ) → (server : ℕ) → Scene → Bool
+is_open_by Dgram r k p id s t = some_sent r k id t.ledger.now.books.requests.clock (listed p t.sends.now)
+is_open_by Stream r k p id s t =
+    is_young t.ledger.now.books.requests.clock (start_seen k s Stream t.ledger.now.books.requests)
+    && (not (brings_seen id (frames_of p t.ledger.now.frames.brought)) && some_written r k id (waiting_seen p id t.ledger.now.waiting))
+
+-- the request was handed to the server
+abbrev pub is_handed : (k s : ℕ) → Scene → Bool
+is_handed k s t = started_seen k s Dgram t.ledger.now.books.requests || started_seen k s Stream t.ledger.now.books.requests
+
+abbrev pub is_open_at : Request → (k : ℕ) → Spot → Option Place → Scene → Bool
+is_open_at r k y None t = false
+is_open_at r k y (Some x) t =
+    (is_alive (stand_of x.stand) && nat_lt x.server (length t.servers.now))
+    && (is_handed k x.server t && is_open_by x.via r k y.place y.id x.server t)
+
+-- some exchange of it is open
+abbrev pub some_open : Request → (k : ℕ) → List Spot → Scene → Bool
+some_open r k [] t = false
+some_open r k (y ∷ ys) t = is_open_at r k y (entry_at y.place t.ledger.now.books.places) t || some_open r k ys t
+
+abbrev pub opens_seen : List (ℕ × Place) → (p : ℕ) → Bool
+opens_seen places p = is_opening (stand_seen (entry_at p places))
+
+-- a stream place opens, or is written to
+abbrev pub moves_seen : List (ℕ × Place) → Writing → (p : ℕ) → Bool
+moves_seen places w p = is_opening (stand_seen (entry_at p places)) || (is_alive (stand_seen (entry_at p places)) && unwritten_seen p w)
+
+-- a server is busy for all requests that it has so
+abbrev pub serves : Via → (s : ℕ) → Scene → Bool
+serves Dgram s t = nat_le 100 (size s t.loads.now.dgrams) || some_of (opens_seen t.ledger.now.books.places) (members s t.loads.now.dgrams)
+serves Stream s t =
+    some_of (moves_seen t.ledger.now.books.places t.writing.now) (members s t.loads.now.streams)
+    || is_within t.ledger.now.books.requests.clock (entry_at s t.backs.now)
+
+abbrev pub some_serves : List Started → Scene → Bool
+some_serves [] t = false
+some_serves (x ∷ xs) t = serves x.via x.server t || some_serves xs t
+
+abbrev pub is_busy_as : (k : ℕ) → Option Asking → Scene → Bool
+is_busy_as k None t = false
+is_busy_as k (Some a) t = some_open a.request k (listed k t.waits.now.spots) t || some_serves (listed k t.ledger.now.books.requests.starts) t
+
+abbrev pub busy_seen : Scene → (k : ℕ) → Bool
+busy_seen t k = is_busy_as k (entry_at k t.ledger.now.books.requests.askings) t
+
+-- all of these are busy
+abbrev pub all_busy : Scene → Members → Bool
+all_busy t [] = true
+all_busy t (e ∷ es) = busy_seen t e.0 && all_busy t es
+
+-- the answer, of every configuration with these servers
+abbrev pub TellsBusy : Scene → Bool → Type 0
+TellsBusy t b = (c : Conf) (end : History) → c.servers ≡ map use_of t.servers.now → Known end t → Tells (WaitingIsBusy c end) b

@@ -1,0 +1,14 @@
+//! What is kept is what the definitions say.
+
+ghost use Rattle.trace_busy.specs.Backs as backs;
+ghost use Rattle.trace_busy.specs.Waits as waits;
+
+/// What is kept of back-offs is what the definitions of a right trace say, before the first row and over each event and out.
+pub fn backs_go_on()
+    ensures { backs.GoesOn }
+{}
+
+/// So is what is kept of requests that wait.
+pub fn waits_go_on()
+    ensures { waits.GoesOn }
+{}

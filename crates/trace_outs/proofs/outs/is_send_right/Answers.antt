@@ -1,0 +1,5 @@
+use Rattle.trace_outs.proofs.Judging.{tells_send}
+use Rattle.trace_outs.proofs.outs.is_send_right.Goals as goal
+
+pub returns : goal.returns
+returns c = let a = c.args in tells_send a.point.now a.loads.now a.held.now a.request a.place a.id a.octets.now c.in_ok-may.may c.with_server.result c.in_ok-may.ensures c.with_server.ensures
