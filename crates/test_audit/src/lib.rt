@@ -2,6 +2,10 @@
 #![tactic(auto)]
 
 #[cfg(test)]
+mod errors;
+#[cfg(test)]
+mod passes;
+#[cfg(test)]
 mod sends;
 #[cfg(test)]
 mod streams;
