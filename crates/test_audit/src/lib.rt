@@ -2,10 +2,6 @@
 #![tactic(auto)]
 
 #[cfg(test)]
-mod errors;
-#[cfg(test)]
-mod passes;
-#[cfg(test)]
 mod sends;
 #[cfg(test)]
 mod streams;
