@@ -66,12 +66,12 @@ module _ (c : Conf) (s : Settings) (l : Ledger) (t : Timers) (heard : Heards) (l
       let unmarked = not_true (is_marked k e.arrivals.came) q.0 in
       record {
         here = λ d. (
-          let a = so_came c want x h xs cs l l' t o before kl kl' kt ko k wanted (subst (λ w. SomeCame c k x w h) (sym is) d) in
-          go a.0 a.1 (either (excused_in l'.frames.brought l'.books.requests.clock l t l' o) (not (some_matching k xs)) q.1));
+            let a = so_came c want x h xs cs l l' t o before kl kl' kt ko k wanted (subst (λ w. SomeCame c k x w h) (sym is) d) in
+            go a.0 a.1 (either (excused_in l'.frames.brought l'.books.requests.clock l t l' o) (not (some_matching k xs)) q.1));
         before = λ r. (
-          let m = ke.arrivals.so_came k (subst (ByRow (OfRow (SomeCame c k))) before (earlier_so (OfRow (SomeCame c k)) h r)) in
-          let z : true ≡ false = sym m ∙ unmarked in
-          cc);
+            let m = ke.arrivals.so_came k (subst (ByRow (OfRow (SomeCame c k))) before (earlier_so (OfRow (SomeCame c k)) h r)) in
+            let z : true ≡ false = sym m ∙ unmarked in
+            cc);
       }
     where
       go : excused_in l'.frames.brought l'.books.requests.clock l t l' o ≡ false → Passing matches k xs → (excused_in l'.frames.brought l'.books.requests.clock l t l' o ≡ true) ⊎ (not (some_matching k xs) ≡ true) → ⊥

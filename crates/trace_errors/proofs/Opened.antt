@@ -1,10 +1,11 @@
 -- What is kept of openings is what the definitions say.
-use Rattle.std.proofs.Common.{◌≡◌, ℕ, ◌+◌, ◌≤◌, ◌==◌, ◌&&◌, ◌⊎◌, inl, inr, Bool, true, false, if◌then◌else◌, List, [], ◌∷◌, Option, Some, None, refl, sym, ap, ap₂, ◌∙◌, subst, arith}
+use Rattle.std.proofs.Common.{◌≡◌, ℕ, ◌+◌, ◌*◌, ◌<◌, ◌≤◌, ◌==◌, ◌&&◌, ◌⊎◌, inl, inr, Bool, true, false, if◌then◌else◌, List, [], ◌∷◌, Option, Some, None, refl, sym, ap, ap₂, ◌∙◌, subst, arith, lit<}
 use Rattle.std.specs.Prelude.{is_some}
 use Rattle.number_table.specs.Entries.{entry_at}
 use Rattle.client_request.specs.declared.error.Error.TheVariants as errors
 use Rattle.client_request.specs.declared.error.QueryError.TheVariants as query
 use Rattle.client_request.specs.declared.fault.Fault.{Fault}
+use Rattle.client_request.specs.declared.fault.Fault.TheVariants as fault
 use Rattle.client_request.specs.declared.event.What.{What}
 use Rattle.client_request.specs.declared.event.What.TheVariants.{Ask, Opened, OpenFailed, SendFailed, ShortSend, Datagram, RecvFailed, Wrote, WriteFailed, Bytes, ReadFailed, Ended, Tick}
 use Rattle.client_request.specs.declared.event.Out.{Out}
@@ -25,16 +26,16 @@ use Rattle.trace_tables.specs.Tables.{Table}
 use Rattle.trace_tables.specs.Requests.{started_seen}
 use Rattle.trace_tables.specs.Books as books
 use Rattle.trace_tables.proofs.Listing.{listed_adds}
+use Rattle.trace_tables.proofs.Tables.{at_puts}
 use Rattle.trace_questions.specs.Causes.{was_opening, fault_at, opening_fault}
 use Rattle.trace_questions.proofs.Failing.{opening_decides}
 use Rattle.trace_promptness.proofs.Hearing.{before_row, row_event}
 use Rattle.trace_errors.proofs.Caused.{cause_of}
 use Rattle.trace_errors.specs.declared.openings.Begun.{Begun}
-use Rattle.trace_errors.specs.declared.openings.Refusal.{Refusal}
 use Rattle.trace_errors.specs.declared.openings.Refused.{Refused}
 use Rattle.trace_errors.specs.declared.openings.Openings.{Openings}
 use Rattle.trace_errors.specs.Rows.{IsCaused, WasCaused}
-use Rattle.trace_errors.specs.Openings.{begins, begin_all, refused_at, refused_by, refuses, after_row, IsRefusedSince, IsRefusedAmong, IsRefused, Known, GoesOn}
+use Rattle.trace_errors.specs.Openings.{begins, begin_all, refused_at, refused_by, number_of, key_of, refuses, after_row, IsSince, IsRefusedAmong, IsRefused, Known, GoesOn}
 use Rattle.trace_errors.proofs.Rows.{same_number, own, more_so, more_kept, more_new, row_later, row_was}
 
 -- requests that servers have
@@ -124,65 +125,117 @@ all_new n (o ∷ os) t k x i = go (all_new n os (begins o n t) k x i)
     go (inl i) = (step n o t).new k x i
     go (inr e) = inr e
 
+-- servers with faults, as numbers
+
+numbered : ℕ → Fault
+numbered n =
+    if n == 0 then fault.Refused
+    else if n == 1 then fault.Reset
+    else if n == 2 then fault.Unreachable
+    else if n == 3 then fault.InUse
+    else if n == 4 then fault.Broken
+    else if n == 5 then fault.Other
+    else if n == 6 then fault.Expired
+    else if n == 7 then fault.ShortSend
+    else if n == 8 then fault.NothingTaken
+    else fault.EndOfData
+
+is_numbered : (f : Fault) → numbered (number_of f) ≡ f
+unfolding numbered
+is_numbered fault.Refused = refl
+is_numbered fault.Reset = refl
+is_numbered fault.Unreachable = refl
+is_numbered fault.InUse = refl
+is_numbered fault.Broken = refl
+is_numbered fault.Other = refl
+is_numbered fault.Expired = refl
+is_numbered fault.ShortSend = refl
+is_numbered fault.NothingTaken = refl
+is_numbered fault.EndOfData = refl
+
+number_below : (f : Fault) → number_of f < 16
+number_below fault.Refused = lit< tt
+number_below fault.Reset = lit< tt
+number_below fault.Unreachable = lit< tt
+number_below fault.InUse = lit< tt
+number_below fault.Broken = lit< tt
+number_below fault.Other = lit< tt
+number_below fault.Expired = lit< tt
+number_below fault.ShortSend = lit< tt
+number_below fault.NothingTaken = lit< tt
+number_below fault.EndOfData = lit< tt
+
+same_parts : (s r a b : ℕ) → a < 16 → b < 16 → s * 16 + a ≡ r * 16 + b → (s ≡ r) × (a ≡ b)
+same_parts s r a b l m e = (omega arith, omega arith)
+
+same_key : (s r : ℕ) (f g : Fault) → key_of s f ≡ key_of r g → (s ≡ r) × (f ≡ g)
+same_key s r f g e =
+    let q = same_parts s r (number_of f) (number_of g) (number_below f) (number_below g) e in
+    (q.0, sym (is_numbered f) ∙ (ap numbered q.1 ∙ is_numbered g))
+
 -- refusals
 
-record Since (f : Fault) (n : ℕ) (xs : List Refusal) : Type 0 where
-  refusal : Refusal
-  there : IsIn refusal xs
-  is_fault : refusal.fault ≡ f
-  late : n ≤ refusal.row
-
-since_so : (f : Fault) (n : ℕ) (xs : List Refusal) → IsRefusedSince f n xs → Since f n xs
-since_so f n [] i = absurd i
-since_so f n (x ∷ xs) (inl e) = record { refusal = x; there = inl refl; is_fault = e.0; late = e.1 }
-since_so f n (x ∷ xs) (inr i) = (let s = since_so f n xs i in record { refusal = s.refusal; there = inr s.there; is_fault = s.is_fault; late = s.late })
-
-so_since : (f : Fault) (n : ℕ) (y : Refusal) (xs : List Refusal) → IsIn y xs → y.fault ≡ f → n ≤ y.row → IsRefusedSince f n xs
-so_since f n y [] i e l = absurd i
-so_since f n y (x ∷ xs) (inl q) e l = inl (ap (λ (x : Refusal). x.fault) q ∙ e, subst (λ (x : Refusal). n ≤ x.row) (sym q) l)
-so_since f n y (x ∷ xs) (inr i) e l = inr (so_since f n y xs i e l)
-
-record Among (f : Fault) (t : List (ℕ × List Refusal)) (xs : List Begun) : Type 0 where
+record Among (f : Fault) (t : List (ℕ × ℕ)) (xs : List Begun) : Type 0 where
   start : Begun
   there : IsIn start xs
-  since : Since f start.row (listed start.server t)
+  row : ℕ
+  is_row : entry_at (key_of start.server f) t ≡ Some row
+  late : start.row ≤ row
 
-among_so : (f : Fault) (t : List (ℕ × List Refusal)) (xs : List Begun) → IsRefusedAmong f t xs → Among f t xs
+since_so : (n : ℕ) (o : Option ℕ) → IsSince n o → (m : ℕ) × (o ≡ Some m) × (n ≤ m)
+since_so n None i = absurd i
+since_so n (Some m) l = (m, refl, l)
+
+so_since : (n m : ℕ) (o : Option ℕ) → o ≡ Some m → n ≤ m → IsSince n o
+so_since n m o e l = subst (IsSince n) (sym e) l
+
+among_so : (f : Fault) (t : List (ℕ × ℕ)) (xs : List Begun) → IsRefusedAmong f t xs → Among f t xs
 among_so f t [] i = absurd i
-among_so f t (x ∷ xs) (inl i) = record { start = x; there = inl refl; since = since_so f x.row (listed x.server t) i }
-among_so f t (x ∷ xs) (inr i) = (let a = among_so f t xs i in record { start = a.start; there = inr a.there; since = a.since })
+among_so f t (x ∷ xs) (inl i) = (let s = since_so x.row (entry_at (key_of x.server f) t) i in record { start = x; there = inl refl; row = s.0; is_row = s.1; late = s.2 })
+among_so f t (x ∷ xs) (inr i) = (let a = among_so f t xs i in record { start = a.start; there = inr a.there; row = a.row; is_row = a.is_row; late = a.late })
 
-so_among : (f : Fault) (t : List (ℕ × List Refusal)) (y : Begun) (z : Refusal) (xs : List Begun) → IsIn y xs → IsIn z (listed y.server t) → z.fault ≡ f → y.row ≤ z.row → IsRefusedAmong f t xs
-so_among f t y z [] i j e l = absurd i
-so_among f t y z (x ∷ xs) (inl q) j e l = inl (so_since f x.row z (listed x.server t) (subst (λ (x : Begun). IsIn z (listed x.server t)) (sym q) j) e (subst (λ (x : Begun). x.row ≤ z.row) (sym q) l))
-so_among f t y z (x ∷ xs) (inr i) j e l = inr (so_among f t y z xs i j e l)
+so_among : (f : Fault) (t : List (ℕ × ℕ)) (y : Begun) (n : ℕ) (xs : List Begun) → IsIn y xs → entry_at (key_of y.server f) t ≡ Some n → y.row ≤ n → IsRefusedAmong f t xs
+so_among f t y n [] i e l = absurd i
+so_among f t y n (x ∷ xs) (inl q) e l = inl (subst (λ (x : Begun). IsSince x.row (entry_at (key_of x.server f) t)) (sym q) (so_since y.row n (entry_at (key_of y.server f) t) e l))
+so_among f t y n (x ∷ xs) (inr i) e l = inr (so_among f t y n xs i e l)
 
-refused_more : (n s : ℕ) (r : Refused) (t : List (ℕ × List Refusal)) → listed s (refuses n (Some r) t) ≡ (if r.server == s then record { fault = r.fault; row = n } ∷ listed s t else listed s t)
-refused_more n s r t = listed_adds s r.server (record { fault = r.fault; row = n }) t
+refused_more : (n q : ℕ) (r : Refused) (t : List (ℕ × ℕ)) → entry_at q (refuses n (Some r) t) ≡ (if key_of r.server r.fault == q then Some n else entry_at q t)
+refused_more n q r t = at_puts (key_of r.server r.fault) n q t
 
-refused_kept : (n s : ℕ) (o : Option Refused) (t : List (ℕ × List Refusal)) (x : Refusal) → IsIn x (listed s t) → IsIn x (listed s (refuses n o t))
-refused_kept n s None t x i = i
-refused_kept n s (Some r) t x i = subst (IsIn x) (sym (refused_more n s r t)) (more_kept (r.server == s) x (record { fault = r.fault; row = n }) (listed s t) i)
+refused_kept : (n q m : ℕ) (o : Option Refused) (t : List (ℕ × ℕ)) → m ≤ n → entry_at q t ≡ Some m → (l : ℕ) × (entry_at q (refuses n o t) ≡ Some l) × (m ≤ l)
+refused_kept n q m None t l e = (m, e, omega arith)
+refused_kept n q m (Some r) t l e = go (key_of r.server r.fault == q) refl
+  where
+    go : (b : Bool) → (key_of r.server r.fault == q) ≡ b → (l : ℕ) × (entry_at q (refuses n (Some r) t) ≡ Some l) × (m ≤ l)
+    go true i = (n, refused_more n q r t ∙ ap (λ b. if b then Some n else entry_at q t) i, l)
+    go false i = (m, refused_more n q r t ∙ (ap (λ b. if b then Some n else entry_at q t) i ∙ e), omega arith)
+
+refused_bound : (n q m : ℕ) (o : Option Refused) (t : List (ℕ × ℕ)) → ((q m : ℕ) → entry_at q t ≡ Some m → m ≤ n) → entry_at q (refuses n o t) ≡ Some m → m ≤ n
+refused_bound n q m None t f e = f q m e
+refused_bound n q m (Some r) t f e = go (key_of r.server r.fault == q) (sym (refused_more n q r t) ∙ e)
+  where
+    go : (b : Bool) → (if b then Some n else entry_at q t) ≡ Some m → m ≤ n
+    go true e = (let z : n ≡ m = cc in omega arith)
+    go false e = f q m e
 
 -- a refusal is an old one, or that of the row
-record IsNew (n s : ℕ) (o : Option Refused) (x : Refusal) : Type 0 where
-  is : o ≡ Some (record { server = s; fault = x.fault })
-  row : x.row ≡ n
+record IsNew (n s : ℕ) (f : Fault) (o : Option Refused) (m : ℕ) : Type 0 where
+  is : o ≡ Some (record { server = s; fault = f })
+  row : m ≡ n
 
-refused_new : (n s : ℕ) (o : Option Refused) (t : List (ℕ × List Refusal)) (x : Refusal) → IsIn x (listed s (refuses n o t)) → IsIn x (listed s t) ⊎ IsNew n s o x
-refused_new n s None t x i = inl i
-refused_new n s (Some r) t x i = go (more_so (r.server == s) x (record { fault = r.fault; row = n }) (listed s t) (subst (IsIn x) (refused_more n s r t) i))
+refused_new : (n s : ℕ) (f : Fault) (o : Option Refused) (t : List (ℕ × ℕ)) (m : ℕ) → entry_at (key_of s f) (refuses n o t) ≡ Some m → (entry_at (key_of s f) t ≡ Some m) ⊎ IsNew n s f o m
+refused_new n s f None t m e = inl e
+refused_new n s f (Some r) t m e = go (key_of r.server r.fault == key_of s f) refl (sym (refused_more n (key_of s f) r t) ∙ e)
   where
-    go : (((r.server == s) ≡ true) × (record { fault = r.fault; row = n } ≡ x)) ⊎ IsIn x (listed s t) → IsIn x (listed s t) ⊎ IsNew n s (Some r) x
-    go (inl e) = inr (record {
-      is = ap₂ (λ s f. Some (record { server = s; fault = f })) (same_number r.server s e.0) (ap (λ (x : Refusal). x.fault) e.1);
-      row = sym (ap (λ (x : Refusal). x.row) e.1);
-    })
-    go (inr i) = inl i
+    go : (b : Bool) → (key_of r.server r.fault == key_of s f) ≡ b → (if b then Some n else entry_at (key_of s f) t) ≡ Some m → (entry_at (key_of s f) t ≡ Some m) ⊎ IsNew n s f (Some r) m
+    go true i e =
+        let k = same_key r.server s r.fault f (same_number (key_of r.server r.fault) (key_of s f) i) in
+        let z : n ≡ m = cc in
+        inr (record { is = ap₂ (λ s f. Some (record { server = s; fault = f })) k.0 k.1; row = sym z })
+    go false i e = inl e
 
-new_refused : (n s : ℕ) (f : Fault) (o : Option Refused) (t : List (ℕ × List Refusal)) → o ≡ Some (record { server = s; fault = f }) → IsIn (record { fault = f; row = n }) (listed s (refuses n o t))
-new_refused n s f o t e = subst (λ o. IsIn (record { fault = f; row = n }) (listed s (refuses n o t))) (sym e)
-    (subst (IsIn (record { fault = f; row = n })) (sym (refused_more n s (record { server = s; fault = f }) t)) (more_new (s == s) (record { fault = f; row = n }) (listed s t) (own s)))
+new_refused : (n s : ℕ) (f : Fault) (o : Option Refused) (t : List (ℕ × ℕ)) → o ≡ Some (record { server = s; fault = f }) → entry_at (key_of s f) (refuses n o t) ≡ Some n
+new_refused n s f o t e = ap (λ o. entry_at (key_of s f) (refuses n o t)) e ∙ (refused_more n (key_of s f) (record { server = s; fault = f }) t ∙ ap (λ b. if b then Some n else entry_at (key_of s f) t) (own (key_of s f)))
 
 -- an opening that fails is told of the requests that its server has
 
@@ -276,12 +329,8 @@ module _ (c : Conf) (past : History) (row : Row) (b b' : Books) (t : Openings) (
       go (inl i) = (let l = kt.begun_by k x i in omega arith)
       go (inr e) = omega arith
 
-  refusal_by : (s : ℕ) (x : Refusal) → IsIn x (listed s (refuses (t.rows + 1) refused t.refused)) → x.row ≤ t.rows + 1
-  refusal_by s x i = go (refused_new (t.rows + 1) s refused t.refused x i)
-    where
-      go : IsIn x (listed s t.refused) ⊎ IsNew (t.rows + 1) s refused x → x.row ≤ t.rows + 1
-      go (inl i) = (let l = kt.refused_by s x i in omega arith)
-      go (inr e) = (let l = e.row in omega arith)
+  refusal_by : (q m : ℕ) → entry_at q (refuses (t.rows + 1) refused t.refused) ≡ Some m → m ≤ t.rows + 1
+  refusal_by q m e = refused_bound (t.rows + 1) q m refused t.refused (λ q m e. (let l = kt.refused_by q m e in omega arith)) e
 
   -- the row's own
   caused : (k s : ℕ) (f : Fault) → refused ≡ Some (record { server = s; fault = f }) → started k s Dgram (after row past) ≡ true → IsCaused c k (errors.Dgram (query.Connect f)) (after row past)
@@ -303,12 +352,12 @@ module _ (c : Conf) (past : History) (row : Row) (b b' : Books) (t : Openings) (
   row_so k f i = go (among_so f (refuses (t.rows + 1) refused t.refused) (listed k (begin_all row.outs (t.rows + 1) t.begun)) i)
     where
       go : Among f (refuses (t.rows + 1) refused t.refused) (listed k (begin_all row.outs (t.rows + 1) t.begun)) → WasCaused c k (errors.Dgram (query.Connect f)) (after row past)
-      go a = each (refused_new (t.rows + 1) a.start.server refused t.refused a.since.refusal a.since.there) (all_new (t.rows + 1) row.outs t.begun k a.start a.there)
+      go a = each (refused_new (t.rows + 1) a.start.server f refused t.refused a.row a.is_row) (all_new (t.rows + 1) row.outs t.begun k a.start a.there)
         where
-          each : IsIn a.since.refusal (listed a.start.server t.refused) ⊎ IsNew (t.rows + 1) a.start.server refused a.since.refusal → IsIn a.start (listed k t.begun) ⊎ (a.start.row ≡ t.rows + 1) → WasCaused c k (errors.Dgram (query.Connect f)) (after row past)
-          each (inr w) j = inl (caused k a.start.server f (w.is ∙ ap (λ f. Some (record { server = a.start.server; fault = f })) a.since.is_fault) (at_end.so k a.start a.there))
-          each (inl i) (inl j) = row_later (IsCaused c k (errors.Dgram (query.Connect f))) row past (kt.so k f (so_among f t.refused a.start a.since.refusal (listed k t.begun) j i a.since.is_fault a.since.late))
-          each (inl i) (inr e) = (let l = kt.refused_by a.start.server a.since.refusal i in let m = a.since.late in absurd (omega arith))
+          each : (entry_at (key_of a.start.server f) t.refused ≡ Some a.row) ⊎ IsNew (t.rows + 1) a.start.server f refused a.row → IsIn a.start (listed k t.begun) ⊎ (a.start.row ≡ t.rows + 1) → WasCaused c k (errors.Dgram (query.Connect f)) (after row past)
+          each (inr w) j = inl (caused k a.start.server f w.is (at_end.so k a.start a.there))
+          each (inl i) (inl j) = row_later (IsCaused c k (errors.Dgram (query.Connect f))) row past (kt.so k f (so_among f t.refused a.start a.row (listed k t.begun) j i a.late))
+          each (inl i) (inr e) = (let l = kt.refused_by (key_of a.start.server f) a.row i in let m = a.late in absurd (omega arith))
 
   so_row : (k : ℕ) (f : Fault) → WasCaused c k (errors.Dgram (query.Connect f)) (after row past) → IsRefusedAmong f (refuses (t.rows + 1) refused t.refused) (listed k (begin_all row.outs (t.rows + 1) t.begun))
   so_row k f w = go (row_was (IsCaused c k (errors.Dgram (query.Connect f))) row past w)
@@ -317,10 +366,15 @@ module _ (c : Conf) (past : History) (row : Row) (b b' : Books) (t : Openings) (
       go (inl d) =
           let o = told k f d in
           let y = at_end.back k o.0 o.2 in
-          so_among f (refuses (t.rows + 1) refused t.refused) y.0 (record { fault = f; row = t.rows + 1 }) (listed k (begin_all row.outs (t.rows + 1) t.begun)) y.1 (subst (λ s. IsIn (record { fault = f; row = t.rows + 1 }) (listed s (refuses (t.rows + 1) refused t.refused))) (sym y.2) (new_refused (t.rows + 1) o.0 f refused t.refused o.1)) refl (row_by k y.0 y.1)
+          let e = subst (λ s. entry_at (key_of s f) (refuses (t.rows + 1) refused t.refused) ≡ Some (t.rows + 1)) (sym y.2) (new_refused (t.rows + 1) o.0 f refused t.refused o.1) in
+          so_among f (refuses (t.rows + 1) refused t.refused) y.0 (t.rows + 1) (listed k (begin_all row.outs (t.rows + 1) t.begun)) y.1 e (row_by k y.0 y.1)
       go (inr d) =
           let a = among_so f t.refused (listed k t.begun) (kt.back k f d) in
-          so_among f (refuses (t.rows + 1) refused t.refused) a.start a.since.refusal (listed k (begin_all row.outs (t.rows + 1) t.begun)) (all_kept (t.rows + 1) row.outs t.begun k a.start a.there) (refused_kept (t.rows + 1) a.start.server refused t.refused a.since.refusal a.since.there) a.since.is_fault a.since.late
+          let l : a.row ≤ t.rows = kt.refused_by (key_of a.start.server f) a.row a.is_row in
+          let r = refused_kept (t.rows + 1) (key_of a.start.server f) a.row refused t.refused (omega arith) a.is_row in
+          let m : a.start.row ≤ a.row = a.late in
+          let n : a.row ≤ r.0 = r.2 in
+          so_among f (refuses (t.rows + 1) refused t.refused) a.start r.0 (listed k (begin_all row.outs (t.rows + 1) t.begun)) (all_kept (t.rows + 1) row.outs t.begun k a.start a.there) r.1 (omega arith)
 
   pub openings_row : Known c (after row past) (after_row b.places b'.places row t)
   unfolding refused
@@ -332,6 +386,6 @@ none_caused c k f (inr n) = n
 
 pub goes_on : GoesOn
 goes_on = record {
-  begins = λ c. record { so = λ k f i. absurd i; back = λ k f w. absurd (none_caused c k f w); begun_so = λ k x i. absurd i; begun_back = λ k s e. absurd (cc); begun_by = λ k x i. absurd i; refused_by = λ s x i. absurd i };
+  begins = λ c. record { so = λ k f i. absurd i; back = λ k f w. absurd (none_caused c k f w); begun_so = λ k x i. absurd i; begun_back = λ k s e. absurd (cc); begun_by = λ k x i. absurd i; refused_by = λ q n e. absurd (cc) };
   row = λ c past row b b' t kb kb' kt. openings_row c past row b b' t kb kb' kt;
 }

@@ -1,9 +1,10 @@
--- What a forward pass keeps of openings that failed, by server, and of requests that servers have by datagrams: each with its row.
-use Rattle.std.specs.Prelude.{◌≡◌, ℕ, ◌+◌, ◌≤◌, ◌&&◌, ◌⊎◌, Bool, true, if◌then◌else◌, List, [], ◌∷◌, Option, Some, None}
-use Rattle.number_table.specs.Entries.{entry_at}
+-- What a forward pass keeps of openings that failed, by server and fault, and of requests that servers have by datagrams: each with its row, and of openings the newest.
+use Rattle.std.specs.Prelude.{◌≡◌, ℕ, ◌+◌, ◌*◌, ◌≤◌, ◌&&◌, ◌⊎◌, Bool, true, if◌then◌else◌, List, [], ◌∷◌, Option, Some, None}
+use Rattle.number_table.specs.Entries.{puts, entry_at}
 use Rattle.client_request.specs.declared.error.Error.TheVariants as errors
 use Rattle.client_request.specs.declared.error.QueryError.TheVariants as query
 use Rattle.client_request.specs.declared.fault.Fault.{Fault}
+use Rattle.client_request.specs.declared.fault.Fault.TheVariants as fault
 use Rattle.client_request.specs.declared.event.What.{What}
 use Rattle.client_request.specs.declared.event.What.TheVariants.{OpenFailed}
 use Rattle.client_request.specs.declared.event.Out.{Out}
@@ -20,7 +21,6 @@ use Rattle.trace_tables.specs.Books as books
 use Rattle.trace_tables.specs.declared.books.Books.{Books}
 use Rattle.trace_questions.specs.Causes.{was_opening}
 use Rattle.trace_errors.specs.declared.openings.Begun.{Begun}
-use Rattle.trace_errors.specs.declared.openings.Refusal.{Refusal}
 use Rattle.trace_errors.specs.declared.openings.Refused.{Refused}
 use Rattle.trace_errors.specs.declared.openings.Openings.{Openings}
 use Rattle.trace_errors.specs.Rows.{WasCaused}
@@ -46,9 +46,25 @@ abbrev pub refused_by : (past here : Table) → What → Option Refused
 refused_by past here (OpenFailed p f) = refused_at f (entry_at p past) (entry_at p here)
 refused_by past here _ = None
 
-abbrev pub refuses : (row : ℕ) → Option Refused → List (ℕ × List Refusal) → List (ℕ × List Refusal)
+-- faults by number, and a server and a fault as one number
+abbrev pub number_of : Fault → ℕ
+number_of fault.Refused = 0
+number_of fault.Reset = 1
+number_of fault.Unreachable = 2
+number_of fault.InUse = 3
+number_of fault.Broken = 4
+number_of fault.Other = 5
+number_of fault.Expired = 6
+number_of fault.ShortSend = 7
+number_of fault.NothingTaken = 8
+number_of fault.EndOfData = 9
+
+abbrev pub key_of : (s : ℕ) → Fault → ℕ
+key_of s f = s * 16 + number_of f
+
+abbrev pub refuses : (row : ℕ) → Option Refused → List (ℕ × ℕ) → List (ℕ × ℕ)
 refuses n None t = t
-refuses n (Some r) t = adds r.server (record { fault = r.fault; row = n }) t
+refuses n (Some r) t = puts (key_of r.server r.fault) n t
 
 -- what a row makes of it, over the places before it and behind it
 abbrev pub after_row : (past here : Table) → Row → Openings → Openings
@@ -58,15 +74,15 @@ after_row past here row t = record {
   rows = t.rows + 1;
 }
 
--- an opening failed with this fault in this row or later
-abbrev pub IsRefusedSince : Fault → (row : ℕ) → List Refusal → Type 0
-IsRefusedSince f n [] = ⊥
-IsRefusedSince f n (x ∷ xs) = ((x.fault ≡ f) × (n ≤ x.row)) ⊎ IsRefusedSince f n xs
+-- it is this row or a later one
+abbrev pub IsSince : (row : ℕ) → Option ℕ → Type 0
+IsSince n None = ⊥
+IsSince n (Some m) = n ≤ m
 
--- so it is at the server of some of these, in its row or later
-abbrev pub IsRefusedAmong : Fault → List (ℕ × List Refusal) → List Begun → Type 0
+-- at the server of some of these an opening failed with this fault, in its row or later
+abbrev pub IsRefusedAmong : Fault → List (ℕ × ℕ) → List Begun → Type 0
 IsRefusedAmong f t [] = ⊥
-IsRefusedAmong f t (x ∷ xs) = IsRefusedSince f x.row (listed x.server t) ⊎ IsRefusedAmong f t xs
+IsRefusedAmong f t (x ∷ xs) = IsSince x.row (entry_at (key_of x.server f) t) ⊎ IsRefusedAmong f t xs
 
 abbrev pub IsRefused : (k : ℕ) → Fault → Openings → Type 0
 IsRefused k f t = IsRefusedAmong f t.refused (listed k t.begun)
@@ -78,7 +94,7 @@ pub record Known (c : Conf) (h : History) (t : Openings) : Type 0 where
   pub begun_so : (k : ℕ) (x : Begun) → IsIn x (listed k t.begun) → started k x.server Dgram h ≡ true
   pub begun_back : (k s : ℕ) → started k s Dgram h ≡ true → (x : Begun) × IsIn x (listed k t.begun) × (x.server ≡ s)
   pub begun_by : (k : ℕ) (x : Begun) → IsIn x (listed k t.begun) → x.row ≤ t.rows
-  pub refused_by : (s : ℕ) (x : Refusal) → IsIn x (listed s t.refused) → x.row ≤ t.rows
+  pub refused_by : (q n : ℕ) → entry_at q t.refused ≡ Some n → n ≤ t.rows
 
 -- it is known before the first row, and goes on over rows
 pub record GoesOn : Type 0 where

@@ -85,11 +85,7 @@ fn mark_matching(marked: &mut NumberTable<()>, comings: &[Coming]) -> Result<(),
     Ok(())
 }
 
-fn come(
-    marked: &mut NumberTable<()>,
-    excused: bool,
-    comings: &[Coming],
-) -> Result<(), NoMemory>
+fn come(marked: &mut NumberTable<()>, excused: bool, comings: &[Coming]) -> Result<(), NoMemory>
     ensures { OnOk result (marked.new ≡ plain.come excused comings.now marked.old) }
 {
     if excused {

@@ -17,4 +17,4 @@ pub use failing::Failing;
 pub use failures::server_cause;
 pub use laws::earlier_goes_on;
 pub use noted::{Noted, is_noted, note_row};
-pub use openings::{Begun, Openings, Refusal, Refused};
+pub use openings::{Begun, Openings, Refused};

@@ -1,8 +1,7 @@
-//! Openings of datagram places that failed, by server, and requests that servers have by datagrams.
+//! Openings of datagram places that failed, by server and fault, and requests that servers have by datagrams.
 
-ghost use Rattle.std.specs.Prelude.{◌≡◌, OnOk};
+ghost use Rattle.std.specs.Prelude.{◌≡◌, ◌<◌, OnOk};
 ghost use Rattle.number_table.specs.Entries.{entry_at};
-ghost use Rattle.trace_tables.specs.Lists.{listed};
 ghost use Rattle.trace_questions.specs.Causes.{was_opening};
 ghost use Rattle.trace_questions.specs.Outs.{Tells};
 ghost use Rattle.trace_errors.specs.Openings as plain;
@@ -20,13 +19,6 @@ pub struct Begun {
     pub row: u64,
 }
 
-/// An opening failed, in a row.
-#[derive(Clone, Copy, Debug, Drop)]
-pub struct Refusal {
-    pub fault: Fault,
-    pub row: u64,
-}
-
 /// An opening failed, at a server.
 #[derive(Clone, Copy, Debug, Drop)]
 pub struct Refused {
@@ -36,8 +28,8 @@ pub struct Refused {
 
 /// Which openings failed, and which servers got requests by datagrams. Rows are counted from 1.
 pub struct Openings {
-    /// By server.
-    pub refused: NumberTable<Newest<Refusal>>,
+    /// The newest row in which an opening failed, by server and fault.
+    pub refused: NumberTable<u64>,
     /// By request.
     pub begun: NumberTable<Newest<Begun>>,
     /// How many rows are done.
@@ -105,11 +97,7 @@ fn was_opening(past: &NumberTable<Place>, number: u64, here: Stand) -> bool
 }
 
 /// The server of a datagram place that failed to open in a row, and the fault.
-fn refused_by(
-    past: &NumberTable<Place>,
-    here: &NumberTable<Place>,
-    what: &What,
-) -> Option<Refused>
+fn refused_by(past: &NumberTable<Place>, here: &NumberTable<Place>, what: &What) -> Option<Refused>
     ensures { result ≡ plain.refused_by past.now here.now what.now }
 {
     let What::OpenFailed {
@@ -130,64 +118,59 @@ fn refused_by(
     }
 }
 
-fn refuse(
-    table: &mut NumberTable<Newest<Refusal>>,
-    alloc: Global,
-    row: u64,
-    refused: Option<Refused>,
-) -> Result<(), NoMemory>
+/// The number of a fault.
+fn number_of(fault: Fault) -> u64
+    ensures value { result ≡ plain.number_of fault }
+    ensures below { result < 16 }
+{
+    match fault {
+        Fault::Refused => 0,
+        Fault::Reset => 1,
+        Fault::Unreachable => 2,
+        Fault::InUse => 3,
+        Fault::Broken => 4,
+        Fault::Other => 5,
+        Fault::Expired => 6,
+        Fault::ShortSend => 7,
+        Fault::NothingTaken => 8,
+        Fault::EndOfData => 9,
+    }
+}
+
+/// A server and a fault, as one number.
+fn key_of(server: u32, fault: Fault) -> u64
+    ensures { result ≡ plain.key_of server fault }
+{
+    u64::from(server) * 16 + number_of(fault)
+}
+
+fn refuse(table: &mut NumberTable<u64>, row: u64, refused: Option<Refused>) -> Result<(), NoMemory>
     ensures { OnOk result (table.new ≡ plain.refuses row refused table.old) }
 {
-    match refused {
-        None => Ok(()),
-        Some(refused) => add(
-            table,
-            alloc,
-            u64::from(refused.server),
-            Refusal {
-                fault: refused.fault,
-                row,
-            },
-        ),
+    let Some(refused) = refused else {
+        return Ok(());
+    };
+    match table.insert(key_of(refused.server, refused.fault), row) {
+        Ok(_) => Ok(()),
+        Err(_) => Err(NoMemory),
     }
 }
 
-/// Whether an opening failed with a fault in a row or later.
-fn is_refused_since(refusals: &Newest<Refusal>, fault: Fault, row: u64) -> bool
-    ensures { Tells (plain.IsRefusedSince fault row refusals.now) result }
+/// Whether an opening failed at a server with a fault in a row or later.
+fn is_refused_since(refused: &NumberTable<u64>, server: u32, fault: Fault, row: u64) -> bool
+    ensures { Tells (plain.IsSince row (entry_at (plain.key_of server fault) refused.now)) result }
 {
-    for refusal in refusals {
-        if refusal.fault == fault && row <= refusal.row {
-            return true;
-        }
-    }
-    false
-}
-
-/// The same at a server.
-fn is_refused_at(
-    refused: &NumberTable<Newest<Refusal>>,
-    server: u32,
-    fault: Fault,
-    row: u64,
-) -> bool
-    ensures { Tells (plain.IsRefusedSince fault row (listed server refused.now)) result }
-{
-    match refused.get(u64::from(server)) {
+    match refused.get(key_of(server, fault)) {
         None => false,
-        Some(refusals) => is_refused_since(refusals, fault, row),
+        Some(last) => row <= *last,
     }
 }
 
-fn is_refused_among(
-    refused: &NumberTable<Newest<Refusal>>,
-    begun: &Newest<Begun>,
-    fault: Fault,
-) -> bool
+fn is_refused_among(refused: &NumberTable<u64>, begun: &Newest<Begun>, fault: Fault) -> bool
     ensures { Tells (plain.IsRefusedAmong fault refused.now begun.now) result }
 {
     for start in begun {
-        if is_refused_at(refused, start.server, fault, start.row) {
+        if is_refused_since(refused, start.server, fault, start.row) {
             return true;
         }
     }
@@ -221,7 +204,7 @@ impl Openings {
         };
         begin_all(&mut self.begun, alloc, rows, row.outs.as_slice())?;
         let refused = refused_by(past, here, &row.event.what);
-        refuse(&mut self.refused, alloc, rows, refused)?;
+        refuse(&mut self.refused, rows, refused)?;
         self.rows = rows;
         Ok(())
     }
