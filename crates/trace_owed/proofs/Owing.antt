@@ -15,13 +15,13 @@ use Rattle.right_trace.specs.Places.{Site, site, is_of_kind, Stand, Unused, Open
 use Rattle.right_trace.specs.Parts.{IsIn}
 use Rattle.right_trace.specs.Frames.{came_here, brings}
 use Rattle.right_trace.specs.Writes.{Written, waiting_with}
-use Rattle.right_trace.specs.Exchanges.{unanswered, octets_for, is_before, waited_for, IsAmong}
+use Rattle.right_trace.specs.Exchanges.{octets_for, is_before, waited_for, IsAmong}
 use Rattle.right_trace.specs.Owed.{IsOwed, AllAreDone}
 use Rattle.trace_tables.specs.declared.books.Books.{Books}
 use Rattle.trace_tables.specs.declared.places.Place.{Place}
 use Rattle.trace_tables.specs.declared.sends.Sent.{Sent}
 use Rattle.trace_tables.specs.Known.{site_seen, stand_seen}
-use Rattle.trace_tables.specs.Requests.{start_seen, started_seen}
+use Rattle.trace_tables.specs.Requests.{start_seen}
 use Rattle.trace_tables.specs.Lists.{listed}
 use Rattle.trace_tables.specs.Books as books
 use Rattle.trace_frames.specs.declared.ledger.Ledger.{Ledger}
@@ -32,7 +32,6 @@ use Rattle.message_matching.specs.Matching.{carries_by}
 use Rattle.message_matching.proofs.Requests.{carries_so, so_carries}
 use Rattle.trace_due.specs.Loose.{brings_seen}
 use Rattle.trace_due.proofs.Waits.{freeing, brings_is}
-use Rattle.trace_questions.specs.Outs.{Tells}
 use Rattle.trace_questions.proofs.Deciding.{both, all, not_true}
 use Rattle.trace_exchanges.specs.Open.{Open, is_for, octets_of}
 use Rattle.trace_exchanges.specs.Open as open_sends

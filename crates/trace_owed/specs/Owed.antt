@@ -1,17 +1,15 @@
 -- What servers still owe a request, as a walk over its exchanges finds it.
-use Rattle.std.specs.Prelude.{◌≡◌, ℕ, zero, ◌<◌, ◌==◌, ◌&&◌, ◌||◌, not, nat_lt, Bool, true, false, length, List, [], ◌∷◌, Option, Some, None}
+use Rattle.std.specs.Prelude.{◌≡◌, ℕ, ◌<◌, ◌==◌, ◌&&◌, ◌||◌, not, nat_lt, Bool, true, false, length, List, [], ◌∷◌, Option, Some, None}
 use Rattle.number_table.specs.Entries.{entry_at}
 use Rattle.client_request.specs.Request.{Request}
 use Rattle.client_request.specs.declared.event.What.{What}
 use Rattle.client_request.specs.declared.event.Via.{Via}
 use Rattle.client_request.specs.declared.event.Via.TheVariants.{Dgram, Stream}
 use Rattle.right_trace.specs.Trace.{History, Conf}
-use Rattle.right_trace.specs.Time.{newest}
-use Rattle.right_trace.specs.Messages.{Octets}
-use Rattle.right_trace.specs.Requests.{Asking, handed}
+use Rattle.right_trace.specs.Requests.{Asking}
 use Rattle.right_trace.specs.Places.{is_alive, is_told}
 use Rattle.right_trace.specs.Writes.{Written}
-use Rattle.right_trace.specs.Owed.{IsOwed, AllAreDone}
+use Rattle.right_trace.specs.Owed.{AllAreDone}
 use Rattle.trace_tables.specs.declared.books.Books.{Books}
 use Rattle.trace_tables.specs.declared.places.Place.{Place}
 use Rattle.trace_tables.specs.declared.requests.Requests.{Requests}
