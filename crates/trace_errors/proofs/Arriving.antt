@@ -1,10 +1,8 @@
 -- What came for requests in a row, and what is kept of it, is what the definitions say.
-use Rattle.std.proofs.Common.{◌≡◌, ℕ, ◌==◌, ◌&&◌, ◌⊎◌, inl, inr, not, Bool, true, false, if◌then◌else◌, List, [], ◌∷◌, Option, Some, None, refl, sym, ap, ap₂, ◌∙◌, subst}
+use Rattle.std.proofs.Common.{◌≡◌, ℕ, ◌==◌, ◌&&◌, ◌⊎◌, inl, inr, not, Bool, true, false, if◌then◌else◌, List, [], ◌∷◌, Option, Some, None, refl, sym, ap, ◌∙◌, subst}
 use Rattle.std.specs.Prelude.{is_some}
 use Rattle.number_table.specs.Entries.{puts, entry_at}
 use Rattle.client_request.specs.Request.{Request}
-use Rattle.client_request.specs.declared.event.What.{What}
-use Rattle.client_request.specs.declared.event.What.TheVariants.{Tick}
 use Rattle.client_request.specs.declared.event.Row.{Row}
 use Rattle.client_request.specs.declared.event.Via.{Via}
 use Rattle.client_request.specs.declared.event.Via.TheVariants.{Dgram, Stream}
@@ -19,8 +17,8 @@ use Rattle.right_trace.specs.Frames.{came}
 use Rattle.right_trace.specs.Keys.{is_cacheable}
 use Rattle.right_trace.specs.Validity.{validity_of_message, is_deferred}
 use Rattle.right_trace.specs.Timers.{ReadTimerIsDue}
-use Rattle.right_trace.specs.Exchanges.{Comes, Matches, is_whole, first_of}
-use Rattle.right_trace.specs.Coming.{IsExcused, CameFor, SomeCame}
+use Rattle.right_trace.specs.Exchanges.{Matches, is_whole, first_of}
+use Rattle.right_trace.specs.Coming.{IsExcused, SomeCame}
 use Rattle.right_trace.specs.Errors.{CameWithoutValidity}
 use Rattle.trace_tables.specs.declared.places.Place.{Place}
 use Rattle.trace_tables.specs.Known.{site_seen}
@@ -35,7 +33,7 @@ use Rattle.trace_due.specs.Timers as timers
 use Rattle.trace_due.specs.Due.{read_due}
 use Rattle.trace_due.proofs.ReadTimers.{both, all, tells_read_timer}
 use Rattle.trace_exchanges.specs.declared.coming.Coming.{Coming}
-use Rattle.trace_exchanges.specs.Coming.{is_wanted, IsComing, AllComing}
+use Rattle.trace_exchanges.specs.Coming.{is_wanted, AllComing}
 use Rattle.trace_promptness.specs.Heard.{is_passed_over}
 use Rattle.trace_promptness.specs.Prompt.{is_uncut, matches, is_stream, excused_in}
 use Rattle.trace_promptness.proofs.Hearing.{before_row, brought_to}

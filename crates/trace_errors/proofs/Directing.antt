@@ -1,6 +1,5 @@
 -- What is found of direct causes is what the definitions say.
 use Rattle.std.proofs.Common.{◌≡◌, ℕ, ◌==◌, ◌&&◌, ◌||◌, ◌⊎◌, inl, inr, Bool, true, false, List, [], ◌∷◌, Option, Some, None, refl, sym, ap, ◌∙◌, subst}
-use Rattle.std.specs.Prelude.{length}
 use Rattle.client_request.specs.declared.error.Error.{Error}
 use Rattle.client_request.specs.declared.error.Error.TheVariants as errors
 use Rattle.client_request.specs.declared.event.What.{What}
@@ -9,7 +8,7 @@ use Rattle.right_trace.specs.Trace.{History, Conf, Came, Put}
 use Rattle.right_trace.specs.Time.{newest, row_before, EarlierRow, OfRow}
 use Rattle.right_trace.specs.Settings.{Settings}
 use Rattle.right_trace.specs.Messages.{Octets}
-use Rattle.right_trace.specs.Requests.{Asking, asking, asks, is_ask, is_asked_here}
+use Rattle.right_trace.specs.Requests.{Asking, asks, is_ask, is_asked_here}
 use Rattle.right_trace.specs.Parts.{IsIn}
 use Rattle.right_trace.specs.Causes.{ServerCause, NotOpened, NotSent, SentShort, NotReceived, NoAnswer, WrongReply, StreamSilence, NotRead, NotComposed}
 use Rattle.right_trace.specs.Errors.{HereOrEarlier, Here as Now, Earlier as Before, CameWithoutValidity, DirectCause, Deadline, NoServer, ByServer, NoValidity}
@@ -25,7 +24,7 @@ use Rattle.trace_promptness.specs.Heard.{Heards}
 use Rattle.trace_promptness.specs.Heard as heards
 use Rattle.trace_errors.specs.declared.earlier.Earlier.{Earlier}
 use Rattle.trace_errors.specs.Rows.{ByRow, IsCaused, WasCaused}
-use Rattle.trace_errors.specs.Arrivals.{is_unkept, is_marked, UnkeptCame}
+use Rattle.trace_errors.specs.Arrivals.{is_unkept}
 use Rattle.trace_errors.specs.Earlier as earlier
 use Rattle.trace_errors.proofs.Rows.{same_number, own, either, earlier_so, so_earlier}
 use Rattle.trace_errors.proofs.Arriving.{unkept_so, so_unkept, none_unkept}

@@ -1,5 +1,5 @@
 -- What is old was so before the newest row.
-use Rattle.std.proofs.Common.{◌≡◌, ℕ, ◌==◌, ◌<◌, ◌&&◌, Bool, true, false, if◌then◌else◌, [], ◌∷◌, Option, Some, None, refl, sym, ap, ◌∙◌, subst, arith}
+use Rattle.std.proofs.Common.{◌≡◌, ℕ, ◌==◌, ◌<◌, ◌&&◌, Bool, true, false, if◌then◌else◌, [], ◌∷◌, Option, Some, refl, sym, ap, ◌∙◌, subst, arith}
 use Rattle.client_request.specs.declared.event.What.{What}
 use Rattle.client_request.specs.declared.event.What.TheVariants.{Ask, Opened, OpenFailed, SendFailed, ShortSend, Datagram, RecvFailed, Wrote, WriteFailed, Bytes, ReadFailed, Ended, Tick}
 use Rattle.client_request.specs.declared.event.Out.{Out}
@@ -11,7 +11,6 @@ use Rattle.right_trace.specs.Time.{now, newest, row_before}
 use Rattle.right_trace.specs.Requests.{is_start, start}
 use Rattle.right_trace.specs.Places.{Site, site, is_site, is_at, opens_as, Stand, Unused, Opening, Alive, Gone, stand, is_live, is_unused, opened, failed, closed, begun, on_event, on_out}
 use Rattle.right_trace.specs.Causes.{Try, last_try}
-use Rattle.trace_errors.proofs.Rows.{same_number, own}
 
 -- a start that is older than this moment
 pub begun_before : (k s b : ℕ) (v : Via) (h : History) → start k s v h ≡ Some b → b < now h → start k s v (row_before h) ≡ Some b

@@ -1,5 +1,5 @@
 -- Behind each row that is right what is noted of errors is what the definitions say.
-use Rattle.std.proofs.Common.{◌≡◌, ℕ, ◌+◌, ◌≤◌, ◌==◌, ◌&&◌, ◌⊎◌, inl, inr, not, Bool, true, false, if◌then◌else◌, List, [], ◌∷◌, Option, Some, None, refl, sym, ap, ap₂, ◌∙◌, subst, arith}
+use Rattle.std.proofs.Common.{◌≡◌, ℕ, ◌==◌, ◌&&◌, ◌⊎◌, inl, inr, not, Bool, true, false, if◌then◌else◌, List, [], ◌∷◌, Option, Some, None, refl, sym, ap, ap₂, ◌∙◌, subst, arith}
 use Rattle.client_request.specs.declared.error.Error.{Error}
 use Rattle.client_request.specs.declared.error.Error.TheVariants as errors
 use Rattle.client_request.specs.declared.error.QueryError.TheVariants as query
@@ -13,18 +13,18 @@ use Rattle.client_request.specs.declared.event.Row.{Row}
 use Rattle.client_request.specs.declared.event.Via.{Via}
 use Rattle.client_request.specs.declared.event.Via.TheVariants.{Dgram, Stream}
 use Rattle.right_trace.specs.Trace.{History, Conf, Came, Put, after}
-use Rattle.right_trace.specs.Time.{now, newest, row_before}
+use Rattle.right_trace.specs.Time.{now, newest}
 use Rattle.right_trace.specs.Messages.{answers}
 use Rattle.right_trace.specs.Settings.{Settings}
 use Rattle.right_trace.specs.Requests.{same_via}
-use Rattle.right_trace.specs.Places.{is_at, is_live, stand}
+use Rattle.right_trace.specs.Places.{is_at}
 use Rattle.right_trace.specs.Parts.{IsIn}
 use Rattle.right_trace.specs.Exchanges.{Comes}
-use Rattle.right_trace.specs.Causes.{Try, Named, named, IsOneOf, last_try, FailedAt, TriesAreUp, StreamIsSilent, Heard, CameWrong, ServerCause, NotSent, NoAnswer, WrongReply, StreamSilence}
+use Rattle.right_trace.specs.Causes.{Try, Named, named, IsOneOf, last_try, FailedAt, TriesAreUp, StreamIsSilent, Heard, CameWrong, ServerCause, NoAnswer, WrongReply, StreamSilence}
 use Rattle.right_trace.specs.Right.{RowRight}
 use Rattle.trace_tables.specs.declared.books.Books.{Books}
 use Rattle.trace_tables.specs.declared.sends.Sent.{Sent}
-use Rattle.trace_tables.specs.Lists.{listed, adds}
+use Rattle.trace_tables.specs.Lists.{listed}
 use Rattle.trace_tables.specs.Sends.{names_of}
 use Rattle.trace_tables.specs.Books as books
 use Rattle.trace_tables.proofs.Listing.{listed_adds}
@@ -36,7 +36,7 @@ use Rattle.trace_promptness.specs.Heard.{Heards, heard_seen, WasHeard}
 use Rattle.trace_promptness.specs.Heard as heards
 use Rattle.trace_promptness.specs.Overdue.{tries_are_up, stream_is_silent}
 use Rattle.trace_promptness.proofs.Hearing.{before_row, row_event, rows_before}
-use Rattle.trace_promptness.proofs.Delaying.{not_true, tells_tries, tells_silence}
+use Rattle.trace_promptness.proofs.Delaying.{tells_tries, tells_silence}
 use Rattle.trace_errors.proofs.Caused.{cause_of, of_cause}
 use Rattle.trace_errors.specs.Rows.{IsCaused, WasCaused}
 use Rattle.trace_errors.specs.Noted.{Noted, notes, note_all, lost, wrong_of, silent_of, failed_place, unopened_place, closed_place, note_failed, note_lost, note_closed, after_row, IsNoted, Known, GoesOn}

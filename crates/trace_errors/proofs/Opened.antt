@@ -11,13 +11,12 @@ use Rattle.client_request.specs.declared.event.What.TheVariants.{Ask, Opened, Op
 use Rattle.client_request.specs.declared.event.Out.{Out}
 use Rattle.client_request.specs.declared.event.Out.TheVariants.{Start, OpenDgram, OpenStream, Send, Write, Resume, Close, Stale, Reply}
 use Rattle.client_request.specs.declared.event.Row.{Row}
-use Rattle.client_request.specs.declared.event.Via.{Via}
 use Rattle.client_request.specs.declared.event.Via.TheVariants.{Dgram, Stream}
 use Rattle.right_trace.specs.Trace.{History, Conf, Came, Put, put_all, after}
-use Rattle.right_trace.specs.Time.{now, newest, row_before, OfRow}
+use Rattle.right_trace.specs.Time.{now, newest, row_before}
 use Rattle.right_trace.specs.Requests.{same_via, start, started}
 use Rattle.right_trace.specs.Parts.{IsIn}
-use Rattle.right_trace.specs.Causes.{FailedToOpen, ServerCause, NotOpened}
+use Rattle.right_trace.specs.Causes.{FailedToOpen, NotOpened}
 use Rattle.trace_tables.specs.declared.books.Books.{Books}
 use Rattle.trace_tables.specs.declared.places.Place.{Place}
 use Rattle.trace_tables.specs.declared.requests.Requests.{Requests}
@@ -35,7 +34,7 @@ use Rattle.trace_errors.specs.declared.openings.Begun.{Begun}
 use Rattle.trace_errors.specs.declared.openings.Refused.{Refused}
 use Rattle.trace_errors.specs.declared.openings.Openings.{Openings}
 use Rattle.trace_errors.specs.Rows.{IsCaused, WasCaused}
-use Rattle.trace_errors.specs.Openings.{begins, begin_all, refused_at, refused_by, number_of, key_of, refuses, after_row, IsSince, IsRefusedAmong, IsRefused, Known, GoesOn}
+use Rattle.trace_errors.specs.Openings.{begins, begin_all, refused_at, refused_by, number_of, key_of, refuses, after_row, IsSince, IsRefusedAmong, Known, GoesOn}
 use Rattle.trace_errors.proofs.Rows.{same_number, own, more_so, more_kept, more_new, row_later, row_was}
 
 -- requests that servers have

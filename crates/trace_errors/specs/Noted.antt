@@ -1,5 +1,5 @@
 -- What a forward pass keeps of errors that a server gave a request in a row that is done.
-use Rattle.std.specs.Prelude.{◌≡◌, ℕ, ◌&&◌, ◌⊎◌, not, Bool, true, if◌then◌else◌, List, [], ◌∷◌, Option, Some, None}
+use Rattle.std.specs.Prelude.{ℕ, ◌&&◌, ◌⊎◌, not, if◌then◌else◌, List, [], ◌∷◌, Option, Some, None}
 use Rattle.client_request.specs.declared.error.Error.{Error}
 use Rattle.client_request.specs.declared.error.Error.TheVariants as errors
 use Rattle.client_request.specs.declared.error.QueryError.TheVariants as query

@@ -1,5 +1,5 @@
 -- What a forward pass keeps of openings that failed, by server and fault, and of requests that servers have by datagrams: each with its row, and of openings the newest.
-use Rattle.std.specs.Prelude.{◌≡◌, ℕ, ◌+◌, ◌*◌, ◌≤◌, ◌&&◌, ◌⊎◌, Bool, true, if◌then◌else◌, List, [], ◌∷◌, Option, Some, None}
+use Rattle.std.specs.Prelude.{◌≡◌, ℕ, ◌+◌, ◌*◌, ◌≤◌, ◌&&◌, ◌⊎◌, true, if◌then◌else◌, List, [], ◌∷◌, Option, Some, None}
 use Rattle.number_table.specs.Entries.{puts, entry_at}
 use Rattle.client_request.specs.declared.error.Error.TheVariants as errors
 use Rattle.client_request.specs.declared.error.QueryError.TheVariants as query
