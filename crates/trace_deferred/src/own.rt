@@ -1,0 +1,120 @@
+//! Whether an error has a cause of its own.
+
+ghost use Rattle.std.specs.Prelude.{◌≡◌, IfOk};
+ghost use Rattle.right_trace.specs.Errors.{is_of_server};
+ghost use Rattle.trace_deferred.specs.Own as plain;
+
+use client_request::{Error, What};
+use dns_base::NoMemory;
+use std::alloc::Global;
+use trace_due::Timers;
+use trace_errors::{Earlier, direct_cause, is_excused, matches};
+use trace_exchanges::{Coming, Open};
+use trace_frames::{Here, Ledger};
+use trace_owed::{Exchanged, are_all_done};
+use trace_promptness::{Heards, TraceSettings};
+use trace_questions::TraceConf;
+
+/// Whether only a server gives an error.
+fn is_of_server(error: Error) -> bool
+    ensures { result ≡ is_of_server error }
+{
+    matches!(
+        error,
+        Error::Dgram(_) | Error::WrongReplyForQuery | Error::StreamReadTimeout
+    )
+}
+
+fn some_matching(request: u64, comings: &[Coming]) -> bool
+    ensures { result ≡ plain.some_matching request comings.now }
+{
+    for coming in comings {
+        if coming.request == request && matches(coming) {
+            return true;
+        }
+    }
+    false
+}
+
+/// Whether no message came for a request that may not be passed over.
+fn none_came(
+    past: &Ledger,
+    timers: &Timers,
+    here: &Ledger,
+    outs: &Here,
+    earlier: &Earlier,
+    comings: &[Coming],
+    request: u64,
+) -> bool
+    ensures { result ≡ plain.none_came past.now timers.now here.now outs.now earlier.now comings.now request }
+{
+    !earlier.arrivals.came.contains_key(request)
+        && (is_excused(past, timers, here, outs) || !some_matching(request, comings))
+}
+
+fn find_own(
+    alloc: Global,
+    conf: &TraceConf,
+    settings: &TraceSettings,
+    past: &Ledger,
+    timers: &Timers,
+    heard: &Heards,
+    here: &Ledger,
+    outs: &Here,
+    earlier: &Earlier,
+    sends: &Open,
+    exchanged: &Exchanged,
+    what: &What,
+    comings: &[Coming],
+    request: u64,
+    error: Error,
+) -> Result<bool, NoMemory>
+    ensures { IfOk result (plain.IsOwn conf.now settings.now past.now timers.now heard.now here.now outs.now earlier.now sends.now exchanged.now what.now comings.now request error) }
+{
+    let books = &past.books;
+    let direct = direct_cause(
+        alloc,
+        conf,
+        settings,
+        books,
+        heard,
+        &here.books,
+        earlier,
+        what,
+        comings,
+        request,
+        error,
+    )?;
+    let done = are_all_done(alloc, conf, books, here, sends, exchanged, what, request)?;
+    let none = none_came(past, timers, here, outs, earlier, comings, request);
+    Ok(direct && (!(is_of_server(error) && settings.defers_errors()) || (done && none)))
+}
+
+/// Whether an error of a request has a cause of its own, in a row with this event: a direct one, and where it is a server's and
+/// such are deferred, every server is done with the request, and no message came for it. `past`, `timers`, `heard` and `earlier`
+/// are what was known before the row; `here`, `sends` and `exchanged` are what is known where the error is given, `outs` is what
+/// the row's outs made of places by there, and `comings` all that came for the request by there.
+pub fn own_cause(
+    alloc: Global,
+    conf: &TraceConf,
+    settings: &TraceSettings,
+    past: &Ledger,
+    timers: &Timers,
+    heard: &Heards,
+    here: &Ledger,
+    outs: &Here,
+    earlier: &Earlier,
+    sends: &Open,
+    exchanged: &Exchanged,
+    what: &What,
+    comings: &[Coming],
+    request: u64,
+    error: Error,
+) -> Result<bool, NoMemory>
+    ensures { IfOk result (plain.TellsOwn conf.now settings.now past.now timers.now heard.now here.now outs.now earlier.now sends.now exchanged.now what.now comings.now request error) }
+{
+    find_own(
+        alloc, conf, settings, past, timers, heard, here, outs, earlier, sends, exchanged, what,
+        comings, request, error,
+    )
+}

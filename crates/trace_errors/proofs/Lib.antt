@@ -1,0 +1,10 @@
+pub mod Telltale
+pub mod Caused
+pub mod Rows
+pub mod Opened
+pub mod Steady
+pub mod Lasting
+pub mod Noting
+pub mod Arriving
+pub mod Telling
+pub mod Directing

@@ -1,0 +1,78 @@
+-- All that a forward pass keeps of rows that are done for causes of errors, and whether a server gave a request an error in one.
+use Rattle.std.specs.Prelude.{◌≡◌, ℕ, ◌⊎◌, Bool, true, false, List, None, []}
+use Rattle.client_request.specs.declared.error.Error.{Error}
+use Rattle.client_request.specs.declared.error.Error.TheVariants as errors
+use Rattle.client_request.specs.declared.error.QueryError.TheVariants as query
+use Rattle.client_request.specs.declared.event.Row.{Row}
+use Rattle.right_trace.specs.Trace.{History, Conf, after}
+use Rattle.right_trace.specs.Settings.{Settings}
+use Rattle.right_trace.specs.Right.{RowRight}
+use Rattle.trace_tables.specs.declared.books.Books.{Books}
+use Rattle.trace_tables.specs.Books as books
+use Rattle.trace_frames.specs.declared.here.Here.{Here}
+use Rattle.trace_frames.specs.declared.ledger.Ledger.{Ledger}
+use Rattle.trace_frames.specs.Ledger as ledger
+use Rattle.trace_frames.specs.Here as here_outs
+use Rattle.trace_due.specs.declared.timers.Timers.{Timers}
+use Rattle.trace_due.specs.Timers as timers
+use Rattle.trace_questions.specs.Outs.{Tells}
+use Rattle.trace_exchanges.specs.declared.coming.Coming.{Coming}
+use Rattle.trace_exchanges.specs.Coming.{AllComing}
+use Rattle.trace_causes.specs.Failing.{TellsUnread, TellsTooMany}
+use Rattle.trace_promptness.specs.Heard.{Heards}
+use Rattle.trace_promptness.specs.Heard as heards
+use Rattle.trace_promptness.specs.Overdue.{tries_are_up, stream_is_silent}
+use Rattle.trace_errors.specs.declared.earlier.Earlier.{Earlier}
+use Rattle.trace_errors.specs.Rows.{WasCaused}
+use Rattle.trace_errors.specs.Openings.{IsRefused}
+use Rattle.trace_errors.specs.Openings as openings
+use Rattle.trace_errors.specs.Noted.{Noted, IsNoted}
+use Rattle.trace_errors.specs.Noted as noted
+use Rattle.trace_errors.specs.Arrivals as arrivals
+
+abbrev pub nothing : Earlier
+nothing = record { openings = openings.nothing; noted = []; arrivals = arrivals.nothing }
+
+-- what a row makes of it, over what was known before it and what is known behind it, and by what came in it
+abbrev pub after_row : Settings → (past : Ledger) → Timers → Heards → (here : Ledger) → Here → Row → List Coming → Earlier → Earlier
+after_row s l t heard l' o row xs e = record {
+  openings = openings.after_row l.books.places l'.books.places row e.openings;
+  noted = noted.after_row l.books l'.books heard row xs e.noted;
+  arrivals = arrivals.after_row s l t l' o xs e.arrivals;
+}
+
+-- what is kept is what the definitions say, where rows are done
+pub record Known (c : Conf) (s : Settings) (h : History) (e : Earlier) : Type 0 where
+  pub openings : openings.Known c h e.openings
+  pub noted : noted.Known c h e.noted
+  pub arrivals : arrivals.Known c s h e.arrivals
+
+-- it is known before the first row, and goes on over rows that are right
+pub record GoesOn : Type 0 where
+  pub begins : (c : Conf) (s : Settings) → Known c s [] nothing
+  pub row : (c : Conf) (s : Settings) (past : History) (row : Row) (l l' : Ledger) (t : Timers) (heard heard' : Heards) (o : Here) (xs : List Coming) (e : Earlier) → RowRight c s past row
+      → ledger.Known past l → ledger.Known (after row past) l' → timers.Known past t → heards.Known c past heard → heards.Known c (after row past) heard' → here_outs.Known l.books.places (after row past) o
+      → AllComing c None past (after row past) xs → Known c s past e → Known c s (after row past) (after_row s l t heard l' o row xs e)
+
+-- an error is noted, or its cause is there still
+abbrev pub IsLost : (k : ℕ) → Noted → (past : Books) → Type 0
+IsLost k n b = IsNoted k (errors.Dgram query.Timeout) n ⊎ (tries_are_up k b.requests.clock b.places b ≡ true)
+
+abbrev pub IsSilent : (k : ℕ) → Noted → (past : Books) → Heards → Type 0
+IsSilent k n b heard = IsNoted k errors.StreamReadTimeout n ⊎ (stream_is_silent k b.requests.clock b.requests heard ≡ true)
+
+-- what an answer is for each error
+abbrev pub AnswersFor : (past : Books) → Heards → Earlier → (k : ℕ) → Error → Bool → Type 0
+AnswersFor b heard t k (errors.Dgram (query.Connect f)) a = Tells (IsRefused k f t.openings) a
+AnswersFor b heard t k (errors.Dgram (query.Send f)) a = Tells (IsNoted k (errors.Dgram (query.Send f)) t.noted) a
+AnswersFor b heard t k (errors.Dgram (query.Receive f)) a = Tells (IsNoted k (errors.Dgram (query.Receive f)) t.noted) a
+AnswersFor b heard t k (errors.Dgram query.Timeout) a = Tells (IsLost k t.noted b) a
+AnswersFor b heard t k errors.WrongReplyForQuery a = Tells (IsNoted k errors.WrongReplyForQuery t.noted) a
+AnswersFor b heard t k errors.StreamReadTimeout a = Tells (IsSilent k t.noted b heard) a
+AnswersFor b heard t k errors.MessageParseError a = TellsUnread k b a
+AnswersFor b heard t k errors.MessageBuilderPushError a = TellsTooMany k b a
+AnswersFor b heard t k _ a = a ≡ false
+
+-- the answer, of every history that the tables know, where rows are done
+abbrev pub TellsEarlier : (past : Books) → Heards → Earlier → (k : ℕ) → Error → Bool → Type 0
+TellsEarlier b heard t k e a = (c : Conf) (s : Settings) (x : History) → books.Known x b → heards.Known c x heard → Known c s x t → Tells (WasCaused c k e x) a

@@ -1,0 +1,8 @@
+//! What is kept is what the definitions say.
+
+ghost use Rattle.trace_owed.specs.Exchanged.{GoesOn};
+
+/// Whatever may be waited for is kept, before the first row and over each event and out.
+pub fn exchanges_go_on()
+    ensures { GoesOn }
+{}
