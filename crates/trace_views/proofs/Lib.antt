@@ -1,0 +1,5 @@
+pub mod Among
+pub mod Giving
+pub mod Finding
+pub mod Numbering
+pub mod Failing
