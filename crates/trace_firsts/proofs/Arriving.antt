@@ -84,15 +84,12 @@ module _ (c : Conf) (past : History) (row : Row) (l l' : Ledger) (t : Timers) (o
 
   -- ---- by the end of the row
 
-  here_now : {P : History → Type 0} → P end → ByRow P end
-  here_now p = inl p
+  still : (P : History → Type 0) → ByRow P past → ByRow P end
+  still P b = inr (before_rows P row past b)
 
-  still : {P : History → Type 0} → ByRow P past → ByRow P end
-  still {P} b = inr (before_rows P row past b)
-
-  was : {P : History → Type 0} → ByRow P end → P end ⊎ ByRow P past
-  was {P} (inl p) = inl p
-  was {P} (inr e) = inr (rows_before P row past e)
+  was : (P : History → Type 0) → ByRow P end → P end ⊎ ByRow P past
+  was P (inl p) = inl p
+  was P (inr e) = inr (rows_before P row past e)
 
   -- ---- what came in the row
 
@@ -114,16 +111,16 @@ module _ (c : Conf) (past : History) (row : Row) (l l' : Ledger) (t : Timers) (o
 
   new_has : (z : Coming) → IsIn z xs → matches z ≡ true → (k : ℕ) → z.request ≡ k → HasCome c k end (news_of (not excused) f z).arrived
   new_has z i e k is = subst (λ k. HasCome c k end (news_of (not excused) f z).arrived) is (record {
-    came = here_now {OfRow (CameFor c z.request z.message)} (new_came z i e);
-    counted = λ b. here_now {OfRow (SomeCame c z.request)} (new_counts z i e (not_false excused b));
-    first = λ b. here_now {FirstRow c z.request z.message} (new_came z i e, none_before z.request (not_false (counted z.request f) b));
+    came = inl (new_came z i e);
+    counted = λ b. inl (new_counts z i e (not_false excused b));
+    first = λ b. inl (new_came z i e, none_before z.request (not_false (counted z.request f) b));
   })
 
   old_has : (k : ℕ) (x : Arrived) → HasCome c k past x → HasCome c k end x
   old_has k x h = record {
-    came = still {OfRow (CameFor c k x.message)} h.came;
-    counted = λ b. still {OfRow (SomeCame c k)} (h.counted b);
-    first = λ b. still {FirstRow c k x.message} (h.first b);
+    came = still (OfRow (CameFor c k x.message)) h.came;
+    counted = λ b. still (OfRow (SomeCame c k)) (h.counted b);
+    first = λ b. still (FirstRow c k x.message) (h.first b);
   }
 
   abbrev then : Firsts
@@ -167,14 +164,14 @@ module _ (c : Conf) (past : History) (row : Row) (l l' : Ledger) (t : Timers) (o
   at_past P p = subst P (before_row row past) p
 
   came_then : (k : ℕ) (m : Octets) → ByRow (OfRow (CameFor c k m)) end → (x : Arrived) × IsIn x (listed k then) × (x.message ≡ m)
-  came_then k m b = go (was {OfRow (CameFor c k m)} b)
+  came_then k m b = go (was (OfRow (CameFor c k m)) b)
     where
       go : OfRow (CameFor c k m) end ⊎ ByRow (OfRow (CameFor c k m)) past → (x : Arrived) × IsIn x (listed k then) × (x.message ≡ m)
       go (inl w) = let z = coming_for k m (at_past (λ past. CameFor c k m past (newest end) end) w) in ((news_of (not excused) f z.coming).arrived, listed_then k m z, z.is_message)
       go (inr b) = let x = kf.came k m b in (x.0, still_listed k x.0 (all_news (not excused) f xs) f x.1, x.2)
 
   counted_then : (k : ℕ) → ByRow (OfRow (SomeCame c k)) end → (x : Arrived) × IsIn x (listed k then) × (x.counts ≡ true)
-  counted_then k b = go (was {OfRow (SomeCame c k)} b)
+  counted_then k b = go (was (OfRow (SomeCame c k)) b)
     where
       here : SomeCame c k past (newest end) end → (d : Bool) → excused ≡ d → (x : Arrived) × IsIn x (listed k then) × (x.counts ≡ true)
       here w true e = absurd (w.counts (excused_so w.came.place w.came.id w.came.via w.message w.came.matches.comes.first e))
@@ -185,7 +182,7 @@ module _ (c : Conf) (past : History) (row : Row) (l l' : Ledger) (t : Timers) (o
       go (inr b) = let x = kf.counted k b in (x.0, still_listed k x.0 (all_news (not excused) f xs) f x.1, x.2)
 
   first_then : (k : ℕ) (m : Octets) → ByRow (FirstRow c k m) end → (x : Arrived) × IsIn x (listed k then) × (x.message ≡ m) × (x.first ≡ true)
-  first_then k m b = go (was {FirstRow c k m} b)
+  first_then k m b = go (was (FirstRow c k m) b)
     where
       uncounted : (EarlierRow (OfRow (SomeCame c k)) end → ⊥) → (d : Bool) → counted k f ≡ d → d ≡ false
       uncounted none false e = refl

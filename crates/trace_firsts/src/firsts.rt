@@ -170,7 +170,10 @@ fn copy_of(arrived: &Arrived) -> Result<Arrived, NoMemory>
     ensures { IfOk result (λ copy. copy ≡ arrived.now) }
 {
     let message = arrived.message.try_clone()?;
-    Ok(Arrived { message, ..*arrived })
+    Ok(Arrived {
+        message,
+        ..*arrived
+    })
 }
 
 fn add_all(firsts: &mut Firsts, alloc: Global, news: &[News]) -> Result<(), NoMemory>

@@ -7,7 +7,9 @@ use Rattle.client_request.specs.declared.error.Error.{Error}
 use Rattle.client_request.specs.declared.event.Event.{Event}
 use Rattle.client_request.specs.declared.event.Out.{Out}
 use Rattle.client_request.specs.declared.event.Out.TheVariants.{Reply}
-use Rattle.right_trace.specs.Trace.{History, Item, Conf, Came, Put}
+use Rattle.client_request.specs.declared.event.Row.{Row}
+use Rattle.client_request.specs.declared.event.What.{What}
+use Rattle.right_trace.specs.Trace.{History, Item, Conf, Came, Put, put_all, after}
 use Rattle.right_trace.specs.Time.{now, newest, row_before, Ever}
 use Rattle.right_trace.specs.Messages.{Octets}
 use Rattle.right_trace.specs.Settings.{Settings}
@@ -16,7 +18,7 @@ use Rattle.right_trace.specs.Parts.{IsIn}
 use Rattle.right_trace.specs.Keys.{Key, key_of, is_cacheable}
 use Rattle.right_trace.specs.Replies.{IsFresh, IsFreshReply}
 use Rattle.right_trace.specs.Errors.{DirectCause, IsErrorReply}
-use Rattle.right_trace.specs.Right.{IsAsked}
+use Rattle.right_trace.specs.Right.{IsAsked, OutRight, OutsRight, RowRight}
 use Rattle.right_trace.proofs.Asked.{asking_came}
 use Rattle.cache_rules.specs.Key.{same_key, same_itself, same_is_equal}
 use Rattle.message_views.specs.declared.serving.Flags.{Flags}
@@ -26,7 +28,7 @@ use Rattle.trace_tables.specs.declared.requests.Requests.{Requests}
 use Rattle.trace_tables.specs.Requests as requests
 use Rattle.trace_given.specs.Asks.{common}
 use Rattle.trace_given.specs.declared.earlier.Earlier.{Earlier}
-use Rattle.trace_given.specs.Earlier.{Outcome, Table, replies_to, more, Adds, Stays, Keeps, Kept, Alone, IsGiven, is_worth, IsFreshHere, IsGivenHere, Steps, Gives, Others, IsKept, IsAmong, AreBefore, Known, IsTold, GoesOn}
+use Rattle.trace_given.specs.Earlier.{Outcome, Table, replies_to, more, Adds, Stays, Keeps, Kept, Alone, IsGiven, is_worth, IsFreshHere, IsGivenHere, Steps, Gives, Others, IsKept, IsAmong, AreBefore, Known, IsTold, EachWasAsked, GoesOn}
 
 -- ---- what was given, and where
 
@@ -56,6 +58,21 @@ gave_here c s k (Err x) n o h g =
 here_gave : (c : Conf) (s : Settings) (k : ℕ) (x : Outcome) (n : ℕ) (o : Out) (h : History) → GaveHere c s k x n o h → IsGiven c s k x n (Put o ∷ h)
 here_gave c s k (Ok m) n o h g = record { before = h; put = ap (λ o. Put o ∷ h) g.out; unmarked = g.here.unmarked; fresh = g.here.fresh; at = g.at }
 here_gave c s k (Err x) n o h g = record { before = h; put = ap (λ o. Put o ∷ h) g.out; cause = g.here; at = g.at }
+
+-- ---- what was given was given to requests that were asked
+
+event_asked : (c : Conf) (s : Settings) (h : History) (e : Event) → EachWasAsked c s h → EachWasAsked c s (Came e ∷ h)
+event_asked c s h e asked k x n (inl g) = absurd (no_event c s k x n e h g)
+event_asked c s h e asked k x n (inr g) = let a = asked k x n g in (a.0, asking_came k a.0 e h a.1)
+
+module _ (c : Conf) (s : Settings) (past : History) (w : What) (end : History) where
+  out_asked : (o : Out) (h : History) → OutRight c s past w h end o → EachWasAsked c s h → EachWasAsked c s (Put o ∷ h)
+  out_asked o h right asked k x n (inl g) = let r = subst (OutRight c s past w h end) (gave_here c s k x n o h g).out right in r.0.asked
+  out_asked o h right asked k x n (inr g) = asked k x n g
+
+  outs_asked : (os : List Out) (h : History) → OutsRight c s past w end h os → EachWasAsked c s h → EachWasAsked c s (put_all os h)
+  outs_asked [] h right asked = asked
+  outs_asked (o ∷ os) h right asked = outs_asked os (Put o ∷ h) right.1 (out_asked o h right.0 asked)
 
 -- ---- lists
 
@@ -94,20 +111,19 @@ same_asking o a b p q = let z : Some a ≡ Some b = sym p ∙ q in cc
 
 -- ---- an event
 
-module _ (c : Conf) (s : Settings) (h : History) (t : Table) (e : Event) (known : Known c s h t) where
+module _ (c : Conf) (s : Settings) (h : History) (t : Table) (e : Event) (asked : EachWasAsked c s h) (known : Known c s h t) where
   ever_before : (k : ℕ) (x : Outcome) (n : ℕ) → Ever (IsGiven c s k x n) (Came e ∷ h) → Ever (IsGiven c s k x n) h
   ever_before k x n (inl g) = absurd (no_event c s k x n e h g)
   ever_before k x n (inr g) = g
 
   on_event : Known c s (Came e ∷ h) t
   on_event = record {
-    asked = λ k x n g. (let a = known.asked k x n (ever_before k x n g) in (a.0, asking_came k a.0 e h a.1));
     so = λ k z i. (
         let q = known.so k z i in
         record { asked_as = q.asked_as; asked = asking_came z.request q.asked_as e h q.asked; cacheable = q.cacheable; key = q.key; flags = q.flags; got = inr q.got; past = (let p = q.past in later_now z.moment p) });
     back = λ k x n a g worth asks cacheable. (
         let g' = ever_before k x n g in
-        let b = known.asked k x n g' in
+        let b = asked k x n g' in
         let is = same_asking (asking k (Came e ∷ h)) b.0 a (asking_came k b.0 e h b.1) asks in
         known.back k x n a g' worth (b.1 ∙ ap Some is) cacheable);
     order = λ k. later (now h) (now (Came e ∷ h)) (replies_to k t) (rises e.moment.0 (now h)) (known.order k);
@@ -122,17 +138,12 @@ module _ (c : Conf) (s : Settings) (h : History) (t : Table) (e : Event) (known 
 -- ---- an out
 
 module _ (c : Conf) (s : Settings) (h : History) (r : Requests) (old new : Table) (o : Out) (given : Bool) (kr : requests.Known h r) (told : IsTold c s o given h) (known : Known c s h old) where
-  asked_then : (k : ℕ) (x : Outcome) (n : ℕ) → Ever (IsGiven c s k x n) (Put o ∷ h) → IsAsked k (Put o ∷ h)
-  asked_then k x n (inl g) = (told k x (gave_here c s k x n o h g).out).0
-  asked_then k x n (inr g) = known.asked k x n g
-
   kept_then : (k : Key) (z : Earlier) → IsKept c s k z h → IsKept c s k z (Put o ∷ h)
   kept_then k z q = record { asked_as = q.asked_as; asked = q.asked; cacheable = q.cacheable; key = q.key; flags = q.flags; got = inr q.got; past = q.past }
 
   -- nothing is kept of the out
   stays : (put : (k : ℕ) (x : Outcome) (n : ℕ) (a : Asking) → GaveHere c s k x n o h → is_worth s x ≡ true → asking k h ≡ Some a → is_cacheable a.request ≡ true → ⊥) → Stays old new → Known c s (Put o ∷ h) new
   stays put same = record {
-    asked = asked_then;
     so = λ k z i. kept_then k z (known.so k z (subst (IsIn z) (same k) i));
     back = λ k x n a g worth asks cacheable. go k x n a g worth asks cacheable;
     order = λ k. subst (AreBefore (now h)) (sym (same k)) (known.order k);
@@ -147,7 +158,7 @@ module _ (c : Conf) (s : Settings) (h : History) (r : Requests) (old new : Table
   -- a reply is kept
   module _ (k : ℕ) (x : Outcome) (is : o ≡ Reply k x) (yes : given ≡ true) where
     here : IsGivenHere c s k x h
-    here = (told k x is).1.0 yes
+    here = (told k x is).0 yes
 
     module _ (a : Asking) (f : Flags) (asks : entry_at k r.askings ≡ Some a) (cacheable : is_cacheable a.request ≡ true) (has : HasFlags a.request f) where
       abbrev its : Key
@@ -175,7 +186,6 @@ module _ (c : Conf) (s : Settings) (h : History) (r : Requests) (old new : Table
 
       adds : Adds its reply old new → Known c s (Put o ∷ h) new
       adds add = record {
-        asked = asked_then;
         so = λ j z i. either j z (more_in its j reply z (replies_to j old) (subst (IsIn z) (add j) i));
         back = λ j y n b g worth asks_b cacheable_b. go j y n b g worth asks_b cacheable_b;
         order = λ j. subst (AreBefore (now h)) (sym (add j)) (before_more its j reply (now h) (replies_to j old) kr.time (known.order j));
@@ -193,7 +203,7 @@ module _ (c : Conf) (s : Settings) (h : History) (r : Requests) (old new : Table
                 flags = f;
                 has = subst (λ (a : Asking). HasFlags a.request f) same has;
                 there = subst (λ z. IsIn z (replies_to (common (key_of b.request)) new)) e
-                (subst (IsIn reply) (sym (add (common (key_of b.request)))) (first_more its (common (key_of b.request)) reply (replies_to (common (key_of b.request)) old) (ap (λ (a : Asking). common (key_of a.request)) same)));
+                    (subst (IsIn reply) (sym (add (common (key_of b.request)))) (first_more its (common (key_of b.request)) reply (replies_to (common (key_of b.request)) old) (ap (λ (a : Asking). common (key_of a.request)) same)));
               }
 
           go : (j : ℕ) (y : Outcome) (n : ℕ) (b : Asking) → Ever (IsGiven c s j y n) (Put o ∷ h) → is_worth s y ≡ true → asking j h ≡ Some b → is_cacheable b.request ≡ true → IsAmong b j y n (replies_to (common (key_of b.request)) new)
@@ -220,12 +230,13 @@ module _ (c : Conf) (s : Settings) (h : History) (r : Requests) (old new : Table
 
   on_out : Steps s r o given old new → Known c s (Put o ∷ h) new
   on_out (Gives k x is yes keep) = keeps k x is yes keep
-  on_out (Others none same) = stays (λ k x n a g worth asks cacheable. none k x g.out ((told k x g.out).1.1 g.here) worth) same
+  on_out (Others none same) = stays (λ k x n a g worth asks cacheable. none k x g.out ((told k x g.out).1 g.here) worth) same
 
 pub goes_on : GoesOn
 goes_on = record {
-  begins = λ c s. record { asked = λ k x n g. absurd g; so = λ k e i. absurd i; back = λ k x n a g worth asks cacheable. absurd g; order = λ k. tt };
-  event = λ c s h t e known. on_event c s h t e known;
+  begins = λ c s. record { so = λ k e i. absurd i; back = λ k x n a g worth asks cacheable. absurd g; order = λ k. tt };
+  rows = λ c s past row right asked. outs_asked c s past row.event.what (after row past) row.outs (Came row.event ∷ past) right.outs (event_asked c s past row.event asked);
+  event = λ c s h t e asked known. on_event c s h t e asked known;
   out = λ c s h r old new o given kr told steps known. on_out c s h r old new o given kr told known steps;
 }
 

@@ -6,7 +6,8 @@ use Rattle.client_request.specs.declared.error.Error.{Error}
 use Rattle.client_request.specs.declared.event.Event.{Event}
 use Rattle.client_request.specs.declared.event.Out.{Out}
 use Rattle.client_request.specs.declared.event.Out.TheVariants.{Reply}
-use Rattle.right_trace.specs.Trace.{History, Conf, Came, Put}
+use Rattle.client_request.specs.declared.event.Row.{Row}
+use Rattle.right_trace.specs.Trace.{History, Conf, Came, Put, after}
 use Rattle.right_trace.specs.Time.{now, newest, row_before, Ever}
 use Rattle.right_trace.specs.Messages.{Octets}
 use Rattle.right_trace.specs.Settings.{Settings}
@@ -16,7 +17,7 @@ use Rattle.right_trace.specs.Keys.{Key, key_of, is_cacheable}
 use Rattle.right_trace.specs.Validity.{is_above, validity_of_message}
 use Rattle.right_trace.specs.Replies.{IsFresh, IsFreshReply}
 use Rattle.right_trace.specs.Errors.{DirectCause, IsErrorReply, is_deadline}
-use Rattle.right_trace.specs.Right.{IsAsked}
+use Rattle.right_trace.specs.Right.{IsAsked, RowRight}
 use Rattle.cache_rules.specs.Key.{same_key}
 use Rattle.message_views.specs.declared.serving.Flags.{Flags}
 use Rattle.message_views.specs.Serving.{HasFlags}
@@ -101,17 +102,21 @@ AreBefore n (e ∷ es) = (e.moment ≤ n) × AreBefore e.moment es
 
 -- What is kept is what the definitions say.
 pub record Known (c : Conf) (s : Settings) (h : History) (t : Table) : Type 0 where
-  pub asked : (k : ℕ) (x : Outcome) (n : ℕ) → Ever (IsGiven c s k x n) h → IsAsked k h
   pub so : (k : Key) (e : Earlier) → IsIn e (replies_to k t) → IsKept c s k e h
   pub back : (k : ℕ) (x : Outcome) (n : ℕ) (a : Asking) → Ever (IsGiven c s k x n) h → is_worth s x ≡ true → asking k h ≡ Some a → is_cacheable a.request ≡ true → IsAmong a k x n (replies_to (common (key_of a.request)) t)
   pub order : (k : Key) → AreBefore (now h) (replies_to k t)
 
--- it is told whether a reply that is put is fresh, or by its own cause; and its request was asked
+-- it is told whether a reply that is put is fresh, or by its own cause
 abbrev pub IsTold : Conf → Settings → Out → Bool → History → Type 0
-IsTold c s o given h = (k : ℕ) (x : Outcome) → o ≡ Reply k x → IsAsked k h × Tells (IsGivenHere c s k x h) given
+IsTold c s o given h = (k : ℕ) (x : Outcome) → o ≡ Reply k x → Tells (IsGivenHere c s k x h) given
 
--- it is known before the first row, and goes on over events and outs
+-- what was given so far was given to requests that were asked
+abbrev pub EachWasAsked : Conf → Settings → History → Type 0
+EachWasAsked c s h = (k : ℕ) (x : Outcome) (n : ℕ) → Ever (IsGiven c s k x n) h → IsAsked k h
+
+-- It is known before the first row, and goes on over outs, and over the event of the next row where what was given was given to requests that were asked: so it is behind rows that are right.
 pub record GoesOn : Type 0 where
   pub begins : (c : Conf) (s : Settings) → Known c s [] []
-  pub event : (c : Conf) (s : Settings) (h : History) (t : Table) (e : Event) → Known c s h t → Known c s (Came e ∷ h) t
+  pub rows : (c : Conf) (s : Settings) (past : History) (row : Row) → RowRight c s past row → EachWasAsked c s past → EachWasAsked c s (after row past)
+  pub event : (c : Conf) (s : Settings) (h : History) (t : Table) (e : Event) → EachWasAsked c s h → Known c s h t → Known c s (Came e ∷ h) t
   pub out : (c : Conf) (s : Settings) (h : History) (r : Requests) (old new : Table) (o : Out) (given : Bool) → requests.Known h r → IsTold c s o given h → Steps s r o given old new → Known c s h old → Known c s (Put o ∷ h) new

@@ -27,9 +27,7 @@ fn matches(coming: &Coming) -> bool
 fn brings(request: u64, message: &Message, coming: &Coming) -> bool
     ensures { result ≡ plain.brings request message.now coming.now }
 {
-    coming.request == request
-        && matches(coming)
-        && coming.message.as_slice() == message.as_slice()
+    coming.request == request && matches(coming) && coming.message.as_slice() == message.as_slice()
 }
 
 fn some_brings(request: u64, message: &Message, comings: &[Coming]) -> bool

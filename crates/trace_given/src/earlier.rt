@@ -56,11 +56,7 @@ impl Model for Earliers {
 }
 
 /// Takes the replies to a question out.
-fn take(
-    table: &mut HashMap<Key, Newest<Earlier>>,
-    alloc: Global,
-    key: &Key,
-) -> Newest<Earlier>
+fn take(table: &mut HashMap<Key, Newest<Earlier>>, alloc: Global, key: &Key) -> Newest<Earlier>
     ensures taken { result ≡ plain.replies_to key.now table.old.entries }
     ensures others { (q : keys.Key) → same_key key.now q ≡ false → lookup (same_key q) table.new.entries ≡ lookup (same_key q) table.old.entries }
 {

@@ -51,9 +51,12 @@ second_true false b e = e
 clash : (b : Bool) → b ≡ true → b ≡ false → ⊥
 clash b e f = absurd (let z : true ≡ false = sym e ∙ f in cc)
 
+same_number : (a b : ℕ) → (a == b) ≡ true → a ≡ b
+same_number a b e = grind (arith, nat_tests)
+
 -- what is marked stands behind the mark
 mark_put : (k : ℕ) (o : Out) → is_marked k (Put o ∷ []) ≡ true → o ≡ Stale k
-mark_put k (Stale j) e = let q : j ≡ k = grind (arith, nat_tests) in ap (λ j. Stale j) q
+mark_put k (Stale j) e = ap (λ j. Stale j) (same_number j k e)
 mark_put k (Start j s v) e = absurd (cc)
 mark_put k (OpenDgram p s) e = absurd (cc)
 mark_put k (OpenStream p s) e = absurd (cc)
@@ -143,7 +146,7 @@ module _ (c : Conf) (s : Settings) (k : ℕ) (m : Octets) where
         })
 
     so_stale : (supplied : Bool) → is_marked k h ≡ true → Tells (IsSupplied c s k m h) supplied → MessageIsRight c s k m x (newest h) h → (told.fails && supplied) ≡ true
-    so_stale supplied marked tells (Unmarked not right) = absurd (clash (is_marked k h) marked not)
+    so_stale supplied marked tells (Unmarked unmarked right) = absurd (clash (is_marked k h) marked unmarked)
     so_stale supplied marked tells (Marked v) =
         all told.fails supplied ((it.fails v.before v.marked).1 (record { error = v.error; fails = v.fails; cause = v.cause }))
         (tells.1 (subst (IsSupplied c s k m) (sym v.marked) (behind_mark v.before (record { first = v.first; request = v.request; message = v.message; age = v.age; supplied = v.supplied; parts = v.parts; valid = v.valid; says = v.says }))))

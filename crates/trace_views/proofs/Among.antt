@@ -61,3 +61,20 @@ module _ (G : Giving) (a : Asks) where
 
   pub first_gives : (every : List Earlier) (e : Earlier) (left : List Earlier) → Yes G a e → Left every (e ∷ left) → TellsSome G a every true
   first_gives every e left yes l = record { so = λ t. (e, l.here e (inl refl), yes); non = λ t. absurd (cc) }
+
+  -- ---- steps of a walk
+
+  pub begins : (every left : List Earlier) → left ≡ every → Left every left
+  begins every left is = subst (Left every) (sym is) (all_left every)
+
+  pub goes_by : (every left rest : List Earlier) (e : Earlier) → left ≡ e ∷ rest → No G a e → Left every left → Left every rest
+  goes_by every left rest e is none l = one_less every e rest none (subst (Left every) is l)
+
+  pub stops_at : (every left rest : List Earlier) (e : Earlier) → left ≡ e ∷ rest → ((z : Earlier) → z.moment ≤ e.moment → No G a z) → Left every left → TellsSome G a every false
+  stops_at every left rest e is old l = none_behind every e rest old (subst (Left every) is l)
+
+  pub finds : (every left rest : List Earlier) (e : Earlier) → left ≡ e ∷ rest → Yes G a e → Left every left → TellsSome G a every true
+  finds every left rest e is yes l = first_gives every e rest yes (subst (Left every) is l)
+
+  pub ends : (every left : List Earlier) → left ≡ [] → Left every left → TellsSome G a every false
+  ends every left is l = none_left every (subst (Left every) is l)

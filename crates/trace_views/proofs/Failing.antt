@@ -26,8 +26,10 @@ use Rattle.trace_given.proofs.Asking.{covers_so, so_covers}
 use Rattle.trace_views.specs.Among.{Yes, No, TellsOne, TellsSome}
 use Rattle.trace_views.specs.Serving.{asked_here_seen}
 use Rattle.trace_views.specs.Errors.{GivesError, IsRecent, IsFound, TellsFound, TellsKept}
-use Rattle.trace_views.proofs.Among.{never}
-use Rattle.trace_views.proofs.Finding.{same_asking, common_same, here_is}
+use Rattle.trace_views.specs.Telling.{same_error}
+use Rattle.trace_views.proofs.Among.{never, none_there}
+use Rattle.trace_views.proofs.Numbering.{errors_same, same_errors}
+use Rattle.trace_views.proofs.Finding.{same_asking, none_some, common_same, here_is}
 
 module _ (s : Settings) (k : ℕ) (a : Asks) (n : ℕ) (x : Error) (e : Earlier) where
   pub a_message : (m : Octets) → e.outcome ≡ Ok m → No (GivesError s k n x) a e
@@ -44,6 +46,12 @@ module _ (s : Settings) (k : ℕ) (a : Asks) (n : ℕ) (x : Error) (e : Earlier)
 
   pub the_error : IsRecent s n e → e.outcome ≡ Err x → e.request < k → covers_flags e.flags a.flags a.key.rtype ≡ true → Yes (GivesError s k n x) a e
   the_error recent is below covers q r asked key has = record { below = below; covers = covers_so q r e.flags a.flags a.key (sym key) asked.key has asked.flags covers; is = is; recent = recent }
+
+  pub error_told : (y : Error) (b : Bool) → e.outcome ≡ Err y → e.request < k → covers_flags e.flags a.flags a.key.rtype ≡ true → b ≡ same_error y x → IsRecent s n e → TellsOne (GivesError s k n x) a e b
+  error_told y b is below covers same recent = record {
+    so = λ yes. the_error recent (subst (λ (y : Error). e.outcome ≡ Err y) (errors_same y x (sym same ∙ yes)) is) below covers;
+    non = λ no. another y is (λ alike. never b (same ∙ same_errors y x alike) no);
+  }
 
 below : (a b : ℕ) → nat_lt a b ≡ true → a < b
 below a b e = grind (arith, nat_tests)
@@ -95,15 +103,15 @@ module _ (s : Settings) (k : ℕ) (x : Error) (r : Requests) (t : Table) (c : Co
         go false e f = absurd (none_found f (tells.non e (now h) (kt.order its.key)))
 
   not_asked : entry_at k r.askings ≡ None → Tells (IsFound c s k x h) false
-  not_asked none = ((λ e. absurd (cc)), (λ f. absurd (let z : None ≡ Some (record { request = f.request; moment = f.earlier.asked.0 }) = sym none ∙ (kr.askings k ∙ f.earlier.asked.1) in cc)))
+  not_asked none = ((λ e. absurd (cc)), (λ f. absurd (none_some (asking k h) (record { request = f.request; moment = f.earlier.asked.0 }) (sym (kr.askings k) ∙ none) f.earlier.asked.1)))
 
   not_kept : (a : Asking) → entry_at k r.askings ≡ Some a → is_cacheable a.request ≡ false → Tells (IsFound c s k x h) false
   not_kept a is no = (
     (λ e. absurd (cc)),
     (λ f. absurd (
-      let same = ap (λ (a : Asking). a.request) (same_asking (asking k h) (record { request = f.request; moment = f.earlier.asked.0 }) a f.earlier.asked.1 (sym (kr.askings k) ∙ is)) in
-      let z : true ≡ false = sym f.earlier.covering.second ∙ (ap is_cacheable same ∙ no) in
-      cc)),
+        let same = ap (λ (a : Asking). a.request) (same_asking (asking k h) (record { request = f.request; moment = f.earlier.asked.0 }) a f.earlier.asked.1 (sym (kr.askings k) ∙ is)) in
+        let z : true ≡ false = sym f.earlier.covering.second ∙ (ap is_cacheable same ∙ no) in
+        cc)),
   )
 
 module _ (s : Settings) (k : ℕ) (x : Error) (r : Requests) (t : Table) where
@@ -127,7 +135,7 @@ never_kept s k x w r t yes c h is kr kt = ((λ e. absurd (cc)), (λ v. absurd (l
 pub kept_told : (s : Settings) (k : ℕ) (x : Error) (w : What) (r : Requests) (t : Table) (b : Bool) → asked_here_seen k w r ≡ true → is_deadline x ≡ false → TellsFound s k x r t b → TellsKept s k x w r t b
 kept_told s k x w r t b yes kept tells c h is kr kt = (
   (λ e. (
-    let f = (tells c h kept kr kt).0 e in
-    record { asked_here = sym (here_is k w r h is kr) ∙ yes; is_kept_at_all = kept; number = f.number; first = f.first; request = f.request; earlier = f.earlier; moment = f.moment; got = f.got; recent = f.recent })),
+      let f = (tells c h kept kr kt).0 e in
+      record { asked_here = sym (here_is k w r h is kr) ∙ yes; is_kept_at_all = kept; number = f.number; first = f.first; request = f.request; earlier = f.earlier; moment = f.moment; got = f.got; recent = f.recent })),
   (λ v. (tells c h kept kr kt).1 (record { number = v.number; first = v.first; request = v.request; earlier = v.earlier; moment = v.moment; got = v.got; recent = v.recent })),
 )

@@ -32,6 +32,9 @@ use Rattle.trace_views.specs.Serving.{IsGivenOf, Gives, asked_here_seen, IsFound
 pub same_asking : (o : Option Asking) (a b : Asking) → o ≡ Some a → o ≡ Some b → a ≡ b
 same_asking o a b p q = let z : Some a ≡ Some b = sym p ∙ q in cc
 
+pub none_some : (o : Option Asking) (a : Asking) → o ≡ None → o ≡ Some a → ⊥
+none_some o a p q = absurd (let z : None ≡ Some a = sym p ∙ q in cc)
+
 -- what is given has a validity
 worth_of : (u : Manner) (s : Settings) (q r : Request) (kept : Octets) (age : ℕ) (m : Octets) → IsGivenOf u s q r kept age m → is_above (validity_of_message s kept) ≡ true
 worth_of Valid s q r kept age m v = ap is_above v.valid.is_validity ∙ above v.valid.validity v.valid.kept
@@ -118,15 +121,15 @@ module _ (u : Manner) (s : Settings) (k : ℕ) (m : Octets) (r : Requests) (t : 
         go false e f = absurd (none_found f (tells.non e (now h) (kt.order its.key)))
 
   not_asked : entry_at k r.askings ≡ None → Tells (IsFound u c s k m h) false
-  not_asked none = ((λ e. absurd (cc)), (λ f. absurd (let z : None ≡ Some (record { request = f.request; moment = f.supplied.earlier.asked.0 }) = sym none ∙ (kr.askings k ∙ f.supplied.earlier.asked.1) in cc)))
+  not_asked none = ((λ e. absurd (cc)), (λ f. absurd (none_some (asking k h) (record { request = f.request; moment = f.supplied.earlier.asked.0 }) (sym (kr.askings k) ∙ none) f.supplied.earlier.asked.1)))
 
   not_kept : (a : Asking) → entry_at k r.askings ≡ Some a → is_cacheable a.request ≡ false → Tells (IsFound u c s k m h) false
   not_kept a is no = (
     (λ e. absurd (cc)),
     (λ f. absurd (
-      let same = ap (λ (a : Asking). a.request) (same_asking (asking k h) (record { request = f.request; moment = f.supplied.earlier.asked.0 }) a f.supplied.earlier.asked.1 (sym (kr.askings k) ∙ is)) in
-      let z : true ≡ false = sym f.supplied.earlier.covering.second ∙ (ap is_cacheable same ∙ no) in
-      cc)),
+        let same = ap (λ (a : Asking). a.request) (same_asking (asking k h) (record { request = f.request; moment = f.supplied.earlier.asked.0 }) a f.supplied.earlier.asked.1 (sym (kr.askings k) ∙ is)) in
+        let z : true ≡ false = sym f.supplied.earlier.covering.second ∙ (ap is_cacheable same ∙ no) in
+        cc)),
   )
 
 module _ (u : Manner) (s : Settings) (k : ℕ) (m : Octets) (r : Requests) (t : Table) where
@@ -162,8 +165,8 @@ not_here s k m w r t no c h is kr kt = ((λ e. absurd (cc)), (λ v. absurd (let 
 pub view_told : (s : Settings) (k : ℕ) (m : Octets) (w : What) (r : Requests) (t : Table) (b : Bool) → asked_here_seen k w r ≡ true → TellsFound Valid s k m r t b → TellsView s k m w r t b
 view_told s k m w r t b yes tells c h is kr kt = (
   (λ e. (
-    let f = (tells c h kr kt).0 e in
-    record { asked_here = sym (here_is k w r h is kr) ∙ yes; first = f.first; request = f.request; message = f.message; age = f.age; supplied = f.supplied; parts = f.given.parts; valid = f.given.valid; says = f.given.says })),
+      let f = (tells c h kr kt).0 e in
+      record { asked_here = sym (here_is k w r h is kr) ∙ yes; first = f.first; request = f.request; message = f.message; age = f.age; supplied = f.supplied; parts = f.given.parts; valid = f.given.valid; says = f.given.says })),
   (λ v. (tells c h kr kt).1 (record { first = v.first; request = v.request; message = v.message; age = v.age; supplied = v.supplied; given = record { parts = v.parts; valid = v.valid; says = v.says } })),
 )
 

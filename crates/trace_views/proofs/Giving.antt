@@ -8,10 +8,10 @@ use Rattle.client_request.specs.declared.error.Error.{Error}
 use Rattle.client_settings.specs.Settings.{CacheSettings}
 use Rattle.right_trace.specs.Messages.{Octets}
 use Rattle.right_trace.specs.Settings.{Settings}
-use Rattle.right_trace.specs.Keys.{Key, KeysCover, key_of}
+use Rattle.right_trace.specs.Keys.{Key, KeysCover, key_of, spelled_name}
 use Rattle.right_trace.specs.Parts.{IsIn, Parts}
 use Rattle.right_trace.specs.Validity.{validity_of_message}
-use Rattle.right_trace.specs.Views.{view_validity}
+use Rattle.right_trace.specs.Views.{viewed, view_validity}
 use Rattle.cache_rules.specs.Validity.{cached_by}
 use Rattle.message_views.specs.declared.serving.Flags.{Flags}
 use Rattle.message_views.specs.Serving.{HasFlags, IsViewOf, IsStaleOf, TellsView, TellsStale}
@@ -103,12 +103,20 @@ module _ (u : Manner) (s : Settings) (k : ℕ) (a : Asks) (n : ℕ) (m : Octets)
 below : (a b : ℕ) → nat_lt a b ≡ true → a < b
 below a b e = grind (arith, nat_tests)
 
+no_longer : (age valid most : ℕ) → age ≤ valid → valid ≤ most → age ≤ most
+no_longer age valid most a b = omega arith
+
+no_longer_than : (age valid most more : ℕ) → age ≤ valid + more → valid ≤ most → age ≤ most + more
+no_longer_than age valid most more a b = omega arith
+
 -- what is given is not too long ago
 not_past : (u : Manner) (s : Settings) (q r : Request) (kept : Octets) (age : ℕ) (m : Octets) → IsGivenOf u s q r kept age m → age ≤ longest u s
-not_past Valid s q r kept age m v = let t = v.valid.in_time in let l = validity_limited s _ in omega (arith, t, l)
-not_past Expired s q r kept age m v = let t = v.valid.in_time in let l = validity_limited s _ in omega (arith, t, l)
+not_past Valid s q r kept age m v = no_longer age (view_validity s q r v.parts) s.max_validity v.valid.in_time (validity_limited s (viewed (key_of q) (key_of r) (spelled_name r) 0 v.parts))
+not_past Expired s q r kept age m v =
+    no_longer_than age (view_validity s q r v.parts) s.max_validity s.stale_for v.valid.in_time (validity_limited s (viewed (key_of q) (key_of r) (spelled_name r) 0 v.parts))
+
+older : (most n t moment : ℕ) → n - moment ≤ most → most < n - t → moment ≤ t → ⊥
+older most n t moment a b d = absurd (omega arith)
 
 pub too_old : (u : Manner) (s : Settings) (k : ℕ) (a : Asks) (n : ℕ) (m : Octets) (t : ℕ) → is_past u s n t ≡ true → (e : Earlier) → e.moment ≤ t → No (Gives u s k n m) a e
-too_old u s k a n m t past e le q r asked key has g =
-    let age = not_past u s q r g.kept (n - e.moment) m g.given in
-    absurd (let lt = below (longest u s) (n - t) past in omega (arith, age, lt, le))
+too_old u s k a n m t past e le q r asked key has g = older (longest u s) n t e.moment (not_past u s q r g.kept (n - e.moment) m g.given) (below (longest u s) (n - t) past) le

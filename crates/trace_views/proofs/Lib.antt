@@ -1,3 +1,4 @@
+pub mod Settings
 pub mod Among
 pub mod Giving
 pub mod Finding

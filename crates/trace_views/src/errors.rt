@@ -1,6 +1,7 @@
 //! Whether an error was given to an earlier request not long ago.
 
 ghost use Rattle.std.specs.Prelude.{◌≡◌, nat_lt, ◌+◌, IfOk};
+ghost use Rattle.right_trace.specs.Errors.{is_deadline};
 ghost use Rattle.trace_views.specs.Among.{TellsOne, TellsSome};
 ghost use Rattle.trace_views.specs.Errors as plain;
 
@@ -50,9 +51,13 @@ impl Question<'_> {
         match &reply.outcome {
             Ok(_) => false,
             Err(error) => {
-                reply.request < self.request
-                    && self.asks.is_covered_by(reply.flags)
-                    && is_same_error(*error, self.error)
+                if self.request <= reply.request {
+                    return false;
+                }
+                if !self.asks.is_covered_by(reply.flags) {
+                    return false;
+                }
+                is_same_error(*error, self.error)
             }
         }
     }
@@ -103,6 +108,13 @@ fn find(
     Ok(question.is_given_by_some(replies))
 }
 
+/// Whether an error is that of the deadline, which is never kept.
+fn is_deadline(error: Error) -> bool
+    ensures { result ≡ is_deadline error }
+{
+    matches!(error, Error::TimedOut)
+}
+
 /// Whether an error is one that an earlier request got not long ago which covers this one, in the row of whose asking it is
 /// given, whose event is `what`: `requests` and `earlier` are what is known where it is given.
 pub fn is_kept_error(
@@ -116,7 +128,10 @@ pub fn is_kept_error(
 ) -> Result<bool, NoMemory>
     ensures { IfOk result (plain.TellsKept settings.now request error what.now requests.now earlier.now) }
 {
-    if matches!(error, Error::TimedOut) || !is_asked_here(requests, what, request) {
+    if is_deadline(error) {
+        return Ok(false);
+    }
+    if !is_asked_here(requests, what, request) {
         return Ok(false);
     }
     find(alloc, settings, requests, earlier, request, error)

@@ -7,7 +7,7 @@ ghost use Rattle.trace_views.specs.Serving as plain;
 use crate::asked::is_asked_here;
 use crate::settings::ReplySettings;
 use client_request::What;
-use dns_base::{Duration, Message, NoMemory};
+use dns_base::{Message, NoMemory};
 use message_views::Served;
 use std::alloc::Global;
 use trace_given::{Asks, Earlier, Earliers, asks_of};
@@ -88,17 +88,23 @@ impl Question<'_> {
         }
     }
 
+    /// For how long a reply may be given so at most, in microseconds.
+    fn longest(&self) -> u128
+        ensures { result ≡ plain.longest self.now.manner self.now.settings.now }
+    {
+        let cache = self.settings.cache();
+        let valid = cache.max_validity().as_micros();
+        match self.manner {
+            Manner::Valid => valid,
+            Manner::Expired => valid + cache.stale_for().as_micros(),
+        }
+    }
+
     /// Whether a reply of a moment can't be given any more.
     fn is_past(&self, moment: u64) -> bool
         ensures { result ≡ plain.is_past self.now.manner self.now.settings.now self.now.moment moment }
     {
-        let cache = self.settings.cache();
-        let more = match self.manner {
-            Manner::Valid => Duration::ZERO,
-            Manner::Expired => cache.stale_for(),
-        };
-        let age = u128::from(self.moment.saturating_sub(moment));
-        age.saturating_sub(cache.max_validity().as_micros()) > more.as_micros()
+        self.longest() < u128::from(self.moment.saturating_sub(moment))
     }
 
     /// Whether one of these gives it.
@@ -165,7 +171,15 @@ pub fn is_view(
     if !is_asked_here(requests, what, request) {
         return Ok(false);
     }
-    find(alloc, settings, Manner::Valid, requests, earlier, request, message)
+    find(
+        alloc,
+        settings,
+        Manner::Valid,
+        requests,
+        earlier,
+        request,
+        message,
+    )
 }
 
 /// Whether a message is what an earlier reply's says when it has expired: `requests` and `earlier` are what is known where it is
@@ -180,5 +194,13 @@ pub fn is_supplied(
 ) -> Result<bool, NoMemory>
     ensures { IfOk result (plain.TellsSupplied settings.now request message.now requests.now earlier.now) }
 {
-    find(alloc, settings, Manner::Expired, requests, earlier, request, message)
+    find(
+        alloc,
+        settings,
+        Manner::Expired,
+        requests,
+        earlier,
+        request,
+        message,
+    )
 }
