@@ -1,6 +1,7 @@
 //! What a request asks.
 
 ghost use Rattle.std.specs.Prelude.{◌≡◌, IfOk};
+ghost use Rattle.right_trace.specs.Keys.{is_cacheable};
 ghost use Rattle.right_trace.specs.Keys as keys;
 ghost use Rattle.cache_rules.specs.Key.{flag_class};
 ghost use Rattle.trace_given.specs.Asks as plain;
@@ -38,21 +39,51 @@ fn split(mut key: Key, name: Name) -> Asks
     Asks { key, flags, name }
 }
 
+/// Whether the results of a request are kept.
+fn is_cacheable(request: &RequestMessage) -> bool
+    ensures { result ≡ is_cacheable request.now }
+{
+    RequestValidity::of(request).is_cacheable
+}
+
+/// The key that a request shows.
+fn key_of(alloc: Global, request: &RequestMessage) -> Result<Option<Key>, NoMemory>
+    ensures { IfOk result (λ key. key ≡ plain.key_shown request.now) }
+{
+    Key::of(
+        alloc,
+        request.base(),
+        *request.header(),
+        request.dnssec_ok(),
+    )
+}
+
+/// The name of its only question.
+fn name_of(alloc: Global, request: &RequestMessage) -> Result<Option<Name>, NoMemory>
+    ensures { IfOk result (λ name. name ≡ plain.name_shown request.now) }
+{
+    match request.base().sole_question() {
+        Err(_) => Ok(None),
+        Ok(question) => {
+            let name = question.qname().to_name(alloc)?;
+            Ok(Some(name))
+        }
+    }
+}
+
 /// What a request asks. None exactly where its results are not kept.
 pub fn asks_of(alloc: Global, request: &RequestMessage) -> Result<Option<Asks>, NoMemory>
     ensures { IfOk result (plain.IsTold request.now) }
 {
-    if !RequestValidity::of(request).is_cacheable {
+    if !is_cacheable(request) {
         return Ok(None);
     }
-    let base = request.base();
-    let Some(key) = Key::of(alloc, base, *request.header(), request.dnssec_ok())? else {
+    let Some(key) = key_of(alloc, request)? else {
         return Ok(None);
     };
-    let Ok(question) = base.sole_question() else {
+    let Some(name) = name_of(alloc, request)? else {
         return Ok(None);
     };
-    let name = question.qname().to_name(alloc)?;
     Ok(Some(split(key, name)))
 }
 

@@ -217,3 +217,10 @@ pub tells_unmarked : (c : Conf) (s : Settings) (k : ℕ) (m : Octets) (w : What)
     → TellsMessage c s k m w past sent here t told (record { is_right = ((came || (is_deferred s m && told.came_earlier)) && (not (is_deferred s m) || told.is_last)) || view; is_fresh = came || (is_deferred s m && told.came_earlier) })
 tells_unmarked c s k m w past sent here t told came view unmarked comes views x h before is kp ks kh kt it =
     unmarked_judged c s k m x h told it before (sym (kh.books.requests.marks k) ∙ unmarked) came view (comes x h before kp ks kh) (views c h is kh.books.requests kt)
+
+-- the same where it is told whether the message is deferred
+pub tells_deferred : (c : Conf) (s : Settings) (k : ℕ) (m : Octets) (w : What) (past : Books) (sent : Open) (here : Ledger) (t : Table) (told : Told) (d came view : Bool) → is_marked_seen k here ≡ false → d ≡ is_deferred s m → TellsCame c k m past sent here came → TellsView s k m w here.books.requests t view
+    → TellsMessage c s k m w past sent here t told (record { is_right = ((came || (d && told.came_earlier)) && (not d || told.is_last)) || view; is_fresh = came || (d && told.came_earlier) })
+tells_deferred c s k m w past sent here t told d came view unmarked is comes views =
+    subst (λ (d : Bool). TellsMessage c s k m w past sent here t told (record { is_right = ((came || (d && told.came_earlier)) && (not d || told.is_last)) || view; is_fresh = came || (d && told.came_earlier) })) (sym is)
+    (tells_unmarked c s k m w past sent here t told came view unmarked comes views)

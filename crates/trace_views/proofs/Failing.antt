@@ -59,6 +59,12 @@ below a b e = grind (arith, nat_tests)
 pub too_old : (s : Settings) (k : ℕ) (a : Asks) (n : ℕ) (x : Error) (t : ℕ) → nat_lt (t + s.transport_failure_duration) n ≡ true → (e : Earlier) → e.moment ≤ t → No (GivesError s k n x) a e
 too_old s k a n x t past e le q r asked key has g = absurd (let lt = below (t + s.transport_failure_duration) n past in let recent = g.recent in omega arith)
 
+pub still_recent : (s : Settings) (e : Earlier) (n : ℕ) → nat_lt (e.moment + s.transport_failure_duration) n ≡ false → IsRecent s n e
+still_recent s e n past = no_less (e.moment + s.transport_failure_duration) n past
+  where
+    no_less : (a b : ℕ) → nat_lt a b ≡ false → b ≤ a
+    no_less a b e = grind (arith, nat_tests)
+
 module _ (s : Settings) (k : ℕ) (x : Error) (r : Requests) (t : Table) (c : Conf) (h : History) (kept : is_deadline x ≡ false) (kr : requests.Known h r) (kt : earlier.Known c s h t) where
   module _ (a : Asking) (its : Asks) (is : entry_at k r.askings ≡ Some a) (asked : IsAsked a.request its) where
     was_asked : asking k h ≡ Some a
@@ -123,6 +129,12 @@ module _ (s : Settings) (k : ℕ) (x : Error) (r : Requests) (t : Table) where
 
   pub found_some : (a : Asking) (its : Asks) (b : Bool) → entry_at k r.askings ≡ Some a → IsAsked a.request its → TellsSome (GivesError s k r.clock x) its (replies_to its.key t) b → TellsFound s k x r t b
   found_some a its b is asked tells c h kept kr kt = told s k x r t c h kept kr kt a its is asked b tells
+
+  pub found_no_reply : (a : Asking) (its : Asks) → entry_at k r.askings ≡ Some a → IsAsked a.request its → [] ≡ replies_to its.key t → TellsFound s k x r t false
+  found_no_reply a its is asked none = found_some a its false is asked (none_there (GivesError s k r.clock x) its (replies_to its.key t) (sym none))
+
+  pub found_among : (a : Asking) (its : Asks) (es : List Earlier) (b : Bool) → entry_at k r.askings ≡ Some a → IsAsked a.request its → es ≡ replies_to its.key t → TellsSome (GivesError s k r.clock x) its es b → TellsFound s k x r t b
+  found_among a its es b is asked same tells = found_some a its b is asked (subst (λ es. TellsSome (GivesError s k r.clock x) its es b) same tells)
 
 -- ---- the row of the asking
 

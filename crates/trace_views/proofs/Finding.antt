@@ -27,6 +27,7 @@ use Rattle.trace_given.specs.Earlier as earlier
 use Rattle.trace_views.specs.declared.serving.Manner.{Manner}
 use Rattle.trace_views.specs.declared.serving.Manner.TheVariants.{Valid, Expired}
 use Rattle.trace_views.specs.Among.{Yes, No, TellsSome}
+use Rattle.trace_views.proofs.Among.{none_there}
 use Rattle.trace_views.specs.Serving.{IsGivenOf, Gives, asked_here_seen, IsFound, TellsFound, IsSupplied, TellsView, TellsSupplied}
 
 pub same_asking : (o : Option Asking) (a b : Asking) → o ≡ Some a → o ≡ Some b → a ≡ b
@@ -141,6 +142,12 @@ module _ (u : Manner) (s : Settings) (k : ℕ) (m : Octets) (r : Requests) (t : 
 
   pub found_some : (a : Asking) (its : Asks) (b : Bool) → entry_at k r.askings ≡ Some a → IsAsked a.request its → TellsSome (Gives u s k r.clock m) its (replies_to its.key t) b → TellsFound u s k m r t b
   found_some a its b is asked tells c h kr kt = told u s k m r t c h kr kt a its is asked b tells
+
+  pub found_no_reply : (a : Asking) (its : Asks) → entry_at k r.askings ≡ Some a → IsAsked a.request its → [] ≡ replies_to its.key t → TellsFound u s k m r t false
+  found_no_reply a its is asked none = found_some a its false is asked (none_there (Gives u s k r.clock m) its (replies_to its.key t) (sym none))
+
+  pub found_among : (a : Asking) (its : Asks) (es : List Earlier) (b : Bool) → entry_at k r.askings ≡ Some a → IsAsked a.request its → es ≡ replies_to its.key t → TellsSome (Gives u s k r.clock m) its es b → TellsFound u s k m r t b
+  found_among a its es b is asked same tells = found_some a its b is asked (subst (λ es. TellsSome (Gives u s k r.clock m) its es b) same tells)
 
 -- ---- the row of the asking
 

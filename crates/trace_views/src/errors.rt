@@ -40,7 +40,7 @@ impl Question<'_> {
     fn is_past(&self, moment: u64) -> bool
         ensures { result ≡ nat_lt (moment + self.now.settings.now.transport_failure_duration) self.now.moment }
     {
-        let longest = self.settings.cache().transport_failure_duration();
+        let longest = self.settings.transport_failure_duration();
         u128::from(moment) + longest.as_micros() < u128::from(self.moment)
     }
 

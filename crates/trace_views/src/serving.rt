@@ -83,7 +83,8 @@ impl Question<'_> {
                 if !self.asks.is_covered_by(reply.flags) {
                     return Ok(false);
                 }
-                self.is_given_of(alloc, kept, reply, self.moment.saturating_sub(reply.moment))
+                let age = self.moment.saturating_sub(reply.moment);
+                self.is_given_of(alloc, kept, reply, age)
             }
         }
     }
@@ -92,11 +93,10 @@ impl Question<'_> {
     fn longest(&self) -> u128
         ensures { result ≡ plain.longest self.now.manner self.now.settings.now }
     {
-        let cache = self.settings.cache();
-        let valid = cache.max_validity().as_micros();
+        let valid = self.settings.max_validity().as_micros();
         match self.manner {
             Manner::Valid => valid,
-            Manner::Expired => valid + cache.stale_for().as_micros(),
+            Manner::Expired => valid + self.settings.stale_for().as_micros(),
         }
     }
 
@@ -115,7 +115,8 @@ impl Question<'_> {
             if self.is_past(reply.moment) {
                 return Ok(false);
             }
-            if self.is_given_by(alloc, reply)? {
+            let gives = self.is_given_by(alloc, reply)?;
+            if gives {
                 return Ok(true);
             }
         }

@@ -4,7 +4,7 @@ ghost use Rattle.std.specs.Prelude.{◌≡◌, IfOk};
 ghost use Rattle.trace_promptness.specs.Settings.{settings_of};
 
 use client_settings::cache;
-use dns_base::NoMemory;
+use dns_base::{Duration, NoMemory};
 use std::marker::Model;
 use trace_promptness::TraceSettings;
 
@@ -54,5 +54,29 @@ impl ReplySettings {
         ensures { settings_of result.now self.now.defers_errors self.now.defers_refused self.now.defers_servfail ≡ self.now }
     {
         &self.cache
+    }
+
+    /// For how long an answer is kept at most.
+    #[tactic(auto, using(crate::proofs::Settings::kept_for))]
+    pub(crate) fn max_validity(&self) -> Duration
+        ensures { result ≡ self.now.max_validity }
+    {
+        self.cache().max_validity()
+    }
+
+    /// For how long an answer that has expired is given.
+    #[tactic(auto, using(crate::proofs::Settings::expired_for))]
+    pub(crate) fn stale_for(&self) -> Duration
+        ensures { result ≡ self.now.stale_for }
+    {
+        self.cache().stale_for()
+    }
+
+    /// For how long an error of the transport below is kept.
+    #[tactic(auto, using(crate::proofs::Settings::failed_for))]
+    pub(crate) fn transport_failure_duration(&self) -> Duration
+        ensures { result ≡ self.now.transport_failure_duration }
+    {
+        self.cache().transport_failure_duration()
     }
 }
