@@ -100,14 +100,14 @@ module _ (c : Conf) (past : History) (row : Row) (l l' : Ledger) (t : Timers) (o
   new_came z i e = at_end (λ past. CameFor c z.request z.message past (newest end) end) (coming_came c past end z (cs.so z i) e).for
 
   new_counts : (z : Coming) → IsIn z xs → matches z ≡ true → excused ≡ false → OfRow (SomeCame c z.request) end
-  new_counts z i e no = at_end (λ past. SomeCame c z.request past (newest end) end) (record {
+  new_counts z i e fails = at_end (λ past. SomeCame c z.request past (newest end) end) (record {
     message = z.message;
     came = (coming_came c past end z (cs.so z i) e).for;
-    counts = λ x. clash excused (so_excused z.place z.id z.via z.message ((cs.so z i).comes.first) (subst (λ p. IsExcused p past (newest end) end) (coming_came c past end z (cs.so z i) e).place x)) no;
+    counts = λ x. clash excused (so_excused z.place z.id z.via z.message ((cs.so z i).comes.first) (subst (λ p. IsExcused p past (newest end) end) (coming_came c past end z (cs.so z i) e).place x)) fails;
   })
 
   none_before : (k : ℕ) → counted k f ≡ false → EarlierRow (OfRow (SomeCame c k)) end → ⊥
-  none_before k no e = let w = kf.counted k (rows_before (OfRow (SomeCame c k)) row past e) in clash (counted k f) (so_counts w.0 (listed k f) w.1 w.2) no
+  none_before k fails e = let w = kf.counted k (rows_before (OfRow (SomeCame c k)) row past e) in clash (counted k f) (so_counts w.0 (listed k f) w.1 w.2) fails
 
   new_has : (z : Coming) → IsIn z xs → matches z ≡ true → (k : ℕ) → z.request ≡ k → HasCome c k end (news_of (not excused) f z).arrived
   new_has z i e k is = subst (λ k. HasCome c k end (news_of (not excused) f z).arrived) is (record {
@@ -204,8 +204,8 @@ none_at_first : (c : Conf) (k : ℕ) (m : Octets) → OfRow (CameFor c k m) [] �
 none_at_first c k m w = absurd (let z = w.matches.comes.is_open.stands.asked.1 in cc)
 
 none_first : (c : Conf) (k : ℕ) (P : History → Type 0) → (P [] → ⊥) → ByRow P [] → ⊥
-none_first c k P no (inl p) = no p
-none_first c k P no (inr e) = e
+none_first c k P fails (inl p) = fails p
+none_first c k P fails (inr e) = e
 
 pub goes_on : GoesOn
 unfolding excused

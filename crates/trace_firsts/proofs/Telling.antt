@@ -14,15 +14,15 @@ use Rattle.trace_firsts.proofs.Listing.{clash, not_false, either, first_true, se
 
 -- rows before the newest are those that are done before it
 earlier_so : (P : History → Type 0) (h : History) → (P [] → ⊥) → EarlierRow P h → ByRow P (row_before h)
-earlier_so P [] no e = absurd e
-earlier_so P (Came e ∷ h) no b = b
-earlier_so P (Put o ∷ h) no e = earlier_so P h no e
+earlier_so P [] fails e = absurd e
+earlier_so P (Came e ∷ h) fails b = b
+earlier_so P (Put o ∷ h) fails e = earlier_so P h fails e
 
 so_earlier : (P : History → Type 0) (h : History) → (P [] → ⊥) → ByRow P (row_before h) → EarlierRow P h
-so_earlier P [] no (inl p) = no p
-so_earlier P [] no (inr e) = e
-so_earlier P (Came e ∷ h) no b = b
-so_earlier P (Put o ∷ h) no b = so_earlier P h no b
+so_earlier P [] fails (inl p) = fails p
+so_earlier P [] fails (inr e) = e
+so_earlier P (Came e ∷ h) fails b = b
+so_earlier P (Put o ∷ h) fails b = so_earlier P h fails b
 
 none_at_first : (c : Conf) (k : ℕ) (m : Octets) → OfRow (CameFor c k m) [] → ⊥
 none_at_first c k m w = absurd (let z = w.matches.comes.is_open.stands.asked.1 in cc)
@@ -38,7 +38,7 @@ tells_earlier c k m f b e h known = (
 
 module _ (c : Conf) (k : ℕ) (m : Octets) (came : Bool) (f : Firsts) (h : History) (known : Known c (row_before h) f) (tells : Tells (CameFor c k m (row_before h) (newest h) h) came) where
   none_counted : counted k f ≡ false → EarlierRow (OfRow (SomeCame c k)) h → ⊥
-  none_counted no e = let x = known.counted k (earlier_so (OfRow (SomeCame c k)) h (none_some c k) e) in clash (counted k f) (so_counts x.0 (listed k f) x.1 x.2) no
+  none_counted fails e = let x = known.counted k (earlier_so (OfRow (SomeCame c k)) h (none_some c k) e) in clash (counted k f) (so_counts x.0 (listed k f) x.1 x.2) fails
 
   so_none : (EarlierRow (OfRow (SomeCame c k)) h → ⊥) → (d : Bool) → counted k f ≡ d → d ≡ false
   so_none none false e = refl

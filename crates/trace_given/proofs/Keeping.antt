@@ -156,9 +156,9 @@ module _ (c : Conf) (s : Settings) (h : History) (r : Requests) (old new : Table
           record { flags = b.flags; has = b.has; there = subst (IsIn _) (sym (same (common (key_of a.request)))) b.there }
 
   -- a reply is kept
-  module _ (k : ℕ) (x : Outcome) (is : o ≡ Reply k x) (yes : given ≡ true) where
+  module _ (k : ℕ) (x : Outcome) (is : o ≡ Reply k x) (holds : given ≡ true) where
     here : IsGivenHere c s k x h
-    here = (told k x is).0 yes
+    here = (told k x is).0 holds
 
     module _ (a : Asking) (f : Flags) (asks : entry_at k r.askings ≡ Some a) (cacheable : is_cacheable a.request ≡ true) (has : HasFlags a.request f) where
       abbrev its : Key
@@ -229,7 +229,7 @@ module _ (c : Conf) (s : Settings) (h : History) (r : Requests) (old new : Table
     keeps (Alone none same) = alone none same
 
   on_out : Steps s r o given old new → Known c s (Put o ∷ h) new
-  on_out (Gives k x is yes keep) = keeps k x is yes keep
+  on_out (Gives k x is holds keep) = keeps k x is holds keep
   on_out (Others none same) = stays (λ k x n a g worth asks cacheable. none k x g.out ((told k x g.out).1 g.here) worth) same
 
 pub goes_on : GoesOn

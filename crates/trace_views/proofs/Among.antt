@@ -36,7 +36,7 @@ module _ (G : Giving) (a : Asks) where
       either : (z : Earlier) → IsIn z (e ∷ left) ⊎ No G a z → IsIn z left ⊎ No G a z
       either z (inl (inl is)) = inr (subst (No G a) is none)
       either z (inl (inr i)) = inl i
-      either z (inr no) = inr no
+      either z (inr fails) = inr fails
 
   all_old : (t to : ℕ) (es : List Earlier) → ((e : Earlier) → e.moment ≤ t → No G a e) → to ≤ t → AreBefore to es → (e : Earlier) → IsIn e es → No G a e
   all_old t to [] old le o e i = absurd i
@@ -50,17 +50,17 @@ module _ (G : Giving) (a : Asks) where
       either : (from : ℕ) → AreBefore from every → (z : Earlier) → IsIn z (e ∷ left) ⊎ No G a z → No G a z
       either from o z (inl (inl is)) = subst (No G a) is (old e (omega arith))
       either from o z (inl (inr i)) = all_old e.moment e.moment left old (omega arith) ((l.order from o).1.1) z i
-      either from o z (inr no) = no
+      either from o z (inr fails) = fails
 
   pub none_left : (every : List Earlier) → Left every [] → TellsSome G a every false
   none_left every l = record { so = λ t. absurd (cc); non = λ t from o z i. either z (l.rest from o z i) }
     where
       either : (z : Earlier) → IsIn z [] ⊎ No G a z → No G a z
       either z (inl i) = absurd i
-      either z (inr no) = no
+      either z (inr fails) = fails
 
   pub first_gives : (every : List Earlier) (e : Earlier) (left : List Earlier) → Yes G a e → Left every (e ∷ left) → TellsSome G a every true
-  first_gives every e left yes l = record { so = λ t. (e, l.here e (inl refl), yes); non = λ t. absurd (cc) }
+  first_gives every e left holds l = record { so = λ t. (e, l.here e (inl refl), holds); non = λ t. absurd (cc) }
 
   -- ---- steps of a walk
 
@@ -74,7 +74,7 @@ module _ (G : Giving) (a : Asks) where
   stops_at every left rest e is old l = none_behind every e rest old (subst (Left every) is l)
 
   pub finds : (every left rest : List Earlier) (e : Earlier) → left ≡ e ∷ rest → Yes G a e → Left every left → TellsSome G a every true
-  finds every left rest e is yes l = first_gives every e rest yes (subst (Left every) is l)
+  finds every left rest e is holds l = first_gives every e rest holds (subst (Left every) is l)
 
   pub ends : (every left : List Earlier) → left ≡ [] → Left every left → TellsSome G a every false
   ends every left is l = none_left every (subst (Left every) is l)

@@ -1,6 +1,6 @@
 -- What is found of errors among the replies to a question is what the definitions say of all earlier requests.
 use Rattle.std.proofs.Common.{◌≡◌, ◌≤◌, ◌<◌, ℕ, ◌+◌, ◌==◌, ◌&&◌, Bool, true, false, List, [], ◌∷◌, refl, sym, ap, ap₂, ◌∙◌, subst, arith}
-use Rattle.std.specs.Prelude.{Option, Some, None, Result, Ok, Err, nat_lt, not}
+use Rattle.std.specs.Prelude.{Option, Some, None, Result, Ok, Err, is_ok, nat_lt, not}
 use Rattle.std.proofs.lemmas.Bool.Decides.{nat_tests}
 use Rattle.number_table.specs.Entries.{entry_at}
 use Rattle.client_request.specs.Request.{Request}
@@ -32,8 +32,8 @@ use Rattle.trace_views.proofs.Numbering.{errors_same, same_errors}
 use Rattle.trace_views.proofs.Finding.{same_asking, none_some, common_same, here_is}
 
 module _ (s : Settings) (k : ℕ) (a : Asks) (n : ℕ) (x : Error) (e : Earlier) where
-  pub a_message : (m : Octets) → e.outcome ≡ Ok m → No (GivesError s k n x) a e
-  a_message m is q r asked key has g = absurd (let z : Err x ≡ Ok m = sym g.is ∙ is in cc)
+  pub a_message : is_ok e.outcome ≡ true → No (GivesError s k n x) a e
+  a_message is q r asked key has g = absurd (let z : true ≡ false = sym is ∙ ap is_ok g.is in cc)
 
   pub not_below : k ≤ e.request → No (GivesError s k n x) a e
   not_below le q r asked key has g = absurd (let lt = g.below in omega arith)
@@ -49,8 +49,8 @@ module _ (s : Settings) (k : ℕ) (a : Asks) (n : ℕ) (x : Error) (e : Earlier)
 
   pub error_told : (y : Error) (b : Bool) → e.outcome ≡ Err y → e.request < k → covers_flags e.flags a.flags a.key.rtype ≡ true → b ≡ same_error y x → IsRecent s n e → TellsOne (GivesError s k n x) a e b
   error_told y b is below covers same recent = record {
-    so = λ yes. the_error recent (subst (λ (y : Error). e.outcome ≡ Err y) (errors_same y x (sym same ∙ yes)) is) below covers;
-    non = λ no. another y is (λ alike. never b (same ∙ same_errors y x alike) no);
+    so = λ holds. the_error recent (subst (λ (y : Error). e.outcome ≡ Err y) (errors_same y x (sym same ∙ holds)) is) below covers;
+    non = λ fails. another y is (λ alike. never b (same ∙ same_errors y x alike) fails);
   }
 
 below : (a b : ℕ) → nat_lt a b ≡ true → a < b
@@ -71,9 +71,9 @@ module _ (s : Settings) (k : ℕ) (x : Error) (r : Requests) (t : Table) (c : Co
     was_asked = sym (kr.askings k) ∙ is
 
     found : (e : Earlier) → IsIn e (replies_to its.key t) → Yes (GivesError s k r.clock x) its e → IsFound c s k x h
-    found e i yes =
+    found e i holds =
         let q = kt.so its.key e i in
-        let g = yes q.asked_as.request a.request asked q.key q.flags in
+        let g = holds q.asked_as.request a.request asked q.key q.flags in
         record {
           number = e.request;
           first = q.asked_as.request;
@@ -95,9 +95,9 @@ module _ (s : Settings) (k : ℕ) (x : Error) (r : Requests) (t : Table) (c : Co
       among = kt.back f.number (Err x) f.moment first_asking f.got (ap not kept) f.earlier.first_asked.1 covering.first
 
       none_found : ((e : Earlier) → IsIn e (replies_to its.key t) → No (GivesError s k r.clock x) its e) → ⊥
-      none_found no =
+      none_found fails =
           let same : common (key_of f.first) ≡ its.key = common_same (key_of f.first) (key_of a.request) covering.keys ∙ sym asked.key in
-          no (record { request = f.number; flags = among.flags; moment = f.moment; outcome = Err x }) (subst (λ k. IsIn _ (replies_to k t)) same among.there)
+          fails (record { request = f.number; flags = among.flags; moment = f.moment; outcome = Err x }) (subst (λ k. IsIn _ (replies_to k t)) same among.there)
           f.first a.request asked same among.has
           (record { below = f.earlier.below; covers = covering.keys; is = refl; recent = (let at = kr.time in let recent = f.recent in omega arith) })
 
@@ -112,11 +112,11 @@ module _ (s : Settings) (k : ℕ) (x : Error) (r : Requests) (t : Table) (c : Co
   not_asked none = ((λ e. absurd (cc)), (λ f. absurd (none_some (asking k h) (record { request = f.request; moment = f.earlier.asked.0 }) (sym (kr.askings k) ∙ none) f.earlier.asked.1)))
 
   not_kept : (a : Asking) → entry_at k r.askings ≡ Some a → is_cacheable a.request ≡ false → Tells (IsFound c s k x h) false
-  not_kept a is no = (
+  not_kept a is fails = (
     (λ e. absurd (cc)),
     (λ f. absurd (
         let same = ap (λ (a : Asking). a.request) (same_asking (asking k h) (record { request = f.request; moment = f.earlier.asked.0 }) a f.earlier.asked.1 (sym (kr.askings k) ∙ is)) in
-        let z : true ≡ false = sym f.earlier.covering.second ∙ (ap is_cacheable same ∙ no) in
+        let z : true ≡ false = sym f.earlier.covering.second ∙ (ap is_cacheable same ∙ fails) in
         cc)),
   )
 
@@ -125,7 +125,7 @@ module _ (s : Settings) (k : ℕ) (x : Error) (r : Requests) (t : Table) where
   found_none none c h kept kr kt = not_asked s k x r t c h kept kr kt none
 
   pub found_unkept : (a : Asking) → entry_at k r.askings ≡ Some a → is_cacheable a.request ≡ false → TellsFound s k x r t false
-  found_unkept a is no c h kept kr kt = not_kept s k x r t c h kept kr kt a is no
+  found_unkept a is fails c h kept kr kt = not_kept s k x r t c h kept kr kt a is fails
 
   pub found_some : (a : Asking) (its : Asks) (b : Bool) → entry_at k r.askings ≡ Some a → IsAsked a.request its → TellsSome (GivesError s k r.clock x) its (replies_to its.key t) b → TellsFound s k x r t b
   found_some a its b is asked tells c h kept kr kt = told s k x r t c h kept kr kt a its is asked b tells
@@ -139,15 +139,15 @@ module _ (s : Settings) (k : ℕ) (x : Error) (r : Requests) (t : Table) where
 -- ---- the row of the asking
 
 pub not_here : (s : Settings) (k : ℕ) (x : Error) (w : What) (r : Requests) (t : Table) → asked_here_seen k w r ≡ false → TellsKept s k x w r t false
-not_here s k x w r t no c h is kr kt = ((λ e. absurd (cc)), (λ v. absurd (let z : true ≡ false = sym v.asked_here ∙ (sym (here_is k w r h is kr) ∙ no) in cc)))
+not_here s k x w r t fails c h is kr kt = ((λ e. absurd (cc)), (λ v. absurd (let z : true ≡ false = sym v.asked_here ∙ (sym (here_is k w r h is kr) ∙ fails) in cc)))
 
 pub never_kept : (s : Settings) (k : ℕ) (x : Error) (w : What) (r : Requests) (t : Table) → is_deadline x ≡ true → TellsKept s k x w r t false
-never_kept s k x w r t yes c h is kr kt = ((λ e. absurd (cc)), (λ v. absurd (let z : true ≡ false = sym yes ∙ v.is_kept_at_all in cc)))
+never_kept s k x w r t holds c h is kr kt = ((λ e. absurd (cc)), (λ v. absurd (let z : true ≡ false = sym holds ∙ v.is_kept_at_all in cc)))
 
 pub kept_told : (s : Settings) (k : ℕ) (x : Error) (w : What) (r : Requests) (t : Table) (b : Bool) → asked_here_seen k w r ≡ true → is_deadline x ≡ false → TellsFound s k x r t b → TellsKept s k x w r t b
-kept_told s k x w r t b yes kept tells c h is kr kt = (
+kept_told s k x w r t b holds kept tells c h is kr kt = (
   (λ e. (
       let f = (tells c h kept kr kt).0 e in
-      record { asked_here = sym (here_is k w r h is kr) ∙ yes; is_kept_at_all = kept; number = f.number; first = f.first; request = f.request; earlier = f.earlier; moment = f.moment; got = f.got; recent = f.recent })),
+      record { asked_here = sym (here_is k w r h is kr) ∙ holds; is_kept_at_all = kept; number = f.number; first = f.first; request = f.request; earlier = f.earlier; moment = f.moment; got = f.got; recent = f.recent })),
   (λ v. (tells c h kept kr kt).1 (record { number = v.number; first = v.first; request = v.request; earlier = v.earlier; moment = v.moment; got = v.got; recent = v.recent })),
 )

@@ -70,9 +70,9 @@ module _ (u : Manner) (s : Settings) (k : ℕ) (m : Octets) (r : Requests) (t : 
     was_asked = sym (kr.askings k) ∙ is
 
     supply : (e : Earlier) → IsIn e (replies_to its.key t) → Yes (Gives u s k r.clock m) its e → IsFound u c s k m h
-    supply e i yes =
+    supply e i holds =
         let q = kt.so its.key e i in
-        let g = yes q.asked_as.request a.request asked q.key q.flags in
+        let g = holds q.asked_as.request a.request asked q.key q.flags in
         let at = kr.time in
         record {
           first = q.asked_as.request;
@@ -108,9 +108,9 @@ module _ (u : Manner) (s : Settings) (k : ℕ) (m : Octets) (r : Requests) (t : 
 
       -- a reply that gives it is among those to the question
       none_found : ((e : Earlier) → IsIn e (replies_to its.key t) → No (Gives u s k r.clock m) its e) → ⊥
-      none_found no =
+      none_found fails =
           let same : common (key_of f.first) ≡ its.key = common_same (key_of f.first) (key_of a.request) covering.keys ∙ sym asked.key in
-          no (record { request = f.supplied.number; flags = among.flags; moment = f.supplied.moment; outcome = Ok f.message }) (subst (λ k. IsIn _ (replies_to k t)) same among.there)
+          fails (record { request = f.supplied.number; flags = among.flags; moment = f.supplied.moment; outcome = Ok f.message }) (subst (λ k. IsIn _ (replies_to k t)) same among.there)
           f.first a.request asked same among.has
           (record { below = f.supplied.earlier.below; covers = covering.keys; kept = f.message; is = refl; given = given })
 
@@ -125,11 +125,11 @@ module _ (u : Manner) (s : Settings) (k : ℕ) (m : Octets) (r : Requests) (t : 
   not_asked none = ((λ e. absurd (cc)), (λ f. absurd (none_some (asking k h) (record { request = f.request; moment = f.supplied.earlier.asked.0 }) (sym (kr.askings k) ∙ none) f.supplied.earlier.asked.1)))
 
   not_kept : (a : Asking) → entry_at k r.askings ≡ Some a → is_cacheable a.request ≡ false → Tells (IsFound u c s k m h) false
-  not_kept a is no = (
+  not_kept a is fails = (
     (λ e. absurd (cc)),
     (λ f. absurd (
         let same = ap (λ (a : Asking). a.request) (same_asking (asking k h) (record { request = f.request; moment = f.supplied.earlier.asked.0 }) a f.supplied.earlier.asked.1 (sym (kr.askings k) ∙ is)) in
-        let z : true ≡ false = sym f.supplied.earlier.covering.second ∙ (ap is_cacheable same ∙ no) in
+        let z : true ≡ false = sym f.supplied.earlier.covering.second ∙ (ap is_cacheable same ∙ fails) in
         cc)),
   )
 
@@ -138,7 +138,7 @@ module _ (u : Manner) (s : Settings) (k : ℕ) (m : Octets) (r : Requests) (t : 
   found_none none c h kr kt = not_asked u s k m r t c h kr kt none
 
   pub found_unkept : (a : Asking) → entry_at k r.askings ≡ Some a → is_cacheable a.request ≡ false → TellsFound u s k m r t false
-  found_unkept a is no c h kr kt = not_kept u s k m r t c h kr kt a is no
+  found_unkept a is fails c h kr kt = not_kept u s k m r t c h kr kt a is fails
 
   pub found_some : (a : Asking) (its : Asks) (b : Bool) → entry_at k r.askings ≡ Some a → IsAsked a.request its → TellsSome (Gives u s k r.clock m) its (replies_to its.key t) b → TellsFound u s k m r t b
   found_some a its b is asked tells c h kr kt = told u s k m r t c h kr kt a its is asked b tells
@@ -167,13 +167,13 @@ pub here_is : (k : ℕ) (w : What) (r : Requests) (h : History) → newest h ≡
 here_is k w r h is kr = ap₂ (λ w n. is_ask w && (n == k + 1)) (sym is) kr.count ∙ sym (asked_here_is k h)
 
 pub not_here : (s : Settings) (k : ℕ) (m : Octets) (w : What) (r : Requests) (t : Table) → asked_here_seen k w r ≡ false → TellsView s k m w r t false
-not_here s k m w r t no c h is kr kt = ((λ e. absurd (cc)), (λ v. absurd (let z : true ≡ false = sym v.asked_here ∙ (sym (here_is k w r h is kr) ∙ no) in cc)))
+not_here s k m w r t fails c h is kr kt = ((λ e. absurd (cc)), (λ v. absurd (let z : true ≡ false = sym v.asked_here ∙ (sym (here_is k w r h is kr) ∙ fails) in cc)))
 
 pub view_told : (s : Settings) (k : ℕ) (m : Octets) (w : What) (r : Requests) (t : Table) (b : Bool) → asked_here_seen k w r ≡ true → TellsFound Valid s k m r t b → TellsView s k m w r t b
-view_told s k m w r t b yes tells c h is kr kt = (
+view_told s k m w r t b holds tells c h is kr kt = (
   (λ e. (
       let f = (tells c h kr kt).0 e in
-      record { asked_here = sym (here_is k w r h is kr) ∙ yes; first = f.first; request = f.request; message = f.message; age = f.age; supplied = f.supplied; parts = f.given.parts; valid = f.given.valid; says = f.given.says })),
+      record { asked_here = sym (here_is k w r h is kr) ∙ holds; first = f.first; request = f.request; message = f.message; age = f.age; supplied = f.supplied; parts = f.given.parts; valid = f.given.valid; says = f.given.says })),
   (λ v. (tells c h kr kt).1 (record { first = v.first; request = v.request; message = v.message; age = v.age; supplied = v.supplied; given = record { parts = v.parts; valid = v.valid; says = v.says } })),
 )
 

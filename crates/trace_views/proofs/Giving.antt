@@ -1,6 +1,6 @@
 -- What is found of one earlier reply.
 use Rattle.std.proofs.Common.{◌≡◌, ◌≤◌, ◌<◌, ℕ, ◌+◌, ◌-◌, ◌&&◌, ◌⊎◌, inl, inr, Bool, true, false, List, [], ◌∷◌, refl, sym, ap, ◌∙◌, subst, arith}
-use Rattle.std.specs.Prelude.{Option, Some, None, Result, Ok, Err, nat_lt}
+use Rattle.std.specs.Prelude.{Option, Some, None, Result, Ok, Err, is_ok, nat_lt}
 use Rattle.std.proofs.lemmas.Bool.Decides.{nat_tests}
 use Rattle.dns_base.specs.Data.{Data}
 use Rattle.client_request.specs.Request.{Request}
@@ -81,8 +81,8 @@ expired_told c s asks m kept f age b is t = subst (λ s. TellsKept Expired s ask
 -- ---- one reply
 
 module _ (u : Manner) (s : Settings) (k : ℕ) (a : Asks) (n : ℕ) (m : Octets) (e : Earlier) where
-  pub no_message : (x : Error) → e.outcome ≡ Err x → No (Gives u s k n m) a e
-  no_message x is q r asked key has g = absurd (let z : Ok g.kept ≡ Err x = sym g.is ∙ is in cc)
+  pub no_message : is_ok e.outcome ≡ false → No (Gives u s k n m) a e
+  no_message is q r asked key has g = absurd (let z : false ≡ true = sym is ∙ ap is_ok g.is in cc)
 
   pub not_below : k ≤ e.request → No (Gives u s k n m) a e
   not_below le q r asked key has g = absurd (let lt = g.below in omega arith)
@@ -92,12 +92,12 @@ module _ (u : Manner) (s : Settings) (k : ℕ) (a : Asks) (n : ℕ) (m : Octets)
 
   pub one_told : (kept : Octets) (b : Bool) → e.outcome ≡ Ok kept → e.request < k → covers_flags e.flags a.flags a.key.rtype ≡ true → TellsKept u s a m kept e.flags (n - e.moment) b → TellsOne (Gives u s k n m) a e b
   one_told kept b is below covers t = record {
-    so = λ yes q r asked key has. (
+    so = λ holds q r asked key has. (
         let c = covers_so q r e.flags a.flags a.key (sym key) asked.key has asked.flags covers in
-        record { below = below; covers = c; kept = kept; is = is; given = (t q r asked c has).0 yes });
-    non = λ no q r asked key has g. (
+        record { below = below; covers = c; kept = kept; is = is; given = (t q r asked c has).0 holds });
+    non = λ fails q r asked key has g. (
         let same : g.kept ≡ kept = (let z : Ok g.kept ≡ Ok kept = sym g.is ∙ is in cc) in
-        never b ((t q r asked g.covers has).1 (subst (λ kept. IsGivenOf u s q r kept (n - e.moment) m) same g.given)) no);
+        never b ((t q r asked g.covers has).1 (subst (λ kept. IsGivenOf u s q r kept (n - e.moment) m) same g.given)) fails);
   }
 
 below : (a b : ℕ) → nat_lt a b ≡ true → a < b
