@@ -1,18 +1,17 @@
 -- Behind each row what is kept of messages that came is what the definitions say.
-use Rattle.std.proofs.Common.{◌≡◌, ℕ, ◌==◌, ◌&&◌, ◌⊎◌, inl, inr, not, Bool, true, false, if◌then◌else◌, List, [], ◌∷◌, Option, Some, None, refl, sym, ap, ◌∙◌, subst}
+use Rattle.std.proofs.Common.{◌≡◌, ℕ, ◌&&◌, ◌⊎◌, inl, inr, not, Bool, true, false, List, [], Option, Some, None, refl, sym, ap, ◌∙◌, subst}
 use Rattle.number_table.specs.Entries.{entry_at}
 use Rattle.client_request.specs.declared.event.Row.{Row}
 use Rattle.client_request.specs.declared.event.Via.{Via}
 use Rattle.client_request.specs.declared.event.Via.TheVariants.{Dgram, Stream}
-use Rattle.right_trace.specs.Trace.{History, Conf, Came, Put, after}
-use Rattle.right_trace.specs.Time.{now, newest, row_before, EarlierRow, OfRow}
+use Rattle.right_trace.specs.Trace.{History, Conf, after}
+use Rattle.right_trace.specs.Time.{newest, row_before, EarlierRow, OfRow}
 use Rattle.right_trace.specs.Messages.{Octets, answers, truncated}
-use Rattle.right_trace.specs.Requests.{asking}
 use Rattle.right_trace.specs.Places.{site, is_of_kind}
 use Rattle.right_trace.specs.Parts.{IsIn}
 use Rattle.right_trace.specs.Frames.{came}
-use Rattle.right_trace.specs.Exchanges.{Comes, Matches, is_whole, first_of}
-use Rattle.right_trace.specs.Coming.{IsExcused, CameFor, SomeCame, CameFirst, FirstHere, FirstEarlier}
+use Rattle.right_trace.specs.Exchanges.{is_whole, first_of}
+use Rattle.right_trace.specs.Coming.{IsExcused, CameFor, SomeCame}
 use Rattle.trace_tables.specs.declared.places.Place.{Place}
 use Rattle.trace_tables.specs.Known.{site_seen}
 use Rattle.trace_tables.specs.Lists.{listed}
@@ -30,7 +29,7 @@ use Rattle.trace_promptness.specs.Prompt.{is_uncut, matches, is_stream, excused_
 use Rattle.trace_promptness.proofs.Hearing.{before_row, rows_before, before_rows, brought_to, passed_so, so_passed}
 use Rattle.trace_firsts.specs.declared.firsts.Arrived.{Arrived}
 use Rattle.trace_firsts.specs.declared.firsts.News.{News}
-use Rattle.trace_firsts.specs.Firsts.{Firsts, counted, news_of, all_news, add_all, after_row, ByRow, FirstRow, HasCome, Known, GoesOn}
+use Rattle.trace_firsts.specs.Firsts.{Firsts, counted, news_of, all_news, after_row, ByRow, FirstRow, HasCome, Known, GoesOn}
 use Rattle.trace_firsts.proofs.Listing.{clash, not_false, counts_so, so_counts, IsNew, added_so, still_listed, new_listed, news_so, so_news}
 
 uncut_is : (v : Via) (m : Octets) → is_uncut v m ≡ is_whole v m
@@ -123,10 +122,10 @@ module _ (c : Conf) (past : History) (row : Row) (l l' : Ledger) (t : Timers) (o
     first = λ b. still (FirstRow c k x.message) (h.first b);
   }
 
-  abbrev then : Firsts
-  then = after_row excused xs f
+  abbrev added : Firsts
+  added = after_row excused xs f
 
-  so_then : (k : ℕ) (x : Arrived) → IsIn x (listed k then) → HasCome c k end x
+  so_then : (k : ℕ) (x : Arrived) → IsIn x (listed k added) → HasCome c k end x
   so_then k x i = go (added_so k x (all_news (not excused) f xs) f i)
     where
       new : IsNew k x (all_news (not excused) f xs) → HasCome c k end x
@@ -157,31 +156,31 @@ module _ (c : Conf) (past : History) (row : Row) (l l' : Ledger) (t : Timers) (o
     is_message = refl;
   }
 
-  listed_then : (k : ℕ) (m : Octets) (w : IsComingFor k m) → IsIn (news_of (not excused) f w.coming).arrived (listed k then)
+  listed_then : (k : ℕ) (m : Octets) (w : IsComingFor k m) → IsIn (news_of (not excused) f w.coming).arrived (listed k added)
   listed_then k m w = new_listed k (news_of (not excused) f w.coming) (all_news (not excused) f xs) f (so_news (not excused) f w.coming xs w.there w.match) w.is_request
 
   at_past : (P : History → Type 0) → P (row_before end) → P past
   at_past P p = subst P (before_row row past) p
 
-  came_then : (k : ℕ) (m : Octets) → ByRow (OfRow (CameFor c k m)) end → (x : Arrived) × IsIn x (listed k then) × (x.message ≡ m)
+  came_then : (k : ℕ) (m : Octets) → ByRow (OfRow (CameFor c k m)) end → (x : Arrived) × IsIn x (listed k added) × (x.message ≡ m)
   came_then k m b = go (was (OfRow (CameFor c k m)) b)
     where
-      go : OfRow (CameFor c k m) end ⊎ ByRow (OfRow (CameFor c k m)) past → (x : Arrived) × IsIn x (listed k then) × (x.message ≡ m)
+      go : OfRow (CameFor c k m) end ⊎ ByRow (OfRow (CameFor c k m)) past → (x : Arrived) × IsIn x (listed k added) × (x.message ≡ m)
       go (inl w) = let z = coming_for k m (at_past (λ past. CameFor c k m past (newest end) end) w) in ((news_of (not excused) f z.coming).arrived, listed_then k m z, z.is_message)
       go (inr b) = let x = kf.came k m b in (x.0, still_listed k x.0 (all_news (not excused) f xs) f x.1, x.2)
 
-  counted_then : (k : ℕ) → ByRow (OfRow (SomeCame c k)) end → (x : Arrived) × IsIn x (listed k then) × (x.counts ≡ true)
+  counted_then : (k : ℕ) → ByRow (OfRow (SomeCame c k)) end → (x : Arrived) × IsIn x (listed k added) × (x.counts ≡ true)
   counted_then k b = go (was (OfRow (SomeCame c k)) b)
     where
-      here : SomeCame c k past (newest end) end → (d : Bool) → excused ≡ d → (x : Arrived) × IsIn x (listed k then) × (x.counts ≡ true)
+      here : SomeCame c k past (newest end) end → (d : Bool) → excused ≡ d → (x : Arrived) × IsIn x (listed k added) × (x.counts ≡ true)
       here w true e = absurd (w.counts (excused_so w.came.place w.came.id w.came.via w.message w.came.matches.comes.first e))
       here w false e = let z = coming_for k w.message w.came in ((news_of (not excused) f z.coming).arrived, listed_then k w.message z, ap not e)
 
-      go : OfRow (SomeCame c k) end ⊎ ByRow (OfRow (SomeCame c k)) past → (x : Arrived) × IsIn x (listed k then) × (x.counts ≡ true)
+      go : OfRow (SomeCame c k) end ⊎ ByRow (OfRow (SomeCame c k)) past → (x : Arrived) × IsIn x (listed k added) × (x.counts ≡ true)
       go (inl w) = here (at_past (λ past. SomeCame c k past (newest end) end) w) excused refl
       go (inr b) = let x = kf.counted k b in (x.0, still_listed k x.0 (all_news (not excused) f xs) f x.1, x.2)
 
-  first_then : (k : ℕ) (m : Octets) → ByRow (FirstRow c k m) end → (x : Arrived) × IsIn x (listed k then) × (x.message ≡ m) × (x.first ≡ true)
+  first_then : (k : ℕ) (m : Octets) → ByRow (FirstRow c k m) end → (x : Arrived) × IsIn x (listed k added) × (x.message ≡ m) × (x.first ≡ true)
   first_then k m b = go (was (FirstRow c k m) b)
     where
       uncounted : (EarlierRow (OfRow (SomeCame c k)) end → ⊥) → (d : Bool) → counted k f ≡ d → d ≡ false
@@ -191,13 +190,13 @@ module _ (c : Conf) (past : History) (row : Row) (l l' : Ledger) (t : Timers) (o
           some_counted : counted k f ≡ true → ByRow (OfRow (SomeCame c k)) past
           some_counted e = let x = counts_so (listed k f) e in (kf.so k x.0 x.1).counted x.2
 
-      go : FirstRow c k m end ⊎ ByRow (FirstRow c k m) past → (x : Arrived) × IsIn x (listed k then) × (x.message ≡ m) × (x.first ≡ true)
+      go : FirstRow c k m end ⊎ ByRow (FirstRow c k m) past → (x : Arrived) × IsIn x (listed k added) × (x.message ≡ m) × (x.first ≡ true)
       go (inl w) =
           let z = coming_for k m (at_past (λ past. CameFor c k m past (newest end) end) w.0) in
           ((news_of (not excused) f z.coming).arrived, listed_then k m z, z.is_message, ap not (ap (λ k. counted k f) z.is_request ∙ uncounted w.1 (counted k f) refl))
       go (inr b) = let x = kf.first k m b in (x.0, still_listed k x.0 (all_news (not excused) f xs) f x.1, x.2, x.3)
 
-  known_then : Known c end then
+  known_then : Known c end added
   known_then = record { so = so_then; came = came_then; counted = counted_then; first = first_then }
 
 none_at_first : (c : Conf) (k : ℕ) (m : Octets) → OfRow (CameFor c k m) [] → ⊥

@@ -11,7 +11,7 @@ use Rattle.trace_exchanges.specs.declared.coming.Coming.{Coming}
 use Rattle.trace_promptness.specs.Prompt.{matches}
 use Rattle.trace_firsts.specs.declared.firsts.Arrived.{Arrived}
 use Rattle.trace_firsts.specs.declared.firsts.News.{News}
-use Rattle.trace_firsts.specs.Firsts.{Firsts, some_counts, counted, some_is, some_first, news_of, all_news, add_all}
+use Rattle.trace_firsts.specs.Firsts.{Firsts, some_counts, some_is, some_first, news_of, all_news, add_all}
 
 pub clash : (b : Bool) → b ≡ true → b ≡ false → ⊥
 clash b e f = absurd (let z : true ≡ false = sym e ∙ f in cc)

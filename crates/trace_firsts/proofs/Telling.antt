@@ -1,15 +1,13 @@
 -- What is found of messages that came is what the definitions say at a point of a row.
-use Rattle.std.proofs.Common.{◌≡◌, ℕ, ◌&&◌, ◌||◌, ◌⊎◌, inl, inr, not, Bool, true, false, List, [], ◌∷◌, refl, sym, ap, ◌∙◌, subst}
+use Rattle.std.proofs.Common.{◌≡◌, ℕ, ◌&&◌, ◌⊎◌, inl, inr, not, Bool, true, false, [], ◌∷◌, refl, sym, ap, ◌∙◌, subst}
 use Rattle.right_trace.specs.Trace.{History, Conf, Came, Put}
 use Rattle.right_trace.specs.Time.{newest, row_before, EarlierRow, OfRow}
 use Rattle.right_trace.specs.Messages.{Octets}
-use Rattle.right_trace.specs.Parts.{IsIn}
 use Rattle.right_trace.specs.Coming.{CameFor, SomeCame, CameFirst, FirstHere, FirstEarlier}
 use Rattle.trace_tables.specs.Lists.{listed}
 use Rattle.trace_due.proofs.ReadTimers.{both, all}
 use Rattle.trace_questions.specs.Outs.{Tells}
-use Rattle.trace_firsts.specs.declared.firsts.Arrived.{Arrived}
-use Rattle.trace_firsts.specs.Firsts.{Firsts, counted, some_is, some_first, ByRow, FirstRow, Known, earlier_seen, first_seen, TellsEarlier, TellsFirst}
+use Rattle.trace_firsts.specs.Firsts.{Firsts, counted, some_first, ByRow, FirstRow, Known, earlier_seen, first_seen, TellsEarlier, TellsFirst}
 use Rattle.trace_firsts.proofs.Listing.{clash, not_false, either, first_true, second_true, counts_so, so_counts, is_so, so_is, first_so, so_first}
 
 -- rows before the newest are those that are done before it

@@ -1,5 +1,5 @@
 -- What a request asks is found of its base, and tells which replies may serve it.
-use Rattle.std.proofs.Common.{◌≡◌, Bool, true, false, ◌&&◌, ◌||◌, refl, sym, ap, ap₂, ◌∙◌, subst}
+use Rattle.std.proofs.Common.{◌≡◌, true, false, ◌&&◌, ◌||◌, refl, sym, ap, ap₂, ◌∙◌}
 use Rattle.std.specs.Prelude.{Option, Some, None, not, if◌then◌else◌, option_map, ◌==◌}
 use Rattle.std.specs.Option.{option_map_or}
 use Rattle.dns_names.specs.Name.{Labels}
@@ -7,7 +7,7 @@ use Rattle.dns_base.specs.Header.{opcode_of}
 use Rattle.dns_base.specs.Message.{Asked, sole_question}
 use Rattle.client_request.specs.Request.{Request}
 use Rattle.right_trace.specs.Messages.{base_is_read}
-use Rattle.right_trace.specs.Keys.{Key, FlagClass, KeysCover, key_of, question_or, question_of, spelled_name, is_cacheable, is_do, is_signing, flags_cover}
+use Rattle.right_trace.specs.Keys.{Key, KeysCover, key_of, question_or, question_of, spelled_name, is_cacheable, is_do, is_signing, flags_cover}
 use Rattle.message_matching.proofs.Names.{both, all}
 use Rattle.cache_rules.specs.Key.{flag_class}
 use Rattle.cache_rules.proofs.KeyLaws.{keys_are_of_requests}

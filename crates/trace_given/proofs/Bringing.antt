@@ -1,10 +1,10 @@
 -- Whether a message came for a request is found among what came.
-use Rattle.std.proofs.Common.{◌≡◌, ℕ, ◌==◌, ◌&&◌, ◌||◌, ◌⊎◌, inl, inr, Bool, true, false, List, [], ◌∷◌, refl, sym, ap, ◌∙◌, subst}
-use Rattle.std.specs.Prelude.{Option, Some}
+use Rattle.std.proofs.Common.{◌≡◌, ℕ, ◌==◌, ◌&&◌, ◌||◌, inl, inr, Bool, true, false, List, [], ◌∷◌, refl, sym, ap, ◌∙◌, subst}
+use Rattle.std.specs.Prelude.{Some}
 use Rattle.client_request.specs.declared.event.Via.{Via}
 use Rattle.client_request.specs.declared.event.Via.TheVariants.{Dgram, Stream}
 use Rattle.right_trace.specs.Trace.{History, Conf}
-use Rattle.right_trace.specs.Time.{newest, row_before}
+use Rattle.right_trace.specs.Time.{newest}
 use Rattle.right_trace.specs.Messages.{Octets, answers, truncated}
 use Rattle.right_trace.specs.Parts.{IsIn}
 use Rattle.right_trace.specs.Exchanges.{Comes, Matches, is_whole}

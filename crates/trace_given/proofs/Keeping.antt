@@ -1,24 +1,20 @@
 -- What is kept of replies is what the definitions say, and goes on.
-use Rattle.std.proofs.Common.{◌≡◌, ◌≤◌, ℕ, ◌&&◌, Bool, true, false, ◌⊎◌, inl, inr, List, [], ◌∷◌, refl, sym, ap, ap₂, ◌∙◌, subst, arith}
-use Rattle.std.specs.Prelude.{Option, Some, None, Result, Ok, Err, if◌then◌else◌, not, max}
+use Rattle.std.proofs.Common.{◌≡◌, ◌≤◌, ℕ, Bool, true, false, ◌⊎◌, inl, inr, List, [], ◌∷◌, refl, sym, ap, ◌∙◌, subst, arith}
+use Rattle.std.specs.Prelude.{Option, Some, Ok, Err, if◌then◌else◌, max}
 use Rattle.std.specs.Map.{lookup}
 use Rattle.number_table.specs.Entries.{entry_at}
-use Rattle.client_request.specs.declared.error.Error.{Error}
 use Rattle.client_request.specs.declared.event.Event.{Event}
 use Rattle.client_request.specs.declared.event.Out.{Out}
 use Rattle.client_request.specs.declared.event.Out.TheVariants.{Reply}
-use Rattle.client_request.specs.declared.event.Row.{Row}
 use Rattle.client_request.specs.declared.event.What.{What}
-use Rattle.right_trace.specs.Trace.{History, Item, Conf, Came, Put, put_all, after}
+use Rattle.right_trace.specs.Trace.{History, Conf, Came, Put, put_all, after}
 use Rattle.right_trace.specs.Time.{now, newest, row_before, Ever}
-use Rattle.right_trace.specs.Messages.{Octets}
 use Rattle.right_trace.specs.Settings.{Settings}
-use Rattle.right_trace.specs.Requests.{Asking, asking, is_marked}
+use Rattle.right_trace.specs.Requests.{Asking, asking}
 use Rattle.right_trace.specs.Parts.{IsIn}
 use Rattle.right_trace.specs.Keys.{Key, key_of, is_cacheable}
-use Rattle.right_trace.specs.Replies.{IsFresh, IsFreshReply}
-use Rattle.right_trace.specs.Errors.{DirectCause, IsErrorReply}
-use Rattle.right_trace.specs.Right.{IsAsked, OutRight, OutsRight, RowRight}
+use Rattle.right_trace.specs.Errors.{DirectCause}
+use Rattle.right_trace.specs.Right.{OutRight, OutsRight}
 use Rattle.right_trace.proofs.Asked.{asking_came}
 use Rattle.cache_rules.specs.Key.{same_key, same_itself, same_is_equal}
 use Rattle.message_views.specs.declared.serving.Flags.{Flags}

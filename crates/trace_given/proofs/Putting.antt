@@ -1,5 +1,5 @@
 -- A reply that is put is kept, where it is told what its request asks.
-use Rattle.std.proofs.Common.{◌≡◌, ℕ, true, sym, subst}
+use Rattle.std.proofs.Common.{◌≡◌, ℕ, sym, subst}
 use Rattle.std.specs.Prelude.{Option, Some, Result, Ok, Err, OnOk}
 use Rattle.number_table.specs.Entries.{entry_at}
 use Rattle.right_trace.specs.Requests.{Asking}

@@ -3,7 +3,7 @@ use Rattle.std.specs.Prelude.{◌≡◌, ◌&&◌, ◌||◌, not, ℕ, Bool, tru
 use Rattle.dns_names.specs.Name.{Labels}
 use Rattle.dns_base.specs.Message.{sole_question}
 use Rattle.client_request.specs.Request.{Request, is_dnssec_ok}
-use Rattle.right_trace.specs.Keys.{Key, Plain, KeysCover, key_of, spelled_name, is_cacheable, is_do, is_signing, flags_cover}
+use Rattle.right_trace.specs.Keys.{Key, Plain, key_of, spelled_name, is_cacheable, is_do, is_signing, flags_cover}
 use Rattle.cache_rules.specs.Key.{flag_class, key_in}
 use Rattle.message_views.specs.declared.serving.Flags.{Flags}
 use Rattle.message_views.specs.Serving.{HasFlags}

@@ -1,5 +1,5 @@
 -- What a forward pass keeps of replies that later requests may share, by what they answer, the newest first.
-use Rattle.std.specs.Prelude.{◌≡◌, ℕ, ◌≤◌, Bool, true, false, not, if◌then◌else◌, List, [], ◌∷◌, Option, Some, None, Result, Ok, Err}
+use Rattle.std.specs.Prelude.{◌≡◌, ℕ, ◌≤◌, Bool, true, false, not, if◌then◌else◌, List, [], ◌∷◌, Some, Result, Ok, Err}
 use Rattle.std.specs.Map.{lookup}
 use Rattle.number_table.specs.Entries.{entry_at}
 use Rattle.client_request.specs.declared.error.Error.{Error}

@@ -5,29 +5,23 @@ use Rattle.client_request.specs.declared.event.Out.{Out}
 use Rattle.client_request.specs.declared.event.Out.TheVariants.{Start, OpenDgram, OpenStream, Send, Write, Resume, Close, Stale, Reply}
 use Rattle.client_request.specs.declared.event.What.{What}
 use Rattle.right_trace.specs.Trace.{History, Conf, Came, Put}
-use Rattle.right_trace.specs.Time.{now, newest, row_before, Ever, EarlierRow, OfRow}
+use Rattle.right_trace.specs.Time.{newest, row_before, Ever}
 use Rattle.right_trace.specs.Messages.{Octets}
 use Rattle.right_trace.specs.Settings.{Settings}
 use Rattle.right_trace.specs.Requests.{is_marked}
 use Rattle.right_trace.specs.Validity.{is_deferred}
 use Rattle.right_trace.specs.Coming.{CameFor}
-use Rattle.right_trace.specs.Replies.{IsFresh, InThisRow, Deferred, IsFreshReply, Supplies, OkIsRight, Fresh, View, IsView}
-use Rattle.right_trace.specs.Stale.{IsStale, MessageIsRight, Unmarked, Marked}
+use Rattle.right_trace.specs.Replies.{IsFresh, InThisRow, Deferred, IsFreshReply, OkIsRight, Fresh, View, IsView}
+use Rattle.right_trace.specs.Stale.{MessageIsRight, Unmarked, Marked}
 use Rattle.trace_tables.specs.declared.books.Books.{Books}
-use Rattle.trace_tables.specs.Books as books
-use Rattle.trace_tables.specs.Requests.{marked_seen}
 use Rattle.trace_frames.specs.declared.ledger.Ledger.{Ledger}
-use Rattle.trace_frames.specs.Ledger as ledger
 use Rattle.trace_exchanges.specs.Open.{Open}
-use Rattle.trace_exchanges.specs.Open as open_sends
 use Rattle.trace_questions.specs.Outs.{Tells}
 use Rattle.trace_given.specs.Coming.{TellsCame}
-use Rattle.trace_given.specs.Earlier.{Table, IsFreshHere}
-use Rattle.trace_given.specs.Earlier as earlier
+use Rattle.trace_given.specs.Earlier.{Table}
 use Rattle.trace_views.specs.Serving.{IsSupplied, TellsView, TellsSupplied}
 use Rattle.trace_messages.specs.declared.message.Told.{Told}
-use Rattle.trace_messages.specs.declared.message.Judged.{Judged}
-use Rattle.trace_messages.specs.Message.{FailsHere, IsLast, IsTold, IsJudged, TellsMessage, is_marked_seen}
+use Rattle.trace_messages.specs.Message.{IsLast, IsTold, IsJudged, TellsMessage, is_marked_seen}
 
 both : (a b : Bool) → (a && b) ≡ true → (a ≡ true) × (b ≡ true)
 both true true e = (refl, refl)

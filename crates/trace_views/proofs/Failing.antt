@@ -1,19 +1,17 @@
 -- What is found of errors among the replies to a question is what the definitions say of all earlier requests.
-use Rattle.std.proofs.Common.{◌≡◌, ◌≤◌, ◌<◌, ℕ, ◌+◌, ◌==◌, ◌&&◌, Bool, true, false, List, [], ◌∷◌, refl, sym, ap, ap₂, ◌∙◌, subst, arith}
-use Rattle.std.specs.Prelude.{Option, Some, None, Result, Ok, Err, is_ok, nat_lt, not}
+use Rattle.std.proofs.Common.{◌≡◌, ◌≤◌, ◌<◌, ℕ, ◌+◌, Bool, true, false, List, [], refl, sym, ap, ◌∙◌, subst, arith}
+use Rattle.std.specs.Prelude.{Some, None, Err, is_ok, nat_lt, not}
 use Rattle.std.proofs.lemmas.Bool.Decides.{nat_tests}
 use Rattle.number_table.specs.Entries.{entry_at}
-use Rattle.client_request.specs.Request.{Request}
 use Rattle.client_request.specs.declared.error.Error.{Error}
 use Rattle.client_request.specs.declared.event.What.{What}
 use Rattle.right_trace.specs.Trace.{History, Conf}
-use Rattle.right_trace.specs.Time.{now, newest, Ever}
-use Rattle.right_trace.specs.Messages.{Octets}
+use Rattle.right_trace.specs.Time.{now, Ever}
 use Rattle.right_trace.specs.Settings.{Settings}
 use Rattle.right_trace.specs.Requests.{Asking, asking}
-use Rattle.right_trace.specs.Keys.{Key, KeysCover, Covers, key_of, is_cacheable}
+use Rattle.right_trace.specs.Keys.{Covers, key_of, is_cacheable}
 use Rattle.right_trace.specs.Parts.{IsIn}
-use Rattle.right_trace.specs.Errors.{is_deadline, IsErrorReply, IsKeptError}
+use Rattle.right_trace.specs.Errors.{is_deadline}
 use Rattle.trace_tables.specs.declared.requests.Requests.{Requests}
 use Rattle.trace_tables.specs.Requests as requests
 use Rattle.trace_questions.specs.Outs.{Tells}

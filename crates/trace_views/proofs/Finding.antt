@@ -1,9 +1,8 @@
 -- What is found among the replies to a question is what the definitions say of all earlier requests.
 use Rattle.std.proofs.Common.{◌≡◌, ◌≤◌, ◌<◌, ℕ, suc, ◌+◌, ◌-◌, ◌==◌, ◌&&◌, Bool, true, false, List, [], ◌∷◌, refl, sym, ap, ap₂, ◌∙◌, subst, arith}
-use Rattle.std.specs.Prelude.{Option, Some, None, Result, Ok, Err, nat_lt, if◌then◌else◌}
+use Rattle.std.specs.Prelude.{Option, Some, None, Ok, nat_lt, if◌then◌else◌}
 use Rattle.std.proofs.lemmas.Bool.Decides.{nat_tests}
 use Rattle.number_table.specs.Entries.{entry_at}
-use Rattle.dns_base.specs.Data.{Data}
 use Rattle.client_request.specs.Request.{Request}
 use Rattle.client_request.specs.declared.event.What.{What}
 use Rattle.right_trace.specs.Trace.{History, Conf, Came, Put}
@@ -12,23 +11,21 @@ use Rattle.right_trace.specs.Messages.{Octets}
 use Rattle.right_trace.specs.Settings.{Settings}
 use Rattle.right_trace.specs.Requests.{Asking, asking, asks, is_ask, is_asked_here}
 use Rattle.right_trace.specs.Keys.{Key, KeysCover, Covers, Plain, key_of, is_cacheable}
-use Rattle.right_trace.specs.Parts.{IsIn, Parts, Says}
+use Rattle.right_trace.specs.Parts.{IsIn}
 use Rattle.right_trace.specs.Validity.{is_above, validity_of_message}
-use Rattle.right_trace.specs.Replies.{CoversLater, Supplies, IsView}
-use Rattle.message_views.specs.Serving.{HasFlags, IsViewOf, IsStaleOf}
 use Rattle.trace_tables.specs.declared.requests.Requests.{Requests}
 use Rattle.trace_tables.specs.Requests as requests
 use Rattle.trace_questions.specs.Outs.{Tells}
 use Rattle.trace_given.specs.declared.asks.Asks.{Asks}
 use Rattle.trace_given.specs.declared.earlier.Earlier.{Earlier}
 use Rattle.trace_given.specs.Asks.{IsAsked, common}
-use Rattle.trace_given.specs.Earlier.{Outcome, Table, replies_to, IsGiven, IsKept, is_worth}
+use Rattle.trace_given.specs.Earlier.{Table, replies_to, IsGiven}
 use Rattle.trace_given.specs.Earlier as earlier
 use Rattle.trace_views.specs.declared.serving.Manner.{Manner}
 use Rattle.trace_views.specs.declared.serving.Manner.TheVariants.{Valid, Expired}
 use Rattle.trace_views.specs.Among.{Yes, No, TellsSome}
 use Rattle.trace_views.proofs.Among.{none_there}
-use Rattle.trace_views.specs.Serving.{IsGivenOf, Gives, asked_here_seen, IsFound, TellsFound, IsSupplied, TellsView, TellsSupplied}
+use Rattle.trace_views.specs.Serving.{IsGivenOf, Gives, asked_here_seen, IsFound, TellsFound, TellsView, TellsSupplied}
 
 pub same_asking : (o : Option Asking) (a b : Asking) → o ≡ Some a → o ≡ Some b → a ≡ b
 same_asking o a b p q = let z : Some a ≡ Some b = sym p ∙ q in cc

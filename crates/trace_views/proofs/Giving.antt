@@ -1,30 +1,26 @@
 -- What is found of one earlier reply.
-use Rattle.std.proofs.Common.{◌≡◌, ◌≤◌, ◌<◌, ℕ, ◌+◌, ◌-◌, ◌&&◌, ◌⊎◌, inl, inr, Bool, true, false, List, [], ◌∷◌, refl, sym, ap, ◌∙◌, subst, arith}
-use Rattle.std.specs.Prelude.{Option, Some, None, Result, Ok, Err, is_ok, nat_lt}
+use Rattle.std.proofs.Common.{◌≡◌, ◌≤◌, ◌<◌, ℕ, ◌+◌, ◌-◌, Bool, true, false, refl, sym, ap, ◌∙◌, subst, arith}
+use Rattle.std.specs.Prelude.{Ok, is_ok, nat_lt}
 use Rattle.std.proofs.lemmas.Bool.Decides.{nat_tests}
-use Rattle.dns_base.specs.Data.{Data}
 use Rattle.client_request.specs.Request.{Request}
-use Rattle.client_request.specs.declared.error.Error.{Error}
 use Rattle.client_settings.specs.Settings.{CacheSettings}
 use Rattle.right_trace.specs.Messages.{Octets}
 use Rattle.right_trace.specs.Settings.{Settings}
-use Rattle.right_trace.specs.Keys.{Key, KeysCover, key_of, spelled_name}
-use Rattle.right_trace.specs.Parts.{IsIn, Parts}
+use Rattle.right_trace.specs.Keys.{key_of, spelled_name}
 use Rattle.right_trace.specs.Validity.{validity_of_message}
 use Rattle.right_trace.specs.Views.{viewed, view_validity}
 use Rattle.cache_rules.specs.Validity.{cached_by}
 use Rattle.message_views.specs.declared.serving.Flags.{Flags}
-use Rattle.message_views.specs.Serving.{HasFlags, IsViewOf, IsStaleOf, TellsView, TellsStale}
+use Rattle.message_views.specs.Serving.{IsViewOf, IsStaleOf, TellsView, TellsStale}
 use Rattle.message_views.proofs.Viewing.{validity_limited}
 use Rattle.trace_promptness.specs.Settings.{settings_of}
 use Rattle.trace_given.specs.declared.asks.Asks.{Asks}
 use Rattle.trace_given.specs.declared.earlier.Earlier.{Earlier}
-use Rattle.trace_given.specs.Asks.{IsAsked, common, covers_flags}
-use Rattle.trace_given.specs.Earlier.{AreBefore}
+use Rattle.trace_given.specs.Asks.{covers_flags}
 use Rattle.trace_given.proofs.Asking.{covers_so, so_covers}
 use Rattle.trace_views.specs.declared.serving.Manner.{Manner}
 use Rattle.trace_views.specs.declared.serving.Manner.TheVariants.{Valid, Expired}
-use Rattle.trace_views.specs.Among.{Yes, No, TellsOne}
+use Rattle.trace_views.specs.Among.{No, TellsOne}
 use Rattle.trace_views.specs.Serving.{IsGivenOf, longest, Gives, TellsKept, is_past}
 use Rattle.trace_views.proofs.Among.{never}
 

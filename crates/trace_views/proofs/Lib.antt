@@ -1,4 +1,4 @@
-pub mod Settings
+pub mod Durations
 pub mod Among
 pub mod Giving
 pub mod Finding

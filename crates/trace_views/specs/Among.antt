@@ -1,11 +1,8 @@
 -- What is found among the replies to a question, of which the newest stand first.
-use Rattle.std.specs.Prelude.{◌≡◌, ◌<◌, ◌≤◌, ◌+◌, ℕ, Bool, true, false, List, Option, None, Err}
+use Rattle.std.specs.Prelude.{◌≡◌, ℕ, Bool, true, false, List}
 use Rattle.client_request.specs.Request.{Request}
-use Rattle.client_request.specs.declared.error.Error.{Error}
-use Rattle.right_trace.specs.Trace.{History, Conf}
-use Rattle.right_trace.specs.Settings.{Settings}
 use Rattle.right_trace.specs.Parts.{IsIn}
-use Rattle.right_trace.specs.Keys.{KeysCover, key_of}
+use Rattle.right_trace.specs.Keys.{key_of}
 use Rattle.message_views.specs.Serving.{HasFlags}
 use Rattle.trace_given.specs.declared.asks.Asks.{Asks}
 use Rattle.trace_given.specs.declared.earlier.Earlier.{Earlier}

@@ -1,5 +1,5 @@
 -- Whether a message is the view of an earlier reply's, or what such a one says when it has expired.
-use Rattle.std.specs.Prelude.{◌≡◌, ◌<◌, ◌≤◌, ◌+◌, ◌-◌, ℕ, ◌==◌, ◌&&◌, nat_lt, Bool, Ok}
+use Rattle.std.specs.Prelude.{◌≡◌, ◌<◌, ◌+◌, ◌-◌, ℕ, ◌==◌, ◌&&◌, nat_lt, Bool, Ok}
 use Rattle.dns_base.specs.Data.{Data}
 use Rattle.client_request.specs.Request.{Request}
 use Rattle.client_request.specs.declared.event.What.{What}

@@ -57,7 +57,7 @@ impl ReplySettings {
     }
 
     /// For how long an answer is kept at most.
-    #[tactic(auto, using(crate::proofs::Settings::kept_for))]
+    #[tactic(auto, using(crate::proofs::Durations::kept_for))]
     pub(crate) fn max_validity(&self) -> Duration
         ensures { result ≡ self.now.max_validity }
     {
@@ -65,7 +65,7 @@ impl ReplySettings {
     }
 
     /// For how long an answer that has expired is given.
-    #[tactic(auto, using(crate::proofs::Settings::expired_for))]
+    #[tactic(auto, using(crate::proofs::Durations::expired_for))]
     pub(crate) fn stale_for(&self) -> Duration
         ensures { result ≡ self.now.stale_for }
     {
@@ -73,7 +73,7 @@ impl ReplySettings {
     }
 
     /// For how long an error of the transport below is kept.
-    #[tactic(auto, using(crate::proofs::Settings::failed_for))]
+    #[tactic(auto, using(crate::proofs::Durations::failed_for))]
     pub(crate) fn transport_failure_duration(&self) -> Duration
         ensures { result ≡ self.now.transport_failure_duration }
     {

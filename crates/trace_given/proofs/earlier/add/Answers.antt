@@ -1,4 +1,4 @@
-use Rattle.std.proofs.Common.{◌≡◌, ap, ◌∙◌, cond}
+use Rattle.std.proofs.Common.{ap, ◌∙◌, cond}
 use Rattle.std.specs.Prelude.{Some}
 use Rattle.std.specs.Map.{lookup}
 use Rattle.cache_rules.specs.Key.{same_key}

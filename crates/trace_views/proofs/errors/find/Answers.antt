@@ -1,4 +1,4 @@
-use Rattle.std.proofs.Common.{sym, ◌∙◌}
+use Rattle.std.proofs.Common.{sym}
 use Rattle.trace_views.proofs.Failing.{found_none, found_unkept, found_no_reply, found_among}
 use Rattle.trace_views.proofs.errors.find.Goals as goal
 

@@ -1,4 +1,4 @@
-use Rattle.std.proofs.Common.{◌≡◌, Bool, sym, subst}
+use Rattle.std.proofs.Common.{sym, subst}
 use Rattle.trace_questions.proofs.Deciding.{if_ok}
 use Rattle.trace_views.specs.Serving.{TellsKept}
 use Rattle.trace_views.proofs.Giving.{valid_told, expired_told}
