@@ -1,0 +1,3 @@
+pub mod Listing
+pub mod Arriving
+pub mod Telling

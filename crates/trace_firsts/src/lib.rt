@@ -1,0 +1,8 @@
+//! Which message came first for a request, of rows that are done.
+#![tactic(auto)]
+
+mod firsts;
+mod laws;
+
+pub use firsts::{Arrived, Firsts, came_earlier, came_first, note_arrivals};
+pub use laws::first_messages_go_on;

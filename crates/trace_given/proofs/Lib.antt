@@ -1,0 +1,4 @@
+pub mod Bringing
+pub mod Asking
+pub mod Keeping
+pub mod Putting

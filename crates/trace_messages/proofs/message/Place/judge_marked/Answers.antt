@@ -1,0 +1,8 @@
+use Rattle.trace_messages.proofs.Deciding.{tells_marked}
+use Rattle.trace_messages.proofs.message.Place.judge_marked.Goals as goal
+
+pub returns : goal.returns
+returns c =
+    let a = c.args in
+    let v = a.self.now in
+    tells_marked v.conf.now v.settings.now a.request a.message.now v.what.now v.past.now v.sent.now v.here.now v.earlier.now a.told c.in_ok-supplied.field-0 c.requires c.in_ok-supplied.ensures

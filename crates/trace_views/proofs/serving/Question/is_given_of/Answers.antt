@@ -1,0 +1,21 @@
+use Rattle.std.proofs.Common.{sym, subst}
+use Rattle.trace_questions.proofs.Deciding.{if_ok}
+use Rattle.trace_views.specs.Serving.{TellsKept}
+use Rattle.trace_views.proofs.Giving.{valid_told, expired_told}
+use Rattle.trace_views.proofs.serving.Question.is_given_of.Goals as goal
+
+pub returns-in-Valid : goal.returns-in-Valid
+returns-in-Valid c =
+    let a = c.args in
+    let v = a.self.now in
+    if_ok c.is_view.result
+    (λ b t. subst (λ u. TellsKept u v.settings.now v.asks.now v.message.now a.kept.now a.reply.now.flags a.age b) (sym c.in-Valid.is) (valid_told c.cache.result.now v.settings.now v.asks.now v.message.now a.kept.now a.reply.now.flags a.age b c.cache.ensures t))
+    c.is_view.ensures
+
+pub returns-in-Expired : goal.returns-in-Expired
+returns-in-Expired c =
+    let a = c.args in
+    let v = a.self.now in
+    if_ok c.is_stale.result
+    (λ b t. subst (λ u. TellsKept u v.settings.now v.asks.now v.message.now a.kept.now a.reply.now.flags a.age b) (sym c.in-Expired.is) (expired_told c.cache.result.now v.settings.now v.asks.now v.message.now a.kept.now a.reply.now.flags a.age b c.cache.ensures t))
+    c.is_stale.ensures

@@ -1,0 +1,4 @@
+pub mod Among
+pub mod Serving
+pub mod Telling
+pub mod Errors
