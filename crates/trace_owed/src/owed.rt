@@ -239,23 +239,18 @@ impl<'a> Asking<'a> {
     }
 
     /// Whether a server of the configuration owes an answer at a place.
-    fn owes_there(
-        &self,
-        alloc: Global,
-        conf: &TraceConf,
-        exchange: Exchange,
-    ) -> Result<bool, NoMemory>
-        ensures { IfOk result (λ b. b ≡ plain.owes_there conf.now self.now.asked.now self.now.request exchange.place exchange.id self.now.here.now self.now.sends.now (entry_at exchange.place self.now.here.now.books.places)) }
+    fn owes_there(&self, alloc: Global, conf: &TraceConf, sent: Exchange) -> Result<bool, NoMemory>
+        ensures { IfOk result (λ b. b ≡ plain.owes_there conf.now self.now.asked.now self.now.request sent.place sent.id self.now.here.now self.now.sends.now (entry_at sent.place self.now.here.now.books.places)) }
     {
-        let Some(place) = self.here.books.places.get(exchange.place) else {
+        let Some(place) = self.here.books.places.get(sent.place) else {
             return Ok(false);
         };
         if !conf.has_server(place.server) {
             return Ok(false);
         }
         match place.via {
-            Via::Dgram => self.waits_for_datagram(alloc, exchange),
-            Via::Stream => self.waits_for_frame(alloc, place.server, exchange),
+            Via::Dgram => self.waits_for_datagram(alloc, sent),
+            Via::Stream => self.waits_for_frame(alloc, place.server, sent),
         }
     }
 
