@@ -24,8 +24,8 @@ returns-then-not-is_covered_by c =
     let e = c.args.reply.now in
     no_one (Gives v.manner v.settings.now v.request v.moment v.message.now) v.asks.now e (not_covered v.manner v.settings.now v.request v.asks.now v.moment v.message.now e (sym c.is_covered_by.ensures ∙ c.if-not-is_covered_by.true))
 
-pub returns-in-Ok : goal.returns-in-Ok
-returns-in-Ok c =
+pub returns-else-not-is_covered_by : goal.returns-else-not-is_covered_by
+returns-else-not-is_covered_by c =
     let v = c.args.self.now in
     let e = c.args.reply.now in
     if_ok c.is_given_of.result
