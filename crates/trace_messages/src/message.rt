@@ -1,6 +1,6 @@
 //! Whether a message that is put as a reply is right.
 
-ghost use Rattle.std.specs.Prelude.{◌≡◌, IfOk};
+ghost use Rattle.std.specs.Prelude.{◌≡◌, ◌&&◌, ◌||◌, not, true, false, IfOk};
 ghost use Rattle.trace_messages.specs.Message as plain;
 
 use client_request::What;
@@ -59,6 +59,27 @@ impl Drop for Place<'_> {
     }
 }
 
+/// What is judged of a reply that is marked as stale.
+fn judge_supplied(told: Told, supplied: bool) -> Judged
+    ensures { result ≡ record { is_right = told.fails && supplied; is_fresh = false } }
+{
+    Judged {
+        is_right: told.fails && supplied,
+        is_fresh: false,
+    }
+}
+
+/// What is judged of one that is not.
+fn judge_came(told: Told, deferred: bool, came: bool, view: bool) -> Judged
+    ensures { result ≡ record { is_right = ((came || (deferred && told.came_earlier)) && (not deferred || told.is_last)) || view; is_fresh = came || (deferred && told.came_earlier) } }
+{
+    let is_fresh = came || (deferred && told.came_earlier);
+    Judged {
+        is_right: (is_fresh && (!deferred || told.is_last)) || view,
+        is_fresh,
+    }
+}
+
 impl Place<'_> {
     /// The same of a reply that is marked as stale.
     fn judge_marked(
@@ -80,10 +101,7 @@ impl Place<'_> {
             request,
             message,
         )?;
-        Ok(Judged {
-            is_right: told.fails && supplied,
-            is_fresh: false,
-        })
+        Ok(judge_supplied(told, supplied))
     }
 
     /// The same of one that is not.
@@ -101,7 +119,6 @@ impl Place<'_> {
         let came = came_for(
             alloc, self.conf, self.past, self.sent, self.here, request, message,
         )?;
-        let is_fresh = came || (deferred && told.came_earlier);
         let view = is_view(
             alloc,
             self.settings,
@@ -111,10 +128,7 @@ impl Place<'_> {
             request,
             message,
         )?;
-        Ok(Judged {
-            is_right: (is_fresh && (!deferred || told.is_last)) || view,
-            is_fresh,
-        })
+        Ok(judge_came(told, deferred, came, view))
     }
 
     /// Whether a message is right as the reply to a request, and whether it is fresh.

@@ -95,7 +95,8 @@ module _ (s : Settings) (k : ℕ) (x : Error) (r : Requests) (t : Table) (c : Co
       none_found : ((e : Earlier) → IsIn e (replies_to its.key t) → No (GivesError s k r.clock x) its e) → ⊥
       none_found fails =
           let same : common (key_of f.first) ≡ its.key = common_same (key_of f.first) (key_of a.request) covering.keys ∙ sym asked.key in
-          fails (record { request = f.number; flags = among.flags; moment = f.moment; outcome = Err x }) (subst (λ k. IsIn _ (replies_to k t)) same among.there)
+          let it : Earlier = record { request = f.number; flags = among.flags; moment = f.moment; outcome = Err x } in
+          fails it (subst (λ k. IsIn it (replies_to k t)) same among.there)
           f.first a.request asked same among.has
           (record { below = f.earlier.below; covers = covering.keys; is = refl; recent = (let at = kr.time in let recent = f.recent in omega arith) })
 

@@ -107,7 +107,8 @@ module _ (u : Manner) (s : Settings) (k : ℕ) (m : Octets) (r : Requests) (t : 
       none_found : ((e : Earlier) → IsIn e (replies_to its.key t) → No (Gives u s k r.clock m) its e) → ⊥
       none_found fails =
           let same : common (key_of f.first) ≡ its.key = common_same (key_of f.first) (key_of a.request) covering.keys ∙ sym asked.key in
-          fails (record { request = f.supplied.number; flags = among.flags; moment = f.supplied.moment; outcome = Ok f.message }) (subst (λ k. IsIn _ (replies_to k t)) same among.there)
+          let it : Earlier = record { request = f.supplied.number; flags = among.flags; moment = f.supplied.moment; outcome = Ok f.message } in
+          fails it (subst (λ k. IsIn it (replies_to k t)) same among.there)
           f.first a.request asked same among.has
           (record { below = f.supplied.earlier.below; covers = covering.keys; kept = f.message; is = refl; given = given })
 

@@ -1,3 +1,5 @@
+use Rattle.std.proofs.Common.{sym, subst}
+use Rattle.trace_messages.specs.Message.{TellsMessage}
 use Rattle.trace_messages.proofs.Deciding.{tells_deferred}
 use Rattle.trace_messages.proofs.message.Place.judge_unmarked.Goals as goal
 
@@ -5,4 +7,5 @@ pub returns : goal.returns
 returns c =
     let a = c.args in
     let v = a.self.now in
-    tells_deferred v.conf.now v.settings.now a.request a.message.now v.what.now v.past.now v.sent.now v.here.now v.earlier.now a.told c.is_deferred-deferred.result c.in_ok-came.field-0 c.in_ok-view.field-0 c.requires c.is_deferred-deferred.ensures c.in_ok-came.ensures c.in_ok-view.ensures
+    subst (TellsMessage v.conf.now v.settings.now a.request a.message.now v.what.now v.past.now v.sent.now v.here.now v.earlier.now a.told) (sym c.judge_came.ensures)
+    (tells_deferred v.conf.now v.settings.now a.request a.message.now v.what.now v.past.now v.sent.now v.here.now v.earlier.now a.told c.is_deferred-deferred.result c.in_ok-came.came c.in_ok-view.view c.requires c.is_deferred-deferred.ensures c.in_ok-came.ensures c.in_ok-view.ensures)

@@ -23,8 +23,8 @@ returns-then-not-is_covered_by c recent =
     let e = c.args.reply.now in
     no_one (GivesError v.settings.now v.request v.moment v.error) v.asks.now e (not_covered v.settings.now v.request v.asks.now v.moment v.error e (sym c.is_covered_by.ensures ∙ c.if-not-is_covered_by.true))
 
-pub returns-in-Err : goal.returns-in-Err
-returns-in-Err c recent =
+pub returns-else-not-is_covered_by : goal.returns-else-not-is_covered_by
+returns-else-not-is_covered_by c recent =
     let v = c.args.self.now in
     let e = c.args.reply.now in
-    error_told v.settings.now v.request v.asks.now v.moment v.error e c.in-Err.error.now c.is_same_error.result c.in-Err.is c.if-self-reply.false (sym c.is_covered_by.ensures ∙ c.if-not-is_covered_by.false) c.is_same_error.ensures recent
+    error_told v.settings.now v.request v.asks.now v.moment v.error e c.in-Err.error c.is_same_error.result c.in-Err.is c.if-self-reply.false (sym c.is_covered_by.ensures ∙ c.if-not-is_covered_by.false) c.is_same_error.ensures recent

@@ -24,11 +24,11 @@ returns-then-not-is_covered_by c =
     let e = c.args.reply.now in
     no_one (Gives v.manner v.settings.now v.request v.moment v.message.now) v.asks.now e (not_covered v.manner v.settings.now v.request v.asks.now v.moment v.message.now e (sym c.is_covered_by.ensures ∙ c.if-not-is_covered_by.true))
 
-pub returns-in-Ok : goal.returns-in-Ok
-returns-in-Ok c =
+pub returns-else-not-is_covered_by : goal.returns-else-not-is_covered_by
+returns-else-not-is_covered_by c =
     let v = c.args.self.now in
     let e = c.args.reply.now in
     if_ok c.is_given_of.result
-    (λ b t. one_told v.manner v.settings.now v.request v.asks.now v.moment v.message.now e c.in-Ok.kept.now b c.in-Ok.is c.if-self-reply.false (sym c.is_covered_by.ensures ∙ c.if-not-is_covered_by.false)
-    (subst (λ n. TellsKept v.manner v.settings.now v.asks.now v.message.now c.in-Ok.kept.now e.flags n b) c.saturating_sub-age.ensures t))
+    (λ b t. one_told v.manner v.settings.now v.request v.asks.now v.moment v.message.now e c.in-Ok.kept b c.in-Ok.is c.if-self-reply.false (sym c.is_covered_by.ensures ∙ c.if-not-is_covered_by.false)
+    (subst (λ n. TellsKept v.manner v.settings.now v.asks.now v.message.now c.in-Ok.kept e.flags n b) c.saturating_sub-age.ensures t))
     c.is_given_of.ensures

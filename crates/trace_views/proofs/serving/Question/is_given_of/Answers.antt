@@ -9,13 +9,13 @@ returns-in-Valid c =
     let a = c.args in
     let v = a.self.now in
     if_ok c.is_view.result
-    (λ b t. subst (λ u. TellsKept u v.settings.now v.asks.now v.message.now a.kept.now a.reply.now.flags a.age b) (sym c.in-Valid.is) (valid_told c.cache.result.now v.settings.now v.asks.now v.message.now a.kept.now a.reply.now.flags a.age b c.cache.ensures t))
+    (λ b t. subst (λ u. TellsKept u v.settings.now v.asks.now v.message.now a.kept.now a.reply.now.flags a.age b) (sym c.in-Valid.is) (valid_told c.cache-cache.result.now v.settings.now v.asks.now v.message.now a.kept.now a.reply.now.flags a.age b c.cache-cache.ensures t))
     c.is_view.ensures
 
-pub returns-in-Expired : goal.returns-in-Expired
-returns-in-Expired c =
+pub returns : goal.returns
+returns c =
     let a = c.args in
     let v = a.self.now in
     if_ok c.is_stale.result
-    (λ b t. subst (λ u. TellsKept u v.settings.now v.asks.now v.message.now a.kept.now a.reply.now.flags a.age b) (sym c.in-Expired.is) (expired_told c.cache.result.now v.settings.now v.asks.now v.message.now a.kept.now a.reply.now.flags a.age b c.cache.ensures t))
+    (λ b t. subst (λ u. TellsKept u v.settings.now v.asks.now v.message.now a.kept.now a.reply.now.flags a.age b) (sym c.in-Expired.is) (expired_told c.cache-cache.result.now v.settings.now v.asks.now v.message.now a.kept.now a.reply.now.flags a.age b c.cache-cache.ensures t))
     c.is_stale.ensures
