@@ -1,6 +1,6 @@
 //! Whether an error has a cause of its own.
 
-ghost use Rattle.std.specs.Prelude.{◌≡◌, IfOk};
+ghost use Rattle.std.specs.Prelude.{◌≡◌, ◌&&◌, ◌||◌, not, IfOk};
 ghost use Rattle.right_trace.specs.Errors.{is_of_server};
 ghost use Rattle.trace_deferred.specs.Own as plain;
 
@@ -23,6 +23,20 @@ fn is_of_server(error: Error) -> bool
         error,
         Error::Dgram(_) | Error::WrongReplyForQuery | Error::StreamReadTimeout
     )
+}
+
+/// Whether an error waits for something better: only a server gives it, and such are deferred.
+fn is_deferred(error: Error, settings: &TraceSettings) -> bool
+    ensures { result ≡ (is_of_server error && settings.now.defers_errors) }
+{
+    is_of_server(error) && settings.defers_errors()
+}
+
+/// Whether a direct cause is a cause of its own.
+fn is_own(direct: bool, deferred: bool, done: bool, none: bool) -> bool
+    ensures { result ≡ (direct && (not deferred || (done && none))) }
+{
+    direct && (!deferred || (done && none))
 }
 
 fn some_matching(request: u64, comings: &[Coming]) -> bool
@@ -87,7 +101,7 @@ fn find_own(
     )?;
     let done = are_all_done(alloc, conf, books, here, sends, exchanged, what, request)?;
     let none = none_came(past, timers, here, outs, earlier, comings, request);
-    Ok(direct && (!(is_of_server(error) && settings.defers_errors()) || (done && none)))
+    Ok(is_own(direct, is_deferred(error, settings), done, none))
 }
 
 /// Whether an error of a request has a cause of its own, in a row with this event: a direct one, and where it is a server's and
