@@ -1,0 +1,119 @@
+-- What is recorded, one row more at a time.
+use Rattle.std.proofs.Common.{◌≡◌, ◌≤◌, ◌+◌, ℕ, Bool, true, false, ◌&&◌, List, [], ◌∷◌, ◌++◌, length, length-append, take, Option, Some, None, refl, sym, ap, ◌∙◌, subst, arith, append_assoc, append-nil}
+use Rattle.std.specs.List.{AllByRecursion, list_all}
+use Rattle.client_core.proofs.Replaying.{row_event}
+use Rattle.client_loop.proofs.Rows.{event_behind, leads_on, plain_of}
+use Rattle.client_loop.specs.Turns.{Leads, events_of}
+use Rattle.client_request.specs.Words.{listed}
+use Rattle.client_request.specs.declared.event.Event.{Event}
+use Rattle.client_request.specs.declared.event.Row.{Row}
+use Rattle.client_steps.specs.Client.{plain_rows, row_step}
+use Rattle.client_steps.specs.Whole.{Client, Whole, client_with, machine, plain_step, started}
+use Rattle.dns_record.specs.Recording.{GoesOn, HasEnded, IsRecord, NotedSo, Opening, RecordedSo, script_of_rows, text_of_rows, told_conf}
+use Rattle.dns_record.specs.declared.ended.Ended.{Ended}
+use Rattle.dns_record.proofs.Starting.{same_start}
+use Rattle.dns_script.specs.Lines.{event_line}
+use Rattle.dns_script.specs.Told.{tells_well}
+use Rattle.dns_values.specs.Sink.{with_octets}
+use Rattle.script_printing.specs.CanBeTold.{CanBeTold, IsEvent, IsInRange, are_told_events}
+use Rattle.script_printing.specs.Texts.{script_of, script_text_of}
+use Rattle.script_printing.proofs.Scripts.{one_more_line, scripts_are_read_back}
+
+octets_joined : (xs ys : List ℕ) (held : Option (List ℕ)) → with_octets ys (with_octets xs held) ≡ with_octets (xs ++ ys) held
+octets_joined xs ys None = refl
+octets_joined xs ys (Some zs) = ap Some (append_assoc zs xs ys)
+
+told_more : (events : List Event) (event : Event) → are_told_events events ≡ true → tells_well event.what ≡ true → are_told_events (events ++ event ∷ []) ≡ true
+told_more [] event h one = ap (λ b. b && true) one
+told_more (e ∷ events) event h one = by (tells_well e.what) h
+  where
+    by : (b : Bool) → (b && are_told_events events) ≡ true → (b && are_told_events (events ++ event ∷ [])) ≡ true
+    by true k = told_more events event k one
+    by false k = k
+
+range_more : (events : List Event) (event : Event) → AllByRecursion IsEvent events → IsEvent event → AllByRecursion IsEvent (events ++ event ∷ [])
+range_more [] event h one = (one, tt)
+range_more (e ∷ events) event h one = (h.0, range_more events event h.1 one)
+
+text_more : (o : Opening) (rows : List Row) (row : Row) → text_of_rows o (rows ++ row ∷ []) ≡ text_of_rows o rows ++ event_line row.event
+text_more o rows row =
+    ap (λ events. script_text_of (script_of (told_conf o.conf) o.redundant o.cache o.words events)) (event_behind rows row)
+    ∙ one_more_line (told_conf o.conf) o.redundant o.cache o.words (events_of rows) row.event
+
+-- what is recorded so far is a record
+pub is_record : (o : Opening) (rows : List Row) (held : Option (List ℕ)) (left : List ℕ) (size : ℕ) (client : Whole) → GoesOn o rows held left size client → IsRecord (text_of_rows o rows) rows
+is_record o rows held left size client h =
+    let t : ℕ = o.conf.options.timeout in
+    record {
+      script = script_of_rows o rows;
+      is_script = scripts_are_read_back (script_of_rows o rows) h.told h.range;
+      fits = subst (λ n. n ≤ 16777216) h.size_is h.fits;
+      replay =
+          ap (λ (w : Whole). plain_rows machine t (events_of rows) (client_with (listed o.words) w)) (same_start o.redundant o.cache o.conf h.alike)
+          ∙ plain_of t (client_with (listed o.words) (started o.redundant o.cache o.conf)) (client_with (listed left) client) rows h.leads;
+    }
+
+-- where it ends here, behind at most the first of a line
+ended_at : (o : Opening) (rows later : List Row) (held after : Option (List ℕ)) (left : List ℕ) (size : ℕ) (client : Whole) (cut : List ℕ) → GoesOn o rows held left size client → after ≡ with_octets cut held → HasEnded o (rows ++ later) after
+ended_at o rows later held after left size client cut h written = record {
+  first = rows;
+  later = later;
+  rows_are = refl;
+  cut = cut;
+  written = written ∙ ap (with_octets cut) h.written ∙ octets_joined (text_of_rows o rows) cut o.held;
+  is_record = is_record o rows held left size client h;
+}
+
+nothing_more : (held : Option (List ℕ)) → held ≡ with_octets [] held
+nothing_more None = refl
+nothing_more (Some xs) = ap Some (sym (append-nil xs))
+
+-- a row more while it goes on
+pub row_recorded : (o : Opening) (rows : List Row) (held after : Option (List ℕ)) (left right : List ℕ) (size next : ℕ) (ended : Option Ended) (client moved : Whole) (event : Event) (row : Row)
+    → plain_step (listed left) event client ≡ Some (row, client_with (listed right) moved) → moved.timeout ≡ client.timeout → IsEvent row.event → NotedSo row.event held after size next ended
+    → GoesOn o rows held left size client → RecordedSo o (rows ++ row ∷ []) after right next ended moved
+row_recorded o rows held after left right size next (Some why) client moved event row step timeout range noted h =
+    ended_at o rows (row ∷ []) held after left size client (take noted.0 (event_line row.event)) h noted.1
+row_recorded o rows held after left right size next None client moved event row step timeout range noted h =
+    let t : ℕ = o.conf.options.timeout in
+    let before : Client = client_with (listed left) client in
+    let behind : Client = client_with (listed right) moved in
+    let text = text_more o rows row in
+    let is : row.event ≡ event = row_event machine client.timeout row event before behind step in
+    let stepped : row_step machine t row.event before ≡ Some (row, behind) =
+    subst (λ n. row_step machine n row.event before ≡ Some (row, behind)) h.timeout (subst (λ e. row_step machine client.timeout e before ≡ Some (row, behind)) (sym is) step) in
+    let events = event_behind rows row in
+    record {
+      alike = h.alike;
+      told = record { servers = h.told.servers; options = h.told.options; settings = h.told.settings; lane = refl; events = subst (λ es. are_told_events es ≡ true) (sym events) (told_more (events_of rows) row.event h.told.events noted.3) };
+      range = record { addresses = h.range.addresses; timeout = h.range.timeout; words = h.range.words; events = subst (AllByRecursion IsEvent) (sym events) (range_more (events_of rows) row.event h.range.events range) };
+      written = noted.0 ∙ ap (with_octets (event_line row.event)) h.written ∙ octets_joined (text_of_rows o rows) (event_line row.event) o.held ∙ ap (λ x. with_octets x o.held) (sym text);
+      size_is = noted.1 ∙ ap (λ n. n + length (event_line row.event)) h.size_is ∙ sym (length-append (text_of_rows o rows) (event_line row.event)) ∙ ap length (sym text);
+      fits = noted.2;
+      timeout = timeout ∙ h.timeout;
+      leads = leads_on t (client_with (listed o.words) (started o.redundant o.cache o.conf)) before behind rows row h.leads stepped;
+    }
+
+-- the same by why it ended
+pub one_more_row : (o : Opening) (rows : List Row) (held after : Option (List ℕ)) (left right : List ℕ) (size next : ℕ) (was ended : Option Ended) (client moved : Whole) (event : Event) (row : Row)
+    → was ≡ None → plain_step (listed left) event client ≡ Some (row, client_with (listed right) moved) → moved.timeout ≡ client.timeout → IsEvent row.event → NotedSo row.event held after size next ended
+    → RecordedSo o rows held left size was client → RecordedSo o (rows ++ row ∷ []) after right next ended moved
+one_more_row o rows held after left right size next None ended client moved event row was step timeout range noted h = row_recorded o rows held after left right size next ended client moved event row step timeout range noted h
+one_more_row o rows held after left right size next (Some why) ended client moved event row was step timeout range noted h = absurd cc
+
+-- a row behind the end
+pub ended_row : (o : Opening) (rows : List Row) (held : Option (List ℕ)) (left right : List ℕ) (size next : ℕ) (why : Ended) (client moved : Whole) (row : Row)
+    → RecordedSo o rows held left size (Some why) client → RecordedSo o (rows ++ row ∷ []) held right next (Some why) moved
+ended_row o rows held left right size next why client moved row h = record {
+  first = h.first;
+  later = h.later ++ row ∷ [];
+  rows_are = ap (λ rs. rs ++ row ∷ []) h.rows_are ∙ append_assoc h.first h.later (row ∷ []);
+  cut = h.cut;
+  written = h.written;
+  is_record = h.is_record;
+}
+
+-- where it ends between two rows
+pub ends_here : (o : Opening) (rows : List Row) (held : Option (List ℕ)) (left : List ℕ) (size : ℕ) (ended : Option Ended) (client : Whole) → RecordedSo o rows held left size ended client → HasEnded o rows held
+ends_here o rows held left size None client h = subst (λ rs. HasEnded o rs held) (append-nil rows) (ended_at o rows [] held held left size client [] h (nothing_more held))
+ends_here o rows held left size (Some why) client h = h
