@@ -1,6 +1,7 @@
 -- What is recorded, one row more at a time.
 use Rattle.std.proofs.Common.{◌≡◌, ◌≤◌, ◌+◌, ℕ, Bool, true, false, ◌&&◌, List, [], ◌∷◌, ◌++◌, length, length-append, take, Option, Some, None, refl, sym, ap, ◌∙◌, subst, arith, append_assoc, append-nil}
 use Rattle.std.specs.List.{AllByRecursion, list_all}
+use Rattle.std.specs.Prelude.{is_some}
 use Rattle.client_core.proofs.Replaying.{row_event}
 use Rattle.client_loop.proofs.Rows.{event_behind, leads_on, plain_of}
 use Rattle.client_loop.specs.Turns.{Leads, events_of}
@@ -9,7 +10,7 @@ use Rattle.client_request.specs.declared.event.Event.{Event}
 use Rattle.client_request.specs.declared.event.Row.{Row}
 use Rattle.client_steps.specs.Client.{plain_rows, row_step}
 use Rattle.client_steps.specs.Whole.{Client, Whole, client_with, machine, plain_step, started}
-use Rattle.dns_record.specs.Recording.{GoesOn, HasEnded, IsRecord, NotedSo, Opening, RecordedSo, script_of_rows, text_of_rows, told_conf}
+use Rattle.dns_record.specs.Recording.{GoesOn, HasEnded, IsRecord, NotedSo, Opening, Recorded, RecordedSo, Recording, end_for, script_of_rows, text_of_rows, told_conf, with_end}
 use Rattle.dns_record.specs.declared.ended.Ended.{Ended}
 use Rattle.dns_record.proofs.Starting.{same_start}
 use Rattle.dns_script.specs.Lines.{event_line}
@@ -23,13 +24,13 @@ octets_joined : (xs ys : List ℕ) (held : Option (List ℕ)) → with_octets ys
 octets_joined xs ys None = refl
 octets_joined xs ys (Some zs) = ap Some (append_assoc zs xs ys)
 
+told_behind : (b : Bool) (before after : Bool) → (before ≡ true → after ≡ true) → (b && before) ≡ true → (b && after) ≡ true
+told_behind true before after more h = more h
+told_behind false before after more h = h
+
 told_more : (events : List Event) (event : Event) → are_told_events events ≡ true → tells_well event.what ≡ true → are_told_events (events ++ event ∷ []) ≡ true
 told_more [] event h one = ap (λ b. b && true) one
-told_more (e ∷ events) event h one = by (tells_well e.what) h
-  where
-    by : (b : Bool) → (b && are_told_events events) ≡ true → (b && are_told_events (events ++ event ∷ [])) ≡ true
-    by true k = told_more events event k one
-    by false k = k
+told_more (e ∷ events) event h one = told_behind (tells_well e.what) (are_told_events events) (are_told_events (events ++ event ∷ [])) (λ k. told_more events event k one) h
 
 range_more : (events : List Event) (event : Event) → AllByRecursion IsEvent events → IsEvent event → AllByRecursion IsEvent (events ++ event ∷ [])
 range_more [] event h one = (one, tt)
@@ -67,6 +68,10 @@ ended_at o rows later held after left size client cut h written = record {
 nothing_more : (held : Option (List ℕ)) → held ≡ with_octets [] held
 nothing_more None = refl
 nothing_more (Some xs) = ap Some (sym (append-nil xs))
+
+-- nothing of a line was written
+pub nothing_written : (line : List ℕ) (held : Option (List ℕ)) → (n : ℕ) × (held ≡ with_octets (take n line) held)
+nothing_written line held = (0, nothing_more held)
 
 -- a row more while it goes on
 pub row_recorded : (o : Opening) (rows : List Row) (held after : Option (List ℕ)) (left right : List ℕ) (size next : ℕ) (ended : Option Ended) (client moved : Whole) (event : Event) (row : Row)
@@ -117,3 +122,44 @@ ended_row o rows held left right size next why client moved row h = record {
 pub ends_here : (o : Opening) (rows : List Row) (held : Option (List ℕ)) (left : List ℕ) (size : ℕ) (ended : Option Ended) (client : Whole) → RecordedSo o rows held left size ended client → HasEnded o rows held
 ends_here o rows held left size None client h = subst (λ rs. HasEnded o rs held) (append-nil rows) (ended_at o rows [] held held left size client [] h (nothing_more held))
 ends_here o rows held left size (Some why) client h = h
+
+-- why it has not ended
+none_of : (ended : Option Ended) → is_some ended ≡ false → ended ≡ None
+none_of None e = refl
+none_of (Some why) e = absurd cc
+
+-- it goes on
+pub goes_on : (r : Recording) (some : Bool) → some ≡ is_some r.ended → some ≡ false → r.ended ≡ None
+goes_on r some is off = none_of r.ended (sym is ∙ off)
+
+passed_so : (o : Opening) (rows : List Row) (held : Option (List ℕ)) (left : List ℕ) (size : ℕ) (ended : Option Ended) (client moved : Whole) (row : Row) → is_some ended ≡ true
+    → RecordedSo o rows held left size ended client → RecordedSo o (rows ++ row ∷ []) held left size ended moved
+passed_so o rows held left size None client moved row e h = absurd cc
+passed_so o rows held left size (Some why) client moved row e h = ended_row o rows held left left size size why client moved row h
+
+-- a row comes behind the end
+pub passes : (r s : Recording) (some : Bool) (client moved : Whole) (held : Option (List ℕ)) (row : Row) → some ≡ is_some r.ended → some ≡ true → s ≡ r
+    → (o : Opening) (rows : List Row) → Recorded o rows held r client → Recorded o (rows ++ row ∷ []) held s moved
+passes r s some client moved held row is on same o rows h =
+    subst (λ (t : Recording). Recorded o (rows ++ row ∷ []) held t moved) (sym same) (passed_so o rows held r.words r.size r.ended client moved row (sym is ∙ on) h)
+
+-- a row comes while it goes on: r before the client took the event, b behind that, and s once the row was noted
+pub notes : (r b s : Recording) (some : Bool) (client moved : Whole) (event : Event) (row noted : Row) (held after : Option (List ℕ)) → some ≡ is_some r.ended → some ≡ false
+    → plain_step (listed r.words) event client ≡ Some (row, client_with (listed b.words) moved) → moved.timeout ≡ client.timeout → b ≡ record r { words = b.words }
+    → noted ≡ row → IsEvent row.event → s.words ≡ b.words → NotedSo row.event held after b.size s.size s.ended
+    → (o : Opening) (rows : List Row) → Recorded o rows held r client → Recorded o (rows ++ noted ∷ []) after s moved
+notes r b s some client moved event row noted held after is off step timeout stands same range words is_noted o rows h =
+    let drawn : plain_step (listed r.words) event client ≡ Some (row, client_with (listed s.words) moved) = subst (λ (ws : List ℕ). plain_step (listed r.words) event client ≡ Some (row, client_with (listed ws) moved)) (sym words) step in
+    let size : b.size ≡ r.size = ap (λ (t : Recording). t.size) stands in
+    let told : NotedSo row.event held after r.size s.size s.ended = subst (λ (n : ℕ). NotedSo row.event held after n s.size s.ended) size is_noted in
+    subst (λ (x : Row). Recorded o (rows ++ x ∷ []) after s moved) (sym same)
+    (one_more_row o rows held after r.words s.words r.size s.size r.ended s.ended client moved event row (goes_on r some is off) drawn timeout range told h)
+
+ended_so : (why : Ended) (o : Opening) (rows : List Row) (held : Option (List ℕ)) (left : List ℕ) (size : ℕ) (ended : Option Ended) (client moved : Whole)
+    → RecordedSo o rows held left size ended client → RecordedSo o rows held left size (end_for why ended) moved
+ended_so why o rows held left size None client moved h = ends_here o rows held left size None client h
+ended_so why o rows held left size (Some other) client moved h = h
+
+-- it ends between two rows
+pub ends : (why : Ended) (r s : Recording) (client moved : Whole) → s ≡ with_end why r → (o : Opening) (rows : List Row) (held : Option (List ℕ)) → Recorded o rows held r client → Recorded o rows held s moved
+ends why r s client moved same o rows held h = subst (λ (t : Recording). Recorded o rows held t moved) (sym same) (ended_so why o rows held r.words r.size r.ended client moved h)

@@ -9,7 +9,7 @@ use Rattle.client_loop.proofs.Rows.{leads_nowhere}
 use Rattle.client_request.specs.Words.{listed}
 use Rattle.client_settings.specs.Settings.{CacheSettings, RedundantSettings}
 use Rattle.client_steps.specs.Whole.{Servers, Whole, and_server, asks_by_streams, client_with, is_tcp, servers_of, started, with_servers}
-use Rattle.dns_record.specs.Recording.{GoesOn, Opening, are_asked_alike, opening, script_of_rows, text_of_rows, told_conf}
+use Rattle.dns_record.specs.Recording.{GoesOn, IsToldStart, Opening, are_asked_alike, opening, script_of_rows, text_of_rows, told_conf}
 use Rattle.dns_values.specs.Sink.{with_octets}
 use Rattle.resolv_conf.specs.Conf.{name_server}
 use Rattle.resolv_conf.specs.declared.conf.ResolvConf.{ResolvConf}
@@ -41,7 +41,7 @@ served n conf (s ∷ ss) r h =
 pub same_start : (redundant : RedundantSettings) (cache : CacheSettings) (conf : ResolvConf) → are_asked_alike conf ≡ true → started redundant cache (told_conf conf) ≡ started redundant cache conf
 same_start redundant cache conf h =
     let servers : Servers = servers_of redundant (told_conf conf).options (told_conf conf).servers in
-    ap (λ n. record (started redundant cache conf) { count = n; layer = caching.started cache servers }) (length-map told conf.servers)
+    ap (λ n. record (started redundant cache conf) { count = n; layer = caching.started cache servers }) (length-map conf.servers told)
     ∙ ap (λ s. record (started redundant cache conf) { layer = caching.started cache s }) (served 0 conf conf.servers (choosing.started redundant) h)
 
 told_lines : (servers : List ServerConf) → map server_line (map told servers) ≡ map server_line servers
@@ -61,7 +61,7 @@ told_addresses [] h = tt
 told_addresses (s ∷ ss) h = (h.0, told_addresses ss h.1)
 
 -- a record has begun
-pub begun : (conf : ResolvConf) (redundant : RedundantSettings) (cache : CacheSettings) (words : List ℕ) (held after : Option (List ℕ)) (text : List ℕ)
+begun : (conf : ResolvConf) (redundant : RedundantSettings) (cache : CacheSettings) (words : List ℕ) (held after : Option (List ℕ)) (text : List ℕ)
     → are_asked_alike conf ≡ true → is_whole conf.options.timeout ≡ true → are_told_settings cache ≡ true → AreAddresses conf.servers → conf.options.timeout / 1000000 < 2 ^ 64 → AreWordsInRange words
     → text ≡ head_text conf redundant cache words → length text ≤ 16777216 → after ≡ with_octets text held
     → GoesOn (opening conf redundant cache words held) [] after words (length text) (started redundant cache conf)
@@ -78,3 +78,22 @@ begun conf redundant cache words held after text alike whole settings addresses 
       timeout = refl;
       leads = leads_nowhere conf.options.timeout (client_with (listed words) (started redundant cache conf));
     }
+
+-- the same of a list that is these words, where a client may be so told
+pub begins : (conf : ResolvConf) (redundant : RedundantSettings) (cache : CacheSettings) (words list left : List ℕ) (held after : Option (List ℕ)) (text : List ℕ) (size : ℕ)
+    → IsToldStart conf cache → list ≡ words → left ≡ list → AreAddresses conf.servers → conf.options.timeout / 1000000 < 2 ^ 64 → AreWordsInRange list
+    → text ≡ head_text conf redundant cache list → size ≡ length text → length text ≤ 16777216 → after ≡ with_octets text held
+    → GoesOn (opening conf redundant cache words held) [] after left size (started redundant cache conf)
+begins conf redundant cache words list left held after text size start is all addresses small fit said count short written =
+    let one : GoesOn (opening conf redundant cache list held) [] after list (length text) (started redundant cache conf) =
+    begun conf redundant cache list held after text start.alike start.whole start.settings addresses small fit said short written in
+    let two : GoesOn (opening conf redundant cache words held) [] after list (length text) (started redundant cache conf) =
+    subst (λ (ws : List ℕ). GoesOn (opening conf redundant cache ws held) [] after list (length text) (started redundant cache conf)) is one in
+    let three : GoesOn (opening conf redundant cache words held) [] after left (length text) (started redundant cache conf) =
+    subst (λ (ws : List ℕ). GoesOn (opening conf redundant cache words held) [] after ws (length text) (started redundant cache conf)) (sym all) two in
+    subst (λ (n : ℕ). GoesOn (opening conf redundant cache words held) [] after left n (started redundant cache conf)) (sym count) three
+
+-- what stands before the first event has no room
+pub too_long : (conf : ResolvConf) (redundant : RedundantSettings) (cache : CacheSettings) (words list text : List ℕ) → list ≡ words → text ≡ head_text conf redundant cache list → 16777216 < length text
+    → 16777216 < length (head_text conf redundant cache words)
+too_long conf redundant cache words list text is said long = subst (λ (n : ℕ). 16777216 < n) (ap length said ∙ ap (λ (ws : List ℕ). length (head_text conf redundant cache ws)) is) long

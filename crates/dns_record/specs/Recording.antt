@@ -41,6 +41,12 @@ told_conf conf = record {
 abbrev pub are_asked_alike : ResolvConf → Bool
 are_asked_alike conf = list_all (λ server. conf.options.use_vc || not (is_tcp server.transport)) conf.servers
 
+-- A script tells what a client of this configuration and cache is made of.
+pub record IsToldStart (conf : ResolvConf) (cache : CacheSettings) : Type 0 where
+  pub alike : are_asked_alike conf ≡ true
+  pub whole : is_whole conf.options.timeout ≡ true
+  pub settings : are_told_settings cache ≡ true
+
 -- the script of these rows
 abbrev pub script_of_rows : Opening → List Row → Script
 script_of_rows o rows = script_of (told_conf o.conf) o.redundant o.cache o.words (events_of rows)
@@ -60,6 +66,14 @@ pub record Recording : Type 0 where
   pub words : List ℕ
   pub size : ℕ
   pub ended : Option Ended
+
+-- it ends for this, unless it has ended
+abbrev pub end_for : Ended → Option Ended → Option Ended
+end_for why None = Some why
+end_for why (Some ended) = Some ended
+
+abbrev pub with_end : Ended → Recording → Recording
+with_end why r = record r { ended = end_for why r.ended }
 
 -- The record goes on: all rows that the client put out are recorded, and it draws the words that are left.
 pub record GoesOn (o : Opening) (rows : List Row) (held : Option (List ℕ)) (left : List ℕ) (size : ℕ) (client : Whole) : Type 0 where

@@ -1,5 +1,7 @@
 //! Why a record ends, or does not begin.
 
+ghost use Rattle.std.specs.Prelude.{◌≡◌};
+
 use dns_base::NoMemory;
 
 /// Why a record ended.

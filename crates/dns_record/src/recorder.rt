@@ -4,8 +4,9 @@ ghost use Rattle.std.specs.Prelude.{◌≡◌, ◌++◌, ◌∷◌, [], ◌≤�
 ghost use Rattle.std.specs.List.{list_all};
 ghost use Rattle.client_request.specs.Words.{listed};
 ghost use Rattle.client_request.specs.declared.event.Row.{Row};
+ghost use Rattle.client_settings.specs.Settings.{RedundantSettings};
 ghost use Rattle.client_steps.specs.Whole.{Whole, client_with, plain_step, started, with_one_more};
-ghost use Rattle.dns_record.specs.Recording.{EndsFor, IsRefused, NotedSo, Opening, Recorded, are_asked_alike, drawn, opening, rest_behind};
+ghost use Rattle.dns_record.specs.Recording.{EndsFor, IsRefused, IsToldStart, NotedSo, Opening, Recorded, are_asked_alike, drawn, opening, rest_behind, with_end};
 ghost use Rattle.dns_script.specs.Lines.{event_line};
 ghost use Rattle.dns_script.specs.Told.{tells_well};
 ghost use Rattle.dns_values.specs.Sink.{with_octets};
@@ -74,10 +75,25 @@ fn are_asked_alike(conf: &ResolvConf) -> bool
     ensures { result ≡ are_asked_alike conf.now }
 {
     let use_vc = conf.options.use_vc;
-    conf.servers
-        .as_slice()
-        .iter()
-        .all(|server| use_vc || !matches!(server.transport, Transport::Tcp))
+    conf.servers.as_slice().iter().all(|server| use_vc
+        || !matches!(server.transport, Transport::Tcp))
+}
+
+/// That a script tells what a client of this configuration and cache is made of, or why it does not.
+fn check(conf: &ResolvConf, cache: &cache::Config) -> Result<(), Refused>
+    ensures told { OnOk result (IsToldStart conf.now cache.now) }
+    ensures refused { IfErr result (λ e. (choice : RedundantSettings) (words : List ℕ) (faults after : ℕ) → IsRefused e conf.now choice cache.now words faults after) }
+{
+    if !are_asked_alike(conf) {
+        return Err(Refused::Server);
+    }
+    if !is_whole(conf.options.timeout) {
+        return Err(Refused::Timeout);
+    }
+    if !settings_are_told(cache) {
+        return Err(Refused::Settings);
+    }
+    Ok(())
 }
 
 /// So many words of a source.
@@ -113,15 +129,7 @@ impl Recorder {
         ensures rest { OnOk result (W.stream words.new ≡ rest_behind ahead.count (W.stream words.old)) }
         ensures refused { IfErr result (λ e. IsRefused e conf.now choice cache.now (drawn ahead.count (W.stream words.old)) (K.faults sink.old) (K.faults sink.new)) }
     {
-        if !are_asked_alike(conf) {
-            return Err(Refused::Server);
-        }
-        if !is_whole(conf.options.timeout) {
-            return Err(Refused::Timeout);
-        }
-        if !settings_are_told(cache) {
-            return Err(Refused::Settings);
-        }
+        check(conf, cache)?;
         let list = drawn(alloc, words, ahead.count)?;
         head_is_in_range(conf, list.as_slice());
         let text = head_text(alloc, conf, choice, cache, list.as_slice())?;
@@ -156,6 +164,7 @@ impl Recorder {
     }
 
     /// Writes the line of a row's event, unless that can't be.
+    #[tactic(auto, using(crate::proofs::Keeping::nothing_written))]
     fn write_line<K: Sink>(&self, sink: &mut K, row: &mut Row) -> Result<usize, Ended>
         ensures row { row.new ≡ row.old }
         ensures noted { IfOk result (λ size. NotedSo row.old.event (K.held sink.old) (K.held sink.new) self.now.size size None) }
@@ -205,11 +214,28 @@ impl Recorder {
         self.lost = self.lost.saturating_add(1);
     }
 
+    /// The record ends, unless it has ended.
+    fn end(&mut self, why: Ended)
+        ensures { self.new ≡ with_end why self.old }
+    {
+        if self.ended.is_none() {
+            self.ended = Some(why);
+        }
+    }
+
+    /// A client takes an event with the words that were written.
+    fn take(&mut self, client: &mut Client, event: Event) -> Result<Row, Error>
+        ensures row { IfOk result (λ row. plain_step (listed self.old.words) event client.old ≡ Some (row, client_with (listed self.new.words) client.new)) }
+        ensures timeout { OnOk result (client.new.timeout ≡ client.old.timeout) }
+        ensures stands { self.new ≡ record self.old { words = self.new.words } }
+    {
+        client.step(&mut self.words, event)
+    }
+
     /// A client takes an event as `Client::step` does, and it is recorded. While the record goes on, the client draws the words
     /// that were written, and behind its end those of its own source.
     ///
     /// As `Client::step`; an event that the client refuses is not recorded.
-    #[tactic(auto, using(crate::proofs::Keeping::one_more_row, crate::proofs::Keeping::ended_row))]
     pub fn step<W: Words, K: Sink>(
         &mut self,
         client: &mut Client,
@@ -220,12 +246,12 @@ impl Recorder {
         ensures recorded { IfOk result (λ row. (o : Opening) (rows : List Row) → Recorded o rows (K.held sink.old) self.old client.old → Recorded o (rows ++ row ∷ []) (K.held sink.new) self.new client.new) }
         ensures refused { OnErr result (K.held sink.new ≡ K.held sink.old) }
     {
-        if self.ended.is_some() {
+        if self.ended().is_some() {
             let row = client.step(words, event)?;
             self.pass();
             return Ok(row);
         }
-        let mut row = client.step(&mut self.words, event)?;
+        let mut row = self.take(client, event)?;
         self.note(sink, &mut row);
         Ok(row)
     }
@@ -233,14 +259,11 @@ impl Recorder {
     /// Adds a server to a client, and ends the record, since a script can't tell it.
     ///
     /// As `Client::add_server`.
-    #[tactic(auto, using(crate::proofs::Keeping::ends_here))]
     pub fn add_server(&mut self, client: &mut Client, server: &ServerConf) -> Result<(), Error>
         ensures added { OnOk result (client.new ≡ with_one_more server.now client.old) }
         ensures recorded { (o : Opening) (rows : List Row) (held : Option (List ℕ)) → Recorded o rows held self.old client.old → Recorded o rows held self.new client.new }
     {
-        if self.ended.is_none() {
-            self.ended = Some(Ended::ServerAdded);
-        }
+        self.end(Ended::ServerAdded);
         client.add_server(server)
     }
 }

@@ -237,7 +237,7 @@ timeout_taken t servers st ws is small = go (t == 5000000) refl
     go true e = ap (λ x. reader_at (conf_with servers (with_timeout x)) st ws) (eqb-true t 5000000 e)
     go false e =
         conf_line_taken (codes "options timeout:" ++ decimal (t / 1000000)) (conf_with servers default_options) (conf_with servers (with_timeout t)) st ws
-        (plain_append (codes "options ") (codes "timeout:" ++ decimal (t / 1000000)) (plain_append (codes "options") (32 ∷ []) (word_plain (codes "options") (word_text (codes "options") refl)) ((omega arith, omega arith), tt)) (word_plain _ (word_append (codes "timeout:") (decimal (t / 1000000)) (word_text (codes "timeout:") refl) (decimal_word (t / 1000000) small))))
+        (plain_append (codes "options ") (codes "timeout:" ++ decimal (t / 1000000)) (plain_append (codes "options") (32 ∷ []) (word_plain (codes "options") (word_text (codes "options") refl)) ((omega arith, omega arith), tt)) (word_plain (codes "timeout:" ++ decimal (t / 1000000)) (word_append (codes "timeout:") (decimal (t / 1000000)) (word_text (codes "timeout:") refl) (decimal_word (t / 1000000) small))))
         (subst (λ x. LineGives (codes "options timeout:" ++ decimal (t / 1000000)) (conf_with servers default_options) (takes (conf_with servers (with_timeout x)))) (whole_seconds t is) (timeout_given (t / 1000000) (conf_with servers default_options) small))
 
 abbrev with_both : ℕ → Bool → ResolvOptions

@@ -100,6 +100,11 @@ events_taken conf st ws b [] before h told = (b, ap (λ es. reader_behind conf s
 events_taken conf st ws b (event ∷ events) before h told =
     let both = and_parts (tells_well event.what) (are_told_events events) told in
     let next : List Event = before ++ event ∷ [] in
-    let more = events_taken conf st ws true events next h.1 both.1 in
-    (more.0, (reader_behind conf st ws true next, event_taken conf st ws b before event h.0 both.0,
-    subst (λ es. TakesLines (map event_text events) (reader_behind conf st ws true next) (reader_behind conf st ws more.0 es)) (append_assoc before (event ∷ []) events) more.1))
+    let more = events_taken conf st ws true events next h.1 both.1 in (
+      more.0,
+      (
+        reader_behind conf st ws true next,
+        event_taken conf st ws b before event h.0 both.0,
+        subst (λ es. TakesLines (map event_text events) (reader_behind conf st ws true next) (reader_behind conf st ws more.0 es)) (append_assoc before (event ∷ []) events) more.1,
+      ),
+    )

@@ -82,8 +82,10 @@ entries_taken n conf r c ws def told = go (n == 1000) refl
   where
     after : ℕ → Settings
     after k = record { redundant = r; cache = record c { max_cache_entries = k } }
+
     small : n < 2 ^ 64
     small = let high = leb-true n 1000000000 (and_parts (nat_le 1 n) (nat_le n 1000000000) told).1 in omega arith
+
     go : (b : Bool) → (n == 1000) ≡ b → TakesLines (shown (not b) (join_with_byte 32 (codes "set" ∷ codes "max-cache-entries" ∷ decimal n ∷ []))) (reader_at conf (record { redundant = r; cache = c }) ws) (reader_at conf (record { redundant = r; cache = record c { max_cache_entries = n } }) ws)
     go true e = ap (λ k. reader_at conf (after k) ws) (eqb-true n 1000 e ∙ sym def)
     go false e =

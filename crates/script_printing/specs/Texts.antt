@@ -18,9 +18,13 @@ shown false line = []
 abbrev pub server_line : ServerConf → List ℕ
 server_line server = codes "conf nameserver " ++ address_text server.addr.ip
 
+-- a time that is not its default, in seconds behind what stands before it
+abbrev pub seconds_line : (front : List ℕ) → (default value : ℕ) → List (List ℕ)
+seconds_line front default value = shown (not (value == seconds default)) (front ++ decimal (value / 1000000))
+
 -- the time for a request where it is not five seconds
 abbrev pub timeout_lines : ℕ → List (List ℕ)
-timeout_lines timeout = shown (not (timeout == 5000000)) (codes "conf options timeout:" ++ decimal (timeout / 1000000))
+timeout_lines timeout = seconds_line (codes "conf options timeout:") 5 timeout
 
 -- and that servers are asked by streams alone
 abbrev pub option_lines : ResolvOptions → List (List ℕ)
@@ -42,19 +46,27 @@ choice_lines r =
     switch_line (codes "defer-transport-error") r.defer_transport_error
     ++ (switch_line (codes "defer-refused") r.defer_refused ++ switch_line (codes "defer-servfail") r.defer_servfail)
 
+-- a number that is not its default
+abbrev pub number_line : List ℕ → (default value : ℕ) → List (List ℕ)
+number_line name default value = shown (not (value == default)) (join_with_byte 32 (codes "set" ∷ name ∷ decimal value ∷ []))
+
 -- how many answers are kept, where that is not 1000
 abbrev pub entries_line : ℕ → List (List ℕ)
-entries_line n = shown (not (n == 1000)) (join_with_byte 32 (codes "set" ∷ codes "max-cache-entries" ∷ decimal n ∷ []))
+entries_line n = number_line (codes "max-cache-entries") 1000 n
+
+-- the times by which the kinds of answers are limited
+abbrev pub limit_lines : CacheSettings → List (List ℕ)
+limit_lines c =
+    time_line (codes "max-nxdomain-validity") 3600 c.max_nxdomain_validity
+    ++ (time_line (codes "max-nodata-validity") 3600 c.max_nodata_validity
+    ++ (time_line (codes "max-delegation-validity") 1000000 c.max_delegation_validity
+    ++ time_line (codes "stale-for") 0 c.stale_for))
 
 abbrev pub time_lines : CacheSettings → List (List ℕ)
 time_lines c =
     time_line (codes "max-validity") 604800 c.max_validity
     ++ (time_line (codes "transport-failure-duration") 30 c.transport_failure_duration
-    ++ (time_line (codes "misc-error-duration") 30 c.misc_error_duration
-    ++ (time_line (codes "max-nxdomain-validity") 3600 c.max_nxdomain_validity
-    ++ (time_line (codes "max-nodata-validity") 3600 c.max_nodata_validity
-    ++ (time_line (codes "max-delegation-validity") 1000000 c.max_delegation_validity
-    ++ time_line (codes "stale-for") 0 c.stale_for)))))
+    ++ (time_line (codes "misc-error-duration") 30 c.misc_error_duration ++ limit_lines c))
 
 abbrev pub cache_lines : CacheSettings → List (List ℕ)
 cache_lines c = entries_line c.max_cache_entries ++ (time_lines c ++ switch_line (codes "cache-truncated") c.cache_truncated)

@@ -1,10 +1,10 @@
 //! What stands before the first event: the configuration, the settings and the words.
 
-ghost use Rattle.std.specs.Prelude.{◌≡◌, ◌++◌, ◌∷◌, [], ◌/◌, ◌<◌, ◌^◌, map, decimal, OnOk, IfOk};
+ghost use Rattle.std.specs.Prelude.{◌≡◌, ◌++◌, ◌∷◌, [], ◌/◌, ◌<◌, ◌^◌, ℕ, map, decimal, slice_index, OnOk, IfOk};
 ghost use Rattle.std.specs.List.{flat_map};
 ghost use Rattle.dns_values.specs.Address.{IsAddress};
 ghost use Rattle.script_printing.specs.CanBeTold.{AreAddresses, AreWordsInRange};
-ghost use Rattle.script_printing.specs.Texts.{conf_lines, ended, head_text, option_lines, server_line, timeout_lines, word_lines};
+ghost use Rattle.script_printing.specs.Texts.{conf_lines, ended, head_text, option_lines, seconds_line, server_line, word_lines};
 
 use crate::settings::push_settings;
 use client_settings::{cache, redundant};
@@ -15,27 +15,41 @@ use std::alloc::Global;
 /// The time for a request where no option says so, in seconds.
 const DEFAULT_TIMEOUT: u64 = 5;
 
+/// Adds the line of a server.
+fn push_server(alloc: Global, text: &mut Vec<u8>, server: &ServerConf) -> Result<(), NoMemory>
+    ensures { OnOk result (text.new.items ≡ text.old.items ++ ended (server_line server.now)) }
+{
+    let ip = server.addr.ip;
+    let line = format!(in alloc; "conf nameserver {ip}\n")?;
+    text.extend_from_slice(line.as_bytes())?;
+    Ok(())
+}
+
 /// Adds the line of each server.
 fn push_servers(alloc: Global, text: &mut Vec<u8>, servers: &[ServerConf]) -> Result<(), NoMemory>
     ensures { OnOk result (text.new.items ≡ text.old.items ++ flat_map (λ server. ended (server_line server)) servers.now) }
 {
     for server in servers {
-        let ip = server.addr.ip;
-        let line = format!(in alloc; "conf nameserver {ip}\n")?;
-        text.extend_from_slice(line.as_bytes())?;
+        push_server(alloc, text, server)?;
     }
     Ok(())
 }
 
-/// Adds the line of the time for a request, where it is not the default.
-fn push_timeout(alloc: Global, text: &mut Vec<u8>, timeout: Duration) -> Result<(), NoMemory>
-    ensures { OnOk result (text.new.items ≡ text.old.items ++ flat_map ended (timeout_lines timeout)) }
+/// Adds the line of a time that is not its default, in seconds behind what stands before it.
+fn push_seconds(
+    alloc: Global,
+    text: &mut Vec<u8>,
+    front: &str,
+    default: u64,
+    value: Duration,
+) -> Result<(), NoMemory>
+    ensures { OnOk result (text.new.items ≡ text.old.items ++ flat_map ended (seconds_line front.now default value)) }
 {
-    if timeout == Duration::from_secs(DEFAULT_TIMEOUT) {
+    if value == Duration::from_secs(default) {
         return Ok(());
     }
-    let seconds = timeout.as_secs();
-    let line = format!(in alloc; "conf options timeout:{seconds}\n")?;
+    let seconds = value.as_secs();
+    let line = format!(in alloc; "{front}{seconds}\n")?;
     text.extend_from_slice(line.as_bytes())?;
     Ok(())
 }
@@ -44,10 +58,25 @@ fn push_timeout(alloc: Global, text: &mut Vec<u8>, timeout: Duration) -> Result<
 fn push_options(alloc: Global, text: &mut Vec<u8>, options: &ResolvOptions) -> Result<(), NoMemory>
     ensures { OnOk result (text.new.items ≡ text.old.items ++ flat_map ended (option_lines options.now)) }
 {
-    push_timeout(alloc, text, options.timeout)?;
+    push_seconds(
+        alloc,
+        text,
+        "conf options timeout:",
+        DEFAULT_TIMEOUT,
+        options.timeout,
+    )?;
     if options.use_vc {
         text.extend_from_slice(b"conf options use-vc\n")?;
     }
+    Ok(())
+}
+
+/// Adds a word behind a blank.
+fn push_word(alloc: Global, text: &mut Vec<u8>, word: u64) -> Result<(), NoMemory>
+    ensures { OnOk result (text.new.items ≡ text.old.items ++ 32 ∷ decimal word) }
+{
+    let digits = format!(in alloc; " {word}")?;
+    text.extend_from_slice(digits.as_bytes())?;
     Ok(())
 }
 
@@ -56,14 +85,12 @@ fn push_words(alloc: Global, text: &mut Vec<u8>, words: &[u64]) -> Result<(), No
     ensures { OnOk result (text.new.items ≡ text.old.items ++ flat_map (λ word. 32 ∷ decimal word) words.now) }
 {
     for word in words {
-        let digits = format!(in alloc; " {word}")?;
-        text.extend_from_slice(digits.as_bytes())?;
+        push_word(alloc, text, *word)?;
     }
     Ok(())
 }
 
 /// Adds the line of the words, if there are any.
-#[tactic(auto, using(crate::proofs::Lines::words_joined))]
 fn push_word_line(alloc: Global, text: &mut Vec<u8>, words: &[u64]) -> Result<(), NoMemory>
     ensures { OnOk result (text.new.items ≡ text.old.items ++ flat_map ended (word_lines words.now)) }
 {
@@ -77,7 +104,6 @@ fn push_word_line(alloc: Global, text: &mut Vec<u8>, words: &[u64]) -> Result<()
 }
 
 /// Adds the lines of a configuration.
-#[tactic(auto, using(crate::proofs::Telling::servers_text, crate::proofs::Telling::two_texts))]
 fn push_conf(alloc: Global, text: &mut Vec<u8>, conf: &ResolvConf) -> Result<(), NoMemory>
     ensures { OnOk result (text.new.items ≡ text.old.items ++ flat_map ended (conf_lines conf.now)) }
 {
@@ -103,17 +129,27 @@ pub fn head_text(
     Ok(text)
 }
 
+/// Each octet is one.
+fn octets_are_in_range(octets: &[u8])
+    ensures { (k : ℕ) → slice_index octets.now k < 2 ^ 8 }
+{
+    let _octets = octets;
+}
+
+/// Each group has 16 bits.
+fn groups_are_in_range(groups: &[u16])
+    ensures { (k : ℕ) → slice_index groups.now k < 2 ^ 16 }
+{
+    let _groups = groups;
+}
+
 /// Each address is one.
-fn address_is_in_range(ip: &IpAddr)
-    ensures { IsAddress ip.now }
+fn address_is_in_range(ip: IpAddr)
+    ensures { IsAddress ip }
 {
     match ip {
-        IpAddr::V4(octets) => {
-            let _octets = octets;
-        }
-        IpAddr::V6(groups) => {
-            let _groups = groups;
-        }
+        IpAddr::V4(octets) => octets_are_in_range(&octets),
+        IpAddr::V6(groups) => groups_are_in_range(&groups),
     }
 }
 
@@ -122,7 +158,7 @@ fn addresses_are_in_range(servers: &[ServerConf])
     ensures { AreAddresses servers.now }
 {
     for server in servers {
-        address_is_in_range(&server.addr.ip);
+        address_is_in_range(server.addr.ip);
     }
 }
 

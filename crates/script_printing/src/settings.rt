@@ -2,7 +2,7 @@
 
 ghost use Rattle.std.specs.Prelude.{◌≡◌, ◌++◌, OnOk};
 ghost use Rattle.std.specs.List.{flat_map};
-ghost use Rattle.script_printing.specs.Texts.{cache_lines, choice_lines, ended, entries_line, switch_line, time_line, time_lines};
+ghost use Rattle.script_printing.specs.Texts.{cache_lines, choice_lines, ended, limit_lines, number_line, switch_line, time_line, time_lines};
 
 use client_settings::{cache, redundant};
 use dns_base::{Duration, NoMemory};
@@ -25,7 +25,11 @@ fn push_switch(text: &mut Vec<u8>, name: &str, value: bool) -> Result<(), NoMemo
 fn push_choice(text: &mut Vec<u8>, choice: redundant::Config) -> Result<(), NoMemory>
     ensures { OnOk result (text.new.items ≡ text.old.items ++ flat_map ended (choice_lines choice)) }
 {
-    push_switch(text, "defer-transport-error", choice.defer_transport_error())?;
+    push_switch(
+        text,
+        "defer-transport-error",
+        choice.defer_transport_error(),
+    )?;
     push_switch(text, "defer-refused", choice.defer_refused())?;
     push_switch(text, "defer-servfail", choice.defer_servfail())
 }
@@ -49,16 +53,50 @@ fn push_time(
     Ok(())
 }
 
-/// Adds the line of how many answers are kept, where it is not the default.
-fn push_entries(alloc: Global, text: &mut Vec<u8>, count: u64) -> Result<(), NoMemory>
-    ensures { OnOk result (text.new.items ≡ text.old.items ++ flat_map ended (entries_line count)) }
+/// Adds the line of a number that is not its default.
+fn push_number(
+    alloc: Global,
+    text: &mut Vec<u8>,
+    name: &str,
+    default: u64,
+    value: u64,
+) -> Result<(), NoMemory>
+    ensures { OnOk result (text.new.items ≡ text.old.items ++ flat_map ended (number_line name.now default value)) }
 {
-    if count == 1000 {
+    if value == default {
         return Ok(());
     }
-    let line = format!(in alloc; "set max-cache-entries {count}\n")?;
+    let line = format!(in alloc; "set {name} {value}\n")?;
     text.extend_from_slice(line.as_bytes())?;
     Ok(())
+}
+
+/// Adds the lines of the times by which the kinds of answers are limited.
+fn push_limits(alloc: Global, text: &mut Vec<u8>, cache: &cache::Config) -> Result<(), NoMemory>
+    ensures { OnOk result (text.new.items ≡ text.old.items ++ flat_map ended (limit_lines cache.now)) }
+{
+    push_time(
+        alloc,
+        text,
+        "max-nxdomain-validity",
+        3600,
+        cache.max_nxdomain_validity(),
+    )?;
+    push_time(
+        alloc,
+        text,
+        "max-nodata-validity",
+        3600,
+        cache.max_nodata_validity(),
+    )?;
+    push_time(
+        alloc,
+        text,
+        "max-delegation-validity",
+        1_000_000,
+        cache.max_delegation_validity(),
+    )?;
+    push_time(alloc, text, "stale-for", 0, cache.stale_for())
 }
 
 /// Adds the lines of the cache's times.
@@ -73,17 +111,14 @@ fn push_times(alloc: Global, text: &mut Vec<u8>, cache: &cache::Config) -> Resul
         30,
         cache.transport_failure_duration(),
     )?;
-    push_time(alloc, text, "misc-error-duration", 30, cache.misc_error_duration())?;
-    push_time(alloc, text, "max-nxdomain-validity", 3600, cache.max_nxdomain_validity())?;
-    push_time(alloc, text, "max-nodata-validity", 3600, cache.max_nodata_validity())?;
     push_time(
         alloc,
         text,
-        "max-delegation-validity",
-        1_000_000,
-        cache.max_delegation_validity(),
+        "misc-error-duration",
+        30,
+        cache.misc_error_duration(),
     )?;
-    push_time(alloc, text, "stale-for", 0, cache.stale_for())
+    push_limits(alloc, text, cache)
 }
 
 /// Adds the lines of a choice among servers and of a cache.
@@ -96,7 +131,13 @@ pub(crate) fn push_settings(
     ensures { OnOk result (text.new.items ≡ text.old.items ++ flat_map ended (choice_lines choice ++ cache_lines cache.now)) }
 {
     push_choice(text, choice)?;
-    push_entries(alloc, text, cache.max_cache_entries())?;
+    push_number(
+        alloc,
+        text,
+        "max-cache-entries",
+        1000,
+        cache.max_cache_entries(),
+    )?;
     push_times(alloc, text, cache)?;
     push_switch(text, "cache-truncated", cache.cache_truncated())
 }

@@ -91,9 +91,7 @@ pub(crate) fn options_are_told(o: &ResolvOptions) -> bool
 fn is_told_time(least: u64, greatest: u64, value: Duration) -> bool
     ensures { result ≡ is_told_time least greatest value }
 {
-    is_whole(value)
-        && Duration::from_secs(least) <= value
-        && value <= Duration::from_secs(greatest)
+    is_whole(value) && Duration::from_secs(least) <= value && value <= Duration::from_secs(greatest)
 }
 
 fn limits_are_told(c: &cache::Config) -> bool
