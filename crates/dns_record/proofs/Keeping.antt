@@ -1,10 +1,10 @@
 -- What is recorded, one row more at a time.
-use Rattle.std.proofs.Common.{◌≡◌, ◌≤◌, ◌+◌, ℕ, Bool, true, false, ◌&&◌, List, [], ◌∷◌, ◌++◌, length, length-append, take, Option, Some, None, refl, sym, ap, ◌∙◌, subst, arith, append_assoc, append-nil}
-use Rattle.std.specs.List.{AllByRecursion, list_all}
+use Rattle.std.proofs.Common.{◌≡◌, ◌≤◌, ◌+◌, ℕ, Bool, true, false, ◌&&◌, List, [], ◌∷◌, ◌++◌, length, length-append, take, Option, Some, None, refl, sym, ap, ◌∙◌, subst, append_assoc, append-nil}
+use Rattle.std.specs.List.{AllByRecursion}
 use Rattle.std.specs.Prelude.{is_some}
 use Rattle.client_core.proofs.Replaying.{row_event}
 use Rattle.client_loop.proofs.Rows.{event_behind, leads_on, plain_of}
-use Rattle.client_loop.specs.Turns.{Leads, events_of}
+use Rattle.client_loop.specs.Turns.{events_of}
 use Rattle.client_request.specs.Words.{listed}
 use Rattle.client_request.specs.declared.event.Event.{Event}
 use Rattle.client_request.specs.declared.event.Row.{Row}
@@ -16,7 +16,7 @@ use Rattle.dns_record.proofs.Starting.{same_start}
 use Rattle.dns_script.specs.Lines.{event_line}
 use Rattle.dns_script.specs.Told.{tells_well}
 use Rattle.dns_values.specs.Sink.{with_octets}
-use Rattle.script_printing.specs.CanBeTold.{CanBeTold, IsEvent, IsInRange, are_told_events}
+use Rattle.script_printing.specs.CanBeTold.{IsEvent, are_told_events}
 use Rattle.script_printing.specs.Texts.{script_of, script_text_of}
 use Rattle.script_printing.proofs.Scripts.{one_more_line, scripts_are_read_back}
 

@@ -1,6 +1,6 @@
 -- The client that a script tells is the one that is recorded.
-use Rattle.std.proofs.Common.{◌≡◌, ◌<◌, ◌≤◌, ◌+◌, ◌/◌, ◌^◌, ◌==◌, ℕ, Bool, true, false, not, ◌&&◌, ◌||◌, List, [], ◌∷◌, ◌++◌, length, map, Option, Some, None, refl, sym, ap, ◌∙◌, subst, append-nil}
-use Rattle.std.specs.List.{AllByRecursion, flat_map, list_all}
+use Rattle.std.proofs.Common.{◌≡◌, ◌<◌, ◌≤◌, ◌+◌, ◌/◌, ◌^◌, ℕ, Bool, true, false, not, ◌&&◌, ◌||◌, List, [], ◌∷◌, ◌++◌, length, map, Option, refl, sym, ap, ◌∙◌, subst, append-nil}
+use Rattle.std.specs.List.{flat_map, list_all}
 use Rattle.std.proofs.lemmas.Bool.{and_parts}
 use Rattle.std.proofs.lemmas.List.{length-map}
 use Rattle.client_cache.specs.Plain as caching
@@ -8,15 +8,15 @@ use Rattle.client_choice.specs.Redundant as choosing
 use Rattle.client_loop.proofs.Rows.{leads_nowhere}
 use Rattle.client_request.specs.Words.{listed}
 use Rattle.client_settings.specs.Settings.{CacheSettings, RedundantSettings}
-use Rattle.client_steps.specs.Whole.{Servers, Whole, and_server, asks_by_streams, client_with, is_tcp, servers_of, started, with_servers}
-use Rattle.dns_record.specs.Recording.{GoesOn, IsToldStart, Opening, are_asked_alike, opening, script_of_rows, text_of_rows, told_conf}
+use Rattle.client_steps.specs.Whole.{Servers, and_server, asks_by_streams, client_with, is_tcp, servers_of, started, with_servers}
+use Rattle.dns_record.specs.Recording.{GoesOn, IsToldStart, Opening, are_asked_alike, opening, text_of_rows, told_conf}
 use Rattle.dns_values.specs.Sink.{with_octets}
 use Rattle.resolv_conf.specs.Conf.{name_server}
 use Rattle.resolv_conf.specs.declared.conf.ResolvConf.{ResolvConf}
 use Rattle.resolv_conf.specs.declared.server.ServerConf.{ServerConf}
 use Rattle.resolv_conf.specs.declared.server.Transport.{Transport}
 use Rattle.resolv_conf.specs.declared.server.Transport.TheVariants.{UdpTcp, Tcp}
-use Rattle.script_printing.specs.CanBeTold.{AreAddresses, AreWordsInRange, CanBeTold, are_told_settings, is_told_server, is_whole}
+use Rattle.script_printing.specs.CanBeTold.{AreAddresses, AreWordsInRange, are_told_settings, is_told_server, is_whole}
 use Rattle.script_printing.specs.Texts.{ended, head_text, server_line, option_lines, choice_lines, cache_lines, word_lines}
 
 abbrev told : ServerConf → ServerConf
