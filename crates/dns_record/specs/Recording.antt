@@ -1,0 +1,140 @@
+-- What is recorded of a client, and that a replay of it gives the client's rows.
+use Rattle.std.specs.Prelude.{◌≡◌, ℕ, ◌+◌, ◌<◌, ◌≤◌, zero, suc, Bool, true, false, ◌||◌, not, List, [], ◌∷◌, ◌++◌, length, map, take, Option, Some, None}
+use Rattle.std.specs.List.{list_all}
+use Rattle.client_loop.specs.Turns.{Leads, events_of}
+use Rattle.client_request.specs.Words.{listed, rest_of}
+use Rattle.client_request.specs.declared.event.Event.{Event}
+use Rattle.client_request.specs.declared.event.Row.{Row}
+use Rattle.client_settings.specs.Settings.{CacheSettings, RedundantSettings}
+use Rattle.client_steps.specs.Whole.{Whole, client_with, is_tcp, plain_trace, started}
+use Rattle.dns_record.specs.declared.ended.Ended.{Ended}
+use Rattle.dns_record.specs.declared.ended.Ended.TheVariants as endings
+use Rattle.dns_record.specs.declared.ended.Refused.{Refused}
+use Rattle.dns_record.specs.declared.ended.Refused.TheVariants as refusals
+use Rattle.dns_script.specs.Lines.{event_line}
+use Rattle.dns_script.specs.ScriptReading.{IsScript}
+use Rattle.dns_script.specs.Told.{tells_well}
+use Rattle.dns_script.specs.declared.script.Script.{Script}
+use Rattle.dns_values.specs.Sink.{with_octets}
+use Rattle.dns_values.specs.Source.{Rose}
+use Rattle.resolv_conf.specs.Conf.{default_options, name_server}
+use Rattle.resolv_conf.specs.declared.conf.ResolvConf.{ResolvConf}
+use Rattle.script_printing.specs.CanBeTold.{CanBeTold, IsInRange, are_told_settings, is_whole}
+use Rattle.script_printing.specs.Texts.{first_lane, head_text, script_of, script_text_of}
+
+-- what a record begins with: of what the client is made, the words that it will draw, and what the sink held
+pub record Opening : Type 0 where
+  pub conf : ResolvConf
+  pub redundant : RedundantSettings
+  pub cache : CacheSettings
+  pub words : List ℕ
+  pub held : Option (List ℕ)
+
+-- of a configuration what a script tells: the servers by their addresses, the time for a request, and whether streams alone are used
+abbrev pub told_conf : ResolvConf → ResolvConf
+told_conf conf = record {
+  servers = map (λ server. name_server server.addr.ip) conf.servers;
+  options = record default_options { timeout = conf.options.timeout; use_vc = conf.options.use_vc };
+}
+
+-- a script tells how each server is asked: all by streams alone, or all by datagrams too
+abbrev pub are_asked_alike : ResolvConf → Bool
+are_asked_alike conf = list_all (λ server. conf.options.use_vc || not (is_tcp server.transport)) conf.servers
+
+-- A script tells what a client of this configuration and cache is made of.
+pub record IsToldStart (conf : ResolvConf) (cache : CacheSettings) : Type 0 where
+  pub alike : are_asked_alike conf ≡ true
+  pub whole : is_whole conf.options.timeout ≡ true
+  pub settings : are_told_settings cache ≡ true
+
+-- the script of these rows
+abbrev pub script_of_rows : Opening → List Row → Script
+script_of_rows o rows = script_of (told_conf o.conf) o.redundant o.cache o.words (events_of rows)
+
+abbrev pub text_of_rows : Opening → List Row → List ℕ
+text_of_rows o rows = script_text_of (script_of_rows o rows)
+
+-- The text is a script, and its replay gives these rows.
+pub record IsRecord (text : List ℕ) (rows : List Row) : Type 0 where
+  pub script : Script
+  pub is_script : IsScript false text script
+  pub fits : length text ≤ 16777216
+  pub replay : plain_trace script.redundant script.cache script.conf (listed script.words) (first_lane script.lanes) ≡ Some rows
+
+-- what a recorder has: the words that are left of those that were written, how many octets it wrote, and why it ended, if it did
+pub record Recording : Type 0 where
+  pub words : List ℕ
+  pub size : ℕ
+  pub ended : Option Ended
+
+-- it ends for this, unless it has ended
+abbrev pub end_for : Ended → Option Ended → Option Ended
+end_for why None = Some why
+end_for why (Some ended) = Some ended
+
+abbrev pub with_end : Ended → Recording → Recording
+with_end why r = record r { ended = end_for why r.ended }
+
+-- The record goes on: all rows that the client put out are recorded, and it draws the words that are left.
+pub record GoesOn (o : Opening) (rows : List Row) (held : Option (List ℕ)) (left : List ℕ) (size : ℕ) (client : Whole) : Type 0 where
+  pub alike : are_asked_alike o.conf ≡ true
+  pub told : CanBeTold (script_of_rows o rows)
+  pub range : IsInRange (script_of_rows o rows)
+  pub written : held ≡ with_octets (text_of_rows o rows) o.held
+  pub size_is : size ≡ length (text_of_rows o rows)
+  pub fits : size ≤ 16777216
+  pub timeout : client.timeout ≡ o.conf.options.timeout
+  pub leads : Leads o.conf.options.timeout (client_with (listed o.words) (started o.redundant o.cache o.conf)) rows (client_with (listed left) client)
+
+-- It has ended: the first of the rows are recorded, and behind their record stands at most the first of one more line.
+pub record HasEnded (o : Opening) (rows : List Row) (held : Option (List ℕ)) : Type 0 where
+  pub first : List Row
+  pub later : List Row
+  pub rows_are : rows ≡ first ++ later
+  pub cut : List ℕ
+  pub written : held ≡ with_octets (text_of_rows o first ++ cut) o.held
+  pub is_record : IsRecord (text_of_rows o first) first
+
+-- What was recorded of a client that put out these rows.
+abbrev pub RecordedSo : (o : Opening) → List Row → (held : Option (List ℕ)) → (left : List ℕ) → ℕ → Option Ended → Whole → Type 0
+RecordedSo o rows held left size None client = GoesOn o rows held left size client
+RecordedSo o rows held left size (Some why) client = HasEnded o rows held
+
+abbrev pub Recorded : (o : Opening) → List Row → (held : Option (List ℕ)) → Recording → Whole → Type 0
+Recorded o rows held r client = RecordedSo o rows held r.words r.size r.ended client
+
+-- What a row comes to in a record that goes on: its event's line is written, or the first of it, and the record ends.
+abbrev pub NotedSo : (event : Event) → (held after : Option (List ℕ)) → (size left : ℕ) → Option Ended → Type 0
+NotedSo event held after size left None = (after ≡ with_octets (event_line event) held) × (left ≡ size + length (event_line event)) × (left ≤ 16777216) × (tells_well event.what ≡ true)
+NotedSo event held after size left (Some why) = (n : ℕ) × (after ≡ with_octets (take n (event_line event)) held)
+
+-- why a record does not begin
+abbrev pub IsRefused : Refused → ResolvConf → RedundantSettings → CacheSettings → (words : List ℕ) → (faults faults_after : ℕ) → Type 0
+IsRefused refusals.Server conf redundant cache words faults after = are_asked_alike conf ≡ false
+IsRefused refusals.Timeout conf redundant cache words faults after = is_whole conf.options.timeout ≡ false
+IsRefused refusals.Settings conf redundant cache words faults after = are_told_settings cache ≡ false
+IsRefused refusals.Full conf redundant cache words faults after = 16777216 < length (head_text conf redundant cache words)
+IsRefused refusals.SinkFailed conf redundant cache words faults after = Rose faults after
+IsRefused refusals.NoMemory conf redundant cache words faults after = Unit {0}
+
+-- why a record that went on ends with an event, where it does
+abbrev pub EndsFor : Ended → Event → (size words : ℕ) → (faults after : ℕ) → Type 0
+EndsFor endings.Full event size words faults after = 16777216 < size + length (event_line event)
+EndsFor endings.WordsUsed event size words faults after = Unit {0}
+EndsFor endings.SinkFailed event size words faults after = Rose faults after
+EndsFor endings.ServerAdded event size words faults after = ⊥
+EndsFor endings.Untold event size words faults after = tells_well event.what ≡ false
+EndsFor endings.NoMemory event size words faults after = Unit {0}
+
+-- the words behind so many, and so many words
+abbrev pub rest_behind : ℕ → (ℕ → ℕ) → ℕ → ℕ
+rest_behind zero words = words
+rest_behind (suc n) words = rest_of (rest_behind n words)
+
+abbrev pub drawn : ℕ → (ℕ → ℕ) → List ℕ
+drawn zero words = []
+drawn (suc n) words = drawn n words ++ rest_behind n words 0 ∷ []
+
+-- What is recorded at first: nothing was put out yet.
+abbrev pub opening : ResolvConf → RedundantSettings → CacheSettings → (words : List ℕ) → (held : Option (List ℕ)) → Opening
+opening conf redundant cache words held = record { conf = conf; redundant = redundant; cache = cache; words = words; held = held }

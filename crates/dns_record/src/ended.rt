@@ -1,0 +1,59 @@
+//! Why a record ends, or does not begin.
+
+ghost use Rattle.std.specs.Prelude.{◌≡◌};
+
+use dns_base::NoMemory;
+
+/// Why a record ended.
+#[derive(Clone, Copy, Debug, PartialEq, Eq)]
+pub enum Ended {
+    /// With one line more it would have more than 16777216 octets, which no script has.
+    Full,
+    /// Few words are left of those that were written.
+    WordsUsed,
+    /// The sink failed, perhaps in the middle of a line.
+    SinkFailed,
+    /// A server was added, which a script can't tell.
+    ServerAdded,
+    /// An event has a fault that the client finds itself.
+    Untold,
+    /// Memory ran out for a line.
+    NoMemory,
+}
+
+impl From<NoMemory> for Ended {
+    ghost use Rattle.dns_record.specs.declared.ended.Ended.{Ended};
+
+    ghost from_gives = { λ _ r. r ≡ Ended.NoMemory };
+
+    fn from(_e: NoMemory) -> Ended {
+        Ended::NoMemory
+    }
+}
+
+/// Why a record does not begin.
+#[derive(Clone, Copy, Debug, PartialEq, Eq)]
+pub enum Refused {
+    /// A server is asked by streams alone and the configuration does not say so of all.
+    Server,
+    /// The time for a request is no whole number of seconds.
+    Timeout,
+    /// A setting of the cache is outside its limits, or a time among them is no whole number of seconds.
+    Settings,
+    /// What stands before the first event has more than 16777216 octets.
+    Full,
+    /// The sink failed.
+    SinkFailed,
+    /// Memory ran out.
+    NoMemory,
+}
+
+impl From<NoMemory> for Refused {
+    ghost use Rattle.dns_record.specs.declared.ended.Refused.{Refused};
+
+    ghost from_gives = { λ _ r. r ≡ Refused.NoMemory };
+
+    fn from(_e: NoMemory) -> Refused {
+        Refused::NoMemory
+    }
+}

@@ -1,0 +1,76 @@
+-- The lines before the first event are plain.
+use Rattle.std.proofs.Common.{◌≡◌, ◌<◌, ◌/◌, ◌^◌, ℕ, Bool, true, false, ◌&&◌, nat_le, List, [], ◌∷◌, ◌++◌, map, refl, arith, codes, decimal}
+use Rattle.std.specs.List.{AllByRecursion, join_with_byte}
+use Rattle.std.proofs.lemmas.Bool.{and_parts, leb-true}
+use Rattle.client_settings.specs.Settings.{CacheSettings}
+use Rattle.resolv_conf.specs.declared.server.ServerConf.{ServerConf}
+use Rattle.dns_script.specs.declared.script.Script.{Script}
+use Rattle.script_printing.specs.CanBeTold.{AreAddresses, AreWordsInRange, CanBeTold, IsInRange, are_told_limits, are_told_settings, is_told_time}
+use Rattle.script_printing.specs.Texts.{cache_lines, choice_lines, conf_lines, entries_line, head_lines, option_lines, server_line, shown, switch_line, time_line, time_lines, word_lines}
+use Rattle.script_printing.proofs.Confs.{address_is_word}
+use Rattle.script_printing.proofs.Plain.{IsPlain, IsWord, decimal_word, joined_plain, plain_append, plain_text, word_plain, word_text}
+use Rattle.script_printing.proofs.SettingLines.{decimals_are_words, time_fits}
+
+abbrev ArePlain : List (List ℕ) → Type 0
+ArePlain ls = AllByRecursion IsPlain ls
+
+joined : (xs ys : List (List ℕ)) → ArePlain xs → ArePlain ys → ArePlain (xs ++ ys)
+joined [] ys h k = k
+joined (x ∷ xs) ys h k = (h.0, joined xs ys h.1 k)
+
+shown_plain : (b : Bool) (l : List ℕ) → IsPlain l → ArePlain (shown b l)
+shown_plain true l h = (h, tt)
+shown_plain false l h = tt
+
+servers_plain : (servers : List ServerConf) → AreAddresses servers → ArePlain (map server_line servers)
+servers_plain [] h = tt
+servers_plain (s ∷ ss) h = (plain_append (codes "conf nameserver ") _ (plain_text (codes "conf nameserver ") refl) (word_plain _ (address_is_word s.addr.ip h.0)), servers_plain ss h.1)
+
+setting_plain : (b : Bool) (name word : List ℕ) → IsWord name → IsWord word → ArePlain (shown b (join_with_byte 32 (codes "set" ∷ name ∷ word ∷ [])))
+setting_plain b name word n w = shown_plain b (join_with_byte 32 (codes "set" ∷ name ∷ word ∷ [])) (joined_plain (codes "set" ∷ name ∷ word ∷ []) (word_text (codes "set") refl, (n, (w, tt))))
+
+switch_plain : (name : List ℕ) (b : Bool) → IsWord name → ArePlain (switch_line name b)
+switch_plain name b n = setting_plain b name (codes "on") n (word_text (codes "on") refl)
+
+time_plain : (name : List ℕ) (def v : ℕ) → IsWord name → v / 1000000 < 2 ^ 64 → ArePlain (time_line name def v)
+time_plain name def v n h = setting_plain _ name (decimal (v / 1000000)) n (decimal_word (v / 1000000) h)
+
+cache_plain : (c : CacheSettings) → are_told_settings c ≡ true → ArePlain (cache_lines c)
+cache_plain c told =
+    let p0 = and_parts (nat_le 1 c.max_cache_entries && nat_le c.max_cache_entries 1000000000) _ told in
+    let p1 = and_parts (is_told_time 60 6048000 c.max_validity) _ p0.1 in
+    let p2 = and_parts (is_told_time 1 300 c.transport_failure_duration) _ p1.1 in
+    let p3 = and_parts (is_told_time 1 300 c.misc_error_duration) (are_told_limits c) p2.1 in
+    let q1 = and_parts (is_told_time 60 86400 c.max_nxdomain_validity) _ p3.1 in
+    let q2 = and_parts (is_told_time 60 86400 c.max_nodata_validity) _ q1.1 in
+    let q3 = and_parts (is_told_time 60 1000000000 c.max_delegation_validity) (is_told_time 0 604800 c.stale_for) q2.1 in
+    let few : c.max_cache_entries < 2 ^ 64 = (let high = leb-true c.max_cache_entries 1000000000 (and_parts (nat_le 1 c.max_cache_entries) (nat_le c.max_cache_entries 1000000000) p0.0).1 in omega arith) in
+    joined (entries_line c.max_cache_entries) _ (setting_plain _ (codes "max-cache-entries") (decimal c.max_cache_entries) (word_text (codes "max-cache-entries") refl) (decimal_word c.max_cache_entries few))
+    (joined (time_lines c) _
+    (joined _ _ (time_plain (codes "max-validity") 604800 c.max_validity (word_text (codes "max-validity") refl) (time_fits 60 6048000 c.max_validity (omega arith) p1.0))
+    (joined _ _ (time_plain (codes "transport-failure-duration") 30 c.transport_failure_duration (word_text (codes "transport-failure-duration") refl) (time_fits 1 300 c.transport_failure_duration (omega arith) p2.0))
+    (joined _ _ (time_plain (codes "misc-error-duration") 30 c.misc_error_duration (word_text (codes "misc-error-duration") refl) (time_fits 1 300 c.misc_error_duration (omega arith) p3.0))
+    (joined _ _ (time_plain (codes "max-nxdomain-validity") 3600 c.max_nxdomain_validity (word_text (codes "max-nxdomain-validity") refl) (time_fits 60 86400 c.max_nxdomain_validity (omega arith) q1.0))
+    (joined _ _ (time_plain (codes "max-nodata-validity") 3600 c.max_nodata_validity (word_text (codes "max-nodata-validity") refl) (time_fits 60 86400 c.max_nodata_validity (omega arith) q2.0))
+    (joined _ _ (time_plain (codes "max-delegation-validity") 1000000 c.max_delegation_validity (word_text (codes "max-delegation-validity") refl) (time_fits 60 1000000000 c.max_delegation_validity (omega arith) q3.0))
+    (time_plain (codes "stale-for") 0 c.stale_for (word_text (codes "stale-for") refl) (time_fits 0 604800 c.stale_for (omega arith) q3.1))))))))
+    (switch_plain (codes "cache-truncated") c.cache_truncated (word_text (codes "cache-truncated") refl)))
+
+words_plain : (ws : List ℕ) → AreWordsInRange ws → ArePlain (word_lines ws)
+words_plain [] h = tt
+words_plain (w ∷ ws) h = (joined_plain (codes "words" ∷ map decimal (w ∷ ws)) (word_text (codes "words") refl, decimals_are_words (w ∷ ws) h), tt)
+
+pub head_is_plain : (script : Script) → CanBeTold script → IsInRange script → ArePlain (head_lines script.conf script.redundant script.cache script.words)
+head_is_plain script told range =
+    let o = script.conf.options in
+    let r = script.redundant in
+    joined (conf_lines script.conf) _
+    (joined (map server_line script.conf.servers) (option_lines o) (servers_plain script.conf.servers range.addresses)
+    (joined _ _ (shown_plain _ _ (plain_append (codes "conf options timeout:") (decimal (o.timeout / 1000000)) (plain_text (codes "conf options timeout:") refl) (word_plain _ (decimal_word (o.timeout / 1000000) range.timeout))))
+    (shown_plain o.use_vc (codes "conf options use-vc") (plain_text (codes "conf options use-vc") refl))))
+    (joined (choice_lines r ++ cache_lines script.cache) (word_lines script.words)
+    (joined (choice_lines r) (cache_lines script.cache)
+    (joined _ _ (switch_plain (codes "defer-transport-error") r.defer_transport_error (word_text (codes "defer-transport-error") refl))
+    (joined _ _ (switch_plain (codes "defer-refused") r.defer_refused (word_text (codes "defer-refused") refl)) (switch_plain (codes "defer-servfail") r.defer_servfail (word_text (codes "defer-servfail") refl))))
+    (cache_plain script.cache told.settings))
+    (words_plain script.words range.words))

@@ -1,0 +1,10 @@
+pub mod Confs
+pub mod EventLines
+pub mod Heads
+pub mod InRange
+pub mod Lines
+pub mod Plain
+pub mod ReadingBack
+pub mod Scripts
+pub mod SettingLines
+pub mod Telling

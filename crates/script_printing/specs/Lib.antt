@@ -1,0 +1,3 @@
+pub mod CanBeTold
+pub mod Laws
+pub mod Texts

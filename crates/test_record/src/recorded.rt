@@ -1,0 +1,52 @@
+//! A client that is recorded.
+
+use client_core::Client;
+use client_request::ListWords;
+use dns_base::NoMemory;
+use dns_record::{Ahead, Ended, Recorder};
+use dns_script::{Script, read_script};
+use dns_values::MemSink;
+use std::alloc::Global;
+use std::test::Fail;
+
+/// What `examples/first.script` says, word for word.
+const SCRIPT: &str = "conf nameserver 192.0.2.53
+words 4660
+at 0 ask 000001000001000000000000076578616d706c6503636f6d0000010001 00000100 -
+at 10 opened 0
+at 20000 datagram 0 123481800001000100000000076578616d706c6503636f6d0000010001c00c00010001000000640004c0000201
+";
+
+/// The one word of the script.
+const AHEAD: Ahead = Ahead { count: 1, few: 0 };
+
+/// The text that is recorded of a client that takes the events of a script.
+fn recorded(alloc: Global, script: Script, sink: &mut MemSink) -> Result<Option<Ended>, Fail> {
+    let Script {
+        conf,
+        redundant,
+        cache,
+        words,
+        lanes,
+    } = script;
+    let mut words = ListWords::new(words);
+    let begun = Recorder::begin(alloc, &conf, redundant, &cache, &mut words, AHEAD, sink);
+    let mut recorder = begun.map_err(|_| NoMemory)?;
+    let mut client = Client::new(alloc, &conf, redundant, cache)?;
+    for lane in lanes.into_vec() {
+        for event in lane.into_vec() {
+            let _row = recorder.step(&mut client, &mut words, sink, event)?;
+        }
+    }
+    Ok(recorder.ended())
+}
+
+#[test]
+fn what_is_recorded_is_the_script(rt: HostRuntime) -> Result<(), Fail> {
+    let alloc = rt.alloc();
+    let script = read_script(alloc, SCRIPT.as_bytes(), false)?;
+    let mut sink = MemSink::new(alloc, Vec::new(alloc), Vec::new(alloc));
+    let ended = recorded(alloc, script, &mut sink)?;
+    assert!(rt; ended.is_none() && sink.as_slice() == SCRIPT.as_bytes());
+    Ok(())
+}
