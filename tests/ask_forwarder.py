@@ -1,19 +1,28 @@
 #!/usr/bin/env python3
 """Asks real servers through `dns_forward`, and compares what comes with what they answer when they are asked directly.
 
-    python3 tests/ask_forwarder.py PROGRAM
+    sudo python3 tests/ask_forwarder.py PROGRAM [SERVER..]
 
-PROGRAM is the built dns_forward. An NSD and a BIND, as far as they are installed, serve one zone on loopback, each at a high port of
-its own, and a forwarder stands before each. In this order, which ends with status 1 at the first difference:
+PROGRAM is the built dns_forward. NSD, BIND, Knot and Unbound, as far as they are installed (or those that are named: nsd, named, knotd,
+unbound), serve one zone on loopback, each at a high port of its own, and a forwarder stands before each. In this order, which ends with
+status 1 at the first difference:
 
-sections: dig, kdig and drill ask both, by datagrams and by a stream, with and without OPT, with DO, at small sizes; the sections agree, record by
-record, but for TTLs and OPT. Twice, so that the second answer comes of what is kept.
+ninety: kdig asks both each question of tests/forwarder_questions.py; the status, the sections record by record and the flags agree, and
+the TTLs of the first answer. A second answer, which comes of what is kept, has no AA, and its TTLs are those of the time that went by.
+sections: dig, kdig and drill ask both, by datagrams and by a stream, with and without OPT, with DO, at small sizes; the sections agree,
+record by record, but for TTLs and OPT. Twice, so that the second answer comes of what is kept.
+clients: two with cookies, one without EDNS and one with DO get OPT as RFC 6891 and RFC 7873 allow: none where they sent none, and else
+one of version 0 without options, with DO as they sent it.
 odd: queries that a cache must not be poisoned by, each before a plain one, which must be answered as the server does.
-streams: a query octet by octet; two in one write; 101 streams, of which the quietest is closed and the others serve; a peer that asks for
-60 megabytes and reads nothing, which is closed while the others are served, and memory stays below 100 megabytes.
-end: SIGTERM ends it within a second.
+getent (Unbound) and dnsperf (the first server): glibc's resolver is answered, over a configuration in a mount namespace of its own; so is every query of dnsperf's.
+ends: SIGTERM ends it within a second. Before the first server also: other addresses of this host, IPv6 too, are listened; `--policy practice` passes
+a dead server by; a port in use is status 5, and 0.0.0.0 and :: are status 2; with standard error closed it goes on.
+
+What needs a tool that is not installed, or a namespace that can't be made, is left out, and that is said. How it stands up to load and to who
+means it ill: tests/press_forwarder.py.
 """
 
+import atexit
 import os
 import re
 import shutil
@@ -26,11 +35,15 @@ import tempfile
 import time
 from pathlib import Path
 
-from ask_servers import SERVERS, expect, free_port, skipped, zone
+from ask_servers import SERVERS, expect, free_port, name_at, skipped, zone
+from forwarder_questions import ASKED, RECORDS
 
-NAMES = [("www.example", "A"), ("www.example", "AAAA"), ("WwW.eXample", "A"), ("alias.example", "A"), ("missing.example", "A"),
-         ("mail.example", "MX"), ("example", "SOA"), ("example", "NS"), ("_sip._udp.example", "SRV"), ("many.example", "A"),
-         ("huge.example", "TXT"), ("www.elsewhere", "A"), ("www.example", "ANY")]
+NAMES = [("www.example", "A"), ("WwW.eXample", "A"), ("alias.example", "A"), ("missing.example", "A"), ("mail.example", "MX"), ("many.example", "A"),
+         ("huge.example", "TXT"), ("www.elsewhere", "A")]
+NAMED = {"NS", "CNAME", "SOA", "PTR", "MX", "SRV", "DNAME", "RP", "AFSDB"}
+TURNS = "18446744073709551615"
+STARTED = []
+atexit.register(lambda: [it.kill() for it in STARTED])
 WAYS = {
     "dig": [["+notcp"], ["+tcp"], ["+noedns"], ["+dnssec"], ["+bufsize=600"], ["+ignore", "+noedns"], ["+norec"], ["+cd"]],
     "kdig": [[], ["+tcp"], ["+dnssec"], ["+noedns"]],
@@ -55,13 +68,15 @@ def record(name, rtype, data):
     return question(name, rtype) + struct.pack(">IH", 60, len(data)) + data
 
 
-def by_datagram(port, octets, seconds=3):
-    with socket.socket(socket.AF_INET, socket.SOCK_DGRAM) as s:
+def by_datagram(port, octets, seconds=3, at="127.0.0.1"):
+    """The answer that comes by a datagram from where it was asked, if one does."""
+    with socket.socket(socket.AF_INET6 if ":" in at else socket.AF_INET, socket.SOCK_DGRAM) as s:
         s.settimeout(seconds)
-        s.sendto(octets, ("127.0.0.1", port))
+        s.connect((at, port))
         try:
+            s.send(octets)
             return s.recv(65535)
-        except socket.timeout:
+        except OSError:
             return None
 
 
@@ -176,76 +191,205 @@ def ask_odd(what, port):
     print("%s: %d odd queries poison nothing" % (what, len(odd_queries())))
 
 
-def ask_streams(what, port, process):
+def knotd(folder, port):
+    (folder / "knot.conf").write_text(
+        "server:\n  rundir: %s\n  listen: 127.0.0.1@%d\ndatabase:\n  storage: %s\ntemplate:\n  - id: default\n    storage: %s\n"
+        "    zonefile-load: whole\n    zonefile-sync: -1\n    journal-content: none\nzone:\n  - domain: example.\n    file: zone\n" % (folder, port, folder, folder))
+    return ["knotd", "-c", str(folder / "knot.conf")]
+
+
+def by_kdig(port, name, rtype):
+    """The status of an answer, its flags, and of each section the records, as text without TTLs, and the TTLs."""
+    words = ["kdig", "+noidn", "+retry=0", "+time=9", "+edns=0", "+bufsize=1232", "@127.0.0.1", "-p", str(port), "-q", name, "-t", rtype]
+    out = subprocess.run(words, capture_output=True, text=True).stdout
+    head, flags = re.search(r"status: (\w+);", out), re.search(r"Flags: ([a-z ]*);", out)
+    sections, ttls = [], []
+    for title in ["ANSWER", "AUTHORITY", "ADDITIONAL"]:
+        part = re.search(r";; %s SECTION:\n(.*?)(\n\n|\Z)" % title, out, re.S)
+        records = []
+        for line in part.group(1).splitlines() if part else []:
+            owner, ttl, rclass, kind, data = (re.split(r"\s+", line, maxsplit=4) + [""])[:5]
+            data = re.sub(r"\s+", " ", data)
+            # Letters of names are equal in either case, and a server may spell one as it was asked.
+            records.append((owner.lower(), rclass, kind, data.lower() if kind in NAMED else data, int(ttl)))
+        records.sort()
+        sections.append([it[:4] for it in records])
+        ttls += [it[4] for it in records]
+    return head and head.group(1), set(flags.group(1).split()) if flags else None, sections, ttls
+
+
+def ask_ninety(what, server, port):
+    if not shutil.which("kdig"):
+        return print("skipped: no kdig")
+    codes = {}
+    for name, rtype in ASKED:
+        began = time.time()
+        code, flags, sections, ttls = by_kdig(server, name, rtype)
+        expect(code is not None, "%s: %s %s asked directly" % (what, name, rtype))
+        codes[code] = codes.get(code, 0) + 1
+        for turn in ["first", "kept"]:
+            got = by_kdig(port, name, rtype)
+            where = "%s: %s %s (%s)" % (what, name, rtype, turn)
+            expect((got[0], got[2]) == (code, sections), "%s: %r, directly %r" % (where, got, (code, sections)))
+            expect(got[1] in [flags, flags - {"aa"}], "%s: flags %r, directly %r" % (where, got[1], flags))
+            ages = [before - after for before, after in zip(ttls, got[3])]
+            expect(all(0 <= age <= 2 + time.time() - began + 300 for age in ages), "%s: TTLs %r, directly %r" % (where, got[3], ttls))
+    print("%s: %d questions are answered as directly: %s" % (what, len(ASKED), codes))
+
+
+def opt_in(octets):
+    """The OPT record of an answer: its size, the high bits of the code, its version, its flags and its data."""
+    counts, at, found = struct.unpack(">HHHH", octets[4:12]), 12, []
+    for _ in range(counts[0]):
+        at = name_at(octets, at)[1] + 4
+    for _ in range(sum(counts[1:])):
+        at = name_at(octets, at)[1]
+        rtype, size, code, version, flags, length = struct.unpack(">HHBBHH", octets[at:at + 10])
+        if rtype == 41:
+            found.append((size, code, version, flags, octets[at + 10:at + 10 + length]))
+        at += 10 + length
+    return found
+
+
+def ask_clients(what, port):
+    plain = (1232, 0, 0, 0, b"")
+    clients = [("a client with a cookie", opt(0, b"\0\12\0\10abcdefgh"), [plain]), ("another with a cookie", opt(0, b"\0\12\0\10ijklmnop"), [plain]),
+               ("one without EDNS", b"", []), ("one with DO", opt(flags=0x8000), [(1232, 0, 0, 0x8000, b"")]),
+               ("one with a cookie and DO", opt(0, b"\0\12\0\10qrstuvwx", flags=0x8000), [(1232, 0, 0, 0x8000, b"")])]
+    for name, rtype in [("www.example", 1), ("mail.example", 15), ("none.example", 1), ("www.elsewhere", 1), ("many.example", 1)]:
+        for _ in range(2):
+            for why, more, wanted in clients:
+                asked = query(name, rtype, more=more, ar=1 if more else 0, number=0x7777)
+                for got in [by_datagram(port, asked), by_stream(port, asked)]:
+                    expect(got is not None and got[:2] == b"ww" and got[12:12 + len(question(name, rtype))] == question(name, rtype), "%s: %s: %r" % (what, why, got))
+                    expect(opt_in(got) == wanted, "%s: %s asks for %s: %r" % (what, why, name, opt_in(got)))
+    print("%s: clients with cookies, without EDNS and with DO get OPT as they may" % what)
+
+
+def by_stream(port, octets):
     with stream(port) as s:
-        for octet in framed(query("www.example", number=9)):
-            s.sendall(bytes([octet]))
-            time.sleep(0.002)
-        got = frame(s)
-        expect(got is not None and got[:2] == b"\0\x09" and got[7] == 2, "%s: a query octet by octet: %r" % (what, got))
-        s.sendall(framed(query("www.example", number=10)) + framed(query("mail.example", 15, number=11)))
-        both = sorted(octets[:2] for octets in [frame(s), frame(s)])
-        expect(both == [b"\0\x0a", b"\0\x0b"], "%s: two queries in one write: %r" % (what, both))
-        s.sendall(framed(b"short"))
-        expect(frame(s) is None, "%s: a frame without a header does not end its stream" % what)
-    many = []
-    for _ in range(101):
-        many.append(stream(port))
-        time.sleep(0.005)
-    time.sleep(0.3)
-    many[0].settimeout(2)
-    try:
-        expect(many[0].recv(1) == b"", "%s: the quietest of 101 streams is not closed" % what)
-    except ConnectionResetError:
-        pass
-    for at in [1, 50, 100]:
-        many[at].sendall(framed(query("www.example", number=at)))
-        got = frame(many[at])
-        expect(got is not None and got[1] == at, "%s: stream %d of 101: %r" % (what, at, got))
-    for s in many:
-        s.close()
-    print("%s: a query octet by octet, two at once, and 101 streams" % what)
-    deaf = socket.socket(socket.AF_INET, socket.SOCK_STREAM)
-    deaf.setsockopt(socket.SOL_SOCKET, socket.SO_RCVBUF, 4096)
-    deaf.connect(("127.0.0.1", port))
-    deaf.setblocking(False)
-    asked = framed(query("huge.example", 16, number=12))
-    sent, closed, began, longest = 0, False, time.time(), 0
-    while sent < 1000 * len(asked) and time.time() - began < 60:
-        try:
-            sent += deaf.send(asked)
-        except BlockingIOError:
-            time.sleep(0.01)
-        except (ConnectionResetError, BrokenPipeError):
-            closed = True
+        s.sendall(framed(octets))
+        return frame(s)
+
+
+def start(program, port, server, options=(), conf=b"nameserver 127.0.0.1\n", **how):
+    """A forwarder that is listened at a port and asks a server, once it can be asked."""
+    forwarder = subprocess.Popen([program, *options, "--port", str(server), str(port), TURNS], stdin=subprocess.PIPE, **how)
+    forwarder.stdin.write(conf)
+    forwarder.stdin.close()
+    at = options[1] if options[:1] == ["--listen"] else "127.0.0.1"
+    STARTED.append(forwarder)
+    for _ in range(200):
+        if forwarder.poll() is not None or by_datagram(port, query("example", 252), 0.1, at) is not None:
             break
-        if sent % (100 * len(asked)) == 0:
-            began_one = time.time()
-            got = by_datagram(port, query("www.example", number=13), 20)
-            longest = max(longest, time.time() - began_one)
-            expect(got is not None, "%s: nothing is served beside a peer that reads nothing" % what)
-    pages = int(Path("/proc/%d/statm" % process.pid).read_text().split()[1])
-    expect(pages * 4 < 100_000, "%s: %d KiB of memory beside a peer that reads nothing" % (what, pages * 4))
-    print("%s: a peer that read nothing of what %d queries brought %s; %d KiB of memory; another waited %.3f s at most"
-          % (what, sent // len(asked), "was closed" if closed else "stays", pages * 4, longest))
-    deaf.close()
+        time.sleep(0.05)
+    return forwarder
+
+
+def ends_by(forwarder, number):
+    forwarder.send_signal(number)
+    try:
+        return forwarder.wait(1)
+    except subprocess.TimeoutExpired:
+        forwarder.kill()
+        return None
+
+
+def ask_getent(program, server, folder):
+    """glibc's resolver asks port 53 alone, of the servers of /etc/resolv.conf. It takes an answer without records, AA and RA for none, so that the server behind
+    must be a resolver."""
+    if not shutil.which("getent") or subprocess.run(["unshare", "--mount", "true"], stderr=subprocess.DEVNULL).returncode:
+        return print("skipped: no getent, or no mount namespace can be made")
+    (folder / "resolv.conf").write_text("nameserver 127.0.0.153\n")
+    (folder / "nsswitch.conf").write_text("hosts: dns\n")
+    forwarder = start(program, 53, server, ["--listen", "127.0.0.153"])
+    if forwarder.poll() is not None:
+        return print("skipped: port 53 can't be listened")
+    mounted = "".join("mount --bind %s/%s /etc/%s && " % (folder, name, name) for name in ["resolv.conf", "nsswitch.conf"])
+    for words, wanted in [("ahosts www.example", {"192.0.2.1", "192.0.2.2", "2001:db8::1"}), ("hosts www.example", {"2001:db8::1"}), ("ahostsv4 chain1.example", {"192.0.2.1", "192.0.2.2"}),
+                          ("ahosts missing.example", set()), ("ahostsv4 many.example", {"10.0.0.%d" % n for n in range(200)})]:
+        ran = subprocess.run(["unshare", "--mount", "--propagation", "private", "sh", "-c", mounted + "getent " + words], capture_output=True, text=True)
+        found = {line.split()[0] for line in ran.stdout.splitlines()}
+        expect(found == wanted, "getent %s: %r, %s" % (words, found, ran.stderr))
+    ends_by(forwarder, signal.SIGKILL)
+    print("getent: glibc's resolver is answered")
+
+
+def ask_dnsperf(port, folder):
+    if not shutil.which("dnsperf"):
+        return print("skipped: no dnsperf")
+    (folder / "asked").write_text("".join("o%d.example A\nn%d.wild.example A\nwww.example AAAA\n" % (n % len(odd_queries()), n) for n in range(2000)))
+    out = subprocess.run(["dnsperf", "-s", "127.0.0.1", "-p", str(port), "-d", str(folder / "asked"), "-n", "2", "-c", "4", "-q", "40"], capture_output=True, text=True).stdout
+    told = re.search(r"Queries completed:\s+(\d+)", out), re.search(r"NOERROR (\d+)", out)
+    expect(all(it and int(it.group(1)) == 12000 for it in told), "dnsperf: " + out)
+    print("dnsperf: 12000 queries are answered")
+
+
+def ask_words(program, server):
+    port = free_port()
+    for words, wanted in [(["--listen", "0.0.0.0", "5353", "1"], 2), (["--listen", "::", "5353", "1"], 2), (["--policy", "other", "5353", "1"], 2), (["0", "1"], 2)]:
+        ran = subprocess.run([program, *words], input=b"nameserver 127.0.0.1\n", capture_output=True)
+        expect((ran.returncode, ran.stdout) == (wanted, b""), "%r: status %d, %r" % (words, ran.returncode, ran.stdout))
+    with socket.socket(socket.AF_INET, socket.SOCK_DGRAM) as used:
+        used.bind(("127.0.0.1", port))
+        ran = subprocess.run([program, "--port", str(server), str(port), "1"], input=b"nameserver 127.0.0.1\n", capture_output=True)
+    expect((ran.returncode, ran.stdout) == (5, b""), "a port in use: status %d, %r" % (ran.returncode, ran.stdout))
+    ran = subprocess.run([program, "--port", str(port), str(port), "1"], input=b"nameserver 127.0.0.1\n", capture_output=True)
+    expect(ran.returncode == 5, "a server that is the forwarder: status %d" % ran.returncode)
+    listens = ["--listen", "127.0.0.2", "--listen", "127.0.0.3"]
+    if Path("/proc/net/if_inet6").exists() and Path("/proc/net/if_inet6").read_text():
+        listens += ["--listen", "::1"]
+    forwarder = start(program, port, server, listens)
+    for at in listens[1::2]:
+        got = by_datagram(port, query("www.example"), 3, at), by_stream_at(at, port, query("www.example"))
+        expect(all(it is not None and status(it) == 0 and it[7] == 2 for it in got), "listened at %s: %r" % (at, got))
+    expect(by_datagram(port, query("www.example"), 0.3) is None, "it is listened at an address that was not said")
+    ends_by(forwarder, signal.SIGKILL)
+    closed = subprocess.Popen(["sh", "-c", 'exec "$@" 2>&-', "", program, "--status", "1", "--port", str(server), str(port), TURNS], stdin=subprocess.PIPE)
+    STARTED.append(closed)
+    closed.stdin.write(b"nameserver 127.0.0.1\n")
+    closed.stdin.close()
+    time.sleep(2.5)
+    got = by_datagram(port, query("www.example"))
+    expect(closed.poll() is None and got is not None and status(got) == 0, "with standard error closed: %r, %r" % (closed.poll(), got))
+    ends_by(closed, signal.SIGKILL)
+    told = start(program, port, server, ["--status", "1"], stderr=subprocess.PIPE)
+    for _ in range(3):
+        expect(by_datagram(port, query("www.example")) is not None, "no answer beside --status")
+    time.sleep(2.2)
+    ends_by(told, signal.SIGKILL)
+    lines = told.stderr.read().decode().splitlines()
+    expect(len(lines) >= 2 and all(re.match(r"dns_forward: answered \d+, hits \d+, misses \d+, refused \d+, stale \d+, memory [1-9]\d* KiB$", it) for it in lines), "--status 1: %r" % lines)
+    practised = start(program, port, server, ["--policy", "practice"], conf=b"nameserver 127.0.0.77\nnameserver 127.0.0.1\n")
+    for n in range(8):
+        got = by_datagram(port, query("o%d.example" % n))
+        expect(got is not None and status(got) == 0 and got[7] == 1, "--policy practice with a dead server: %r" % got)
+    ends_by(practised, signal.SIGKILL)
+    print("words: the statuses, other addresses, standard error closed, --status and --policy practice")
+
+
+def by_stream_at(at, port, octets):
+    with socket.create_connection((at, port), 5) as s:
+        s.sendall(framed(octets))
+        return frame(s)
 
 
 def main():
-    if len(sys.argv) != 2:
+    if len(sys.argv) < 2:
         sys.exit(__doc__)
     program = os.path.abspath(sys.argv[1])
-    servers = [(name, SERVERS[name]) for name in ["nsd", "named"] if shutil.which(name)]
+    made = {"nsd": SERVERS["nsd"], "named": SERVERS["named"], "knotd": knotd, "unbound": SERVERS["unbound"]}
+    servers = [(name, made[name]) for name in sys.argv[2:] or made if shutil.which(name)]
     if not servers or not shutil.which("dig"):
-        skipped("neither NSD nor BIND, or no dig")
-    for name, start in servers:
+        skipped("none of the servers, or no dig")
+    for number, (name, serving_words) in enumerate(servers):
         with tempfile.TemporaryDirectory() as place:
             folder = Path(place)
             os.chmod(place, 0o755)
-            (folder / "zone").write_text(zone() + "".join("o%d A 10.9.0.%d\n" % (n, n) for n in range(len(odd_queries()))))
+            (folder / "zone").write_text(zone() + RECORDS + "".join("o%d A 10.9.0.%d\n" % (n, n) for n in range(len(odd_queries()))))
             server, port = free_port(), free_port()
             with open(folder / "server.log", "wb") as log:
-                serving = subprocess.Popen(start(folder, server), stdout=log, stderr=log)
+                serving = subprocess.Popen(serving_words(folder, server), stdout=log, stderr=log)
             forwarder = None
             try:
                 for _ in range(100):
@@ -255,20 +399,19 @@ def main():
                 else:
                     print((folder / "server.log").read_text())
                     skipped("the %s of this machine does not serve" % name)
-                forwarder = subprocess.Popen([program, "--port", str(server), str(port), "18446744073709551615"], stdin=subprocess.PIPE)
-                forwarder.stdin.write(b"nameserver 127.0.0.1\n")
-                forwarder.stdin.close()
-                time.sleep(0.5)
+                if number == 0:
+                    ask_words(program, server)
+                if name == "unbound":
+                    ask_getent(program, server, folder)
+                forwarder = start(program, port, server)
                 expect(forwarder.poll() is None, "%s: the forwarder ended by %r" % (name, forwarder.poll()))
+                ask_ninety(name, server, port)
                 compare_sections(name, server, port)
+                ask_clients(name, port)
                 ask_odd(name, port)
-                ask_streams(name, port, forwarder)
-                forwarder.send_signal(signal.SIGTERM)
-                try:
-                    ended = forwarder.wait(1)
-                except subprocess.TimeoutExpired:
-                    ended = None
-                expect(ended == -signal.SIGTERM, "%s: SIGTERM ends it by %r" % (name, ended))
+                if number == 0:
+                    ask_dnsperf(port, folder)
+                expect(ends_by(forwarder, signal.SIGTERM) == -signal.SIGTERM, "%s: SIGTERM ends it by %r" % (name, forwarder.poll()))
             finally:
                 for it in [serving, forwarder]:
                     if it and it.poll() is None:
