@@ -39,13 +39,18 @@ def address(number):
     return "192.0.2.%d" % (number % 250 + 1)
 
 
+def address_in(octets, asked):
+    """The address of an answer's first record, whose owner is the name that was asked."""
+    return octets[len(asked) + 12:len(asked) + 16] if octets[len(asked):len(asked) + 2] == b"\xc0\x0c" else None
+
+
 def nsd(folder, port):
     records = "".join("name%d A %s\n" % (number, address(number)) for number in range(NAMES))
     (folder / "zone").write_text("$ORIGIN example.\n$TTL 300\n@ SOA ns admin 1 3600 600 86400 60\n NS ns\nns A 127.0.0.1\n" + records)
     (folder / "nsd.conf").write_text(
         "server:\n ip-address: 127.0.0.1\n port: %d\n username: \"\"\n zonesdir: \"%s\"\n database: \"\"\n pidfile: \"%s/nsd.pid\"\n"
-        " logfile: \"%s/nsd.log\"\n xfrdfile: \"%s/xfrd\"\n zonelistfile: \"%s/list\"\nremote-control:\n control-enable: no\n"
-        "zone:\n name: example\n zonefile: zone\n" % (port, folder, folder, folder, folder, folder))
+        " logfile: \"%s/nsd.log\"\n xfrdfile: \"%s/xfrd\"\n xfrdir: \"%s\"\n zonelistfile: \"%s/list\"\nremote-control:\n control-enable: no\n"
+        "zone:\n name: example\n zonefile: zone\n" % (port, *[folder] * 6))
     return ["nsd", "-d", "-c", str(folder / "nsd.conf")]
 
 
@@ -61,9 +66,10 @@ def dnsdist(folder, port, forwarders):
 def is_answered(port, number=0, seconds=0.5):
     with socket.socket(socket.AF_INET, socket.SOCK_DGRAM) as s:
         s.settimeout(seconds)
-        s.sendto(struct.pack(">HHHHHH", 1, 0x0100, 1, 0, 0, 0) + question("name%d.example" % number), ("127.0.0.1", port))
+        asked = struct.pack(">HHHHHH", 1, 0x0100, 1, 0, 0, 0) + question("name%d.example" % number)
+        s.sendto(asked, ("127.0.0.1", port))
         try:
-            return s.recv(512)[-4:] == socket.inet_aton(address(number))
+            return address_in(s.recv(512), asked) == socket.inet_aton(address(number))
         except OSError:
             return False
 
@@ -95,7 +101,7 @@ class Asked:
     def take(self):
         octets = self.socket.recv(512)
         expect(octets[:2] == self.octets[:2] and octets[12:len(self.octets)] == self.octets[12:], "an answer to another question")
-        expect(octets[3] & 15 == 0 and octets[-4:] == socket.inet_aton(address(self.number)), "a wrong answer of name%d" % self.number)
+        expect(octets[3] & 15 == 0 and address_in(octets, self.octets) == socket.inet_aton(address(self.number)), "a wrong answer of name%d" % self.number)
 
 
 def ask(port, kill):
