@@ -330,6 +330,9 @@ def ask_words(program, server):
     for words, wanted in [(["--listen", "0.0.0.0", "5353", "1"], 2), (["--listen", "::", "5353", "1"], 2), (["--policy", "other", "5353", "1"], 2), (["0", "1"], 2)]:
         ran = subprocess.run([program, *words], input=b"nameserver 127.0.0.1\n", capture_output=True)
         expect((ran.returncode, ran.stdout) == (wanted, b""), "%r: status %d, %r" % (words, ran.returncode, ran.stdout))
+    for conf, wanted in [(b"nameserver x\n", (1, b"line 1 refused\n")), (b"nameserver 127.0.0.1\n", (0, b"answered 0\n"))]:
+        ran = subprocess.run([program, "--port", str(server), str(port), "1"], input=conf, capture_output=True)
+        expect((ran.returncode, ran.stdout) == wanted, "%r: status %d, %r" % (conf, ran.returncode, ran.stdout))
     with socket.socket(socket.AF_INET, socket.SOCK_DGRAM) as used:
         used.bind(("127.0.0.1", port))
         ran = subprocess.run([program, "--port", str(server), str(port), "1"], input=b"nameserver 127.0.0.1\n", capture_output=True)
