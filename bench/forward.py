@@ -3,7 +3,7 @@
 
     python3 bench/forward.py PROGRAM [ROUNDS [SECONDS]]
 
-PROGRAM is the built dns_forward. An NSD on loopback has an answer for every name. Each forwarder is one process of one thread; with two
+PROGRAM is the built dns_forward. An NSD on loopback has an answer of one record for every name, since Unbound hands on no more of it. Each forwarder is one process of one thread; with two
 processors or more it is kept on the first, and dnsperf with NSD on the others. In ROUNDS rounds (5), in turn, dnsperf asks each for SECONDS seconds
 (3): first for 1,000 names that it has answered before, which are hits, then for names that were never asked, which are misses. The
 processor time of the forwarder's process by queries that were answered is told, and its share in the system, round by round, and then
@@ -151,7 +151,7 @@ def main():
     server = free_port()
     with tempfile.TemporaryDirectory() as place:
         os.chmod(place, 0o755)
-        nsd = serve(place, server)
+        nsd = serve(place, server, "  minimal-responses: yes\n")
         try:
             taken = measure(os.path.abspath(sys.argv[1]), Path(place), {}, server, rounds, seconds)
         finally:

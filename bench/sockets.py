@@ -38,8 +38,8 @@ def free_port():
         return it.getsockname()[1]
 
 
-def serve(folder, port):
-    """An NSD at each of the addresses."""
+def serve(folder, port, more=""):
+    """An NSD at each of the addresses, with more lines for its server."""
     with open(os.path.join(folder, "zone"), "w") as it:
         it.write(ZONE)
     addresses = "".join("  ip-address: 127.0.1.%d\n" % (n + 1) for n in range(ADDRESSES))
@@ -56,12 +56,12 @@ def serve(folder, port):
   logfile: "%s/log"
   server-count: 1
   rrl-ratelimit: 0
-remote-control:
+%sremote-control:
   control-enable: no
 zone:
   name: example
   zonefile: zone
-""" % (addresses, port, folder, folder, folder, folder, folder))
+""" % (addresses, port, folder, folder, folder, folder, folder, more))
     nsd = subprocess.Popen([shutil.which("nsd") or "/usr/sbin/nsd", "-d", "-c", os.path.join(folder, "nsd.conf")],
                            stdout=subprocess.DEVNULL, stderr=subprocess.DEVNULL)
     query = bytes.fromhex("000100000001000000000000") + b"\x03www\x07example\x00\x00\x01\x00\x01"

@@ -31,7 +31,7 @@ fn takes_all(alloc: Global) -> Option<bool> {
         IpAddr::V6([0, 0, 0, 0, 0, 0, 0, 1]),
     ];
     Some(
-        *options.listened.as_slice() == listened
+        options.listened.as_slice() == listened.as_slice()
             && options.port == Some(5300)
             && options.entries == 50
             && options.stale == 0

@@ -33,6 +33,6 @@ fn clients_are_answered_by_datagram_and_stream(rt: HostRuntime) -> Result<(), Fa
     assert!(rt; count == 12 && datagram == ANSWER);
     let mut frame = [0u8; 14];
     stream.read_exact(&mut frame)?;
-    assert!(rt; frame[..2] == [0, 12] && frame[2..] == ANSWER);
+    assert!(rt; frame[..2] == [0u8, 12][..] && frame[2..] == ANSWER[..]);
     Ok(())
 }
