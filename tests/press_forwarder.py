@@ -227,6 +227,8 @@ def flood(port, rate, seconds, sent):
 
 
 def press_by_flood(port, process):
+    # From here on the most memory that it had is told anew (proc(5)).
+    Path("/proc/%d/clear_refs" % process.pid).write_text("5")
     before = memory(process)
     sent = multiprocessing.Value("i", 0)
     flooding = multiprocessing.Process(target=flood, args=(port, 14_000, 20, sent), daemon=True)
