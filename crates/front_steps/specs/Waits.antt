@@ -1,5 +1,5 @@
 -- The queries that wait, and what is put out for them.
-use Rattle.std.specs.Prelude.{ℕ, ◌+◌, ◌-◌, ◌++◌, nat_lt, Bool, true, false, List, [], ◌∷◌, length, Option, Some, None, option_and_then, option_map, Result}
+use Rattle.std.specs.Prelude.{ℕ, ◌+◌, ◌-◌, ◌++◌, ◌&&◌, nat_lt, Bool, true, false, List, [], ◌∷◌, length, Option, Some, None, option_and_then, option_map, Result}
 use Rattle.std.specs.BTreeMap.{insert_entry, is_at}
 use Rattle.std.specs.Cmp.Lexicographic.{slice_cmp}
 use Rattle.std.specs.Map.{lookup, remove_entry}
@@ -37,6 +37,16 @@ same_asked key w = option_and_then (if_it_waits w.requests) (lookup (is_key key)
 -- there is room for one more query: at most 10,000 wait
 abbrev pub has_room : Waits → Bool
 has_room w = nat_lt w.count 10000
+
+-- how many queries wait for a reply, beside the first
+abbrev pub others_of : Option Waiting → ℕ
+others_of None = 0
+others_of (Some waiting) = length waiting.others
+
+-- A query may wait for the reply to a request: there is room, and by a stream fewer than 250 wait for it beside the first.
+abbrev pub may_join : (number : ℕ) → (by_stream : Bool) → Waits → Bool
+may_join number false w = has_room w
+may_join number true w = has_room w && nat_lt (others_of (entry_at number w.requests)) 250
 
 -- a query waits for the reply to a request that was asked before
 abbrev pub joins_one : (number : ℕ) → Asker → Waits → Option Waiting → Waits

@@ -18,6 +18,9 @@ use std::marker::Model;
 /// How many queries may wait.
 const MOST_WAITING: u64 = 10000;
 
+/// How many queries may wait for one reply before one that came by a stream, since all its answers are made at once, and by a stream one may have 65,535 octets.
+const MOST_BY_STREAM: usize = 250;
+
 /// The queries that wait for the reply to one request.
 #[derive(Drop)]
 pub struct Waiting {
@@ -98,6 +101,23 @@ impl Waits {
             Some(number)
         } else {
             None
+        }
+    }
+
+    /// Whether one more query may wait for the reply to a request.
+    pub(crate) fn may_join(&self, number: u64, by_stream: bool) -> bool
+        ensures { result ≡ spec.may_join number by_stream self.now }
+    {
+        self.has_room() && (!by_stream || self.others(number) < MOST_BY_STREAM)
+    }
+
+    /// How many queries wait for the reply to a request, beside the first.
+    fn others(&self, number: u64) -> usize
+        ensures { result ≡ spec.others_of (entry_at number self.now.requests) }
+    {
+        match self.requests.get(number) {
+            Some(waiting) => waiting.others.len(),
+            None => 0,
         }
     }
 
