@@ -35,25 +35,25 @@ module _ (c : Conf) (end : History) (t : Scene) (servers : c.servers ≡ map use
     so_begun : (s : ℕ) (v : Via) → started k s v end ≡ true → is_some (start_of s v (listed k t.ledger.now.books.requests.starts)) ≡ true
     so_begun s v e = ap is_some (known.ledger.books.requests.starts k s v) ∙ e
 
-    seen_is : busy_seen t k ≡ (some_serves (listed k t.ledger.now.books.requests.starts) t || some_open a.request k (listed k t.waits.now.spots) t)
+    seen_is : busy_seen t k ≡ (some_open a.request k (listed k t.waits.now.spots) t || some_serves (listed k t.ledger.now.books.requests.starts) t)
     seen_is = ap (λ o. is_busy_as k o t) (known.ledger.books.requests.askings k ∙ asked)
 
     busy_so : busy_seen t k ≡ true → IsBusy c k end
-    busy_so e = go (either (some_serves (listed k t.ledger.now.books.requests.starts) t) _ (sym seen_is ∙ e))
+    busy_so e = go (either (some_open a.request k (listed k t.waits.now.spots) t) _ (sym seen_is ∙ e))
       where
-        go : (some_serves (listed k t.ledger.now.books.requests.starts) t ≡ true) ⊎ (some_open a.request k (listed k t.waits.now.spots) t ≡ true) → IsBusy c k end
-        go (inl e) = (let f = start_so (listed k t.ledger.now.books.requests.starts) t e in (f.0, serves_so c end t known k f.1.0 f.0 (begun_so f.0 f.1.0 f.1.1.0) f.1.1.1))
-        go (inr e) = some_so c end t servers known k a.moment a.request asked waiting (listed k t.waits.now.spots) e
+        go : (some_open a.request k (listed k t.waits.now.spots) t ≡ true) ⊎ (some_serves (listed k t.ledger.now.books.requests.starts) t ≡ true) → IsBusy c k end
+        go (inl e) = some_so c end t servers known k a.moment a.request asked waiting (listed k t.waits.now.spots) e
+        go (inr e) = (let f = start_so (listed k t.ledger.now.books.requests.starts) t e in (f.0, serves_so c end t known k f.1.0 f.0 (begun_so f.0 f.1.0 f.1.1.0) f.1.1.1))
 
     served : (s : ℕ) (v : Via) → started k s v end ≡ true → serves v s t ≡ true → busy_seen t k ≡ true
-    served s v begun e = seen_is ∙ first_true _ _ (so_start s v (listed k t.ledger.now.books.requests.starts) t (so_begun s v begun) e)
+    served s v begun e = seen_is ∙ second_true (some_open a.request k (listed k t.waits.now.spots) t) _ (so_start s v (listed k t.ledger.now.books.requests.starts) t (so_begun s v begun) e)
 
     so_busy : (s : ℕ) → IsBusyAt c s k end → busy_seen t k ≡ true
-    so_busy s (Exchanging r v u p id begun open) =
-        let same : r ≡ a.request = sym (ap (request_or r) (sym asked ∙ open.stands.asked.1)) in
+    so_busy s (Exchanging r v u p id begun left) =
+        let same : r ≡ a.request = sym (ap (request_or r) (sym asked ∙ left.stands.asked.1)) in
         seen_is
-        ∙ second_true (some_serves (listed k t.ledger.now.books.requests.starts) t) _
-        (so_some c end t servers known k a.moment a.request asked waiting v u s p id begun (subst (λ (r : Request). IsLeftOpen c r v s p k id end) same open))
+        ∙ first_true _ _
+        (so_some c end t servers known k a.moment a.request asked waiting v u s p id begun (subst (λ (r : Request). IsLeftOpen c r v s p k id end) same left))
     so_busy s (PlaceIsOpening p begun at st) = served s Dgram begun (opens_so c end t known k s p at st)
     so_busy s (PlacesAreTaken begun le) = served s Dgram begun (taken_so c end t known k s le)
     so_busy s (StreamIsOpening p begun at st) = served s Stream begun (stream_so c end t known k s p at st)

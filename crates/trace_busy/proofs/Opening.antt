@@ -138,9 +138,9 @@ module _ (c : Conf) (end : History) (t : Scene) (servers : c.servers ≡ map use
       let i = both (y.request == k) (y.id == id) q.0 in
       let am : IsAmong y.octets (octets_of y.request y.id t.ledger.now.books.requests.clock (reverse (listed p t.sends.now))) = so_sent t.ledger.now.books.requests.clock y (reverse (listed p t.sends.now)) (reverse_in y (listed p t.sends.now) f.there) q.1 in
       let an : IsAmong y.octets (octets_of k id (now end) (reverse (listed p t.sends.now))) =
-          subst (λ (n : ℕ). IsAmong y.octets (octets_of k id n (reverse (listed p t.sends.now)))) known.ledger.books.requests.time
-          (subst (λ (id : ℕ). IsAmong y.octets (octets_of k id t.ledger.now.books.requests.clock (reverse (listed p t.sends.now)))) (same_number y.id id i.1)
-          (subst (λ (k : ℕ). IsAmong y.octets (octets_of k y.id t.ledger.now.books.requests.clock (reverse (listed p t.sends.now)))) (same_number y.request k i.0) am)) in
+      subst (λ (n : ℕ). IsAmong y.octets (octets_of k id n (reverse (listed p t.sends.now)))) known.ledger.books.requests.time
+      (subst (λ (id : ℕ). IsAmong y.octets (octets_of k id t.ledger.now.books.requests.clock (reverse (listed p t.sends.now)))) (same_number y.id id i.1)
+      (subst (λ (k : ℕ). IsAmong y.octets (octets_of k y.id t.ledger.now.books.requests.clock (reverse (listed p t.sends.now)))) (same_number y.request k i.0) am)) in
       (y.octets, subst (IsAmong y.octets) (known.sends.waits k p id (now end) (record { request = r; moment = m }) kind asked) an, carries_so Dgram y.octets r id f.carries)
 
   so_dgram : (r : Request) (k p id : ℕ) (m : ℕ) → asking k end ≡ Some (record { request = r; moment = m }) → is_of_kind Stream (site p end) ≡ false → (o : Octets) → IsAmong o (unanswered r p k id (now end) end) → CarriesBy Dgram o r id
@@ -251,23 +251,23 @@ module _ (c : Conf) (end : History) (t : Scene) (servers : c.servers ≡ map use
     handed_is s Stream e = second_true (started_seen k s Dgram t.ledger.now.books.requests) _ (begun_is k s Stream ∙ e)
 
     at_entry : (v u : Via) (p id s : ℕ) (o : Option Place) → site_seen o ≡ Some (record { via = v; server = s }) → stand_seen o ≡ Alive → s < length c.servers → started k s u end ≡ true → is_open_by v r k p id s t ≡ true → is_open_at r k (record { place = p; id = id }) o t ≡ true
-    at_entry v u p id s None e st lt begun open = absurd (let z : None ≡ Some (record { via = v; server = s }) = e in cc)
-    at_entry v u p id s (Some x) e st lt begun open =
+    at_entry v u p id s None e st lt begun left = absurd (let z : None ≡ Some (record { via = v; server = s }) = e in cc)
+    at_entry v u p id s (Some x) e st lt begun left =
         let i : x.via ≡ v = ap via_or e in
         let j : x.server ≡ s = ap server_or e in
         all (is_alive (stand_of x.stand) && nat_lt x.server (length t.servers.now)) _
         (all (is_alive (stand_of x.stand)) (nat_lt x.server (length t.servers.now)) (ap is_alive st) (so_lt x.server (length t.servers.now) (subst (λ (n : ℕ). x.server < n) long (subst (λ (s : ℕ). s < length c.servers) (sym j) lt))))
         (all (is_handed k x.server t) _ (ap (λ (s : ℕ). is_handed k s t) j ∙ handed_is s u begun)
-        (ap₂ (λ (v : Via) (s : ℕ). is_open_by v r k p id s t) i j ∙ open))
+        (ap₂ (λ (v : Via) (s : ℕ). is_open_by v r k p id s t) i j ∙ left))
 
     some_at : (p id : ℕ) (ys : List Spot) → is_spot p id ys ≡ true → is_open_at r k (record { place = p; id = id }) (entry_at p t.ledger.now.books.places) t ≡ true → some_open r k ys t ≡ true
-    some_at p id [] e open = absurd (cc)
-    some_at p id (y ∷ ys) e open = go (λ e. some_at p id ys e open) (either ((y.place == p) && (y.id == id)) _ e)
+    some_at p id [] e left = absurd (cc)
+    some_at p id (y ∷ ys) e left = go (λ e. some_at p id ys e left) (either ((y.place == p) && (y.id == id)) _ e)
       where
         go : (is_spot p id ys ≡ true → some_open r k ys t ≡ true) → (((y.place == p) && (y.id == id)) ≡ true) ⊎ (is_spot p id ys ≡ true) → (is_open_at r k y (entry_at y.place t.ledger.now.books.places) t || some_open r k ys t) ≡ true
         go rest (inl e) =
             let q = both (y.place == p) (y.id == id) e in
-            first_true _ _ (ap₂ (λ (p id : ℕ). is_open_at r k (record { place = p; id = id }) (entry_at p t.ledger.now.books.places) t) (same_number y.place p q.0) (same_number y.id id q.1) ∙ open)
+            first_true _ _ (ap₂ (λ (p id : ℕ). is_open_at r k (record { place = p; id = id }) (entry_at p t.ledger.now.books.places) t) (same_number y.place p q.0) (same_number y.id id q.1) ∙ left)
         go rest (inr e) = second_true _ _ (rest e)
 
     pub so_some : (v u : Via) (s p id : ℕ) → started k s u end ≡ true → IsLeftOpen c r v s p k id end → some_open r k (listed k t.waits.now.spots) t ≡ true

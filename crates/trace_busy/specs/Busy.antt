@@ -97,7 +97,7 @@ some_serves (x ∷ xs) t = serves x.via x.server t || some_serves xs t
 
 abbrev pub is_busy_as : (k : ℕ) → Option Asking → Scene → Bool
 is_busy_as k None t = false
-is_busy_as k (Some a) t = some_serves (listed k t.ledger.now.books.requests.starts) t || some_open a.request k (listed k t.waits.now.spots) t
+is_busy_as k (Some a) t = some_open a.request k (listed k t.waits.now.spots) t || some_serves (listed k t.ledger.now.books.requests.starts) t
 
 abbrev pub busy_seen : Scene → (k : ℕ) → Bool
 busy_seen t k = is_busy_as k (entry_at k t.ledger.now.books.requests.askings) t

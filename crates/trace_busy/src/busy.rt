@@ -384,10 +384,10 @@ impl<'a> Scene<'a> {
         let Some(asked) = self.ledger.books.requests.askings.get(request) else {
             return Ok(false);
         };
-        if self.some_serves_of(request) {
+        if self.some_open_of(alloc, &asked.request, request)? {
             return Ok(true);
         }
-        self.some_open_of(alloc, &asked.request, request)
+        Ok(self.some_serves_of(request))
     }
 
     fn all_busy(&self, alloc: Global, requests: &Members) -> Result<bool, NoMemory>

@@ -28,6 +28,10 @@ as_long [] = refl
 as_long (u ∷ us) = ap suc (as_long us)
 
 module _ (t : Point) (l : Loads) (d : Held) where
+  -- of an out that is this one
+  pub of_out : (o : Out) {v : Out} (b : Bool) → o ≡ v → TellsOut t l d v b → TellsOut t l d o b
+  of_out o b e tells = subst (λ (o : Out). TellsOut t l d o b) (sym e) tells
+
   pub tells_server : (b : Bool) → b ≡ has_server_seen t → (c : Conf) (x h end : History) → Known c x h end t → (b ≡ true → HasServer c) × (HasServer c → b ≡ true)
   tells_server b e c x h end known = ((λ u. server_so c x h end t known (sym e ∙ u)), (λ s. e ∙ so_server c x h end t known s))
 

@@ -20,7 +20,12 @@ fn use_of(use_vc: bool, server: &ServerConf) -> ServerUse
     }
 }
 
-fn uses_of(alloc: Global, use_vc: bool, servers: &[ServerConf]) -> Result<Vec<ServerUse>, NoMemory>
+/// How each of these servers is used: by streams alone where its line says so, or `use_vc` does.
+pub fn uses_of(
+    alloc: Global,
+    use_vc: bool,
+    servers: &[ServerConf],
+) -> Result<Vec<ServerUse>, NoMemory>
     ensures { IfOk result (λ uses. uses.items ≡ map (plain.use_of use_vc) servers.now) }
 {
     let mut uses = Vec::new(alloc);

@@ -3,4 +3,4 @@
 
 mod judged;
 
-pub use judged::{conf_of, settings_of};
+pub use judged::{conf_of, settings_of, uses_of};
