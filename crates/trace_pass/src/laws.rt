@@ -1,8 +1,9 @@
 //! What is kept is what the definitions say.
 
-ghost use Rattle.trace_pass.specs.Pass.{BeginsKnown};
+ghost use Rattle.trace_pass.specs.Pass.{GoesOn};
 
-/// What is known before the first row is what the definitions of a right trace say.
-pub fn passes_begin()
-    ensures { BeginsKnown }
+/// What is known is what the definitions of a right trace say: before the first row, behind each event and out, and behind each
+/// row.
+pub fn passes_go_on()
+    ensures { GoesOn }
 {}

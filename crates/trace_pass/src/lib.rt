@@ -1,8 +1,8 @@
-//! A forward pass over a trace, row by row: what is known before a row, and whether the row is prompt.
+//! What is known at each point of a trace: one record of tables that events and outs go through, within a row or row by row.
 #![tactic(auto)]
 
 mod laws;
 mod pass;
 
-pub use laws::passes_begin;
+pub use laws::passes_go_on;
 pub use pass::Pass;

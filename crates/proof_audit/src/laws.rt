@@ -1,0 +1,8 @@
+//! What is said of replays.
+
+ghost use Rattle.proof_audit.specs.Replays.{ReplaysAreRight};
+
+/// Each trace of a replay is judged right by the script that it replays, and by nothing else is it judged. It does nothing.
+pub fn every_replay_is_judged_right()
+    ensures { ReplaysAreRight }
+{}

@@ -1,0 +1,9 @@
+//! Tests of what `trace_audit` says of traces, over sources and sinks in memory.
+#![tactic(auto)]
+
+#[cfg(test)]
+mod endings;
+#[cfg(test)]
+mod runs;
+#[cfg(test)]
+mod verdicts;

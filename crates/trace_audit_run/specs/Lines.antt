@@ -1,0 +1,31 @@
+-- The lines that are written.
+use Rattle.std.specs.Prelude.{ℕ, List, ◌++◌, codes}
+use Rattle.std.specs.Fmt.{decimal}
+use Rattle.trace_judge.specs.declared.verdict.Clause.{Clause}
+use Rattle.trace_judge.specs.declared.verdict.Clause.TheVariants.{Events, Messages, Firsts, Causes, Orders, Prompts}
+
+abbrev pub usage_line : List ℕ
+usage_line = codes "usage: trace_audit SCRIPT TRACE\n"
+
+abbrev pub right_line : List ℕ
+right_line = codes "right\n"
+
+abbrev pub long_line : List ℕ
+long_line = codes "input too long\n"
+
+abbrev pub script_line : ℕ → List ℕ
+script_line n = codes "script line " ++ decimal n ++ codes " refused\n"
+
+abbrev pub trace_line : ℕ → List ℕ
+trace_line n = codes "trace line " ++ decimal n ++ codes " refused\n"
+
+abbrev pub name_of : Clause → List ℕ
+name_of Events = codes "Events"
+name_of Messages = codes "H1"
+name_of Firsts = codes "H2"
+name_of Causes = codes "H3"
+name_of Orders = codes "H4"
+name_of Prompts = codes "H5"
+
+abbrev pub wrong_line : Clause → (row : ℕ) → List ℕ
+wrong_line x n = codes "wrong " ++ name_of x ++ codes " row " ++ decimal n ++ codes "\n"

@@ -1,0 +1,95 @@
+-- What the program says of the texts of a script and of a trace.
+use Rattle.std.specs.Prelude.{◌≡◌, ◌⊎◌, ◌<◌, ◌≤◌, ℕ, Bool, true, false, List, [], ◌∷◌, length, Option, Some, None, Result, Ok, Err, String}
+use Rattle.std.specs.declared.alloc.Global.{Global}
+use Rattle.std.specs.declared.vec.Vec.{Vec}
+use Rattle.client_request.specs.declared.event.Row.{Row}
+use Rattle.command_parts.specs.declared.ending.Ending.{Ending}
+use Rattle.command_parts.specs.Ends.{IsEarly, IsSaid, line_of, status_of}
+use Rattle.dns_script.specs.ScriptReading.{IsScript, RefusesLine}
+use Rattle.dns_script.specs.TraceReading.{IsTrace, RefusesTraceLine}
+use Rattle.dns_script.specs.declared.script.Script.{Script}
+use Rattle.trace_clauses.specs.Verdicts.{IsVerdict}
+use Rattle.trace_script.specs.Judged.{conf_of, settings_of}
+use Rattle.trace_judge.specs.Verdict.{first_lane, verdict_of}
+use Rattle.trace_judge.specs.declared.verdict.Clause.{Clause}
+use Rattle.trace_judge.specs.declared.verdict.Verdict.{Verdict}
+use Rattle.trace_judge.specs.declared.verdict.Verdict.TheVariants.{Wrong}
+use Rattle.trace_audit_run.specs.Lines.{script_line, trace_line, wrong_line}
+use Rattle.trace_audit_run.specs.Lines as lines
+
+abbrev pub are_two : List (String Global) → Bool
+are_two (a ∷ b ∷ []) = true
+are_two _ = false
+
+abbrev pub long_line : List ℕ
+long_line = lines.long_line
+
+-- the octets of a text that has at most so many, or that it has more
+abbrev pub IsRead : (most : ℕ) → (text : List ℕ) → Option (Vec ℕ Global) → Type 0
+IsRead most text None = most < length text
+IsRead most text (Some v) = (v.items ≡ text) × (length text ≤ most)
+
+-- it ends by this line, unless memory ran out
+pub record EndsBy (line : List ℕ) (e : Ending) : Type 0 where
+  pub status : (status_of e ≡ 1) ⊎ (status_of e ≡ 6)
+  pub early : IsEarly e
+  pub line_is : status_of e ≡ 1 → line_of e ≡ line
+
+-- it ends since a line is refused, unless memory ran out
+pub record RefusesBy (Refuses : ℕ → Type 0) (line : ℕ → List ℕ) (e : Ending) : Type 0 where
+  pub status : (status_of e ≡ 1) ⊎ (status_of e ≡ 6)
+  pub early : IsEarly e
+  pub refused : status_of e ≡ 1 → (n : ℕ) × Refuses n × (line_of e ≡ line n)
+
+abbrev pub RefusesScript : (text : List ℕ) → Ending → Type 0
+RefusesScript text e = RefusesBy (RefusesLine false text) script_line e
+
+abbrev pub RefusesTrace : (text : List ℕ) → Ending → Type 0
+RefusesTrace text e = RefusesBy (RefusesTraceLine text) trace_line e
+
+-- what is said of the text of a trace by a script
+pub record IsJudged (script : Script) (text : List ℕ) (v : Verdict) : Type 0 where
+  pub rows : List Row
+  pub is_trace : IsTrace text rows
+  pub verdict : IsVerdict (verdict_of v) (conf_of script.conf) (settings_of script.redundant script.cache) [] (first_lane script.lanes) rows
+
+-- The texts are a script and a trace, neither too long, and this is said of the trace.
+pub record IsAudited (a b : List ℕ) (v : Verdict) : Type 0 where
+  pub script_fits : length a ≤ 16777216
+  pub script : Script
+  pub is_script : IsScript false a script
+  pub trace_fits : length b ≤ 1073741824
+  pub judged : IsJudged script b v
+
+-- One of the texts is not taken, and this line says why; the trace is looked at only where the script is taken.
+pub data IsRefused (a b line : List ℕ) : Type 0 where
+  long_script : 16777216 < length a → line ≡ long_line → IsRefused a b line
+  bad_script : (n : ℕ) → length a ≤ 16777216 → RefusesLine false a n → line ≡ script_line n → IsRefused a b line
+  long_trace : (script : Script) → length a ≤ 16777216 → IsScript false a script → 1073741824 < length b → line ≡ long_line → IsRefused a b line
+  bad_trace : (script : Script) (n : ℕ) → length a ≤ 16777216 → IsScript false a script → length b ≤ 1073741824 → RefusesTraceLine b n → line ≡ trace_line n → IsRefused a b line
+
+pub record IsEnd (a b : List ℕ) (e : Ending) : Type 0 where
+  pub status : (status_of e ≡ 1) ⊎ (status_of e ≡ 6)
+  pub early : IsEarly e
+  pub refused : status_of e ≡ 1 → IsRefused a b (line_of e)
+
+abbrev pub IsAnswer : (a b : List ℕ) → Result Verdict Ending → Type 0
+IsAnswer a b (Ok v) = IsAudited a b v
+IsAnswer a b (Err e) = IsEnd a b e
+
+-- of each two texts that were read so
+abbrev pub Answers : (script trace : Option (Vec ℕ Global)) → Result Verdict Ending → Type 0
+Answers script trace r = (a b : List ℕ) → IsRead 16777216 a script → IsRead 1073741824 b trace → IsAnswer a b r
+
+-- The trace is wrong, and it is said where and in what.
+pub record WrongIsSaid (a b : List ℕ) (before after : Option (List ℕ)) (faults faults_after : ℕ) : Type 0 where
+  pub clause : Clause
+  pub row : ℕ
+  pub audited : IsAudited a b (Wrong clause row)
+  pub said : IsSaid (wrong_line clause row) before after faults faults_after
+
+-- A text is refused, and it is said why.
+pub record RefusalIsSaid (a b : List ℕ) (before after : Option (List ℕ)) (faults faults_after : ℕ) : Type 0 where
+  pub line : List ℕ
+  pub refused : IsRefused a b line
+  pub said : IsSaid line before after faults faults_after

@@ -1,0 +1,19 @@
+//! What the program `trace_audit` does, over two sources and a sink.
+//!
+//! The program itself, the crate `trace_audit`, only makes the real ones and hands them in. Over sources and a sink in memory the whole
+//! program is a value that can be tried:
+//!
+//! ```text
+//! let mut script = MemSource::new(script, Vec::new(alloc));
+//! let mut trace = MemSource::new(trace, Vec::new(alloc));
+//! let mut sink = MemSink::new(alloc, Vec::new(alloc), Vec::new(alloc));
+//! let status = run_audit(alloc, &words, &mut script, &mut trace, &mut sink);
+//! assert!(status.0 == 0 && sink.as_slice() == b"right\n");
+//! ```
+#![tactic(auto)]
+
+mod lines;
+mod run;
+mod texts;
+
+pub use run::run_audit;

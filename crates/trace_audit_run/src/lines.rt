@@ -1,0 +1,56 @@
+//! The lines that are written.
+
+ghost use Rattle.std.specs.Prelude.{◌≡◌, ◌++◌, IfOk, codes};
+ghost use Rattle.std.specs.Fmt.{decimal};
+ghost use Rattle.trace_audit_run.specs.Lines as plain;
+
+use std::alloc::{AllocError, Global};
+use trace_judge::Clause;
+
+/// What is written where the words are not two.
+pub(crate) const USAGE_LINE: &str = "usage: trace_audit SCRIPT TRACE\n";
+
+/// What is written where a trace is right.
+pub(crate) const RIGHT_LINE: &str = "right\n";
+
+/// What is written where a text is too long.
+pub(crate) const LONG_LINE: &str = "input too long\n";
+
+/// A line of the script is refused.
+pub(crate) fn script_line(alloc: Global, line: u64) -> Result<Vec<u8>, AllocError>
+    ensures { IfOk result (λ v. v.items ≡ plain.script_line line) }
+{
+    let text = format!(in alloc; "script line {line} refused\n")?;
+    Vec::from_slice(alloc, text.as_bytes())
+}
+
+/// A line of the trace is refused.
+pub(crate) fn trace_line(alloc: Global, line: u64) -> Result<Vec<u8>, AllocError>
+    ensures { IfOk result (λ v. v.items ≡ plain.trace_line line) }
+{
+    let text = format!(in alloc; "trace line {line} refused\n")?;
+    Vec::from_slice(alloc, text.as_bytes())
+}
+
+/// How a clause is called: `Events`, or `H1` to `H5` in the order in which they are asked.
+fn name_of(clause: Clause) -> &'static str
+    ensures { result.now ≡ plain.name_of clause }
+{
+    match clause {
+        Clause::Events => "Events",
+        Clause::Messages => "H1",
+        Clause::Firsts => "H2",
+        Clause::Causes => "H3",
+        Clause::Orders => "H4",
+        Clause::Prompts => "H5",
+    }
+}
+
+/// Which clause fails first, and where.
+pub(crate) fn wrong_line(alloc: Global, clause: Clause, row: u64) -> Result<Vec<u8>, AllocError>
+    ensures { IfOk result (λ v. v.items ≡ plain.wrong_line clause row) }
+{
+    let name = name_of(clause);
+    let text = format!(in alloc; "wrong {name} row {row}\n")?;
+    Vec::from_slice(alloc, text.as_bytes())
+}

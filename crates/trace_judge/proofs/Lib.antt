@@ -1,0 +1,10 @@
+pub mod Listing
+pub mod Telling
+pub mod Knowing
+pub mod Failing
+pub mod Replying
+pub mod Saying
+pub mod Stepping
+pub mod Ending
+pub mod Judging
+pub mod Verdicts

@@ -1,0 +1,34 @@
+-- What is known before a row, and what the row makes of it.
+use Rattle.std.specs.Prelude.{List, []}
+use Rattle.client_request.specs.declared.event.Row.{Row}
+use Rattle.right_trace.specs.Settings.{Settings}
+use Rattle.trace_frames.specs.declared.here.Here.{Here}
+use Rattle.trace_frames.specs.declared.ledger.Ledger.{Ledger}
+use Rattle.trace_exchanges.specs.declared.coming.Coming.{Coming}
+use Rattle.trace_promptness.specs.Heard.{passed_over_in}
+use Rattle.trace_promptness.specs.Heard as heards
+use Rattle.trace_promptness.specs.Prompt.{excused_in}
+use Rattle.trace_pass.specs.Pass as pass
+use Rattle.trace_errors.specs.Earlier as errors
+use Rattle.trace_firsts.specs.Firsts as firsts
+use Rattle.trace_judge.specs.declared.past.Past.{Past}
+
+abbrev pub nothing : Past
+nothing = record { pass = pass.nothing; heard = []; errors = errors.nothing; firsts = [] }
+
+-- what rests on what came in a row, by what is known behind it
+abbrev pub noted : Settings → Row → (here : Ledger) → Here → List Coming → Past → Past
+noted s row l o xs p = record {
+  pass = p.pass;
+  heard = heards.after_row (passed_over_in l.frames.brought l.books.requests.clock p.pass.ledger p.pass.timers o) xs p.heard;
+  errors = errors.after_row s p.pass.ledger p.pass.timers p.heard l o row xs p.errors;
+  firsts = firsts.after_row (excused_in l.frames.brought l.books.requests.clock p.pass.ledger p.pass.timers l o) xs p.firsts;
+}
+
+abbrev pub after_row : Settings → Row → (here : Ledger) → Here → List Coming → Past → Past
+after_row s row l o xs p = record {
+  pass = pass.after_row row p.pass;
+  heard = heards.after_row (passed_over_in l.frames.brought l.books.requests.clock p.pass.ledger p.pass.timers o) xs p.heard;
+  errors = errors.after_row s p.pass.ledger p.pass.timers p.heard l o row xs p.errors;
+  firsts = firsts.after_row (excused_in l.frames.brought l.books.requests.clock p.pass.ledger p.pass.timers l o) xs p.firsts;
+}

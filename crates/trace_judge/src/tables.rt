@@ -1,0 +1,101 @@
+//! What is known at a point of a trace, but for what replies gave.
+
+ghost use Rattle.std.specs.Prelude.{◌≡◌, OnOk};
+ghost use Rattle.trace_judge.specs.Tables as plain;
+
+use client_request::{Event, Out, What};
+use dns_base::NoMemory;
+use number_table::NumberTable;
+use std::alloc::Global;
+use trace_busy::{Backs, Waits, meet_backs, note_used, put_backs};
+use trace_loads::{Held, Loads};
+use trace_owed::{Exchanged, put_exchange};
+use trace_pass::Pass;
+
+/// What is known at a point of a trace.
+pub struct Tables {
+    pub pass: Pass,
+    /// Live places of servers, and who waits there.
+    pub loads: Loads,
+    /// Ids that are held at streams.
+    pub held: Held,
+    /// Which requests wait.
+    pub waits: Waits,
+    /// When requests by stream began to back off.
+    pub backs: Backs,
+    /// Where requests were sent or written.
+    pub exchanged: Exchanged,
+}
+
+impl Drop for Tables {
+    fn drop(self) {
+        let Tables {
+            pass: _,
+            loads: _,
+            held: _,
+            waits: _,
+            backs: _,
+            exchanged: _,
+        } = self;
+    }
+}
+
+impl Tables {
+    /// Before the first row. It is said whether nothing is deferred.
+    pub fn new(alloc: Global, exact: bool) -> Tables
+        ensures { result ≡ plain.nothing exact }
+    {
+        Tables {
+            pass: Pass::new(alloc),
+            loads: Loads::new(alloc, exact),
+            held: Held::new(alloc),
+            waits: Waits::new(alloc),
+            backs: NumberTable::new(alloc),
+            exchanged: NumberTable::new(alloc),
+        }
+    }
+
+    /// Back-offs begin at streams that are used up at this moment.
+    fn note_used(&mut self, moment: u64) -> Result<(), NoMemory>
+        ensures { OnOk result (self.new ≡ plain.notes_used moment self.old) }
+    {
+        let places = &self.pass.ledger.books.places;
+        note_used(&mut self.backs, places, &self.held, moment)
+    }
+
+    /// An event comes.
+    pub fn meet(&mut self, alloc: Global, event: &Event) -> Result<(), NoMemory>
+        ensures { OnOk result (self.new ≡ plain.met event.now self.old) }
+    {
+        let ledger = &self.pass.ledger;
+        let books = &ledger.books;
+        let moment = event.moment.0.max(books.requests.clock);
+        self.loads.meet(alloc, &books.places, &event.what)?;
+        self.held.meet(alloc, &ledger.frames.brought)?;
+        self.waits.meet(&books.requests, &event.what)?;
+        meet_backs(&mut self.backs, &books.places, &event.what, moment)?;
+        self.pass.meet(alloc, event)?;
+        self.note_used(moment)
+    }
+
+    /// An out is put, in a row with this event. Where it closes a place, it is said whether that ends badly.
+    pub fn put(
+        &mut self,
+        alloc: Global,
+        what: &What,
+        out: &Out,
+        is_bad: bool,
+    ) -> Result<(), NoMemory>
+        ensures { OnOk result (self.new ≡ plain.has_put what.now out.now is_bad self.old) }
+    {
+        let books = &self.pass.ledger.books;
+        self.loads.put(alloc, books, what, out)?;
+        self.held.put(alloc, out)?;
+        self.waits.put(alloc, out)?;
+        let moment = books.requests.clock;
+        put_backs(&mut self.backs, &books.places, what, out, is_bad, moment)?;
+        put_exchange(&mut self.exchanged, alloc, out)?;
+        self.pass.put(alloc, what, out)?;
+        self.note_used(moment)
+    }
+}
