@@ -13,7 +13,7 @@ may not ends with status 1.
 
 100,000 names that were picked to lie in a 256th of the places of a table without a seed are asked for, in such a table and in
 one with a seed, beside as many others. With a seed more than a fifth longer than the others ends with status 1. An answer
-of 60 KB may take 50 ns an octet. With `--large` the memory of 100,000 such answers is told too, which may be 13 GB.
+of 120 addresses (1,958 octets) may take 50 ns an octet. With `--large` the memory of 100,000 such answers is told too.
 
 The settings let all of these clients keep 1,000,000,000 answers. The memory that one took at most while it kept 10 is
 told, and more than 16 MB end with status 1; also what each answer takes where there are 1,000,000.
@@ -156,19 +156,19 @@ def tell_colliding(program):
 
 
 def tell_large(program):
-    """Whether a hit of an answer of 60 KB takes no more than its octets may, and what a hit adds to its entry."""
+    """Whether a hit of an answer of 120 addresses takes no more than its octets may, and what a hit adds to its entry."""
     each, _ = time_ways(program, FEW, LARGE_REQUESTS, ("large",))
-    octets = 38 + 16 * 3840
-    print("an answer of %d octets and 3840 records: %.1f us each, %.2f ns an octet"
+    octets = 38 + 16 * 120
+    print("an answer of %d octets and 120 records: %.1f us each, %.2f ns an octet"
           % (octets, each["large"] * 1e6, each["large"] * 1e9 / octets))
     return each["large"] <= MOST_OCTET * octets
 
 
 def tell_many_large(program):
-    """The memory of many answers of 60 KB, of which some are asked for."""
+    """The memory of many answers of 120 addresses, of which some are asked for."""
     for requests in (0, MANY_LARGE):
         seconds, memory = run(program, MANY_LARGE, requests, way="large")
-        print("%d answers of 60 KB and %d hits: %.0f MB, %.0f octets each, %.0f s of a processor"
+        print("%d answers of 120 addresses and %d hits: %.0f MB, %.0f octets each, %.0f s of a processor"
               % (MANY_LARGE, requests, memory / 1e6, memory / MANY_LARGE, seconds))
 
 

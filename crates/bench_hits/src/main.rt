@@ -4,7 +4,7 @@
 //! were answered at once. There is no socket: the client is stepped by hand, and what it sends is answered here. So the
 //! times of two runs that differ in M alone tell what it takes to ask for what is kept. `bench_hits N M S` sets for how many
 //! seconds expired answers may serve; without it they don't. `bench_hits N M S WAY` says what is kept: `plain` as without it,
-//! `large` answers of 60 KB, `colliding` names that were picked to lie in few places of a table without a seed, and `seeded`
+//! `large` answers of 120 addresses, `colliding` names that were picked to lie in few places of a table without a seed, and `seeded`
 //! the same names in a table with one.
 #![tactic(auto)]
 

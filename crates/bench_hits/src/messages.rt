@@ -57,8 +57,9 @@ fn push_addresses(
     Ok(())
 }
 
-/// How many addresses an answer of 60 KB has, each with its name by a pointer: 16 octets.
-const MANY: usize = 3_840;
+/// How many addresses a large answer has, each with its name by a pointer: 16 octets. More do not fit into what a client
+/// takes of a datagram.
+const MANY: usize = 120;
 
 /// The answer to a query and its question: 192.0.2.1 for a day, so many times.
 fn answer(

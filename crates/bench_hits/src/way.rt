@@ -5,7 +5,7 @@
 pub(crate) enum Way {
     /// Answers of one address.
     Plain,
-    /// Answers of 60 KB.
+    /// Answers of 120 addresses.
     Large,
     /// Names that lie in few places of a table without a seed.
     Colliding,
