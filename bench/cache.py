@@ -51,7 +51,8 @@ MOST_STALE = 1.1
 MOST_MEMORY = 16_000_000
 COLLIDING = 100_000
 MOST_SEEDED = 1.2
-LARGE_REQUESTS = 20_000
+MANY_REQUESTS = 5_000_000
+FEW_RUNS = 3
 MOST_OCTET = 50e-9
 MANY_LARGE = 100_000
 SECONDS = 10
@@ -132,23 +133,24 @@ def tell_hits(each, memory):
     return ratio <= MOST and memory[FEW] <= MOST_MEMORY
 
 
-def time_ways(program, names, requests, ways):
-    """The seconds of one hit, and the most memory, by what is kept. All run in turn."""
+def time_ways(program, names, ways):
+    """The seconds of one hit, and the most memory, by what is kept and how many requests are measured. All run in turn."""
     took = {}
     memory = dict.fromkeys(ways, 0)
-    for _ in range(RUNS):
-        for way in ways:
+    for _ in range(FEW_RUNS):
+        for way, requests in ways.items():
             for count in (0, requests):
                 seconds, octets = run(program, names, count, way=way)
                 took.setdefault((way, count), []).append(seconds)
                 memory[way] = max(memory[way], octets)
     least = {key: min(times) for key, times in took.items()}
-    return {way: (least[way, requests] - least[way, 0]) / requests for way in ways}, memory
+    return {way: (least[way, requests] - least[way, 0]) / requests for way, requests in ways.items()}, memory
 
 
 def tell_colliding(program):
     """Whether names that were picked to collide take no longer than others in a table with a seed."""
-    each, _ = time_ways(program, COLLIDING, COLLIDING, ("plain", "seeded", "colliding"))
+    ways = {"plain": MANY_REQUESTS, "seeded": MANY_REQUESTS, "colliding": REQUESTS}
+    each, _ = time_ways(program, COLLIDING, ways)
     ratio = each["seeded"] / each["plain"]
     print("%d names that collide without a seed: %.2f us each, %.2f us with a seed; other names: %.2f us, %.2f times as long"
           % (COLLIDING, each["colliding"] * 1e6, each["seeded"] * 1e6, each["plain"] * 1e6, ratio))
@@ -157,7 +159,7 @@ def tell_colliding(program):
 
 def tell_large(program):
     """Whether a hit of an answer of 120 addresses takes no more than its octets may, and what a hit adds to its entry."""
-    each, _ = time_ways(program, FEW, LARGE_REQUESTS, ("large",))
+    each, _ = time_ways(program, FEW, {"large": REQUESTS})
     octets = 38 + 16 * 120
     print("an answer of %d octets and 120 records: %.1f us each, %.2f ns an octet"
           % (octets, each["large"] * 1e6, each["large"] * 1e9 / octets))
