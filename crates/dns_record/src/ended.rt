@@ -1,8 +1,10 @@
 //! Why a record ends, or does not begin.
 
-ghost use Rattle.std.specs.Prelude.{◌≡◌};
+ghost use Rattle.std.specs.Prelude.{◌≡◌, Some};
+ghost use Rattle.dns_record.specs.Sentences.{ended_text, refused_text};
 
 use dns_base::NoMemory;
+use std::fmt::{self, Display};
 
 /// Why a record ended.
 #[derive(Clone, Copy, Debug, PartialEq, Eq)]
@@ -31,6 +33,21 @@ impl From<NoMemory> for Ended {
     }
 }
 
+impl Display for Ended {
+    ghost output = { λ ended. Some (ended_text ended) };
+
+    fn fmt<W: fmt::Write>(&self, f: &mut fmt::Formatter<W>) -> fmt::Result {
+        f.write_str(match self {
+            Ended::Full => "it is full",
+            Ended::WordsUsed => "few of the words that were written ahead are left",
+            Ended::SinkFailed => "it could not be written",
+            Ended::ServerAdded => "a server was added",
+            Ended::Untold => "an event can't be told",
+            Ended::NoMemory => "memory ran out",
+        })
+    }
+}
+
 /// Why a record does not begin.
 #[derive(Clone, Copy, Debug, PartialEq, Eq)]
 pub enum Refused {
@@ -55,5 +72,20 @@ impl From<NoMemory> for Refused {
 
     fn from(_e: NoMemory) -> Refused {
         Refused::NoMemory
+    }
+}
+
+impl Display for Refused {
+    ghost output = { λ refused. Some (refused_text refused) };
+
+    fn fmt<W: fmt::Write>(&self, f: &mut fmt::Formatter<W>) -> fmt::Result {
+        f.write_str(match self {
+            Refused::Server => "one server is asked by streams alone, and another is not",
+            Refused::Timeout => "the time for a request is no whole number of seconds",
+            Refused::Settings => "a setting of the cache is outside its limits",
+            Refused::Full => "there is no room for what stands before the first event",
+            Refused::SinkFailed => "it could not be made or written",
+            Refused::NoMemory => "memory ran out",
+        })
     }
 }

@@ -313,6 +313,7 @@ impl Recorder {
         ensures row { IfOk result (λ row. Takes self.old.ended self.old.words self.new.words (W.stream words.old) (W.stream words.new) event client.old row client.new) }
         ensures recorded { IfOk result (λ row. Keeps (row ∷ []) (K.held sink.old) self.old client.old (K.held sink.new) self.new client.new) }
         ensures why { IfOk result (λ row. self.old.ended ≡ None → EndsIf self.new.ended row.event (record self.old { words = self.new.words }) (K.faults sink.old) (K.faults sink.new)) }
+        ensures event { IfOk result (λ row. row.event ≡ event) }
         ensures counted { OnOk result (self.new.lost ≡ lost_after self.new.ended self.old.lost) }
         ensures few { OnOk result (self.new.few ≡ self.old.few) }
         ensures timeout { OnOk result (client.new.timeout ≡ client.old.timeout) }

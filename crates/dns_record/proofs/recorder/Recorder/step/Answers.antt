@@ -1,4 +1,8 @@
 use Rattle.std.proofs.Common.{ap, ◌∙◌}
+use Rattle.client_core.proofs.Replaying.{row_event}
+use Rattle.client_request.specs.Words.{listed}
+use Rattle.client_request.specs.declared.event.Row.{Row}
+use Rattle.client_steps.specs.Whole.{client_with, machine}
 use Rattle.std.specs.Prelude.{is_some}
 use Rattle.dns_record.specs.Recording.{Recording}
 use Rattle.dns_record.proofs.Keeping.{counts, counts_on, ends_so, had_ended, notes, passes, takes_behind, takes_on}
@@ -36,3 +40,12 @@ returns-clause-why g c = λ none.
 
 pub returns-clause-counted : goal.returns-clause-counted
 returns-clause-counted g c = counts_on c.args.self.now c.take.new.self c.note.new.self c.take.ensures.stands c.note.ensures.counted
+
+pub returns-then-is_some-clause-event : goal.returns-then-is_some-clause-event
+returns-then-is_some-clause-event g c =
+    row_event machine c.args.client.now.timeout c.in_ok-row.row c.args.event (client_with (g.W.Words.stream c.args.words.now) c.args.client.now) (client_with (g.W.Words.stream c.step.new.words) c.step.new.self) c.in_ok-row.ensures.row
+
+pub returns-clause-event : goal.returns-clause-event
+returns-clause-event g c =
+    ap (λ (row : Row). row.event) c.note.ensures.row
+    ∙ row_event machine c.args.client.now.timeout c.in_ok-row-2.row c.args.event (client_with (listed c.args.self.now.words) c.args.client.now) (client_with (listed c.take.new.self.words) c.take.new.client) c.in_ok-row-2.ensures.row
