@@ -1,19 +1,14 @@
 //! A lookup that is recorded.
 
-ghost use Rattle.std.specs.Prelude.{◌≡◌, ◌≢◌, ◌⊎◌, ◌++◌, ◌≤◌, ◌<◌, [], ℕ, List, Some, None, true, false, IfOk, IfErr, IsErrOf};
+ghost use Rattle.std.specs.Prelude.{◌≡◌, ◌≢◌, ◌⊎◌, ◌≤◌, ◌<◌, None, IfOk};
 ghost use Rattle.std.specs.String.{string_bytes};
-ghost use Rattle.client_settings.specs.Settings.{default_cache};
-ghost use Rattle.client_steps.specs.Whole.{started};
 ghost use Rattle.command_parts.specs.Ends.{IsSaid};
 ghost use Rattle.dns_record.specs.Asking.{left_of};
-ghost use Rattle.dns_record.specs.Recording.{IsRefused, Keeps, Recorded, drawn, opening, rest_behind};
-ghost use Rattle.dns_record.specs.declared.ended.Ended.{Ended};
 ghost use Rattle.dns_values.specs.Sink.{IsFlushed};
 ghost use Rattle.dns_values.specs.Source.{Rose};
-ghost use Rattle.dns_lookup_run.specs.Ends.{HasNoConf, IsRefusalTold, TellsWhy};
-ghost use Rattle.dns_lookup_run.specs.Recorded.{RecordedEnd, ended_line, unrecorded_line};
+ghost use Rattle.dns_lookup_run.specs.Ends.{HasNoConf, IsOfAsking, IsRefusalTold};
+ghost use Rattle.dns_lookup_run.specs.Recorded.{AskedEnd, RecordedEnd, ended_line, keeps_by, unrecorded_line};
 ghost use Rattle.dns_lookup_run.specs.Worlds.{around, said};
-ghost use Rattle.resolver_policy.specs.Practice.{practical_choice};
 
 use crate::asks::{Answered, Asks};
 use crate::conf::conf_of;
@@ -30,7 +25,7 @@ use dns_record::{Ahead, Ended, Recorder, Refused, record_law, recorded_ask};
 use dns_values::{Sink, Source};
 use record_file::NOT_RECORDED;
 use resolv_conf::ResolvConf;
-use resolver_policy::{Found, practical_choice};
+use resolver_policy::practical_choice;
 use std::alloc::Global;
 use std::marker::Model;
 
@@ -52,7 +47,7 @@ impl<K: Sink + Drop> Model for RecordedAsks<K> {
 impl<K: Sink + Drop> Asks for RecordedAsks<K> {
     ghost stream = { λ r. left_of r.recorder };
 
-    ghost made = { λ a client rows b moved. Keeps rows (K.held a.sink) a.recorder client (K.held b.sink) b.recorder moved };
+    ghost made = { keeps_by K.held };
 
     fn ask<E: Edge, C: Clock>(
         &mut self,
@@ -160,12 +155,20 @@ fn ask_recorded<K: Sink, L: Sink, E: Edge + Drop, C: Clock + Drop, W: Words, R: 
     edge: &mut WatchedEdge<E>,
     clock: &mut WatchedClock<C>,
     rng: &mut W,
-    record: R,
+    file: R,
 ) -> Recorded<R>
+    ensures statuses { IsOfAsking result.status.0 ⊎ (result.status.0 ≡ 8) }
+    ensures ends { around E.deeds E.polls C.given W.stream (edge.old, clock.old, rng.old) (edge.new, clock.new, rng.new)
+        (AskedEnd L.held L.faults R.held R.faults lookup.now conf.now result.status.0 errors.old errors.new file result.sink) }
+    ensures flushed { result.status.0 ≡ 0 → IsFlushed (K.held sink.new) (K.flushed sink.new) }
+    ensures silent { result.status.0 ≡ 8 → K.held sink.new ≡ K.held sink.old }
+    ensures sink_fault { result.status.0 ≡ 4 → Rose (K.faults sink.old) (K.faults sink.new) }
+    ensures count { K.faults sink.old ≤ K.faults sink.new }
 {
+    record_law();
     let choice = practical_choice();
     let cache = cache::Config::new();
-    let mut record = record;
+    let mut file = file;
     let begun = Recorder::begin(
         alloc,
         conf,
@@ -173,21 +176,21 @@ fn ask_recorded<K: Sink, L: Sink, E: Edge + Drop, C: Clock + Drop, W: Words, R: 
         &cache,
         rng,
         Ahead::SMALL,
-        &mut record,
+        &mut file,
     );
     let recorder = match begun {
         Ok(recorder) => recorder,
-        Err(refused) => return without(tell_unrecorded(alloc, refused, errors), record),
+        Err(refused) => return without(tell_unrecorded(alloc, refused, errors), file),
     };
     let mut asks = RecordedAsks {
         recorder,
-        sink: record,
+        sink: file,
     };
     let status = ask_all(alloc, lookup, conf, sink, errors, edge, clock, &mut asks);
     with(status, asks)
 }
 
-/// Does what words ask for as `run` does, and records it: `record` is then a script whose replay gives the rows of the client, or the
+/// Does what words ask for as `run` does, and records it: `file` then holds a script whose replay gives the rows of the client, or the
 /// first of them. All words that the client draws are of 4096 that are drawn and written first.
 ///
 /// As of `run`, and where nothing is asked since nothing can be recorded 8: a sentence to `errors` says why. 6 also where less than
@@ -209,25 +212,41 @@ pub fn run_recorded<
     edge: &mut WatchedEdge<E>,
     clock: &mut WatchedClock<C>,
     rng: &mut W,
-    record: R,
+    file: R,
 ) -> Recorded<R>
+    ensures statuses { (result.status.0 ≢ 1) × (result.status.0 < 9) }
+    ensures usage { result.status.0 ≡ 2 → IsRefusalTold words.now (L.held errors.old) (L.held errors.new) (L.faults errors.old) (L.faults errors.new) }
+    ensures ends { around E.deeds E.polls C.given W.stream (edge.old, clock.old, rng.old) (edge.new, clock.new, rng.new)
+        (RecordedEnd L.held L.faults R.held R.faults words.now (S.left source.old) result.status.0 errors.old errors.new file result.sink) }
+    ensures flushed { result.status.0 ≡ 0 → IsFlushed (K.held sink.new) (K.flushed sink.new) }
+    ensures no_conf { result.status.0 ≡ 3 → HasNoConf (S.left source.old) (S.faults source.old) (S.faults source.new) (said L.held L.faults errors.old errors.new) }
+    ensures silent { (result.status.0 ≡ 2) ⊎ ((result.status.0 ≡ 3) ⊎ (result.status.0 ≡ 8)) → K.held sink.new ≡ K.held sink.old }
+    ensures sink_fault { result.status.0 ≡ 4 → Rose (K.faults sink.old) (K.faults sink.new) }
+    ensures count { K.faults sink.old ≤ K.faults sink.new }
 {
     let lookup = match lookup_of(alloc, words) {
         Ok(lookup) => lookup,
         Err(Fault::Refused(refusal)) => {
-            return without(tell_refusal(alloc, words, refusal, errors), record);
+            return without(tell_refusal(alloc, words, refusal, errors), file);
         }
-        Err(Fault::NoMemory) => return without(statuses::NO_MEMORY, record),
+        Err(Fault::NoMemory) => return without(statuses::NO_MEMORY, file),
     };
     let found = match conf_of(alloc, &lookup, source, rng) {
         Ok(found) => found,
-        Err(ending) => return without(tell_conf(alloc, ending, errors), record),
+        Err(ending) => return without(tell_conf(alloc, ending, errors), file),
     };
-    let Found { conf, notes } = found;
-    match tell_notes(alloc, notes.as_slice(), errors) {
+    match tell_notes(alloc, found.notes.as_slice(), errors) {
         Ok(()) => ask_recorded(
-            alloc, &lookup, &conf, sink, errors, edge, clock, rng, record,
+            alloc,
+            &lookup,
+            &found.conf,
+            sink,
+            errors,
+            edge,
+            clock,
+            rng,
+            file,
         ),
-        Err(NoMemory) => without(statuses::NO_MEMORY, record),
+        Err(NoMemory) => without(statuses::NO_MEMORY, file),
     }
 }

@@ -135,6 +135,7 @@ impl Recorder {
     ) -> Result<Recorder, Refused>
         ensures begun { IfOk result (λ r. Recorded (opening conf.now choice cache.now (drawn ahead.count (W.stream words.old)) (K.held sink.old)) [] (K.held sink.new) r (started choice cache.now conf.now)) }
         ensures on { IfOk result (λ r. r.ended ≡ None) }
+        ensures words { IfOk result (λ r. r.words ≡ drawn ahead.count (W.stream words.old)) }
         ensures few { IfOk result (λ r. r.few ≡ ahead.few) }
         ensures none_lost { IfOk result (λ r. r.lost ≡ 0) }
         ensures rest { OnOk result (W.stream words.new ≡ rest_behind ahead.count (W.stream words.old)) }
