@@ -169,15 +169,7 @@ fn ask_recorded<K: Sink, L: Sink, E: Edge + Drop, C: Clock + Drop, W: Words, R: 
     let choice = practical_choice();
     let cache = cache::Config::new();
     let mut file = file;
-    let begun = Recorder::begin(
-        alloc,
-        conf,
-        choice,
-        &cache,
-        rng,
-        Ahead::SMALL,
-        &mut file,
-    );
+    let begun = Recorder::begin(alloc, conf, choice, &cache, rng, Ahead::SMALL, &mut file);
     let recorder = match begun {
         Ok(recorder) => recorder,
         Err(refused) => return without(tell_unrecorded(alloc, refused, errors), file),

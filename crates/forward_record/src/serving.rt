@@ -1,6 +1,17 @@
 //! What the program does where it is recorded.
 
-ghost use Rattle.std.specs.Prelude.{◌≡◌, ◌≢◌, ◌<◌, ◌⊎◌, None, OnOk, IfOk, IfErr, IfSome};
+ghost use Rattle.std.specs.Prelude.{◌≡◌, ◌<◌, ◌⊎◌, None, OnOk, OnErr, IfOk, IfErr};
+ghost use Rattle.command_parts.specs.declared.ending.Ending.{Ending};
+ghost use Rattle.command_parts.specs.Ends.{IsBegun as IsLineBegun, IsSaid};
+ghost use Rattle.dns_record.specs.Recording.{drawn, rest_behind};
+ghost use Rattle.dns_values.specs.Sink.{with_octets};
+ghost use Rattle.dns_values.specs.Source.{Rose};
+ghost use Rattle.forward_run.specs.Front.{after_deeds};
+ghost use Rattle.forward_run.specs.Serving.{IfAsked, answered_line, begun_deeds};
+ghost use Rattle.forward_run.specs.Turns.{around};
+ghost use Rattle.forward_words.specs.Words.{asked_by};
+ghost use Rattle.forward_record.specs.Serving.{IsBegun, IsLeft, IsRefusalSaid, IsServedTo, IsUnserved};
+ghost use Rattle.forward_record.specs.declared.serving.Unserved.TheVariants.{Ends, NotRecorded};
 
 use crate::core::{RecordedCore, RecordedForwarder};
 use crate::telling::tell_unrecorded;
@@ -30,18 +41,24 @@ enum Unserved {
 }
 
 impl From<NoMemory> for Unserved {
+    ghost from_gives = { λ _ r. r ≡ Ends (Ending.Silent (record { 0 = 6 })) };
+
     fn from(_error: NoMemory) -> Unserved {
         Unserved::Ends(Ending::Silent(NO_MEMORY))
     }
 }
 
 impl From<Ending> for Unserved {
+    ghost from_gives = { λ ending r. r ≡ Ends ending };
+
     fn from(ending: Ending) -> Unserved {
         Unserved::Ends(ending)
     }
 }
 
 impl From<Refused> for Unserved {
+    ghost from_gives = { λ refused r. r ≡ NotRecorded refused };
+
     fn from(refused: Refused) -> Unserved {
         Unserved::NotRecorded(refused)
     }
@@ -63,23 +80,19 @@ fn recorded_forwarder<W: Words, K: Sink + Drop>(
     seed: u64,
     conf: &ResolvConf,
     rng: &mut W,
-    record: K,
-) -> Result<RecordedForwarder<K>, Unserved> {
-    let mut record = record;
+    file: K,
+) -> Result<RecordedForwarder<K>, Unserved>
+    ensures begun { IfOk result (λ f. IsBegun K.held options.now conf.now (drawn 65536 (W.stream rng.old)) (K.held file) f) }
+    ensures rest { OnOk result (W.stream rng.new ≡ rest_behind 65536 (W.stream rng.old)) }
+    ensures unserved { (port faults : ℕ) → IfErr result (IsUnserved options.now port conf.now (drawn 65536 (W.stream rng.old)) (K.faults file) faults faults) }
+{
+    let mut file = file;
     let choice = choice_of(options.policy);
     let cache = cache_of(options);
-    let recorder = Recorder::begin(
-        alloc,
-        conf,
-        choice,
-        &cache,
-        rng,
-        Ahead::LARGE,
-        &mut record,
-    )?;
+    let recorder = Recorder::begin(alloc, conf, choice, &cache, rng, Ahead::LARGE, &mut file)?;
     match Client::with_seed(alloc, conf, choice, cache, seed) {
         Ok(client) => {
-            let core = RecordedCore::new(client, recorder, record);
+            let core = RecordedCore::new(client, recorder, file);
             Ok(RecordedForwarder::new(alloc, core))
         }
         Err(_) => Err(Unserved::from(NoMemory)),
@@ -95,14 +108,23 @@ fn begin<F: Front, W: Words, K: Sink + Drop>(
     conf: &ResolvConf,
     front: &mut F,
     rng: &mut W,
-    record: K,
-) -> Result<RecordedForwarder<K>, Unserved> {
+    file: K,
+) -> Result<RecordedForwarder<K>, Unserved>
+    ensures begun { IfOk result (λ f. IsBegun K.held options.now conf.now (drawn 65536 (W.stream rng.old)) (K.held file) f) }
+    ensures rest { OnOk result (W.stream rng.new ≡ rest_behind 65536 (W.stream rng.old)) }
+    ensures deeds { OnOk result (F.deeds front.new ≡ after_deeds (begun_deeds port conf.now) (F.deeds front.old)) }
+    ensures polls { F.polls front.new ≡ F.polls front.old }
+    ensures unserved { IfErr result (IsUnserved options.now port conf.now (drawn 65536 (W.stream rng.old)) (K.faults file) (F.faults front.old) (F.faults front.new)) }
+{
     listen(options.listened.as_slice(), port, conf, front)?;
     learn_all(front, conf.servers.as_slice())?;
-    recorded_forwarder(alloc, options, seed, conf, rng, record)
+    recorded_forwarder(alloc, options, seed, conf, rng, file)
 }
 
-fn unserved<K: Sink + Drop>(status: Status) -> Served<K> {
+/// Nothing was served.
+fn unserved<K: Sink + Drop>(status: Status) -> Served<K>
+    ensures { result ≡ record { status = status; forwarder = None } }
+{
     Served {
         status,
         forwarder: None,
@@ -110,14 +132,19 @@ fn unserved<K: Sink + Drop>(status: Status) -> Served<K> {
 }
 
 /// Writes how many answers there were.
-fn write_answered<O: Sink>(alloc: Global, answered: u64, sink: &mut O) -> Status {
+fn write_answered<O: Sink>(alloc: Global, answered: u64, sink: &mut O) -> Status
+    ensures status { (result.0 ≡ 0) ⊎ ((result.0 ≡ 4) ⊎ (result.0 ≡ 6)) }
+    ensures done { result.0 ≡ 0 → O.held sink.new ≡ with_octets (answered_line answered) (O.held sink.old) }
+    ensures cut { result.0 ≡ 4 → IsLineBegun (answered_line answered) (O.held sink.old) (O.held sink.new) }
+    ensures sink_fault { result.0 ≡ 4 → Rose (O.faults sink.old) (O.faults sink.new) }
+{
     match answered_line(alloc, answered) {
         Ok(line) => deliver(sink, &line),
         Err(_) => NO_MEMORY,
     }
 }
 
-/// Answers DNS clients as `forward_run::serve_as` does, and records the client within: `record` is then a script whose replay gives
+/// Answers DNS clients as `forward_run::serve_as` does, and records the client within: `file` then holds a script whose replay gives
 /// its rows, or the first of them. It is told of a record's end by a line to `errors`.
 ///
 /// As of `serve_as`, and where nothing is served since nothing can be recorded 8: a line to `sink` says why.
@@ -142,8 +169,22 @@ pub fn serve_recorded<
     clock: &mut C,
     rng: &mut W,
     watch: &mut V,
-    record: K,
-) -> Served<K> {
+    file: K,
+) -> Served<K>
+    ensures usage { result.status.0 ≡ 2 → asked_by words.now ≡ None }
+    ensures no_command { asked_by words.now ≡ None → result.status.0 ≡ 2 }
+    ensures done { result.status.0 ≡ 0 → IfAsked words.now (S.left source.old) (λ asked text. IsLeft result.forwarder (λ last.
+        around F.deeds F.polls C.given W.stream (front.old, clock.old, rng.old) (front.new, clock.new, rng.new)
+        (IsServedTo K.held (λ line. O.held sink.new ≡ with_octets line (O.held sink.old)) options.now asked text (K.held file) last))) }
+    ensures cut { result.status.0 ≡ 4 → IfAsked words.now (S.left source.old) (λ asked text. IsLeft result.forwarder (λ last.
+        around F.deeds F.polls C.given W.stream (front.old, clock.old, rng.old) (front.new, clock.new, rng.new)
+        (IsServedTo K.held (λ line. IsLineBegun line (O.held sink.old) (O.held sink.new)) options.now asked text (K.held file) last))) }
+    ensures not_recorded { result.status.0 ≡ 8 → IfAsked words.now (S.left source.old) (λ _ text.
+        IsRefusalSaid (λ line. IsSaid line (O.held sink.old) (O.held sink.new) (O.faults sink.old) (O.faults sink.new)) options.now text (K.faults file) (W.stream rng.old)) }
+    ensures source_fault { result.status.0 ≡ 3 → Rose (S.faults source.old) (S.faults source.new) }
+    ensures sink_fault { result.status.0 ≡ 4 → Rose (O.faults sink.old) (O.faults sink.new) }
+    ensures status { result.status.0 < 9 }
+{
     let Some(asked) = asked_by(words) else {
         return unserved(USAGE);
     };
@@ -151,7 +192,7 @@ pub fn serve_recorded<
         Ok(conf) => conf,
         Err(ending) => return unserved(end_without(sink, ending)),
     };
-    let begun = begin(alloc, options, seed, asked.port, &conf, front, rng, record);
+    let begun = begin(alloc, options, seed, asked.port, &conf, front, rng, file);
     let mut forwarder = match begun {
         Ok(forwarder) => forwarder,
         Err(Unserved::Ends(ending)) => return unserved(end_without(sink, ending)),

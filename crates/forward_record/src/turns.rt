@@ -5,8 +5,8 @@ ghost use Rattle.dns_values.specs.Source.{one_more};
 ghost use Rattle.client_request.specs.Response.{IsRefusal};
 ghost use Rattle.client_request.specs.Timers.{IsWant};
 ghost use Rattle.client_request.specs.Words.{IsGivenOn};
-ghost use Rattle.forward_run.specs.Turns.{IsTurn};
-ghost use Rattle.forward_record.specs.Turns.{Makes, TurnedBy, around};
+ghost use Rattle.forward_run.specs.Turns.{IsTurn, around};
+ghost use Rattle.forward_record.specs.Turns.{Makes, TurnedBy};
 
 use crate::core::RecordedForwarder;
 use crate::telling::tell_ended;
@@ -48,14 +48,7 @@ pub fn turn<F: Front, C: Clock, W: Words, K: Sink + Drop>(
 
 /// Makes so many turns, of each of which `watch` is told. How many answers they put out. Where the record ends, a line to `errors`
 /// says why, as far as it takes it.
-pub(crate) fn turn_all<
-    L: Sink,
-    F: Front,
-    C: Clock,
-    W: Words,
-    V: Watch,
-    K: Sink + Drop,
->(
+pub(crate) fn turn_all<L: Sink, F: Front, C: Clock, W: Words, V: Watch, K: Sink + Drop>(
     alloc: Global,
     forwarder: &mut RecordedForwarder<K>,
     errors: &mut L,
