@@ -8,13 +8,11 @@ use Rattle.dns_lookup_run.proofs.recorded.run_recorded.Goals as goal
 
 pub returns-in-Err-Refused-clause-ends : goal.returns-in-Err-Refused-clause-ends
 returns-in-Err-Refused-clause-ends g c =
-    rw c.without.ensures in
-    refused_ends _ _ _ _ _ _ _ _ _ _ _ _ _ c.in-Err-Refused.refusal (rw c.in-Err-Refused.field-0-is at c.in-Err-Refused.ensures) c.tell_refusal.ensures.status
+    rw c.without.ensures (refused_ends _ _ _ _ _ _ _ _ _ _ _ _ _ c.in-Err-Refused.refusal (rw c.in-Err-Refused.field-0-is at c.in-Err-Refused.ensures) c.tell_refusal.ensures.status)
 
 pub returns-in-Err-clause-ends : goal.returns-in-Err-clause-ends
 returns-in-Err-clause-ends g c =
-    rw c.without.ensures in
-    conf_ends _ _ _ _ _ _ _ _ _ _ _ _ _ c.in-Ok.lookup c.in-Ok.ensures c.tell_conf.ensures.status
+    rw c.without.ensures (conf_ends _ _ _ _ _ _ _ _ _ _ _ _ _ c.in-Ok.lookup c.in-Ok.ensures c.tell_conf.ensures.status)
 
 pub returns-in-Ok-tell_notes-clause-statuses : goal.returns-in-Ok-tell_notes-clause-statuses
 returns-in-Ok-tell_notes-clause-statuses g c = of_recorded c.ask_recorded.result.status.0 c.ask_recorded.ensures.statuses
