@@ -1,7 +1,7 @@
 -- What is recorded, one row more at a time.
 use Rattle.std.proofs.Common.{◌≡◌, ◌≤◌, ◌+◌, ℕ, Bool, true, false, ◌&&◌, List, [], ◌∷◌, ◌++◌, length, length-append, take, Option, Some, None, refl, sym, ap, ◌∙◌, subst, append_assoc, append-nil}
 use Rattle.std.specs.List.{AllByRecursion}
-use Rattle.std.specs.Prelude.{is_some}
+use Rattle.std.specs.Prelude.{is_some, nat_lt}
 use Rattle.client_core.proofs.Replaying.{row_event}
 use Rattle.client_loop.proofs.Rows.{event_behind, leads_on, plain_of}
 use Rattle.client_loop.specs.Turns.{events_of}
@@ -228,3 +228,7 @@ pub keeps_more : (rows : List Row) (row : Row) (held mid after : Option (List �
     → Keeps rows held r client mid s middle → Keeps (row ∷ []) mid s middle after t moved → Keeps (rows ++ row ∷ []) held r client after t moved
 keeps_more rows row held mid after r s t client middle moved h k o before is =
     subst (λ (rs : List Row). Recorded o rs after t moved) (append_assoc before rows (row ∷ [])) (k o (before ++ rows) (h o before is))
+
+-- words are enough where they are not few
+pub are_enough : (few : Bool) (words most : ℕ) → few ≡ nat_lt words most → few ≡ false → most ≤ words
+are_enough few words most is no = let off : nat_lt words most ≡ false = sym is ∙ no in grind arith

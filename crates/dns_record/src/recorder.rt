@@ -289,6 +289,7 @@ impl Recorder {
         ensures timeout { OnOk result (client.new.timeout ≡ client.old.timeout) }
         ensures lasts { OnOk result (client.new.failed ≡ false) }
         ensures numbers { NumbersRunOut result (plain_step (listed self.old.words) event client.old) }
+        ensures enough { OnOk result (self.old.few ≤ length self.old.words) }
         ensures refused { IfErr result IsRefusal }
         ensures failed_only { IsErrOf result Error.Failed → client.old.failed ≡ true }
     {

@@ -1,6 +1,6 @@
 //! A turn that is recorded.
 
-ghost use Rattle.std.specs.Prelude.{◌≡◌, ◌∷◌, [], Some, None, true, false, OnOk, IfOk, IfErr, IsErrOf};
+ghost use Rattle.std.specs.Prelude.{◌≡◌, ◌≤◌, ◌∷◌, [], length, Some, None, true, false, OnOk, IfOk, IfErr, IsErrOf};
 ghost use Rattle.client_core.specs.Waiting.{Waited, wait_of};
 ghost use Rattle.client_loop.specs.Turns.{IsTurn, StopsAt};
 ghost use Rattle.client_request.specs.Response.{IsRefusal};
@@ -89,6 +89,7 @@ pub(crate) fn turn_ahead<E: Edge, C: Clock, K: Sink>(
     ensures lasts { OnOk result (client.new.failed ≡ false) }
     ensures numbers { IsErrOf result Error.NumbersUsed → StopsAt (listed recorder.old.words) client.old (E.deeds edge.old) (E.deeds edge.new) (C.given clock.old) (C.given clock.new) }
     ensures counted { IsErrOf result Error.NumbersUsed → E.polls edge.new ≡ one_more (E.polls edge.old) }
+    ensures enough { OnOk result (recorder.old.few ≤ length recorder.old.words) }
     ensures refused { IfErr result IsRefusal }
     ensures failed_only { IsErrOf result Error.Failed → client.old.failed ≡ true }
 {
