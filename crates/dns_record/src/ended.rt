@@ -37,14 +37,14 @@ impl Display for Ended {
     ghost output = { λ ended. Some (ended_text ended) };
 
     fn fmt<W: fmt::Write>(&self, f: &mut fmt::Formatter<W>) -> fmt::Result {
-        f.write_str(match self {
-            Ended::Full => "it is full",
-            Ended::WordsUsed => "few of the words that were written ahead are left",
-            Ended::SinkFailed => "it could not be written",
-            Ended::ServerAdded => "a server was added",
-            Ended::Untold => "an event can't be told",
-            Ended::NoMemory => "memory ran out",
-        })
+        match self {
+            Ended::Full => f.write_str("it is full"),
+            Ended::WordsUsed => f.write_str("few of the words that were written ahead are left"),
+            Ended::SinkFailed => f.write_str("it could not be written"),
+            Ended::ServerAdded => f.write_str("a server was added"),
+            Ended::Untold => f.write_str("an event can't be told"),
+            Ended::NoMemory => f.write_str("memory ran out"),
+        }
     }
 }
 
@@ -79,13 +79,15 @@ impl Display for Refused {
     ghost output = { λ refused. Some (refused_text refused) };
 
     fn fmt<W: fmt::Write>(&self, f: &mut fmt::Formatter<W>) -> fmt::Result {
-        f.write_str(match self {
-            Refused::Server => "one server is asked by streams alone, and another is not",
-            Refused::Timeout => "the time for a request is no whole number of seconds",
-            Refused::Settings => "a setting of the cache is outside its limits",
-            Refused::Full => "there is no room for what stands before the first event",
-            Refused::SinkFailed => "it could not be made or written",
-            Refused::NoMemory => "memory ran out",
-        })
+        match self {
+            Refused::Server => f.write_str(
+                "one server is asked by streams alone, and another is not",
+            ),
+            Refused::Timeout => f.write_str("the time for a request is no whole number of seconds"),
+            Refused::Settings => f.write_str("a setting of the cache is outside its limits"),
+            Refused::Full => f.write_str("there is no room for what stands before the first event"),
+            Refused::SinkFailed => f.write_str("it could not be made or written"),
+            Refused::NoMemory => f.write_str("memory ran out"),
+        }
     }
 }

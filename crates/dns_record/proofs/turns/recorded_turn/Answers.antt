@@ -1,4 +1,4 @@
-use Rattle.std.proofs.Common.{ap, ◌∙◌}
+use Rattle.std.proofs.Common.{ap, refl, ◌∙◌}
 use Rattle.std.specs.Prelude.{is_some}
 use Rattle.dns_record.specs.Recording.{Recording}
 use Rattle.dns_record.proofs.Keeping.{counts, counts_on, ends_so, had_ended, notes, passes, takes_behind, takes_on}
@@ -22,9 +22,9 @@ returns-then-is_some-clause-counted g c = counts c.args.recorder.now c.pass.new.
 
 pub returns-clause-row : goal.returns-clause-row
 returns-clause-row g c =
-    rw c.note.ensures.row at
-    (takes_on c.args.recorder.now c.turn_within.new.recorder c.note.new.self c.is_some.result (g.W.Words.stream c.args.words.now) c.in_ok-row-2.row.event c.args.client.now c.in_ok-row-2.row c.note.new.row c.turn_within.new.client
-    (c.is_some.ensures ∙ ap is_some c.ended.ensures) c.if-is_some.false c.in_ok-row-2.ensures.row c.note.ensures.row c.note.ensures.words)
+    rw c.note.ensures.row
+    (takes_on c.args.recorder.now c.turn_within.new.recorder c.note.new.self c.is_some.result (g.W.Words.stream c.args.words.now) c.in_ok-row-2.row.event c.args.client.now c.in_ok-row-2.row c.in_ok-row-2.row c.turn_within.new.client
+    (c.is_some.ensures ∙ ap is_some c.ended.ensures) c.if-is_some.false c.in_ok-row-2.ensures.row refl c.note.ensures.words)
 
 pub returns-clause-recorded : goal.returns-clause-recorded
 returns-clause-recorded g c =
