@@ -45,7 +45,7 @@ fn would_serve_asked(
     now: u64,
     mut asked: Asked<'_>,
 ) -> Result<bool, NoMemory>
-    ensures { IfOk result (λ served. served ≡ is_given (way_asked config.now now table.now (Some asked)).0) }
+    ensures { IfOk result (λ served. served ≡ is_given (way_asked config.now now table.now (Some asked.entry)).0) }
 {
     if let Some(entry) = table.peek(&asked.key) {
         return Ok(entry.is_valid(now));

@@ -87,7 +87,7 @@ fn way_found(
     asked: Asked<'_>,
     answer: Answer,
 ) -> Result<Way, NoMemory>
-    ensures { IfOk result (λ way. way ≡ plain.way_found config.now asked table.now answer) }
+    ensures { IfOk result (λ way. way ≡ plain.way_found config.now asked.entry table.now answer) }
 {
     match answer {
         Some(outcome) => Ok(Way::Given(outcome)),
@@ -106,8 +106,8 @@ fn way_asked(
     now: u64,
     mut asked: Asked<'_>,
 ) -> Result<Way, NoMemory>
-    ensures way { IfOk result (λ way. way ≡ (plain.way_asked config.now now table.old (Some asked)).0) }
-    ensures table { OnOk result (table.new ≡ (plain.way_asked config.now now table.old (Some asked)).1) }
+    ensures way { IfOk result (λ way. way ≡ (plain.way_asked config.now now table.old (Some asked.entry)).0) }
+    ensures table { OnOk result (table.new ≡ (plain.way_asked config.now now table.old (Some asked.entry)).1) }
 {
     if let Some(answer) = serve_own(table, alloc, &asked, now)? {
         return way_found(&*table, alloc, config, asked, answer);
