@@ -1,5 +1,5 @@
 -- How many queries wait, where those of a request are put or taken out.
-use Rattle.std.proofs.Common.{◌≡◌, ℕ, suc, ◌+◌, ◌<◌, ◌≤◌, ◌^◌, List, [], ◌∷◌, ◌++◌, length, Option, Some, None, Ordering, Less, Equal, Greater, nat_cmp, cond, Bool, true, false, refl, sym, ap, ap₂, ◌∙◌, arith}
+use Rattle.std.proofs.Common.{◌≡◌, ℕ, suc, ◌+◌, ◌<◌, ◌≤◌, ◌^◌, List, [], ◌∷◌, ◌++◌, length, Option, Some, None, Ordering, Less, Equal, Greater, nat_cmp, cond, Bool, true, false, refl, sym, subst, ap, ap₂, ◌∙◌, ◌-◌, arith}
 use Rattle.std.specs.Prelude.{unwrap_or, option_map, nat_lt}
 use Rattle.std.specs.List.{AllByRecursion, sum_by}
 use Rattle.std.specs.List.Sorted.{IsStrictlySortedBy}
@@ -83,22 +83,42 @@ count_put k v es rises =
     ap₂ (λ (a b : ℕ). a + b) (all_of (puts k v es)) (weighs (entry_at k es)) ∙ sum_by-insert_entry many nat_cmp_total es k v rises
     ∙ ap (λ (a : ℕ). a + length (askers_of v)) (sym (all_of es))
 
--- those of one request are no more than all
-pub no_more : (count k : ℕ) (es : Table) → Counts count es → length (askers_or_none (entry_at k es)) ≤ count
-no_more count k es counts = let left = count_freed k es in let all = counts.count_is in omega arith
+-- ---- what a table of them counts
 
-pub counts_freed : (count left k : ℕ) (es : Table) → Counts count es → left + length (askers_or_none (entry_at k es)) ≡ count → Counts left (frees k es)
-counts_freed count left k es counts is = record {
-  count_is = (let freed = count_freed k es in let all = counts.count_is in omega arith);
-  in_order = freed_rises k es counts.in_order;
-}
+none_rises : Rises []
+unfolding IsStrictlySortedBy
+none_rises = tt
 
-pub counts_put : (count new k : ℕ) (v : Waiting) (es : Table) → Counts count es
-    → new + length (askers_or_none (entry_at k es)) ≡ count + length (askers_of v) → Counts new (puts k v es)
-counts_put count new k v es counts is = record {
-  count_is = (let put = count_put k v es counts.in_order in let all = counts.count_is in omega arith);
-  in_order = put_rises k v es counts.in_order;
-}
+pub none_counts : (es : Table) → es ≡ [] → Counts 0 es
+none_counts es none = subst (Counts 0) (sym none) (record { count_is = refl; in_order = none_rises })
+
+module _ (count gone k : ℕ) (es : Table) (o : Option Waiting) (counts : Counts count es) (entry : o ≡ entry_at k es) (is : gone ≡ length (askers_or_none o)) where
+  gone_is : gone ≡ length (askers_or_none (entry_at k es))
+  gone_is = is ∙ ap (λ (w : Option Waiting). length (askers_or_none w)) entry
+
+  -- those of one request are no more than all
+  pub no_more : gone ≤ count
+  no_more = let freed = count_freed k es in let all = counts.count_is in let those = gone_is in omega arith
+
+  -- without those of one request
+  pub counts_freed : (new : Table) → new ≡ frees k es → Counts (count - gone) new
+  counts_freed new new_is = subst (Counts (count - gone)) (sym new_is) (record {
+    count_is = (let freed = count_freed k es in let all = counts.count_is in let those = gone_is in omega arith);
+    in_order = freed_rises k es counts.in_order;
+  })
+
+  -- with some in their place
+  pub counts_put : (more : ℕ) (v : Waiting) (new : Table) → more ≡ length (askers_of v) → new ≡ puts k v es → Counts (count + more - gone) new
+  counts_put more v new more_is new_is = subst (Counts (count + more - gone)) (sym new_is) (record {
+    count_is = (let put = count_put k v es counts.in_order in let all = counts.count_is in let those = gone_is in let few = no_more in omega arith);
+    in_order = put_rises k v es counts.in_order;
+  })
+
+-- how many are left, and how many are gone
+pub count_left : (k : ℕ) (es old new : Table) (o : Option Waiting) → es ≡ old → o ≡ entry_at k es → new ≡ frees k es
+    → length (askers_in new) + length (askers_or_none o) ≡ length (askers_in old)
+count_left k es old new o same entry new_is =
+    ap₂ (λ (t : Table) (w : Option Waiting). length (askers_in t) + length (askers_or_none w)) new_is entry ∙ count_freed k es ∙ ap (λ (t : Table). length (askers_in t)) same
 
 length_one_more : (asker : Asker) (askers : List Asker) → length (askers ++ asker ∷ []) ≡ suc (length askers)
 length_one_more asker [] = refl

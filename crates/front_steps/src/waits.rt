@@ -1,6 +1,6 @@
 //! The queries that wait.
 
-ghost use Rattle.std.specs.Prelude.{◌≡◌, ◌+◌, ◌<◌, ◌^◌, true, length, OnOk, IfErr};
+ghost use Rattle.std.specs.Prelude.{◌≡◌, ◌+◌, ◌<◌, ◌^◌, true, length, OnOk, IfErr, IfNone};
 ghost use Rattle.client_request.specs.Timers.{IsWant};
 ghost use Rattle.number_table.specs.Entries.{entry_at, frees, puts};
 ghost use Rattle.std.specs.Map.{lookup};
@@ -171,6 +171,7 @@ impl Waits {
         ensures found { result ≡ entry_at number self.old.requests }
         ensures left { self.new ≡ record self.old { requests = frees number self.old.requests } }
         ensures count { length (askers_in self.new.requests) + length (askers_or_none result) ≡ length (askers_in self.old.requests) }
+        ensures none { IfNone result (self.new ≡ self.old) }
     {
         let waiting = self.requests.remove(number);
         self.count -= askers_or_none(&waiting);
