@@ -322,8 +322,9 @@ def lookup(programs, folder, options):
             number += 1
             name = ["www.example", "alias.example", "missing.example", "n%d.w.example" % number, "n%d.big.example" % number][number % 5]
             record = folder / ("lookup%d.record" % number)
+            record.unlink(missing_ok=True)
             first, first_stream = len(relay.datagrams), len(relay.streams)
-            ran = subprocess.run([programs.dns_lookup, "--record", str(record), "@127.0.0.1", "-p", str(relay.port), name, "A", "+short", "+time=3"], capture_output=True, text=True, timeout=60)
+            ran = subprocess.run([programs.dns_lookup, "--record", str(record), "@127.0.0.1", "-p", str(relay.port), name, "A", "+short", "+time=1"], capture_output=True, text=True, timeout=60)
             time.sleep(0.02)
             trace = Trace(programs, record, "lookup %d (%s)" % (number, name))
             expect(mode_of(record) == 0o600, trace.what + ": the file's mode")
@@ -363,9 +364,20 @@ def forwarder(programs, port, upstream, record=None, words=()):
     server = subprocess.Popen(command, stdin=subprocess.PIPE, stdout=subprocess.PIPE, stderr=subprocess.PIPE)
     server.stdin.write(b"nameserver 127.0.0.1\noptions timeout:3\n")
     server.stdin.close()
-    time.sleep(0.5)
-    expect(server.poll() is None, "dns_forward does not serve: %s" % (server.stdout.read() + server.stderr.read() if server.poll() is not None else b""))
-    return server
+    for _ in range(100):
+        time.sleep(0.1)
+        with socket.socket(socket.AF_INET, socket.SOCK_DGRAM) as s:
+            s.settimeout(1)
+            s.connect(("127.0.0.1", port))
+            try:
+                s.send(struct_query(1, "www.example"))
+                s.recv(65535)
+                return server
+            except OSError:
+                pass
+        expect(server.poll() is None, "dns_forward ends with %s" % server.returncode)
+    server.kill()
+    expect(False, "dns_forward does not serve")
 
 
 def dnsperf(port, file, *words):
@@ -437,6 +449,7 @@ def forward(programs, folder, options):
     server, port = serve_zone(folder)
     relay = Relay(port)
     front, record = free_port(), folder / "forward.record"
+    record.unlink(missing_ok=True)
     began, stop = time.monotonic(), threading.Event()
     program = forwarder(programs, front, relay.port, record)
     threading.Thread(target=seasons, args=(relay, began, options.seconds, stop), daemon=True).start()
@@ -468,14 +481,15 @@ def forward(programs, folder, options):
                 expect(rcode == 2, "forward: %s was answered, and its reply is an error" % name)
             compared += 1
     errors = sum(1 for words in replies.values() if words[0] == "err")
-    print("forward: dnsperf sent %d queries and had %d answers, %d lost; %d events in %d octets, %s; %d requests, %d replies, %d of them errors; %d datagrams and %d streams agree; %d answers of %d agree" % (
+    print("forward: dnsperf sent %d queries and had %d answers, %d lost; %d events in %d octets, %s; %d requests, %d replies, %d of them errors; the relay got %d datagrams of %d, and %d streams, which agree; %d answers of %d agree" % (
         found["Queries sent"], found["Queries completed"], found["Queries lost"], trace.events, trace.octets, told or "not ended", len(names), len(replies), errors, got[0], got[0] + got[1], got[2], compared, len(asker.answers)))
     last = [line for line in trace.lines if line.startswith("at ")][-1].split()[1]
     first = [line for line in trace.lines if line.startswith("at ")][0].split()[1]
     print("forward: the record lasts %.1f s" % ((int(last) - int(first)) / 1e6))
+    print("picture: %s" % trace.picture(200))
+    sys.stdout.flush()
     trace.judge(options.reference, most=3000)
     print("forward: right")
-    print("picture: %s" % trace.picture(200))
 
 
 def cost(programs, folder, options):
@@ -494,6 +508,7 @@ def cost(programs, folder, options):
                 recorded = turn % 2 == 1
                 front = free_port()
                 record = folder / ("cost%s%d.record" % (kind, turn))
+                record.unlink(missing_ok=True)
                 program = forwarder(programs, front, port, record if recorded else None)
                 try:
                     found = dnsperf(front, file, "-l", "3", "-q", "50", "-t", "5")
@@ -538,31 +553,42 @@ def faults(programs, folder, options):
 
         # A limit that is reached within the first lines, at each of many octets: before the first event nothing is asked, and behind it the lookup goes on.
         whole = folder / "whole.record"
+        whole.unlink(missing_ok=True)
         status, out, errors = said(programs, words, whole)
         expect(status == 0 and errors == "", "a whole record: status %d, %s" % (status, errors))
         head = whole.read_bytes().index(b"\nat ") + 1
         size = whole.stat().st_size
-        for most in [0, 1, head - 1, head, head + 1, head + 40, size - 3, size]:
+        # (How long a record is varies by its words' digits.)
+        ended = 0
+        for most in [0, 1, 1000, *range(head - 100, size + 100, 20), size + 1000]:
             record = folder / ("limit%d.record" % most)
+            record.unlink(missing_ok=True)
             status, out, errors = said(programs, words, record, lambda: resource.setrlimit(resource.RLIMIT_FSIZE, (most, most)) or signal.signal(signal.SIGXFSZ, signal.SIG_IGN))
-            if most < head:
-                expect(status == 8, "a limit of %d octets: status %d, %r" % (most, status, errors))
+            if status == 8:
+                expect(most < size and out == "" and errors == "dns_lookup: nothing is recorded: it could not be made or written\n", "a limit of %d octets: %r, %r" % (most, out, errors))
             else:
-                expect(status == 0 and sorted(out.split()) == ["192.0.2.1", "192.0.2.2"], "a limit of %d octets: status %d, %r, %r" % (most, status, out, errors))
-                told = re.fullmatch(r"dns_lookup: the record ended: it could not be written; events behind it: ([1-9]\d*)\n", errors)
-                expect(told or errors == "", "a limit of %d octets: %r" % (most, errors))
-                Trace(programs, record, "a limit of %d octets" % most)
+                expect(most > 1000 and status == 0 and sorted(out.split()) == ["192.0.2.1", "192.0.2.2"], "a limit of %d octets: status %d, %r, %r" % (most, status, out, errors))
+                told = re.fullmatch(r"dns_lookup: the record ended: it could not be written; events behind it: ([1-3])\n", errors)
+                expect(told or errors == "" and most > head, "a limit of %d octets: %r" % (most, errors))
+                expect(record.stat().st_size <= most, "a limit of %d octets is passed" % most)
+                trace = Trace(programs, record, "a limit of %d octets" % most)
+                expect(trace.events + (int(told.group(1)) if told else 0) == 3, "a limit of %d octets: %d events" % (most, trace.events))
+                ended += bool(told)
+        expect(ended > 3, "no record ended at a limit")
+        print("a file that may not grow: %d records ended, and each lookup had its answer" % ended)
 
         # A small file system that is full.
         room = folder / "small"
         room.mkdir()
         if subprocess.run(["mount", "-t", "tmpfs", "-o", "size=100k", "none", str(room)]).returncode == 0:
             try:
-                (room / "filling").write_bytes(b"x" * (100 * 1024 - (head // 4096 + 1) * 4096))
-                record = room / "record"
-                status, out, errors = said(programs, words, record)
-                expect(status in (0, 8), "a full file system: status %d, %r" % (status, errors))
-                print("a full file system: status %d, %s" % (status, errors.strip() or "the record is whole"))
+                for pages in (head // 4096, head // 4096 + 1):
+                    record = room / ("record%d" % pages)
+                    (room / "filling").write_bytes(b"x" * (100 * 1024 - pages * 4096))
+                    status, out, errors = said(programs, words, record)
+                    expect(status in (0, 8) and (status == 0 or out == ""), "a full file system: status %d, %r" % (status, errors))
+                    print("a file system with %d octets left: status %d, %s" % (pages * 4096, status, errors.strip() or "the record is whole"))
+                    record.unlink(missing_ok=True)
             finally:
                 subprocess.run(["umount", str(room)])
         else:

@@ -1,7 +1,8 @@
 -- What is recorded, one row more at a time.
-use Rattle.std.proofs.Common.{◌≡◌, ◌≤◌, ◌+◌, ℕ, Bool, true, false, ◌&&◌, List, [], ◌∷◌, ◌++◌, length, length-append, take, Option, Some, None, refl, sym, ap, ◌∙◌, subst, append_assoc, append-nil}
+use Rattle.std.proofs.Common.{arith, ◌≡◌, ◌≤◌, ◌+◌, ℕ, Bool, true, false, ◌&&◌, List, [], ◌∷◌, ◌++◌, length, length-append, take, Option, Some, None, refl, sym, ap, ◌∙◌, subst, append_assoc, append-nil}
 use Rattle.std.specs.List.{AllByRecursion}
 use Rattle.std.specs.Prelude.{is_some, nat_lt}
+use Rattle.std.proofs.lemmas.Bool.Decides.{nat_tests}
 use Rattle.client_core.proofs.Replaying.{row_event}
 use Rattle.client_loop.proofs.Rows.{event_behind, leads_on, plain_of}
 use Rattle.client_loop.specs.Turns.{events_of}
@@ -231,4 +232,4 @@ keeps_more rows row held mid after r s t client middle moved h k o before is =
 
 -- words are enough where they are not few
 pub are_enough : (few : Bool) (words most : ℕ) → few ≡ nat_lt words most → few ≡ false → most ≤ words
-are_enough few words most is no = let off : nat_lt words most ≡ false = sym is ∙ no in grind arith
+are_enough few words most is off = let less : nat_lt words most ≡ false = sym is ∙ off in grind (arith, nat_tests)
