@@ -75,7 +75,7 @@ fn learn_all<F: Front>(front: &mut F, servers: &[ServerConf]) -> Result<(), NoMe
 }
 
 /// How the program ends where the forwarder stops.
-fn stopped_by(alloc: Global, error: Error) -> Ending
+pub fn stopped_by(alloc: Global, error: Error) -> Ending
     ensures ends { IsServeEnd result }
     ensures status { (status_of result ≡ 6) ⊎ (status_of result ≡ 7) }
     ensures line { status_of result ≡ 7 → line_of result ≡ spec.numbers_line }
@@ -126,7 +126,7 @@ fn forwarder_of(
 }
 
 /// Listens, tells the front the servers of a configuration, and makes a forwarder that asks them.
-fn begin<F: Front>(
+pub fn begin<F: Front>(
     alloc: Global,
     options: &Options,
     seed: u64,
@@ -175,7 +175,7 @@ fn serve_conf<F: Front, C: Clock, W: Words, V: Watch>(
 }
 
 /// The line that says how many answers there were.
-fn answered_line(alloc: Global, answered: u64) -> Result<Vec<u8>, AllocError>
+pub fn answered_line(alloc: Global, answered: u64) -> Result<Vec<u8>, AllocError>
     ensures { IfOk result (λ v. v.items ≡ spec.answered_line answered) }
 {
     let text = format!(in alloc; "answered {answered}\n")?;
@@ -183,7 +183,7 @@ fn answered_line(alloc: Global, answered: u64) -> Result<Vec<u8>, AllocError>
 }
 
 /// The configuration whose servers are asked, of the one that a source gives.
-fn conf_asked<S: Source, W: Words>(
+pub fn conf_asked<S: Source, W: Words>(
     alloc: Global,
     options: &Options,
     source: &mut S,
@@ -232,7 +232,7 @@ fn serve_source<S: Source, F: Front, C: Clock, W: Words, V: Watch>(
 }
 
 /// Ends without a line of answers: by the line that says why, if there is one.
-fn end_without<K: Sink>(sink: &mut K, ending: Ending) -> Status
+pub fn end_without<K: Sink>(sink: &mut K, ending: Ending) -> Status
     requires { IsEndOfSource ending }
     ensures status { (result.0 ≡ status_of ending) ⊎ (result.0 ≡ 6) }
     ensures statuses { IsOtherEnd result.0 }

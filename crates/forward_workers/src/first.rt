@@ -1,12 +1,13 @@
 //! What the first thread does.
 
-ghost use Rattle.std.specs.Prelude.{◌≡◌, IfOk};
+ghost use Rattle.std.specs.Prelude.{◌≡◌, IfOk, count_by};
+ghost use Rattle.forward_run.specs.Turns as turns;
 ghost use Rattle.forward_workers.specs.Lanes.{IsFirst, IsFirstTurn};
 
 use client_core::Clock;
 use client_request::{Error, Words};
-use forward_run::{Front, Watch, act_all, answers_among, happened};
-use front_peers::FrontEvent;
+use forward_run::{Front, Watch, act_all, happened, is_answer};
+use front_peers::{FrontEvent, FrontOut};
 use front_shared::{ForwarderKey, Pass, Receipt, SharedForwarder};
 use std::sync::Wait;
 
@@ -20,7 +21,7 @@ fn turn<R: Wait, L: ForwarderKey, W: Words + Drop, F: Front, C: Clock>(
     front: &mut F,
     clock: &mut C,
 ) -> Result<Receipt, Error>
-    ensures { IfOk result (IsFirstTurn pass.old pass.new (F.deeds front.old) (F.deeds front.new)) }
+    ensures { IfOk result (λ r. IsFirstTurn pass.old pass.new (F.deeds front.old) (F.deeds front.new) r.number r.before r.row) }
 {
     front.wait(shared.may_wait(rt));
     let polled = front.poll()?;
@@ -35,6 +36,13 @@ fn turn<R: Wait, L: ForwarderKey, W: Words + Drop, F: Front, C: Clock>(
     act_all(front, receipt.before.as_slice())?;
     act_all(front, receipt.row.outs.as_slice())?;
     Ok(receipt)
+}
+
+/// How many outs are answers.
+fn answers_among(outs: &[FrontOut]) -> usize
+    ensures { result ≡ count_by turns.is_answer outs.now }
+{
+    outs.iter().filter(|out| is_answer(out)).count()
 }
 
 /// So many turns of the first thread. How many answers they put out.

@@ -1,8 +1,8 @@
 //! Workers, each by a thread of its own.
 
-ghost use Rattle.std.specs.Prelude.{◌≡◌, ◌+◌, length, IfOk, IfErr};
+ghost use Rattle.std.specs.Prelude.{◌≡◌, length};
 ghost use Rattle.std.specs.Thread.{IsSend, IsSync};
-ghost use Rattle.forward_workers.specs.Lanes.{IsJoined, WorkerEnds, WorkersEnd};
+ghost use Rattle.forward_workers.specs.Lanes.{IsJoined, WorkerEnds, WorkersEnd, told_by};
 
 use crate::door::Door;
 use crate::working::{Worker, run_worker};
@@ -63,7 +63,8 @@ fn run_workers<
     passes: &mut [Pass<L>],
     workers: &mut [Worker<D, C>],
 ) -> Result<u64, Error>
-    ensures { WorkersEnd D.deeds passes.old passes.new workers.old workers.new result }
+    requires { length passes.old ≡ length workers.old }
+    ensures { WorkersEnd passes.old passes.new (told_by D.deeds workers.old) (told_by D.deeds workers.new) result }
 {
     let Some((pass, others)) = passes.split_first_mut() else {
         return Ok(0);
@@ -91,16 +92,17 @@ fn one_and_rest<
     others: &mut [Pass<L>],
     rest: &mut [Worker<D, C>],
 ) -> (Result<u64, Error>, Result<u64, Error>)
+    requires { length others.old ≡ length rest.old }
     ensures mine { WorkerEnds pass.old pass.new (D.deeds worker.old.door) (D.deeds worker.new.door) result.0 }
-    ensures theirs { WorkersEnd D.deeds others.old others.new rest.old rest.new result.1 }
+    ensures theirs { WorkersEnd others.old others.new (told_by D.deeds rest.old) (told_by D.deeds rest.new) result.1 }
 {
     let mut mine = || -> Result<u64, Error>
         requires { IsSync T.row × IsSend L.row × IsSend D.row × IsSend C.row }
         ensures { WorkerEnds pass.entry.now pass.exit.now (D.deeds worker.entry.now.door) (D.deeds worker.exit.now.door) result }
     { lanes.run(pass, worker) };
     let mut theirs = || -> Result<u64, Error>
-        requires { IsSync R.row × IsSync T.row × IsSend L.row × IsSend D.row × IsSend C.row }
-        ensures { WorkersEnd D.deeds others.entry.now others.exit.now rest.entry.now rest.exit.now result }
+        requires { IsSync R.row × IsSync T.row × IsSend L.row × IsSend D.row × IsSend C.row × (length others.now ≡ length rest.now) }
+        ensures { WorkersEnd others.entry.now others.exit.now (told_by D.deeds rest.entry.now) (told_by D.deeds rest.exit.now) result }
     { run_workers(rt, lanes, others, rest) };
     join_mut(rt, &mut mine, &mut theirs)
 }
@@ -119,7 +121,8 @@ pub(crate) fn run_lanes<
     workers: &mut [Worker<D, C>],
     turns: u64,
 ) -> Result<u64, Error>
-    ensures { WorkersEnd D.deeds passes.old passes.new workers.old workers.new result }
+    requires { length passes.old ≡ length workers.old }
+    ensures { WorkersEnd passes.old passes.new (told_by D.deeds workers.old) (told_by D.deeds workers.new) result }
 {
     let lanes = SharedLanes { rt, shared, turns };
     run_workers(rt, &lanes, passes, workers)

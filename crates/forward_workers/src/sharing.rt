@@ -1,9 +1,9 @@
 //! One forwarder that the first thread and the workers share.
 
-ghost use Rattle.std.specs.Prelude.{◌≡◌, ◌+◌, ◌<◌, ◌^◌, false, length, IfOk, IfErr};
+ghost use Rattle.std.specs.Prelude.{◌≡◌, ◌+◌, ◌<◌, ◌^◌, false, length, IfOk};
 ghost use Rattle.std.specs.Thread.{IsSend, IsSync};
-ghost use Rattle.forward_workers.specs.Lanes.{AllEnd, AreSettled, FirstEnds, IsEnd, IsShared, WorkersEnd};
-ghost use Rattle.front_shared.specs.History.{numbered, opening_of};
+ghost use Rattle.forward_workers.specs.Lanes.{AllEnd, AreSettled, FirstEnds, IsShared, WorkersEnd, told_by};
+ghost use Rattle.front_shared.specs.History.{opening_of};
 ghost use Rattle.joint_history.specs.Words.{word_of};
 
 use crate::door::Door;
@@ -39,12 +39,13 @@ fn first_and_workers<
     workers: &mut [Worker<D, C>],
     turns: u64,
 ) -> (Result<u64, Error>, Result<u64, Error>)
+    requires { length others.old ≡ length workers.old }
     ensures first { FirstEnds turns pass.old pass.new (F.deeds front.old) (F.deeds front.new) result.1 }
-    ensures workers { WorkersEnd D.deeds others.old others.new workers.old workers.new result.0 }
+    ensures workers { WorkersEnd others.old others.new (told_by D.deeds workers.old) (told_by D.deeds workers.new) result.0 }
 {
     let mut theirs = || -> Result<u64, Error>
-        requires { IsSync R.row × IsSend L.row × IsSync L.row × IsSend W.row × IsSend D.row × IsSend C.row }
-        ensures { WorkersEnd D.deeds others.entry.now others.exit.now workers.entry.now workers.exit.now result }
+        requires { IsSync R.row × IsSend L.row × IsSync L.row × IsSend W.row × IsSend D.row × IsSend C.row × (length others.now ≡ length workers.now) }
+        ensures { WorkersEnd others.entry.now others.exit.now (told_by D.deeds workers.entry.now) (told_by D.deeds workers.exit.now) result }
     { run_lanes(rt, shared, others, workers, turns) };
     let mut mine = || -> Result<u64, Error>
         ensures { FirstEnds turns pass.entry.now pass.exit.now (F.deeds front.entry.now) (F.deeds front.exit.now) result }
@@ -71,7 +72,8 @@ fn turn_by_all<
     workers: &mut [Worker<D, C>],
     turns: u64,
 ) -> Result<u64, Error>
-    ensures { AllEnd turns passes.old passes.new (F.deeds front.old) (F.deeds front.new) D.deeds workers.old workers.new result }
+    requires { length passes.old ≡ length workers.old + 1 }
+    ensures { AllEnd turns passes.old passes.new (F.deeds front.old) (F.deeds front.new) (told_by D.deeds workers.old) (told_by D.deeds workers.new) result }
 {
     let Some((pass, others)) = passes.split_first_mut() else {
         return Err(Error::Failed);
@@ -119,7 +121,7 @@ pub(crate) fn share<
     requires opening { L.opening ≡ opening_of forwarder (W.stream words) (length workers.old + 1) }
     requires lives { forwarder.failed ≡ false }
     requires count { length workers.old + 1 < 2 ^ 32 }
-    ensures { IfOk result (IsShared turns forwarder (W.stream words) (F.deeds front.old) (F.deeds front.new) D.deeds workers.old workers.new) }
+    ensures { IfOk result (IsShared turns forwarder (W.stream words) (F.deeds front.old) (F.deeds front.new) (told_by D.deeds workers.old) (told_by D.deeds workers.new)) }
 {
     let callers = workers.len() as u32 + 1;
     let (shared, mut passes) =
@@ -135,6 +137,7 @@ pub(crate) fn share<
         turns,
     );
     let mut closed = shared.close();
+    closed.history_is_legal();
     settle_all(&mut closed, passes.as_mut_slice());
     turned
 }

@@ -1,8 +1,8 @@
 //! What a worker does.
 
-ghost use Rattle.std.specs.Prelude.{◌≡◌, Some, OnOk, IfOk, count_by};
+ghost use Rattle.std.specs.Prelude.{◌≡◌, OnOk, IfOk, count_by};
 ghost use Rattle.forward_run.specs.Front.{acts_on, after_deeds};
-ghost use Rattle.forward_workers.specs.Lanes.{IsMade, IsWorked, WorksSo};
+ghost use Rattle.forward_workers.specs.Lanes.{Goes, IsWorked};
 ghost use Rattle.front_shared.specs.Waiting.{for_any};
 ghost use Rattle.front_shared.specs.Waiting as waiting;
 
@@ -21,14 +21,11 @@ pub struct Worker<D: Door + Drop, C: Clock + Drop> {
     pub clock: C,
 }
 
-/// What came of one turn of a worker.
-pub(crate) enum Worked {
-    /// Nothing came.
-    Nothing,
-    /// A row was made of what came, and what it answers by datagrams was sent.
-    Made(Receipt),
-    /// The history has ended.
-    Ended,
+/// What came of one turn of a worker: how many answers it sent, and whether it goes on.
+#[derive(Drop)]
+pub(crate) struct Went {
+    pub(crate) answered: u64,
+    pub(crate) goes_on: bool,
 }
 
 /// Sends an answer, if it is one by a datagram.
@@ -66,23 +63,20 @@ fn put_out<D: Door>(receipt: &Receipt, door: &mut D) -> Result<(), NoMemory>
 }
 
 /// One turn of a worker: what its door gives is an event of the forwarder at its clock's moment, and of that event's row it sends what is
-/// answered by datagrams. A row by which something begins to wait for the first thread wakes it.
-pub(crate) fn work<
-    R: Wait,
-    L: ForwarderKey,
-    W: Words + Drop,
-    D: Door + Drop,
-    C: Clock + Drop,
->(
+/// answered by datagrams. A row by which something begins to wait for the first thread wakes it. A worker goes on until the history ends.
+fn work<R: Wait, L: ForwarderKey, W: Words + Drop, D: Door + Drop, C: Clock + Drop>(
     rt: &R,
     shared: &SharedForwarder<L, W>,
     pass: &mut Pass<L>,
     worker: &mut Worker<D, C>,
-) -> Result<Worked, Error>
-    ensures { WorksSo pass.old pass.new (D.deeds worker.old.door) (D.deeds worker.new.door) result }
+) -> Result<Went, Error>
+    ensures { IfOk result (Goes pass.old pass.new (D.deeds worker.old.door) (D.deeds worker.new.door)) }
 {
     let Some(what) = worker.door.take()? else {
-        return Ok(Worked::Nothing);
+        return Ok(Went {
+            answered: 0,
+            goes_on: !shared.has_ended(rt),
+        });
     };
     let event = FrontEvent {
         moment: worker.clock.now(),
@@ -91,9 +85,15 @@ pub(crate) fn work<
     match shared.submit(rt, pass, event) {
         Ok(receipt) => {
             put_out(&receipt, &mut worker.door)?;
-            Ok(Worked::Made(receipt))
+            Ok(Went {
+                answered: count_for_any(receipt.row.outs.as_slice()) as u64,
+                goes_on: true,
+            })
         }
-        Err(Error::Failed) => Ok(Worked::Ended),
+        Err(Error::Failed) => Ok(Went {
+            answered: 0,
+            goes_on: false,
+        }),
         Err(error) => Err(error),
     }
 }
@@ -111,24 +111,16 @@ fn work_on<R: Wait, L: ForwarderKey, W: Words + Drop, D: Door + Drop, C: Clock +
     let mut answered: u64 = 0;
     let mut left = turns;
     while left > 0 {
-        let worked = match work(rt, shared, pass, worker) {
-            Ok(worked) => worked,
+        let went = match work(rt, shared, pass, worker) {
+            Ok(went) => went,
             Err(error) => return Err(error),
         };
-        match worked {
-            Worked::Nothing => {
-                if shared.has_ended(rt) {
-                    return Ok(answered);
-                }
-            }
-            Worked::Made(receipt) => {
-                let count = count_for_any(receipt.row.outs.as_slice()) as u64;
-                let Some(more) = answered.checked_add(count) else {
-                    return Err(Error::NumbersUsed);
-                };
-                answered = more;
-            }
-            Worked::Ended => return Ok(answered),
+        let Some(more) = answered.checked_add(went.answered) else {
+            return Err(Error::NumbersUsed);
+        };
+        answered = more;
+        if !went.goes_on {
+            return Ok(answered);
         }
         left -= 1;
     }

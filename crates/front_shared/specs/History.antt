@@ -63,6 +63,12 @@ rows_in [] = []
 rows_in ((k, Made e) ∷ items) = (k, e.row) ∷ rows_in items
 rows_in ((k, Ended caller) ∷ items) = rows_in items
 
+-- the entries of a history
+abbrev pub entries_in : List Item → List Entry
+entries_in [] = []
+entries_in (Made e ∷ items) = e ∷ entries_in items
+entries_in (Ended caller ∷ items) = entries_in items
+
 -- What a pass has seen.
 pub record Passed : Type 0 where
   pub number : ℕ

@@ -2,7 +2,7 @@
 
 ghost use Rattle.std.specs.Prelude.{◌≡◌, ◌≢◌, ◌⊎◌, ◌≤◌, ◌+◌, ◌^◌, [], false, true, length, Err, IfOk, IfErr, IsErrOf, is_some};
 ghost use Rattle.client_request.specs.Timers.{IsWant};
-ghost use Rattle.front_shared.specs.History.{EndsEnded, IsBehind, IsEnded, IsFull, IsSettled, IsSubmitted};
+ghost use Rattle.front_shared.specs.History.{EndsEnded, IsBehind, IsEnded, IsFull, IsLegal, IsSettled, IsSubmitted};
 ghost use Rattle.joint_history.specs.Words.{word_of};
 
 use crate::entry::{Item, Receipt};
@@ -158,6 +158,13 @@ impl<L: ForwarderKey, W: Words + Drop> Desk<L, W> {
     /// How long may be waited for something to happen.
     pub(crate) fn may_wait(&self) -> u128 {
         self.forwarder.may_wait()
+    }
+
+    /// The history is legal. It does nothing.
+    pub(crate) fn history_is_legal(&self)
+        ensures { IsLegal L.opening self.now }
+    {
+        let _count = self.count;
     }
 
     /// The pass of a caller has seen all of the history.

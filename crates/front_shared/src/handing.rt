@@ -44,6 +44,7 @@ fn keep_all(outs: &[FrontOut], waiting: &mut FrontOuts) -> Result<(), NoMemory>
 }
 
 /// What is left of a row: what the caller is told that waited, and whether the first caller is to be woken.
+#[derive(Drop)]
 pub(crate) struct Handed {
     pub(crate) before: FrontOuts,
     pub(crate) wakes: bool,

@@ -161,6 +161,13 @@ impl<L: ForwarderKey, W: Words + Drop> SharedForwarder<L, W> {
 }
 
 impl<L: ForwarderKey, W: Words + Drop> Closed<L, W> {
+    /// The history is legal. It does nothing.
+    pub fn history_is_legal(&self)
+        ensures { IsLegal L.opening self.now.desk }
+    {
+        self.desk.history_is_legal();
+    }
+
     /// A pass sees all of the history, which then has no calls of it but those that it had seen.
     pub fn settle(&mut self, pass: &mut Pass<L>)
         ensures same { self.new.desk ≡ self.old.desk }

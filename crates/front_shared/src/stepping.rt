@@ -20,6 +20,7 @@ use std::alloc::Global;
 use std::marker::Brand;
 
 /// What a step made, before it stands in the history.
+#[derive(Drop)]
 struct Made {
     row: FrontRow,
     handed: Handed,
