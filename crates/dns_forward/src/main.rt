@@ -4,13 +4,13 @@
 use client_edge::{FileOpener, RandWords, RealClock, command_words};
 use client_request::Words;
 use dns_values::{IpAddr, NoMemory, Seq, StdSink, StdSource};
-use forward_run::{StatusLine, Unwatched, serve_as};
+use forward_run::{StatusLine, serve_as};
 use forward_words::{Fault, Options, options_of};
 use forward_workers::{Worker, serve_by_all};
 use front_edge::SocketFront;
 use rand::rngs::StdRng;
 use std::process::ExitCode;
-use std::sync::Wait;
+use std::sync::{Mutex, Wait};
 use std::thread::Threads;
 use worker_edge::{Common, SharedFront, SystemDoor};
 
@@ -98,6 +98,16 @@ fn serve_shared<T: Threads + Wait + Sync>(
     let Ok(mut workers) = workers_at(rt, &common, addresses, options.workers) else {
         return NO_MEMORY;
     };
+    let line = Mutex::new(StatusLine::new(
+        alloc,
+        FileOpener::new(rt),
+        StdSink::new(rt.stderr()),
+        options.status,
+    ));
+    let watch = match options.status {
+        Some(_) => Some(&line),
+        None => None,
+    };
     let status = serve_by_all(
         threads,
         alloc,
@@ -109,7 +119,7 @@ fn serve_shared<T: Threads + Wait + Sync>(
         &mut SharedFront::new(rt, alloc, listened, &common),
         &mut RealClock::new(rt),
         random,
-        &mut Unwatched,
+        watch,
         workers.as_mut_slice(),
     );
     status.0

@@ -4,12 +4,13 @@ ghost use Rattle.std.specs.Prelude.{◌≡◌, IfOk, count_by};
 ghost use Rattle.forward_run.specs.Turns as turns;
 ghost use Rattle.forward_workers.specs.Lanes.{IsFirst, IsFirstTurn};
 
+use crate::telling::tell;
 use client_core::Clock;
 use client_request::{Error, Words};
 use forward_run::{Front, Watch, act_all, happened, is_answer};
 use front_peers::{FrontEvent, FrontOut};
 use front_shared::{ForwarderKey, Pass, Receipt, SharedForwarder};
-use std::sync::Wait;
+use std::sync::{Mutex, Wait};
 
 /// One turn of the first thread: its front is told how long it may wait, and is polled; what it gave, or a `Tick`, is an event of the
 /// forwarder at the clock's moment; and the front does what the rows of workers left to it since its last turn, and then what the row
@@ -52,7 +53,7 @@ fn turn_on<R: Wait, L: ForwarderKey, W: Words + Drop, F: Front, C: Clock, V: Wat
     pass: &mut Pass<L>,
     front: &mut F,
     clock: &mut C,
-    watch: &mut V,
+    watch: Option<&Mutex<V>>,
     turns: u64,
 ) -> Result<u64, Error>
     ensures { IfOk result (IsFirst turns pass.old pass.new (F.deeds front.old) (F.deeds front.new)) }
@@ -64,7 +65,7 @@ fn turn_on<R: Wait, L: ForwarderKey, W: Words + Drop, F: Front, C: Clock, V: Wat
             Ok(receipt) => receipt,
             Err(error) => return Err(error),
         };
-        watch.turned(&receipt.row);
+        tell(rt, watch, &receipt.row);
         let before = answers_among(receipt.before.as_slice()) as u64;
         let now = answers_among(receipt.row.outs.as_slice()) as u64;
         let Some(more) = answered.checked_add(before) else {
@@ -93,7 +94,7 @@ pub(crate) fn run_first<
     pass: &mut Pass<L>,
     front: &mut F,
     clock: &mut C,
-    watch: &mut V,
+    watch: Option<&Mutex<V>>,
     turns: u64,
 ) -> Result<u64, Error>
     ensures { IfOk result (IsFirst turns pass.old pass.new (F.deeds front.old) (F.deeds front.new)) }

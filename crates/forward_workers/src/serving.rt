@@ -27,7 +27,7 @@ use proof_front::every_forwarded_trace_is_right;
 use resolv_conf::ResolvConf;
 use std::alloc::Global;
 use std::marker::Brand;
-use std::sync::Wait;
+use std::sync::{Mutex, Wait};
 use std::thread::Threads;
 
 /// The turns of all over a forwarder. How many answers they put out.
@@ -37,7 +37,7 @@ fn turn_all<
     C: Clock + Drop + Send,
     W: Words + Drop + Send,
     D: Door + Drop + Send,
-    V: Watch,
+    V: Watch + Send,
 >(
     rt: &R,
     alloc: Global,
@@ -45,7 +45,7 @@ fn turn_all<
     front: &mut F,
     clock: &mut C,
     rng: W,
-    watch: &mut V,
+    watch: Option<&Mutex<V>>,
     workers: &mut [Worker<D, C>],
     turns: u64,
 ) -> Result<u64, Error>
@@ -66,7 +66,7 @@ fn serve_conf<
     C: Clock + Drop + Send,
     W: Words + Drop + Send,
     D: Door + Drop + Send,
-    V: Watch,
+    V: Watch + Send,
 >(
     rt: &R,
     alloc: Global,
@@ -77,7 +77,7 @@ fn serve_conf<
     front: &mut F,
     clock: &mut C,
     rng: W,
-    watch: &mut V,
+    watch: Option<&Mutex<V>>,
     workers: &mut [Worker<D, C>],
 ) -> Result<u64, Ending>
     requires count { length workers.old + 1 < 2 ^ 32 }
@@ -114,7 +114,7 @@ fn serve_source<
     C: Clock + Drop + Send,
     W: Words + Drop + Send,
     D: Door + Drop + Send,
-    V: Watch,
+    V: Watch + Send,
 >(
     rt: &R,
     alloc: Global,
@@ -125,7 +125,7 @@ fn serve_source<
     front: &mut F,
     clock: &mut C,
     mut rng: W,
-    watch: &mut V,
+    watch: Option<&Mutex<V>>,
     workers: &mut [Worker<D, C>],
 ) -> Result<Vec<u8>, Ending>
     requires count { length workers.old + 1 < 2 ^ 32 }
@@ -162,7 +162,7 @@ pub fn serve_by_all<
     C: Clock + Drop + Send,
     W: Words + Drop + Send,
     D: Door + Drop + Send,
-    V: Watch,
+    V: Watch + Send,
 >(
     rt: &R,
     alloc: Global,
@@ -174,7 +174,7 @@ pub fn serve_by_all<
     front: &mut F,
     clock: &mut C,
     rng: W,
-    watch: &mut V,
+    watch: Option<&Mutex<V>>,
     workers: &mut [Worker<D, C>],
 ) -> Status
     requires count { length workers.old + 1 < 2 ^ 32 }

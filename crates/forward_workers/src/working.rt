@@ -7,12 +7,14 @@ ghost use Rattle.front_shared.specs.Waiting.{for_any};
 ghost use Rattle.front_shared.specs.Waiting as waiting;
 
 use crate::door::Door;
+use crate::telling::tell;
 use client_core::Clock;
 use client_request::{Error, Words};
 use dns_base::NoMemory;
+use forward_run::Watch;
 use front_peers::{FrontEvent, FrontOut};
 use front_shared::{ForwarderKey, Pass, Receipt, SharedForwarder, is_for_any};
-use std::sync::Wait;
+use std::sync::{Mutex, Wait};
 
 /// What a worker has of its own: its door and its clock.
 #[derive(Drop)]
@@ -64,11 +66,19 @@ fn put_out<D: Door>(receipt: &Receipt, door: &mut D) -> Result<(), NoMemory>
 
 /// One turn of a worker: what its door gives is an event of the forwarder at its clock's moment, and of that event's row it sends what is
 /// answered by datagrams. A row by which something begins to wait for the first thread wakes it. A worker goes on until the history ends.
-fn work<R: Wait, L: ForwarderKey, W: Words + Drop, D: Door + Drop, C: Clock + Drop>(
+fn work<
+    R: Wait,
+    L: ForwarderKey,
+    W: Words + Drop,
+    D: Door + Drop,
+    C: Clock + Drop,
+    V: Watch,
+>(
     rt: &R,
     shared: &SharedForwarder<L, W>,
     pass: &mut Pass<L>,
     worker: &mut Worker<D, C>,
+    watch: Option<&Mutex<V>>,
 ) -> Result<Went, Error>
     ensures { IfOk result (Goes pass.old pass.new (D.deeds worker.old.door) (D.deeds worker.new.door)) }
 {
@@ -85,6 +95,7 @@ fn work<R: Wait, L: ForwarderKey, W: Words + Drop, D: Door + Drop, C: Clock + Dr
     match shared.submit(rt, pass, event) {
         Ok(receipt) => {
             put_out(&receipt, &mut worker.door)?;
+            tell(rt, watch, &receipt.row);
             Ok(Went {
                 answered: count_for_any(receipt.row.outs.as_slice()) as u64,
                 goes_on: true,
@@ -99,11 +110,19 @@ fn work<R: Wait, L: ForwarderKey, W: Words + Drop, D: Door + Drop, C: Clock + Dr
 }
 
 /// So many turns of a worker, or those up to the end of the history. How many answers it sent.
-fn work_on<R: Wait, L: ForwarderKey, W: Words + Drop, D: Door + Drop, C: Clock + Drop>(
+fn work_on<
+    R: Wait,
+    L: ForwarderKey,
+    W: Words + Drop,
+    D: Door + Drop,
+    C: Clock + Drop,
+    V: Watch,
+>(
     rt: &R,
     shared: &SharedForwarder<L, W>,
     pass: &mut Pass<L>,
     worker: &mut Worker<D, C>,
+    watch: Option<&Mutex<V>>,
     turns: u64,
 ) -> Result<u64, Error>
     ensures { IfOk result (IsWorked pass.old pass.new (D.deeds worker.old.door) (D.deeds worker.new.door)) }
@@ -111,7 +130,7 @@ fn work_on<R: Wait, L: ForwarderKey, W: Words + Drop, D: Door + Drop, C: Clock +
     let mut answered: u64 = 0;
     let mut left = turns;
     while left > 0 {
-        let went = match work(rt, shared, pass, worker) {
+        let went = match work(rt, shared, pass, worker, watch) {
             Ok(went) => went,
             Err(error) => return Err(error),
         };
@@ -134,16 +153,18 @@ pub(crate) fn run_worker<
     W: Words + Drop,
     D: Door + Drop,
     C: Clock + Drop,
+    V: Watch,
 >(
     rt: &R,
     shared: &SharedForwarder<L, W>,
     pass: &mut Pass<L>,
     worker: &mut Worker<D, C>,
+    watch: Option<&Mutex<V>>,
     turns: u64,
 ) -> Result<u64, Error>
     ensures { IfOk result (IsWorked pass.old pass.new (D.deeds worker.old.door) (D.deeds worker.new.door)) }
 {
-    match work_on(rt, shared, pass, worker, turns) {
+    match work_on(rt, shared, pass, worker, watch, turns) {
         Ok(answered) => Ok(answered),
         Err(error) => {
             shared.end(rt, pass);

@@ -10,13 +10,13 @@ use Rattle.front_peers.specs.declared.event.FrontEvent.{FrontEvent}
 use Rattle.front_peers.specs.declared.event.FrontOut.{FrontOut}
 use Rattle.front_steps.specs.Steps.{Forwarding}
 use Rattle.front_shared.specs.Desk.{IsCounting, IsDesk}
-use Rattle.front_shared.specs.History.{AreMade, EndsEnded, EndsSo, IsEnded, IsKeeping, IsLegal, IsSubmitted, Opening, Passed, Puts, begins_to_wait, calls, entry_of, history}
+use Rattle.front_shared.specs.History.{AreMade, EndsEnded, EndsSo, IsBehind, IsEnded, IsKeeping, IsLegal, IsSubmitted, Opening, Passed, Puts, begins_to_wait, calls, entry_of, history}
 use Rattle.front_shared.specs.Waiting.{after_row, told_to, waits_after}
 use Rattle.front_shared.specs.declared.entry.Entry.{Entry}
 use Rattle.front_shared.specs.declared.entry.Item.{Item}
 use Rattle.front_shared.specs.declared.entry.Item.TheVariants.{Made, Ended}
 use Rattle.front_shared.specs.declared.entry.Receipt.{Receipt}
-use Rattle.front_shared.proofs.Histories.{ended_by, history_more, legal_so, length_made, made_on, none_ended, none_made, puts_call, waits_more}
+use Rattle.front_shared.proofs.Histories.{ended_by, history_more, legal_so, length_made, made_on, none_ended, none_made, put_behind, puts_call, waits_more}
 
 module _ (table : TableId) (o : Opening) (s : Forwarding Whole) (f : ℕ → ℕ) (waiting : List FrontOut) (count : ℕ) (seat : Seat (Unit {0}) (View Item)) (c : IsCounting table o s f waiting count seat) where
   pub keeps : IsKeeping table seat.me.0.seen seat
@@ -143,3 +143,30 @@ pub desk_count : (table : TableId) (o : Opening) (s : Forwarding Whole) (f : ℕ
     → IsDesk table o s f waiting count ended seat → seat.me.0.seen ≡ items → is_some ended ≡ false → 2 ^ 64 ≤ count + 2 → 2 ^ 64 ≤ length items + 2
 desk_count table o s f waiting count None seat items d is none many = subst (λ (n : ℕ). 2 ^ 64 ≤ n + 2) (d.count_is ∙ (sym (length_made d.entries) ∙ ap length (sym d.keeping.seen ∙ is))) many
 desk_count table o s f waiting count (Some caller) seat items d is none many = absurd (true≢false none)
+
+-- ---- by what stands under the lock, before the end
+
+module _ (table : TableId) (o : Opening) (s : Forwarding Whole) (f : ℕ → ℕ) (waiting : List FrontOut) (count : ℕ) where
+  -- an end may stand behind it
+  pub may_end : (ended : Option ℕ) (seat : Seat (Unit {0}) (View Item)) (caller : ℕ) → IsDesk table o s f waiting count ended seat → is_some ended ≡ false → IsLegal o (seat.me.0.seen ++ Ended caller ∷ [])
+  may_end None seat caller d none = ends_legal table o s f waiting count seat d caller
+  may_end (Some c) seat caller d none = absurd (true≢false none)
+
+  pub has_room : (ended : Option ℕ) (seat : Seat (Unit {0}) (View Item)) → IsDesk table o s f waiting count ended seat → is_some ended ≡ false → length seat.me.0.seen + 1 < 2 ^ 64
+  has_room None seat d none = room table o s f waiting count seat d
+  has_room (Some c) seat d none = absurd (true≢false none)
+
+  pub has_ended : (ended : Option ℕ) (seat new : Seat (Unit {0}) (View Item)) (caller : ℕ) → IsDesk table o s f waiting count ended seat → is_some ended ≡ false → IsKeeping table (seat.me.0.seen ++ Ended caller ∷ []) new → EndsSo table o caller new
+  has_ended None seat new caller d none k = ends_so table o s f waiting count seat d caller new k
+  has_ended (Some c) seat new caller d none k = absurd (true≢false none)
+
+  pub sees_end : (ended : Option ℕ) (seat : Seat (Unit {0}) (View Item)) (old new : Passed) → IsDesk table o s f waiting count ended seat → is_some ended ≡ false → Puts old seat.me.0.seen (Ended old.number) new → IsBehind old new
+  sees_end None seat old new d none p = put_behind old new d.entries (subst (λ (items : List Item). Puts old items (Ended old.number) new) d.keeping.seen p)
+  sees_end (Some c) seat old new d none p = absurd (true≢false none)
+
+  pub ends_with : (ended : Option ℕ) (seat new : Seat (Unit {0}) (View Item)) (caller : ℕ) → IsDesk table o s f waiting count ended seat → is_some ended ≡ false → IsKeeping table (seat.me.0.seen ++ Ended caller ∷ []) new → EndsEnded new.me.0.seen
+  ends_with ended seat new caller d none k = let e = has_ended ended seat new caller d none k in (e.entries, caller, e.keeping.seen)
+
+  pub is_counting : (ended : Option ℕ) (seat : Seat (Unit {0}) (View Item)) → IsDesk table o s f waiting count ended seat → is_some ended ≡ false → IsCounting table o s f waiting count seat
+  is_counting None seat d none = d
+  is_counting (Some c) seat d none = absurd (true≢false none)

@@ -4,7 +4,7 @@ use Rattle.std.specs.Prelude.{if◌then◌else◌, is_some, All}
 use Rattle.std.proofs.lemmas.List.{append-nil}
 use mathlib.Core.List.{IsPrefix, map-append}
 use Rattle.joint_history.specs.Views.{own, own_from}
-use Rattle.joint_history.proofs.Beginnings.{own-append}
+use Rattle.joint_history.proofs.Beginnings.{own-append, prefix_trans}
 use Rattle.client_request.specs.declared.event.Row.{Row}
 use Rattle.client_steps.specs.Whole.{Whole}
 use Rattle.front_core.specs.Forwarded.{Forwards, Makes, begins, goes_on}
@@ -127,3 +127,12 @@ unended (e ∷ entries) (b ∷ before) caller is = unended entries before caller
 
 pub none_ended : (entries : List Entry) (items : List Item) → history entries None ≡ items → EndsEnded items → ⊥
 none_ended entries items is ends = unended entries ends.0 ends.1 (is ∙ ends.2)
+
+-- what a call leaves that puts an end
+pub put_behind : (old new : Passed) (before : List Entry) → Puts old (map Made before) (Ended old.number) new → IsBehind old new
+put_behind old new before p = record {
+  number = p.number;
+  begins = prefix_trans old.seen (map Made before) new.seen p.begins (Ended old.number ∷ [], sym p.seen);
+  ends = (before, old.number, p.seen);
+  calls_are = puts_none old new (map Made before) p;
+}

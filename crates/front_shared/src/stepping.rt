@@ -125,9 +125,12 @@ pub(crate) fn step_and_tell<L: ForwarderKey, W: Words>(
 {
     let caller = pass.number;
     match make(alloc, caller, forwarder, words, waiting, event) {
-        Ok(Made { row, handed }) => {
-            let entry = Entry { caller, row };
-            let receipt = tell(joint, keeper, pass, count, entry, handed);
+        Ok(made) => {
+            let entry = Entry {
+                caller,
+                row: made.row,
+            };
+            let receipt = tell(joint, keeper, pass, count, entry, made.handed);
             Ok(receipt)
         }
         Err(error) => {
