@@ -10,7 +10,7 @@ use forward_workers::{Worker, serve_by_all};
 use front_edge::SocketFront;
 use rand::rngs::StdRng;
 use std::process::ExitCode;
-use std::sync::{Mutex, Wait};
+use std::sync::Wait;
 use std::thread::Threads;
 use worker_edge::{Common, SharedFront, SystemDoor};
 
@@ -98,16 +98,6 @@ fn serve_shared<T: Threads + Wait + Sync>(
     let Ok(mut workers) = workers_at(rt, &common, addresses, options.workers) else {
         return NO_MEMORY;
     };
-    let line = Mutex::new(StatusLine::new(
-        alloc,
-        FileOpener::new(rt),
-        StdSink::new(rt.stderr()),
-        options.status,
-    ));
-    let watch = match options.status {
-        Some(_) => Some(&line),
-        None => None,
-    };
     let status = serve_by_all(
         threads,
         alloc,
@@ -119,7 +109,6 @@ fn serve_shared<T: Threads + Wait + Sync>(
         &mut SharedFront::new(rt, alloc, listened, &common),
         &mut RealClock::new(rt),
         random,
-        watch,
         workers.as_mut_slice(),
     );
     status.0
@@ -132,6 +121,7 @@ fn run<T: Threads + Wait + Sync>(threads: &T, rt: HostRuntime) -> u8 {
     };
     match options_of(rt.alloc(), &words) {
         Ok((options, rest)) => match options.listened.try_clone(rt.alloc()) {
+            Ok(_) if options.workers > 1 && options.status.is_some() => USAGE,
             Ok(listened) if options.workers > 1 => {
                 serve_shared(threads, rt, &options, rest, listened, random)
             }

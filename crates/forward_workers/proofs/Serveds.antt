@@ -1,11 +1,11 @@
 -- A configuration that several threads served, and what is written at the end.
-use Rattle.std.proofs.Common.{◌≡◌, ◌<◌, ◌^◌, ℕ, List, Option, Some, None, ap, subst, sym, lit≤, String, Global}
+use Rattle.std.proofs.Common.{◌≡◌, ◌<◌, ◌^◌, ℕ, false, List, Option, Some, None, ap, subst, sym, lit≤, String, Global}
 use Rattle.std.specs.Prelude.{IfSome}
 use Rattle.client_steps.specs.Whole.{Whole}
 use Rattle.command_parts.specs.Ends.{IsBegun}
 use Rattle.dns_values.specs.Sink.{with_octets}
 use Rattle.forward_run.specs.Front.{after_deeds}
-use Rattle.forward_run.specs.Serving.{IfAsked, IsConfAsked, answered_line, begun_deeds, first_of}
+use Rattle.forward_run.specs.Serving.{IfAsked, IsConfAsked, answered_line, asks_itself, begun_deeds, first_of}
 use Rattle.forward_run.specs.Settings.{cache_of, choice_of}
 use Rattle.forward_run.specs.declared.front.FrontDeed.{FrontDeed}
 use Rattle.forward_words.specs.Words.{asked_by}
@@ -20,16 +20,17 @@ use Rattle.forward_workers.specs.Served.{IsAnsweredIf, IsCut, IsDone, IsServed, 
 
 pub served : (options : Options) (asked : Asked) (conf : ResolvConf) (answered : ℕ) (words : ℕ → ℕ) (first : Forwarding Whole) (front : Option (List FrontDeed)) (old new : World)
     → first ≡ first_of options conf → front ≡ after_deeds (begun_deeds asked.port conf) old.front
-    → EveryForwardedTraceIsRight → ((k : ℕ) → words k < 2 ^ 64)
+    → EveryForwardedTraceIsRight → ((k : ℕ) → words k < 2 ^ 64) → asks_itself options.listened asked.port conf ≡ false
     → IsShared asked.turns first words front new.front old.doors new.doors answered
     → IsServed options asked conf answered words old new
-served options asked conf answered words first front old new made told every small shared =
+served options asked conf answered words first front old new made told every small others shared =
     let P : Forwarding Whole → Option (List FrontDeed) → Type 0 = λ f ds. IsShared asked.turns f words ds new.front old.doors new.doors answered in
     let t : P (first_of options conf) (after_deeds (begun_deeds asked.port conf) old.front) =
     subst (λ (f : Forwarding Whole). P f (after_deeds (begun_deeds asked.port conf) old.front)) made (subst (λ (ds : Option (List FrontDeed)). P first ds) told shared) in
     record {
       shared = t;
       right = every (choice_of options.policy) (cache_of options) conf words (rows_of t.legal.entries) t.legal.trace t.legal.last t.legal.left t.legal.made.forwards (lit≤ tt) small;
+      asks_others = others;
     }
 
 pub answered_so : (told : Option (List ℕ)) (options : Options) (asked : Asked) (conf : ResolvConf) (words left : ℕ → ℕ) (answered : ℕ) (line : List ℕ) (old new : World)

@@ -1,10 +1,10 @@
 -- What holds once several threads have served.
-use Rattle.std.specs.Prelude.{◌≡◌, ℕ, List, Option, IfSome, String}
+use Rattle.std.specs.Prelude.{◌≡◌, ℕ, false, List, Option, IfSome, String}
 use Rattle.std.specs.declared.alloc.Global.{Global}
 use Rattle.command_parts.specs.Ends.{IsBegun}
 use Rattle.dns_values.specs.Sink.{with_octets}
 use Rattle.forward_run.specs.Front.{after_deeds}
-use Rattle.forward_run.specs.Serving.{IfAsked, IsConfAsked, answered_line, begun_deeds, first_of}
+use Rattle.forward_run.specs.Serving.{IfAsked, IsConfAsked, answered_line, asks_itself, begun_deeds, first_of}
 use Rattle.forward_run.specs.Settings.{cache_of, choice_of}
 use Rattle.forward_run.specs.declared.front.FrontDeed.{FrontDeed}
 use Rattle.forward_words.specs.declared.options.Options.{Options}
@@ -23,10 +23,11 @@ pub record World : Type 0 where
 abbrev pub around : {F D C : Type 0} {R : Type 1} → (F → Option (List FrontDeed)) → (D → Option (List FrontDeed)) → (old new : F × List (Worker D C)) → (World → World → R) → R
 around front deeds old new P = P (record { front = front old.0; doors = told_by deeds old.1 }) (record { front = front new.0; doors = told_by deeds new.1 })
 
--- The configuration was served: it was listened, once, the servers were learned, and threads shared the forwarder, of which the client within did what is right.
+-- The configuration was served, in which no server is the forwarder itself: it was listened, once, the servers were learned, and threads shared the forwarder, of which the client within did what is right.
 pub record IsServed (options : Options) (asked : Asked) (conf : ResolvConf) (answered : ℕ) (words : ℕ → ℕ) (old new : World) : Type 0 where
   pub shared : IsShared asked.turns (first_of options conf) words (after_deeds (begun_deeds asked.port conf) old.front) new.front old.doors new.doors answered
   pub right : IsRightTrace (choice_of options.policy) (cache_of options) conf words shared.legal.trace
+  pub asks_others : asks_itself options.listened asked.port conf ≡ false
 
 -- The text is a configuration that was served as the options say, and the line says how many answers were put out.
 pub record IsAnswered (options : Options) (asked : Asked) (text : List ℕ) (words : ℕ → ℕ) (line : List ℕ) (old new : World) : Type 0 where

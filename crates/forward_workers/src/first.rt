@@ -4,13 +4,12 @@ ghost use Rattle.std.specs.Prelude.{◌≡◌, IfOk, count_by};
 ghost use Rattle.forward_run.specs.Turns as turns;
 ghost use Rattle.forward_workers.specs.Lanes.{IsFirst, IsFirstTurn};
 
-use crate::telling::tell;
 use client_core::Clock;
 use client_request::{Error, Words};
-use forward_run::{Front, Watch, act_all, happened, is_answer};
+use forward_run::{Front, act_all, happened, is_answer};
 use front_peers::{FrontEvent, FrontOut};
 use front_shared::{ForwarderKey, Pass, Receipt, SharedForwarder};
-use std::sync::{Mutex, Wait};
+use std::sync::Wait;
 
 /// One turn of the first thread: its front is told how long it may wait, and is polled; what it gave, or a `Tick`, is an event of the
 /// forwarder at the clock's moment; and the front does what the rows of workers left to it since its last turn, and then what the row
@@ -47,13 +46,12 @@ fn answers_among(outs: &[FrontOut]) -> usize
 }
 
 /// So many turns of the first thread. How many answers they put out.
-fn turn_on<R: Wait, L: ForwarderKey, W: Words + Drop, F: Front, C: Clock, V: Watch>(
+fn turn_on<R: Wait, L: ForwarderKey, W: Words + Drop, F: Front, C: Clock>(
     rt: &R,
     shared: &SharedForwarder<L, W>,
     pass: &mut Pass<L>,
     front: &mut F,
     clock: &mut C,
-    watch: Option<&Mutex<V>>,
     turns: u64,
 ) -> Result<u64, Error>
     ensures { IfOk result (IsFirst turns pass.old pass.new (F.deeds front.old) (F.deeds front.new)) }
@@ -65,7 +63,6 @@ fn turn_on<R: Wait, L: ForwarderKey, W: Words + Drop, F: Front, C: Clock, V: Wat
             Ok(receipt) => receipt,
             Err(error) => return Err(error),
         };
-        tell(rt, watch, &receipt.row);
         let before = answers_among(receipt.before.as_slice()) as u64;
         let now = answers_among(receipt.row.outs.as_slice()) as u64;
         let Some(more) = answered.checked_add(before) else {
@@ -87,19 +84,17 @@ pub(crate) fn run_first<
     W: Words + Drop,
     F: Front,
     C: Clock,
-    V: Watch,
 >(
     rt: &R,
     shared: &SharedForwarder<L, W>,
     pass: &mut Pass<L>,
     front: &mut F,
     clock: &mut C,
-    watch: Option<&Mutex<V>>,
     turns: u64,
 ) -> Result<u64, Error>
     ensures { IfOk result (IsFirst turns pass.old pass.new (F.deeds front.old) (F.deeds front.new)) }
 {
-    let turned = turn_on(rt, shared, pass, front, clock, watch, turns);
+    let turned = turn_on(rt, shared, pass, front, clock, turns);
     shared.end(rt, pass);
     turned
 }

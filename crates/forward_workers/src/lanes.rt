@@ -8,9 +8,8 @@ use crate::door::Door;
 use crate::working::{Worker, run_worker};
 use client_core::Clock;
 use client_request::{Error, Words};
-use forward_run::Watch;
 use front_shared::{ForwarderKey, Pass, SharedForwarder};
-use std::sync::{Mutex, Wait};
+use std::sync::Wait;
 use std::thread::{Threads, join_mut};
 
 /// Both counts, added up, or the first error that is not `Failed`, or else `Failed`.
@@ -37,10 +36,9 @@ trait Lanes<L: ForwarderKey, D: Door + Drop, C: Clock + Drop> {
 
 /// The lanes of one forwarder that is shared.
 #[derive(Drop)]
-struct SharedLanes<'a, R, L: ForwarderKey, W: Words + Drop, V> {
+struct SharedLanes<'a, R, L: ForwarderKey, W: Words + Drop> {
     rt: &'a R,
     shared: &'a SharedForwarder<L, W>,
-    watch: Option<&'a Mutex<V>>,
     turns: u64,
 }
 
@@ -51,10 +49,9 @@ impl<
     W: Words + Drop,
     D: Door + Drop,
     C: Clock + Drop,
-    V: Watch,
-> Lanes<L, D, C> for SharedLanes<'a, R, L, W, V> {
+> Lanes<L, D, C> for SharedLanes<'a, R, L, W> {
     fn run(&self, pass: &mut Pass<L>, worker: &mut Worker<D, C>) -> Result<u64, Error> {
-        run_worker(self.rt, self.shared, pass, worker, self.watch, self.turns)
+        run_worker(self.rt, self.shared, pass, worker, self.turns)
     }
 }
 
@@ -123,23 +120,16 @@ pub(crate) fn run_lanes<
     W: Words + Drop + Send,
     D: Door + Drop + Send,
     C: Clock + Drop + Send,
-    V: Watch + Send,
 >(
     rt: &R,
     shared: &SharedForwarder<L, W>,
     passes: &mut [Pass<L>],
     workers: &mut [Worker<D, C>],
-    watch: Option<&Mutex<V>>,
     turns: u64,
 ) -> Result<u64, Error>
     requires { length passes.old ≡ length workers.old }
     ensures { WorkersEnd passes.old passes.new (told_by D.deeds workers.old) (told_by D.deeds workers.new) result }
 {
-    let lanes = SharedLanes {
-        rt,
-        shared,
-        watch,
-        turns,
-    };
+    let lanes = SharedLanes { rt, shared, turns };
     run_workers(rt, &lanes, passes, workers)
 }

@@ -11,7 +11,6 @@ mod lanes;
 mod list_door;
 mod serving;
 mod sharing;
-mod telling;
 mod working;
 
 pub use door::Door;

@@ -19,7 +19,7 @@ use command_parts::statuses::USAGE;
 use command_parts::{Ending, deliver};
 use dns_base::Status;
 use dns_values::{Sink, Source};
-use forward_run::{Front, Watch, answered_line, begin, conf_asked, end_without, stopped_by};
+use forward_run::{Front, answered_line, begin, conf_asked, end_without, stopped_by};
 use forward_words::{Asked, Options, asked_by};
 use front_core::Forwarder;
 use front_shared::Opened;
@@ -27,7 +27,7 @@ use proof_front::every_forwarded_trace_is_right;
 use resolv_conf::ResolvConf;
 use std::alloc::Global;
 use std::marker::Brand;
-use std::sync::{Mutex, Wait};
+use std::sync::Wait;
 use std::thread::Threads;
 
 /// The turns of all over a forwarder. How many answers they put out.
@@ -37,7 +37,6 @@ fn turn_all<
     C: Clock + Drop + Send,
     W: Words + Drop + Send,
     D: Door + Drop + Send,
-    V: Watch + Send,
 >(
     rt: &R,
     alloc: Global,
@@ -45,7 +44,6 @@ fn turn_all<
     front: &mut F,
     clock: &mut C,
     rng: W,
-    watch: Option<&Mutex<V>>,
     workers: &mut [Worker<D, C>],
     turns: u64,
 ) -> Result<u64, Error>
@@ -54,8 +52,8 @@ fn turn_all<
     ensures { IfOk result (IsShared turns forwarder (W.stream rng) (F.deeds front.old) (F.deeds front.new) (told_by D.deeds workers.old) (told_by D.deeds workers.new)) }
 {
     let opened = Opened::new(alloc)?;
-    share::<R, Brand, W, F, D, C, V>(
-        rt, alloc, opened, forwarder, rng, front, clock, watch, workers, turns,
+    share::<R, Brand, W, F, D, C>(
+        rt, alloc, opened, forwarder, rng, front, clock, workers, turns,
     )
 }
 
@@ -66,7 +64,6 @@ fn serve_conf<
     C: Clock + Drop + Send,
     W: Words + Drop + Send,
     D: Door + Drop + Send,
-    V: Watch + Send,
 >(
     rt: &R,
     alloc: Global,
@@ -77,7 +74,6 @@ fn serve_conf<
     front: &mut F,
     clock: &mut C,
     rng: W,
-    watch: Option<&Mutex<V>>,
     workers: &mut [Worker<D, C>],
 ) -> Result<u64, Ending>
     requires count { length workers.old + 1 < 2 ^ 32 }
@@ -94,7 +90,7 @@ fn serve_conf<
         front,
         clock,
         rng,
-        watch,
+       
         workers,
         asked.turns,
     ) {
@@ -114,7 +110,6 @@ fn serve_source<
     C: Clock + Drop + Send,
     W: Words + Drop + Send,
     D: Door + Drop + Send,
-    V: Watch + Send,
 >(
     rt: &R,
     alloc: Global,
@@ -125,7 +120,6 @@ fn serve_source<
     front: &mut F,
     clock: &mut C,
     mut rng: W,
-    watch: Option<&Mutex<V>>,
     workers: &mut [Worker<D, C>],
 ) -> Result<Vec<u8>, Ending>
     requires count { length workers.old + 1 < 2 ^ 32 }
@@ -141,7 +135,7 @@ fn serve_source<
         Err(ending) => return Err(ending),
     };
     let answered = match serve_conf(
-        rt, alloc, options, seed, asked, &conf, front, clock, rng, watch, workers,
+        rt, alloc, options, seed, asked, &conf, front, clock, rng, workers,
     ) {
         Ok(answered) => answered,
         Err(ending) => return Err(ending),
@@ -162,7 +156,6 @@ pub fn serve_by_all<
     C: Clock + Drop + Send,
     W: Words + Drop + Send,
     D: Door + Drop + Send,
-    V: Watch + Send,
 >(
     rt: &R,
     alloc: Global,
@@ -174,7 +167,6 @@ pub fn serve_by_all<
     front: &mut F,
     clock: &mut C,
     rng: W,
-    watch: Option<&Mutex<V>>,
     workers: &mut [Worker<D, C>],
 ) -> Status
     requires count { length workers.old + 1 < 2 ^ 32 }
@@ -195,7 +187,7 @@ pub fn serve_by_all<
         return USAGE;
     };
     match serve_source(
-        rt, alloc, options, seed, asked, source, front, clock, rng, watch, workers,
+        rt, alloc, options, seed, asked, source, front, clock, rng, workers,
     ) {
         Ok(line) => deliver(sink, &line),
         Err(ending) => end_without(sink, ending),

@@ -12,11 +12,11 @@ use crate::lanes::{joined, run_lanes};
 use crate::working::Worker;
 use client_core::Clock;
 use client_request::{Error, Words};
-use forward_run::{Front, Watch};
+use forward_run::Front;
 use front_core::Forwarder;
 use front_shared::{Closed, ForwarderKey, Opened, Pass, SharedForwarder};
 use std::alloc::Global;
-use std::sync::{Mutex, Wait};
+use std::sync::Wait;
 use std::thread::{Threads, join_mut};
 
 /// The workers by threads of their own, and the first thread's turns in this one.
@@ -27,7 +27,6 @@ fn first_and_workers<
     F: Front,
     D: Door + Drop + Send,
     C: Clock + Drop + Send,
-    V: Watch + Send,
 >(
     rt: &R,
     shared: &SharedForwarder<L, W>,
@@ -35,7 +34,6 @@ fn first_and_workers<
     others: &mut [Pass<L>],
     front: &mut F,
     clock: &mut C,
-    watch: Option<&Mutex<V>>,
     workers: &mut [Worker<D, C>],
     turns: u64,
 ) -> (Result<u64, Error>, Result<u64, Error>)
@@ -44,12 +42,12 @@ fn first_and_workers<
     ensures workers { WorkersEnd others.old others.new (told_by D.deeds workers.old) (told_by D.deeds workers.new) result.0 }
 {
     let mut theirs = || -> Result<u64, Error>
-        requires { IsSync R.row × IsSend L.row × IsSync L.row × IsSend W.row × IsSend D.row × IsSend C.row × IsSend V.row × (length others.now ≡ length workers.now) }
+        requires { IsSync R.row × IsSend L.row × IsSync L.row × IsSend W.row × IsSend D.row × IsSend C.row × (length others.now ≡ length workers.now) }
         ensures { WorkersEnd others.entry.now others.exit.now (told_by D.deeds workers.entry.now) (told_by D.deeds workers.exit.now) result }
-    { run_lanes(rt, shared, others, workers, watch, turns) };
+    { run_lanes(rt, shared, others, workers, turns) };
     let mut mine = || -> Result<u64, Error>
         ensures { FirstEnds turns pass.entry.now pass.exit.now (F.deeds front.entry.now) (F.deeds front.exit.now) result }
-    { run_first(rt, shared, pass, front, clock, watch, turns) };
+    { run_first(rt, shared, pass, front, clock, turns) };
     join_mut(rt, &mut theirs, &mut mine)
 }
 
@@ -61,14 +59,12 @@ fn turn_by_all<
     F: Front,
     D: Door + Drop + Send,
     C: Clock + Drop + Send,
-    V: Watch + Send,
 >(
     rt: &R,
     shared: &SharedForwarder<L, W>,
     passes: &mut [Pass<L>],
     front: &mut F,
     clock: &mut C,
-    watch: Option<&Mutex<V>>,
     workers: &mut [Worker<D, C>],
     turns: u64,
 ) -> Result<u64, Error>
@@ -79,7 +75,7 @@ fn turn_by_all<
         return Err(Error::Failed);
     };
     let (theirs, mine) = first_and_workers(
-        rt, shared, pass, others, front, clock, watch, workers, turns,
+        rt, shared, pass, others, front, clock, workers, turns,
     );
     joined(mine, theirs)
 }
@@ -104,7 +100,6 @@ pub(crate) fn share<
     F: Front,
     D: Door + Drop + Send,
     C: Clock + Drop + Send,
-    V: Watch + Send,
 >(
     rt: &R,
     alloc: Global,
@@ -113,7 +108,6 @@ pub(crate) fn share<
     words: W,
     front: &mut F,
     clock: &mut C,
-    watch: Option<&Mutex<V>>,
     workers: &mut [Worker<D, C>],
     turns: u64,
 ) -> Result<u64, Error>
@@ -132,7 +126,6 @@ pub(crate) fn share<
         passes.as_mut_slice(),
         front,
         clock,
-        watch,
         workers,
         turns,
     );

@@ -7,14 +7,12 @@ ghost use Rattle.front_shared.specs.Waiting.{for_any};
 ghost use Rattle.front_shared.specs.Waiting as waiting;
 
 use crate::door::Door;
-use crate::telling::tell;
 use client_core::Clock;
 use client_request::{Error, Words};
 use dns_base::NoMemory;
-use forward_run::Watch;
 use front_peers::{FrontEvent, FrontOut};
 use front_shared::{ForwarderKey, Pass, Receipt, SharedForwarder, is_for_any};
-use std::sync::{Mutex, Wait};
+use std::sync::Wait;
 
 /// What a worker has of its own: its door and its clock.
 #[derive(Drop)]
@@ -72,13 +70,11 @@ fn work<
     W: Words + Drop,
     D: Door + Drop,
     C: Clock + Drop,
-    V: Watch,
 >(
     rt: &R,
     shared: &SharedForwarder<L, W>,
     pass: &mut Pass<L>,
     worker: &mut Worker<D, C>,
-    watch: Option<&Mutex<V>>,
 ) -> Result<Went, Error>
     ensures { IfOk result (Goes pass.old pass.new (D.deeds worker.old.door) (D.deeds worker.new.door)) }
 {
@@ -95,7 +91,6 @@ fn work<
     match shared.submit(rt, pass, event) {
         Ok(receipt) => {
             put_out(&receipt, &mut worker.door)?;
-            tell(rt, watch, &receipt.row);
             Ok(Went {
                 answered: count_for_any(receipt.row.outs.as_slice()) as u64,
                 goes_on: true,
@@ -116,13 +111,11 @@ fn work_on<
     W: Words + Drop,
     D: Door + Drop,
     C: Clock + Drop,
-    V: Watch,
 >(
     rt: &R,
     shared: &SharedForwarder<L, W>,
     pass: &mut Pass<L>,
     worker: &mut Worker<D, C>,
-    watch: Option<&Mutex<V>>,
     turns: u64,
 ) -> Result<u64, Error>
     ensures { IfOk result (IsWorked pass.old pass.new (D.deeds worker.old.door) (D.deeds worker.new.door)) }
@@ -130,7 +123,7 @@ fn work_on<
     let mut answered: u64 = 0;
     let mut left = turns;
     while left > 0 {
-        let went = match work(rt, shared, pass, worker, watch) {
+        let went = match work(rt, shared, pass, worker) {
             Ok(went) => went,
             Err(error) => return Err(error),
         };
@@ -153,18 +146,16 @@ pub(crate) fn run_worker<
     W: Words + Drop,
     D: Door + Drop,
     C: Clock + Drop,
-    V: Watch,
 >(
     rt: &R,
     shared: &SharedForwarder<L, W>,
     pass: &mut Pass<L>,
     worker: &mut Worker<D, C>,
-    watch: Option<&Mutex<V>>,
     turns: u64,
 ) -> Result<u64, Error>
     ensures { IfOk result (IsWorked pass.old pass.new (D.deeds worker.old.door) (D.deeds worker.new.door)) }
 {
-    match work_on(rt, shared, pass, worker, watch, turns) {
+    match work_on(rt, shared, pass, worker, turns) {
         Ok(answered) => Ok(answered),
         Err(error) => {
             shared.end(rt, pass);

@@ -5,13 +5,13 @@ use client_core::{ListClock, Out};
 use client_request::{ListWords, WordList};
 use dns_base::{NoMemory, Octets};
 use dns_values::{MemSink, MemSource};
-use forward_run::{FrontDeed, ListFront, Unwatched};
+use forward_run::{FrontDeed, ListFront};
 use forward_words::options_of;
 use forward_workers::{ListDoor, Worker, serve_by_all};
 use front_peers::{FrontOut, FrontWhat};
 use std::alloc::{AllocError, Global};
 use std::sync::atomic::AtomicU64;
-use std::sync::{Mutex, Wait};
+use std::sync::Wait;
 use std::thread::Threads;
 
 /// A query of another opcode, which is refused.
@@ -78,7 +78,6 @@ fn run<R: Threads + Wait + Sync>(rt: &R, alloc: Global) -> Option<(u8, bool, usi
     let mut workers = Vec::new(alloc);
     workers.push(worker(alloc, 7, &sent)?).ok()?;
     workers.push(worker(alloc, 9, &sent)?).ok()?;
-    let watch: Option<&Mutex<Unwatched>> = None;
     let status = serve_by_all(
         rt,
         alloc,
@@ -90,7 +89,6 @@ fn run<R: Threads + Wait + Sync>(rt: &R, alloc: Global) -> Option<(u8, bool, usi
         &mut front,
         &mut ListClock::new(Vec::new(alloc)),
         ListWords::new(WordList::new(alloc)),
-        watch,
         workers.as_mut_slice(),
     );
     let opened = front.deeds().iter().filter(|deed| opens(deed)).count();
