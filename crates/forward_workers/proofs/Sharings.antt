@@ -1,0 +1,130 @@
+-- Several lanes, and the history of all.
+use Rattle.std.proofs.Common.{◌≡◌, ℕ, zero, suc, ◌+◌, List, [], ◌∷◌, ◌++◌, length, map, Option, Some, None, Result, Ok, Err, refl, ap, sym, subst, ◌∙◌, length-append, arith}
+use Rattle.std.specs.Prelude.{IfOk, count_by, sum_by}
+use Rattle.std.specs.List.{flat_map}
+use mathlib.Core.List.{IsPrefix}
+use Rattle.client_request.specs.declared.error.Error.{Error}
+use Rattle.client_steps.specs.Whole.{Whole}
+use Rattle.forward_run.specs.Front.{after_deeds}
+use Rattle.forward_run.specs.declared.front.FrontDeed.{FrontDeed}
+use Rattle.front_peers.specs.declared.event.FrontRow.{FrontRow}
+use Rattle.front_shared.specs.History.{IsLegal, IsSettled, Passed, calls, newcomer, numbered, opening_of}
+use Rattle.front_shared.specs.Waiting.{is_for_any}
+use Rattle.front_shared.specs.declared.entry.Item.{Item}
+use Rattle.front_steps.specs.Steps.{Forwarding}
+use Rattle.forward_workers.specs.Lanes.{AreBoth, AreSettled, AreTurned, AreWorked, AreWorkersOf, FirstEnds, FirstTurn, IsFirst, IsFirstOf, IsJoined, IsShared, IsTold, IsWorked, IsWorkerOf, WorkersEnd, WorkerEnds, rows_by, worker_deeds}
+use Rattle.forward_workers.proofs.Firsts.{all_later}
+
+-- both counts of two results
+both_of : (first rest : Result ℕ Error) (sum : ℕ) (P Q : ℕ → Type 0) → AreBoth first rest sum → IfOk first P → IfOk rest Q → (mine : ℕ) × (others : ℕ) × (sum ≡ mine + others) × P mine × Q others
+both_of (Ok first) (Ok rest) sum P Q is p q = (first, rest, is, p, q)
+both_of (Ok first) (Err e) sum P Q is p q = absurd is
+both_of (Err e) (Ok rest) sum P Q is p q = absurd is
+both_of (Err e) (Err d) sum P Q is p q = absurd is
+
+-- one worker, and the others
+pub one_and_others : (p q : Passed) (ps qs : List Passed) (b a : Option (List FrontDeed)) (bs as : List (Option (List FrontDeed))) (first rest result : Result ℕ Error)
+    → IsJoined first rest result → WorkerEnds p q b a first → WorkersEnd ps qs bs as rest → WorkersEnd (p ∷ ps) (q ∷ qs) (b ∷ bs) (a ∷ as) result
+one_and_others p q ps qs b a bs as first rest (Ok sum) j w ws = both_of first rest sum (IsWorked p q b a) (AreWorked ps qs bs as) j.both w ws
+one_and_others p q ps qs b a bs as first rest (Err e) j w ws = tt
+
+-- the same of lists that are known to begin so
+pub workers_split : (olds news : List Passed) (befores afters : List (Option (List FrontDeed))) (p q : Passed) (ps qs : List Passed) (b a : Option (List FrontDeed)) (bs as : List (Option (List FrontDeed))) (first rest result : Result ℕ Error)
+    → IsJoined first rest result → WorkerEnds p q b a first → WorkersEnd ps qs bs as rest → olds ≡ p ∷ ps → news ≡ q ∷ qs → befores ≡ b ∷ bs → afters ≡ a ∷ as → WorkersEnd olds news befores afters result
+workers_split olds news befores afters p q ps qs b a bs as first rest result j w ws o n before after =
+    subst (λ (z : List Passed × List Passed × List (Option (List FrontDeed)) × List (Option (List FrontDeed))). WorkersEnd z.0 z.1 z.2 z.3 result) (λ i. (sym o i, sym n i, sym before i, sym after i))
+    (one_and_others p q ps qs b a bs as first rest result j w ws)
+
+pub no_workers : (olds news : List Passed) (befores afters : List (Option (List FrontDeed))) → olds ≡ [] → news ≡ [] → befores ≡ [] → afters ≡ [] → AreWorked olds news befores afters 0
+no_workers olds news befores afters o n before after =
+    subst (λ (z : List Passed × List Passed × List (Option (List FrontDeed)) × List (Option (List FrontDeed))). AreWorked z.0 z.1 z.2 z.3 0) (λ i. (sym o i, sym n i, sym before i, sym after i)) refl
+
+-- the first thread, and the workers
+pub first_and_others : (count : ℕ) (olds news : List Passed) (p q : Passed) (ps qs : List Passed) (fb fa : Option (List FrontDeed)) (bs as : List (Option (List FrontDeed))) (first rest result : Result ℕ Error)
+    → IsJoined first rest result → FirstEnds count p q fb fa first → WorkersEnd ps qs bs as rest → olds ≡ p ∷ ps → news ≡ q ∷ qs → IfOk result (AreTurned count olds news fb fa bs as)
+first_and_others count olds news p q ps qs fb fa bs as first rest (Ok sum) j f ws o n =
+    subst (λ (z : List Passed × List Passed). AreTurned count z.0 z.1 fb fa bs as sum) (λ i. (sym o i, sym n i)) (both_of first rest sum (IsFirst count p q fb fa) (AreWorked ps qs bs as) j.both f ws)
+first_and_others count olds news p q ps qs fb fa bs as first rest (Err e) j f ws o n = tt
+
+-- passes that settle, one more
+pub settles_on : (items : List Item) (olds news : List Passed) (p q : Passed) (ps qs : List Passed) → IsSettled items p q → AreSettled items ps qs → olds ≡ p ∷ ps → news ≡ q ∷ qs → AreSettled items olds news
+settles_on items olds news p q ps qs s ss o n = subst (λ (z : List Passed × List Passed). AreSettled items z.0 z.1) (λ i. (sym o i, sym n i)) (s, ss)
+
+pub none_settle : (items : List Item) (olds news : List Passed) → olds ≡ [] → news ≡ [] → AreSettled items olds news
+none_settle items olds news o n = subst (λ (z : List Passed × List Passed). AreSettled items z.0 z.1) (λ i. (sym o i, sym n i)) tt
+
+-- ---- the history of all
+
+-- A pass that is the newcomer of a number at first, and has seen all at the end: its calls are the rows of that number.
+rows_are : (items : List Item) (k : ℕ) (p q r : Passed) → p ≡ newcomer k → q.number ≡ p.number → IsSettled items q r → calls q ≡ rows_by k items
+rows_are items k p q r new number s =
+    let r_number : r.number ≡ k = s.number ∙ (number ∙ ap (λ (x : Passed). x.number) new) in
+    sym s.calls_are ∙ ap (λ (z : ℕ × List Item). calls (record { number = z.0; seen = z.1 })) (λ i. (r_number i, s.seen i))
+
+none_before : (k : ℕ) (p : Passed) → p ≡ newcomer k → calls p ≡ []
+none_before k p new = ap calls new
+
+worker_of : (items : List Item) (k : ℕ) (p q r : Passed) (b a : Option (List FrontDeed)) (n : ℕ) → p ≡ newcomer k → IsWorked p q b a n → IsSettled items q r → IsWorkerOf items k b a n
+worker_of items k p q r b a n new w s =
+    let made : w.made ≡ rows_by k items = sym (w.calls_are ∙ ap (λ (cs : List (ℕ × FrontRow)). cs ++ w.made) (none_before k p new)) ∙ rows_are items k p q r new w.number s in
+    record {
+      unused = w.unused;
+      unused_is = w.unused_is;
+      deeds = w.deeds ∙ ap (λ (cs : List (ℕ × FrontRow)). after_deeds (flat_map (λ (c : ℕ × FrontRow). worker_deeds c.1) cs ++ w.unused) b) made;
+      answered_is = w.answered_is ∙ ap (λ (cs : List (ℕ × FrontRow)). sum_by (λ (c : ℕ × FrontRow). count_by is_for_any c.1.outs) cs) made;
+    }
+
+-- newcomers from a number on
+from : ℕ → ℕ → List Passed
+from k zero = []
+from k (suc n) = newcomer k ∷ from (suc k) n
+
+from_end : (k n : ℕ) → from k n ++ newcomer (k + n) ∷ [] ≡ from k (suc n)
+from_end k zero = ap (λ (j : ℕ). newcomer j ∷ []) (omega arith)
+from_end k (suc n) = ap (λ (ps : List Passed). newcomer k ∷ ps) (ap (λ (j : ℕ). from (suc k) n ++ newcomer j ∷ []) (omega arith) ∙ from_end (suc k) n)
+
+numbered_from : (n : ℕ) → numbered n ≡ from 0 n
+numbered_from zero = refl
+numbered_from (suc n) = ap (λ (ps : List Passed). ps ++ newcomer n ∷ []) (numbered_from n) ∙ from_end 0 n
+
+workers_from : (items : List Item) (k n : ℕ) (qs rs : List Passed) (bs as : List (Option (List FrontDeed))) (sum : ℕ) → AreWorked (from k n) qs bs as sum → AreSettled items qs rs → AreWorkersOf items k bs as sum
+workers_from items k zero [] rs [] [] sum w s = w
+workers_from items k zero (q ∷ qs) rs bs as sum w s = absurd w
+workers_from items k zero [] rs (b ∷ bs) as sum w s = absurd w
+workers_from items k zero [] rs [] (a ∷ as) sum w s = absurd w
+workers_from items k (suc n) [] rs bs as sum w s = absurd w
+workers_from items k (suc n) (q ∷ qs) rs [] as sum w s = absurd w
+workers_from items k (suc n) (q ∷ qs) rs (b ∷ bs) [] sum w s = absurd w
+workers_from items k (suc n) (q ∷ qs) [] (b ∷ bs) (a ∷ as) sum w s = absurd s
+workers_from items k (suc n) (q ∷ qs) (r ∷ rs) (b ∷ bs) (a ∷ as) sum w s =
+    (w.0, w.1, w.2, worker_of items k (newcomer k) q r b a w.0 refl w.3 s.0, workers_from items (suc k) n qs rs bs as w.1 w.4 s.1)
+
+first_of : (items : List Item) (count : ℕ) (q r : Passed) (fb fa : Option (List FrontDeed)) (n : ℕ) → IsFirst count (newcomer 0) q fb fa n → IsSettled items q r → IsFirstOf items count fb fa n
+first_of items count q r fb fa n f s = record {
+  turns = f.turns;
+  count_is = f.count_is;
+  rows_are = sym (rows_are items 0 (newcomer 0) q r refl f.number s) ∙ f.calls_are;
+  told = all_later q.seen items f.turns s.begins (f.told refl);
+  of_polls = f.of_polls;
+  deeds = f.deeds;
+  answered_is = f.answered_is;
+}
+
+shares_from : (count : ℕ) (first : Forwarding Whole) (words : ℕ → ℕ) (n : ℕ) (qs rs : List Passed) (fb fa : Option (List FrontDeed)) (bs as : List (Option (List FrontDeed))) (sum : ℕ) (items : List Item)
+    → IsLegal (opening_of first words (length bs + 1)) items → AreTurned count (from 0 (suc n)) qs fb fa bs as sum → AreSettled items qs rs → IsShared count first words fb fa bs as sum
+shares_from count first words n [] rs fb fa bs as sum items legal t s = absurd t
+shares_from count first words n (q ∷ qs) [] fb fa bs as sum items legal t s = absurd s
+shares_from count first words n (q ∷ qs) (r ∷ rs) fb fa bs as sum items legal t s = record {
+  items = items;
+  legal = legal;
+  mine = t.0;
+  others = t.1;
+  answered_is = t.2;
+  first_of = first_of items count q r fb fa t.0 t.3 s.0;
+  workers_of = workers_from items 1 n qs rs bs as t.1 t.4 s.1;
+}
+
+pub shares : (count : ℕ) (first : Forwarding Whole) (words : ℕ → ℕ) (n : ℕ) (ps qs rs : List Passed) (fb fa : Option (List FrontDeed)) (bs as : List (Option (List FrontDeed))) (sum : ℕ) (items : List Item)
+    → IsLegal (opening_of first words (length bs + 1)) items → ps ≡ numbered (suc n) → AreTurned count ps qs fb fa bs as sum → AreSettled items qs rs → IsShared count first words fb fa bs as sum
+shares count first words n ps qs rs fb fa bs as sum items legal new t s =
+    shares_from count first words n qs rs fb fa bs as sum items legal (subst (λ (xs : List Passed). AreTurned count xs qs fb fa bs as sum) (new ∙ numbered_from (suc n)) t) s
