@@ -1,11 +1,10 @@
 //! Replies whose own octets are what is composed of them, but for their id and their OPT record.
 
-ghost use Rattle.std.specs.Prelude.{◌≡◌, ◌+◌, ◌≤◌, ◌<◌, length, IfSome, OnOk, IfOk, Ok, Some};
+ghost use Rattle.std.specs.Prelude.{◌≡◌, ◌+◌, ◌≤◌, ◌<◌, ℕ, length, slice_index, IfSome, IfOk, Ok, Some};
 ghost use Rattle.dns_base.specs.Header.{id_of, with_id};
 ghost use Rattle.dns_base.specs.Message.{header_of};
 ghost use Rattle.dns_base.specs.Numbers.{u16_at};
 ghost use Rattle.dns_base.specs.Sections.{counts_spelling};
-ghost use Rattle.client_request.proofs.Writable.{AreOctets};
 ghost use Rattle.front_queries.specs.Answers.{answer_of, opt_for, unless_too_long};
 ghost use Rattle.front_queries.specs.Simple as spec;
 ghost use Rattle.front_queries.specs.declared.simple.Simple as declared;
@@ -179,7 +178,7 @@ pub(crate) fn simple_of(query: &Query, reply: &Message) -> Option<Simple>
 
 /// Each octet is less than 256.
 fn are_octets(octets: &[u8])
-    ensures { AreOctets octets.now }
+    ensures { (i : ℕ) → slice_index octets.now i < 256 }
 {
     let _octets = octets;
 }
