@@ -1,6 +1,6 @@
 -- What is answered where a reply is simple.
-use Rattle.std.proofs.Common.{◌≡◌, ℕ, suc, ◌+◌, ◌-◌, ◌<◌, ◌≤◌, inl, inr, List, [], ◌∷◌, ◌++◌, length, take, drop, refl, ap, sym, subst, ◌∙◌, arith, append_assoc, append-nil, length-append, Bool, true, false, ◌==◌, ◌&&◌}
-use Rattle.std.specs.Prelude.{Option, Some, None, Result, Ok, Err, option_map, option_and_then, slice_range, is_some, not, nat_lt, nat_le, replicate, if◌then◌else◌}
+use Rattle.std.proofs.Common.{◌≡◌, ℕ, ◌+◌, ◌<◌, ◌≤◌, inl, inr, List, [], ◌∷◌, ◌++◌, length, take, drop, refl, ap, sym, ◌∙◌, arith, append_assoc, append-nil, length-append, Bool, true, false, ◌==◌, ◌&&◌}
+use Rattle.std.specs.Prelude.{Option, Some, None, Ok, option_map, option_and_then, slice_range, is_some, not, nat_lt, replicate, if◌then◌else◌}
 use Rattle.std.specs.Int.{w16, to_be_bytes}
 use Rattle.std.specs.Cmp.Lexicographic.{pointwise}
 use Rattle.std.proofs.lemmas.Bool.{leb-true, ltb-true, eqb-true}
@@ -18,17 +18,16 @@ use Rattle.dns_base.specs.Compression.{Compressed, name_octets, name_places, wit
 use Rattle.dns_base.specs.Data.{Opt, data_spelling}
 use Rattle.dns_base.specs.Draft.{Draft, counts_in, finished, fresh, pushed_question, pushed_record, refusal, with_header}
 use Rattle.dns_base.specs.Header.{Counts, id_of, with_id}
-use Rattle.dns_base.specs.Message.{Asked, Known, additional_items, header_of, items_at, list_at, question_at, questions_of, record_at}
+use Rattle.dns_base.specs.Message.{Asked, header_of, items_at, list_at, question_at, questions_of, record_at}
 use Rattle.dns_base.specs.Numbers.{u16_at}
-use Rattle.dns_base.specs.OptRecord.{OptFields, first_opt, opt_of}
+use Rattle.dns_base.specs.OptRecord.{first_opt, opt_of}
 use Rattle.dns_base.specs.Sections.{counts_spelling}
 use Rattle.client_request.proofs.Writable.{AreOctets}
 use Rattle.client_request.specs.Composed.{Copied, ◌>>◌, adds_opt, copies, copies_section, each, each_found, message_of, section_items}
 use Rattle.client_request.specs.Request.{opt_written}
-use Rattle.client_request.specs.declared.error.Error.{Error}
 use Rattle.front_queries.proofs.Copied.{both, has_small, record_is}
-use Rattle.front_queries.proofs.Drafted.{Named, Ran, drafted, has_room, more, put, read_here, run, up_to}
-use Rattle.front_queries.proofs.Last.{Added, added, high_of}
+use Rattle.front_queries.proofs.Drafted.{Named, Ran, drafted, has_room, more, put, read_here, run}
+use Rattle.front_queries.proofs.Last.{added, high_of}
 use Rattle.front_queries.proofs.Pieces.{u16_again}
 use Rattle.front_queries.proofs.Sectioned.{additional_begins, answer_begins, answer_read, authority_begins, authority_read}
 use Rattle.front_queries.specs.Answers.{answer_of, asks_as, composed_for, failed, high_bits, is_untold, opt_for, says_to, unless_too_long}

@@ -1,13 +1,13 @@
 -- A record of the question's name, written by a pointer to it: its own octets.
-use Rattle.std.proofs.Common.{◌≡◌, ℕ, suc, ◌+◌, ◌-◌, ◌<◌, ◌≤◌, inl, inr, List, [], ◌∷◌, ◌++◌, length, take, drop, refl, ap, sym, ◌∙◌, arith, length-append, append_assoc, append-nil, Bool, true, false, ◌==◌, ◌||◌, ◌&&◌}
-use Rattle.std.specs.Prelude.{Option, Some, None, option_map, slice_range, slice_index, slice_get, not, nat_le, replicate, if◌then◌else◌}
+use Rattle.std.proofs.Common.{◌≡◌, ℕ, suc, ◌+◌, ◌-◌, ◌<◌, ◌≤◌, inl, inr, List, [], ◌∷◌, ◌++◌, length, take, drop, refl, ap, ◌∙◌, arith, length-append, append_assoc, append-nil, Bool, true, false, ◌==◌, ◌||◌, ◌&&◌}
+use Rattle.std.specs.Prelude.{Option, Some, None, option_map, slice_range, slice_index, nat_le, if◌then◌else◌}
 use Rattle.std.specs.Int.{w16, w32, from_be_bytes, to_be_bytes}
 use Rattle.std.proofs.lemmas.Bool.{leb-true, eqb-true, not-true}
 use Rattle.std.proofs.lemmas.List.{take_at, drop_at}
 use Rattle.dns_names.proofs.Heads.{chosen, none_some}
 use Rattle.dns_names.specs.Name.{Labels}
 use Rattle.dns_base.specs.Compression.{Compressed, found_at, with_name, with_octets, with_u16, with_data, with_fields, with_counted_data, with_record, counted}
-use Rattle.dns_base.specs.Data.{Data, A, Aaaa, One, Txt, Opt, Other, is_one_name, are_options, are_strings, data_at, data_spelling, minfo_to, mx_to, name_to, octets_to, soa_to, srv_to, whole}
+use Rattle.dns_base.specs.Data.{Data, A, Aaaa, One, Txt, Opt, Other, is_one_name, are_options, are_strings, data_at, data_spelling, minfo_to, mx_to, name_to, soa_to, srv_to, whole}
 use Rattle.dns_base.specs.Message.{Entry, Written}
 use Rattle.dns_base.specs.Numbers.{u16_at}
 use Rattle.client_request.proofs.Writable.{AreOctets}

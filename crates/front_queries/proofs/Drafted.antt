@@ -1,8 +1,8 @@
 -- What is composed of simple records: the draft grows by their own octets.
-use Rattle.std.proofs.Common.{◌≡◌, ◌≢◌, ℕ, zero, suc, ◌+◌, ◌-◌, ◌/◌, ◌^◌, ◌<◌, ◌≤◌, inl, inr, List, [], ◌∷◌, ◌++◌, length, take, drop, get_or, refl, ap, sym, subst, ◌∙◌, arith, append_assoc, append-nil, Bool, true, false, ◌==◌, ◌||◌}
-use Rattle.std.specs.Prelude.{Option, Some, None, Result, Ok, Err, option_map, option_and_then, slice_range, slice_index, slice_get, not, replicate, if◌then◌else◌}
-use Rattle.std.specs.Option.{option_or, option_map_or}
-use Rattle.std.specs.Int.{w16, w32, to_be_bytes}
+use Rattle.std.proofs.Common.{◌≡◌, ℕ, zero, suc, ◌+◌, ◌<◌, ◌≤◌, List, [], ◌∷◌, ◌++◌, length, take, drop, refl, ap, sym, subst, ◌∙◌, arith, append_assoc, Bool, true, false, ◌==◌, ◌||◌}
+use Rattle.std.specs.Prelude.{Some, None, Ok, slice_range, slice_get, replicate, if◌then◌else◌}
+use Rattle.std.specs.Option.{option_or}
+use Rattle.std.specs.Int.{w16, to_be_bytes}
 use Rattle.std.specs.Cmp.Lexicographic.{pointwise}
 use Rattle.std.proofs.lemmas.Bool.{le-leb, eqb-true, not-true, false_from_ne_true}
 use Rattle.std.proofs.lemmas.Bool.Decides.{Decides-eqb}
@@ -15,14 +15,14 @@ use Rattle.dns_values.specs.declared.numbers.Section.{Section}
 use Rattle.dns_values.specs.declared.numbers.Section.TheVariants.{Answer, Authority, Additional}
 use Rattle.dns_names.proofs.Heads.{then_ok}
 use Rattle.dns_names.proofs.NameLaws.{name_is_read, read_is_name}
-use Rattle.dns_names.specs.Name.{Labels, Found, IsLegal, at_pointer, lowered, name_at, octet_count, same_name, says_pointer, spelling}
+use Rattle.dns_names.specs.Name.{Labels, IsLegal, at_pointer, lowered, name_at, octet_count, same_name, says_pointer, spelling}
 use Rattle.dns_base.proofs.Lists.{list_step}
 use Rattle.dns_base.proofs.Stands.{name_stands}
 use Rattle.dns_base.specs.Compression.{Compressed, found_at, stands_at, with_record}
-use Rattle.dns_base.specs.Data.{Data, data_at}
+use Rattle.dns_base.specs.Data.{data_at}
 use Rattle.dns_base.specs.Draft.{Draft, counts_in, pushed_record, refusal}
 use Rattle.dns_base.specs.Header.{Counts}
-use Rattle.dns_base.specs.Message.{Entry, Known, items_at, list_at, record_at}
+use Rattle.dns_base.specs.Message.{Known, items_at, list_at, record_at}
 use Rattle.dns_base.specs.Numbers.{u16_at, u32_at}
 use Rattle.dns_base.specs.OptRecord.{first_opt, opt_in}
 use Rattle.dns_base.specs.Sections.{entries_in, one_more_in}

@@ -1,6 +1,6 @@
 -- The additional section of a simple reply: an OPT record may be its last record.
-use Rattle.std.proofs.Common.{◌≡◌, ℕ, zero, suc, ◌+◌, ◌-◌, ◌/◌, ◌^◌, ◌<◌, ◌≤◌, inl, inr, List, [], ◌∷◌, get_or, refl, ap, sym, subst, ◌∙◌, arith, Bool, true, false, ◌==◌, ◌&&◌, length}
-use Rattle.std.specs.Prelude.{Option, Some, None, Ok, option_map, option_and_then, slice_range, slice_index, nat_le, if◌then◌else◌}
+use Rattle.std.proofs.Common.{◌≡◌, ℕ, zero, ◌+◌, ◌-◌, ◌/◌, ◌^◌, ◌<◌, ◌≤◌, inl, inr, List, [], get_or, refl, ap, sym, subst, ◌∙◌, arith, true, ◌==◌, length}
+use Rattle.std.specs.Prelude.{Option, Some, None, Ok, option_map, option_and_then, slice_range, slice_index}
 use Rattle.std.specs.Option.{option_or, option_map_or}
 use Rattle.std.specs.Int.{w32, from_be_bytes}
 use Rattle.std.proofs.lemmas.Bool.{leb-true, le-leb, eqb-true}
@@ -16,7 +16,7 @@ use Rattle.dns_base.specs.Message.{Entry, Known, items_at, record_at}
 use Rattle.dns_base.specs.Numbers.{u16_at, u32_at}
 use Rattle.dns_base.specs.OptRecord.{OptFields, first_opt, opt_fields, opt_in}
 use Rattle.client_request.proofs.Writable.{AreOctets}
-use Rattle.client_request.specs.Composed.{Copied, ◌>>◌, copies, each}
+use Rattle.client_request.specs.Composed.{copies, each}
 use Rattle.front_queries.proofs.Copied.{both}
 use Rattle.front_queries.proofs.Drafted.{Named, Ran, drafted, items_next, more, more_none, run}
 use Rattle.front_queries.proofs.Pieces.{range_octets}
