@@ -1,12 +1,14 @@
 -- What a message with the name spelled out asks.
 use Rattle.std.proofs.Common.{◌≡◌, ℕ, ◌+◌, List, [], ◌∷◌, ◌++◌, refl, ap, sym, ◌∙◌, arith, append-nil, Bool, true, false, ◌==◌, ◌||◌, ◌&&◌}
-use Rattle.std.specs.Prelude.{Option, Some, None}
+use Rattle.std.specs.Prelude.{Option, Some, None, option_and_then}
 use Rattle.std.specs.Option.{option_map_or}
 use Rattle.std.specs.Int.{w16, to_be_bytes}
 use Rattle.dns_names.specs.Name.{spelling, octet_count}
 use Rattle.dns_names.proofs.NameLaws.{spelled_length}
 use Rattle.dns_base.specs.Holding.{IsAskable}
-use Rattle.dns_base.specs.Message.{Asked, question_at, first_question}
+use Rattle.dns_base.specs.Message.{Asked, Known, additional_items, authority_of, first_question, items_at, items_behind, question_at}
+use Rattle.dns_base.specs.Numbers.{u16_at}
+use Rattle.dns_base.specs.OptRecord.{first_opt, opt_of}
 use Rattle.dns_base.proofs.EntriesBack.{question_found}
 use Rattle.dns_base.proofs.Stands.{Stands, first_stands, second_stands, stands_within, number_stands, name_stands}
 use Rattle.client_request.specs.Request.{is_misformed}
@@ -53,3 +55,12 @@ well_formed a b c d q h zone =
 -- A query that is taken may be asked.
 pub may_be_asked : (q : Query) → IsAskable q.asked → is_of_zone q.asked.rtype ≡ false → is_misformed (request_of q).base ≡ false
 may_be_asked q h zone = well_formed _ _ _ _ q.asked h zone
+
+-- A query that counts no record in its additional section has no OPT record.
+pub none_counted : (m : List ℕ) → u16_at m 10 ≡ 0 → opt_of m ≡ None
+unfolding opt_of additional_items items_at
+none_counted m none = go (authority_of m)
+  where
+    go : (before : Option (List Known × ℕ)) → option_and_then first_opt (items_behind m (u16_at m 10) before) ≡ None
+    go None = refl
+    go (Some x) = rw none refl

@@ -9,7 +9,9 @@ ghost use Rattle.front_queries.specs.declared.sorting.Sorted.TheVariants as beco
 use crate::query::{Extension, Query};
 use crate::refusal::Refusal;
 use crate::spelling::{bare, extended, own_opt};
-use dns_base::{Header, Message, NoMemory, Octets, Opcode, Question, RecordSection, Rtype, ToName};
+use dns_base::{
+    Header, Message, NoMemory, Octets, Opcode, OptRecord, Question, RecordSection, Rtype, ToName,
+};
 use std::alloc::Global;
 
 /// What becomes of octets that came.
@@ -67,11 +69,22 @@ fn is_question_alone(query: &Message) -> bool
     }
 }
 
+/// The OPT record of a query, if it has one. Where no record is counted none is looked for.
+#[tactic(auto, using(crate::proofs::Asked::none_counted))]
+fn opt_of(query: &Message) -> Option<OptRecord<'_>>
+    ensures { result ≡ opt_of query.now }
+{
+    if query.header_counts().arcount() == 0 {
+        return None;
+    }
+    query.opt()
+}
+
 /// Whether the OPT record of a query is of a version above 0.
 fn is_of_later_version(query: &Message) -> bool
     ensures { result ≡ spec.is_of_later_version query.now }
 {
-    match query.opt() {
+    match opt_of(query) {
         Some(opt) => 0 < opt.version(),
         None => false,
     }
@@ -81,7 +94,7 @@ fn is_of_later_version(query: &Message) -> bool
 fn asks_dnssec(query: &Message) -> bool
     ensures { result ≡ spec.asks_dnssec query.now }
 {
-    match query.opt() {
+    match opt_of(query) {
         Some(opt) => opt.dnssec_ok(),
         None => false,
     }
@@ -146,7 +159,7 @@ fn refuse(alloc: Global, query: &Message, refusal: Refusal) -> Result<Sorted, No
 fn extension_of(query: &Message) -> Option<Extension>
     ensures { result ≡ option_map spec.extension_of (opt_of query.now) }
 {
-    match query.opt() {
+    match opt_of(query) {
         Some(opt) => Some(Extension {
             udp_payload_size: opt.udp_payload_size(),
             dnssec_ok: opt.dnssec_ok(),

@@ -20,7 +20,7 @@ pub(crate) fn own_opt(high: u8, dnssec_ok: bool) -> OptRecord<'static>
 
 /// Adds an OPT record as a record of the root (RFC 6891 6.1.2).
 #[tactic(auto, unfolding(crate::specs::Spelled::opt_octets))]
-fn put_opt(opt: &OptRecord<'_>, octets: &mut Vec<u8>) -> Result<(), AllocError>
+pub(crate) fn put_opt(opt: &OptRecord<'_>, octets: &mut Vec<u8>) -> Result<(), AllocError>
     ensures { OnOk result (octets.new.items ≡ octets.old.items ++ spec.opt_octets opt.now) }
 {
     let options = opt.data();
