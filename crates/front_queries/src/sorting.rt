@@ -1,6 +1,7 @@
 //! What becomes of octets that came of a DNS client.
 
-ghost use Rattle.std.specs.Prelude.{◌≡◌, IfOk, false, option_map};
+ghost use Rattle.std.specs.Prelude.{◌≡◌, IfOk, IsSome, false, option_map};
+ghost use Rattle.dns_base.specs.Message.{first_question};
 ghost use Rattle.dns_base.specs.OptRecord.{opt_of};
 ghost use Rattle.front_queries.specs.Refusals as spec;
 ghost use Rattle.front_queries.specs.Query.{is_of_zone};
@@ -55,13 +56,18 @@ fn is_opt_at_most(mut records: RecordSection<'_>) -> bool
     }
 }
 
-/// Whether a query has one question, and no record but one OPT record at most.
+/// Whether a query whose first question is read has no other, and no record but one OPT record at most.
+#[tactic(auto, using(crate::proofs::Asked::alone))]
 fn is_question_alone(query: &Message) -> bool
+    requires { IsSome (first_question query.now) }
     ensures { result ≡ spec.is_question_alone query.now }
 {
     let counts = query.header_counts();
     if counts.qdcount() != 1 || counts.ancount() != 0 || counts.nscount() != 0 {
         return false;
+    }
+    if counts.arcount() == 0 {
+        return true;
     }
     match query.additional() {
         Ok(records) => is_opt_at_most(records),
@@ -102,6 +108,7 @@ fn asks_dnssec(query: &Message) -> bool
 
 /// Why a query that asks for this type is refused, if it is: the first of its causes.
 fn refusal_asking(query: &Message, question: &Question<'_>) -> Option<Refusal>
+    requires { IsSome (first_question query.now) }
     ensures { result ≡ spec.refusal_asking query.now question.now }
 {
     if query.header().opcode() != Opcode::QUERY {
@@ -186,6 +193,7 @@ fn take(alloc: Global, query: &Message, question: &Question<'_>) -> Result<Sorte
 
 /// What becomes of a query that asks this.
 fn sort_asking(alloc: Global, query: &Message, question: &Question<'_>) -> Result<Sorted, NoMemory>
+    requires { IsSome (first_question query.now) }
     ensures { IfOk result (λ s. s ≡ spec.unless_refused query.now question.now (spec.refusal_asking query.now question.now)) }
 {
     match refusal_asking(query, question) {
