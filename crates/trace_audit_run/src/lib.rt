@@ -15,5 +15,7 @@
 mod lines;
 mod run;
 mod texts;
+mod words;
 
 pub use run::run_audit;
+pub use words::names_among;
