@@ -82,18 +82,24 @@ pub fn run_audit<S: Source, T: Source, K: Sink>(
         return end_by(sink, USAGE, USAGE_LINE.as_bytes());
     }
     match judged_texts(alloc, asks_timely(words), script, trace) {
-        Ok(Answer {
-            verdict: Verdict::Wrong { clause, row },
-            untimely: _,
-        }) => tell_wrong(alloc, sink, clause, row),
-        Ok(Answer {
-            verdict: Verdict::Right,
-            untimely: Some(row),
-        }) => tell_untimely(alloc, sink, row),
-        Ok(Answer {
-            verdict: Verdict::Right,
-            untimely: None,
-        }) => deliver(sink, RIGHT_LINE.as_bytes()),
+        Ok(
+            Answer {
+                verdict: Verdict::Wrong { clause, row },
+                untimely: _,
+            },
+        ) => tell_wrong(alloc, sink, clause, row),
+        Ok(
+            Answer {
+                verdict: Verdict::Right,
+                untimely: Some(row),
+            },
+        ) => tell_untimely(alloc, sink, row),
+        Ok(
+            Answer {
+                verdict: Verdict::Right,
+                untimely: None,
+            },
+        ) => deliver(sink, RIGHT_LINE.as_bytes()),
         Err(Ending::Silent(status)) => status,
         Err(Ending::Says(status, line)) => end_by(sink, status, &line),
     }

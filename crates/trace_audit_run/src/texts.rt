@@ -9,6 +9,7 @@ ghost use Rattle.trace_script.specs.Judged.{conf_of};
 ghost use Rattle.trace_audit_run.specs.Program as plain;
 
 use crate::lines::{LONG_LINE, script_line, trace_line};
+use crate::timely::audit_timely;
 use client_request::Trace;
 use command_parts::statuses::{NO_MEMORY, REFUSED, SOURCE_FAULT};
 use command_parts::{Ending, says};
@@ -16,7 +17,6 @@ use dns_script::{Script, ScriptFault, read_script, read_trace};
 use dns_values::{NoMemory, ReadFault, Source, read_to_end};
 use std::alloc::{AllocError, Global};
 use trace_judge::{Verdict, audit};
-use trace_timely::audit_timely;
 
 /// The most octets that a script may have.
 const MOST_OF_SCRIPT: usize = 16_777_216;
@@ -122,12 +122,7 @@ fn answer(alloc: Global, timely: bool, script: &Script, trace: &Trace) -> Result
 }
 
 /// What is said of a trace whose octets were read, by a script.
-fn judged_by(
-    alloc: Global,
-    timely: bool,
-    script: &Script,
-    trace: &[u8],
-) -> Result<Answer, Ending>
+fn judged_by(alloc: Global, timely: bool, script: &Script, trace: &[u8]) -> Result<Answer, Ending>
     ensures { MatchResult result (plain.IsJudged timely script.now trace.now) (plain.RefusesTrace trace.now) }
 {
     let trace = match trace_in(alloc, trace) {

@@ -204,24 +204,24 @@ module _ (c : Conf) (h : History) (r : Requests) (kr : requests.Known h r) where
 
     late_then : deadline_seen c.timeout n r ≡ true → InTime c h → ⊥
     late_then e f =
-        let passed = (asking_known.deadline_decides c h r n kr).0 e in
+        let passed : DeadlineHasPassed c n h = (asking_known.deadline_decides c h r n kr).0 e in
         let free = clear (replied n h) (both (is_some (asking n h)) (not (replied n h)) first).1 in
-        let a = passed.asking_of in
-        let lt = f n a passed.asked free in
-        let le = passed.passed in
-        omega arith
+        not_both (now h) (passed.asking_of.moment + c.timeout) (f n passed.asking_of passed.asked free) passed.passed
+      where
+        not_both : (n m : ℕ) → n < m → m ≤ n → ⊥
+        not_both n m lt le = omega arith
 
 -- whether all that wait are in time
 pub decides : (c : Conf) (h : History) (t : Waiting) → Known h t → (in_time_seen c.timeout t ≡ true → InTime c h) × (InTime c h → in_time_seen c.timeout t ≡ true)
 decides c h t is = go t.numbers refl
   where
-    there : (n k : ℕ) (es : Members) → is_some (cond (is_eq (nat_cmp n n)) (Some tt) (entry_at n es)) ≡ true
-    there n k es = ap (λ b. is_some (cond b (Some tt) (entry_at n es))) (equal n)
+    there : (e : ℕ × Unit {0}) (es : Members) → is_some (entry_at e.0 (e ∷ es)) ≡ true
+    there e es = ap (λ b. is_some (cond b (Some e.1) (entry_at e.0 es))) (equal e.0)
 
     go : (es : Members) → t.numbers ≡ es → (in_time_of c.timeout (first_of es) t.requests ≡ true → InTime c h) × (InTime c h → in_time_of c.timeout (first_of es) t.requests ≡ true)
     go [] i = (λ y. none_waits c h t.requests is.requests (λ k. ap (λ es. is_some (entry_at k es)) (sym i) ∙ is.numbers k), λ f. refl)
     go (e ∷ es) i =
-        let first : waits e.0 h ≡ true = sym (is.numbers e.0) ∙ (ap (λ es. is_some (entry_at e.0 es)) i ∙ there e.0 0 es) in
+        let first : waits e.0 h ≡ true = sym (is.numbers e.0) ∙ (ap (λ es. is_some (entry_at e.0 es)) i ∙ there e es) in
         let rise : Rise 0 (e ∷ es) = subst (Rise 0) i is.rise in
         let others : (k : ℕ) → waits k h ≡ true → e.0 ≤ k = (λ k w. least e.0 k (e ∷ es) (self e.0, rise.1) (ap (λ es. is_some (entry_at k es)) (sym i) ∙ (is.numbers k ∙ w))) in
         by e.0 first others (deadline_seen c.timeout e.0 t.requests) refl

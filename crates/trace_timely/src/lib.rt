@@ -5,4 +5,4 @@
 mod untimely;
 mod waiting;
 
-pub use untimely::{audit_timely, first_untimely};
+pub use untimely::first_untimely;

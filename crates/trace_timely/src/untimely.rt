@@ -1,15 +1,12 @@
 //! The first row at whose end a request waits past its timeout.
 
-ghost use Rattle.std.specs.Prelude.{◌≡◌, ◌↔◌, [], None, IfOk};
-ghost use Rattle.right_trace.specs.Timely.{Timely};
-ghost use Rattle.trace_script.specs.Judged.{conf_of};
+ghost use Rattle.std.specs.Prelude.{◌≡◌, IfOk};
 ghost use Rattle.trace_timely.specs.Timely as plain;
 ghost use Rattle.trace_timely.specs.Waiting as waiting;
 
 use crate::waiting::Waiting;
-use client_request::{Row, Trace};
+use client_request::Row;
 use dns_base::{Duration, NoMemory};
-use dns_script::Script;
 use std::alloc::Global;
 
 /// The first of some rows behind which not all requests that wait are in time.
@@ -36,17 +33,4 @@ pub fn first_untimely(
     ensures { IfOk result (plain.TellsUntimely timeout rows.now) }
 {
     find(alloc, timeout, rows)
-}
-
-/// The first row of a trace at whose end a request waits past the timeout that its script says, counted from 0; none exactly where
-/// each request has its reply in the first row at or past its timeout, or before.
-pub fn audit_timely(
-    alloc: Global,
-    script: &Script,
-    trace: &Trace,
-) -> Result<Option<u64>, NoMemory>
-    ensures first { IfOk result (λ row. plain.IsUntimely row (conf_of script.now.conf) [] trace.now.rows) }
-    ensures timely { IfOk result (λ row. (row ≡ None) ↔ Timely (conf_of script.now.conf) trace.now.rows) }
-{
-    first_untimely(alloc, script.conf.options.timeout, trace.rows.as_slice())
 }

@@ -1,7 +1,7 @@
 use Rattle.trace_script.specs.Judged.{conf_of}
 use Rattle.std.proofs.Common.{refl}
 use Rattle.trace_timely.proofs.Rows.{if_ok, told, none_is_timely}
-use Rattle.trace_timely.proofs.untimely.audit_timely.Goals as goal
+use Rattle.trace_audit_run.proofs.timely.audit_timely.Goals as goal
 
 pub returns : goal.returns
 returns c =
