@@ -96,11 +96,11 @@ abbrev pub IsRight : (timely : Bool) (a b : List ℕ) → Type 0
 IsRight timely a b = IsAudited timely a b (record { verdict = Right; untimely = None })
 
 -- The trace is wrong, or not timely, and it is said where, and in what it is wrong.
-pub data FaultIsSaid (timely : Bool) (a b : List ℕ) (before after : Option (List ℕ)) (faults faults_after : ℕ) : Type 0 where
+pub data SaysNo (timely : Bool) (a b : List ℕ) (before after : Option (List ℕ)) (faults faults_after : ℕ) : Type 0 where
   IsWrong : (clause : Clause) (row : ℕ) (untimely : Option ℕ) → IsAudited timely a b (record { verdict = Wrong clause row; untimely = untimely })
-      → IsSaid (wrong_line clause row) before after faults faults_after → FaultIsSaid timely a b before after faults faults_after
+      → IsSaid (wrong_line clause row) before after faults faults_after → SaysNo timely a b before after faults faults_after
   IsLate : (row : ℕ) → IsAudited timely a b (record { verdict = Right; untimely = Some row })
-      → IsSaid (untimely_line row) before after faults faults_after → FaultIsSaid timely a b before after faults faults_after
+      → IsSaid (untimely_line row) before after faults faults_after → SaysNo timely a b before after faults faults_after
 
 -- A text is refused, and it is said why.
 pub record RefusalIsSaid (a b : List ℕ) (before after : Option (List ℕ)) (faults faults_after : ℕ) : Type 0 where

@@ -10,7 +10,7 @@ ghost use Rattle.trace_audit_run.specs.Program as plain;
 ghost use Rattle.trace_audit_run.specs.Words.{are_two, asks_timely, names_among};
 
 use crate::lines::{RIGHT_LINE, USAGE_LINE, untimely_line, wrong_line};
-use crate::texts::{Answer, judged_texts};
+use crate::texts::judged_texts;
 use crate::words::{asks_timely, names_among};
 use command_parts::statuses::{NO_MEMORY, NO_REPLY, USAGE};
 use command_parts::{Ending, deliver, end_by};
@@ -69,7 +69,7 @@ pub fn run_audit<S: Source, T: Source, K: Sink>(
     ensures right { result.0 ≡ 0 → IfSome (S.left script.old) (λ a. IfSome (T.left trace.old) (λ b. plain.IsRight (asks_timely words.now) a b)) }
     ensures done { result.0 ≡ 0 → K.held sink.new ≡ with_octets right_line (K.held sink.old) }
     ensures flushed { result.0 ≡ 0 → IsFlushed (K.held sink.new) (K.flushed sink.new) }
-    ensures wrong { result.0 ≡ 5 → IfSome (S.left script.old) (λ a. IfSome (T.left trace.old) (λ b. plain.FaultIsSaid (asks_timely words.now) a b (K.held sink.old) (K.held sink.new) (K.faults sink.old) (K.faults sink.new))) }
+    ensures wrong { result.0 ≡ 5 → IfSome (S.left script.old) (λ a. IfSome (T.left trace.old) (λ b. plain.SaysNo (asks_timely words.now) a b (K.held sink.old) (K.held sink.new) (K.faults sink.old) (K.faults sink.new))) }
 
     // A refusal, and faults.
     ensures refused { result.0 ≡ 1 → IfSome (S.left script.old) (λ a. IfSome (T.left trace.old) (λ b. plain.RefusalIsSaid a b (K.held sink.old) (K.held sink.new) (K.faults sink.old) (K.faults sink.new))) }
@@ -82,24 +82,11 @@ pub fn run_audit<S: Source, T: Source, K: Sink>(
         return end_by(sink, USAGE, USAGE_LINE.as_bytes());
     }
     match judged_texts(alloc, asks_timely(words), script, trace) {
-        Ok(
-            Answer {
-                verdict: Verdict::Wrong { clause, row },
-                untimely: _,
-            },
-        ) => tell_wrong(alloc, sink, clause, row),
-        Ok(
-            Answer {
-                verdict: Verdict::Right,
-                untimely: Some(row),
-            },
-        ) => tell_untimely(alloc, sink, row),
-        Ok(
-            Answer {
-                verdict: Verdict::Right,
-                untimely: None,
-            },
-        ) => deliver(sink, RIGHT_LINE.as_bytes()),
+        Ok(answer) => match (answer.verdict, answer.untimely) {
+            (Verdict::Wrong { clause, row }, _) => tell_wrong(alloc, sink, clause, row),
+            (Verdict::Right, Some(row)) => tell_untimely(alloc, sink, row),
+            (Verdict::Right, None) => deliver(sink, RIGHT_LINE.as_bytes()),
+        },
         Err(Ending::Silent(status)) => status,
         Err(Ending::Says(status, line)) => end_by(sink, status, &line),
     }
