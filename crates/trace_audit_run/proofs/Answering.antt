@@ -9,7 +9,10 @@ use Rattle.dns_values.specs.declared.numbers.Status.{Status}
 use Rattle.dns_script.specs.ScriptReading.{IsScript}
 use Rattle.dns_script.specs.declared.script.Script.{Script}
 use Rattle.trace_audit_run.specs.declared.texts.Answer.{Answer}
-use Rattle.trace_audit_run.specs.Program.{Answers, EndsBy, IsAudited, IsJudged, IsRead, IsRefused, RefusalIsSaid, RefusesBy, RefusesScript, RefusesTrace, long_line, long_script, bad_script, long_trace, bad_trace}
+use Rattle.trace_audit_run.specs.Lines.{untimely_line, wrong_line}
+use Rattle.trace_judge.specs.declared.verdict.Clause.{Clause}
+use Rattle.trace_judge.specs.declared.verdict.Verdict.TheVariants.{Right, Wrong}
+use Rattle.trace_audit_run.specs.Program.{Answers, EndsBy, IsAudited, IsGood, IsJudged, IsLate, IsRight, IsWrong, NoIsSaid, SaysNo, IsRead, IsRefused, RefusalIsSaid, RefusesBy, RefusesScript, RefusesTrace, long_line, long_script, bad_script, long_trace, bad_trace}
 
 -- a line that is refused, and why
 pub refuses_by : (Refuses : ℕ → Type 0) (line : ℕ → List ℕ) (n : ℕ) (e : Ending) → Refuses n → EndsBy (line n) e → RefusesBy Refuses line e
@@ -136,3 +139,22 @@ refusal_is_said (Some a) (Some b) status line shown result h h' f f' r same st s
 -- a line of usage that was said
 pub usage_is_said : (line shown : List ℕ) (result : ℕ) (h h' : Option (List ℕ)) (f f' : ℕ) → shown ≡ line → (result ≢ 6 → IsSaid shown h h' f f') → result ≡ 2 → IsSaid line h h' f f'
 usage_is_said line shown result h h' f f' same said two = subst (λ (x : List ℕ). IsSaid x h h' f f') same (said (λ six. omega arith))
+
+-- what is told of a trace that is not right, or not timely
+pub wrong_is_said : (said : Answer) (clause : Clause) (row : ℕ) (h h' : Option (List ℕ)) (f f' : ℕ) → said.verdict ≡ Wrong clause row → IsSaid (wrong_line clause row) h h' f f' → NoIsSaid said h h' f f'
+wrong_is_said said clause row h h' f f' is s = IsWrong clause row is s
+
+pub late_is_said : (said : Answer) (row : ℕ) (h h' : Option (List ℕ)) (f f' : ℕ) → said.verdict ≡ Right → said.untimely ≡ Some row → IsSaid (untimely_line row) h h' f f' → NoIsSaid said h h' f f'
+late_is_said said row h h' f f' is late s = IsLate row is late s
+
+-- what is told of texts that were read
+pub right_is_said : (told told' : Option (List ℕ)) (said : Answer) (d d' : Bool) (result : ℕ) → IfSome told (λ a. IfSome told' (λ b. IsAudited d a b said)) → d ≡ d' → (result ≡ 0 → IsGood said) → result ≡ 0 → IfSome told (λ a. IfSome told' (λ b. IsRight d' a b))
+right_is_said None told' said d d' result i same good zero = tt
+right_is_said (Some a) None said d d' result i same good zero = tt
+right_is_said (Some a) (Some b) said d d' result i same good zero = record { answer = said; audited = subst (λ (d : Bool). IsAudited d a b said) same i; good = good zero }
+
+pub no_is_said : (told told' : Option (List ℕ)) (said : Answer) (d d' : Bool) (result : ℕ) (h h' : Option (List ℕ)) (f f' : ℕ) → IfSome told (λ a. IfSome told' (λ b. IsAudited d a b said)) → d ≡ d'
+    → (result ≡ 5 → NoIsSaid said h h' f f') → result ≡ 5 → IfSome told (λ a. IfSome told' (λ b. SaysNo d' a b h h' f f'))
+no_is_said None told' said d d' result h h' f f' i same no five = tt
+no_is_said (Some a) None said d d' result h h' f f' i same no five = tt
+no_is_said (Some a) (Some b) said d d' result h h' f f' i same no five = record { answer = said; audited = subst (λ (d : Bool). IsAudited d a b said) same i; said = no five }

@@ -6,7 +6,6 @@ use Rattle.client_request.specs.declared.event.Row.{Row}
 use Rattle.command_parts.specs.declared.ending.Ending.{Ending}
 use Rattle.command_parts.specs.Ends.{IsEarly, IsSaid, line_of, status_of}
 use Rattle.dns_script.specs.ScriptReading.{IsScript, RefusesLine}
-use Rattle.right_trace.specs.Trace.{Conf}
 use Rattle.dns_script.specs.TraceReading.{IsTrace, RefusesTraceLine}
 use Rattle.dns_script.specs.declared.script.Script.{Script}
 use Rattle.trace_clauses.specs.Verdicts.{IsVerdict}
@@ -46,16 +45,11 @@ RefusesScript text e = RefusesBy (RefusesLine false text) script_line e
 abbrev pub RefusesTrace : (text : List ℕ) → Ending → Type 0
 RefusesTrace text e = RefusesBy (RefusesTraceLine text) trace_line e
 
--- The first row that is not timely, or that there is none; it is asked of a right trace, if it is.
-abbrev pub TellsTimely : Verdict → (asked : Bool) → Option ℕ → Conf → List Row → Type 0
-TellsTimely (Wrong clause n) asked row c rows = row ≡ None
-TellsTimely Right true row c rows = IsUntimely row c [] rows
-TellsTimely Right false row c rows = row ≡ None
-
--- what is said of the rows of a trace by a script
+-- what is said of the rows of a trace by a script: its verdict, and which row is the first that is not timely, where that is asked
 pub record IsAnswer (timely : Bool) (script : Script) (rows : List Row) (said : Answer) : Type 0 where
   pub verdict : IsVerdict (verdict_of said.verdict) (conf_of script.conf) (settings_of script.redundant script.cache) [] (first_lane script.lanes) rows
-  pub untimely : TellsTimely said.verdict timely said.untimely (conf_of script.conf) rows
+  pub asked : timely ≡ true → IsUntimely said.untimely (conf_of script.conf) [] rows
+  pub unasked : timely ≡ false → said.untimely ≡ None
 
 -- what is said of the text of a trace by a script
 pub record IsJudged (timely : Bool) (script : Script) (text : List ℕ) (said : Answer) : Type 0 where
@@ -91,16 +85,26 @@ IsResult timely a b (Err e) = IsEnd a b e
 abbrev pub Answers : (timely : Bool) (script trace : Option (Vec ℕ Global)) → Result Answer Ending → Type 0
 Answers timely script trace r = (a b : List ℕ) → IsRead 16777216 a script → IsRead 1073741824 b trace → IsResult timely a b r
 
--- The trace is right, and timely if that is asked.
-abbrev pub IsRight : (timely : Bool) (a b : List ℕ) → Type 0
-IsRight timely a b = IsAudited timely a b (record { verdict = Right; untimely = None })
+-- the trace is right, and no row is told that is not timely
+abbrev pub IsGood : Answer → Type 0
+IsGood said = (said.verdict ≡ Right) × (said.untimely ≡ None)
 
--- The trace is wrong, or not timely, and it is said where, and in what it is wrong.
-pub data SaysNo (timely : Bool) (a b : List ℕ) (before after : Option (List ℕ)) (faults faults_after : ℕ) : Type 0 where
-  IsWrong : (clause : Clause) (row : ℕ) (untimely : Option ℕ) → IsAudited timely a b (record { verdict = Wrong clause row; untimely = untimely })
-      → IsSaid (wrong_line clause row) before after faults faults_after → SaysNo timely a b before after faults faults_after
-  IsLate : (row : ℕ) → IsAudited timely a b (record { verdict = Right; untimely = Some row })
-      → IsSaid (untimely_line row) before after faults faults_after → SaysNo timely a b before after faults faults_after
+-- It is said in which clause the trace is wrong, and where; or where it is not timely.
+pub data NoIsSaid (said : Answer) (before after : Option (List ℕ)) (faults faults_after : ℕ) : Type 0 where
+  IsWrong : (clause : Clause) (row : ℕ) → said.verdict ≡ Wrong clause row → IsSaid (wrong_line clause row) before after faults faults_after → NoIsSaid said before after faults faults_after
+  IsLate : (row : ℕ) → said.verdict ≡ Right → said.untimely ≡ Some row → IsSaid (untimely_line row) before after faults faults_after → NoIsSaid said before after faults faults_after
+
+-- The trace is right, and timely where that is asked.
+pub record IsRight (timely : Bool) (a b : List ℕ) : Type 0 where
+  pub answer : Answer
+  pub audited : IsAudited timely a b answer
+  pub good : IsGood answer
+
+-- The trace is not so, and it is said where.
+pub record SaysNo (timely : Bool) (a b : List ℕ) (before after : Option (List ℕ)) (faults faults_after : ℕ) : Type 0 where
+  pub answer : Answer
+  pub audited : IsAudited timely a b answer
+  pub said : NoIsSaid answer before after faults faults_after
 
 -- A text is refused, and it is said why.
 pub record RefusalIsSaid (a b : List ℕ) (before after : Option (List ℕ)) (faults faults_after : ℕ) : Type 0 where

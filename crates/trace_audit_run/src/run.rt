@@ -10,7 +10,7 @@ ghost use Rattle.trace_audit_run.specs.Program as plain;
 ghost use Rattle.trace_audit_run.specs.Words.{are_two, asks_timely, names_among};
 
 use crate::lines::{RIGHT_LINE, USAGE_LINE, untimely_line, wrong_line};
-use crate::texts::judged_texts;
+use crate::texts::{Answer, judged_texts};
 use crate::words::{asks_timely, names_among};
 use command_parts::statuses::{NO_MEMORY, NO_REPLY, USAGE};
 use command_parts::{Ending, deliver, end_by};
@@ -40,6 +40,26 @@ fn tell_untimely<K: Sink>(alloc: Global, sink: &mut K, row: u64) -> Status
     match untimely_line(alloc, row) {
         Ok(line) => end_by(sink, NO_REPLY, &line),
         Err(_) => NO_MEMORY,
+    }
+}
+
+/// Tells what is said of a trace: `right`, in what it is wrong and where, or where it is not timely.
+#[tactic(auto, using(crate::proofs::Answering::wrong_is_said, crate::proofs::Answering::late_is_said))]
+fn tell<K: Sink>(alloc: Global, sink: &mut K, answer: Answer) -> Status
+    ensures good { result.0 ≡ 0 → plain.IsGood answer }
+    ensures done { result.0 ≡ 0 → K.held sink.new ≡ with_octets right_line (K.held sink.old) }
+    ensures flushed { result.0 ≡ 0 → IsFlushed (K.held sink.new) (K.flushed sink.new) }
+    ensures no { result.0 ≡ 5 → plain.NoIsSaid answer (K.held sink.old) (K.held sink.new) (K.faults sink.old) (K.faults sink.new) }
+    ensures sink_fault { result.0 ≡ 4 → Rose (K.faults sink.old) (K.faults sink.new) }
+    ensures cut { result.0 ≡ 4 → IsBegun right_line (K.held sink.old) (K.held sink.new) }
+    ensures others { (result.0 ≡ 0) ⊎ ((result.0 ≡ 4) ⊎ ((result.0 ≡ 5) ⊎ (result.0 ≡ 6))) }
+{
+    match answer.verdict {
+        Verdict::Wrong { clause, row } => tell_wrong(alloc, sink, clause, row),
+        Verdict::Right => match answer.untimely {
+            Some(row) => tell_untimely(alloc, sink, row),
+            None => deliver(sink, RIGHT_LINE.as_bytes()),
+        },
     }
 }
 
@@ -82,11 +102,7 @@ pub fn run_audit<S: Source, T: Source, K: Sink>(
         return end_by(sink, USAGE, USAGE_LINE.as_bytes());
     }
     match judged_texts(alloc, asks_timely(words), script, trace) {
-        Ok(answer) => match (answer.verdict, answer.untimely) {
-            (Verdict::Wrong { clause, row }, _) => tell_wrong(alloc, sink, clause, row),
-            (Verdict::Right, Some(row)) => tell_untimely(alloc, sink, row),
-            (Verdict::Right, None) => deliver(sink, RIGHT_LINE.as_bytes()),
-        },
+        Ok(answer) => tell(alloc, sink, answer),
         Err(Ending::Silent(status)) => status,
         Err(Ending::Says(status, line)) => end_by(sink, status, &line),
     }

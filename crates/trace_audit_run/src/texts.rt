@@ -1,11 +1,12 @@
 //! The texts of a script and of a trace, and what is said of them.
 
-ghost use Rattle.std.specs.Prelude.{◌≡◌, ◌≢◌, ◌⊎◌, ℕ, List, false, IfOk, IfErr, IfSome, MatchResult};
+ghost use Rattle.std.specs.Prelude.{◌≡◌, ◌≢◌, ◌⊎◌, ℕ, List, [], None, false, true, IfOk, IfErr, IfSome, MatchResult};
 ghost use Rattle.dns_values.specs.Source.{Rose};
 ghost use Rattle.command_parts.specs.Ends.{IsEarly, line_of, status_of};
 ghost use Rattle.dns_script.specs.ScriptReading.{IsScript};
 ghost use Rattle.dns_script.specs.TraceReading.{IsTrace};
 ghost use Rattle.trace_script.specs.Judged.{conf_of};
+ghost use Rattle.trace_timely.specs.Timely.{IsUntimely};
 ghost use Rattle.trace_audit_run.specs.Program as plain;
 
 use crate::lines::{LONG_LINE, script_line, trace_line};
@@ -28,7 +29,7 @@ const MOST_OF_TRACE: usize = 1_073_741_824;
 #[derive(Clone, Copy)]
 pub(crate) struct Answer {
     pub(crate) verdict: Verdict,
-    /// The first row that is not timely, where that is asked of a right trace.
+    /// The first row that is not timely, where that is asked.
     pub(crate) untimely: Option<u64>,
 }
 
@@ -90,25 +91,20 @@ fn trace_in(alloc: Global, text: &[u8]) -> Result<Trace, Ending>
     }
 }
 
-/// The first row of a trace that is not timely, where it is asked for, and the trace is right.
+/// The first row of a trace that is not timely, where that is asked.
 fn untimely_in(
     alloc: Global,
     timely: bool,
-    verdict: Verdict,
     script: &Script,
     trace: &Trace,
 ) -> Result<Option<u64>, NoMemory>
-    ensures { IfOk result (λ row. plain.TellsTimely verdict timely row (conf_of script.now.conf) trace.now.rows) }
+    ensures asked { timely ≡ true → IfOk result (λ row. IsUntimely row (conf_of script.now.conf) [] trace.now.rows) }
+    ensures unasked { timely ≡ false → IfOk result (λ row. row ≡ None) }
 {
-    match verdict {
-        Verdict::Right => {
-            if timely {
-                audit_timely(alloc, script, trace)
-            } else {
-                Ok(None)
-            }
-        }
-        Verdict::Wrong { .. } => Ok(None),
+    if timely {
+        audit_timely(alloc, script, trace)
+    } else {
+        Ok(None)
     }
 }
 
@@ -117,7 +113,7 @@ fn answer(alloc: Global, timely: bool, script: &Script, trace: &Trace) -> Result
     ensures { IfOk result (plain.IsAnswer timely script.now trace.now.rows) }
 {
     let verdict = audit(alloc, script, trace)?;
-    let untimely = untimely_in(alloc, timely, verdict, script, trace)?;
+    let untimely = untimely_in(alloc, timely, script, trace)?;
     Ok(Answer { verdict, untimely })
 }
 
