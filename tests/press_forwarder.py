@@ -4,11 +4,13 @@
     python3 tests/press_forwarder.py PROGRAM [--long]
 
 PROGRAM is the built dns_forward. A server of this script's own on loopback answers names that begin with `ok` at once, one that begins
-with `big` by about 60,000 octets over a stream, and none else. In this order, which ends with status 1 at the first difference:
+with `big` by about 60,000 octets over a stream, with `bigslow` so three seconds later, and none else. In this order, which ends with status 1 at the first difference:
 
 streams: a query octet by octet; two in one write; 3,800 at once, each answered once; 101 streams, of which the quietest is closed and the
 others serve; a peer that asks for 60 megabytes and reads nothing, which is closed while the others are served, and memory stays below 100
 megabytes.
+waiting: 10,000 queries by 100 streams for one name whose answer of 60,000 octets comes three seconds later. 251 have it, the others SERVFAIL;
+they take less than 100 megabytes of memory.
 silence: 100,000 datagrams that get no answer from 1,000 ports, and a query behind them that does.
 flood: 14,000 queries a second for 20 seconds to which the server is silent. Memory stays at 40 megabytes at most, names that were
 answered before are answered meanwhile, and afterwards descriptors and new names are as before.
@@ -62,6 +64,8 @@ def answered(octets, by_stream):
 def serve_stream(s):
     try:
         while (asked := frame(s)) is not None:
+            if asked[13:20] == b"bigslow":
+                time.sleep(3)
             answer = answered(asked, True)
             if answer:
                 s.sendall(framed(answer))
@@ -193,6 +197,28 @@ def press_streams(port, process):
     many_streams(port)
     print("streams: a query octet by octet, two at once, 3,800 at once, and 101 streams")
     never_reads(port, process)
+
+
+def press_by_waiting(port, process):
+    """Each stream asks thrice before any asks more, so that what is owed to one stays small."""
+    # From here on the most memory that it had is told anew (proc(5)).
+    Path("/proc/%d/clear_refs" % process.pid).write_text("5")
+    before = memory(process)[0]
+    many = [stream(port) for _ in range(100)]
+    for numbers in [[0], [1], [2], range(3, 100)]:
+        for s in many:
+            s.sendall(b"".join(framed(query("bigslow.example", 16, number=n)) for n in numbers))
+    whole, away = 0, 0
+    for s in many:
+        for _ in range(100):
+            got = frame(s)
+            expect(got is not None and status(got) in [0, 2], "a query that waits beside others: %r" % (got and got[:12]))
+            whole, away = whole + (len(got) > 50_000), away + (status(got) == 2)
+        s.close()
+    most = memory(process)[1]
+    expect([whole, away] == [251, 9_749], "%d that wait have the answer, and %d SERVFAIL" % (whole, away))
+    expect(most - before < 100_000, "%d KiB of memory where 10,000 ask for one answer, %d before them" % (most, before))
+    print("waiting: of 10,000 queries by streams %d have the answer, and %d SERVFAIL; at most %d KiB of memory, before them %d" % (whole, away, most, before))
 
 
 def press_by_silence(port, process):
@@ -335,6 +361,7 @@ def main():
     atexit.register(forwarder.kill)
     expect(status(by_datagram(port, query("ok.example"))) == 0, "no answer")
     press_streams(port, forwarder)
+    press_by_waiting(port, forwarder)
     press_by_silence(port, forwarder)
     press_by_flood(port, forwarder)
     press_by_death(port, server_port, server)

@@ -25,6 +25,11 @@ use Rattle.right_trace.specs.Parts.{Item, Parts, raw, typed, flags_in, read_part
 use Rattle.right_trace.specs.Validity.{second, has_item, least, without_opt, good_limit, absent_limit, limit, validity_read, validity_of_message}
 use Rattle.cache_rules.specs.Validity.{cached_by, meets, section_meets, limit_asked, limit_absent, limit_met, least_with, least_met, least_in, least_of, are_known, section_is_known, is_known, if_known, validity_met}
 
+-- what may be kept for no time is so whether its data is read or not
+pub nothing_either_way : (b : Bool) → 0 ≡ if_known b 0
+nothing_either_way true = refl
+nothing_either_way false = refl
+
 pub some_inside : {A B : Type 0} → (f : A → B) (o : Option A) (y : B) → option_map f o ≡ Some y → (x : A) × (o ≡ Some x) × (f x ≡ y)
 some_inside f None y e = none_some e
 some_inside f (Some x) y e = (x, refl, cc)

@@ -209,6 +209,22 @@ fn is_known(message: &Message) -> bool
         && section_is_known(message, Section::Additional)
 }
 
+/// The validity of a message by what it says; or 0, where the data of a record can't be read. What is 0 already is not
+/// looked into.
+#[tactic(auto, using(crate::proofs::WhatIsMet::nothing_either_way))]
+fn if_known(message: &Message, validity: Duration) -> Duration
+    ensures { result ≡ spec.if_known (spec.is_known message.now) validity }
+{
+    if validity.as_micros() == 0 {
+        return Duration::ZERO;
+    }
+    if is_known(message) {
+        validity
+    } else {
+        Duration::ZERO
+    }
+}
+
 /// How long a message may be kept. Refused exactly where it can't be read, unless it is truncated and those are not kept.
 fn message_validity(message: &Message, config: &cache::Config) -> Result<Duration, Error>
     ensures met { result ≡ spec.or_unread (spec.validity_met config.now message.now) }
@@ -220,11 +236,7 @@ fn message_validity(message: &Message, config: &cache::Config) -> Result<Duratio
     }
     let start = shorter(config.max_validity(), limit_of(message, config));
     let validity = least_of(message, start)?;
-    if is_known(message) {
-        Ok(validity)
-    } else {
-        Ok(Duration::ZERO)
-    }
+    Ok(if_known(message, validity))
 }
 
 /// The validity of a message.

@@ -1,20 +1,21 @@
 -- Which entry a request finds first, and what using it leaves.
-use Rattle.std.proofs.Common.{◌≡◌, ℕ, Bool, true, false, cond, ◌&&◌, not, List, ◌∷◌, Option, Some, None, IsSome, IfOk, Ok, Err, refl, sym, ap, ◌∙◌}
-use Rattle.std.specs.Prelude.{is_some, option_map, if◌then◌else◌}
+use Rattle.std.proofs.Common.{◌≡◌, ℕ, Bool, true, false, cond, ◌&&◌, not, List, ◌∷◌, Option, Some, None, IsSome, IfOk, Result, Ok, Err, refl, sym, ap, ◌∙◌}
+use Rattle.std.specs.Prelude.{◌==◌, is_some, option_map, if◌then◌else◌}
 use Rattle.std.specs.Option.{option_map_or}
 use Rattle.std.specs.Map.{lookup, lookup_entry, remove_entry, set_value}
 use Rattle.lru.specs.LruCache.{lru_cache, promoted}
 use Rattle.lru.proofs.CallerLemmas.{Contains-lookup_entry}
 use Rattle.lru.proofs.Pairs.{lookup-lookup_entry}
 use Rattle.dns_names.specs.Name.{Labels}
+use Rattle.dns_base.specs.Header.{opcode_of}
 use Rattle.dns_base.specs.Message.{sole_question, Asked as Question}
 use Rattle.client_settings.specs.Settings.{CacheSettings}
 use Rattle.right_trace.specs.Keys.{FlagClass, Do, Ad, Plain, Key, question_or}
 use Rattle.cache_rules.specs.declared.key.AdDo.{AdDo}
 use Rattle.cache_rules.specs.declared.key.AdDo.TheVariants as classes
-use Rattle.cache_rules.specs.Key.{flag_class, key_asking, same_key}
+use Rattle.cache_rules.specs.Key.{flag_class, asked_key, same_key}
 use Rattle.client_cache.specs.declared.table.Flags.{Flags}
-use Rattle.client_cache.specs.Keeping.{Outcome, Entry, Table, Asked, asked_in, entry_under, uses, with_flags, if_kept, or_else, flags, first_above_ad, first_from_ad, first_of_class, first_class, first_kept, same_class, is_own, serves, gives_own, takes_own, takes_other, takes, found}
+use Rattle.client_cache.specs.Keeping.{Outcome, Entry, Table, Asked, asked_about, asked_in, entry_under, uses, with_flags, if_kept, or_else, flags, first_above_ad, first_from_ad, first_of_class, first_class, first_kept, same_class, is_own, serves, gives_own, takes_own, takes_other, takes, found}
 use Rattle.client_cache.specs.Plain.{way_asked, way_looked, way_found, found_way}
 use Rattle.client_cache.specs.Serving.{is_given}
 
@@ -129,12 +130,17 @@ pub other_served : (s : CacheSettings) (now : ℕ) (t : Table) (a : Asked) (f : 
 other_served s now t a f first =
     sym (given_is s a (takes s a now t (Some f)).table (takes s a now t (Some f)).answer) ∙ sym (ap (λ (o : Option Flags). is_given (way_looked s a now t o).0) first)
 
+-- no question asks for nothing
+pub none_asked : (header : List ℕ) (dnssec_ok : Bool) → None ≡ asked_about header dnssec_ok None
+none_asked header dnssec_ok = go (opcode_of header == 0)
+  where
+    go : (b : Bool) → None ≡ option_map (λ (k : Key). let a : Asked = record { key = k; name = (question_or None).name } in a) (if b then asked_key header dnssec_ok None else None)
+    go true = refl
+    go false = refl
+
 -- what a request asks is what its message does
-pub asked_is : (header : List ℕ) (dnssec_ok : Bool) (composed : Outcome) (question : Option Question) (key : Key) (name : Labels) → IfOk composed (λ message. question ≡ sole_question message)
-    → Some key ≡ key_asking header dnssec_ok question → name ≡ (question_or question).name → IfOk composed (λ message. Some (record { key = key; name = name }) ≡ asked_in header dnssec_ok message)
-asked_is header dnssec_ok (Err e) question key name same keyed named = tt
-asked_is header dnssec_ok (Ok message) question key name same keyed named =
-    let asked : Option Question → Option Asked = λ q. option_map (λ (k : Key). let a : Asked = record { key = k; name = (question_or q).name } in a) (key_asking header dnssec_ok q) in
-    ap (λ (n : Labels). let a : Asked = record { key = key; name = n } in Some a) named
-    ∙ ap (λ (o : Option Key). option_map (λ (k : Key). let a : Asked = record { key = k; name = (question_or question).name } in a) o) keyed
-    ∙ ap asked same
+pub asked_is : {E : Type 0} (header : List ℕ) (dnssec_ok : Bool) (composed : Outcome) (question : Option Question) (asked : Result (Option Asked) E) → IfOk composed (λ message. question ≡ sole_question message)
+    → IfOk asked (λ o. o ≡ asked_about header dnssec_ok question) → IfOk asked (λ o. IfOk composed (λ message. o ≡ asked_in header dnssec_ok message))
+asked_is header dnssec_ok composed question (Err e) same is = tt
+asked_is header dnssec_ok (Err x) question (Ok o) same is = tt
+asked_is header dnssec_ok (Ok message) question (Ok o) same is = is ∙ ap (asked_about header dnssec_ok) same

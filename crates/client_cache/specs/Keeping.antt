@@ -7,14 +7,14 @@ use Rattle.std.specs.Prelude.{ℕ, ◌-◌, ◌/◌, ◌==◌, ◌&&◌, min, no
 use Rattle.std.specs.Map.{lookup}
 use Rattle.dns_names.specs.Name.{Labels}
 use Rattle.dns_base.specs.Header.{with_aa}
-use Rattle.dns_base.specs.Message.{header_of, sole_question}
+use Rattle.dns_base.specs.Message.{Asked as Question, header_of, sole_question}
 use Rattle.client_request.specs.declared.error.Error.{Error}
 use Rattle.client_settings.specs.Settings.{CacheSettings}
 use Rattle.lru.specs.LruCache.{LruCache, lru_cache, promoted, put_entries}
 use Rattle.right_trace.specs.Keys.{FlagClass, Do, Ad, Plain, Key, is_do, is_signing, question_or}
 use Rattle.cache_rules.specs.declared.key.AdDo.{AdDo}
 use Rattle.cache_rules.specs.declared.key.AdDo.TheVariants as classes
-use Rattle.cache_rules.specs.Key.{flag_class, key_in, same_key}
+use Rattle.cache_rules.specs.Key.{flag_class, key_asking, same_key}
 use Rattle.cache_rules.specs.Validity.{kept_for}
 use Rattle.cache_rules.specs.Viewing.{header_between, drops_signing, octets_by, view_octets}
 use Rattle.cache_rules.specs.declared.copying.Ttls.TheVariants.{Stale}
@@ -101,10 +101,14 @@ pub record Asked : Type 0 where
   pub key : Key
   pub name : Labels
 
--- what a request asks of which a message is composed; none where its results are not kept
+-- what a request asks by its question; none where its results are not kept
+abbrev pub asked_about : (header : List ℕ) → (dnssec_ok : Bool) → Option Question → Option Asked
+asked_about header dnssec_ok question =
+    option_map (λ k. record { key = k; name = (question_or question).name }) (key_asking header dnssec_ok question)
+
+-- what one asks of which a message is composed
 abbrev pub asked_in : (header : List ℕ) → (dnssec_ok : Bool) → List ℕ → Option Asked
-asked_in header dnssec_ok message =
-    option_map (λ k. record { key = k; name = (question_or (sole_question message)).name }) (key_in header dnssec_ok message)
+asked_in header dnssec_ok message = asked_about header dnssec_ok (sole_question message)
 
 -- an age in whole seconds, as far as a TTL goes
 abbrev pub seconds_of : (age : ℕ) → ℕ

@@ -1,6 +1,6 @@
 //! What is kept of a result, and what a request is given of it.
 
-ghost use Rattle.std.specs.Prelude.{◌≡◌, ◌-◌, false, nat_le, IfOk, IfSome, Ok};
+ghost use Rattle.std.specs.Prelude.{◌≡◌, ◌-◌, false, nat_le, IfOk, IfSome, Ok, Some, None};
 ghost use Rattle.dns_base.specs.OptRecord.{opt_rcode};
 ghost use Rattle.right_trace.specs.Keys as keys;
 ghost use Rattle.right_trace.specs.Views.{tells_of_name};
@@ -12,7 +12,7 @@ use crate::form::{Form, form_of};
 use cache_rules::{AdDo, Key, Ttls, derived_header, stale_under, validity, view_under};
 use client_request::Error;
 use client_settings::cache::Config;
-use dns_base::{Duration, Header, Message, Name, NoMemory, OptRcode};
+use dns_base::{Duration, Header, Message, Name, NoMemory, OptRcode, ParsedName, ToName};
 use std::alloc::Global;
 use std::marker::Model;
 
@@ -22,14 +22,15 @@ const SECOND: u64 = 1_000_000;
 /// What serves a request, if anything does: a message, or an error.
 pub(crate) type Answer = Option<Result<Message, Error>>;
 
-/// What a request asks: its key, and the name of its question as it is spelled.
+/// What a request asks: its key, and the name of its question as it is spelled. The name is read where the request has it,
+/// so that it takes no memory where nothing is given.
 #[derive(Drop)]
-pub struct Asked {
+pub struct Asked<'a> {
     pub(crate) key: Key,
-    pub(crate) name: Name,
+    pub(crate) name: ParsedName<'a>,
 }
 
-impl Model for Asked {
+impl<'a> Model for Asked<'a> {
     ghost use Rattle.client_cache.specs.Keeping.{Asked};
 
     ghost Value = { Asked };
@@ -254,7 +255,7 @@ fn seconds_of(age: u64) -> u32
 /// What is kept, as it is at an age in microseconds.
 fn show(
     alloc: Global,
-    asked: &Asked,
+    asked: &Asked<'_>,
     age: u64,
     outcome: &mut Result<Stored, Error>,
 ) -> Result<Result<Message, Error>, NoMemory>
@@ -263,7 +264,10 @@ fn show(
 {
     match outcome {
         Err(error) => Ok(Err(*error)),
-        Ok(stored) => stored.give(alloc, asked.key.addo(), &asked.name, seconds_of(age)),
+        Ok(stored) => {
+            let name = asked.name.to_name(alloc)?;
+            stored.give(alloc, asked.key.addo(), &name, seconds_of(age))
+        }
     }
 }
 
@@ -298,7 +302,7 @@ impl Entry {
     pub(crate) fn serve(
         &mut self,
         alloc: Global,
-        asked: &Asked,
+        asked: &Asked<'_>,
         now: u64,
     ) -> Result<Answer, NoMemory>
         ensures given { IfOk result (λ answer. answer ≡ plain.serves asked.now now self.old) }
@@ -357,12 +361,13 @@ impl Entry {
         alloc: Global,
         config: &Config,
         from: AdDo,
-        asked: &Asked,
+        asked: &Asked<'_>,
         stored: &Stored,
     ) -> Result<Result<Entry, Error>, NoMemory>
         ensures { IfOk result (λ e. e ≡ plain.rewritten config.now self.now stored.now.header (plain.viewed (flag_class from) asked.now.key.flags asked.now.name 0 stored.now)) }
     {
-        match stored.view(alloc, from, asked.key.addo(), &asked.name, 0)? {
+        let name = asked.name.to_name(alloc)?;
+        match stored.view(alloc, from, asked.key.addo(), &name, 0)? {
             Ok(message) => Ok(self.revalue(config, stored.header, message)),
             Err(error) => Ok(Err(error)),
         }
@@ -374,7 +379,7 @@ impl Entry {
         alloc: Global,
         config: &Config,
         from: AdDo,
-        asked: &Asked,
+        asked: &Asked<'_>,
         stored: Stored,
     ) -> Result<Result<Entry, Error>, NoMemory>
         ensures { IfOk result (λ e. e ≡ plain.derived_message config.now (flag_class from) asked.now self.now stored) }
@@ -396,7 +401,7 @@ impl Entry {
         alloc: Global,
         config: &Config,
         from: AdDo,
-        asked: &Asked,
+        asked: &Asked<'_>,
     ) -> Result<Result<Entry, Error>, NoMemory>
         ensures { IfOk result (λ e. e ≡ plain.derived config.now (flag_class from) asked.now self.now) }
     {
@@ -436,31 +441,9 @@ impl Model for Spare {
 }
 
 impl Spare {
-    /// What a request has to spare of an entry: a message alone, and only one that tells of a name. The message shares
-    /// its octets.
-    pub(crate) fn of(entry: &Entry, asked: &Asked, alloc: Global) -> Result<Option<Spare>, NoMemory>
-        ensures { IfOk result (λ s. s ≡ plain.spare_of asked.now entry.now entry.now.outcome) }
-    {
-        match &entry.outcome {
-            Err(_) => Ok(None),
-            Ok(stored) => {
-                if !stored.tells_of_name() {
-                    return Ok(None);
-                }
-                let name = asked.name.try_clone(alloc)?;
-                let entry = entry.copy()?;
-                Ok(Some(Spare {
-                    class: asked.key.addo(),
-                    name,
-                    entry,
-                }))
-            }
-        }
-    }
-
     /// What stands in for a result where servers fail: its message, while its age is at most its validity and the time
     /// that is set (RFC 8767).
-    pub(crate) fn stand_in(
+    fn stand_in(
         &self,
         alloc: Global,
         config: &Config,
@@ -480,6 +463,75 @@ impl Spare {
             }
         } else {
             Ok(None)
+        }
+    }
+}
+
+/// What a request has to spare, if anything. It stands on the heap, so that what holds it is small where there is nothing.
+#[derive(Drop)]
+pub struct Spared {
+    spare: Option<Box<Spare>>,
+}
+
+impl Model for Spared {
+    ghost use Rattle.std.specs.Prelude.{Option, option_map};
+    ghost use Rattle.client_cache.specs.Keeping.{Spare};
+
+    ghost Value = { Option Spare };
+
+    ghost view = { λ s. option_map (λ b. b.value) s.spare };
+}
+
+impl Spared {
+    /// Nothing.
+    pub(crate) fn nothing() -> Spared
+        ensures { result ≡ None }
+    {
+        Spared { spare: None }
+    }
+
+    fn new(alloc: Global, spare: Spare) -> Result<Spared, NoMemory>
+        ensures { IfOk result (λ s. s ≡ Some spare) }
+    {
+        let spare = Box::new(alloc, spare)?;
+        Ok(Spared { spare: Some(spare) })
+    }
+
+    /// What a request has to spare of an entry: a message alone, and only one that tells of a name. The message shares
+    /// its octets.
+    pub(crate) fn of(entry: &Entry, asked: &Asked<'_>, alloc: Global) -> Result<Spared, NoMemory>
+        ensures { IfOk result (λ s. s ≡ plain.spare_of asked.now entry.now entry.now.outcome) }
+    {
+        match &entry.outcome {
+            Err(_) => Ok(Spared::nothing()),
+            Ok(stored) => {
+                if !stored.tells_of_name() {
+                    return Ok(Spared::nothing());
+                }
+                let name = asked.name.to_name(alloc)?;
+                let entry = entry.copy()?;
+                let spare = Spare {
+                    class: asked.key.addo(),
+                    name,
+                    entry,
+                };
+                Spared::new(alloc, spare)
+            }
+        }
+    }
+
+    /// What stands in for a result, if there is something to spare.
+    pub(crate) fn stand_in(
+        &self,
+        alloc: Global,
+        config: &Config,
+        now: u64,
+    ) -> Result<Option<Message>, NoMemory>
+        ensures { IfOk result (λ m. m ≡ plain.spare_stands_in config.now now self.now) }
+    {
+        match &self.spare {
+            None => Ok(None),
+            Some(spare) => spare.stand_in(alloc, config, now),
         }
     }
 }

@@ -95,7 +95,7 @@ pub(crate) fn first_other(table: &Table, key: &mut Key) -> Option<Flags>
 pub(crate) fn serve_own(
     table: &mut Table,
     alloc: Global,
-    asked: &Asked,
+    asked: &Asked<'_>,
     now: u64,
 ) -> Result<Option<Answer>, NoMemory>
     ensures absent { IfOk result (λ served. IfNone served (plain.entry_under asked.now.key table.old ≡ None)) }
@@ -120,7 +120,7 @@ fn derive_from(
     table: &mut Table,
     alloc: Global,
     config: &Config,
-    asked: &Asked,
+    asked: &Asked<'_>,
     flags: Flags,
 ) -> Result<Option<Result<Entry, Error>>, NoMemory>
     ensures entry { IfOk result (λ e. e ≡ option_map (plain.derived config.now (flag_class flags.class) asked.now) (plain.entry_under (plain.with_flags flags asked.now.key) table.old)) }
@@ -142,7 +142,7 @@ pub(crate) fn derive_unused(
     table: &Table,
     alloc: Global,
     config: &Config,
-    asked: &Asked,
+    asked: &Asked<'_>,
     flags: Flags,
 ) -> Result<Option<Result<Entry, Error>>, NoMemory>
     ensures { IfOk result (λ e. e ≡ option_map (plain.derived config.now (flag_class flags.class) asked.now) (plain.entry_under (plain.with_flags flags asked.now.key) table.now)) }
@@ -162,7 +162,7 @@ pub(crate) fn derive_unused(
 fn store_and_serve(
     table: &mut Table,
     alloc: Global,
-    asked: &Asked,
+    asked: &Asked<'_>,
     now: u64,
     mut entry: Entry,
 ) -> Result<Answer, NoMemory>
@@ -178,7 +178,7 @@ fn store_and_serve(
 fn store_with_rd(
     table: &mut Table,
     alloc: Global,
-    asked: &Asked,
+    asked: &Asked<'_>,
     flags: Flags,
     entry: &Entry,
 ) -> Result<(), NoMemory>
@@ -197,7 +197,7 @@ fn store_with_rd(
 fn keep_derived(
     table: &mut Table,
     alloc: Global,
-    asked: &Asked,
+    asked: &Asked<'_>,
     flags: Flags,
     now: u64,
     entry: Entry,
@@ -217,7 +217,7 @@ fn answer_from_other(
     table: &mut Table,
     alloc: Global,
     config: &Config,
-    asked: &Asked,
+    asked: &Asked<'_>,
     flags: Flags,
     now: u64,
 ) -> Result<Answer, NoMemory>
@@ -243,7 +243,7 @@ pub(crate) fn answer_from(
     table: &mut Table,
     alloc: Global,
     config: &Config,
-    asked: &Asked,
+    asked: &Asked<'_>,
     flags: Flags,
     now: u64,
 ) -> Result<Answer, NoMemory>

@@ -20,7 +20,7 @@ fn would_derive(
     table: &Table,
     alloc: Global,
     config: &Config,
-    asked: &Asked,
+    asked: &Asked<'_>,
     flags: Flags,
     now: u64,
 ) -> Result<bool, NoMemory>
@@ -43,9 +43,9 @@ fn would_serve_asked(
     alloc: Global,
     config: &Config,
     now: u64,
-    mut asked: Asked,
+    mut asked: Asked<'_>,
 ) -> Result<bool, NoMemory>
-    ensures { IfOk result (λ served. served ≡ is_given (way_asked config.now now table.now (Some asked)).0) }
+    ensures { IfOk result (λ served. served ≡ is_given (way_asked config.now now table.now (Some asked.entry)).0) }
 {
     if let Some(entry) = table.peek(&asked.key) {
         return Ok(entry.is_valid(now));

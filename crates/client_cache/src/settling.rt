@@ -3,10 +3,9 @@
 ghost use Rattle.std.specs.Prelude.{◌≡◌, IfOk, OnOk, Ok, Err};
 ghost use Rattle.client_request.specs.Cx.{view_of, LendsTheSame};
 ghost use Rattle.right_trace.specs.Errors.{is_failure};
-ghost use Rattle.client_cache.specs.Keeping as keeping;
 ghost use Rattle.client_cache.specs.Plain as plain;
 
-use crate::entry::Spare;
+use crate::entry::Spared;
 use crate::keeping::keep_result;
 use crate::table::{Table, new_table};
 use cache_rules::Key;
@@ -25,7 +24,7 @@ pub struct Job {
     /// The key under which its result is kept, if it is.
     pub(crate) key: Option<Key>,
     /// What may stand in for its result.
-    pub(crate) spare: Option<Spare>,
+    pub(crate) spare: Spared,
 }
 
 impl Model for Job {
@@ -103,28 +102,13 @@ fn is_failure(error: Error) -> bool
     )
 }
 
-/// What stands in for a result, if there is something to spare.
-pub(crate) fn stand_in(
-    alloc: Global,
-    config: &Config,
-    spare: &Option<Spare>,
-    now: u64,
-) -> Result<Option<Message>, NoMemory>
-    ensures { IfOk result (λ m. m ≡ keeping.spare_stands_in config.now now spare.now) }
-{
-    match spare {
-        None => Ok(None),
-        Some(spare) => spare.stand_in(alloc, config, now),
-    }
-}
-
 /// Gives a request the error that came for it, which is kept first; or what stands in for that, as stale.
 fn give_error<W: Words>(
     kept: &mut Kept,
     cx: &mut Cx<'_, W>,
     ticket: u64,
     key: Key,
-    spare: Option<Spare>,
+    spare: Spared,
     error: Error,
 ) -> Result<(), NoMemory>
     ensures lends { LendsTheSame cx.old cx.new }
@@ -133,7 +117,7 @@ fn give_error<W: Words>(
     if !is_failure(error) {
         return give_kept(kept, cx, ticket, key, Err(error));
     }
-    match stand_in(kept.alloc, &kept.config, &spare, cx.now.0)? {
+    match spare.stand_in(kept.alloc, &kept.config, cx.now.0)? {
         None => give_kept(kept, cx, ticket, key, Err(error)),
         Some(message) => cx.board.put_stale(ticket, message),
     }

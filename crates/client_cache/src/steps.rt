@@ -3,15 +3,14 @@
 ghost use Rattle.std.specs.Prelude.{◌≡◌, OnOk, IfOk, [], None, Some, Ok, Err, option_map};
 ghost use Rattle.client_request.specs.Calls.{Holds};
 ghost use Rattle.client_request.specs.Cx.{view_of, heard};
-ghost use Rattle.right_trace.specs.Keys.{question_or};
 ghost use Rattle.client_cache.specs.Keeping as keeping;
 ghost use Rattle.client_cache.specs.Plain as plain;
 ghost use Rattle.client_cache.specs.Plain.{read};
 
 use crate::connection::Request;
-use crate::entry::{Answer, Asked, Spare};
+use crate::entry::{Answer, Asked, Spared};
 use crate::finding::{answer_from, first_other, serve_own};
-use crate::settling::{Job, Kept, part_of, settle_all, stand_in};
+use crate::settling::{Job, Kept, part_of, settle_all};
 use crate::table::Table;
 use cache_rules::Key;
 use client_request::{
@@ -19,7 +18,7 @@ use client_request::{
     send_below, step_below,
 };
 use client_settings::cache::Config;
-use dns_base::{Message, Name, NoMemory, Question, ToName};
+use dns_base::{Header, Message, NoMemory, Question};
 use std::alloc::Global;
 
 /// How a request goes on.
@@ -28,16 +27,26 @@ pub enum Way {
     /// It has its result.
     Given(Result<Message, Error>),
     /// It is handed on; its result is kept under the key, if there is one, and this may stand in for it.
-    Asks(Option<Key>, Option<Spare>),
+    Asks(Option<Key>, Spared),
 }
 
-/// The name of a question as it is spelled, or the root's where there is none.
-fn name_in(alloc: Global, question: &Option<Question<'_>>) -> Result<Name, NoMemory>
-    ensures { IfOk result (λ name. name ≡ (question_or question.now).name) }
+/// What a request asks by its question, unless its results are not kept.
+#[tactic(auto, using(crate::proofs::LookUps::none_asked))]
+fn asked_about(
+    alloc: Global,
+    question: Option<Question<'_>>,
+    header: Header,
+    dnssec_ok: bool,
+) -> Result<Option<Asked<'_>>, NoMemory>
+    ensures { IfOk result (λ asked. asked ≡ keeping.asked_about header dnssec_ok question.entry) }
 {
-    match question {
-        Some(question) => question.qname().to_name(alloc),
-        None => Ok(Name::root(alloc)),
+    let Some(question) = question else {
+        return Ok(None);
+    };
+    let name = question.qname();
+    match Key::asking(alloc, Some(question), header, dnssec_ok)? {
+        Some(key) => Ok(Some(Asked { key, name })),
+        None => Ok(None),
     }
 }
 
@@ -45,15 +54,11 @@ fn name_in(alloc: Global, question: &Option<Question<'_>>) -> Result<Name, NoMem
 pub(crate) fn asked_of<CR: ComposeRequest>(
     alloc: Global,
     request: &CR,
-) -> Result<Option<Asked>, NoMemory>
+) -> Result<Option<Asked<'_>>, NoMemory>
     ensures { IfOk result (λ asked. IfOk (CR.requests.composed request.now) (λ message. asked ≡ keeping.asked_in (CR.header_of request.now) (CR.is_dnssec_ok request.now) message)) }
 {
     let question = request.sole_question();
-    let name = name_in(alloc, &question)?;
-    match Key::asking(alloc, question, *request.header(), request.dnssec_ok())? {
-        Some(key) => Ok(Some(Asked { key, name })),
-        None => Ok(None),
-    }
+    asked_about(alloc, question, *request.header(), request.dnssec_ok())
 }
 
 /// What a request has to spare of the entry under its own key.
@@ -61,16 +66,16 @@ fn spare_in(
     table: &Table,
     alloc: Global,
     config: &Config,
-    asked: &Asked,
-) -> Result<Option<Spare>, NoMemory>
+    asked: &Asked<'_>,
+) -> Result<Spared, NoMemory>
     ensures { IfOk result (λ s. s ≡ keeping.spare_in config.now asked.now table.now) }
 {
     if config.stale_for().as_micros() == 0 {
-        return Ok(None);
+        return Ok(Spared::nothing());
     }
     match table.peek(&asked.key) {
-        None => Ok(None),
-        Some(entry) => Spare::of(entry, asked, alloc),
+        None => Ok(Spared::nothing()),
+        Some(entry) => Spared::of(entry, asked, alloc),
     }
 }
 
@@ -79,10 +84,10 @@ fn way_found(
     table: &Table,
     alloc: Global,
     config: &Config,
-    asked: Asked,
+    asked: Asked<'_>,
     answer: Answer,
 ) -> Result<Way, NoMemory>
-    ensures { IfOk result (λ way. way ≡ plain.way_found config.now asked table.now answer) }
+    ensures { IfOk result (λ way. way ≡ plain.way_found config.now asked.entry table.now answer) }
 {
     match answer {
         Some(outcome) => Ok(Way::Given(outcome)),
@@ -99,16 +104,16 @@ fn way_asked(
     alloc: Global,
     config: &Config,
     now: u64,
-    mut asked: Asked,
+    mut asked: Asked<'_>,
 ) -> Result<Way, NoMemory>
-    ensures way { IfOk result (λ way. way ≡ (plain.way_asked config.now now table.old (Some asked)).0) }
-    ensures table { OnOk result (table.new ≡ (plain.way_asked config.now now table.old (Some asked)).1) }
+    ensures way { IfOk result (λ way. way ≡ (plain.way_asked config.now now table.old (Some asked.entry)).0) }
+    ensures table { OnOk result (table.new ≡ (plain.way_asked config.now now table.old (Some asked.entry)).1) }
 {
     if let Some(answer) = serve_own(table, alloc, &asked, now)? {
         return way_found(&*table, alloc, config, asked, answer);
     }
     match first_other(table, &mut asked.key) {
-        None => Ok(Way::Asks(Some(asked.key), None)),
+        None => Ok(Way::Asks(Some(asked.key), Spared::nothing())),
         Some(flags) => {
             let answer = answer_from(table, alloc, config, &asked, flags, now)?;
             way_found(&*table, alloc, config, asked, answer)
@@ -132,7 +137,7 @@ fn way_of<CR: ComposeRequest>(
     }
     match asked_of(alloc, request)? {
         Some(asked) => way_asked(table, alloc, config, now, asked),
-        None => Ok(Way::Asks(None, None)),
+        None => Ok(Way::Asks(None, Spared::nothing())),
     }
 }
 
@@ -144,7 +149,7 @@ fn hand_on<CR: ComposeRequest, U: SendRequest<CR>, W: Words>(
     cx: &mut Cx<'_, W>,
     ticket: u64,
     key: Option<Key>,
-    spare: Option<Spare>,
+    spare: Spared,
     request: CR,
 ) -> Result<U::Response, Error>
     ensures holds { Holds W.stream cx.old cx.new result (plain.hands_on U.transport ticket key spare request below.old kept.old) (below.new, kept.new) U.holds_failed below.old below.new }
@@ -277,5 +282,5 @@ pub(crate) fn stale_for<P: GetResponse>(
     let Some(job) = kept.waiting.get(response.ticket()) else {
         return Ok(None);
     };
-    stand_in(kept.alloc, &kept.config, &job.spare, now)
+    job.spare.stand_in(kept.alloc, &kept.config, now)
 }

@@ -1,2 +1,3 @@
 pub mod Conf
 pub mod Ends
+pub mod Numbers

@@ -1,5 +1,5 @@
 -- A configuration that was served.
-use Rattle.std.proofs.Common.{◌≡◌, ◌<◌, ◌^◌, ℕ, List, [], ◌∷◌, map, Option, Some, None, ◌∙◌, ap, subst, lit≤}
+use Rattle.std.proofs.Common.{◌≡◌, ◌<◌, ◌^◌, ℕ, false, List, [], ◌∷◌, map, Option, Some, None, ◌∙◌, ap, subst, lit≤}
 use Rattle.std.specs.Prelude.{IfSome}
 use Rattle.client_steps.specs.Whole.{Whole}
 use Rattle.command_parts.specs.Conf.{Configures}
@@ -10,7 +10,7 @@ use Rattle.proof_front.specs.Forwarding.{EveryForwardedTraceIsRight}
 use Rattle.resolv_conf.specs.declared.conf.ResolvConf.{ResolvConf}
 use Rattle.resolv_conf.specs.declared.server.ServerConf.{ServerConf}
 use Rattle.forward_run.specs.Front.{after_deed, after_deeds}
-use Rattle.forward_run.specs.Serving.{IsAnsweredIf, IsConfAsked, IsDeaf, IsNotListenedIf, IsServed, answered_line, begun_deeds, first_of}
+use Rattle.forward_run.specs.Serving.{IsAnsweredIf, IsConfAsked, IsDeaf, IsNotListenedIf, IsServed, answered_line, asks_itself, begun_deeds, first_of}
 use Rattle.forward_run.specs.Settings.{cache_of, choice_of, conf_of, words_left}
 use Rattle.forward_run.specs.Turns.{Turned, World, rows_of, scene, within}
 use Rattle.forward_run.specs.declared.front.FrontDeed.{FrontDeed}
@@ -29,9 +29,10 @@ begun port conf servers old listens new listened learned same =
 pub served : (options : Options) (asked : Asked) (conf : ResolvConf) (answered : ℕ) (first last : Forwarding Whole) (old new : World) (deeds : Option (List FrontDeed)) (polls : ℕ)
     → first ≡ first_of options conf → deeds ≡ after_deeds (begun_deeds asked.port conf) old.deeds → polls ≡ old.polls
     → EveryForwardedTraceIsRight → ((k : ℕ) → old.words k < 2 ^ 64)
+    → asks_itself options.listened asked.port conf ≡ false
     → Turned asked.turns answered (scene first old.words deeds polls old.moments) (within last new)
     → IsServed options asked conf answered old new
-served options asked conf answered first last old new deeds polls made told same every small turned =
+served options asked conf answered first last old new deeds polls made told same every small others turned =
     let P : Forwarding Whole → Option (List FrontDeed) → ℕ → Type 0 = λ f ds n. Turned asked.turns answered (scene f old.words ds n old.moments) (within last new) in
     let start = first_of options conf in
     let begins = after_deeds (begun_deeds asked.port conf) old.deeds in
@@ -40,6 +41,7 @@ served options asked conf answered first last old new deeds polls made told same
     record {
       last = last;
       turned = t;
+      asks_others = others;
       right = every (choice_of options.policy) (cache_of options) conf old.words (rows_of t.turns) t.trace last new.words t.forwards (lit≤ tt) small;
     }
 

@@ -27,28 +27,6 @@ use Rattle.forward_run.specs.declared.front.FrontDeed.TheVariants.{Learned, List
 use Rattle.forward_words.specs.declared.options.Options.{Options}
 use Rattle.forward_words.specs.declared.words.Asked.{Asked}
 
--- it is listened on a port, and then the servers are learned in order
-abbrev pub begun_deeds : (port : ℕ) → ResolvConf → List FrontDeed
-begun_deeds port conf = Listens port ∷ map (λ server. Learned server) conf.servers
-
--- the forwarder that is made of a configuration as the options say
-abbrev pub first_of : Options → ResolvConf → Forwarding Whole
-first_of options conf = beginning (started (choice_of options.policy) (cache_of options) conf)
-
--- The configuration was served: it was listened, once, the servers were learned, and so many turns were made, which put out so many answers. What the client within did is
--- right.
-pub record IsServed (options : Options) (asked : Asked) (conf : ResolvConf) (answered : ℕ) (old new : World) : Type 0 where
-  pub last : Forwarding Whole
-  pub turned :
-      Turned asked.turns answered
-      (within (first_of options conf) (record old { deeds = after_deeds (begun_deeds asked.port conf) old.deeds }))
-      (within last new)
-  pub right : IsRightTrace (choice_of options.policy) (cache_of options) conf old.words turned.trace
-
--- the line that is written at the end
-abbrev pub answered_line : ℕ → List ℕ
-answered_line n = codes "answered " ++ decimal n ++ codes "\n"
-
 -- two addresses are the same
 abbrev pub is_same_ip : IpAddr → IpAddr → Bool
 is_same_ip (V4 a) (V4 b) = pointwise ◌==◌ a b
@@ -65,6 +43,29 @@ is_itself listened port server = server.addr.port == port && is_among server.add
 
 abbrev pub asks_itself : (listened : List IpAddr) → (port : ℕ) → ResolvConf → Bool
 asks_itself listened port conf = list_any (is_itself listened port) conf.servers
+
+-- it is listened on a port, and then the servers are learned in order
+abbrev pub begun_deeds : (port : ℕ) → ResolvConf → List FrontDeed
+begun_deeds port conf = Listens port ∷ map (λ server. Learned server) conf.servers
+
+-- the forwarder that is made of a configuration as the options say
+abbrev pub first_of : Options → ResolvConf → Forwarding Whole
+first_of options conf = beginning (started (choice_of options.policy) (cache_of options) conf)
+
+-- The configuration was served, in which no server is the forwarder itself: it was listened, once, the servers were learned, and so many turns were made, which put out so many
+-- answers. What the client within did is right.
+pub record IsServed (options : Options) (asked : Asked) (conf : ResolvConf) (answered : ℕ) (old new : World) : Type 0 where
+  pub last : Forwarding Whole
+  pub turned :
+      Turned asked.turns answered
+      (within (first_of options conf) (record old { deeds = after_deeds (begun_deeds asked.port conf) old.deeds }))
+      (within last new)
+  pub asks_others : asks_itself options.listened asked.port conf ≡ false
+  pub right : IsRightTrace (choice_of options.policy) (cache_of options) conf old.words turned.trace
+
+-- the line that is written at the end
+abbrev pub answered_line : ℕ → List ℕ
+answered_line n = codes "answered " ++ decimal n ++ codes "\n"
 
 -- The text is a configuration, and as the options say these servers are asked; `left` are the words that are not drawn by then.
 pub record IsConfAsked (options : Options) (text : List ℕ) (words : ℕ → ℕ) (conf : ResolvConf) (left : ℕ → ℕ) : Type 0 where

@@ -1,6 +1,6 @@
 //! What the program does.
 
-ghost use Rattle.std.specs.Prelude.{◌≡◌, ◌≢◌, ◌<◌, ◌⊎◌, [], map, None, OnOk, OnErr, IfOk, IfErr, IfSome};
+ghost use Rattle.std.specs.Prelude.{◌≡◌, ◌≢◌, ◌<◌, ◌⊎◌, false, [], map, None, OnOk, OnErr, IfOk, IfErr, IfSome};
 ghost use Rattle.dns_values.specs.Sink.{IsFlushed};
 ghost use Rattle.dns_values.specs.Source.{Rose};
 ghost use Rattle.command_parts.specs.Conf.{IsConfRefused};
@@ -99,6 +99,7 @@ fn listen<F: Front>(
     ensures status { IfErr result (λ e. status_of e ≡ 5) }
     ensures silent { IfErr result (λ e. line_of e ≡ []) }
     ensures deaf { OnErr result (IsDeaf listened.now port conf.now (F.faults front.old) (F.faults front.new)) }
+    ensures asks_others { OnOk result (spec.asks_itself listened.now port conf.now ≡ false) }
 {
     if asks_itself(listened, port, conf) {
         return Err(Ending::Silent(NO_REPLY));
@@ -140,6 +141,7 @@ fn begin<F: Front>(
     ensures ends { IfErr result IsServeEnd }
     ensures deaf { IfErr result (λ e. status_of e ≡ 5 → IsDeaf options.now.listened port conf.now (F.faults front.old) (F.faults front.new)) }
     ensures no_numbers { IfErr result (λ e. status_of e ≢ 7) }
+    ensures asks_others { OnOk result (spec.asks_itself options.now.listened port conf.now ≡ false) }
 {
     listen(options.listened.as_slice(), port, conf, front)?;
     learn_all(front, conf.servers.as_slice())?;

@@ -4,6 +4,7 @@ use crate::watch::Watch;
 use client_request::Out;
 use command_parts::deliver;
 use dns_values::Sink;
+use front_core::Forwarder;
 use front_peers::{FrontOut, FrontRow, FrontWhat};
 use resolv_conf::OpenFile;
 use std::alloc::Global;
@@ -32,9 +33,9 @@ struct Tally {
 
 /// A line that tells how much was done, once in so many seconds of the clock's. What the sink does not take is left out.
 ///
-/// `answered` counts queries that were answered: as a hit where that was in the turn in which it came, and else as a miss; and as refused
-/// where the answer has no question. `stale` counts what had expired among the answers of both kinds. `memory` is what the system holds
-/// for the program, in kibibytes, or 0 where it doesn't tell.
+/// `queries` counts those that were answered or wait. One that was answered is a hit where that was in the turn in which it came, and
+/// else a miss; and refused where the answer has no question. `waiting` is how many wait now. `stale` counts what had expired among the
+/// answers of both kinds. `memory` is what the system holds for the program, in kibibytes, or 0 where it doesn't tell.
 #[derive(Drop)]
 pub struct StatusLine<O: OpenFile + Drop, K: Sink + Drop> {
     alloc: Global,
@@ -130,17 +131,21 @@ impl<O: OpenFile + Drop, K: Sink + Drop> StatusLine<O, K> {
         second_number(str::from_utf8(&buf[..count]).ok()?)
     }
 
-    fn write(&mut self) {
+    fn write(&mut self, forwarder: &Forwarder) {
         let Tally {
             hits,
             misses,
             refused,
             stale,
         } = self.tally;
-        let answered = hits.saturating_add(misses).saturating_add(refused);
+        let waiting = forwarder.waiting();
+        let queries = hits
+            .saturating_add(misses)
+            .saturating_add(refused)
+            .saturating_add(waiting);
         let memory = self.pages().unwrap_or(0).saturating_mul(PAGE);
         if let Ok(line) = format!(in self.alloc;
-            "dns_forward: answered {answered}, hits {hits}, misses {misses}, refused {refused}, stale {stale}, memory {memory} KiB\n"
+            "dns_forward: queries {queries}, hits {hits}, misses {misses}, refused {refused}, waiting {waiting}, stale {stale}, memory {memory} KiB\n"
         ) {
             deliver(&mut self.errors, line.as_bytes());
         }
@@ -148,7 +153,7 @@ impl<O: OpenFile + Drop, K: Sink + Drop> StatusLine<O, K> {
 }
 
 impl<O: OpenFile + Drop, K: Sink + Drop> Watch for StatusLine<O, K> {
-    fn turned(&mut self, row: &FrontRow) {
+    fn turned(&mut self, forwarder: &Forwarder, row: &FrontRow) {
         let Some(every) = self.every else {
             return;
         };
@@ -158,6 +163,6 @@ impl<O: OpenFile + Drop, K: Sink + Drop> Watch for StatusLine<O, K> {
             return;
         }
         self.next = second.saturating_add(every);
-        self.write();
+        self.write(forwarder);
     }
 }

@@ -5,10 +5,10 @@ use Rattle.std.specs.Cmp.Lexicographic.{pointwise}
 use Rattle.std.specs.Str.{bytes_eq}
 use Rattle.std.specs.String.{string_bytes}
 use Rattle.std.specs.declared.alloc.Global.{Global}
+use Rattle.command_parts.specs.Numbers.{number_in}
 use Rattle.dns_values.specs.Address.{IsAddressText}
 use Rattle.dns_values.specs.declared.address.IpAddr.{IpAddr}
 use Rattle.dns_values.specs.declared.address.IpAddr.TheVariants.{V4, V6}
-use Rattle.forward_words.specs.Words.{number_in}
 use Rattle.forward_words.specs.declared.options.Fault.{Fault}
 use Rattle.forward_words.specs.declared.options.Fault.TheVariants as faults
 use Rattle.forward_words.specs.declared.options.Options.{Options}

@@ -6,7 +6,6 @@
 //! ```
 #![tactic(auto)]
 
-mod number;
 mod options;
 mod taking;
 mod words;

@@ -1,11 +1,11 @@
 //! Options that are taken, one after another.
 
 ghost use Rattle.std.specs.Prelude.{◌≡◌, ◌++◌, ◌∷◌, [], option_map, true};
+ghost use Rattle.command_parts.specs.Numbers.{number_in};
 ghost use Rattle.forward_words.specs.Options.{AllAnswer, Answers, ListenGives, ValueGives, entries_said, kind_of, may_listen, policy_of, policy_said, port_said, stale_said, status_said};
-ghost use Rattle.forward_words.specs.Words.{number_in};
 
-use crate::number::number_in;
 use crate::options::{Fault, Options, Policy};
+use command_parts::number_in;
 use dns_values::IpAddr;
 
 /// The most answers that are kept.

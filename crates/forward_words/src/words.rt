@@ -3,7 +3,7 @@
 ghost use Rattle.std.specs.Prelude.{◌≡◌};
 ghost use Rattle.forward_words.specs.Words.{asked_by};
 
-use crate::number::number_in;
+use command_parts::number_in;
 
 /// What the words behind the options ask for.
 #[derive(Clone, Copy, Debug, PartialEq, Eq)]

@@ -6,6 +6,7 @@ ghost use Rattle.client_core.specs.Waiting.{wait_of};
 ghost use Rattle.client_steps.specs.Whole.{started};
 ghost use Rattle.front_core.specs.Forwarded.{Makes};
 ghost use Rattle.front_steps.specs.Steps.{beginning};
+ghost use Rattle.front_steps.specs.Waits.{count_waiting};
 
 use crate::within::Core;
 use client_core::{Client, cache, redundant};
@@ -84,5 +85,12 @@ impl Forwarder {
         ensures { result ≡ wait_of self.now.within }
     {
         self.over.within().may_wait()
+    }
+
+    /// How many queries wait for a reply of the client.
+    pub fn waiting(&self) -> u64
+        ensures { result ≡ count_waiting self.now.desk.waits }
+    {
+        self.over.waiting()
     }
 }

@@ -1,2 +1,3 @@
 pub mod PutOn
 pub mod Doing
+pub mod Counting

@@ -1,3 +1,4 @@
+pub mod Askers
 pub mod Waiting
 pub mod Waits
 pub mod Steps

@@ -15,7 +15,7 @@ use Rattle.front_peers.specs.declared.items.Asker.{Asker}
 use Rattle.front_peers.specs.declared.items.Item.{Item}
 use Rattle.front_peers.specs.declared.items.Item.TheVariants.{Asks, Refuses, Drops, Happens}
 use Rattle.front_steps.specs.Waiting.{Waits}
-use Rattle.front_steps.specs.Waits.{none_waits, same_asked, has_room, asks_anew, joins_if, puts_all, turned}
+use Rattle.front_steps.specs.Waits.{none_waits, same_asked, has_room, may_join, asks_anew, joins_if, puts_all, turned}
 use Rattle.front_steps.specs.declared.putting.Desk.{Desk}
 
 -- A forwarder between two events, over a client within.
@@ -107,9 +107,9 @@ module _ {C : Type 0} (steps : Steps C) where
   DidAskIf false moment asker old new rows = Leaves (turned asker, old.desk) old new rows
 
 module _ {C : Type 0} (steps : Steps C) (serves : Serves C) where
-  -- A query that asks the same as one that waits, for the reply to this number, waits for that too. Another one is asked if there is room, or if it is served at once.
+  -- A query that asks the same as one that waits, for the reply to this number, waits for that too, if it may. Another one is asked if there is room, or if it is served at once.
   abbrev pub DidQuery : (same : Option ℕ) → Moment → Asker → (old new : Scene C) → List Row → Type 0
-  DidQuery (Some number) moment asker old new rows = Leaves (joins_if (has_room old.desk.waits) number asker old.desk) old new rows
+  DidQuery (Some number) moment asker old new rows = Leaves (joins_if (may_join number asker.by_stream old.desk.waits) number asker old.desk) old new rows
   DidQuery None moment asker old new rows =
       DidAskIf steps (has_room old.desk.waits || serves old.within moment (request_of asker.query)) moment asker old new rows
 

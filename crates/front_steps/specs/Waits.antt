@@ -1,5 +1,5 @@
 -- The queries that wait, and what is put out for them.
-use Rattle.std.specs.Prelude.{ℕ, ◌+◌, ◌-◌, ◌++◌, nat_lt, Bool, true, false, List, [], ◌∷◌, length, Option, Some, None, option_and_then, option_map, Result}
+use Rattle.std.specs.Prelude.{ℕ, ◌+◌, ◌++◌, ◌&&◌, ◌||◌, not, nat_lt, Bool, true, false, List, [], ◌∷◌, length, Option, Some, None, option_and_then, option_map, Result}
 use Rattle.std.specs.BTreeMap.{insert_entry, is_at}
 use Rattle.std.specs.Cmp.Lexicographic.{slice_cmp}
 use Rattle.std.specs.Map.{lookup, remove_entry}
@@ -15,13 +15,14 @@ use Rattle.front_peers.specs.declared.event.FrontOut.{FrontOut}
 use Rattle.front_peers.specs.declared.event.FrontOut.TheVariants.{Core, Answer}
 use Rattle.front_peers.specs.declared.items.Asker.{Asker}
 use Rattle.front_peers.specs.declared.peers.Stream.{Stream}
-use Rattle.front_steps.specs.Waiting.{Waits}
+use Rattle.front_steps.specs.Askers.{count_by_streams}
+use Rattle.front_steps.specs.Waiting.{Waits, askers_in}
 use Rattle.front_steps.specs.declared.putting.Desk.{Desk}
 use Rattle.front_steps.specs.declared.waits.Waiting.{Waiting}
 
 -- no query waits
 abbrev pub none_waits : Waits
-none_waits = record { requests = []; numbers = []; next = 0; count = 0 }
+none_waits = record { requests = []; numbers = []; next = 0 }
 
 abbrev pub is_key : List ℕ → List ℕ → Bool
 is_key key = is_at (slice_cmp nat_cmp key)
@@ -34,16 +35,29 @@ if_it_waits requests number = option_map (λ waiting. number) (entry_at number r
 abbrev pub same_asked : (key : List ℕ) → Waits → Option ℕ
 same_asked key w = option_and_then (if_it_waits w.requests) (lookup (is_key key) w.numbers)
 
+-- how many queries wait
+abbrev pub count_waiting : Waits → ℕ
+count_waiting w = length (askers_in w.requests)
+
 -- there is room for one more query: at most 10,000 wait
 abbrev pub has_room : Waits → Bool
-has_room w = nat_lt w.count 10000
+has_room w = nat_lt (count_waiting w) 10000
+
+-- how many that came by streams wait for the reply to a request, beside the query of which it was made
+abbrev pub by_streams_of : Option Waiting → ℕ
+by_streams_of None = 0
+by_streams_of (Some waiting) = count_by_streams waiting.others
+
+-- A query may wait for the reply to a request: there is room, and by a stream fewer than 250 others wait for it by streams, since each may then have a message of 65,535 octets
+-- (RFC 7766, section 8) at once.
+abbrev pub may_join : (number : ℕ) → (by_stream : Bool) → Waits → Bool
+may_join number by_stream w = has_room w && (not by_stream || nat_lt (by_streams_of (entry_at number w.requests)) 250)
 
 -- a query waits for the reply to a request that was asked before
 abbrev pub joins_one : (number : ℕ) → Asker → Waits → Option Waiting → Waits
 joins_one number asker w None = w
 joins_one number asker w (Some waiting) = record w {
   requests = puts number (record waiting { others = waiting.others ++ asker ∷ [] }) (frees number w.requests);
-  count = w.count + 1;
 }
 
 abbrev pub joins : (number : ℕ) → Asker → Waits → Waits
@@ -55,7 +69,6 @@ asks_anew asker w = record {
   requests = puts w.next (record { key = key_of asker.query; first = asker; others = [] }) w.requests;
   numbers = insert_entry (slice_cmp nat_cmp) w.numbers (key_of asker.query) w.next;
   next = w.next + 1;
-  count = w.count + 1;
 }
 
 -- a request has its reply
@@ -63,7 +76,6 @@ abbrev pub answered : (number : ℕ) → Waiting → Waits → Waits
 answered number waiting w = record w {
   requests = frees number w.requests;
   numbers = remove_entry (is_key waiting.key) w.numbers;
-  count = w.count - 1 - length waiting.others;
 }
 
 abbrev pub answered_if : (number : ℕ) → Option Waiting → Waits → Waits
@@ -122,7 +134,7 @@ turns_away asker = away asker.by_stream (turned_away asker.query)
 abbrev pub turned : Asker → List FrontOut
 turned asker = Answer asker.peer (turns_away asker) ∷ []
 
--- A query waits for the reply to a request that was asked before, if there is room, and else is turned away.
-abbrev pub joins_if : (room : Bool) → (number : ℕ) → Asker → Desk → List FrontOut × Desk
+-- A query waits for the reply to a request that was asked before, if it may, and else is turned away.
+abbrev pub joins_if : (may : Bool) → (number : ℕ) → Asker → Desk → List FrontOut × Desk
 joins_if true number asker d = ([], record d { waits = joins number asker d.waits })
 joins_if false number asker d = (turned asker, d)

@@ -7,7 +7,7 @@ ghost use Rattle.client_request.specs.declared.error.Error.TheVariants as errors
 ghost use Rattle.front_queries.specs.Requests.{request_of};
 ghost use Rattle.front_peers.specs.declared.items.Item.TheVariants.{Asks};
 ghost use Rattle.front_steps.specs.Steps.{DidAsk, DidItem, DidQuery, DidRow, DidSo, DidSome, DidTick, Doing, Stepped, TookIn, beginning, scene};
-ghost use Rattle.front_steps.specs.Waits.{has_room, joins_if, turned};
+ghost use Rattle.front_steps.specs.Waits.{count_waiting, has_room, joins_if, may_join, turned};
 
 use crate::asked_key::AskedKey;
 use crate::putting::{Desk, put_all, turn_away};
@@ -102,7 +102,7 @@ fn put_away(alloc: Global, asker: &Asker, outs: &mut FrontOuts) -> Result<(), No
     })
 }
 
-/// A query waits for the reply to a request of this number, if there is room.
+/// A query waits for the reply to a request of this number, if it may.
 fn join(
     alloc: Global,
     desk: &mut Desk,
@@ -110,10 +110,10 @@ fn join(
     asker: Asker,
     outs: &mut FrontOuts,
 ) -> Result<(), NoMemory>
-    ensures outs { OnOk result (outs.new ≡ outs.old ++ (joins_if (has_room desk.old.waits) number asker desk.old).0) }
-    ensures desk { OnOk result (desk.new ≡ (joins_if (has_room desk.old.waits) number asker desk.old).1) }
+    ensures outs { OnOk result (outs.new ≡ outs.old ++ (joins_if (may_join number asker.by_stream desk.old.waits) number asker desk.old).0) }
+    ensures desk { OnOk result (desk.new ≡ (joins_if (may_join number asker.by_stream desk.old.waits) number asker desk.old).1) }
 {
-    if desk.waits.has_room() {
+    if desk.waits.may_join(number, asker.by_stream) {
         desk.waits.join(number, asker)
     } else {
         put_away(alloc, &asker, outs)
@@ -312,10 +312,18 @@ impl<C: Within + Drop> Forwarder<C> {
         &self.within
     }
 
+    /// How many queries wait for a reply of the client within.
+    pub fn waiting(&self) -> u64
+        ensures { result ≡ count_waiting self.now.desk.waits }
+    {
+        self.desk.waits.count()
+    }
+
     /// Takes an event in: what it comes to is done in order, and where nothing happens to the client within, time goes on for it.
     /// A query that is taken waits for the reply to one that waits and asks the same, or is asked; while 10,000 wait it is turned
-    /// away, unless the client within serves it at once. Each reply is answered to all that wait for it in its place, and all
-    /// else that the client puts out is handed on.
+    /// away, unless the client within serves it at once, and by a stream also where 250 that came by streams wait for that reply
+    /// beside the one that was asked. Each reply is answered to all that wait for it in its place, and all else that the client puts
+    /// out is handed on.
     ///
     /// `NoMemory`, `NumbersUsed` where a number is used up, and from then on `Failed`, which changes nothing.
     pub fn step<W: Words>(&mut self, words: &mut W, event: FrontEvent) -> Result<FrontRow, Error>

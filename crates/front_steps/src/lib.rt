@@ -4,6 +4,7 @@
 
 mod asked_key;
 mod forwarder;
+mod others;
 mod putting;
 mod waits;
 mod within;

@@ -1,14 +1,16 @@
 //! The queries that wait.
 
-ghost use Rattle.std.specs.Prelude.{◌≡◌, true, OnOk, IfErr};
+ghost use Rattle.std.specs.Prelude.{◌≡◌, ◌+◌, ◌<◌, ◌^◌, true, length, OnOk, IfErr, IfNone};
 ghost use Rattle.client_request.specs.Timers.{IsWant};
-ghost use Rattle.number_table.specs.Entries.{entry_at, puts};
+ghost use Rattle.number_table.specs.Entries.{entry_at, frees, puts};
 ghost use Rattle.std.specs.Map.{lookup};
+ghost use Rattle.front_steps.specs.Waiting.{askers_in, askers_of, askers_or_none};
 ghost use Rattle.front_steps.specs.Waits as spec;
 
 use crate::asked_key::AskedKey;
+use crate::others::Others;
 use client_request::Error;
-use dns_base::{NoMemory, Seq};
+use dns_base::NoMemory;
 use front_peers::Asker;
 use number_table::NumberTable;
 use std::alloc::Global;
@@ -18,6 +20,10 @@ use std::marker::Model;
 /// How many queries may wait.
 const MOST_WAITING: u64 = 10000;
 
+/// How many that came by streams may wait for the reply to another one's request: all their answers are made at once, and each may have
+/// 65,535 octets (RFC 7766, section 8).
+const MOST_BY_STREAMS: u64 = 250;
+
 /// The queries that wait for the reply to one request.
 #[derive(Drop)]
 pub struct Waiting {
@@ -26,7 +32,7 @@ pub struct Waiting {
     /// The query of which the request was made.
     pub first: Asker,
     /// Those that came while it waited, in order.
-    pub others: Seq<Asker>,
+    pub others: Others,
 }
 
 /// The queries that wait, by their requests.
@@ -46,7 +52,9 @@ impl Model for Waits {
 
     ghost Value = { waiting.Waits };
 
-    ghost view = { λ w. record { requests = w.requests; numbers = w.numbers.entries; next = w.next; count = w.count } };
+    ghost view = { λ w. record { requests = w.requests; numbers = w.numbers.entries; next = w.next } };
+
+    ghost invariant = { λ w. waiting.Counts w.count w.requests };
 }
 
 impl Drop for Waits {
@@ -58,6 +66,25 @@ impl Drop for Waits {
             next: _,
             count: _,
         } = self;
+    }
+}
+
+/// How many queries wait for the reply to one request.
+fn askers(waiting: &Waiting) -> u64
+    requires { length (askers_of waiting.now) < 2 ^ 64 }
+    ensures { result ≡ length (askers_of waiting.now) }
+{
+    1 + waiting.others.len() as u64
+}
+
+/// The same, where none may wait.
+fn askers_or_none(waiting: &Option<Waiting>) -> u64
+    requires { length (askers_or_none waiting.now) < 2 ^ 64 }
+    ensures { result ≡ length (askers_or_none waiting.now) }
+{
+    match waiting {
+        Some(waiting) => askers(waiting),
+        None => 0,
     }
 }
 
@@ -73,6 +100,13 @@ impl Waits {
             next: 0,
             count: 0,
         }
+    }
+
+    /// How many queries wait.
+    pub(crate) fn count(&self) -> u64
+        ensures { result ≡ spec.count_waiting self.now }
+    {
+        self.count
     }
 
     /// Whether one more query may wait.
@@ -101,13 +135,47 @@ impl Waits {
         }
     }
 
+    /// How many that came by streams wait for the reply to a request, beside the query of which it was made.
+    fn by_streams(&self, number: u64) -> u64
+        ensures { result ≡ spec.by_streams_of (entry_at number self.now.requests) }
+    {
+        match self.requests.get(number) {
+            Some(waiting) => waiting.others.by_streams(),
+            None => 0,
+        }
+    }
+
+    /// Whether one more query may wait for the reply to a request.
+    pub(crate) fn may_join(&self, number: u64, by_stream: bool) -> bool
+        ensures { result ≡ spec.may_join number by_stream self.now }
+    {
+        self.has_room() && (!by_stream || self.by_streams(number) < MOST_BY_STREAMS)
+    }
+
+    /// These queries wait for the reply to a request, in the place of others.
     fn put(&mut self, number: u64, waiting: Waiting) -> Result<(), NoMemory>
+        requires { length (askers_in self.old.requests) + length (askers_of waiting) < 2 ^ 64 }
         ensures { OnOk result (self.new ≡ record self.old { requests = puts number waiting self.old.requests }) }
     {
-        match self.requests.insert(number, waiting) {
-            Ok(_) => Ok(()),
-            Err(_) => Err(NoMemory),
-        }
+        let more = askers(&waiting);
+        let before = match self.requests.insert(number, waiting) {
+            Ok(before) => before,
+            Err(_) => return Err(NoMemory),
+        };
+        self.count = self.count + more - askers_or_none(&before);
+        Ok(())
+    }
+
+    /// The queries that wait for the reply to a request are taken out.
+    fn take_out(&mut self, number: u64) -> Option<Waiting>
+        ensures found { result ≡ entry_at number self.old.requests }
+        ensures left { self.new ≡ record self.old { requests = frees number self.old.requests } }
+        ensures count { length (askers_in self.new.requests) + length (askers_or_none result) ≡ length (askers_in self.old.requests) }
+        ensures none { IfNone result (self.new ≡ self.old) }
+    {
+        let waiting = self.requests.remove(number);
+        self.count -= askers_or_none(&waiting);
+        waiting
     }
 
     /// A query waits for the reply to a request that was asked before.
@@ -115,13 +183,11 @@ impl Waits {
         requires { spec.has_room self.old ≡ true }
         ensures { OnOk result (self.new ≡ spec.joins number asker self.old) }
     {
-        let Some(mut waiting) = self.requests.remove(number) else {
+        let Some(mut waiting) = self.take_out(number) else {
             return Ok(());
         };
         waiting.others.push(asker)?;
-        self.put(number, waiting)?;
-        self.count += 1;
-        Ok(())
+        self.put(number, waiting)
     }
 
     /// A query waits for the reply to its own request. `NumbersUsed` where no number is left for it.
@@ -137,7 +203,7 @@ impl Waits {
         let waiting = Waiting {
             key,
             first: asker,
-            others: Seq::new(self.alloc),
+            others: Others::new(self.alloc),
         };
         let number = self.next;
         self.put(number, waiting)?;
@@ -145,7 +211,6 @@ impl Waits {
             return Err(Error::NoMemory);
         }
         self.next = number + 1;
-        self.count += 1;
         Ok(())
     }
 
@@ -154,10 +219,8 @@ impl Waits {
         ensures found { result ≡ entry_at number self.old.requests }
         ensures left { self.new ≡ spec.answered_if number (entry_at number self.old.requests) self.old }
     {
-        let waiting = self.requests.remove(number)?;
+        let waiting = self.take_out(number)?;
         let _number = self.numbers.remove(&waiting.key);
-        let others = waiting.others.len() as u64;
-        self.count = self.count.saturating_sub(1).saturating_sub(others);
         Some(waiting)
     }
 }

@@ -11,6 +11,7 @@ use crate::writes::{put_name, put_over, put_ttls};
 use cache_rules::{AdDo, Ttls, is_viewable, view_under};
 use client_request::Error;
 use dns_base::{Header, Message, Name, NoMemory, Octets};
+use smallvec::SmallVec;
 use std::alloc::Global;
 use std::marker::Model;
 
@@ -33,20 +34,21 @@ fn is_long(composed: &Message, message: &Message) -> bool
     came.saturating_mul(2).saturating_add(512) < composed.as_slice().len()
 }
 
-/// A message that was composed, and the places of its question's name and of its TTLs.
+/// The octets of a message that was composed, and the places of its question's name and of its TTLs.
 #[derive(Drop)]
 pub struct Template {
-    message: Message,
+    octets: Vec<u8>,
     is_named: bool,
-    ttls: Vec<u32>,
+    /// Most messages have no more TTLs than stand here itself.
+    ttls: SmallVec<u32, 4>,
 }
 
 impl Model for Template {
     ghost Value = { spec.Template };
 
-    ghost view = { λ t. record { octets = t.message; is_named = t.is_named; ttls = t.ttls.items } };
+    ghost view = { λ t. record { octets = t.octets.items; is_named = t.is_named; ttls = t.ttls.items } };
 
-    ghost invariant = { λ t. AllByRecursion (spec.IsTtlIn (length t.message)) t.ttls.items };
+    ghost invariant = { λ t. (12 ≤ length t.octets.items) × AllByRecursion (spec.IsTtlIn (length t.octets.items)) t.ttls.items };
 }
 
 impl Template {
@@ -60,10 +62,12 @@ impl Template {
         }
         match places_in(alloc, message.as_slice())? {
             None => Ok(None),
-            Some(ttls) => {
+            Some(places) => {
                 let is_named = u16_at(message.as_slice(), 4) == 1;
+                let octets = Vec::from_slice(alloc, message.as_slice())?;
+                let ttls = SmallVec::from_slice(alloc, &places)?;
                 Ok(Some(Template {
-                    message,
+                    octets,
                     is_named,
                     ttls,
                 }))
@@ -101,7 +105,7 @@ impl Template {
         ensures legal { IsLegal name.now }
         ensures room { IsTrue result → 12 + spec.name_room self.now.is_named name.now ≤ length self.now.octets }
     {
-        let octets = self.message.as_slice();
+        let octets = self.octets.as_slice();
         let spelling = name.as_octets();
         if !self.is_named {
             return true;
@@ -130,11 +134,11 @@ impl Template {
         if !self.is_for(name) {
             return Ok(None);
         }
-        let first = self.message.as_slice();
+        let first = self.octets.as_slice();
         let mut octets = Vec::from_slice(alloc, first)?;
         put_over(&mut octets, 0, &header.to_octets());
         put_name(self.is_named, name, &mut octets);
-        put_ttls(first, &self.ttls, ttls, &mut octets);
+        put_ttls(first, self.ttls.as_slice(), ttls, &mut octets);
         let message = message_of(octets)?;
         Ok(Some(message))
     }

@@ -13,5 +13,7 @@ pub mod Faults
 pub mod Runs
 pub mod Hit
 pub mod Unhanded
+pub mod Among
+pub mod Between
 pub mod Hitting
 pub mod Idle

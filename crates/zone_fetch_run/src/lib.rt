@@ -12,7 +12,6 @@
 mod command;
 mod fetching;
 mod lines;
-mod number;
 mod printed;
 mod progress_line;
 mod run;

@@ -15,9 +15,9 @@ use Rattle.client_request.specs.declared.event.What.TheVariants.{Ask, Opened, Op
 use Rattle.client_request.specs.declared.event.Out.{Out}
 use Rattle.client_request.specs.declared.event.Out.TheVariants.{Start, OpenDgram, OpenStream, Send, Write, Resume, Close, Reply, Stale}
 use Rattle.right_trace.specs.Trace.{History, Conf, Item, Came, Put, put_all, after}
-use Rattle.right_trace.specs.Time.{now, newest, one_if, row_before, Ever, OfRow}
+use Rattle.right_trace.specs.Time.{now, newest, one_if, row_before, Ever}
 use Rattle.right_trace.specs.Messages.{Octets, Composes}
-use Rattle.right_trace.specs.Requests.{asks, Asking, asking, is_ask, is_asked_here, is_reply, replied, handed, is_marked}
+use Rattle.right_trace.specs.Requests.{asks, asking, is_ask, is_asked_here, is_reply, replied, handed, is_marked}
 use Rattle.right_trace.specs.Right.{Among, OutRight, OutsRight, ServerOutRight, ServerOutsRight}
 use Rattle.right_trace.specs.Timely.{IsAskedInOctets, AllAskedInOctets}
 use Rattle.client_request.specs.declared.event.Row.{Row}
@@ -26,9 +26,8 @@ use Rattle.right_trace.specs.Keys.{Key, key_of, is_cacheable, spelled_name, Tell
 use Rattle.right_trace.specs.Validity.{validity_of_message, validity_of_parts}
 use Rattle.right_trace.specs.Views.{viewed, view_of, view_validity, tells_of_name}
 use Rattle.proof_right.proofs.client.Unhanded.{moves_untried, Untried, server_calm, move_calm, move_untried}
-use Rattle.right_trace.specs.Coming.{CameFor}
-use Rattle.right_trace.specs.Replies.{IsFresh, InThisRow, Deferred, IsFreshReply}
-use Rattle.proof_right.specs.machine.Cache.{Op, AskDoes, after_ops, Between, Ended, Asked, Replied, RepliedUnstored}
+use Rattle.right_trace.specs.Replies.{IsFresh, IsFreshReply}
+use Rattle.proof_right.specs.machine.Cache.{Between, Ended, RepliedUnstored}
 use Rattle.right_trace.specs.Hit.{asks_since, replies_since, is_some_reply, other_replies, IsViewOf, OutIsView, AllAreViews, IsHit, Views, Hits, AllHit}
 use Rattle.proof_right.specs.machine.Exact.{Value, value_of, RunCached, Serves, ServedBy, Viewing, Looks, Looked, LeftAlone, Cached, AllCached, entry_under, MayRevive}
 use Rattle.proof_right.specs.machine.Client.{unmade, Leaving, Upper, Made, Move, Server_moves, Hands_on, Gives_up, Drops, Keeps_back, Delivers, Concludes, Times_out, Replies, Forgets, Derives, Answers, Takes_on, Moves, Rests, Goes, IsDone, IsStep, IsRun, Ends, Goes_on, row_begins, begun, answer, Entry, moved, hand, take_on, with_expired, is_failing, told_of, revive, Revives}
@@ -36,95 +35,19 @@ use Rattle.proof_right.proofs.client.Kept.{Kept, MayStore, LeavingFits}
 use Rattle.proof_right.proofs.client.Later.{put_more, now_all, asking_all, ever_all}
 use Rattle.proof_right.proofs.client.Lists.{decide, in_left, in_right, in_here, in_but, in_either, in_more}
 use Rattle.proof_right.proofs.client.Serving.{clash}
-use Rattle.right_trace.proofs.Asked.{asking_below, asking_other, asking_came, here_asks, here_is_ask, earlier_known}
+use Rattle.right_trace.proofs.Asked.{asking_other, asking_came, here_is_ask}
 use Rattle.proof_right.proofs.client.Moving.{acts_right_here, starts_right_here, cancels_right_here}
 use Rattle.proof_right.proofs.client.Steps.{move_does, moves_do}
 use Rattle.proof_right.proofs.client.Beginning.{begun_kept, begun_done, row_kept}
 use Rattle.proof_right.proofs.client.Outcomes.{at_once, at_once_plain}
 use Rattle.proof_right.proofs.client.Hit.{hit}
+use Rattle.proof_right.proofs.client.Among.{fresh_not_here, ever_replied, NoReply, no_reply, same_ask, others_more, among_left, among_right, among_either}
+use Rattle.proof_right.proofs.client.Between.{snoc_ask, snoc_store}
 use Rattle.right_trace.proofs.Valid.{own_view_valid, valid_is_read}
 use Rattle.right_trace.specs.Errors.{is_failure}
 use Rattle.right_trace.specs.StaleServed.{NeverFails, ServesStale, AllServeStale}
 use Rattle.dns_base.specs.Data.{Data}
 use Rattle.client_request.specs.declared.error.Error.TheVariants as errors
-
--- a message that came can't be of a request asked in this row
-fresh_not_here : (c : Conf) (s : Settings) (k : ℕ) (m : Octets) (past : History) (w : What) (h : History) → IsFresh c s k m past w h → row_before h ≡ past → is_asked_here k h ≡ true → ⊥
-fresh_not_here c s k m past w h f row here = go f
-  where
-    last : asks past ≡ k
-    last = subst (λ g. asks g ≡ k) row (here_asks k h here)
-
-    never : (a : Asking) → asking k past ≡ Some a → ⊥
-    never a e = (let lt = asking_below k a past e in let n = last in omega arith)
-
-    go : IsFresh c s k m past w h → ⊥
-    go (InThisRow x) = (let a = x.matches.comes.is_open.stands.asked in never (record { request = x.request; moment = a.0 }) a.1)
-    go (Deferred d x) = (let a = earlier_known (OfRow (CameFor c k m)) k h (λ e q. (record { request = q.request; moment = q.matches.comes.is_open.stands.asked.0 }, q.matches.comes.is_open.stands.asked.1)) x in never (a.0) (subst (λ g. asking k g ≡ Some (a.0)) row a.1))
-
-ever_replied : (c : Conf) (s : Settings) (j n : ℕ) (m : Octets) (h : History) → Ever (IsFreshReply c s j m n) h → replied j h ≡ true
-ever_replied c s j n m [] x = absurd x
-ever_replied c s j n m (Came e ∷ h) (inl x) = (let z : Path History (Came e ∷ h) (Put (Reply j (Ok m)) ∷ x.before) = x.put in absurd (cc))
-ever_replied c s j n m (Came e ∷ h) (inr x) = ever_replied c s j n m h x
-ever_replied c s j n m (Put o ∷ h) (inl x) = here (is_reply j o) (ap (is_reply j) (same x.put) ∙ own)
-  where
-    same : Path History (Put o ∷ h) (Put (Reply j (Ok m)) ∷ x.before) → o ≡ Reply j (Ok m)
-    same q = (let z : Put o ≡ Put (Reply j (Ok m)) = cc in cc)
-
-    own : (j == j) ≡ true
-    own = grind (arith, nat_tests)
-
-    here : (b : Bool) → b ≡ true → (b || replied j h) ≡ true
-    here true e = refl
-    here false e = absurd (cc)
-ever_replied c s j n m (Put o ∷ h) (inr x) = or_right (is_reply j o) (replied j h) (ever_replied c s j n m h x)
-
--- an out that is no reply
-abbrev NoReply : Out → Type 0
-NoReply o = ((j : ℕ) → is_reply j o ≡ false) × (is_some_reply o ≡ false)
-
-no_reply : (c : Conf) (past : History) (w : What) (h end : History) (o : Out) → ServerOutRight c past w h end o → NoReply o
-no_reply c past w h end (Start k i v) r = (λ j. refl, refl)
-no_reply c past w h end (OpenDgram q i) r = (λ j. refl, refl)
-no_reply c past w h end (OpenStream q i) r = (λ j. refl, refl)
-no_reply c past w h end (Send p k id o) r = (λ j. refl, refl)
-no_reply c past w h end (Write p k id o) r = (λ j. refl, refl)
-no_reply c past w h end (Resume p o) r = (λ j. refl, refl)
-no_reply c past w h end (Stale l) r = (λ j. refl, refl)
-no_reply c past w h end (Close p) r = (λ j. refl, refl)
-no_reply c past w h end (Reply k x) r = absurd r
-
-same_ask : (r q : Request) (t u : ℕ) → Path (Option Asking) (Some (record { request = r; moment = t })) (Some (record { request = q; moment = u })) → r ≡ q
-same_ask r q t u e = (let z : record { request = r; moment = t } ≡ record { request = q; moment = u } = cc in ap (λ (x : Asking). x.request) z)
-
-others_more : (k : ℕ) (xs ys : List Out) → other_replies k (xs ++ ys) ≡ other_replies k xs + other_replies k ys
-others_more k [] ys = omega arith
-others_more k (x ∷ xs) ys = (let i = others_more k xs ys in omega arith)
-
-among_left : (o : Out) (xs ys : List Out) → Among o xs → Among o (xs ++ ys)
-among_left o [] ys i = absurd i
-among_left o (x ∷ xs) ys i = elim i [ inl e ↦ inl e | inr i ↦ inr (among_left o xs ys i) ]
-
-among_right : (o : Out) (xs ys : List Out) → Among o ys → Among o (xs ++ ys)
-among_right o [] ys i = i
-among_right o (x ∷ xs) ys i = inr (among_right o xs ys i)
-
-pub among_either : (o : Out) (xs ys : List Out) → Among o (xs ++ ys) → Among o xs ⊎ Among o ys
-among_either o [] ys i = inr i
-among_either o (x ∷ xs) ys i = elim i [ inl e ↦ inl (inl e) | inr j ↦ elim (among_either o xs ys j) [ inl l ↦ inl (inr l) | inr r ↦ inr r ] ]
-
-module _ (eq : Key → Key → Bool) (cap : ℕ) where
-  snoc_ask : (k own : Key) (a b : ℕ) (es fs : List (Key × Value)) (os : List (Op Value)) → Between eq cap k a b es fs → AskDoes eq own fs os → Between eq cap k (a + 1) b es (after_ops eq cap os fs)
-  snoc_ask k own _ _ _ _ os (Ended es) does = Asked own os 0 0 es (after_ops eq cap os es) does (Ended (after_ops eq cap os es))
-  snoc_ask k own _ _ _ _ os (Asked o' os' n m es fs d rest) does = Asked o' os' (n + 1) m es (after_ops eq cap os fs) d (snoc_ask k own n m (after_ops eq cap os' es) fs os rest does)
-  snoc_ask k own _ _ _ _ os (Replied j v n m es fs ne rest) does = Replied j v (n + 1) m es (after_ops eq cap os fs) ne (snoc_ask k own n m (put_entries eq (lru_cache es cap) j v) fs os rest does)
-  snoc_ask k own _ _ _ _ os (RepliedUnstored n m es fs rest) does = RepliedUnstored (n + 1) m es (after_ops eq cap os fs) (snoc_ask k own n m es fs os rest does)
-
-  snoc_store : (k j : Key) (v : Value) (a b : ℕ) (es fs : List (Key × Value)) → Between eq cap k a b es fs → eq k j ≡ false → Between eq cap k a (b + 1) es (put_entries eq (lru_cache fs cap) j v)
-  snoc_store k j v _ _ _ _ (Ended es) ne = Replied j v 0 0 es (put_entries eq (lru_cache es cap) j v) ne (Ended (put_entries eq (lru_cache es cap) j v))
-  snoc_store k j v _ _ _ _ (Asked o' os' n m es fs d rest) ne = Asked o' os' n (m + 1) es (put_entries eq (lru_cache fs cap) j v) d (snoc_store k j v n m (after_ops eq cap os' es) fs rest ne)
-  snoc_store k j v _ _ _ _ (Replied i u n m es fs d rest) ne = Replied i u n (m + 1) es (put_entries eq (lru_cache fs cap) j v) d (snoc_store k j v n m (put_entries eq (lru_cache es cap) i u) fs rest ne)
-  snoc_store k j v _ _ _ _ (RepliedUnstored n m es fs rest) ne = RepliedUnstored n (m + 1) es (put_entries eq (lru_cache fs cap) j v) (snoc_store k j v n m es fs rest ne)
 
 module _ (c : Conf) (s : Settings) (compose : Request → Result Octets Error) (composes : Composes compose) (P : Part c) (eq : Key → Key → Bool) (cap : ℕ)
     (eq_refl : (k : Key) → eq k k ≡ true) (eq_sym : (a b : Key) → eq a b ≡ true → eq b a ≡ true) (eq_trans : (a b d : Key) → eq a b ≡ true → eq b d ≡ true → eq a d ≡ true) (eq_same : (a b : Key) → eq a b ≡ true → a ≡ b) where

@@ -7,3 +7,6 @@ returns-then-asks_itself-clause-deaf g c = would_ask_itself (sym c.asks_itself.e
 
 pub returns-in-Err-clause-deaf : goal.returns-in-Err-clause-deaf
 returns-in-Err-clause-deaf g c = front_fails c.in-Err.ensures.refused
+
+pub returns-in-Ok-clause-asks_others : goal.returns-in-Ok-clause-asks_others
+returns-in-Ok-clause-asks_others g c = sym c.asks_itself.ensures ∙ c.if-asks_itself.false

@@ -15,4 +15,4 @@ returns-in-Ok-clause-served g c =
     (world (g.W.Words.stream c.turn_all.new.words) (g.F.Front.deeds c.turn_all.new.front) (g.F.Front.polls c.turn_all.new.front) (g.C.Clock.given c.turn_all.new.clock))
     (g.F.Front.deeds c.begin.new.front) (g.F.Front.polls c.begin.new.front)
     c.in_ok-forwarder.ensures.made c.in_ok-forwarder.ensures.deeds c.in_ok-forwarder.ensures.polls
-    c.every_forwarded_trace_is_right.ensures (g.met.W.Words.words_fit c.args.rng.now) c.in-Ok.ensures.turned
+    c.every_forwarded_trace_is_right.ensures (g.met.W.Words.words_fit c.args.rng.now) c.in_ok-forwarder.ensures.asks_others c.in-Ok.ensures.turned

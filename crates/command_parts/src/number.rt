@@ -1,8 +1,8 @@
-//! Numbers among the words.
+//! Numbers among the words of a command line.
 
 ghost use Rattle.std.specs.Prelude.{◌≡◌, ◌≤◌, IfSome};
 ghost use Rattle.resolv_conf.specs.Number.{number_of};
-ghost use Rattle.forward_words.specs.Words.{is_plain, number_in};
+ghost use Rattle.command_parts.specs.Numbers.{is_plain, number_in};
 
 /// The number that a text writes, where a plus may stand first.
 #[tactic(auto, using(resolv_conf::proofs::Numbers::number_is))]
@@ -22,8 +22,8 @@ fn is_plain(word: &[u8]) -> bool
     }
 }
 
-/// The number of a range that a text writes without a sign or a leading zero.
-pub(crate) fn number_in(least: u64, greatest: u64, text: &str) -> Option<u64>
+/// The number from the least to the greatest that a text writes in decimal, without a sign or a leading zero.
+pub fn number_in(least: u64, greatest: u64, text: &str) -> Option<u64>
     ensures value { result ≡ number_in least greatest text.now }
     ensures range { IfSome result (λ n. (least ≤ n) × (n ≤ greatest)) }
 {
