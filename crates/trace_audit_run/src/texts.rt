@@ -109,7 +109,7 @@ fn untimely_in(
 }
 
 /// What is said of a trace by a script.
-fn answer(alloc: Global, timely: bool, script: &Script, trace: &Trace) -> Result<Answer, NoMemory>
+fn answered(alloc: Global, timely: bool, script: &Script, trace: &Trace) -> Result<Answer, NoMemory>
     ensures { IfOk result (plain.IsAnswer timely script.now trace.now.rows) }
 {
     let verdict = audit(alloc, script, trace)?;
@@ -125,7 +125,7 @@ fn judged_by(alloc: Global, timely: bool, script: &Script, trace: &[u8]) -> Resu
         Ok(trace) => trace,
         Err(ending) => return Err(ending),
     };
-    Ok(answer(alloc, timely, script, &trace)?)
+    Ok(answered(alloc, timely, script, &trace)?)
 }
 
 /// What is said of a trace by a script, each of which may be too long.
