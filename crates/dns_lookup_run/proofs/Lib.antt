@@ -5,4 +5,4 @@ pub mod Runs
 pub mod Passed
 pub mod Making
 pub mod Unmade
-pub mod Recorded
+pub mod Records

@@ -19,6 +19,7 @@ use Rattle.dns_lookup_run.specs.Ends.{EndsTold, IsOfAsking, IsToldSo}
 use Rattle.dns_lookup_run.specs.Making.{IsMadeFor}
 use Rattle.dns_lookup_run.specs.Reports.{notes_text}
 use Rattle.dns_lookup_run.specs.Worlds.{World, at_words, said}
+use Rattle.dns_lookup_run.specs.declared.recorded.Recorded.{Recorded}
 use Rattle.dns_lookup_words.specs.Words.{LookupGives}
 use Rattle.dns_lookup_words.specs.declared.lookup.Lookup.{Lookup}
 use Rattle.dns_lookup_words.specs.declared.wrong.Refusal.{Refusal}
@@ -54,6 +55,10 @@ pub data AskedEnd {L R : Type 0} (held : L → Option (List ℕ)) (faults : L �
       → (status ≢ 6 → status ≢ 7 → IsRecordedFor kept lookup conf (drawn 4096 old.words) r s first middle last (at_words (listed (drawn 4096 old.words)) old) (at_words (left_of s) new))
       → AskedEnd held faults kept file_faults lookup conf status before after first last old new
 
+-- the same of how it ended
+abbrev pub AsksTo : {L R : Type 0} → (L → Option (List ℕ)) → (L → ℕ) → (R → Option (List ℕ)) → (R → ℕ) → Lookup → ResolvConf → (before after : L) → R → Recorded R → (old new : World) → Type 0
+AsksTo held faults kept file_faults lookup conf before after first r old new = AskedEnd held faults kept file_faults lookup conf r.status.0 before after first r.sink old new
+
 -- What words end with: they are refused, or a lookup whose configuration can't be had, or that is recorded, once it was told of which lines of the configuration were
 -- not taken as they stand.
 pub data RecordedEnd {L R : Type 0} (held : L → Option (List ℕ)) (faults : L → ℕ) (kept : R → Option (List ℕ)) (file_faults : R → ℕ) (words : List (String Global)) (told : Option (List ℕ)) (status : ℕ) (before after : L) (first last : R) (old new : World) : Type 0 where
@@ -63,3 +68,6 @@ pub data RecordedEnd {L R : Type 0} (held : L → Option (List ℕ)) (faults : L
   asked : (lookup : Lookup) (conf : Found) (left : ℕ → ℕ) (mid : L) → LookupGives words (Ok lookup) → IsConfOf lookup told old.words conf left
       → said held faults before mid (notes_text conf.notes) → AskedEnd held faults kept file_faults lookup conf.conf status mid after first last (at_words left old) new
       → RecordedEnd held faults kept file_faults words told status before after first last old new
+
+abbrev pub Ran : {L R : Type 0} → (L → Option (List ℕ)) → (L → ℕ) → (R → Option (List ℕ)) → (R → ℕ) → List (String Global) → Option (List ℕ) → (before after : L) → R → Recorded R → (old new : World) → Type 0
+Ran held faults kept file_faults words told before after first r old new = RecordedEnd held faults kept file_faults words told r.status.0 before after first r.sink old new

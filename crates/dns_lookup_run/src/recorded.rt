@@ -7,7 +7,7 @@ ghost use Rattle.dns_record.specs.Asking.{left_of};
 ghost use Rattle.dns_values.specs.Sink.{IsFlushed};
 ghost use Rattle.dns_values.specs.Source.{Rose};
 ghost use Rattle.dns_lookup_run.specs.Ends.{HasNoConf, IsOfAsking, IsRefusalTold};
-ghost use Rattle.dns_lookup_run.specs.Recorded.{AskedEnd, RecordedEnd, ended_line, keeps_by, unrecorded_line};
+ghost use Rattle.dns_lookup_run.specs.Recorded.{AsksTo, Ran, ended_line, keeps_by, unrecorded_line};
 ghost use Rattle.dns_lookup_run.specs.Worlds.{around, said};
 
 use crate::asks::{Answered, Asks};
@@ -158,8 +158,7 @@ fn ask_recorded<K: Sink, L: Sink, E: Edge + Drop, C: Clock + Drop, W: Words, R: 
     file: R,
 ) -> Recorded<R>
     ensures statuses { IsOfAsking result.status.0 ⊎ (result.status.0 ≡ 8) }
-    ensures ends { around E.deeds E.polls C.given W.stream (edge.old, clock.old, rng.old) (edge.new, clock.new, rng.new)
-        (AskedEnd L.held L.faults R.held R.faults lookup.now conf.now result.status.0 errors.old errors.new file result.sink) }
+    ensures ends { around E.deeds E.polls C.given W.stream (edge.old, clock.old, rng.old) (edge.new, clock.new, rng.new) (AsksTo L.held L.faults R.held R.faults lookup.now conf.now errors.old errors.new file result) }
     ensures flushed { result.status.0 ≡ 0 → IsFlushed (K.held sink.new) (K.flushed sink.new) }
     ensures silent { result.status.0 ≡ 8 → K.held sink.new ≡ K.held sink.old }
     ensures sink_fault { result.status.0 ≡ 4 → Rose (K.faults sink.old) (K.faults sink.new) }
@@ -185,7 +184,7 @@ fn ask_recorded<K: Sink, L: Sink, E: Edge + Drop, C: Clock + Drop, W: Words, R: 
 /// Does what words ask for as `run` does, and records it: `file` then holds a script whose replay gives the rows of the client, or the
 /// first of them. All words that the client draws are of 4096 that are drawn and written first.
 ///
-/// As of `run`, and where nothing is asked since nothing can be recorded 8: a sentence to `errors` says why. 6 also where less than
+/// As of `run`, and where nothing is asked since nothing can be recorded 8: a sentence to `told` says why. 6 also where less than
 /// a quarter of these words is left.
 pub fn run_recorded<
     S: Source,
@@ -200,18 +199,17 @@ pub fn run_recorded<
     words: &[String],
     source: &mut S,
     sink: &mut K,
-    errors: &mut L,
+    told: &mut L,
     edge: &mut WatchedEdge<E>,
     clock: &mut WatchedClock<C>,
     rng: &mut W,
     file: R,
 ) -> Recorded<R>
     ensures statuses { (result.status.0 ≢ 1) × (result.status.0 < 9) }
-    ensures usage { result.status.0 ≡ 2 → IsRefusalTold words.now (L.held errors.old) (L.held errors.new) (L.faults errors.old) (L.faults errors.new) }
-    ensures ends { around E.deeds E.polls C.given W.stream (edge.old, clock.old, rng.old) (edge.new, clock.new, rng.new)
-        (RecordedEnd L.held L.faults R.held R.faults words.now (S.left source.old) result.status.0 errors.old errors.new file result.sink) }
+    ensures usage { result.status.0 ≡ 2 → IsRefusalTold words.now (L.held told.old) (L.held told.new) (L.faults told.old) (L.faults told.new) }
+    ensures ends { around E.deeds E.polls C.given W.stream (edge.old, clock.old, rng.old) (edge.new, clock.new, rng.new) (Ran L.held L.faults R.held R.faults words.now (S.left source.old) told.old told.new file result) }
     ensures flushed { result.status.0 ≡ 0 → IsFlushed (K.held sink.new) (K.flushed sink.new) }
-    ensures no_conf { result.status.0 ≡ 3 → HasNoConf (S.left source.old) (S.faults source.old) (S.faults source.new) (said L.held L.faults errors.old errors.new) }
+    ensures no_conf { result.status.0 ≡ 3 → HasNoConf (S.left source.old) (S.faults source.old) (S.faults source.new) (said L.held L.faults told.old told.new) }
     ensures silent { (result.status.0 ≡ 2) ⊎ ((result.status.0 ≡ 3) ⊎ (result.status.0 ≡ 8)) → K.held sink.new ≡ K.held sink.old }
     ensures sink_fault { result.status.0 ≡ 4 → Rose (K.faults sink.old) (K.faults sink.new) }
     ensures count { K.faults sink.old ≤ K.faults sink.new }
@@ -219,21 +217,21 @@ pub fn run_recorded<
     let lookup = match lookup_of(alloc, words) {
         Ok(lookup) => lookup,
         Err(Fault::Refused(refusal)) => {
-            return without(tell_refusal(alloc, words, refusal, errors), file);
+            return without(tell_refusal(alloc, words, refusal, told), file);
         }
         Err(Fault::NoMemory) => return without(statuses::NO_MEMORY, file),
     };
     let found = match conf_of(alloc, &lookup, source, rng) {
         Ok(found) => found,
-        Err(ending) => return without(tell_conf(alloc, ending, errors), file),
+        Err(ending) => return without(tell_conf(alloc, ending, told), file),
     };
-    match tell_notes(alloc, found.notes.as_slice(), errors) {
+    match tell_notes(alloc, found.notes.as_slice(), told) {
         Ok(()) => ask_recorded(
             alloc,
             &lookup,
             &found.conf,
             sink,
-            errors,
+            told,
             edge,
             clock,
             rng,

@@ -1,4 +1,4 @@
-pub mod Asking
+pub mod AskedOn
 pub mod Counting
 pub mod Keeping
 pub mod Starting

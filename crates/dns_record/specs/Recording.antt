@@ -148,6 +148,12 @@ Takes (Some why) written left words rest event old row new = (plain_step words e
 abbrev pub Keeps : List Row → (held : Option (List ℕ)) → Recording → Whole → (after : Option (List ℕ)) → Recording → Whole → Type 0
 Keeps more held r client after s moved = (o : Opening) (rows : List Row) → Recorded o rows held r client → Recorded o (rows ++ more) after s moved
 
+-- The row that a client made of an event, whatever the words that it drew then, is recorded: with this recording behind that.
+abbrev pub KeepsTaken : Row → (held : Option (List ℕ)) → Recording → (after : Option (List ℕ)) → Recording → Type 0
+KeepsTaken row held r after s =
+    (client moved : Whole) (event : Event) (before : List ℕ) → plain_step (listed before) event client ≡ Some (row, client_with (listed r.words) moved) → moved.timeout ≡ client.timeout
+    → Keeps (row ∷ []) held (record r { words = before }) client after s moved
+
 -- the words behind so many, and so many words
 abbrev pub rest_behind : ℕ → (ℕ → ℕ) → ℕ → ℕ
 rest_behind zero words = words

@@ -1,14 +1,14 @@
 //! A request that is asked and recorded.
 
 ghost use Rattle.std.specs.Prelude.{◌≡◌, ◌∷◌, [], Some, true, false, OnOk, IfOk, IfErr, IsErrOf};
-ghost use Rattle.client_loop.specs.Asking.{Begun, StopsForNumbers, between};
+ghost use Rattle.client_loop.specs.Asking.{Begun, StopsForNumbers};
 ghost use Rattle.client_loop.specs.Replies.{reply_in, reply_of};
 ghost use Rattle.client_loop.specs.Turns.{acts_on, after_deeds};
 ghost use Rattle.client_request.specs.Calls.{NumbersRunOut};
 ghost use Rattle.client_request.specs.Response.{IsRefusal};
 ghost use Rattle.client_request.specs.Words.{listed};
 ghost use Rattle.client_steps.specs.Whole.{client_with, plain_step};
-ghost use Rattle.dns_record.specs.Asking.{IsAnsweredAnd, left_of};
+ghost use Rattle.dns_record.specs.Asking.{IsAskedSo, ahead};
 ghost use Rattle.dns_record.specs.Recording.{Keeps};
 
 use crate::recorder::Recorder;
@@ -96,10 +96,9 @@ fn begin<E: Edge, C: Clock, K: Sink>(
     sink: &mut K,
     request: RequestMessage,
 ) -> Result<Row, Error>
-    ensures begun { IfOk result (between E.deeds E.waits E.polls C.given left_of (client.old, edge.old, clock.old, recorder.old) (client.new, edge.new, clock.new, recorder.new) (Begun request)) }
+    ensures begun { IfOk result (ahead E.deeds E.waits E.polls C.given (client.old, edge.old, clock.old, recorder.old) (client.new, edge.new, clock.new, recorder.new) (Begun request)) }
     ensures recorded { IfOk result (λ row. Keeps (row ∷ []) (K.held sink.old) recorder.old client.old (K.held sink.new) recorder.new client.new) }
-    ensures numbers { IsErrOf result Error.NumbersUsed → between E.deeds E.waits E.polls C.given left_of (client.old, edge.old, clock.old, recorder.old)
-        (client.new, edge.new, clock.new, recorder.new) (StopsForNumbers request) }
+    ensures numbers { IsErrOf result Error.NumbersUsed → ahead E.deeds E.waits E.polls C.given (client.old, edge.old, clock.old, recorder.old) (client.new, edge.new, clock.new, recorder.new) (StopsForNumbers request) }
     ensures timeout { OnOk result (client.new.timeout ≡ client.old.timeout) }
     ensures lasts { OnOk result (client.new.failed ≡ false) }
     ensures refused { IfErr result IsRefusal }
@@ -127,10 +126,8 @@ pub fn recorded_ask<E: Edge, C: Clock, K: Sink>(
     number: u64,
     request: RequestMessage,
 ) -> Result<Option<Result<Message, Error>>, Error>
-    ensures answered { IfOk result (λ answer. between E.deeds E.waits E.polls C.given left_of (client.old, edge.old, clock.old, recorder.old) (client.new, edge.new, clock.new, recorder.new)
-        (IsAnsweredAnd (λ rows. Keeps rows (K.held sink.old) recorder.old client.old (K.held sink.new) recorder.new client.new) number 1000000 request answer)) }
-    ensures numbers { IsErrOf result Error.NumbersUsed → between E.deeds E.waits E.polls C.given left_of (client.old, edge.old, clock.old, recorder.old)
-        (client.new, edge.new, clock.new, recorder.new) (StopsForNumbers request) }
+    ensures answered { IfOk result (IsAskedSo E.deeds E.waits E.polls C.given K.held (client.old, edge.old, clock.old, recorder.old, sink.old) (client.new, edge.new, clock.new, recorder.new, sink.new) number request) }
+    ensures numbers { IsErrOf result Error.NumbersUsed → ahead E.deeds E.waits E.polls C.given (client.old, edge.old, clock.old, recorder.old) (client.new, edge.new, clock.new, recorder.new) (StopsForNumbers request) }
     ensures timeout { OnOk result (client.new.timeout ≡ client.old.timeout) }
     ensures lasts { OnOk result (client.new.failed ≡ false) }
     ensures refused { IfErr result IsRefusal }

@@ -5,11 +5,10 @@ ghost use Rattle.std.specs.List.{list_all};
 ghost use Rattle.client_request.specs.Calls.{NumbersRunOut};
 ghost use Rattle.client_request.specs.Response.{IsRefusal};
 ghost use Rattle.client_request.specs.Words.{listed};
-ghost use Rattle.client_request.specs.declared.event.Event.{Event};
 ghost use Rattle.client_request.specs.declared.event.Row.{Row};
 ghost use Rattle.client_settings.specs.Settings.{RedundantSettings};
 ghost use Rattle.client_steps.specs.Whole.{Whole, client_with, plain_step, started, with_one_more};
-ghost use Rattle.dns_record.specs.Recording.{EndsFor, EndsIf, IsRefused, IsToldStart, Keeps, NotedSo, Opening, Recorded, Takes, are_asked_alike, drawn, lost_after, opening, rest_behind, with_end};
+ghost use Rattle.dns_record.specs.Recording.{EndsFor, EndsIf, IsRefused, IsToldStart, Keeps, KeepsTaken, NotedSo, Opening, Recorded, Takes, are_asked_alike, drawn, lost_after, opening, rest_behind, with_end};
 ghost use Rattle.dns_script.specs.Lines.{event_line};
 ghost use Rattle.dns_script.specs.Told.{tells_well};
 ghost use Rattle.dns_values.specs.Sink.{with_octets};
@@ -264,8 +263,7 @@ impl Recorder {
     pub(crate) fn keep<K: Sink>(&mut self, sink: &mut K, row: &mut Row)
         ensures row { row.new ≡ row.old }
         ensures words { self.new.words ≡ self.old.words }
-        ensures kept { (client moved : Whole) (event : Event) (before : List ℕ) → plain_step (listed before) event client ≡ Some (row.old, client_with (listed self.old.words) moved)
-            → moved.timeout ≡ client.timeout → Keeps (row.old ∷ []) (K.held sink.old) (record self.old { words = before }) client (K.held sink.new) self.new moved }
+        ensures kept { KeepsTaken row.old (K.held sink.old) self.old (K.held sink.new) self.new }
     {
         if self.ended().is_some() {
             self.pass();
@@ -296,9 +294,9 @@ impl Recorder {
         if self.are_few() {
             return Err(Error::NoMemory);
         }
-        let mut row = self.take(client, event)?;
-        self.keep(sink, &mut row);
-        Ok(row)
+        let mut taken = self.take(client, event)?;
+        self.keep(sink, &mut taken);
+        Ok(taken)
     }
 
     /// A client takes an event as `Client::step` does, and it is recorded. While the record goes on, the client draws the words

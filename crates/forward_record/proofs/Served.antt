@@ -9,7 +9,7 @@ use Rattle.dns_record.specs.Recording.{IsRefused, Recording, drawn, opening, res
 use Rattle.dns_record.specs.declared.ended.Refused.{Refused}
 use Rattle.front_steps.specs.Steps.{beginning}
 use Rattle.forward_run.specs.Front.{after_deeds}
-use Rattle.forward_run.specs.Serving.{IfAsked, IsConfAsked, answered_line, begun_deeds}
+use Rattle.forward_run.specs.Serving.{IfAsked, IsConfAsked, begun_deeds}
 use Rattle.forward_run.specs.Settings.{cache_of, choice_of}
 use Rattle.forward_run.specs.Turns.{World}
 use Rattle.forward_run.specs.declared.front.FrontDeed.{FrontDeed}
@@ -19,7 +19,7 @@ use Rattle.forward_words.specs.declared.words.Asked.{Asked}
 use Rattle.resolv_conf.specs.declared.conf.ResolvConf.{ResolvConf}
 use Rattle.forward_record.specs.Core.{RecordedClient}
 use Rattle.forward_record.specs.Sentences.{unrecorded_line}
-use Rattle.forward_record.specs.Serving.{IsBegun, IsLeft, IsNotRecorded, IsRefusalSaid, IsServed, IsServedTo}
+use Rattle.forward_record.specs.Serving.{IsBegun, IsNotRecorded, IsRefusalSaid, IsServed, IsServedOf}
 use Rattle.forward_record.specs.Turns.{Recorded, Turned, scene, within}
 
 -- a forwarder over a new client, whose record begins
@@ -59,16 +59,16 @@ served held options asked conf answered before first last old new words deeds po
       has = law o t.trace (held last.within.sink) last.within.recorder.words last.within.recorder.size last.within.recorder.ended last.within.client (t.keeps o [] begins.begun);
     }
 
--- with what is written then, by the words that asked for it
-pub served_to : {K : Type 0} (held : K → Option (List ℕ)) (Written : List ℕ → Type 0) (options : Options) (words : List (String Global)) (asked : Asked) (told : Option (List ℕ)) (conf : ResolvConf) (left : ℕ → ℕ) (answered : ℕ) (before : Option (List ℕ)) (last : Recorded K) (old new : World)
-    → asked_by words ≡ Some asked → IfSome told (λ text. IsConfAsked options text old.words conf left) → IsServed held options asked conf answered before last (record old { words = left }) new → Written (answered_line answered)
-    → IfAsked words told (λ a text. IsServedTo held Written options a text before last old new)
-served_to held Written options words asked told conf left answered before last old new is read serves written =
-    subst (λ (o : Option Asked). IfSome o (λ a. IfSome told (λ text. IsServedTo held Written options a text before last old new))) (sym is) (so told read)
+-- by the words that asked for it
+pub served_to : {K : Type 0} (held : K → Option (List ℕ)) (options : Options) (words : List (String Global)) (asked : Asked) (told : Option (List ℕ)) (conf : ResolvConf) (left : ℕ → ℕ) (answered : ℕ) (before : Option (List ℕ)) (last : Recorded K) (old new : World)
+    → asked_by words ≡ Some asked → IfSome told (λ text. IsConfAsked options text old.words conf left) → IsServed held options asked conf answered before last (record old { words = left }) new
+    → IfAsked words told (λ a text. IsServedOf held options a text answered before last old new)
+served_to held options words asked told conf left answered before last old new is read serves =
+    subst (λ (o : Option Asked). IfSome o (λ a. IfSome told (λ text. IsServedOf held options a text answered before last old new))) (sym is) (so told read)
   where
-    so : (told : Option (List ℕ)) → IfSome told (λ text. IsConfAsked options text old.words conf left) → IfSome told (λ text. IsServedTo held Written options asked text before last old new)
+    so : (told : Option (List ℕ)) → IfSome told (λ text. IsConfAsked options text old.words conf left) → IfSome told (λ text. IsServedOf held options asked text answered before last old new)
     so None read = tt
-    so (Some text) read = record { conf = conf; left = left; conf_asked = read; answered = answered; served = serves; written = written }
+    so (Some text) read = record { conf = conf; left = left; conf_asked = read; served = serves }
 
 pub refusal_said : (Said : List ℕ → Type 0) (options : Options) (words : List (String Global)) (asked : Asked) (told : Option (List ℕ)) (conf : ResolvConf) (stream left : ℕ → ℕ) (faults : ℕ) (why : Refused)
     → asked_by words ≡ Some asked → IfSome told (λ text. IsConfAsked options text stream conf left) → IsNotRecorded options conf (drawn 65536 left) faults why → Said (unrecorded_line why)

@@ -1,6 +1,7 @@
 -- What the program does where it is recorded, and how it ends.
-use Rattle.std.specs.Prelude.{◌≡◌, ◌≢◌, ℕ, List, [], Option, None, Some, IfSome}
-use Rattle.command_parts.specs.Ends.{status_of}
+use Rattle.std.specs.Prelude.{◌≡◌, ◌≢◌, ◌⊎◌, ℕ, List, [], Option, None, Some, String}
+use Rattle.std.specs.declared.alloc.Global.{Global}
+use Rattle.command_parts.specs.Ends.{IsSaid, status_of}
 use Rattle.command_parts.specs.declared.ending.Ending.{Ending}
 use Rattle.client_settings.specs.Settings.{CacheSettings, RedundantSettings}
 use Rattle.client_steps.specs.Whole.{started}
@@ -8,7 +9,7 @@ use Rattle.dns_record.specs.Recording as recording
 use Rattle.dns_record.specs.Recording.{HasEnded, IsRefused, drawn, opening, rest_behind}
 use Rattle.dns_record.specs.declared.ended.Refused.{Refused}
 use Rattle.forward_run.specs.Front.{after_deeds}
-use Rattle.forward_run.specs.Serving.{IsConfAsked, IsDeaf, IsServeEnd, answered_line, begun_deeds}
+use Rattle.forward_run.specs.Serving.{IfAsked, IsConfAsked, IsDeaf, IsServeEnd, begun_deeds}
 use Rattle.forward_run.specs.Settings.{cache_of, choice_of}
 use Rattle.forward_run.specs.Turns.{World}
 use Rattle.forward_words.specs.declared.options.Options.{Options}
@@ -17,6 +18,7 @@ use Rattle.front_steps.specs.Steps.{beginning}
 use Rattle.resolv_conf.specs.declared.conf.ResolvConf.{ResolvConf}
 use Rattle.forward_record.specs.Sentences.{unrecorded_line}
 use Rattle.forward_record.specs.Turns.{Recorded, Turned, within}
+use Rattle.forward_record.specs.declared.serving.Served.{Served}
 use Rattle.forward_record.specs.declared.serving.Unserved.{Unserved}
 use Rattle.forward_record.specs.declared.serving.Unserved.TheVariants.{Ends, NotRecorded}
 
@@ -51,19 +53,26 @@ pub record IsServed {K : Type 0} (held : K → Option (List ℕ)) (options : Opt
       (within last new)
   pub has : HasEnded (opening_of options conf (drawn 65536 old.words) before) turned.trace (held last.within.sink)
 
--- The text is a configuration that was served and recorded as the options say, and of the line that says how many answers were put out this holds.
-pub record IsServedTo {K : Type 0} (held : K → Option (List ℕ)) (Written : List ℕ → Type 0) (options : Options) (asked : Asked) (text : List ℕ) (before : Option (List ℕ)) (last : Recorded K) (old new : World) : Type 0 where
+-- The text is a configuration that was served and recorded as the options say.
+pub record IsServedOf {K : Type 0} (held : K → Option (List ℕ)) (options : Options) (asked : Asked) (text : List ℕ) (answered : ℕ) (before : Option (List ℕ)) (last : Recorded K) (old new : World) : Type 0 where
   pub conf : ResolvConf
   pub left : ℕ → ℕ
   pub conf_asked : IsConfAsked options text old.words conf left
-  pub answered : ℕ
   pub served : IsServed held options asked conf answered before last (record old { words = left }) new
-  pub written : Written (answered_line answered)
 
 -- the same of the forwarder that is left; there is one
 abbrev pub IsLeft : {K : Type 0} → Option (Recorded K) → (Recorded K → Type 0) → Type 0
 IsLeft None P = ⊥
 IsLeft (Some f) P = P f
+
+-- by the words that asked for it and where the source tells its text
+abbrev pub IsServedTo : {K : Type 0} → (K → Option (List ℕ)) → Options → List (String Global) → (told : Option (List ℕ)) → (file : K) → Served K → (old new : World) → Type 0
+IsServedTo held options words told file served old new =
+    IfAsked words told (λ asked text. IsLeft served.forwarder (λ last. IsServedOf held options asked text served.answered (held file) last old new))
+
+-- the statuses at which it was served
+abbrev pub HasServed : {K : Type 0} → Served K → Type 0
+HasServed served = (served.status.0 ≡ 0) ⊎ (served.status.0 ≡ 4)
 
 -- The text is a configuration that can't be recorded, and a line says why.
 pub record IsRefusalSaid (Said : List ℕ → Type 0) (options : Options) (text : List ℕ) (faults : ℕ) (words : ℕ → ℕ) : Type 0 where
@@ -73,3 +82,10 @@ pub record IsRefusalSaid (Said : List ℕ → Type 0) (options : Options) (text 
   pub why : Refused
   pub is_why : IsNotRecorded options conf (drawn 65536 left) faults why
   pub said : Said (unrecorded_line why)
+
+abbrev pub IsRefusedTo : Options → List (String Global) → (told : Option (List ℕ)) → (faults : ℕ) → (words : ℕ → ℕ) → (Said : List ℕ → Type 0) → Type 0
+IsRefusedTo options words told faults stream Said = IfAsked words told (λ asked text. IsRefusalSaid Said options text faults stream)
+
+-- a line is written whole, or the first of it, and then the sink's count of faults rose
+abbrev pub is_said : {O : Type 0} → (O → Option (List ℕ)) → (O → ℕ) → (old new : O) → (line : List ℕ) → Type 0
+is_said held faults old new line = IsSaid line (held old) (held new) (faults old) (faults new)

@@ -2,15 +2,15 @@
 
 ghost use Rattle.std.specs.Prelude.{◌≡◌, ◌<◌, ◌⊎◌, None, OnOk, OnErr, IfOk, IfErr};
 ghost use Rattle.command_parts.specs.declared.ending.Ending.{Ending};
-ghost use Rattle.command_parts.specs.Ends.{IsBegun as IsLineBegun, IsSaid};
+ghost use Rattle.command_parts.specs.Ends.{IsBegun as IsLineBegun};
 ghost use Rattle.dns_record.specs.Recording.{drawn, rest_behind};
 ghost use Rattle.dns_values.specs.Sink.{with_octets};
 ghost use Rattle.dns_values.specs.Source.{Rose};
 ghost use Rattle.forward_run.specs.Front.{after_deeds};
-ghost use Rattle.forward_run.specs.Serving.{IfAsked, answered_line, begun_deeds};
+ghost use Rattle.forward_run.specs.Serving.{answered_line, begun_deeds};
 ghost use Rattle.forward_run.specs.Turns.{around};
 ghost use Rattle.forward_words.specs.Words.{asked_by};
-ghost use Rattle.forward_record.specs.Serving.{IsBegun, IsLeft, IsRefusalSaid, IsServedTo, IsUnserved};
+ghost use Rattle.forward_record.specs.Serving.{HasServed, IsBegun, IsRefusedTo, IsServedTo, IsUnserved, is_said};
 ghost use Rattle.forward_record.specs.declared.serving.Unserved.TheVariants.{Ends, NotRecorded};
 
 use crate::core::{RecordedCore, RecordedForwarder};
@@ -69,6 +69,8 @@ impl From<Refused> for Unserved {
 pub struct Served<K: Sink + Drop> {
     /// The exit status.
     pub status: Status,
+    /// How many answers were put out, as far as the turns were made to their end.
+    pub answered: u64,
     /// The forwarder as it was left; none where nothing was served.
     pub forwarder: Option<RecordedForwarder<K>>,
 }
@@ -123,10 +125,11 @@ fn begin<F: Front, W: Words, K: Sink + Drop>(
 
 /// Nothing was served.
 fn unserved<K: Sink + Drop>(status: Status) -> Served<K>
-    ensures { result ≡ record { status = status; forwarder = None } }
+    ensures { result ≡ record { status = status; answered = 0; forwarder = None } }
 {
     Served {
         status,
+        answered: 0,
         forwarder: None,
     }
 }
@@ -159,7 +162,7 @@ pub fn serve_recorded<
     K: Sink + Drop,
 >(
     alloc: Global,
-    options: &Options,
+    said: &Options,
     seed: u64,
     words: &[String],
     source: &mut S,
@@ -173,14 +176,10 @@ pub fn serve_recorded<
 ) -> Served<K>
     ensures usage { result.status.0 ≡ 2 → asked_by words.now ≡ None }
     ensures no_command { asked_by words.now ≡ None → result.status.0 ≡ 2 }
-    ensures done { result.status.0 ≡ 0 → IfAsked words.now (S.left source.old) (λ asked text. IsLeft result.forwarder (λ last.
-        around F.deeds F.polls C.given W.stream (front.old, clock.old, rng.old) (front.new, clock.new, rng.new)
-        (IsServedTo K.held (λ line. O.held sink.new ≡ with_octets line (O.held sink.old)) options.now asked text (K.held file) last))) }
-    ensures cut { result.status.0 ≡ 4 → IfAsked words.now (S.left source.old) (λ asked text. IsLeft result.forwarder (λ last.
-        around F.deeds F.polls C.given W.stream (front.old, clock.old, rng.old) (front.new, clock.new, rng.new)
-        (IsServedTo K.held (λ line. IsLineBegun line (O.held sink.old) (O.held sink.new)) options.now asked text (K.held file) last))) }
-    ensures not_recorded { result.status.0 ≡ 8 → IfAsked words.now (S.left source.old) (λ _ text.
-        IsRefusalSaid (λ line. IsSaid line (O.held sink.old) (O.held sink.new) (O.faults sink.old) (O.faults sink.new)) options.now text (K.faults file) (W.stream rng.old)) }
+    ensures served { HasServed result → around F.deeds F.polls C.given W.stream (front.old, clock.old, rng.old) (front.new, clock.new, rng.new) (IsServedTo K.held said.now words.now (S.left source.old) file result) }
+    ensures done { result.status.0 ≡ 0 → O.held sink.new ≡ with_octets (answered_line result.answered) (O.held sink.old) }
+    ensures cut { result.status.0 ≡ 4 → IsLineBegun (answered_line result.answered) (O.held sink.old) (O.held sink.new) }
+    ensures not_recorded { result.status.0 ≡ 8 → IsRefusedTo said.now words.now (S.left source.old) (K.faults file) (W.stream rng.old) (is_said O.held O.faults sink.old sink.new) }
     ensures source_fault { result.status.0 ≡ 3 → Rose (S.faults source.old) (S.faults source.new) }
     ensures sink_fault { result.status.0 ≡ 4 → Rose (O.faults sink.old) (O.faults sink.new) }
     ensures status { result.status.0 < 9 }
@@ -188,11 +187,11 @@ pub fn serve_recorded<
     let Some(asked) = asked_by(words) else {
         return unserved(USAGE);
     };
-    let conf = match conf_asked(alloc, options, source, rng) {
+    let conf = match conf_asked(alloc, said, source, rng) {
         Ok(conf) => conf,
         Err(ending) => return unserved(end_without(sink, ending)),
     };
-    let begun = begin(alloc, options, seed, asked.port, &conf, front, rng, file);
+    let begun = begin(alloc, said, seed, asked.port, &conf, front, rng, file);
     let mut forwarder = match begun {
         Ok(forwarder) => forwarder,
         Err(Unserved::Ends(ending)) => return unserved(end_without(sink, ending)),
@@ -210,12 +209,12 @@ pub fn serve_recorded<
         watch,
         asked.turns,
     );
-    let status = match turned {
-        Ok(answered) => write_answered(alloc, answered, sink),
-        Err(error) => end_without(sink, stopped_by(alloc, error)),
-    };
-    Served {
-        status,
-        forwarder: Some(forwarder),
+    match turned {
+        Ok(answered) => Served {
+            status: write_answered(alloc, answered, sink),
+            answered,
+            forwarder: Some(forwarder),
+        },
+        Err(error) => unserved(end_without(sink, stopped_by(alloc, error))),
     }
 }

@@ -5,3 +5,5 @@
 mod recorded;
 #[cfg(test)]
 mod texts;
+#[cfg(test)]
+mod turned;

@@ -2,7 +2,7 @@ use Rattle.std.proofs.Common.{refl, sym, subst}
 use Rattle.dns_lookup_run.specs.Recorded.{AskedEnd}
 use Rattle.dns_lookup_run.specs.Worlds.{world}
 use Rattle.dns_lookup_run.specs.declared.recorded.Recorded.{Recorded}
-use Rattle.dns_lookup_run.proofs.Recorded.{asked_end, refused_end}
+use Rattle.dns_lookup_run.proofs.Records.{asked_end, refused_end}
 use Rattle.dns_lookup_run.proofs.recorded.ask_recorded.Goals as goal
 
 pub returns-in-Err-clause-ends : goal.returns-in-Err-clause-ends

@@ -3,7 +3,7 @@ use Rattle.client_loop.specs.Asking.{scene}
 use Rattle.client_loop.proofs.Turning.{asked_more, same_error, stops_more}
 use Rattle.dns_record.specs.Asking.{left_of}
 use Rattle.dns_record.specs.Recording.{Keeps}
-use Rattle.dns_record.proofs.Asking.{answered_at_once, answered_later, answered_never, notes_first, notes_more}
+use Rattle.dns_record.proofs.AskedOn.{answered_at_once, answered_later, answered_never, notes_first, notes_more}
 use Rattle.dns_record.proofs.Keeping.{keeps_more}
 use Rattle.dns_record.proofs.asking.recorded_ask.Goals as goal
 

@@ -2,7 +2,7 @@ use Rattle.std.proofs.Common.{◌≡◌, false}
 use Rattle.client_loop.specs.Asking.{scene}
 use Rattle.dns_record.specs.Asking.{left_of}
 use Rattle.dns_record.specs.Recording.{Keeps}
-use Rattle.dns_record.proofs.Asking.{Noting}
+use Rattle.dns_record.proofs.AskedOn.{Noting}
 use Rattle.dns_record.proofs.asking.recorded_ask.Given as goal
 
 abbrev pub invariant-loop-left : goal.invariant-loop-left
