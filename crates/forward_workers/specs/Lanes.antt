@@ -16,6 +16,7 @@ use Rattle.front_shared.specs.History.{IsLegal, IsSettled, Passed, calls, entrie
 use Rattle.front_shared.specs.Waiting.{for_any, is_for_any, waits_after}
 use Rattle.front_shared.specs.declared.entry.Item.{Item}
 use Rattle.front_steps.specs.Steps.{Forwarding}
+use Rattle.forward_workers.specs.declared.lanes.Lane.{Lane}
 use Rattle.forward_workers.specs.declared.working.Went.{Went}
 use Rattle.forward_workers.specs.declared.working.Worker.{Worker}
 
@@ -93,6 +94,13 @@ pub record IsFirst (count : ℕ) (old new : Passed) (before after : Option (List
 abbrev pub told_by : {D C : Type 0} → (D → Option (List FrontDeed)) → List (Worker D C) → List (Option (List FrontDeed))
 told_by deeds workers = map (λ w. deeds w.door) workers
 
+-- the passes of lanes, and what their doors tell
+abbrev pub passes_of : {L D C : Type 0} → List (Lane L D C) → List Passed
+passes_of lanes = map (λ l. l.pass) lanes
+
+abbrev pub doors_of : {L D C : Type 0} → (D → Option (List FrontDeed)) → List (Lane L D C) → List (Option (List FrontDeed))
+doors_of deeds lanes = map (λ l. deeds l.worker.door) lanes
+
 abbrev pub WorkerEnds : (old new : Passed) → (before after : Option (List FrontDeed)) → Result ℕ Error → Type 0
 WorkerEnds old new before after result = IfOk result (IsWorked old new before after)
 
@@ -109,13 +117,15 @@ abbrev pub FirstEnds : (count : ℕ) → (old new : Passed) → (before after : 
 FirstEnds count old new before after result = IfOk result (IsFirst count old new before after)
 
 -- the first thread made its turns, and the workers made rows
-abbrev pub AreTurned : (count : ℕ) → (old new : List Passed) → (front front_after : Option (List FrontDeed)) → (before after : List (Option (List FrontDeed))) → ℕ → Type 0
-AreTurned count (p ∷ ps) (q ∷ qs) front front_after before after answered =
-    (mine : ℕ) × (others : ℕ) × (answered ≡ mine + others) × IsFirst count p q front front_after mine × AreWorked ps qs before after others
-AreTurned count ps qs front front_after before after answered = ⊥
+pub record AreTurned (count : ℕ) (p q : Passed) (old new : List Passed) (front front_after : Option (List FrontDeed)) (before after : List (Option (List FrontDeed))) (answered : ℕ) : Type 0 where
+  pub mine : ℕ
+  pub others : ℕ
+  pub answered_is : answered ≡ mine + others
+  pub first : IsFirst count p q front front_after mine
+  pub workers : AreWorked old new before after others
 
-abbrev pub AllEnd : (count : ℕ) → (old new : List Passed) → (front front_after : Option (List FrontDeed)) → (before after : List (Option (List FrontDeed))) → Result ℕ Error → Type 0
-AllEnd count old new front front_after before after result = IfOk result (AreTurned count old new front front_after before after)
+abbrev pub AllEnd : (count : ℕ) → (p q : Passed) → (old new : List Passed) → (front front_after : Option (List FrontDeed)) → (before after : List (Option (List FrontDeed))) → Result ℕ Error → Type 0
+AllEnd count p q old new front front_after before after result = IfOk result (AreTurned count p q old new front front_after before after)
 
 -- both counts, added up
 abbrev pub AreBoth : (first rest : Result ℕ Error) → ℕ → Type 0
