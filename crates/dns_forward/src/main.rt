@@ -4,11 +4,13 @@
 use client_edge::{FileOpener, RandWords, RealClock, command_words};
 use client_request::Words;
 use dns_values::{IpAddr, NoMemory, Seq, StdSink, StdSource};
+use forward_record::serve_recorded;
 use forward_run::{StatusLine, serve_as};
 use forward_words::{Fault, Options, options_of};
 use forward_workers::{Worker, serve_by_all};
 use front_edge::SocketFront;
 use rand::rngs::StdRng;
+use record_file::{RecordFile, record_of};
 use std::process::ExitCode;
 use std::sync::Wait;
 use std::thread::Threads;
@@ -60,6 +62,42 @@ fn serve(
         ),
     );
     status.0
+}
+
+/// Serves as the options and the words behind them say, and records the client within to a file of this name.
+fn serve_to(
+    rt: HostRuntime,
+    file: &str,
+    options: &Options,
+    words: &[String],
+    listened: Seq<IpAddr>,
+    mut random: RandWords<StdRng>,
+) -> u8 {
+    let alloc = rt.alloc();
+    let Ok(file) = String::from_str(alloc, file) else {
+        return NO_MEMORY;
+    };
+    let seed = random.next();
+    let served = serve_recorded(
+        alloc,
+        options,
+        seed,
+        words,
+        &mut StdSource::new(rt.stdin()),
+        &mut StdSink::new(rt.stdout()),
+        &mut StdSink::new(rt.stderr()),
+        &mut SocketFront::new(rt, alloc, listened),
+        &mut RealClock::new(rt),
+        &mut random,
+        &mut StatusLine::new(
+            alloc,
+            FileOpener::new(rt),
+            StdSink::new(rt.stderr()),
+            options.status,
+        ),
+        RecordFile::new(rt, file),
+    );
+    served.status.0
 }
 
 /// So many workers at each of so many addresses.
@@ -120,19 +158,26 @@ fn serve_shared<T: Threads + Wait + Sync>(
     status.0
 }
 
+/// Whether what is asked for is had of one worker alone: lines of status, and a record.
+fn is_of_one(options: &Options, file: Option<&str>) -> bool {
+    options.status.is_some() || file.is_some()
+}
+
 /// Does what the command line asks for. Without random words nothing is served.
 fn run<T: Threads + Wait + Sync>(threads: &T, rt: HostRuntime) -> u8 {
     let (Ok(words), Some(random)) = (command_words(&rt), random_words(&rt)) else {
         return NO_MEMORY;
     };
-    match options_of(rt.alloc(), &words) {
-        Ok((options, rest)) => match options.listened.try_clone(rt.alloc()) {
-            Ok(_) if options.workers > 1 && options.status.is_some() => USAGE,
-            Ok(listened) if options.workers > 1 => {
+    let (file, words) = record_of(&words);
+    match options_of(rt.alloc(), words) {
+        Ok((options, rest)) => match (options.listened.try_clone(rt.alloc()), file) {
+            (Ok(_), file) if options.workers > 1 && is_of_one(&options, file) => USAGE,
+            (Ok(listened), Some(file)) => serve_to(rt, file, &options, rest, listened, random),
+            (Ok(listened), None) if options.workers > 1 => {
                 serve_shared(threads, rt, &options, rest, listened, random)
             }
-            Ok(listened) => serve(rt, &options, rest, listened, random),
-            Err(_) => NO_MEMORY,
+            (Ok(listened), None) => serve(rt, &options, rest, listened, random),
+            (Err(_), _) => NO_MEMORY,
         },
         Err(Fault::Refused) => USAGE,
         Err(Fault::NoMemory) => NO_MEMORY,

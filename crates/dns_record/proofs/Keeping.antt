@@ -1,7 +1,7 @@
 -- What is recorded, one row more at a time.
 use Rattle.std.proofs.Common.{◌≡◌, ◌≤◌, ◌+◌, ℕ, Bool, true, false, ◌&&◌, List, [], ◌∷◌, ◌++◌, length, length-append, take, Option, Some, None, refl, sym, ap, ◌∙◌, subst, append_assoc, append-nil}
 use Rattle.std.specs.List.{AllByRecursion}
-use Rattle.std.specs.Prelude.{is_some}
+use Rattle.std.specs.Prelude.{is_some, nat_lt}
 use Rattle.client_core.proofs.Replaying.{row_event}
 use Rattle.client_loop.proofs.Rows.{event_behind, leads_on, plain_of}
 use Rattle.client_loop.specs.Turns.{events_of}
@@ -10,12 +10,13 @@ use Rattle.client_request.specs.declared.event.Event.{Event}
 use Rattle.client_request.specs.declared.event.Row.{Row}
 use Rattle.client_steps.specs.Client.{plain_rows, row_step}
 use Rattle.client_steps.specs.Whole.{Client, Whole, client_with, machine, plain_step, started}
-use Rattle.dns_record.specs.Recording.{GoesOn, HasEnded, IsRecord, NotedSo, Opening, Recorded, RecordedSo, Recording, end_for, script_of_rows, text_of_rows, told_conf, with_end}
+use Rattle.dns_record.specs.Recording.{EndsIf, GoesOn, HasEnded, IsRecord, Keeps, NotedSo, Opening, Recorded, RecordedSo, Recording, Takes, end_for, lost_after, script_of_rows, text_of_rows, told_conf, with_end}
 use Rattle.dns_record.specs.declared.ended.Ended.{Ended}
 use Rattle.dns_record.proofs.Starting.{same_start}
 use Rattle.dns_script.specs.Lines.{event_line}
 use Rattle.dns_script.specs.Told.{tells_well}
 use Rattle.dns_values.specs.Sink.{with_octets}
+use Rattle.dns_values.specs.Source.{one_more}
 use Rattle.script_printing.specs.CanBeTold.{IsEvent, are_told_events}
 use Rattle.script_printing.specs.Texts.{script_of, script_text_of}
 use Rattle.script_printing.proofs.Scripts.{one_more_line, scripts_are_read_back}
@@ -132,22 +133,73 @@ none_of (Some why) e = absurd cc
 pub goes_on : (r : Recording) (some : Bool) → some ≡ is_some r.ended → some ≡ false → r.ended ≡ None
 goes_on r some is off = none_of r.ended (sym is ∙ off)
 
-passed_so : (o : Opening) (rows : List Row) (held : Option (List ℕ)) (left : List ℕ) (size : ℕ) (ended : Option Ended) (client moved : Whole) (row : Row) → is_some ended ≡ true
-    → RecordedSo o rows held left size ended client → RecordedSo o (rows ++ row ∷ []) held left size ended moved
-passed_so o rows held left size None client moved row e h = absurd cc
-passed_so o rows held left size (Some why) client moved row e h = ended_row o rows held left left size size why client moved row h
+passed_so : (o : Opening) (rows : List Row) (held : Option (List ℕ)) (left right : List ℕ) (size next : ℕ) (ended : Option Ended) (client moved : Whole) (row : Row) → is_some ended ≡ true
+    → RecordedSo o rows held left size ended client → RecordedSo o (rows ++ row ∷ []) held right next ended moved
+passed_so o rows held left right size next None client moved row e h = absurd cc
+passed_so o rows held left right size next (Some why) client moved row e h = ended_row o rows held left right size next why client moved row h
 
 -- a row comes behind the end
-pub passes : (r s : Recording) (some : Bool) (client moved : Whole) (held : Option (List ℕ)) (row : Row) → some ≡ is_some r.ended → some ≡ true → s ≡ r
-    → (o : Opening) (rows : List Row) → Recorded o rows held r client → Recorded o (rows ++ row ∷ []) held s moved
+pub passes : (r s : Recording) (some : Bool) (client moved : Whole) (held : Option (List ℕ)) (row : Row) → some ≡ is_some r.ended → some ≡ true → s.ended ≡ r.ended → Keeps (row ∷ []) held r client held s moved
 passes r s some client moved held row is on same o rows h =
-    subst (λ (t : Recording). Recorded o (rows ++ row ∷ []) held t moved) (sym same) (passed_so o rows held r.words r.size r.ended client moved row (sym is ∙ on) h)
+    subst (λ (e : Option Ended). RecordedSo o (rows ++ row ∷ []) held s.words s.size e moved) (sym same) (passed_so o rows held r.words s.words r.size s.size r.ended client moved row (sym is ∙ on) h)
+
+-- it is counted
+lost_some : (ended : Option Ended) (lost : ℕ) → is_some ended ≡ true → one_more lost ≡ lost_after ended lost
+lost_some None lost e = absurd cc
+lost_some (Some why) lost e = refl
+
+pub counts : (r s : Recording) (some : Bool) → some ≡ is_some r.ended → some ≡ true → s ≡ record r { lost = one_more r.lost } → s.lost ≡ lost_after s.ended r.lost
+counts r s some is on same =
+    ap (λ (t : Recording). t.lost) same ∙ lost_some r.ended r.lost (sym is ∙ on) ∙ ap (λ (t : Recording). lost_after t.ended r.lost) (sym same)
+
+-- it had ended
+not_none : (ended : Option Ended) → is_some ended ≡ true → ended ≡ None → ⊥
+not_none ended on none = let off : is_some ended ≡ false = ap is_some none in absurd cc
+
+pub had_ended : (ended : Option Ended) (some : Bool) → some ≡ is_some ended → some ≡ true → ended ≡ None → ⊥
+had_ended ended some is on none = not_none ended (sym is ∙ on) none
+
+-- a client takes an event behind the end
+takes_ended : (ended : Option Ended) (written left : List ℕ) (words rest : ℕ → ℕ) (event : Event) (old : Whole) (row : Row) (new : Whole) → is_some ended ≡ true
+    → plain_step words event old ≡ Some (row, client_with rest new) → left ≡ written → Takes ended written left words rest event old row new
+takes_ended None written left words rest event old row new on step same = absurd cc
+takes_ended (Some why) written left words rest event old row new on step same = (step, same)
+
+pub takes_behind : (r s : Recording) (some : Bool) (words rest : ℕ → ℕ) (event : Event) (old : Whole) (row : Row) (new : Whole) → some ≡ is_some r.ended → some ≡ true
+    → plain_step words event old ≡ Some (row, client_with rest new) → s.words ≡ r.words → Takes r.ended r.words s.words words rest event old row new
+takes_behind r s some words rest event old row new is on step same = takes_ended r.ended r.words s.words words rest event old row new (sym is ∙ on) step same
+
+-- and while it goes on
+pub kept_step : (words : ℕ → ℕ) (event : Event) (old : Whole) (row noted : Row) (new : Whole) (taken left : List ℕ) → noted ≡ row → left ≡ taken
+    → plain_step words event old ≡ Some (row, client_with (listed taken) new) → plain_step words event old ≡ Some (noted, client_with (listed left) new)
+kept_step words event old row noted new taken left same is step =
+    step ∙ ap (λ (x : Row). Some (x, client_with (listed taken) new)) (sym same) ∙ ap (λ (ws : List ℕ). Some (noted, client_with (listed ws) new)) (sym is)
+
+takes_none : (ended : Option Ended) (written left : List ℕ) (words : ℕ → ℕ) (event : Event) (old : Whole) (row : Row) (new : Whole) → is_some ended ≡ false
+    → plain_step (listed written) event old ≡ Some (row, client_with (listed left) new) → Takes ended written left words words event old row new
+takes_none None written left words event old row new off step = (step, refl)
+takes_none (Some why) written left words event old row new off step = absurd cc
+
+pub takes_on : (r b s : Recording) (some : Bool) (words : ℕ → ℕ) (event : Event) (old : Whole) (row noted : Row) (new : Whole) → some ≡ is_some r.ended → some ≡ false
+    → plain_step (listed r.words) event old ≡ Some (row, client_with (listed b.words) new) → noted ≡ row → s.words ≡ b.words → Takes r.ended r.words s.words words words event old noted new
+takes_on r b s some words event old row noted new is off step same left =
+    takes_none r.ended r.words s.words words event old noted new (sym is ∙ off) (kept_step (listed r.words) event old row noted new b.words s.words same left step)
+
+-- why it ended, said of what was before the client took the event
+pub ends_so : (r b s : Recording) (row noted : Row) (faults after : ℕ) → b ≡ record r { words = b.words } → s.words ≡ b.words → noted ≡ row
+    → EndsIf s.ended row.event b faults after → EndsIf s.ended noted.event (record r { words = s.words }) faults after
+ends_so r b s row noted faults after stands words same h =
+    subst (λ (x : Row). EndsIf s.ended x.event (record r { words = s.words }) faults after) (sym same)
+    (subst (λ (ws : List ℕ). EndsIf s.ended row.event (record r { words = ws }) faults after) (sym words)
+    (subst (λ (t : Recording). EndsIf s.ended row.event t faults after) stands h))
+
+pub counts_on : (r b s : Recording) → b ≡ record r { words = b.words } → s.lost ≡ lost_after s.ended b.lost → s.lost ≡ lost_after s.ended r.lost
+counts_on r b s stands counted = counted ∙ ap (λ (t : Recording). lost_after s.ended t.lost) stands
 
 -- a row comes while it goes on: r before the client took the event, b behind that, and s once the row was noted
 pub notes : (r b s : Recording) (some : Bool) (client moved : Whole) (event : Event) (row noted : Row) (held after : Option (List ℕ)) → some ≡ is_some r.ended → some ≡ false
     → plain_step (listed r.words) event client ≡ Some (row, client_with (listed b.words) moved) → moved.timeout ≡ client.timeout → b ≡ record r { words = b.words }
-    → noted ≡ row → IsEvent row.event → s.words ≡ b.words → NotedSo row.event held after b.size s.size s.ended
-    → (o : Opening) (rows : List Row) → Recorded o rows held r client → Recorded o (rows ++ noted ∷ []) after s moved
+    → noted ≡ row → IsEvent row.event → s.words ≡ b.words → NotedSo row.event held after b.size s.size s.ended → Keeps (noted ∷ []) held r client after s moved
 notes r b s some client moved event row noted held after is off step timeout stands same range words is_noted o rows h =
     let drawn : plain_step (listed r.words) event client ≡ Some (row, client_with (listed s.words) moved) = subst (λ (ws : List ℕ). plain_step (listed r.words) event client ≡ Some (row, client_with (listed ws) moved)) (sym words) step in
     let size : b.size ≡ r.size = ap (λ (t : Recording). t.size) stands in
@@ -163,3 +215,20 @@ ended_so why o rows held left size (Some other) client moved h = h
 -- it ends between two rows
 pub ends : (why : Ended) (r s : Recording) (client moved : Whole) → s ≡ with_end why r → (o : Opening) (rows : List Row) (held : Option (List ℕ)) → Recorded o rows held r client → Recorded o rows held s moved
 ends why r s client moved same o rows held h = subst (λ (t : Recording). Recorded o rows held t moved) (sym same) (ended_so why o rows held r.words r.size r.ended client moved h)
+
+-- what is recorded from where the client drew its words
+pub keeps_back : (r b s : Recording) (row noted : Row) (held after : Option (List ℕ)) (client moved : Whole) → b ≡ record r { words = b.words } → noted ≡ row
+    → Keeps (row ∷ []) held (record b { words = r.words }) client after s moved → Keeps (noted ∷ []) held r client after s moved
+keeps_back r b s row noted held after client moved stands same h =
+    let back : record b { words = r.words } ≡ r = ap (λ (t : Recording). record t { words = r.words }) stands in
+    subst (λ (x : Row). Keeps (x ∷ []) held r client after s moved) (sym same) (subst (λ (t : Recording). Keeps (row ∷ []) held t client after s moved) back h)
+
+-- a row more behind others
+pub keeps_more : (rows : List Row) (row : Row) (held mid after : Option (List ℕ)) (r s t : Recording) (client middle moved : Whole)
+    → Keeps rows held r client mid s middle → Keeps (row ∷ []) mid s middle after t moved → Keeps (rows ++ row ∷ []) held r client after t moved
+keeps_more rows row held mid after r s t client middle moved h k o before is =
+    subst (λ (rs : List Row). Recorded o rs after t moved) (append_assoc before rows (row ∷ [])) (k o (before ++ rows) (h o before is))
+
+-- words are enough where they are not few
+pub are_enough : (few : Bool) (words most : ℕ) → few ≡ nat_lt words most → few ≡ false → most ≤ words
+are_enough few words most is no = let off : nat_lt words most ≡ false = sym is ∙ no in grind arith

@@ -1,2 +1,4 @@
+pub mod Asking
+pub mod Counting
 pub mod Keeping
 pub mod Starting

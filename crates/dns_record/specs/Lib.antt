@@ -1,2 +1,4 @@
+pub mod Asking
 pub mod Laws
 pub mod Recording
+pub mod Sentences

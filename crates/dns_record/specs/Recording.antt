@@ -6,7 +6,7 @@ use Rattle.client_request.specs.Words.{listed, rest_of}
 use Rattle.client_request.specs.declared.event.Event.{Event}
 use Rattle.client_request.specs.declared.event.Row.{Row}
 use Rattle.client_settings.specs.Settings.{CacheSettings, RedundantSettings}
-use Rattle.client_steps.specs.Whole.{Whole, client_with, is_tcp, plain_trace, started}
+use Rattle.client_steps.specs.Whole.{Whole, client_with, is_tcp, plain_step, plain_trace, started}
 use Rattle.dns_record.specs.declared.ended.Ended.{Ended}
 use Rattle.dns_record.specs.declared.ended.Ended.TheVariants as endings
 use Rattle.dns_record.specs.declared.ended.Refused.{Refused}
@@ -16,7 +16,7 @@ use Rattle.dns_script.specs.ScriptReading.{IsScript}
 use Rattle.dns_script.specs.Told.{tells_well}
 use Rattle.dns_script.specs.declared.script.Script.{Script}
 use Rattle.dns_values.specs.Sink.{with_octets}
-use Rattle.dns_values.specs.Source.{Rose}
+use Rattle.dns_values.specs.Source.{Rose, one_more}
 use Rattle.resolv_conf.specs.Conf.{default_options, name_server}
 use Rattle.resolv_conf.specs.declared.conf.ResolvConf.{ResolvConf}
 use Rattle.script_printing.specs.CanBeTold.{CanBeTold, IsInRange, are_told_settings, is_whole}
@@ -61,11 +61,14 @@ pub record IsRecord (text : List ℕ) (rows : List Row) : Type 0 where
   pub fits : length text ≤ 16777216
   pub replay : plain_trace script.redundant script.cache script.conf (listed script.words) (first_lane script.lanes) ≡ Some rows
 
--- what a recorder has: the words that are left of those that were written, how many octets it wrote, and why it ended, if it did
+-- what a recorder has: the words that are left of those that were written, with how few it ends, how many octets it wrote, why it ended, if it did, and how many
+-- events came since
 pub record Recording : Type 0 where
   pub words : List ℕ
+  pub few : ℕ
   pub size : ℕ
   pub ended : Option Ended
+  pub lost : ℕ
 
 -- it ends for this, unless it has ended
 abbrev pub end_for : Ended → Option Ended → Option Ended
@@ -117,14 +120,33 @@ IsRefused refusals.Full conf redundant cache words faults after = 16777216 < len
 IsRefused refusals.SinkFailed conf redundant cache words faults after = Rose faults after
 IsRefused refusals.NoMemory conf redundant cache words faults after = Unit {0}
 
--- why a record that went on ends with an event, where it does
-abbrev pub EndsFor : Ended → Event → (size words : ℕ) → (faults after : ℕ) → Type 0
-EndsFor endings.Full event size words faults after = 16777216 < size + length (event_line event)
-EndsFor endings.WordsUsed event size words faults after = Unit {0}
-EndsFor endings.SinkFailed event size words faults after = Rose faults after
-EndsFor endings.ServerAdded event size words faults after = ⊥
-EndsFor endings.Untold event size words faults after = tells_well event.what ≡ false
-EndsFor endings.NoMemory event size words faults after = Unit {0}
+-- why a record that went on ends with an event, where it does: with this recording before it, and the faults of its sink before and after
+abbrev pub EndsFor : Ended → Event → Recording → (faults after : ℕ) → Type 0
+EndsFor endings.Full event r faults after = 16777216 < r.size + length (event_line event)
+EndsFor endings.WordsUsed event r faults after = length r.words < r.few
+EndsFor endings.SinkFailed event r faults after = Rose faults after
+EndsFor endings.ServerAdded event r faults after = ⊥
+EndsFor endings.Untold event r faults after = tells_well event.what ≡ false
+EndsFor endings.NoMemory event r faults after = Unit {0}
+
+-- the same where it may have ended
+abbrev pub EndsIf : Option Ended → Event → Recording → (faults after : ℕ) → Type 0
+EndsIf None event r faults after = Unit {0}
+EndsIf (Some why) event r faults after = EndsFor why event r faults after
+
+-- how many events came since it ended, after one more
+abbrev pub lost_after : Option Ended → ℕ → ℕ
+lost_after None lost = lost
+lost_after (Some why) lost = one_more lost
+
+-- A client takes an event: while its record goes on with the words that were written, of which these are left, and behind its end with those of its own source.
+abbrev pub Takes : Option Ended → (written left : List ℕ) → (words rest : ℕ → ℕ) → Event → (old : Whole) → Row → (new : Whole) → Type 0
+Takes None written left words rest event old row new = (plain_step (listed written) event old ≡ Some (row, client_with (listed left) new)) × (rest ≡ words)
+Takes (Some why) written left words rest event old row new = (plain_step words event old ≡ Some (row, client_with rest new)) × (left ≡ written)
+
+-- These rows are recorded behind those that were: of a sink that held so much, with this recording, and of this client.
+abbrev pub Keeps : List Row → (held : Option (List ℕ)) → Recording → Whole → (after : Option (List ℕ)) → Recording → Whole → Type 0
+Keeps more held r client after s moved = (o : Opening) (rows : List Row) → Recorded o rows held r client → Recorded o (rows ++ more) after s moved
 
 -- the words behind so many, and so many words
 abbrev pub rest_behind : ℕ → (ℕ → ℕ) → ℕ → ℕ

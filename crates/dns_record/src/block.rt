@@ -1,6 +1,6 @@
 //! Words that were drawn ahead.
 
-ghost use Rattle.std.specs.Prelude.{◌≡◌, ◌-◌, ◌≤◌, drop, length, Some, None};
+ghost use Rattle.std.specs.Prelude.{◌≡◌, length, Some, None};
 ghost use Rattle.client_request.specs.Words.{listed, listed-told};
 
 use client_request::{ListWords, WordList, Words};
@@ -10,15 +10,19 @@ use std::marker::Model;
 #[derive(Drop)]
 pub struct Block {
     words: ListWords,
+    /// How many of the words are left.
     left: usize,
 }
 
 impl Model for Block {
     ghost use Rattle.client_request.specs.Words.{WordsLeft};
+    ghost use Rattle.std.specs.Prelude.{◌≡◌, length};
 
     ghost Value = { WordsLeft };
 
     ghost view = { λ b. b.words };
+
+    ghost invariant = { λ b. b.left ≡ length b.words.items };
 }
 
 impl Block {
@@ -34,7 +38,9 @@ impl Block {
     }
 
     /// How many words are left.
-    pub fn left(&self) -> usize {
+    pub fn left(&self) -> usize
+        ensures { result ≡ length self.now.items }
+    {
         self.left
     }
 }
@@ -46,6 +52,7 @@ impl Words for Block {
 
     ghost given = { λ _. None };
 
+    #[tactic(auto, using(crate::proofs::Counting::one_less))]
     fn next(&mut self) -> u64 {
         self.left = self.left.saturating_sub(1);
         self.words.next()

@@ -1,8 +1,10 @@
 //! Why a record ends, or does not begin.
 
-ghost use Rattle.std.specs.Prelude.{◌≡◌};
+ghost use Rattle.std.specs.Prelude.{◌≡◌, Some};
+ghost use Rattle.dns_record.specs.Sentences.{ended_text, refused_text};
 
 use dns_base::NoMemory;
+use std::fmt::{self, Display};
 
 /// Why a record ended.
 #[derive(Clone, Copy, Debug, PartialEq, Eq)]
@@ -31,6 +33,21 @@ impl From<NoMemory> for Ended {
     }
 }
 
+impl Display for Ended {
+    ghost output = { λ ended. Some (ended_text ended) };
+
+    fn fmt<W: fmt::Write>(&self, f: &mut fmt::Formatter<W>) -> fmt::Result {
+        match self {
+            Ended::Full => f.write_str("it is full"),
+            Ended::WordsUsed => f.write_str("few of the words that were written ahead are left"),
+            Ended::SinkFailed => f.write_str("it could not be written"),
+            Ended::ServerAdded => f.write_str("a server was added"),
+            Ended::Untold => f.write_str("an event can't be told"),
+            Ended::NoMemory => f.write_str("memory ran out"),
+        }
+    }
+}
+
 /// Why a record does not begin.
 #[derive(Clone, Copy, Debug, PartialEq, Eq)]
 pub enum Refused {
@@ -55,5 +72,22 @@ impl From<NoMemory> for Refused {
 
     fn from(_e: NoMemory) -> Refused {
         Refused::NoMemory
+    }
+}
+
+impl Display for Refused {
+    ghost output = { λ refused. Some (refused_text refused) };
+
+    fn fmt<W: fmt::Write>(&self, f: &mut fmt::Formatter<W>) -> fmt::Result {
+        match self {
+            Refused::Server => f.write_str(
+                "one server is asked by streams alone, and another is not",
+            ),
+            Refused::Timeout => f.write_str("the time for a request is no whole number of seconds"),
+            Refused::Settings => f.write_str("a setting of the cache is outside its limits"),
+            Refused::Full => f.write_str("there is no room for what stands before the first event"),
+            Refused::SinkFailed => f.write_str("it could not be made or written"),
+            Refused::NoMemory => f.write_str("memory ran out"),
+        }
     }
 }

@@ -15,12 +15,14 @@
 //! ```
 #![tactic(auto)]
 
+mod asking;
 mod block;
 mod ended;
 mod laws;
 mod recorder;
 mod turns;
 
+pub use asking::recorded_ask;
 pub use block::Block;
 pub use ended::{Ended, Refused};
 pub use laws::record_law;

@@ -1,16 +1,19 @@
 //! The recorder.
 
-ghost use Rattle.std.specs.Prelude.{◌≡◌, ◌++◌, ◌∷◌, [], ◌≤◌, ◌<◌, ◌+◌, length, take, ℕ, List, Option, Some, None, true, false, OnOk, OnErr, IfOk, IfErr, IsErrOf};
+ghost use Rattle.std.specs.Prelude.{◌≡◌, ◌++◌, ◌∷◌, [], ◌≤◌, ◌<◌, ◌+◌, nat_lt, length, take, ℕ, List, Option, Some, None, true, false, OnOk, OnErr, IfOk, IfErr, IsErrOf};
 ghost use Rattle.std.specs.List.{list_all};
+ghost use Rattle.client_request.specs.Calls.{NumbersRunOut};
+ghost use Rattle.client_request.specs.Response.{IsRefusal};
 ghost use Rattle.client_request.specs.Words.{listed};
+ghost use Rattle.client_request.specs.declared.event.Event.{Event};
 ghost use Rattle.client_request.specs.declared.event.Row.{Row};
 ghost use Rattle.client_settings.specs.Settings.{RedundantSettings};
 ghost use Rattle.client_steps.specs.Whole.{Whole, client_with, plain_step, started, with_one_more};
-ghost use Rattle.dns_record.specs.Recording.{EndsFor, IsRefused, IsToldStart, NotedSo, Opening, Recorded, are_asked_alike, drawn, opening, rest_behind, with_end};
+ghost use Rattle.dns_record.specs.Recording.{EndsFor, EndsIf, IsRefused, IsToldStart, Keeps, NotedSo, Opening, Recorded, Takes, are_asked_alike, drawn, lost_after, opening, rest_behind, with_end};
 ghost use Rattle.dns_script.specs.Lines.{event_line};
 ghost use Rattle.dns_script.specs.Told.{tells_well};
 ghost use Rattle.dns_values.specs.Sink.{with_octets};
-ghost use Rattle.dns_values.specs.Source.{Rose};
+ghost use Rattle.dns_values.specs.Source.{Rose, one_more};
 ghost use Rattle.script_printing.specs.CanBeTold.{IsEvent};
 
 use crate::block::Block;
@@ -38,6 +41,12 @@ pub struct Ahead {
 }
 
 impl Ahead {
+    /// For a client that asks little: 4096 words, and an end with fewer than 1024 left.
+    pub const SMALL: Ahead = Ahead {
+        count: 4096,
+        few: 1024,
+    };
+
     /// 65536 words, and an end with fewer than 16384 left.
     pub const LARGE: Ahead = Ahead {
         count: 65_536,
@@ -65,7 +74,7 @@ impl Model for Recorder {
 
     ghost Value = { Recording };
 
-    ghost view = { λ r. record { words = r.words.items; size = r.size; ended = r.ended } };
+    ghost view = { λ r. record { words = r.words.items; few = r.few; size = r.size; ended = r.ended; lost = r.lost } };
 
     ghost invariant = { λ r. r.size ≤ 16777216 };
 }
@@ -126,6 +135,9 @@ impl Recorder {
     ) -> Result<Recorder, Refused>
         ensures begun { IfOk result (λ r. Recorded (opening conf.now choice cache.now (drawn ahead.count (W.stream words.old)) (K.held sink.old)) [] (K.held sink.new) r (started choice cache.now conf.now)) }
         ensures on { IfOk result (λ r. r.ended ≡ None) }
+        ensures words { IfOk result (λ r. r.words ≡ drawn ahead.count (W.stream words.old)) }
+        ensures few { IfOk result (λ r. r.few ≡ ahead.few) }
+        ensures none_lost { IfOk result (λ r. r.lost ≡ 0) }
         ensures rest { OnOk result (W.stream words.new ≡ rest_behind ahead.count (W.stream words.old)) }
         ensures refused { IfErr result (λ e. IsRefused e conf.now choice cache.now (drawn ahead.count (W.stream words.old)) (K.faults sink.old) (K.faults sink.new)) }
     {
@@ -159,8 +171,17 @@ impl Recorder {
 
     /// How many events came since the record ended, the one with which it ended among them. The count stands still at its last
     /// value.
-    pub fn lost(&self) -> u64 {
+    pub fn lost(&self) -> u64
+        ensures { result ≡ self.now.lost }
+    {
         self.lost
+    }
+
+    /// Whether few words are left of those that were written.
+    pub(crate) fn are_few(&self) -> bool
+        ensures { result ≡ nat_lt (length self.now.words) self.now.few }
+    {
+        self.words.left() < self.few
     }
 
     /// Writes the line of a row's event, unless that can't be.
@@ -169,9 +190,9 @@ impl Recorder {
         ensures row { row.new ≡ row.old }
         ensures noted { IfOk result (λ size. NotedSo row.old.event (K.held sink.old) (K.held sink.new) self.now.size size None) }
         ensures cut { OnErr result ((n : ℕ) × (K.held sink.new ≡ with_octets (take n (event_line row.old.event)) (K.held sink.old))) }
-        ensures why { IfErr result (λ e. EndsFor e row.old.event self.now.size (length self.now.words) (K.faults sink.old) (K.faults sink.new)) }
+        ensures why { IfErr result (λ e. EndsFor e row.old.event self.now (K.faults sink.old) (K.faults sink.new)) }
     {
-        if self.words.left() < self.few {
+        if self.are_few() {
             return Err(Ended::WordsUsed);
         }
         if !tells_well(&row.event.what) {
@@ -195,21 +216,24 @@ impl Recorder {
         ensures row { row.new ≡ row.old }
         ensures range { IsEvent row.old.event }
         ensures words { self.new.words ≡ self.old.words }
+        ensures few { self.new.few ≡ self.old.few }
         ensures noted { NotedSo row.old.event (K.held sink.old) (K.held sink.new) self.old.size self.new.size self.new.ended }
+        ensures why { EndsIf self.new.ended row.old.event self.old (K.faults sink.old) (K.faults sink.new) }
+        ensures counted { self.new.lost ≡ lost_after self.new.ended self.old.lost }
     {
         event_is_in_range(&row.event);
         match self.write_line(sink, row) {
             Ok(size) => self.size = size,
             Err(why) => {
                 self.ended = Some(why);
-                self.lost = 1;
+                self.pass();
             }
         }
     }
 
     /// Counts an event that came after the record ended.
     pub(crate) fn pass(&mut self)
-        ensures { self.new ≡ self.old }
+        ensures { self.new ≡ record self.old { lost = one_more self.old.lost } }
     {
         self.lost = self.lost.saturating_add(1);
     }
@@ -227,9 +251,54 @@ impl Recorder {
     fn take(&mut self, client: &mut Client, event: Event) -> Result<Row, Error>
         ensures row { IfOk result (λ row. plain_step (listed self.old.words) event client.old ≡ Some (row, client_with (listed self.new.words) client.new)) }
         ensures timeout { OnOk result (client.new.timeout ≡ client.old.timeout) }
+        ensures lasts { OnOk result (client.new.failed ≡ false) }
         ensures stands { self.new ≡ record self.old { words = self.new.words } }
+        ensures numbers { NumbersRunOut result (plain_step (listed self.old.words) event client.old) }
+        ensures refused { IfErr result IsRefusal }
+        ensures failed_only { IsErrOf result Error.Failed → client.old.failed ≡ true }
     {
         client.step(&mut self.words, event)
+    }
+
+    /// Writes the line of a row's event, or counts it behind the end.
+    pub(crate) fn keep<K: Sink>(&mut self, sink: &mut K, row: &mut Row)
+        ensures row { row.new ≡ row.old }
+        ensures words { self.new.words ≡ self.old.words }
+        ensures kept { (client moved : Whole) (event : Event) (before : List ℕ) → plain_step (listed before) event client ≡ Some (row.old, client_with (listed self.old.words) moved)
+            → moved.timeout ≡ client.timeout → Keeps (row.old ∷ []) (K.held sink.old) (record self.old { words = before }) client (K.held sink.new) self.new moved }
+    {
+        if self.ended().is_some() {
+            self.pass();
+            return;
+        }
+        self.note(sink, row);
+    }
+
+    /// A client takes an event with the words that were written, also behind the record's end, and it is recorded.
+    ///
+    /// As `Client::step`, and `NoMemory` where few of these words are left: behind the last one a client draws 0, which anybody can
+    /// guess.
+    pub(crate) fn step_ahead<K: Sink>(
+        &mut self,
+        client: &mut Client,
+        sink: &mut K,
+        event: Event,
+    ) -> Result<Row, Error>
+        ensures row { IfOk result (λ row. plain_step (listed self.old.words) event client.old ≡ Some (row, client_with (listed self.new.words) client.new)) }
+        ensures recorded { IfOk result (λ row. Keeps (row ∷ []) (K.held sink.old) self.old client.old (K.held sink.new) self.new client.new) }
+        ensures timeout { OnOk result (client.new.timeout ≡ client.old.timeout) }
+        ensures lasts { OnOk result (client.new.failed ≡ false) }
+        ensures numbers { NumbersRunOut result (plain_step (listed self.old.words) event client.old) }
+        ensures enough { OnOk result (self.old.few ≤ length self.old.words) }
+        ensures refused { IfErr result IsRefusal }
+        ensures failed_only { IsErrOf result Error.Failed → client.old.failed ≡ true }
+    {
+        if self.are_few() {
+            return Err(Error::NoMemory);
+        }
+        let mut row = self.take(client, event)?;
+        self.keep(sink, &mut row);
+        Ok(row)
     }
 
     /// A client takes an event as `Client::step` does, and it is recorded. While the record goes on, the client draws the words
@@ -243,8 +312,17 @@ impl Recorder {
         sink: &mut K,
         event: Event,
     ) -> Result<Row, Error>
-        ensures recorded { IfOk result (λ row. (o : Opening) (rows : List Row) → Recorded o rows (K.held sink.old) self.old client.old → Recorded o (rows ++ row ∷ []) (K.held sink.new) self.new client.new) }
-        ensures refused { OnErr result (K.held sink.new ≡ K.held sink.old) }
+        ensures row { IfOk result (λ row. Takes self.old.ended self.old.words self.new.words (W.stream words.old) (W.stream words.new) event client.old row client.new) }
+        ensures recorded { IfOk result (λ row. Keeps (row ∷ []) (K.held sink.old) self.old client.old (K.held sink.new) self.new client.new) }
+        ensures why { IfOk result (λ row. self.old.ended ≡ None → EndsIf self.new.ended row.event (record self.old { words = self.new.words }) (K.faults sink.old) (K.faults sink.new)) }
+        ensures event { IfOk result (λ row. row.event ≡ event) }
+        ensures counted { OnOk result (self.new.lost ≡ lost_after self.new.ended self.old.lost) }
+        ensures few { OnOk result (self.new.few ≡ self.old.few) }
+        ensures timeout { OnOk result (client.new.timeout ≡ client.old.timeout) }
+        ensures lasts { OnOk result (client.new.failed ≡ false) }
+        ensures unwritten { OnErr result (K.held sink.new ≡ K.held sink.old) }
+        ensures refused { IfErr result IsRefusal }
+        ensures failed_only { IsErrOf result Error.Failed → client.old.failed ≡ true }
     {
         if self.ended().is_some() {
             let row = client.step(words, event)?;

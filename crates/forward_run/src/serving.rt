@@ -64,7 +64,7 @@ fn asks_itself(listened: &[IpAddr], port: u16, conf: &ResolvConf) -> bool
 }
 
 /// Lets a front learn these servers, in order.
-fn learn_all<F: Front>(front: &mut F, servers: &[ServerConf]) -> Result<(), NoMemory>
+pub fn learn_all<F: Front>(front: &mut F, servers: &[ServerConf]) -> Result<(), NoMemory>
     ensures deeds { OnOk result (F.deeds front.new ≡ after_deeds (map (λ server. FrontDeed.Learned server) servers.now) (F.deeds front.old)) }
     ensures polls { F.polls front.new ≡ F.polls front.old }
 {
@@ -87,7 +87,7 @@ pub fn stopped_by(alloc: Global, error: Error) -> Ending
 }
 
 /// Listens, unless the forwarder would ask itself.
-fn listen<F: Front>(
+pub fn listen<F: Front>(
     listened: &[IpAddr],
     port: u16,
     conf: &ResolvConf,

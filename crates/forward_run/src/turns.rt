@@ -79,7 +79,7 @@ pub fn is_answer(out: &FrontOut) -> bool
 }
 
 /// How many answers a row puts out.
-fn answers_in(row: &FrontRow) -> usize
+pub fn answers_in(row: &FrontRow) -> usize
     ensures { result ≡ answers_in row.now }
 {
     row.outs

@@ -1,0 +1,19 @@
+//! The file of a record: the words that name it, and how it is made.
+//!
+//! A record may hold what people asked, so its file is made for its owner alone, and never over another file.
+//!
+//! ```text
+//! let (file, rest) = record_of(&words);
+//! let mut sink = RecordFile::new(rt, String::from_str(alloc, file)?);
+//! ```
+#![tactic(auto)]
+
+mod file;
+mod words;
+
+use dns_values::Status;
+pub use file::RecordFile;
+pub use words::record_of;
+
+/// The exit status where nothing could be recorded, so that nothing was asked.
+pub const NOT_RECORDED: Status = Status(8);
