@@ -1,5 +1,5 @@
 -- Several lanes, and the history of all.
-use Rattle.std.proofs.Common.{◌≡◌, ℕ, zero, suc, ◌+◌, List, [], ◌∷◌, ◌++◌, length, map, Option, Some, None, Result, Ok, Err, refl, ap, sym, subst, ◌∙◌, length-append, arith}
+use Rattle.std.proofs.Common.{◌≡◌, ℕ, zero, suc, ◌+◌, List, [], ◌∷◌, ◌++◌, length, map, Option, Some, None, Result, Ok, Err, refl, ap, sym, subst, ◌∙◌, append_assoc, length-append, arith}
 use Rattle.std.specs.Prelude.{IfOk, count_by, sum_by}
 use Rattle.std.specs.List.{flat_map}
 use mathlib.Core.List.{IsPrefix}
@@ -12,9 +12,10 @@ use Rattle.front_shared.specs.History.{IsLegal, IsSettled, Opening, Passed, call
 use Rattle.front_shared.specs.Waiting.{is_for_any}
 use Rattle.front_shared.specs.declared.entry.Item.{Item}
 use Rattle.front_steps.specs.Steps.{Forwarding}
-use Rattle.forward_workers.specs.Lanes.{AreBoth, AreSettled, AreTurned, AreWorked, AreWorkersOf, AllEnd, FirstEnds, FirstTurn, IsFirst, IsFirstOf, IsJoined, IsShared, IsTold, IsWorked, IsWorkerOf, WorkersEnd, WorkerEnds, doors_of, rows_by, told_by, worker_deeds}
+use Rattle.forward_workers.specs.Lanes.{AllSettle, AreBoth, AreTurned, AreWorked, AreWorkersOf, AllEnd, FirstEnds, FirstTurn, IsFirst, IsFirstOf, IsJoined, IsShared, IsTold, IsWorked, IsWorkerOf, WorkersEnd, WorkerEnds, doors_of, rows_by, told_by, worker_deeds}
 use Rattle.forward_workers.specs.declared.lanes.Lane.{Lane}
 use Rattle.forward_workers.specs.declared.working.Worker.{Worker}
+use Rattle.forward_workers.proofs.Deeds.{nil_behind}
 use Rattle.forward_workers.proofs.Firsts.{all_later}
 
 -- both counts of two results
@@ -49,12 +50,29 @@ first_and_others count p q ps qs fb fa bs as first rest (Ok sum) j f ws =
     record { mine = b.0; others = b.1; answered_is = b.2; first = b.3; workers = b.4 }
 first_and_others count p q ps qs fb fa bs as first rest (Err e) j f ws = tt
 
--- passes that settle, one more
-pub settles_on : (items : List Item) (olds news : List Passed) (p q : Passed) (ps qs : List Passed) → IsSettled items p q → AreSettled items ps qs → olds ≡ p ∷ ps → news ≡ q ∷ qs → AreSettled items olds news
-settles_on items olds news p q ps qs s ss o n = subst (λ (z : List Passed × List Passed). AreSettled items z.0 z.1) (λ i. (sym o i, sym n i)) (s, ss)
+settle_more : (items : List Item) (ps : List Passed) (p q : Passed) → AllSettle items ps → IsSettled items p q → AllSettle items (ps ++ p ∷ [])
+settle_more items [] p q ss s = ((q, s), tt)
+settle_more items (x ∷ ps) p q ss s = (ss.0, settle_more items ps p q ss.1 s)
 
-pub none_settle : (items : List Item) (olds news : List Passed) → olds ≡ [] → news ≡ [] → AreSettled items olds news
-none_settle items olds news o n = subst (λ (z : List Passed × List Passed). AreSettled items z.0 z.1) (λ i. (sym o i, sym n i)) tt
+-- Of some passes these are left that were not let see all of a history yet.
+pub record Unseating (items : List Item) (all left : List Passed) : Type 0 where
+  pub done : List Passed
+  pub are : done ++ left ≡ all
+  pub settled : AllSettle items done
+
+pub none_unseated : (items : List Item) (all left : List Passed) → left ≡ all → Unseating items all left
+none_unseated items all left same = record { done = []; are = same; settled = tt }
+
+pub one_unseated : (items : List Item) (all left later : List Passed) (p q : Passed) → Unseating items all left → left ≡ p ∷ later → IsSettled items p q → Unseating items all later
+one_unseated items all left later p q u is s = record {
+  done = u.done ++ p ∷ [];
+  are = append_assoc u.done (p ∷ []) later ∙ (ap (λ (ps : List Passed). u.done ++ ps) (sym is) ∙ u.are);
+  settled = settle_more items u.done p q u.settled s;
+}
+
+pub all_unseated : (items : List Item) (all left : List Passed) → Unseating items all left → left ≡ [] → AllSettle items all
+all_unseated items all left u none =
+    subst (AllSettle items) (sym (nil_behind u.done) ∙ (ap (λ (ps : List Passed). u.done ++ ps) (sym none) ∙ u.are)) u.settled
 
 -- ---- the history of all
 
@@ -90,17 +108,16 @@ numbered_from : (n : ℕ) → numbered n ≡ from 0 n
 numbered_from zero = refl
 numbered_from (suc n) = ap (λ (ps : List Passed). ps ++ newcomer n ∷ []) (numbered_from n) ∙ from_end 0 n
 
-workers_from : (items : List Item) (k n : ℕ) (qs rs : List Passed) (bs as : List (Option (List FrontDeed))) (sum : ℕ) → AreWorked (from k n) qs bs as sum → AreSettled items qs rs → AreWorkersOf items k bs as sum
-workers_from items k zero [] rs [] [] sum w s = w
-workers_from items k zero (q ∷ qs) rs bs as sum w s = absurd w
-workers_from items k zero [] rs (b ∷ bs) as sum w s = absurd w
-workers_from items k zero [] rs [] (a ∷ as) sum w s = absurd w
-workers_from items k (suc n) [] rs bs as sum w s = absurd w
-workers_from items k (suc n) (q ∷ qs) rs [] as sum w s = absurd w
-workers_from items k (suc n) (q ∷ qs) rs (b ∷ bs) [] sum w s = absurd w
-workers_from items k (suc n) (q ∷ qs) [] (b ∷ bs) (a ∷ as) sum w s = absurd s
-workers_from items k (suc n) (q ∷ qs) (r ∷ rs) (b ∷ bs) (a ∷ as) sum w s =
-    (w.0, w.1, w.2, worker_of items k (newcomer k) q r b a w.0 refl w.3 s.0, workers_from items (suc k) n qs rs bs as w.1 w.4 s.1)
+workers_from : (items : List Item) (k n : ℕ) (qs : List Passed) (bs as : List (Option (List FrontDeed))) (sum : ℕ) → AreWorked (from k n) qs bs as sum → AllSettle items qs → AreWorkersOf items k bs as sum
+workers_from items k zero [] [] [] sum w s = w
+workers_from items k zero (q ∷ qs) bs as sum w s = absurd w
+workers_from items k zero [] (b ∷ bs) as sum w s = absurd w
+workers_from items k zero [] [] (a ∷ as) sum w s = absurd w
+workers_from items k (suc n) [] bs as sum w s = absurd w
+workers_from items k (suc n) (q ∷ qs) [] as sum w s = absurd w
+workers_from items k (suc n) (q ∷ qs) (b ∷ bs) [] sum w s = absurd w
+workers_from items k (suc n) (q ∷ qs) (b ∷ bs) (a ∷ as) sum w s =
+    (w.0, w.1, w.2, worker_of items k (newcomer k) q s.0.0 b a w.0 refl w.3 s.0.1, workers_from items (suc k) n qs bs as w.1 w.4 s.1)
 
 first_of : (items : List Item) (count : ℕ) (q r : Passed) (fb fa : Option (List FrontDeed)) (n : ℕ) → IsFirst count (newcomer 0) q fb fa n → IsSettled items q r → IsFirstOf items count fb fa n
 first_of items count q r fb fa n f s = record {
@@ -114,10 +131,10 @@ first_of items count q r fb fa n f s = record {
 }
 
 -- the first pass, and the others
-pub shares : (count : ℕ) (o : Opening) (p q r : Passed) (ps qs rs : List Passed) (fb fa : Option (List FrontDeed)) (bs as : List (Option (List FrontDeed))) (sum : ℕ) (items : List Item)
-    → IsLegal o items → p ∷ ps ≡ numbered o.callers → o.callers ≡ length bs + 1 → AreTurned count p q ps qs fb fa bs as sum → IsSettled items q r → AreSettled items qs rs
+pub shares : (count : ℕ) (o : Opening) (p q r : Passed) (ps qs : List Passed) (fb fa : Option (List FrontDeed)) (bs as : List (Option (List FrontDeed))) (sum : ℕ) (items : List Item)
+    → IsLegal o items → p ∷ ps ≡ numbered o.callers → o.callers ≡ length bs + 1 → AreTurned count p q ps qs fb fa bs as sum → IsSettled items q r → AllSettle items qs
     → IsShared count o.first o.words fb fa bs as sum
-shares count o p q r ps qs rs fb fa bs as sum items legal passes callers t s ss =
+shares count o p q r ps qs fb fa bs as sum items legal passes callers t s ss =
     let n = length bs in
     let all : p ∷ ps ≡ newcomer 0 ∷ from 1 n = passes ∙ (ap numbered (callers ∙ omega arith) ∙ numbered_from (suc n)) in
     let head : p ≡ newcomer 0 = cc all in
@@ -129,7 +146,7 @@ shares count o p q r ps qs rs fb fa bs as sum items legal passes callers t s ss 
       others = t.others;
       answered_is = t.answered_is;
       first_of = first_of items count q r fb fa t.mine (subst (λ (x : Passed). IsFirst count x q fb fa t.mine) head t.first) s;
-      workers_of = workers_from items 1 n qs rs bs as t.others (subst (λ (xs : List Passed). AreWorked xs qs bs as t.others) tail t.workers) ss;
+      workers_of = workers_from items 1 n qs bs as t.others (subst (λ (xs : List Passed). AreWorked xs qs bs as t.others) tail t.workers) ss;
     }
 
 map_twice : {A B C : Type 0} (f : B → C) (g : A → B) (xs : List A) → map f (map g xs) ≡ map (λ (x : A). f (g x)) xs

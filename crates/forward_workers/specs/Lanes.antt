@@ -139,11 +139,10 @@ pub record IsJoined (first rest result : Result ℕ Error) : Type 0 where
   pub first_counts : IfErr first (λ e. e ≢ Failed → IsErrOf result e)
   pub rest_counts : IfErr rest (λ e. IfErr first (λ d. d ≡ Failed → IsErrOf result e))
 
--- passes that have seen all of a history
-abbrev pub AreSettled : List Item → (old new : List Passed) → Type 0
-AreSettled items [] [] = Unit {0}
-AreSettled items (p ∷ ps) (q ∷ qs) = IsSettled items p q × AreSettled items ps qs
-AreSettled items ps qs = ⊥
+-- passes that were let see all of a history
+abbrev pub AllSettle : List Item → List Passed → Type 0
+AllSettle items [] = Unit {0}
+AllSettle items (p ∷ ps) = ((q : Passed) × IsSettled items p q) × AllSettle items ps
 
 -- ---- of one history
 

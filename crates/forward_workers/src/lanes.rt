@@ -2,14 +2,14 @@
 
 ghost use Rattle.std.specs.Prelude.{◌≡◌, length, map, IfOk};
 ghost use Rattle.std.specs.Thread.{IsSend, IsSync};
-ghost use Rattle.forward_workers.specs.Lanes.{IsJoined, WorkerEnds, WorkersEnd, doors_of, passes_of};
+ghost use Rattle.forward_workers.specs.Lanes.{AllSettle, IsJoined, WorkerEnds, WorkersEnd, doors_of, passes_of};
 
 use crate::door::Door;
 use crate::working::{Worker, run_worker};
 use client_core::Clock;
 use client_request::{Error, Words};
 use dns_base::NoMemory;
-use front_shared::{ForwarderKey, Pass, SharedForwarder};
+use front_shared::{Closed, ForwarderKey, Pass, SharedForwarder};
 use std::alloc::Global;
 use std::collections::VecDeque;
 use std::sync::Wait;
@@ -42,17 +42,21 @@ pub(crate) fn seated<L: ForwarderKey, D: Door + Drop, C: Clock + Drop>(
     Ok(lanes)
 }
 
-/// The workers of lanes, in order.
-pub(crate) fn unseated<L: ForwarderKey, D: Door + Drop, C: Clock + Drop>(
+/// The workers of lanes, in order, whose passes have then seen all of the history.
+#[tactic(auto, using(crate::proofs::Sharings::none_unseated, crate::proofs::Sharings::one_unseated, crate::proofs::Sharings::all_unseated))]
+pub(crate) fn unseated<L: ForwarderKey, W: Words + Drop, D: Door + Drop, C: Clock + Drop>(
     alloc: Global,
+    closed: &mut Closed<L, W>,
     lanes: Vec<Lane<L, D, C>>,
 ) -> Result<Vec<Worker<D, C>>, NoMemory>
-    ensures { IfOk result (λ workers. workers.items ≡ map (λ lane. lane.worker) lanes.items) }
+    ensures workers { IfOk result (λ workers. workers.items ≡ map (λ lane. lane.worker) lanes.items) }
+    ensures settled { IfOk result (λ _. AllSettle closed.old.desk (passes_of lanes.items)) }
 {
     let mut lanes = VecDeque::from(lanes);
     let mut workers = Vec::new(alloc);
     while let Some(lane) = lanes.pop_front() {
-        let Lane { pass: _, worker } = lane;
+        let Lane { mut pass, worker } = lane;
+        closed.settle(&mut pass);
         workers.push(worker)?;
     }
     Ok(workers)
@@ -75,8 +79,8 @@ pub(crate) fn joined(first: Result<u64, Error>, rest: Result<u64, Error>) -> Res
 
 /// What a worker does in its lane.
 trait Running<L: ForwarderKey, D: Door + Drop, C: Clock + Drop> {
-    /// The turns of one worker.
-    fn run(&self, lane: &mut Lane<L, D, C>) -> Result<u64, Error>
+    /// So many turns of one worker.
+    fn run(&self, turns: u64, lane: &mut Lane<L, D, C>) -> Result<u64, Error>
         ensures { WorkerEnds lane.old.pass lane.new.pass (D.deeds lane.old.worker.door) (D.deeds lane.new.worker.door) result };
 }
 
@@ -85,7 +89,6 @@ trait Running<L: ForwarderKey, D: Door + Drop, C: Clock + Drop> {
 struct SharedLanes<'a, R, L: ForwarderKey, W: Words + Drop> {
     rt: &'a R,
     shared: &'a SharedForwarder<L, W>,
-    turns: u64,
 }
 
 impl<'a, R: Wait, L: ForwarderKey, W: Words + Drop, D: Door + Drop, C: Clock + Drop> Running<
@@ -93,13 +96,13 @@ impl<'a, R: Wait, L: ForwarderKey, W: Words + Drop, D: Door + Drop, C: Clock + D
     D,
     C,
 > for SharedLanes<'a, R, L, W> {
-    fn run(&self, lane: &mut Lane<L, D, C>) -> Result<u64, Error> {
+    fn run(&self, turns: u64, lane: &mut Lane<L, D, C>) -> Result<u64, Error> {
         run_worker(
             self.rt,
             self.shared,
             &mut lane.pass,
             &mut lane.worker,
-            self.turns,
+            turns,
         )
     }
 }
@@ -113,13 +116,13 @@ fn run_workers<
     D: Door + Drop + Send,
     C: Clock + Drop + Send,
     T: Running<L, D, C> + Sync,
->(rt: &R, running: &T, lanes: &mut [Lane<L, D, C>]) -> Result<u64, Error>
+>(rt: &R, running: &T, turns: u64, lanes: &mut [Lane<L, D, C>]) -> Result<u64, Error>
     ensures { WorkersEnd (passes_of lanes.old) (passes_of lanes.new) (doors_of D.deeds lanes.old) (doors_of D.deeds lanes.new) result }
 {
     let Some((lane, others)) = lanes.split_first_mut() else {
         return Ok(0);
     };
-    let (mine, theirs) = one_and_rest(rt, running, lane, others);
+    let (mine, theirs) = one_and_rest(rt, running, turns, lane, others);
     joined(mine, theirs)
 }
 
@@ -135,6 +138,7 @@ fn one_and_rest<
 >(
     rt: &R,
     running: &T,
+    turns: u64,
     lane: &mut Lane<L, D, C>,
     others: &mut [Lane<L, D, C>],
 ) -> (Result<u64, Error>, Result<u64, Error>)
@@ -144,11 +148,11 @@ fn one_and_rest<
     let mut mine = || -> Result<u64, Error>
         requires { IsSync T.row × IsSend L.row × IsSend D.row × IsSend C.row }
         ensures { WorkerEnds lane.entry.now.pass lane.exit.now.pass (D.deeds lane.entry.now.worker.door) (D.deeds lane.exit.now.worker.door) result }
-    { running.run(lane) };
+    { running.run(turns, lane) };
     let mut theirs = || -> Result<u64, Error>
         requires { IsSync R.row × IsSync T.row × IsSend L.row × IsSend D.row × IsSend C.row }
         ensures { WorkersEnd (passes_of others.entry.now) (passes_of others.exit.now) (doors_of D.deeds others.entry.now) (doors_of D.deeds others.exit.now) result }
-    { run_workers(rt, running, others) };
+    { run_workers(rt, running, turns, others) };
     join_mut(rt, &mut mine, &mut theirs)
 }
 
@@ -167,6 +171,6 @@ pub(crate) fn run_lanes<
 ) -> Result<u64, Error>
     ensures { WorkersEnd (passes_of lanes.old) (passes_of lanes.new) (doors_of D.deeds lanes.old) (doors_of D.deeds lanes.new) result }
 {
-    let running = SharedLanes { rt, shared, turns };
-    run_workers(rt, &running, lanes)
+    let running = SharedLanes { rt, shared };
+    run_workers(rt, &running, turns, lanes)
 }

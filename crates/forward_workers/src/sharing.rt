@@ -2,7 +2,7 @@
 
 ghost use Rattle.std.specs.Prelude.{◌≡◌, ◌+◌, ◌<◌, ◌^◌, ◌∷◌, false, length, IfOk};
 ghost use Rattle.std.specs.Thread.{IsSend, IsSync};
-ghost use Rattle.forward_workers.specs.Lanes.{AllEnd, AreSettled, FirstEnds, IsShared, WorkersEnd, doors_of, passes_of, told_by};
+ghost use Rattle.forward_workers.specs.Lanes.{AllEnd, FirstEnds, IsShared, WorkersEnd, doors_of, passes_of, told_by};
 ghost use Rattle.front_shared.specs.History.{numbered, opening_of};
 ghost use Rattle.joint_history.specs.Words.{word_of};
 
@@ -14,7 +14,7 @@ use client_core::Clock;
 use client_request::{Error, Words};
 use forward_run::Front;
 use front_core::Forwarder;
-use front_shared::{Closed, ForwarderKey, Opened, Pass, SharedForwarder};
+use front_shared::{ForwarderKey, Opened, Pass, SharedForwarder};
 use std::alloc::Global;
 use std::collections::VecDeque;
 use std::sync::Wait;
@@ -74,23 +74,6 @@ fn turn_by_all<
     joined(mine, theirs)
 }
 
-/// The pass of each of these lanes has then seen all of the history, and its worker is as it was.
-#[tactic(auto, using(crate::proofs::Sharings::none_settle, crate::proofs::Sharings::settles_on))]
-fn settle_all<L: ForwarderKey, W: Words + Drop, D: Door + Drop, C: Clock + Drop>(
-    closed: &mut Closed<L, W>,
-    lanes: &mut [Lane<L, D, C>],
-)
-    ensures same { closed.new.desk ≡ closed.old.desk }
-    ensures settled { AreSettled closed.old.desk (passes_of lanes.old) (passes_of lanes.new) }
-    ensures doors { doors_of D.deeds lanes.new ≡ doors_of D.deeds lanes.old }
-{
-    let Some((lane, others)) = lanes.split_first_mut() else {
-        return;
-    };
-    closed.settle(&mut lane.pass);
-    settle_all(closed, others);
-}
-
 /// The turns of the first thread, who has this pass, and of workers. How many answers they put out, and the workers.
 fn share_among<
     R: Threads + Wait + Sync,
@@ -129,8 +112,7 @@ fn share_among<
     let mut closed = shared.close();
     closed.history_is_legal();
     closed.settle(&mut pass);
-    settle_all(&mut closed, lanes.as_mut_slice());
-    match unseated(alloc, lanes) {
+    match unseated(alloc, &mut closed, lanes) {
         Ok(workers) => Ok((answered, workers)),
         Err(_) => Err(Error::NoMemory),
     }
