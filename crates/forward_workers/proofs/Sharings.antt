@@ -26,29 +26,29 @@ both_of (Err e) (Ok rest) sum P Q is p q = absurd is
 both_of (Err e) (Err d) sum P Q is p q = absurd is
 
 -- one worker, and the others
-pub one_and_others : (p q : Passed) (ps qs : List Passed) (b a : Option (List FrontDeed)) (bs as : List (Option (List FrontDeed))) (first rest result : Result ℕ Error)
-    → IsJoined first rest result → WorkerEnds p q b a first → WorkersEnd ps qs bs as rest → WorkersEnd (p ∷ ps) (q ∷ qs) (b ∷ bs) (a ∷ as) result
-one_and_others p q ps qs b a bs as first rest (Ok sum) j w ws = both_of first rest sum (IsWorked p q b a) (AreWorked ps qs bs as) j.both w ws
-one_and_others p q ps qs b a bs as first rest (Err e) j w ws = tt
+pub one_and_others : (p q : Passed) (ps qs : List Passed) (b a : Option (List FrontDeed)) (bs ends : List (Option (List FrontDeed))) (first rest result : Result ℕ Error)
+    → IsJoined first rest result → WorkerEnds p q b a first → WorkersEnd ps qs bs ends rest → WorkersEnd (p ∷ ps) (q ∷ qs) (b ∷ bs) (a ∷ ends) result
+one_and_others p q ps qs b a bs ends first rest (Ok sum) j w ws = both_of first rest sum (IsWorked p q b a) (AreWorked ps qs bs ends) j.both w ws
+one_and_others p q ps qs b a bs ends first rest (Err e) j w ws = tt
 
 -- the same of lists that are known to begin so
-pub workers_split : (olds news : List Passed) (befores afters : List (Option (List FrontDeed))) (p q : Passed) (ps qs : List Passed) (b a : Option (List FrontDeed)) (bs as : List (Option (List FrontDeed))) (first rest result : Result ℕ Error)
-    → IsJoined first rest result → WorkerEnds p q b a first → WorkersEnd ps qs bs as rest → olds ≡ p ∷ ps → news ≡ q ∷ qs → befores ≡ b ∷ bs → afters ≡ a ∷ as → WorkersEnd olds news befores afters result
-workers_split olds news befores afters p q ps qs b a bs as first rest result j w ws o n before after =
+pub workers_split : (olds news : List Passed) (befores afters : List (Option (List FrontDeed))) (p q : Passed) (ps qs : List Passed) (b a : Option (List FrontDeed)) (bs ends : List (Option (List FrontDeed))) (first rest result : Result ℕ Error)
+    → IsJoined first rest result → WorkerEnds p q b a first → WorkersEnd ps qs bs ends rest → olds ≡ p ∷ ps → news ≡ q ∷ qs → befores ≡ b ∷ bs → afters ≡ a ∷ ends → WorkersEnd olds news befores afters result
+workers_split olds news befores afters p q ps qs b a bs ends first rest result j w ws o n before after =
     subst (λ (z : List Passed × List Passed × List (Option (List FrontDeed)) × List (Option (List FrontDeed))). WorkersEnd z.0 z.1 z.2 z.3 result) (λ i. (sym o i, sym n i, sym before i, sym after i))
-    (one_and_others p q ps qs b a bs as first rest result j w ws)
+    (one_and_others p q ps qs b a bs ends first rest result j w ws)
 
 pub no_workers : (olds news : List Passed) (befores afters : List (Option (List FrontDeed))) → olds ≡ [] → news ≡ [] → befores ≡ [] → afters ≡ [] → AreWorked olds news befores afters 0
 no_workers olds news befores afters o n before after =
     subst (λ (z : List Passed × List Passed × List (Option (List FrontDeed)) × List (Option (List FrontDeed))). AreWorked z.0 z.1 z.2 z.3 0) (λ i. (sym o i, sym n i, sym before i, sym after i)) refl
 
 -- the first thread, and the workers
-pub first_and_others : (count : ℕ) (p q : Passed) (ps qs : List Passed) (fb fa : Option (List FrontDeed)) (bs as : List (Option (List FrontDeed))) (first rest result : Result ℕ Error)
-    → IsJoined first rest result → FirstEnds count p q fb fa first → WorkersEnd ps qs bs as rest → AllEnd count p q ps qs fb fa bs as result
-first_and_others count p q ps qs fb fa bs as first rest (Ok sum) j f ws =
-    let b = both_of first rest sum (IsFirst count p q fb fa) (AreWorked ps qs bs as) j.both f ws in
+pub first_and_others : (count : ℕ) (p q : Passed) (ps qs : List Passed) (fb fa : Option (List FrontDeed)) (bs ends : List (Option (List FrontDeed))) (first rest result : Result ℕ Error)
+    → IsJoined first rest result → FirstEnds count p q fb fa first → WorkersEnd ps qs bs ends rest → AllEnd count p q ps qs fb fa bs ends result
+first_and_others count p q ps qs fb fa bs ends first rest (Ok sum) j f ws =
+    let b = both_of first rest sum (IsFirst count p q fb fa) (AreWorked ps qs bs ends) j.both f ws in
     record { mine = b.0; others = b.1; answered_is = b.2; first = b.3; workers = b.4 }
-first_and_others count p q ps qs fb fa bs as first rest (Err e) j f ws = tt
+first_and_others count p q ps qs fb fa bs ends first rest (Err e) j f ws = tt
 
 settle_more : (items : List Item) (ps : List Passed) (p q : Passed) → AllSettle items ps → IsSettled items p q → AllSettle items (ps ++ p ∷ [])
 settle_more items [] p q ss s = ((q, s), tt)
@@ -108,16 +108,16 @@ numbered_from : (n : ℕ) → numbered n ≡ from 0 n
 numbered_from zero = refl
 numbered_from (suc n) = ap (λ (ps : List Passed). ps ++ newcomer n ∷ []) (numbered_from n) ∙ from_end 0 n
 
-workers_from : (items : List Item) (k n : ℕ) (qs : List Passed) (bs as : List (Option (List FrontDeed))) (sum : ℕ) → AreWorked (from k n) qs bs as sum → AllSettle items qs → AreWorkersOf items k bs as sum
+workers_from : (items : List Item) (k n : ℕ) (qs : List Passed) (bs ends : List (Option (List FrontDeed))) (sum : ℕ) → AreWorked (from k n) qs bs ends sum → AllSettle items qs → AreWorkersOf items k bs ends sum
 workers_from items k zero [] [] [] sum w s = w
-workers_from items k zero (q ∷ qs) bs as sum w s = absurd w
-workers_from items k zero [] (b ∷ bs) as sum w s = absurd w
-workers_from items k zero [] [] (a ∷ as) sum w s = absurd w
-workers_from items k (suc n) [] bs as sum w s = absurd w
-workers_from items k (suc n) (q ∷ qs) [] as sum w s = absurd w
+workers_from items k zero (q ∷ qs) bs ends sum w s = absurd w
+workers_from items k zero [] (b ∷ bs) ends sum w s = absurd w
+workers_from items k zero [] [] (a ∷ ends) sum w s = absurd w
+workers_from items k (suc n) [] bs ends sum w s = absurd w
+workers_from items k (suc n) (q ∷ qs) [] ends sum w s = absurd w
 workers_from items k (suc n) (q ∷ qs) (b ∷ bs) [] sum w s = absurd w
-workers_from items k (suc n) (q ∷ qs) (b ∷ bs) (a ∷ as) sum w s =
-    (w.0, w.1, w.2, worker_of items k (newcomer k) q s.0.0 b a w.0 refl w.3 s.0.1, workers_from items (suc k) n qs bs as w.1 w.4 s.1)
+workers_from items k (suc n) (q ∷ qs) (b ∷ bs) (a ∷ ends) sum w s =
+    (w.0, w.1, w.2, worker_of items k (newcomer k) q s.0.0 b a w.0 refl w.3 s.0.1, workers_from items (suc k) n qs bs ends w.1 w.4 s.1)
 
 first_of : (items : List Item) (count : ℕ) (q r : Passed) (fb fa : Option (List FrontDeed)) (n : ℕ) → IsFirst count (newcomer 0) q fb fa n → IsSettled items q r → IsFirstOf items count fb fa n
 first_of items count q r fb fa n f s = record {
@@ -131,10 +131,10 @@ first_of items count q r fb fa n f s = record {
 }
 
 -- the first pass, and the others
-pub shares : (count : ℕ) (o : Opening) (p q r : Passed) (ps qs : List Passed) (fb fa : Option (List FrontDeed)) (bs as : List (Option (List FrontDeed))) (sum : ℕ) (items : List Item)
-    → IsLegal o items → p ∷ ps ≡ numbered o.callers → o.callers ≡ length bs + 1 → AreTurned count p q ps qs fb fa bs as sum → IsSettled items q r → AllSettle items qs
-    → IsShared count o.first o.words fb fa bs as sum
-shares count o p q r ps qs fb fa bs as sum items legal passes callers t s ss =
+pub shares : (count : ℕ) (o : Opening) (p q r : Passed) (ps qs : List Passed) (fb fa : Option (List FrontDeed)) (bs ends : List (Option (List FrontDeed))) (sum : ℕ) (items : List Item)
+    → IsLegal o items → p ∷ ps ≡ numbered o.callers → o.callers ≡ length bs + 1 → AreTurned count p q ps qs fb fa bs ends sum → IsSettled items q r → AllSettle items qs
+    → IsShared count o.first o.words fb fa bs ends sum
+shares count o p q r ps qs fb fa bs ends sum items legal passes callers t s ss =
     let n = length bs in
     let all : p ∷ ps ≡ newcomer 0 ∷ from 1 n = passes ∙ (ap numbered (callers ∙ omega arith) ∙ numbered_from (suc n)) in
     let head : p ≡ newcomer 0 = cc all in
@@ -146,7 +146,7 @@ shares count o p q r ps qs fb fa bs as sum items legal passes callers t s ss =
       others = t.others;
       answered_is = t.answered_is;
       first_of = first_of items count q r fb fa t.mine (subst (λ (x : Passed). IsFirst count x q fb fa t.mine) head t.first) s;
-      workers_of = workers_from items 1 n qs bs as t.others (subst (λ (xs : List Passed). AreWorked xs qs bs as t.others) tail t.workers) ss;
+      workers_of = workers_from items 1 n qs bs ends t.others (subst (λ (xs : List Passed). AreWorked xs qs bs ends t.others) tail t.workers) ss;
     }
 
 map_twice : {A B C : Type 0} (f : B → C) (g : A → B) (xs : List A) → map f (map g xs) ≡ map (λ (x : A). f (g x)) xs

@@ -107,8 +107,8 @@ WorkerEnds old new before after result = IfOk result (IsWorked old new before af
 -- each worker made rows, and together they put out so many answers
 abbrev pub AreWorked : (old new : List Passed) → (before after : List (Option (List FrontDeed))) → ℕ → Type 0
 AreWorked [] [] [] [] answered = answered ≡ 0
-AreWorked (p ∷ ps) (q ∷ qs) (b ∷ bs) (a ∷ as) answered = (mine : ℕ) × (others : ℕ) × (answered ≡ mine + others) × IsWorked p q b a mine × AreWorked ps qs bs as others
-AreWorked ps qs bs as answered = ⊥
+AreWorked (p ∷ ps) (q ∷ qs) (b ∷ bs) (a ∷ ends) answered = (mine : ℕ) × (others : ℕ) × (answered ≡ mine + others) × IsWorked p q b a mine × AreWorked ps qs bs ends others
+AreWorked ps qs bs ends answered = ⊥
 
 abbrev pub WorkersEnd : (old new : List Passed) → (before after : List (Option (List FrontDeed))) → Result ℕ Error → Type 0
 WorkersEnd old new before after result = IfOk result (AreWorked old new before after)
@@ -170,8 +170,8 @@ pub record IsWorkerOf (items : List Item) (k : ℕ) (before after : Option (List
 -- those of the workers from a number on
 abbrev pub AreWorkersOf : List Item → (k : ℕ) → (before after : List (Option (List FrontDeed))) → ℕ → Type 0
 AreWorkersOf items k [] [] answered = answered ≡ 0
-AreWorkersOf items k (b ∷ bs) (a ∷ as) answered = (mine : ℕ) × (others : ℕ) × (answered ≡ mine + others) × IsWorkerOf items k b a mine × AreWorkersOf items (suc k) bs as others
-AreWorkersOf items k bs as answered = ⊥
+AreWorkersOf items k (b ∷ bs) (a ∷ ends) answered = (mine : ℕ) × (others : ℕ) × (answered ≡ mine + others) × IsWorkerOf items k b a mine × AreWorkersOf items (suc k) bs ends others
+AreWorkersOf items k bs ends answered = ⊥
 
 -- Threads shared one forwarder: there is one history, whose rows that forwarder makes one behind another, and each thread did what its own rows of it say, each once and in
 -- their order; what a worker does not do itself the first thread did.
