@@ -122,7 +122,7 @@ fn run_workers<
     let Some((lane, others)) = lanes.split_first_mut() else {
         return Ok(0);
     };
-    let (mine, theirs) = one_and_rest(rt, running, turns, lane, others);
+    let (mine, theirs) = one_and_rest(rt, running, turns, lane, turns, others);
     joined(mine, theirs)
 }
 
@@ -140,6 +140,7 @@ fn one_and_rest<
     running: &T,
     turns: u64,
     lane: &mut Lane<L, D, C>,
+    their_turns: u64,
     others: &mut [Lane<L, D, C>],
 ) -> (Result<u64, Error>, Result<u64, Error>)
     ensures mine { WorkerEnds lane.old.pass lane.new.pass (D.deeds lane.old.worker.door) (D.deeds lane.new.worker.door) result.0 }
@@ -152,7 +153,7 @@ fn one_and_rest<
     let mut theirs = || -> Result<u64, Error>
         requires { IsSync R.row × IsSync T.row × IsSend L.row × IsSend D.row × IsSend C.row }
         ensures { WorkersEnd (passes_of others.entry.now) (passes_of others.exit.now) (doors_of D.deeds others.entry.now) (doors_of D.deeds others.exit.now) result }
-    { run_workers(rt, running, turns, others) };
+    { run_workers(rt, running, their_turns, others) };
     join_mut(rt, &mut mine, &mut theirs)
 }
 

@@ -31,10 +31,11 @@ fn first_and_workers<
 >(
     rt: &R,
     shared: &SharedForwarder<L, W>,
+    turns: u64,
     pass: &mut Pass<L>,
     front: &mut F,
     clock: &mut C,
-    turns: u64,
+    their_turns: u64,
     lanes: &mut [Lane<L, D, C>],
 ) -> (Result<u64, Error>, Result<u64, Error>)
     ensures first { FirstEnds turns pass.old pass.new (F.deeds front.old) (F.deeds front.new) result.1 }
@@ -43,7 +44,7 @@ fn first_and_workers<
     let mut theirs = || -> Result<u64, Error>
         requires { IsSync R.row × IsSend L.row × IsSync L.row × IsSend W.row × IsSend D.row × IsSend C.row }
         ensures { WorkersEnd (passes_of lanes.entry.now) (passes_of lanes.exit.now) (doors_of D.deeds lanes.entry.now) (doors_of D.deeds lanes.exit.now) result }
-    { run_lanes(rt, shared, turns, lanes) };
+    { run_lanes(rt, shared, their_turns, lanes) };
     let mut mine = || -> Result<u64, Error>
         ensures { FirstEnds turns pass.entry.now pass.exit.now (F.deeds front.entry.now) (F.deeds front.exit.now) result }
     { run_first(rt, shared, turns, pass, front, clock) };
@@ -70,7 +71,7 @@ fn turn_by_all<
 ) -> Result<u64, Error>
     ensures { AllEnd turns pass.old pass.new (passes_of lanes.old) (passes_of lanes.new) (F.deeds front.old) (F.deeds front.new) (doors_of D.deeds lanes.old) (doors_of D.deeds lanes.new) result }
 {
-    let (theirs, mine) = first_and_workers(rt, shared, pass, front, clock, turns, lanes);
+    let (theirs, mine) = first_and_workers(rt, shared, turns, pass, front, clock, turns, lanes);
     joined(mine, theirs)
 }
 
