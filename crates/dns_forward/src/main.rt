@@ -22,6 +22,9 @@ const USAGE: u8 = 2;
 /// The exit status where memory, or the system's random words, can't be had.
 const NO_MEMORY: u8 = 6;
 
+/// The most threads that answer datagrams, at all addresses together.
+const MOST_WORKERS: usize = 16_384;
+
 /// The system's random words, where they can be had.
 fn random_words(rt: &HostRuntime) -> Option<RandWords<StdRng>> {
     match rand::make_rng::<StdRng, _>(rt) {
@@ -133,10 +136,13 @@ fn serve_shared<T: Threads + Wait + Sync>(
     let Ok(common) = Common::new(threads, alloc, doors) else {
         return NO_MEMORY;
     };
-    let Ok(mut workers) = workers_at(rt, &common, addresses, options.workers) else {
+    let Ok(workers) = workers_at(rt, &common, addresses, options.workers) else {
         return NO_MEMORY;
     };
-    let status = serve_by_all(
+    if workers.len() > MOST_WORKERS {
+        return USAGE;
+    }
+    let (status, _) = serve_by_all(
         threads,
         alloc,
         options,
@@ -147,7 +153,7 @@ fn serve_shared<T: Threads + Wait + Sync>(
         &mut SharedFront::new(rt, alloc, listened, &common),
         &mut RealClock::new(rt),
         random,
-        workers.as_mut_slice(),
+        workers,
     );
     status.0
 }

@@ -48,11 +48,11 @@ told_now old new event receipt polled s zero =
     let at : receipt.number ≡ length (map Made s.before) = s.place ∙ sym (length_made s.before) in (
       s.told ∙ (told_first old.number (waits_after s.before) zero
           ∙ ap waits_after
-              (sym (entries_made s.before)
-              ∙ ap entries_in
-                  (sym (take_whole (map Made s.before) (Made (entry_of old.number receipt.row) ∷ []))
-                  ∙ (ap (λ (k : ℕ). take k (map Made s.before ++ Made (entry_of old.number receipt.row) ∷ [])) (sym at)
-                  ∙ ap (take receipt.number) (sym s.seen))))),
+          (sym (entries_made s.before)
+          ∙ ap entries_in
+          (sym (take_whole (map Made s.before) (Made (entry_of old.number receipt.row) ∷ []))
+          ∙ (ap (λ (k : ℕ). take k (map Made s.before ++ Made (entry_of old.number receipt.row) ∷ [])) (sym at)
+          ∙ ap (take receipt.number) (sym s.seen))))),
       1,
       omega (arith, at, ap length s.seen, length-append (map Made s.before) (Made (entry_of old.number receipt.row) ∷ [])),
     )
@@ -122,7 +122,7 @@ one_more count left old mid new a b c n sum number before row so t some is =
         deeds =
             more_deeds (flat_map first_deeds f.turns) (first_deeds turn) a b c f.deeds t.deeds
             ∙ ap (λ (ds : List FrontDeed). after_deeds ds a)
-                (ap (λ (ds : List FrontDeed). flat_map first_deeds f.turns ++ ds) (sym (nil_behind (first_deeds turn))) ∙ sym (flat_more first_deeds f.turns (turn ∷ [])));
+            (ap (λ (ds : List FrontDeed). flat_map first_deeds f.turns ++ ds) (sym (nil_behind (first_deeds turn))) ∙ sym (flat_more first_deeds f.turns (turn ∷ [])));
         answered_is =
             (let e = sum_by-append answers_of f.turns (turn ∷ []) in
             let x = f.answered_is in

@@ -1,5 +1,5 @@
 -- Several lanes, and the history of all.
-use Rattle.std.proofs.Common.{◌≡◌, ℕ, zero, suc, ◌+◌, List, [], ◌∷◌, ◌++◌, length, map, Option, Some, None, Result, Ok, Err, refl, ap, sym, subst, ◌∙◌, length-append, arith}
+use Rattle.std.proofs.Common.{◌≡◌, ℕ, zero, suc, ◌+◌, List, [], ◌∷◌, ◌++◌, length, map, Option, Some, None, Result, Ok, Err, refl, ap, sym, subst, ◌∙◌, append_assoc, length-append, arith}
 use Rattle.std.specs.Prelude.{IfOk, count_by, sum_by}
 use Rattle.std.specs.List.{flat_map}
 use mathlib.Core.List.{IsPrefix}
@@ -8,11 +8,14 @@ use Rattle.client_steps.specs.Whole.{Whole}
 use Rattle.forward_run.specs.Front.{after_deeds}
 use Rattle.forward_run.specs.declared.front.FrontDeed.{FrontDeed}
 use Rattle.front_peers.specs.declared.event.FrontRow.{FrontRow}
-use Rattle.front_shared.specs.History.{IsLegal, IsSettled, Passed, calls, newcomer, numbered, opening_of}
+use Rattle.front_shared.specs.History.{IsLegal, IsSettled, Opening, Passed, calls, newcomer, numbered, opening_of}
 use Rattle.front_shared.specs.Waiting.{is_for_any}
 use Rattle.front_shared.specs.declared.entry.Item.{Item}
 use Rattle.front_steps.specs.Steps.{Forwarding}
-use Rattle.forward_workers.specs.Lanes.{AreBoth, AreSettled, AreTurned, AreWorked, AreWorkersOf, FirstEnds, FirstTurn, IsFirst, IsFirstOf, IsJoined, IsShared, IsTold, IsWorked, IsWorkerOf, WorkersEnd, WorkerEnds, rows_by, worker_deeds}
+use Rattle.forward_workers.specs.Lanes.{AllSettle, AreBoth, AreTurned, AreWorked, AreWorkersOf, AllEnd, FirstEnds, FirstTurn, IsFirst, IsFirstOf, IsJoined, IsShared, IsTold, IsWorked, IsWorkerOf, WorkersEnd, WorkerEnds, doors_of, rows_by, told_by, worker_deeds}
+use Rattle.forward_workers.specs.declared.lanes.Lane.{Lane}
+use Rattle.forward_workers.specs.declared.working.Worker.{Worker}
+use Rattle.forward_workers.proofs.Deeds.{nil_behind}
 use Rattle.forward_workers.proofs.Firsts.{all_later}
 
 -- both counts of two results
@@ -23,35 +26,53 @@ both_of (Err e) (Ok rest) sum P Q is p q = absurd is
 both_of (Err e) (Err d) sum P Q is p q = absurd is
 
 -- one worker, and the others
-pub one_and_others : (p q : Passed) (ps qs : List Passed) (b a : Option (List FrontDeed)) (bs as : List (Option (List FrontDeed))) (first rest result : Result ℕ Error)
-    → IsJoined first rest result → WorkerEnds p q b a first → WorkersEnd ps qs bs as rest → WorkersEnd (p ∷ ps) (q ∷ qs) (b ∷ bs) (a ∷ as) result
-one_and_others p q ps qs b a bs as first rest (Ok sum) j w ws = both_of first rest sum (IsWorked p q b a) (AreWorked ps qs bs as) j.both w ws
-one_and_others p q ps qs b a bs as first rest (Err e) j w ws = tt
+pub one_and_others : (p q : Passed) (ps qs : List Passed) (b a : Option (List FrontDeed)) (bs ends : List (Option (List FrontDeed))) (first rest result : Result ℕ Error)
+    → IsJoined first rest result → WorkerEnds p q b a first → WorkersEnd ps qs bs ends rest → WorkersEnd (p ∷ ps) (q ∷ qs) (b ∷ bs) (a ∷ ends) result
+one_and_others p q ps qs b a bs ends first rest (Ok sum) j w ws = both_of first rest sum (IsWorked p q b a) (AreWorked ps qs bs ends) j.both w ws
+one_and_others p q ps qs b a bs ends first rest (Err e) j w ws = tt
 
 -- the same of lists that are known to begin so
-pub workers_split : (olds news : List Passed) (befores afters : List (Option (List FrontDeed))) (p q : Passed) (ps qs : List Passed) (b a : Option (List FrontDeed)) (bs as : List (Option (List FrontDeed))) (first rest result : Result ℕ Error)
-    → IsJoined first rest result → WorkerEnds p q b a first → WorkersEnd ps qs bs as rest → olds ≡ p ∷ ps → news ≡ q ∷ qs → befores ≡ b ∷ bs → afters ≡ a ∷ as → WorkersEnd olds news befores afters result
-workers_split olds news befores afters p q ps qs b a bs as first rest result j w ws o n before after =
+pub workers_split : (olds news : List Passed) (befores afters : List (Option (List FrontDeed))) (p q : Passed) (ps qs : List Passed) (b a : Option (List FrontDeed)) (bs ends : List (Option (List FrontDeed))) (first rest result : Result ℕ Error)
+    → IsJoined first rest result → WorkerEnds p q b a first → WorkersEnd ps qs bs ends rest → olds ≡ p ∷ ps → news ≡ q ∷ qs → befores ≡ b ∷ bs → afters ≡ a ∷ ends → WorkersEnd olds news befores afters result
+workers_split olds news befores afters p q ps qs b a bs ends first rest result j w ws o n before after =
     subst (λ (z : List Passed × List Passed × List (Option (List FrontDeed)) × List (Option (List FrontDeed))). WorkersEnd z.0 z.1 z.2 z.3 result) (λ i. (sym o i, sym n i, sym before i, sym after i))
-    (one_and_others p q ps qs b a bs as first rest result j w ws)
+    (one_and_others p q ps qs b a bs ends first rest result j w ws)
 
 pub no_workers : (olds news : List Passed) (befores afters : List (Option (List FrontDeed))) → olds ≡ [] → news ≡ [] → befores ≡ [] → afters ≡ [] → AreWorked olds news befores afters 0
 no_workers olds news befores afters o n before after =
     subst (λ (z : List Passed × List Passed × List (Option (List FrontDeed)) × List (Option (List FrontDeed))). AreWorked z.0 z.1 z.2 z.3 0) (λ i. (sym o i, sym n i, sym before i, sym after i)) refl
 
 -- the first thread, and the workers
-pub first_and_others : (count : ℕ) (olds news : List Passed) (p q : Passed) (ps qs : List Passed) (fb fa : Option (List FrontDeed)) (bs as : List (Option (List FrontDeed))) (first rest result : Result ℕ Error)
-    → IsJoined first rest result → FirstEnds count p q fb fa first → WorkersEnd ps qs bs as rest → olds ≡ p ∷ ps → news ≡ q ∷ qs → IfOk result (AreTurned count olds news fb fa bs as)
-first_and_others count olds news p q ps qs fb fa bs as first rest (Ok sum) j f ws o n =
-    subst (λ (z : List Passed × List Passed). AreTurned count z.0 z.1 fb fa bs as sum) (λ i. (sym o i, sym n i)) (both_of first rest sum (IsFirst count p q fb fa) (AreWorked ps qs bs as) j.both f ws)
-first_and_others count olds news p q ps qs fb fa bs as first rest (Err e) j f ws o n = tt
+pub first_and_others : (count : ℕ) (p q : Passed) (ps qs : List Passed) (fb fa : Option (List FrontDeed)) (bs ends : List (Option (List FrontDeed))) (first rest result : Result ℕ Error)
+    → IsJoined first rest result → FirstEnds count p q fb fa first → WorkersEnd ps qs bs ends rest → AllEnd count p q ps qs fb fa bs ends result
+first_and_others count p q ps qs fb fa bs ends first rest (Ok sum) j f ws =
+    let b = both_of first rest sum (IsFirst count p q fb fa) (AreWorked ps qs bs ends) j.both f ws in
+    record { mine = b.0; others = b.1; answered_is = b.2; first = b.3; workers = b.4 }
+first_and_others count p q ps qs fb fa bs ends first rest (Err e) j f ws = tt
 
--- passes that settle, one more
-pub settles_on : (items : List Item) (olds news : List Passed) (p q : Passed) (ps qs : List Passed) → IsSettled items p q → AreSettled items ps qs → olds ≡ p ∷ ps → news ≡ q ∷ qs → AreSettled items olds news
-settles_on items olds news p q ps qs s ss o n = subst (λ (z : List Passed × List Passed). AreSettled items z.0 z.1) (λ i. (sym o i, sym n i)) (s, ss)
+settle_more : (items : List Item) (ps : List Passed) (p q : Passed) → AllSettle items ps → IsSettled items p q → AllSettle items (ps ++ p ∷ [])
+settle_more items [] p q ss s = ((q, s), tt)
+settle_more items (x ∷ ps) p q ss s = (ss.0, settle_more items ps p q ss.1 s)
 
-pub none_settle : (items : List Item) (olds news : List Passed) → olds ≡ [] → news ≡ [] → AreSettled items olds news
-none_settle items olds news o n = subst (λ (z : List Passed × List Passed). AreSettled items z.0 z.1) (λ i. (sym o i, sym n i)) tt
+-- Of some passes these are left that were not let see all of a history yet.
+pub record Unseating (items : List Item) (all left : List Passed) : Type 0 where
+  pub done : List Passed
+  pub are : done ++ left ≡ all
+  pub settled : AllSettle items done
+
+pub none_unseated : (items : List Item) (all left : List Passed) → left ≡ all → Unseating items all left
+none_unseated items all left same = record { done = []; are = same; settled = tt }
+
+pub one_unseated : (items : List Item) (all left later : List Passed) (p q : Passed) → Unseating items all left → left ≡ p ∷ later → IsSettled items p q → Unseating items all later
+one_unseated items all left later p q u is s = record {
+  done = u.done ++ p ∷ [];
+  are = append_assoc u.done (p ∷ []) later ∙ (ap (λ (ps : List Passed). u.done ++ ps) (sym is) ∙ u.are);
+  settled = settle_more items u.done p q u.settled s;
+}
+
+pub all_unseated : (items : List Item) (all left : List Passed) → Unseating items all left → left ≡ [] → AllSettle items all
+all_unseated items all left u none =
+    subst (AllSettle items) (sym (nil_behind u.done) ∙ (ap (λ (ps : List Passed). u.done ++ ps) (sym none) ∙ u.are)) u.settled
 
 -- ---- the history of all
 
@@ -87,17 +108,16 @@ numbered_from : (n : ℕ) → numbered n ≡ from 0 n
 numbered_from zero = refl
 numbered_from (suc n) = ap (λ (ps : List Passed). ps ++ newcomer n ∷ []) (numbered_from n) ∙ from_end 0 n
 
-workers_from : (items : List Item) (k n : ℕ) (qs rs : List Passed) (bs as : List (Option (List FrontDeed))) (sum : ℕ) → AreWorked (from k n) qs bs as sum → AreSettled items qs rs → AreWorkersOf items k bs as sum
-workers_from items k zero [] rs [] [] sum w s = w
-workers_from items k zero (q ∷ qs) rs bs as sum w s = absurd w
-workers_from items k zero [] rs (b ∷ bs) as sum w s = absurd w
-workers_from items k zero [] rs [] (a ∷ as) sum w s = absurd w
-workers_from items k (suc n) [] rs bs as sum w s = absurd w
-workers_from items k (suc n) (q ∷ qs) rs [] as sum w s = absurd w
-workers_from items k (suc n) (q ∷ qs) rs (b ∷ bs) [] sum w s = absurd w
-workers_from items k (suc n) (q ∷ qs) [] (b ∷ bs) (a ∷ as) sum w s = absurd s
-workers_from items k (suc n) (q ∷ qs) (r ∷ rs) (b ∷ bs) (a ∷ as) sum w s =
-    (w.0, w.1, w.2, worker_of items k (newcomer k) q r b a w.0 refl w.3 s.0, workers_from items (suc k) n qs rs bs as w.1 w.4 s.1)
+workers_from : (items : List Item) (k n : ℕ) (qs : List Passed) (bs ends : List (Option (List FrontDeed))) (sum : ℕ) → AreWorked (from k n) qs bs ends sum → AllSettle items qs → AreWorkersOf items k bs ends sum
+workers_from items k zero [] [] [] sum w s = w
+workers_from items k zero (q ∷ qs) bs ends sum w s = absurd w
+workers_from items k zero [] (b ∷ bs) ends sum w s = absurd w
+workers_from items k zero [] [] (a ∷ ends) sum w s = absurd w
+workers_from items k (suc n) [] bs ends sum w s = absurd w
+workers_from items k (suc n) (q ∷ qs) [] ends sum w s = absurd w
+workers_from items k (suc n) (q ∷ qs) (b ∷ bs) [] sum w s = absurd w
+workers_from items k (suc n) (q ∷ qs) (b ∷ bs) (a ∷ ends) sum w s =
+    (w.0, w.1, w.2, worker_of items k (newcomer k) q s.0.0 b a w.0 refl w.3 s.0.1, workers_from items (suc k) n qs bs ends w.1 w.4 s.1)
 
 first_of : (items : List Item) (count : ℕ) (q r : Passed) (fb fa : Option (List FrontDeed)) (n : ℕ) → IsFirst count (newcomer 0) q fb fa n → IsSettled items q r → IsFirstOf items count fb fa n
 first_of items count q r fb fa n f s = record {
@@ -110,21 +130,37 @@ first_of items count q r fb fa n f s = record {
   answered_is = f.answered_is;
 }
 
-shares_from : (count : ℕ) (first : Forwarding Whole) (words : ℕ → ℕ) (n : ℕ) (qs rs : List Passed) (fb fa : Option (List FrontDeed)) (bs as : List (Option (List FrontDeed))) (sum : ℕ) (items : List Item)
-    → IsLegal (opening_of first words (length bs + 1)) items → AreTurned count (from 0 (suc n)) qs fb fa bs as sum → AreSettled items qs rs → IsShared count first words fb fa bs as sum
-shares_from count first words n [] rs fb fa bs as sum items legal t s = absurd t
-shares_from count first words n (q ∷ qs) [] fb fa bs as sum items legal t s = absurd s
-shares_from count first words n (q ∷ qs) (r ∷ rs) fb fa bs as sum items legal t s = record {
-  items = items;
-  legal = legal;
-  mine = t.0;
-  others = t.1;
-  answered_is = t.2;
-  first_of = first_of items count q r fb fa t.0 t.3 s.0;
-  workers_of = workers_from items 1 n qs rs bs as t.1 t.4 s.1;
-}
+-- the first pass, and the others
+pub shares : (count : ℕ) (o : Opening) (p q r : Passed) (ps qs : List Passed) (fb fa : Option (List FrontDeed)) (bs ends : List (Option (List FrontDeed))) (sum : ℕ) (items : List Item)
+    → IsLegal o items → p ∷ ps ≡ numbered o.callers → o.callers ≡ length bs + 1 → AreTurned count p q ps qs fb fa bs ends sum → IsSettled items q r → AllSettle items qs
+    → IsShared count o.first o.words fb fa bs ends sum
+shares count o p q r ps qs fb fa bs ends sum items legal passes callers t s ss =
+    let n = length bs in
+    let all : p ∷ ps ≡ newcomer 0 ∷ from 1 n = passes ∙ (ap numbered (callers ∙ omega arith) ∙ numbered_from (suc n)) in
+    let head : p ≡ newcomer 0 = cc all in
+    let tail : ps ≡ from 1 n = cc all in
+    record {
+      items = items;
+      legal = subst (λ (k : ℕ). IsLegal (opening_of o.first o.words k) items) callers legal;
+      mine = t.mine;
+      others = t.others;
+      answered_is = t.answered_is;
+      first_of = first_of items count q r fb fa t.mine (subst (λ (x : Passed). IsFirst count x q fb fa t.mine) head t.first) s;
+      workers_of = workers_from items 1 n qs bs ends t.others (subst (λ (xs : List Passed). AreWorked xs qs bs ends t.others) tail t.workers) ss;
+    }
 
-pub shares : (count : ℕ) (first : Forwarding Whole) (words : ℕ → ℕ) (n : ℕ) (ps qs rs : List Passed) (fb fa : Option (List FrontDeed)) (bs as : List (Option (List FrontDeed))) (sum : ℕ) (items : List Item)
-    → IsLegal (opening_of first words (length bs + 1)) items → ps ≡ numbered (suc n) → AreTurned count ps qs fb fa bs as sum → AreSettled items qs rs → IsShared count first words fb fa bs as sum
-shares count first words n ps qs rs fb fa bs as sum items legal new t s =
-    shares_from count first words n qs rs fb fa bs as sum items legal (subst (λ (xs : List Passed). AreTurned count xs qs fb fa bs as sum) (new ∙ numbered_from (suc n)) t) s
+map_twice : {A B C : Type 0} (f : B → C) (g : A → B) (xs : List A) → map f (map g xs) ≡ map (λ (x : A). f (g x)) xs
+map_twice f g [] = refl
+map_twice {A} {B} {C} f g (x ∷ xs) = ap (λ (ys : List C). f (g x) ∷ ys) (map_twice f g xs)
+
+pub length_map : {A B : Type 0} (f : A → B) (xs : List A) → length (map f xs) ≡ length xs
+length_map f [] = refl
+length_map f (x ∷ xs) = omega (arith, length_map f xs)
+
+-- the doors of workers, in lanes or not
+pub doors_same : {L D C : Type 0} (deeds : D → Option (List FrontDeed)) (lanes : List (Lane L D C)) (workers : List (Worker D C)) → workers ≡ map (λ l. l.worker) lanes → told_by deeds workers ≡ doors_of deeds lanes
+doors_same {L} {D} {C} deeds lanes workers is = ap (told_by deeds) is ∙ map_twice (λ (w : Worker D C). deeds w.door) (λ (l : Lane L D C). l.worker) lanes
+
+pub numbered_length : (n : ℕ) → length (numbered n) ≡ n
+numbered_length zero = refl
+numbered_length (suc n) = length-append (numbered n) (newcomer n ∷ []) ∙ omega (arith, numbered_length n)

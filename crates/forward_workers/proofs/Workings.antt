@@ -43,7 +43,7 @@ works_on old mid new a b c n m sum so w is =
     let v = so.worked in
     let so_far : b ≡ after_deeds (flat_map (λ (d : ℕ × FrontRow). worker_deeds d.1) v.made) a =
     v.deeds ∙ ap (λ (ds : List FrontDeed). after_deeds ds a)
-        (ap (λ (ds : List FrontDeed). flat_map (λ (d : ℕ × FrontRow). worker_deeds d.1) v.made ++ ds) so.all_used ∙ nil_behind (flat_map (λ (d : ℕ × FrontRow). worker_deeds d.1) v.made)) in
+    (ap (λ (ds : List FrontDeed). flat_map (λ (d : ℕ × FrontRow). worker_deeds d.1) v.made ++ ds) so.all_used ∙ nil_behind (flat_map (λ (d : ℕ × FrontRow). worker_deeds d.1) v.made)) in
     record {
       number = w.number ∙ v.number;
       made = v.made ++ w.made;
@@ -53,8 +53,8 @@ works_on old mid new a b c n m sum so w is =
       deeds =
           more_deeds (flat_map (λ (d : ℕ × FrontRow). worker_deeds d.1) v.made) (flat_map (λ (d : ℕ × FrontRow). worker_deeds d.1) w.made ++ w.unused) a b c so_far w.deeds
           ∙ ap (λ (ds : List FrontDeed). after_deeds ds a)
-              (sym (append_assoc (flat_map (λ (d : ℕ × FrontRow). worker_deeds d.1) v.made) (flat_map (λ (d : ℕ × FrontRow). worker_deeds d.1) w.made) w.unused)
-              ∙ ap (λ (ds : List FrontDeed). ds ++ w.unused) (sym (flat_more (λ (d : ℕ × FrontRow). worker_deeds d.1) v.made w.made)));
+          (sym (append_assoc (flat_map (λ (d : ℕ × FrontRow). worker_deeds d.1) v.made) (flat_map (λ (d : ℕ × FrontRow). worker_deeds d.1) w.made) w.unused)
+          ∙ ap (λ (ds : List FrontDeed). ds ++ w.unused) (sym (flat_more (λ (d : ℕ × FrontRow). worker_deeds d.1) v.made w.made)));
       answered_is =
           (let e = sum_by-append (λ (d : ℕ × FrontRow). count_by is_for_any d.1.outs) v.made w.made in
           let x = v.answered_is in
@@ -94,7 +94,7 @@ makes_row old new event receipt a b c went s took acts count = record {
     deeds =
         more_deeds (Polled (Some event.what) ∷ []) (acts_on (for_any receipt.row.outs)) a b c took acts
         ∙ ap (λ (ds : List FrontDeed). after_deeds ds a)
-            (ap (λ (e : FrontEvent). Polled (Some e.what) ∷ acts_on (for_any receipt.row.outs)) (sym s.event_is) ∙ (sym (nil_behind (worker_deeds receipt.row)) ∙ sym (nil_behind (worker_deeds receipt.row ++ []))));
+        (ap (λ (e : FrontEvent). Polled (Some e.what) ∷ acts_on (for_any receipt.row.outs)) (sym s.event_is) ∙ (sym (nil_behind (worker_deeds receipt.row)) ∙ sym (nil_behind (worker_deeds receipt.row ++ []))));
     answered_is = count ∙ omega arith;
   };
   all_used = λ on. refl;

@@ -16,6 +16,7 @@ use Rattle.front_shared.specs.History.{IsLegal, IsSettled, Passed, calls, entrie
 use Rattle.front_shared.specs.Waiting.{for_any, is_for_any, waits_after}
 use Rattle.front_shared.specs.declared.entry.Item.{Item}
 use Rattle.front_steps.specs.Steps.{Forwarding}
+use Rattle.forward_workers.specs.declared.lanes.Lane.{Lane}
 use Rattle.forward_workers.specs.declared.working.Went.{Went}
 use Rattle.forward_workers.specs.declared.working.Worker.{Worker}
 
@@ -93,14 +94,21 @@ pub record IsFirst (count : ℕ) (old new : Passed) (before after : Option (List
 abbrev pub told_by : {D C : Type 0} → (D → Option (List FrontDeed)) → List (Worker D C) → List (Option (List FrontDeed))
 told_by deeds workers = map (λ w. deeds w.door) workers
 
+-- the passes of lanes, and what their doors tell
+abbrev pub passes_of : {L D C : Type 0} → List (Lane L D C) → List Passed
+passes_of lanes = map (λ l. l.pass) lanes
+
+abbrev pub doors_of : {L D C : Type 0} → (D → Option (List FrontDeed)) → List (Lane L D C) → List (Option (List FrontDeed))
+doors_of deeds lanes = map (λ l. deeds l.worker.door) lanes
+
 abbrev pub WorkerEnds : (old new : Passed) → (before after : Option (List FrontDeed)) → Result ℕ Error → Type 0
 WorkerEnds old new before after result = IfOk result (IsWorked old new before after)
 
 -- each worker made rows, and together they put out so many answers
 abbrev pub AreWorked : (old new : List Passed) → (before after : List (Option (List FrontDeed))) → ℕ → Type 0
 AreWorked [] [] [] [] answered = answered ≡ 0
-AreWorked (p ∷ ps) (q ∷ qs) (b ∷ bs) (a ∷ as) answered = (mine : ℕ) × (others : ℕ) × (answered ≡ mine + others) × IsWorked p q b a mine × AreWorked ps qs bs as others
-AreWorked ps qs bs as answered = ⊥
+AreWorked (p ∷ ps) (q ∷ qs) (b ∷ bs) (a ∷ ends) answered = (mine : ℕ) × (others : ℕ) × (answered ≡ mine + others) × IsWorked p q b a mine × AreWorked ps qs bs ends others
+AreWorked ps qs bs ends answered = ⊥
 
 abbrev pub WorkersEnd : (old new : List Passed) → (before after : List (Option (List FrontDeed))) → Result ℕ Error → Type 0
 WorkersEnd old new before after result = IfOk result (AreWorked old new before after)
@@ -109,13 +117,15 @@ abbrev pub FirstEnds : (count : ℕ) → (old new : Passed) → (before after : 
 FirstEnds count old new before after result = IfOk result (IsFirst count old new before after)
 
 -- the first thread made its turns, and the workers made rows
-abbrev pub AreTurned : (count : ℕ) → (old new : List Passed) → (front front_after : Option (List FrontDeed)) → (before after : List (Option (List FrontDeed))) → ℕ → Type 0
-AreTurned count (p ∷ ps) (q ∷ qs) front front_after before after answered =
-    (mine : ℕ) × (others : ℕ) × (answered ≡ mine + others) × IsFirst count p q front front_after mine × AreWorked ps qs before after others
-AreTurned count ps qs front front_after before after answered = ⊥
+pub record AreTurned (count : ℕ) (p q : Passed) (old new : List Passed) (front front_after : Option (List FrontDeed)) (before after : List (Option (List FrontDeed))) (answered : ℕ) : Type 0 where
+  pub mine : ℕ
+  pub others : ℕ
+  pub answered_is : answered ≡ mine + others
+  pub first : IsFirst count p q front front_after mine
+  pub workers : AreWorked old new before after others
 
-abbrev pub AllEnd : (count : ℕ) → (old new : List Passed) → (front front_after : Option (List FrontDeed)) → (before after : List (Option (List FrontDeed))) → Result ℕ Error → Type 0
-AllEnd count old new front front_after before after result = IfOk result (AreTurned count old new front front_after before after)
+abbrev pub AllEnd : (count : ℕ) → (p q : Passed) → (old new : List Passed) → (front front_after : Option (List FrontDeed)) → (before after : List (Option (List FrontDeed))) → Result ℕ Error → Type 0
+AllEnd count p q old new front front_after before after result = IfOk result (AreTurned count p q old new front front_after before after)
 
 -- both counts, added up
 abbrev pub AreBoth : (first rest : Result ℕ Error) → ℕ → Type 0
@@ -129,11 +139,10 @@ pub record IsJoined (first rest result : Result ℕ Error) : Type 0 where
   pub first_counts : IfErr first (λ e. e ≢ Failed → IsErrOf result e)
   pub rest_counts : IfErr rest (λ e. IfErr first (λ d. d ≡ Failed → IsErrOf result e))
 
--- passes that have seen all of a history
-abbrev pub AreSettled : List Item → (old new : List Passed) → Type 0
-AreSettled items [] [] = Unit {0}
-AreSettled items (p ∷ ps) (q ∷ qs) = IsSettled items p q × AreSettled items ps qs
-AreSettled items ps qs = ⊥
+-- passes that were let see all of a history
+abbrev pub AllSettle : List Item → List Passed → Type 0
+AllSettle items [] = Unit {0}
+AllSettle items (p ∷ ps) = ((q : Passed) × IsSettled items p q) × AllSettle items ps
 
 -- ---- of one history
 
@@ -161,8 +170,8 @@ pub record IsWorkerOf (items : List Item) (k : ℕ) (before after : Option (List
 -- those of the workers from a number on
 abbrev pub AreWorkersOf : List Item → (k : ℕ) → (before after : List (Option (List FrontDeed))) → ℕ → Type 0
 AreWorkersOf items k [] [] answered = answered ≡ 0
-AreWorkersOf items k (b ∷ bs) (a ∷ as) answered = (mine : ℕ) × (others : ℕ) × (answered ≡ mine + others) × IsWorkerOf items k b a mine × AreWorkersOf items (suc k) bs as others
-AreWorkersOf items k bs as answered = ⊥
+AreWorkersOf items k (b ∷ bs) (a ∷ ends) answered = (mine : ℕ) × (others : ℕ) × (answered ≡ mine + others) × IsWorkerOf items k b a mine × AreWorkersOf items (suc k) bs ends others
+AreWorkersOf items k bs ends answered = ⊥
 
 -- Threads shared one forwarder: there is one history, whose rows that forwarder makes one behind another, and each thread did what its own rows of it say, each once and in
 -- their order; what a worker does not do itself the first thread did.

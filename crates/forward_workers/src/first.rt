@@ -14,6 +14,7 @@ use std::sync::Wait;
 /// One turn of the first thread: its front is told how long it may wait, and is polled; what it gave, or a `Tick`, is an event of the
 /// forwarder at the clock's moment; and the front does what the rows of workers left to it since its last turn, and then what the row
 /// of this event puts out, in order.
+#[tactic(auto, using(crate::proofs::Firsts::turned))]
 fn turn<R: Wait, L: ForwarderKey, W: Words + Drop, F: Front, C: Clock>(
     rt: &R,
     shared: &SharedForwarder<L, W>,
@@ -46,6 +47,7 @@ fn answers_among(outs: &[FrontOut]) -> usize
 }
 
 /// So many turns of the first thread. How many answers they put out.
+#[tactic(auto, using(crate::proofs::Firsts::none_made, crate::proofs::Firsts::one_more, crate::proofs::Firsts::all_made))]
 fn turn_on<R: Wait, L: ForwarderKey, W: Words + Drop, F: Front, C: Clock>(
     rt: &R,
     shared: &SharedForwarder<L, W>,
@@ -78,19 +80,14 @@ fn turn_on<R: Wait, L: ForwarderKey, W: Words + Drop, F: Front, C: Clock>(
 }
 
 /// The first thread's turns. Then, or where it gives up, all others end.
-pub(crate) fn run_first<
-    R: Wait,
-    L: ForwarderKey,
-    W: Words + Drop,
-    F: Front,
-    C: Clock,
->(
+#[tactic(auto, using(crate::proofs::Firsts::then_ends))]
+pub(crate) fn run_first<R: Wait, L: ForwarderKey, W: Words + Drop, F: Front, C: Clock>(
     rt: &R,
     shared: &SharedForwarder<L, W>,
+    turns: u64,
     pass: &mut Pass<L>,
     front: &mut F,
     clock: &mut C,
-    turns: u64,
 ) -> Result<u64, Error>
     ensures { IfOk result (IsFirst turns pass.old pass.new (F.deeds front.old) (F.deeds front.new)) }
 {

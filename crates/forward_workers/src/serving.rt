@@ -30,7 +30,14 @@ use std::marker::Brand;
 use std::sync::Wait;
 use std::thread::Threads;
 
-/// The turns of all over a forwarder. How many answers they put out.
+/// What threads came to: how many answers they put out, and the workers.
+#[derive(Drop)]
+struct Came<D: Door + Drop, C: Clock + Drop> {
+    answered: u64,
+    workers: Vec<Worker<D, C>>,
+}
+
+/// The turns of all over a forwarder.
 fn turn_all<
     R: Threads + Wait + Sync,
     F: Front,
@@ -44,20 +51,21 @@ fn turn_all<
     front: &mut F,
     clock: &mut C,
     rng: W,
-    workers: &mut [Worker<D, C>],
     turns: u64,
-) -> Result<u64, Error>
+    workers: Vec<Worker<D, C>>,
+) -> Result<Came<D, C>, Error>
     requires lives { forwarder.failed ≡ false }
-    requires count { length workers.old + 1 < 2 ^ 32 }
-    ensures { IfOk result (IsShared turns forwarder (W.stream rng) (F.deeds front.old) (F.deeds front.new) (told_by D.deeds workers.old) (told_by D.deeds workers.new)) }
+    requires count { length workers.items + 1 < 2 ^ 32 }
+    ensures { IfOk result (λ r. IsShared turns forwarder (W.stream rng) (F.deeds front.old) (F.deeds front.new) (told_by D.deeds workers.items) (told_by D.deeds r.workers.items) r.answered) }
 {
     let opened = Opened::new(alloc)?;
-    share::<R, Brand, W, F, D, C>(
-        rt, alloc, opened, forwarder, rng, front, clock, workers, turns,
-    )
+    let (answered, workers) = share::<R, Brand, W, F, D, C>(
+        rt, alloc, opened, forwarder, rng, front, clock, turns, workers,
+    )?;
+    Ok(Came { answered, workers })
 }
 
-/// Listens, and makes the turns of all. How many answers they put out.
+/// Listens, and makes the turns of all.
 fn serve_conf<
     R: Threads + Wait + Sync,
     F: Front,
@@ -74,35 +82,26 @@ fn serve_conf<
     front: &mut F,
     clock: &mut C,
     rng: W,
-    workers: &mut [Worker<D, C>],
-) -> Result<u64, Ending>
-    requires count { length workers.old + 1 < 2 ^ 32 }
-    ensures served { IfOk result (λ answered. around F.deeds D.deeds (front.old, workers.old) (front.new, workers.new) (IsServed options.now asked conf.now answered (W.stream rng))) }
+    workers: Vec<Worker<D, C>>,
+) -> Result<Came<D, C>, Ending>
+    requires count { length workers.items + 1 < 2 ^ 32 }
+    ensures served { IfOk result (λ r. around F.deeds D.deeds (front.old, workers.items) (front.new, r.workers.items) (IsServed options.now asked conf.now r.answered (W.stream rng))) }
     ensures ends { IfErr result IsServeEnd }
     ensures deaf { IfErr result (λ e. status_of e ≡ 5 → IsDeaf options.now.listened asked.port conf.now (F.faults front.old) (F.faults front.new)) }
     ensures line { IfErr result (λ e. status_of e ≡ 7 → line_of e ≡ numbers_line) }
 {
     let forwarder = begin(alloc, options, seed, asked.port, conf, front)?;
-    match turn_all(
-        rt,
-        alloc,
-        forwarder,
-        front,
-        clock,
-        rng,
-       
-        workers,
-        asked.turns,
-    ) {
-        Ok(answered) => {
+    let turns = asked.turns;
+    match turn_all(rt, alloc, forwarder, front, clock, rng, turns, workers) {
+        Ok(came) => {
             every_forwarded_trace_is_right();
-            Ok(answered)
+            Ok(came)
         }
         Err(error) => Err(stopped_by(alloc, error)),
     }
 }
 
-/// The line that is written at the end.
+/// The line that is written at the end, and the workers.
 fn serve_source<
     R: Threads + Wait + Sync,
     S: Source,
@@ -120,10 +119,10 @@ fn serve_source<
     front: &mut F,
     clock: &mut C,
     mut rng: W,
-    workers: &mut [Worker<D, C>],
-) -> Result<Vec<u8>, Ending>
-    requires count { length workers.old + 1 < 2 ^ 32 }
-    ensures done { IfOk result (λ line. around F.deeds D.deeds (front.old, workers.old) (front.new, workers.new) (IsAnsweredIf options.now asked (S.left source.old) (W.stream rng) line.items)) }
+    workers: Vec<Worker<D, C>>,
+) -> Result<(Vec<u8>, Vec<Worker<D, C>>), Ending>
+    requires count { length workers.items + 1 < 2 ^ 32 }
+    ensures done { IfOk result (λ r. around F.deeds D.deeds (front.old, workers.items) (front.new, r.1.items) (IsAnsweredIf options.now asked (S.left source.old) (W.stream rng) r.0.items)) }
     ensures source_fault { IfErr result (λ e. status_of e ≡ 3 → Rose (S.faults source.old) (S.faults source.new)) }
     ensures refused { IfErr result (λ e. status_of e ≡ 1 → IfSome (S.left source.old) (λ text. IsConfRefused text (line_of e))) }
     ensures deaf { IfErr result (λ e. status_of e ≡ 5 → IsNotListenedIf options.now asked.port (S.left source.old) (W.stream rng) (F.faults front.old) (F.faults front.new)) }
@@ -134,20 +133,21 @@ fn serve_source<
         Ok(conf) => conf,
         Err(ending) => return Err(ending),
     };
-    let answered = match serve_conf(
+    let came = match serve_conf(
         rt, alloc, options, seed, asked, &conf, front, clock, rng, workers,
     ) {
-        Ok(answered) => answered,
+        Ok(came) => came,
         Err(ending) => return Err(ending),
     };
-    let line = answered_line(alloc, answered)?;
-    Ok(line)
+    let line = answered_line(alloc, came.answered)?;
+    Ok((line, came.workers))
 }
 
 /// Answers DNS clients as the options and the words behind them say, as `forward_run`'s `serve_as` does, but by several threads that
 /// share one forwarder: TURNS turns are the first thread's, which has the front, and each worker makes as many at most at its door.
 ///
-/// The statuses are those of `serve_as`. Where memory or numbers run out for one thread, all end by that status.
+/// The statuses are those of `serve_as`. Where memory or numbers run out for one thread, all end by that status. The workers are given
+/// back at the statuses 0 and 4.
 pub fn serve_by_all<
     R: Threads + Wait + Sync,
     S: Source,
@@ -167,29 +167,29 @@ pub fn serve_by_all<
     front: &mut F,
     clock: &mut C,
     rng: W,
-    workers: &mut [Worker<D, C>],
-) -> Status
-    requires count { length workers.old + 1 < 2 ^ 32 }
-    ensures usage { result.0 ≡ 2 → asked_by words.now ≡ None }
-    ensures no_command { asked_by words.now ≡ None → result.0 ≡ 2 }
-    ensures done { result.0 ≡ 0 → around F.deeds D.deeds (front.old, workers.old) (front.new, workers.new) (IsDoneBy K.held options.now words.now (S.left source.old) (W.stream rng) sink.old sink.new) }
-    ensures flushed { result.0 ≡ 0 → IsFlushed (K.held sink.new) (K.flushed sink.new) }
-    ensures refused { result.0 ≡ 1 → IfAsked words.now (S.left source.old) (λ asked text. RefusalIsSaid text (K.held sink.old) (K.held sink.new) (K.faults sink.old) (K.faults sink.new)) }
-    ensures source_fault { result.0 ≡ 3 → Rose (S.faults source.old) (S.faults source.new) }
-    ensures cut { result.0 ≡ 4 → around F.deeds D.deeds (front.old, workers.old) (front.new, workers.new) (IsCutBy K.held options.now words.now (S.left source.old) (W.stream rng) sink.old sink.new) }
-    ensures sink_fault { result.0 ≡ 4 → Rose (K.faults sink.old) (K.faults sink.new) }
-    ensures deaf { result.0 ≡ 5 → IsNotListenedBy options.now words.now (S.left source.old) (W.stream rng) (F.faults front.old) (F.faults front.new) }
-    ensures silent { IsSilent result.0 → K.held sink.new ≡ K.held sink.old }
-    ensures numbers { result.0 ≡ 7 → IsSaid numbers_line (K.held sink.old) (K.held sink.new) (K.faults sink.old) (K.faults sink.new) }
-    ensures status { result.0 < 8 }
+    workers: Vec<Worker<D, C>>,
+) -> (Status, Vec<Worker<D, C>>)
+    requires count { length workers.items + 1 < 2 ^ 32 }
+    ensures usage { result.0.0 ≡ 2 → asked_by words.now ≡ None }
+    ensures no_command { asked_by words.now ≡ None → result.0.0 ≡ 2 }
+    ensures done { result.0.0 ≡ 0 → around F.deeds D.deeds (front.old, workers.items) (front.new, result.1.items) (IsDoneBy K.held options.now words.now (S.left source.old) (W.stream rng) sink.old sink.new) }
+    ensures flushed { result.0.0 ≡ 0 → IsFlushed (K.held sink.new) (K.flushed sink.new) }
+    ensures refused { result.0.0 ≡ 1 → IfAsked words.now (S.left source.old) (λ asked text. RefusalIsSaid text (K.held sink.old) (K.held sink.new) (K.faults sink.old) (K.faults sink.new)) }
+    ensures source_fault { result.0.0 ≡ 3 → Rose (S.faults source.old) (S.faults source.new) }
+    ensures cut { result.0.0 ≡ 4 → around F.deeds D.deeds (front.old, workers.items) (front.new, result.1.items) (IsCutBy K.held options.now words.now (S.left source.old) (W.stream rng) sink.old sink.new) }
+    ensures sink_fault { result.0.0 ≡ 4 → Rose (K.faults sink.old) (K.faults sink.new) }
+    ensures deaf { result.0.0 ≡ 5 → IsNotListenedBy options.now words.now (S.left source.old) (W.stream rng) (F.faults front.old) (F.faults front.new) }
+    ensures silent { IsSilent result.0.0 → K.held sink.new ≡ K.held sink.old }
+    ensures numbers { result.0.0 ≡ 7 → IsSaid numbers_line (K.held sink.old) (K.held sink.new) (K.faults sink.old) (K.faults sink.new) }
+    ensures status { result.0.0 < 8 }
 {
     let Some(asked) = asked_by(words) else {
-        return USAGE;
+        return (USAGE, workers);
     };
     match serve_source(
         rt, alloc, options, seed, asked, source, front, clock, rng, workers,
     ) {
-        Ok(line) => deliver(sink, &line),
-        Err(ending) => end_without(sink, ending),
+        Ok((line, workers)) => (deliver(sink, &line), workers),
+        Err(ending) => (end_without(sink, ending), Vec::new(alloc)),
     }
 }

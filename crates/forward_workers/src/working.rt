@@ -64,13 +64,8 @@ fn put_out<D: Door>(receipt: &Receipt, door: &mut D) -> Result<(), NoMemory>
 
 /// One turn of a worker: what its door gives is an event of the forwarder at its clock's moment, and of that event's row it sends what is
 /// answered by datagrams. A row by which something begins to wait for the first thread wakes it. A worker goes on until the history ends.
-fn work<
-    R: Wait,
-    L: ForwarderKey,
-    W: Words + Drop,
-    D: Door + Drop,
-    C: Clock + Drop,
->(
+#[tactic(auto, using(crate::proofs::Workings::makes_row, crate::proofs::Workings::goes_nowhere, crate::proofs::Workings::finds_end))]
+fn work<R: Wait, L: ForwarderKey, W: Words + Drop, D: Door + Drop, C: Clock + Drop>(
     rt: &R,
     shared: &SharedForwarder<L, W>,
     pass: &mut Pass<L>,
@@ -105,13 +100,8 @@ fn work<
 }
 
 /// So many turns of a worker, or those up to the end of the history. How many answers it sent.
-fn work_on<
-    R: Wait,
-    L: ForwarderKey,
-    W: Words + Drop,
-    D: Door + Drop,
-    C: Clock + Drop,
->(
+#[tactic(auto, using(crate::proofs::Workings::begins_to_work, crate::proofs::Workings::goes_on, crate::proofs::Workings::works_on))]
+fn work_on<R: Wait, L: ForwarderKey, W: Words + Drop, D: Door + Drop, C: Clock + Drop>(
     rt: &R,
     shared: &SharedForwarder<L, W>,
     pass: &mut Pass<L>,

@@ -1,5 +1,5 @@
 -- What lies under the lock, one call more.
-use Rattle.std.proofs.Common.{◌≡◌, ℕ, ◌+◌, ◌<◌, ◌≤◌, ◌^◌, List, [], ◌∷◌, ◌++◌, map, length, Option, Some, None, false, true≢false, refl, sym, ap, subst, ◌∙◌, arith, length-append}
+use Rattle.std.proofs.Common.{◌≡◌, ℕ, ◌+◌, ◌<◌, ◌≤◌, ◌^◌, List, [], ◌∷◌, ◌++◌, map, length, Option, Some, None, false, true, true≢false, refl, sym, ap, subst, ◌∙◌, arith, length-append}
 use Rattle.std.specs.Prelude.{is_some}
 use Rattle.atomic_table.specs.Seated.{TableId}
 use Rattle.atomic_table.specs.declared.shared.Seat.{Seat}
@@ -82,14 +82,14 @@ module _ (table : TableId) (o : Opening) (s : Forwarding Whole) (f : ℕ → ℕ
   }
 
 -- where nothing came yet
-pub nothing_yet : (table : TableId) (o : Opening) (s : Forwarding Whole) (f : ℕ → ℕ) (seat : Seat (Unit {0}) (View Item)) → IsKeeping table [] seat → s ≡ o.first → f ≡ o.words → o.first.failed ≡ false
-    → IsCounting table o s f [] 0 seat
-nothing_yet table o s f seat k first words lives = record {
+pub nothing_yet : (table : TableId) (o : Opening) (s : Forwarding Whole) (f : ℕ → ℕ) (waiting : List FrontOut) (seat : Seat (Unit {0}) (View Item)) → IsKeeping table [] seat → s ≡ o.first → f ≡ o.words → o.first.failed ≡ false → waiting ≡ []
+    → IsCounting table o s f waiting 0 seat
+nothing_yet table o s f waiting seat k first words lives none = record {
   entries = [];
   trace = [];
   made = subst (λ (z : Forwarding Whole × (ℕ → ℕ)). AreMade o [] [] z.0 z.1) (λ i. (sym first i, sym words i)) (none_made o);
   lives = ap (λ (z : Forwarding Whole). z.failed) first ∙ lives;
-  waits = refl;
+  waits = none;
   count_is = refl;
   room = omega arith;
   keeping = k;

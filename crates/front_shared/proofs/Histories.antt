@@ -94,15 +94,15 @@ sees_none old new number same = ap (λ (n : ℕ). rows_in (own caller_of n new.s
 
 -- what a call leaves that finds the end of a history
 pub behind : (old new : Passed) → new.number ≡ old.number → IsPrefix old.seen new.seen → EndsEnded new.seen → own caller_of old.number new.seen ≡ own caller_of old.number old.seen → IsBehind old new
-behind old new number begins ends same = record { number = number; begins = begins; ends = ends; calls_are = sees_none old new number same }
+behind old new number from ends same = record { number = number; begins = from; ends = ends; calls_are = sees_none old new number same }
 
 pub filled : (old new : Passed) → new.number ≡ old.number → IsPrefix old.seen new.seen → 2 ^ 64 ≤ length new.seen + 2 → own caller_of old.number new.seen ≡ own caller_of old.number old.seen → IsFull old new
-filled old new number begins many same = record { number = number; begins = begins; many = many; calls_are = sees_none old new number same }
+filled old new number from many same = record { number = number; begins = from; many = many; calls_are = sees_none old new number same }
 
 pub settles : (items : List Item) (old new : Passed) → new.number ≡ old.number → IsPrefix old.seen items → new.seen ≡ items → own caller_of old.number items ≡ own caller_of old.number old.seen → IsSettled items old new
-settles items old new number begins seen same = record {
+settles items old new number from seen same = record {
   number = number;
-  begins = begins;
+  begins = from;
   seen = seen;
   calls_are = sees_none old new number (ap (own caller_of old.number) seen ∙ same);
 }

@@ -43,12 +43,7 @@ impl<L: ForwarderKey, W: Words + Drop> Model for Desk<L, W> {
 }
 
 impl<L: ForwarderKey, W: Words + Drop> Desk<L, W> {
-    pub(crate) fn new(
-        alloc: Global,
-        forwarder: Forwarder,
-        words: W,
-        seat: Seat<Item>,
-    ) -> Desk<L, W>
+    pub(crate) fn new(alloc: Global, forwarder: Forwarder, words: W, seat: Seat<Item>) -> Desk<L, W>
         requires seat { (seat.table_id ≡ L.table) × (seat.me.1 ≡ []) × (seat.me.0.keeps ≡ true) × (seat.me.0.seen ≡ []) }
         requires forwarder { forwarder ≡ L.opening.first }
         requires lives { L.opening.first.failed ≡ false }

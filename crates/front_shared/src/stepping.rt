@@ -86,11 +86,7 @@ fn tell<L: ForwarderKey>(
 }
 
 /// The end by a caller is put at the end of the history.
-pub(crate) fn end<L: ForwarderKey>(
-    joint: &Joint<Item>,
-    keeper: &mut Seat<Item>,
-    pass: &mut Pass<L>,
-)
+pub(crate) fn end<L: ForwarderKey>(joint: &Joint<Item>, keeper: &mut Seat<Item>, pass: &mut Pass<L>)
     requires table { word_of joint.now ≡ L.table }
     requires keeper { IsKeeping L.table keeper.old.me.0.seen keeper.old }
     requires room { length keeper.old.me.0.seen + 1 < 2 ^ 64 }

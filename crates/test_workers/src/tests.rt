@@ -10,8 +10,8 @@ use forward_words::options_of;
 use forward_workers::{ListDoor, Worker, serve_by_all};
 use front_peers::{FrontOut, FrontWhat};
 use std::alloc::{AllocError, Global};
-use std::sync::atomic::AtomicU64;
 use std::sync::Wait;
+use std::sync::atomic::AtomicU64;
 use std::thread::Threads;
 
 /// A query of another opcode, which is refused.
@@ -78,7 +78,7 @@ fn run<R: Threads + Wait + Sync>(rt: &R, alloc: Global) -> Option<(u8, bool, usi
     let mut workers = Vec::new(alloc);
     workers.push(worker(alloc, 7, &sent)?).ok()?;
     workers.push(worker(alloc, 9, &sent)?).ok()?;
-    let status = serve_by_all(
+    let (status, _) = serve_by_all(
         rt,
         alloc,
         &options,
@@ -89,10 +89,14 @@ fn run<R: Threads + Wait + Sync>(rt: &R, alloc: Global) -> Option<(u8, bool, usi
         &mut front,
         &mut ListClock::new(Vec::new(alloc)),
         ListWords::new(WordList::new(alloc)),
-        workers.as_mut_slice(),
+        workers,
     );
     let opened = front.deeds().iter().filter(|deed| opens(deed)).count();
-    Some((status.0, sink.as_slice() == b"answered 2\n", opened))
+    Some((
+        status.0,
+        sink.as_slice() == b"answered 2\n".as_slice(),
+        opened,
+    ))
 }
 
 /// Each worker's query that is refused is answered; both ask the same, so one socket is opened, by the first thread.

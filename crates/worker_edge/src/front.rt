@@ -25,11 +25,7 @@ pub struct SharedFront<'a, T: Wait, R: Net<Listener = TcpListener, Stream = TcpS
     post: Post<'a, T>,
 }
 
-impl<
-    'a,
-    T: Wait,
-    R: Net<Listener = TcpListener, Stream = TcpStream> + Copy,
-> SharedFront<'a, T, R> {
+impl<'a, T: Wait, R: Net<Listener = TcpListener, Stream = TcpStream> + Copy> SharedFront<'a, T, R> {
     /// A front over the system's sockets, which will listen at these addresses.
     pub fn new(
         rt: R,

@@ -6,11 +6,10 @@ use client_edge::{fault_of, system_address};
 use client_request::Fault;
 use dns_values::SocketAddr;
 use front_edge::{OpenListeners, SystemListeners, SystemStreams};
-use std::io;
-use std::net;
 use std::net::{Ipv4Addr, Net, SocketAddrV4, TcpListener, TcpStream, UdpSocket};
 use std::sync::Wait;
 use std::time::Duration;
+use std::{io, net};
 
 /// The longest time for which a worker sleeps at a socket, in seconds.
 const MOST_SLEEP: u64 = 1;
@@ -18,21 +17,17 @@ const MOST_SLEEP: u64 = 1;
 /// Opens listeners of the system: for datagrams one that workers share, in place of which whoever waits at the front has one that wakes
 /// it.
 #[derive(Drop)]
-pub struct SharedListeners<
-    'a,
-    T: Wait,
-    R: Net<Listener = TcpListener, Stream = TcpStream> + Copy,
-> {
+pub struct SharedListeners<'a, T: Wait, R: Net<Listener = TcpListener, Stream = TcpStream> + Copy> {
     rt: R,
     common: &'a Common<'a, T>,
     streams: SystemListeners<R>,
 }
 
-impl<
+impl<'a, T: Wait, R: Net<Listener = TcpListener, Stream = TcpStream> + Copy> SharedListeners<
     'a,
-    T: Wait,
-    R: Net<Listener = TcpListener, Stream = TcpStream> + Copy,
-> SharedListeners<'a, T, R> {
+    T,
+    R,
+> {
     /// Over the system's network.
     pub(crate) fn new(rt: R, common: &'a Common<'a, T>) -> SharedListeners<'a, T, R> {
         SharedListeners {
@@ -67,11 +62,10 @@ impl<
     }
 }
 
-impl<
-    'a,
-    T: Wait,
-    R: Net<Listener = TcpListener, Stream = TcpStream> + Copy,
-> OpenListeners<WakeDgrams, SystemStreams> for SharedListeners<'a, T, R> {
+impl<'a, T: Wait, R: Net<Listener = TcpListener, Stream = TcpStream> + Copy> OpenListeners<
+    WakeDgrams,
+    SystemStreams,
+> for SharedListeners<'a, T, R> {
     fn open_dgrams(&mut self, addr: SocketAddr) -> Result<WakeDgrams, Fault> {
         match self.opened(addr) {
             Ok((socket, woken)) => match self.common.put(socket) {

@@ -8,15 +8,15 @@ use Rattle.forward_workers.proofs.serving.serve_by_all.Goals as goal
 pub returns-in-Ok-clause-done : goal.returns-in-Ok-clause-done
 returns-in-Ok-clause-done g c = λ zero.
     done_so c.args.words.now c.in-Some.asked (g.S.Source.left c.args.source.now) c.args.options.now (g.W.Words.stream c.args.rng) c.in-Ok.line.items (g.K.Sink.held c.args.sink.now) (g.K.Sink.held c.deliver.new.sink)
-    (record { front = g.F.Front.deeds c.args.front.now; doors = told_by g.D.Door.deeds c.args.workers.now })
-    (record { front = g.F.Front.deeds c.serve_source.new.front; doors = told_by g.D.Door.deeds c.serve_source.new.workers })
+    (record { front = g.F.Front.deeds c.args.front.now; doors = told_by g.D.Door.deeds c.args.workers.items })
+    (record { front = g.F.Front.deeds c.serve_source.new.front; doors = told_by g.D.Door.deeds c.in-Ok.workers.items })
     (sym c.in-Some.ensures) c.in-Ok.ensures.done ((rw c.deref.ensures.value at c.deliver.ensures.done) zero)
 
 pub returns-in-Ok-clause-cut : goal.returns-in-Ok-clause-cut
 returns-in-Ok-clause-cut g c = λ four.
     cut_so c.args.words.now c.in-Some.asked (g.S.Source.left c.args.source.now) c.args.options.now (g.W.Words.stream c.args.rng) c.in-Ok.line.items (g.K.Sink.held c.args.sink.now) (g.K.Sink.held c.deliver.new.sink)
-    (record { front = g.F.Front.deeds c.args.front.now; doors = told_by g.D.Door.deeds c.args.workers.now })
-    (record { front = g.F.Front.deeds c.serve_source.new.front; doors = told_by g.D.Door.deeds c.serve_source.new.workers })
+    (record { front = g.F.Front.deeds c.args.front.now; doors = told_by g.D.Door.deeds c.args.workers.items })
+    (record { front = g.F.Front.deeds c.serve_source.new.front; doors = told_by g.D.Door.deeds c.in-Ok.workers.items })
     (sym c.in-Some.ensures) c.in-Ok.ensures.done (rw c.deref.ensures.value at c.deliver.ensures.begun)
 
 pub end_without-requires : goal.end_without-requires

@@ -26,7 +26,7 @@ returns-in-Err-serve_conf-clause-ends g c = serve_ends c.in-Err-serve_conf.endin
 
 pub returns-clause-done : goal.returns-clause-done
 returns-clause-done g c =
-    answered_so (g.S.Source.left c.args.source.now) c.args.options.now c.args.asked c.in-Ok.conf (g.W.Words.stream c.args.rng) (g.W.Words.stream c.conf_asked.new.rng) c.in-Ok-serve_conf.answered c.in_ok-line.line.items
-    (record { front = g.F.Front.deeds c.args.front.now; doors = told_by g.D.Door.deeds c.args.workers.now })
-    (record { front = g.F.Front.deeds c.serve_conf.new.front; doors = told_by g.D.Door.deeds c.serve_conf.new.workers })
+    answered_so (g.S.Source.left c.args.source.now) c.args.options.now c.args.asked c.in-Ok.conf (g.W.Words.stream c.args.rng) (g.W.Words.stream c.conf_asked.new.rng) c.in-Ok-serve_conf.came.answered c.in_ok-line.line.items
+    (record { front = g.F.Front.deeds c.args.front.now; doors = told_by g.D.Door.deeds c.args.workers.items })
+    (record { front = g.F.Front.deeds c.serve_conf.new.front; doors = told_by g.D.Door.deeds c.in-Ok-serve_conf.came.workers.items })
     c.in-Ok.ensures.asked c.in-Ok-serve_conf.ensures.served c.in_ok-line.ensures

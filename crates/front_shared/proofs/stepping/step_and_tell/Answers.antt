@@ -54,9 +54,10 @@ returns-in-Ok-clause-ok g c =
     (ap (λ (r : Receipt). r.wakes) said ∙ (made.wakes ∙ ap (λ (w : List FrontOut). begins_to_wait waiting w) (made.waits ∙ (λ i. after_row (number i) (row i).outs waiting))))
 
 pub returns-in-Err-clause-refused : goal.returns-in-Err-clause-refused
-returns-in-Err-clause-refused g c =
-    (c.in-Err.ensures.refused,
-    ends_by g.L.ForwarderKey.table g.L.ForwarderKey.opening c.args.forwarder.now (g.W.Words.stream c.args.words.now) c.args.waiting.now c.args.count c.args.keeper.now c.requires.counting c.args.pass.now c.end.new.pass c.end.ensures.pass)
+returns-in-Err-clause-refused g c = (
+  c.in-Err.ensures.refused,
+  ends_by g.L.ForwarderKey.table g.L.ForwarderKey.opening c.args.forwarder.now (g.W.Words.stream c.args.words.now) c.args.waiting.now c.args.count c.args.keeper.now c.requires.counting c.args.pass.now c.end.new.pass c.end.ensures.pass,
+)
 
 pub returns-in-Err-clause-ended : goal.returns-in-Err-clause-ended
 returns-in-Err-clause-ended g c =
