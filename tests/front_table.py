@@ -149,9 +149,64 @@ def answered():
     replied(wide + opt(size=4096), long, asks(rtype=16), *both(head(0x8380, 1, 0, 0, 1) + asked + opt(), head(0x8180, 1, 1, 0, 1) + asked + LONG_TEXT + opt()))
 
 
+def alike():
+    """Replies whose records all belong to the question's name, which are answered as they stand, and replies that are nearly so."""
+    six = record(28, bytes(range(16)))
+    sent = question() + A + record(1, b"\1\2\3\4", ttl=0) + record(16, b"\0") + six
+    extended = head(0x0100, 1, 0, 0, 1) + question() + opt(flags=0x8000)
+    for flags in (0x8180, 0x85B0, 0x8183):
+        reply = head(flags, 1, 2, 1, 2, 0x1234) + sent + opt(version=3, flags=0x1234, size=512)
+        replied(plain(), reply, asks(), *both(head(flags, 1, 2, 1, 1) + sent))
+        replied(extended, reply, asks(dnssec=True), *both(head(flags, 1, 2, 1, 2) + sent + opt(flags=0x8000)))
+    # without an OPT record, with octets behind the last record, and without records
+    reply = head(0x8180, 1, 2, 1, 1, 0x1234) + sent
+    for more in (b"", b"junk"):
+        replied(plain(), reply + more, asks(), *both(head(0x8180, 1, 2, 1, 1) + sent))
+        replied(extended, reply + more, asks(dnssec=True), *both(head(0x8180, 1, 2, 1, 2) + sent + opt(flags=0x8000)))
+    replied(extended, head(0x8180, 1, number=0x1234) + question() + b"junk", asks(dnssec=True), *both(head(0x8180, 1, 0, 0, 1) + question() + opt(flags=0x8000)))
+    # an OPT record that is not the last, that belongs to the question's name, or that stands in another section
+    early = head(0x8180, 1, 1, 0, 2, 0x1234) + question() + A + opt() + six
+    replied(extended, early, asks(dnssec=True), *both(head(0x8180, 1, 1, 0, 2) + question() + A + six + opt(flags=0x8000)))
+    named = head(0x8180, 1, 1, 0, 1, 0x1234) + question() + A + opt(owner=b"\xc0\x0c")
+    replied(plain(), named, asks(), *both(head(0x8180, 1, 1) + question() + A))
+    answer = head(0x8180, 1, 2, number=0x1234) + question() + A + opt(owner=b"\xc0\x0c")
+    replied(plain(), answer, asks(), *both(head(0x8180, 1, 2) + question() + A + opt(owner=b"\xc0\x0c")))
+    twice = head(0x8180, 1, 1, 0, 2, 0x1234) + question() + A + opt() + opt(options=COOKIE)
+    replied(plain(), twice, asks(), *both(head(0x8180, 1, 1) + question() + A))
+    # owners that are written anew: spelled out, of other case, a suffix of the question's name, and another name
+    spelled = head(0x8180, 1, 1, number=0x1234) + question() + record(1, b"\xc0\0\2\1", name("H20.example.COM"))
+    replied(plain(), spelled, asks(), *both(head(0x8180, 1, 1) + question() + A))
+    above = record(1, b"\xc0\0\2\1", b"\xc0\x10")
+    replied(plain(), head(0x8180, 1, 1, number=0x1234) + question() + above, asks(), *both(head(0x8180, 1, 1) + question() + above))
+    twice = record(1, b"\xc0\0\2\1", b"\3www\xc0\x0c") + record(1, b"\xc0\0\2\2", b"\3www\xc0\x0c")
+    replied(plain(), head(0x8180, 1, 2, number=0x1234) + question() + twice, asks(), *both(head(0x8180, 1, 2) + question() + record(1, b"\xc0\0\2\1", b"\3www\xc0\x0c") + record(1, b"\xc0\0\2\2", b"\xc0\x21")))
+    # data with names in it, which are written anew
+    alias = head(0x8180, 1, 1, number=0x1234) + question() + record(5, name("www.example.com"))
+    replied(plain(), alias, asks(), *both(head(0x8180, 1, 1) + question() + record(5, b"\3www\xc0\x10")))
+    target = struct.pack(">HHH", 0, 5, 5060) + b"\xc0\x10"
+    service = head(0x8180, 1, 1, number=0x1234) + question(rtype=33) + record(33, target)
+    replied(head(0x0100, 1) + question(rtype=33), service, asks(rtype=33), *both(head(0x8180, 1, 1) + question(rtype=33) + record(33, target[:6] + name("example.com"))))
+    # data of an address that has another length is copied all the same, and the root has no place to point to
+    short = record(1, b"\1\2\3") + record(28, b"") + record(16, b"\5x")
+    replied(plain(), head(0x8180, 1, 3, number=0x1234) + question() + short, asks(), *both(head(0x8180, 1, 3) + question() + short))
+    root = question("") + record(16, b"\1x")
+    replied(head(0x0100, 1) + question(""), head(0x8180, 1, 1, number=0x1234) + root, asks(text=""), *both(head(0x8180, 1, 1) + question("") + record(16, b"\1x", b"\0")))
+    # what ends before its records do
+    whole = head(0x8180, 1, 2, 1, 2, 0x1234) + sent + opt()
+    for cut in (1, 11, 12, 20, len(whole) - 40):
+        replied(plain(), whole[:-cut], asks(), *both(head(0x8102, 1) + question()))
+    # 1232 octets, as many as a datagram may have, and one more
+    for count in (1176, 1177):
+        raw = question() + record(65280, bytes(count))
+        whole = head(0x8180, 1, 1, 0, 1) + raw + opt()
+        datagram = whole if count == 1176 else head(0x8380, 1, 0, 0, 1) + question() + opt()
+        replied(head(0x0100, 1, 0, 0, 1) + question() + opt(size=4096), head(0x8180, 1, 1, number=0x1234) + raw, asks(), *both(datagram, whole))
+
+
 def main():
     odd()
     answered()
+    alike()
     files = {"stdin": lines, "stdout": answers}
     bad = 0
     for file, rows in files.items():

@@ -10,7 +10,7 @@ streams: a query octet by octet; two in one write; 3,800 at once, each answered 
 others serve; a peer that asks for 60 megabytes and reads nothing, which is closed while the others are served, and memory stays below 100
 megabytes.
 waiting: 10,000 queries by 100 streams for one name whose answer of 60,000 octets comes three seconds later. 251 have it, the others SERVFAIL;
-they take less than 100 megabytes of memory.
+memory stays at 40 megabytes at most.
 silence: 100,000 datagrams that get no answer from 1,000 ports, and a query behind them that does.
 flood: 14,000 queries a second for 20 seconds to which the server is silent. Memory stays at 40 megabytes at most, names that were
 answered before are answered meanwhile, and afterwards descriptors and new names are as before.
@@ -217,7 +217,7 @@ def press_by_waiting(port, process):
         s.close()
     most = memory(process)[1]
     expect([whole, away] == [251, 9_749], "%d that wait have the answer, and %d SERVFAIL" % (whole, away))
-    expect(most - before < 100_000, "%d KiB of memory where 10,000 ask for one answer, %d before them" % (most, before))
+    expect(most <= 40_000, "%d KiB of memory where 10,000 ask for one answer, %d before them" % (most, before))
     print("waiting: of 10,000 queries by streams %d have the answer, and %d SERVFAIL; at most %d KiB of memory, before them %d" % (whole, away, most, before))
 
 

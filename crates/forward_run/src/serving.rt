@@ -127,7 +127,7 @@ fn forwarder_of(
 }
 
 /// Listens, tells the front the servers of a configuration, and makes a forwarder that asks them.
-fn begin<F: Front>(
+pub fn begin<F: Front>(
     alloc: Global,
     options: &Options,
     seed: u64,

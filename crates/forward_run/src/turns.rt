@@ -69,7 +69,7 @@ pub fn turn<F: Front, C: Clock, W: Words>(
 }
 
 /// Whether an out is an answer.
-fn is_answer(out: &FrontOut) -> bool
+pub fn is_answer(out: &FrontOut) -> bool
     ensures { result ≡ is_answer out.now }
 {
     match out {

@@ -1,16 +1,19 @@
 -- What a message with the name spelled out asks.
 use Rattle.std.proofs.Common.{◌≡◌, ℕ, ◌+◌, List, [], ◌∷◌, ◌++◌, refl, ap, sym, ◌∙◌, arith, append-nil, Bool, true, false, ◌==◌, ◌||◌, ◌&&◌}
-use Rattle.std.specs.Prelude.{Option, Some, None}
+use Rattle.std.specs.Prelude.{Option, Some, None, IsSome, option_and_then}
 use Rattle.std.specs.Option.{option_map_or}
 use Rattle.std.specs.Int.{w16, to_be_bytes}
 use Rattle.dns_names.specs.Name.{spelling, octet_count}
 use Rattle.dns_names.proofs.NameLaws.{spelled_length}
 use Rattle.dns_base.specs.Holding.{IsAskable}
-use Rattle.dns_base.specs.Message.{Asked, question_at, first_question}
+use Rattle.dns_base.specs.Message.{Asked, Known, additional_items, answer_of, authority_of, first_question, items_at, items_behind, list_at, question_at, questions_of}
+use Rattle.dns_base.specs.Numbers.{u16_at}
+use Rattle.dns_base.specs.OptRecord.{first_opt, opt_of}
 use Rattle.dns_base.proofs.EntriesBack.{question_found}
 use Rattle.dns_base.proofs.Stands.{Stands, first_stands, second_stands, stands_within, number_stands, name_stands}
 use Rattle.client_request.specs.Request.{is_misformed}
 use Rattle.front_queries.specs.Query.{Query, is_of_zone}
+use Rattle.front_queries.specs.Refusals.{is_question_alone}
 use Rattle.front_queries.specs.Requests.{request_of}
 use Rattle.front_queries.specs.Spelled.{counts_octets, spelled}
 
@@ -53,3 +56,21 @@ well_formed a b c d q h zone =
 -- A query that is taken may be asked.
 pub may_be_asked : (q : Query) → IsAskable q.asked → is_of_zone q.asked.rtype ≡ false → is_misformed (request_of q).base ≡ false
 may_be_asked q h zone = well_formed _ _ _ _ q.asked h zone
+
+-- A query that counts no record in its additional section has no OPT record.
+pub none_counted : (m : List ℕ) → u16_at m 10 ≡ 0 → opt_of m ≡ None
+unfolding opt_of additional_items items_at
+none_counted m none = go (authority_of m)
+  where
+    go : (before : Option (List Known × ℕ)) → option_and_then first_opt (items_behind m (u16_at m 10) before) ≡ None
+    go None = refl
+    go (Some x) = rw none refl
+
+-- Where the first question is read, nothing but that stands in a query that counts one question and no record.
+pub alone : (m : List ℕ) → IsSome (first_question m) → u16_at m 4 ≡ 1 → u16_at m 6 ≡ 0 → u16_at m 8 ≡ 0 → u16_at m 10 ≡ 0 → is_question_alone m ≡ true
+unfolding first_question questions_of answer_of authority_of additional_items list_at items_at
+alone m read one answer authority additional = go (question_at m 12) refl
+  where
+    go : (found : Option (Asked × ℕ)) → question_at m 12 ≡ found → is_question_alone m ≡ true
+    go None e = let h = rw (one, e) at read in absurd cc
+    go (Some x) e = rw (one, answer, authority, additional, e) refl

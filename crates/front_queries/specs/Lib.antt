@@ -3,3 +3,4 @@ pub mod Spelled
 pub mod Refusals
 pub mod Requests
 pub mod Answers
+pub mod Simple

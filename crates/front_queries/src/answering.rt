@@ -1,14 +1,16 @@
 //! Answers to queries that are taken.
 
-ghost use Rattle.std.specs.Prelude.{◌≡◌, ◌≤◌, IfOk, length};
+ghost use Rattle.std.specs.Prelude.{◌≡◌, ◌≤◌, ◌<◌, IfOk, Ok, Some, length};
 ghost use Rattle.dns_base.specs.Draft.{counts_in};
 ghost use Rattle.dns_base.specs.Sections.{HasNoRecords};
 ghost use Rattle.client_request.specs.Composed.{IsCopied};
 ghost use Rattle.client_request.specs.Composing.{IsComposed};
 ghost use Rattle.front_queries.specs.Answers as spec;
+ghost use Rattle.front_queries.specs.Simple.{simple_of};
 
 use crate::copying::{add_opt, copy_questions, copy_section};
 use crate::query::Query;
+use crate::simple::{Simple, is_answered, patched, simple_of};
 use crate::spelling::{PAYLOAD_SIZE, bare, own_opt, spelled, spelled_message};
 use client_request::{CopyRecordsError, Error};
 use dns_base::{Builder, Header, Message, NoMemory, Octets, OptRecord, Rcode, Section};
@@ -31,7 +33,7 @@ fn high_bits(message: &Message) -> u8
 }
 
 /// This host's OPT record for the client of a query, where that has one.
-fn opt_for(query: &Query, high: u8) -> Option<OptRecord<'static>>
+pub(crate) fn opt_for(query: &Query, high: u8) -> Option<OptRecord<'static>>
     ensures { result ≡ spec.opt_for query.now high }
 {
     match query.extension {
@@ -96,6 +98,46 @@ fn failed(alloc: Global, query: &Query) -> Result<Message, NoMemory>
     spelled_message(alloc, failing(query.header), query, opt_for(query, 0))
 }
 
+/// What is answered where a reply is simple.
+fn answer_by(
+    alloc: Global,
+    query: &Query,
+    reply: &Message,
+    simple: Simple,
+) -> Result<Message, NoMemory>
+    requires simple { simple_of query.now reply.now ≡ Some simple }
+    requires behind { 12 ≤ simple.end }
+    requires within { simple.end ≤ length reply.now }
+    requires room { simple.additional < 65535 }
+    ensures { IfOk result (λ m. m ≡ spec.answer_of query.now (Ok reply.now)) }
+{
+    is_answered(query, reply);
+    let octets = patched(alloc, query, reply, simple)?;
+    if octets.len() > MOST {
+        return failed(alloc, query);
+    }
+    let octets = Octets::from_vec(octets)?;
+    // A header and four counts are twelve octets.
+    match Message::from_octets(octets) {
+        Ok(message) => Ok(message),
+        Err(_) => Err(NoMemory),
+    }
+}
+
+/// What is answered where a reply is composed anew.
+fn answer_anew(alloc: Global, query: &Query, reply: &Message) -> Result<Message, NoMemory>
+    ensures { IfOk result (λ m. m ≡ spec.answer_of query.now (Ok reply.now)) }
+{
+    if is_untold(query, reply) {
+        return failed(alloc, query);
+    }
+    match composed_for(alloc, query, reply) {
+        Ok(answer) if answer.as_slice().len() <= MOST => Ok(answer),
+        Err(Error::NoMemory) => Err(NoMemory),
+        _ => failed(alloc, query),
+    }
+}
+
 /// The answer to a query whose request had this reply.
 fn answer_of(
     alloc: Global,
@@ -107,13 +149,9 @@ fn answer_of(
     let Ok(reply) = reply else {
         return failed(alloc, query);
     };
-    if is_untold(query, reply) {
-        return failed(alloc, query);
-    }
-    match composed_for(alloc, query, reply) {
-        Ok(answer) if answer.as_slice().len() <= MOST => Ok(answer),
-        Err(Error::NoMemory) => Err(NoMemory),
-        _ => failed(alloc, query),
+    match simple_of(query, reply) {
+        Some(simple) => answer_by(alloc, query, reply, simple),
+        None => answer_anew(alloc, query, reply),
     }
 }
 

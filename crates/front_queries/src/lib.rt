@@ -11,6 +11,7 @@ mod asking;
 mod copying;
 mod query;
 mod refusal;
+mod simple;
 mod sorting;
 mod spelling;
 

@@ -125,10 +125,13 @@ impl Query {
     pub fn key(&self, alloc: Global) -> Result<Vec<u8>, NoMemory>
         ensures { IfOk result (λ key. key.items ≡ spec.key_of self.now) }
     {
-        let mut key = self.qname.as_octets().to_ascii_lowercase(alloc)?;
-        key.extend_from_slice(&self.qtype.0.to_be_bytes())?;
-        key.extend_from_slice(&self.qclass.0.to_be_bytes())?;
-        key.push(self.flags())?;
+        let name = self.qname.as_octets();
+        let [t1, t0] = self.qtype.0.to_be_bytes();
+        let [c1, c0] = self.qclass.0.to_be_bytes();
+        let mut key = Vec::with_capacity(alloc, name.len() + 5)?;
+        key.extend_from_slice(name)?;
+        key.make_ascii_lowercase();
+        key.extend_from_slice(&[t1, t0, c1, c0, self.flags()])?;
         Ok(key)
     }
 

@@ -1,6 +1,7 @@
 //! What becomes of octets that came of a DNS client.
 
-ghost use Rattle.std.specs.Prelude.{◌≡◌, IfOk, false, option_map};
+ghost use Rattle.std.specs.Prelude.{◌≡◌, IfOk, IsSome, false, option_map};
+ghost use Rattle.dns_base.specs.Message.{first_question};
 ghost use Rattle.dns_base.specs.OptRecord.{opt_of};
 ghost use Rattle.front_queries.specs.Refusals as spec;
 ghost use Rattle.front_queries.specs.Query.{is_of_zone};
@@ -9,7 +10,9 @@ ghost use Rattle.front_queries.specs.declared.sorting.Sorted.TheVariants as beco
 use crate::query::{Extension, Query};
 use crate::refusal::Refusal;
 use crate::spelling::{bare, extended, own_opt};
-use dns_base::{Header, Message, NoMemory, Octets, Opcode, Question, RecordSection, Rtype, ToName};
+use dns_base::{
+    Header, Message, NoMemory, Octets, Opcode, OptRecord, Question, RecordSection, Rtype, ToName,
+};
 use std::alloc::Global;
 
 /// What becomes of octets that came.
@@ -53,13 +56,18 @@ fn is_opt_at_most(mut records: RecordSection<'_>) -> bool
     }
 }
 
-/// Whether a query has one question, and no record but one OPT record at most.
+/// Whether a query whose first question is read has no other, and no record but one OPT record at most.
+#[tactic(auto, using(crate::proofs::Asked::alone))]
 fn is_question_alone(query: &Message) -> bool
+    requires { IsSome (first_question query.now) }
     ensures { result ≡ spec.is_question_alone query.now }
 {
     let counts = query.header_counts();
     if counts.qdcount() != 1 || counts.ancount() != 0 || counts.nscount() != 0 {
         return false;
+    }
+    if counts.arcount() == 0 {
+        return true;
     }
     match query.additional() {
         Ok(records) => is_opt_at_most(records),
@@ -67,11 +75,22 @@ fn is_question_alone(query: &Message) -> bool
     }
 }
 
+/// The OPT record of a query, if it has one. Where no record is counted none is looked for.
+#[tactic(auto, using(crate::proofs::Asked::none_counted))]
+fn opt_of(query: &Message) -> Option<OptRecord<'_>>
+    ensures { result ≡ opt_of query.now }
+{
+    if query.header_counts().arcount() == 0 {
+        return None;
+    }
+    query.opt()
+}
+
 /// Whether the OPT record of a query is of a version above 0.
 fn is_of_later_version(query: &Message) -> bool
     ensures { result ≡ spec.is_of_later_version query.now }
 {
-    match query.opt() {
+    match opt_of(query) {
         Some(opt) => 0 < opt.version(),
         None => false,
     }
@@ -81,7 +100,7 @@ fn is_of_later_version(query: &Message) -> bool
 fn asks_dnssec(query: &Message) -> bool
     ensures { result ≡ spec.asks_dnssec query.now }
 {
-    match query.opt() {
+    match opt_of(query) {
         Some(opt) => opt.dnssec_ok(),
         None => false,
     }
@@ -89,6 +108,7 @@ fn asks_dnssec(query: &Message) -> bool
 
 /// Why a query that asks for this type is refused, if it is: the first of its causes.
 fn refusal_asking(query: &Message, question: &Question<'_>) -> Option<Refusal>
+    requires { IsSome (first_question query.now) }
     ensures { result ≡ spec.refusal_asking query.now question.now }
 {
     if query.header().opcode() != Opcode::QUERY {
@@ -146,7 +166,7 @@ fn refuse(alloc: Global, query: &Message, refusal: Refusal) -> Result<Sorted, No
 fn extension_of(query: &Message) -> Option<Extension>
     ensures { result ≡ option_map spec.extension_of (opt_of query.now) }
 {
-    match query.opt() {
+    match opt_of(query) {
         Some(opt) => Some(Extension {
             udp_payload_size: opt.udp_payload_size(),
             dnssec_ok: opt.dnssec_ok(),
@@ -173,6 +193,7 @@ fn take(alloc: Global, query: &Message, question: &Question<'_>) -> Result<Sorte
 
 /// What becomes of a query that asks this.
 fn sort_asking(alloc: Global, query: &Message, question: &Question<'_>) -> Result<Sorted, NoMemory>
+    requires { IsSome (first_question query.now) }
     ensures { IfOk result (λ s. s ≡ spec.unless_refused query.now question.now (spec.refusal_asking query.now question.now)) }
 {
     match refusal_asking(query, question) {

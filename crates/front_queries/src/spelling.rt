@@ -20,7 +20,7 @@ pub(crate) fn own_opt(high: u8, dnssec_ok: bool) -> OptRecord<'static>
 
 /// Adds an OPT record as a record of the root (RFC 6891 6.1.2).
 #[tactic(auto, unfolding(crate::specs::Spelled::opt_octets))]
-fn put_opt(opt: &OptRecord<'_>, octets: &mut Vec<u8>) -> Result<(), AllocError>
+pub(crate) fn put_opt(opt: &OptRecord<'_>, octets: &mut Vec<u8>) -> Result<(), AllocError>
     ensures { OnOk result (octets.new.items ≡ octets.old.items ++ spec.opt_octets opt.now) }
 {
     let options = opt.data();
@@ -49,16 +49,21 @@ fn put_opt(opt: &OptRecord<'_>, octets: &mut Vec<u8>) -> Result<(), AllocError>
 fn put_question(query: &Query, octets: &mut Vec<u8>) -> Result<(), AllocError>
     ensures { OnOk result (octets.new.items ≡ octets.old.items ++ spec.question_octets query.now.asked) }
 {
+    let [t1, t0] = query.qtype.0.to_be_bytes();
+    let [c1, c0] = query.qclass.0.to_be_bytes();
     octets.extend_from_slice(query.qname.as_octets())?;
-    octets.extend_from_slice(&query.qtype.0.to_be_bytes())?;
-    octets.extend_from_slice(&query.qclass.0.to_be_bytes())
+    octets.extend_from_slice(&[t1, t0, c1, c0])
 }
+
+/// For how many octets there is room at first: a message of most names, with an OPT record, has fewer.
+const USUAL: usize = 64;
 
 /// A header and four counts: no record stands in the answer and authority sections.
 fn head(alloc: Global, header: Header, questions: u8, additional: u8) -> Result<Vec<u8>, AllocError>
     ensures { IfOk result (λ o. o.items ≡ header ++ spec.counts_octets questions additional) }
 {
-    let mut octets = Vec::from_slice(alloc, &header.to_octets())?;
+    let mut octets = Vec::with_capacity(alloc, USUAL)?;
+    octets.extend_from_slice(&header.to_octets())?;
     octets.extend_from_slice(&[0, questions, 0, 0, 0, 0, 0, additional])?;
     Ok(octets)
 }

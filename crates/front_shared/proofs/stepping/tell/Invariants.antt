@@ -1,0 +1,6 @@
+use Rattle.std.proofs.Common.{[], ◌∷◌}
+use Rattle.front_shared.proofs.stepping.tell.Given as goal
+
+-- the item that is put
+abbrev pub ghosts-append : goal.ghosts-append
+ghosts-append g a = record { items = a.item.now ∷ [] }

@@ -1,0 +1,4 @@
+pub mod Waiting
+pub mod History
+pub mod Nothing
+pub mod Desk

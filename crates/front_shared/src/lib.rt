@@ -1,0 +1,20 @@
+//! A forwarder that several threads share: each has a pass, and what all of them did stands in one history.
+//!
+//! A call steps the forwarder by an event, and is answered by the row that one forwarder makes of it behind the rows of all calls
+//! before. Whoever made a row may send its answers by datagrams; all else of it is left to the first caller, who is told of it in the
+//! order of the history. No journal is kept, so that it takes no more memory the longer it runs.
+#![tactic(auto)]
+
+mod desk;
+mod entry;
+mod handing;
+mod key;
+mod pass;
+mod shared;
+mod stepping;
+
+pub use entry::{Entry, Item, Receipt};
+pub use handing::is_for_any;
+pub use key::{ForwarderKey, Opened};
+pub use pass::Pass;
+pub use shared::{Closed, SharedForwarder};

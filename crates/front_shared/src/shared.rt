@@ -1,0 +1,178 @@
+//! The forwarder that threads share.
+
+ghost use Rattle.std.specs.Prelude.{◌≡◌, ◌≢◌, ◌⊎◌, ◌+◌, ◌<◌, false, true, IfOk, IfErr, IsErrOf};
+ghost use Rattle.client_request.specs.Timers.{IsWant};
+ghost use Rattle.front_shared.specs.History.{EndsEnded, IsBehind, IsEnded, IsFresh, IsFull, IsLegal, IsSettled, IsSubmitted, newcomer, numbered, opening_of};
+ghost use Rattle.joint_history.specs.Words.{word_of};
+
+use crate::desk::Desk;
+use crate::entry::{Item, Receipt};
+use crate::key::{ForwarderKey, Opened};
+use crate::pass::Pass;
+use client_request::{Error, Words};
+use dns_values::NoMemory;
+use front_core::Forwarder;
+use front_peers::FrontEvent;
+use joint_history::{Joint, Seat};
+use std::alloc::{AllocError, Global};
+use std::marker::{Model, PhantomData};
+use std::sync::{Mutex, Wait};
+
+/// A forwarder that several threads share. What its callers did is one history, which proofs know.
+#[derive(Drop)]
+pub struct SharedForwarder<L: ForwarderKey, W: Words + Drop> {
+    joint: Joint<Item>,
+    desk: Mutex<Desk<L, W>>,
+    callers: u32,
+}
+
+impl<L: ForwarderKey, W: Words + Drop> Model for SharedForwarder<L, W> {
+    ghost use Rattle.joint_history.specs.Words.{word_of};
+    ghost use Rattle.std.specs.Prelude.{◌≡◌};
+    ghost use Rattle.front_shared.specs.History.{Shared};
+
+    ghost Value = { Shared };
+
+    ghost view = { λ s. record { callers = s.callers } };
+
+    ghost invariant = { λ s. (word_of s.joint ≡ L.table) × (s.callers ≡ L.opening.callers) };
+}
+
+/// The history of a shared forwarder which nobody steps any more.
+#[derive(Drop)]
+pub struct Closed<L: ForwarderKey, W: Words + Drop> {
+    joint: Joint<Item>,
+    desk: Desk<L, W>,
+    ghost same: { word_of joint ≡ L.table },
+}
+
+/// The pass of the next caller.
+fn pass_of<L: ForwarderKey>(joint: &Joint<Item>, seat: &mut Seat<Item>, number: u32) -> Pass<L>
+    requires table { word_of joint.now ≡ L.table }
+    requires fresh { IsFresh L.table number seat.old }
+    requires below { number < L.opening.callers }
+    ensures pass { result ≡ newcomer number }
+    ensures seat { IsFresh L.table (number + 1) seat.new }
+{
+    Pass {
+        number,
+        seat: joint.caller(seat),
+        of: PhantomData,
+    }
+}
+
+/// The passes of all callers, numbered from 0.
+fn passes_of<L: ForwarderKey>(
+    alloc: Global,
+    joint: &Joint<Item>,
+    seat: &mut Seat<Item>,
+    callers: u32,
+) -> Result<Vec<Pass<L>>, AllocError>
+    requires table { word_of joint.now ≡ L.table }
+    requires fresh { IsFresh L.table 0 seat.old }
+    requires count { callers ≡ L.opening.callers }
+    ensures passes { IfOk result (λ v. v.items ≡ numbered callers) }
+    ensures seat { IfOk result (λ _. IsFresh L.table callers seat.new) }
+{
+    let mut passes = Vec::new(alloc);
+    for number in 0..callers {
+        passes.reserve(1)?;
+        passes.push_reserved(pass_of(joint, seat, number));
+    }
+    Ok(passes)
+}
+
+impl<L: ForwarderKey, W: Words + Drop> SharedForwarder<L, W> {
+    /// This forwarder, which takes these words, for so many callers, and their passes. `NoMemory`.
+    pub fn new(
+        alloc: Global,
+        opened: Opened,
+        forwarder: Forwarder,
+        words: W,
+        callers: u32,
+    ) -> Result<(SharedForwarder<L, W>, Vec<Pass<L>>), NoMemory>
+        requires table { word_of opened.joint ≡ L.table }
+        requires opening { L.opening ≡ opening_of forwarder (W.stream words) callers }
+        requires lives { forwarder.failed ≡ false }
+        ensures shared { IfOk result (λ r. r.0.callers ≡ callers) }
+        ensures passes { IfOk result (λ r. r.1.items ≡ numbered callers) }
+    {
+        let Opened { joint, mut seat } = opened;
+        let Ok(passes) = passes_of(alloc, &joint, &mut seat, callers) else {
+            return Err(NoMemory);
+        };
+        let shared = SharedForwarder {
+            joint,
+            desk: Mutex::new(Desk::new(alloc, forwarder, words, seat)),
+            callers,
+        };
+        Ok((shared, passes))
+    }
+
+    /// Steps the forwarder by an event, once no other call is at it: the row is that which one forwarder makes of it behind the rows
+    /// of all calls before.
+    ///
+    /// `Failed` where the history has ended. `NumbersUsed` after 2^64 - 2 calls, where nothing is changed but what the pass has seen, or
+    /// where a number of the forwarder is used up; and `NoMemory`. By either of these two the history ends, but where it is full.
+    pub fn submit<R: Wait>(
+        &self,
+        rt: &R,
+        pass: &mut Pass<L>,
+        event: FrontEvent,
+    ) -> Result<Receipt, Error>
+        ensures ok { IfOk result (λ r. IsSubmitted pass.old pass.new event r) }
+        ensures behind { IsErrOf result Error.Failed → IsBehind pass.old pass.new }
+        ensures refused { IfErr result (λ e. e ≢ Error.Failed → IsWant e × (IsFull pass.old pass.new ⊎ IsEnded pass.old pass.new)) }
+        ensures memory { IsErrOf result Error.NoMemory → IsEnded pass.old pass.new }
+    {
+        self.desk.lock(rt).submit(&self.joint, pass, event)
+    }
+
+    /// Ends the history: each later call of any caller answers `Failed`.
+    pub fn end<R: Wait>(&self, rt: &R, pass: &mut Pass<L>)
+        ensures { IsBehind pass.old pass.new }
+    {
+        self.desk.lock(rt).end(&self.joint, pass);
+    }
+
+    /// Whether the history has ended.
+    pub fn has_ended<R: Wait>(&self, rt: &R) -> bool {
+        self.desk.lock(rt).has_ended()
+    }
+
+    /// How long whoever turns over the forwarder may wait for something to happen, in microseconds from the moment of its last event
+    /// on.
+    pub fn may_wait<R: Wait>(&self, rt: &R) -> u128 {
+        self.desk.lock(rt).may_wait()
+    }
+
+    /// No call steps it any more. It takes no memory.
+    pub fn close(self) -> Closed<L, W> {
+        let SharedForwarder {
+            joint,
+            desk,
+            callers: _,
+        } = self;
+        Closed {
+            joint,
+            desk: desk.into_inner(),
+        }
+    }
+}
+
+impl<L: ForwarderKey, W: Words + Drop> Closed<L, W> {
+    /// The history is legal. It does nothing.
+    pub fn history_is_legal(&self)
+        ensures { IsLegal L.opening self.now.desk }
+    {
+        self.desk.history_is_legal();
+    }
+
+    /// A pass sees all of the history, which then has no calls of it but those that it had seen.
+    pub fn settle(&mut self, pass: &mut Pass<L>)
+        ensures same { self.new.desk ≡ self.old.desk }
+        ensures settled { IsSettled self.old.desk pass.old pass.new }
+    {
+        self.desk.settle(&self.joint, pass);
+    }
+}
