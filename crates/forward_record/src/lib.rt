@@ -6,11 +6,11 @@
 //! ```
 #![tactic(auto)]
 
-mod core;
+mod recorded_core;
 mod serving;
 mod telling;
 mod turns;
 
-pub use core::{RecordedCore, RecordedForwarder};
+pub use recorded_core::{RecordedCore, RecordedForwarder};
 pub use serving::{Served, serve_recorded};
 pub use turns::turn;

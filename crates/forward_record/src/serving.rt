@@ -13,7 +13,7 @@ ghost use Rattle.forward_words.specs.Words.{asked_by};
 ghost use Rattle.forward_record.specs.Serving.{HasServed, IsBegun, IsRefusedTo, IsServedTo, IsUnserved, is_said};
 ghost use Rattle.forward_record.specs.declared.serving.Unserved.TheVariants.{Ends, NotRecorded};
 
-use crate::core::{RecordedCore, RecordedForwarder};
+use crate::recorded_core::{RecordedCore, RecordedForwarder};
 use crate::telling::tell_unrecorded;
 use crate::turns::turn_all;
 use client_core::{Client, Clock};

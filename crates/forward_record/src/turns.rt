@@ -8,7 +8,7 @@ ghost use Rattle.client_request.specs.Words.{IsGivenOn};
 ghost use Rattle.forward_run.specs.Turns.{IsTurn, around};
 ghost use Rattle.forward_record.specs.Turns.{Makes, TurnedBy};
 
-use crate::core::RecordedForwarder;
+use crate::recorded_core::RecordedForwarder;
 use crate::telling::tell_ended;
 use client_core::Clock;
 use client_request::{Error, Words};

@@ -1,5 +1,5 @@
 use Rattle.forward_record.proofs.Steps.{recorded_step}
-use Rattle.forward_record.proofs.core.RecordedCoreWithin.step.Goals as goal
+use Rattle.forward_record.proofs.recorded_core.RecordedCoreWithin.step.Goals as goal
 
 pub returns-clause-row : goal.returns-clause-row
 returns-clause-row g c =
