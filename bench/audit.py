@@ -4,13 +4,13 @@ usage: python3 bench/audit.py AUDIT DNSQ [SHARE]
 
 AUDIT is the built trace_audit, DNSQ the built dnsq, which replays the scripts. SHARE is how much of each size is taken, from 0 to 1.
 
-Honest: up to 100 questions at a time by datagrams, 100 in flight on one connection by stream, and one question of which the answer is
+Honest: up to ten questions at a time by datagrams, ten in flight on one connection by stream, and one question of which the answer is
 kept. A row may take 10 microseconds of a processor, reading included, and ten times as many rows 12 times as long. The time is the
 least of three runs, and the most memory that it held is told.
 
-Then what may cost much in a row, each of two sizes of which one is ten times the other: requests that wait, as many rows long; frames
-that come at once, each of which is the reply to a request; and fresh replies to one question, behind which views of the oldest are
-given. Of these it is told how many times as long ten times as much takes, and `grows` where that is above 14 times: these have no bound
+Then what may cost much in a row, each of two sizes of which one is ten times the other: questions at a time by datagrams, over as many
+rows; requests that wait, as many rows long; frames that come at once, each of which is the reply to a request; and fresh replies to one
+question, behind which views of the oldest are given. Of these it is told how many times as long ten times as much takes, and `grows` where that is above 14 times: these have no bound
 yet, and docs/MEASURED.md says what is known of them.
 
 Ends with status 1 where a bound of the honest ones is passed, or a trace is not judged right.
@@ -22,13 +22,15 @@ import subprocess
 import sys
 import tempfile
 
-from replay import QUESTION, answer, ask, by_datagrams, by_stream, from_cache, opened, text_of, ticked, wrote
+import replay
+from replay import QUESTION, ask, by_datagrams, by_stream, from_cache, opened, text_of, ticked, wrote
 
 RUNS = 3
 SIZES = (15_000, 150_000)
 MOST_FOR_A_ROW = 10
 MOST_FOR_TEN_TIMES = 12
 GROWS = 14
+AT_A_TIME = (10, 100)
 WAITING = (300, 3_000)
 FRAMES = (300, 3_000)
 FRESH = (100, 1_000)
@@ -106,7 +108,14 @@ class Judging:
         return min(timed(command) for _ in range(RUNS)), rows, memory(command, self.room)
 
 
+def at_a_time(count, rows):
+    """So many questions at a time by datagrams."""
+    replay.AT_A_TIME = count
+    return by_datagrams(rows)
+
+
 def honest(judging, share):
+    replay.AT_A_TIME = AT_A_TIME[0]
     is_over = False
     for name, script in (("by datagrams", by_datagrams), ("by stream", by_stream), ("from the cache", from_cache)):
         found = [judging.seconds(script(int(size * share))) for size in SIZES]
@@ -121,12 +130,15 @@ def honest(judging, share):
 
 
 def dear(judging, share):
-    shapes = (("requests that wait", WAITING, ticked, lambda trace: trace), ("frames at once", FRAMES, many_frames, lambda trace: trace),
+    rows = int(SIZES[0] * share)
+    shapes = (("questions at a time, over %d rows" % rows, AT_A_TIME, lambda count: at_a_time(count, rows), lambda trace: trace),
+              ("requests that wait", WAITING, ticked, lambda trace: trace), ("frames at once", FRAMES, many_frames, lambda trace: trace),
               ("fresh replies before %d views" % VIEWS, FRESH, many_fresh, of_the_oldest))
     for name, sizes, script, change in shapes:
-        found = [judging.seconds(script(max(10, int(size * share))), change) for size in sizes]
+        counts = sizes if sizes is AT_A_TIME else [max(10, int(size * share)) for size in sizes]
+        found = [judging.seconds(script(count), change) for count in counts]
         times = found[1][0] / found[0][0]
-        print("%s: %s: %s s, %.1f times as long%s" % (name, ", ".join(map(str, sizes)), ", ".join("%.3f" % one[0] for one in found),
+        print("%s: %s: %s s, %.1f times as long%s" % (name, ", ".join(map(str, counts)), ", ".join("%.3f" % one[0] for one in found),
                                                       times, ", grows" if times > GROWS else ""))
 
 
