@@ -15,7 +15,8 @@ The file is its owner's alone, and no other file is written over.
 forward: `dns_forward --record` under dnsperf, held to 1,000 queries a second, for so many seconds, half of them for names that were not asked before. The same of its
 record, as far as it goes: it ends at 16777216 octets. Beside dnsperf this script asks ten queries a second of its own, and what is answered to them has the records of the replies to them.
 
-cost: queries a second of dnsperf without a limit, without a record and with one, in turn five times each: hits alone, and misses alone. A median that is more than 20% less ends this with status 1.
+cost: queries a second of dnsperf without a limit, without a record and with one, in turn five times each: hits alone, and misses alone; and the processor time of the forwarder for one, which is
+less at the mercy of other work. Where the median of that says that it answers more than 20% fewer in the same time, this ends with status 1.
 
 faults: a record on a full device; on a tmpfs of 100 KiB; under RLIMIT_FSIZE; in a folder that is not there; over a file that is there. A record that is cut anywhere: its whole lines
 replay to the first rows. What a script can't tell is refused, by a line and status 8.
@@ -492,6 +493,12 @@ def forward(programs, folder, options):
     print("forward: right")
 
 
+def used_by(program):
+    """How many seconds of a processor a program took so far."""
+    words = Path("/proc/%d/stat" % program.pid).read_text().rpartition(")")[2].split()
+    return (int(words[11]) + int(words[12])) / os.sysconf("SC_CLK_TCK")
+
+
 def cost(programs, folder, options):
     if not shutil.which("dnsperf"):
         print("left out: cost, since dnsperf is missing")
@@ -503,27 +510,33 @@ def cost(programs, folder, options):
     failed = False
     try:
         for kind, file in (("hits", hits), ("misses", misses)):
-            rates = {False: [], True: []}
+            rates, times = {False: [], True: []}, {False: [], True: []}
             for turn in range(10):
                 recorded = turn % 2 == 1
                 front = free_port()
                 record = folder / ("cost%s%d.record" % (kind, turn))
                 record.unlink(missing_ok=True)
                 program = forwarder(programs, front, port, record if recorded else None)
+                began = used_by(program)
                 try:
-                    found = dnsperf(front, file, "-l", "3", "-q", "50", "-t", "5")
+                    found = dnsperf(front, file, "-l", "8", "-q", "50", "-t", "5")
+                    used = used_by(program) - began
                 finally:
                     program.send_signal(signal.SIGTERM)
                     program.wait(10)
                 told = program.stderr.read().decode()
                 rates[recorded].append(found["Queries per second"])
+                times[recorded].append(1e6 * used / max(1, found["Queries completed"]))
                 if recorded:
                     print("  %s, recorded: %d a second; %s" % (kind, rates[recorded][-1], told.strip() or "%d octets" % record.stat().st_size))
                     record.unlink()
             plain, kept = statistics.median(rates[False]), statistics.median(rates[True])
+            before, after = statistics.median(times[False]), statistics.median(times[True])
             print("cost of a record, %s: %d queries a second without (%s), %d with (%s): %.1f%% less" % (
                 kind, plain, " ".join("%d" % it for it in rates[False]), kept, " ".join("%d" % it for it in rates[True]), 100 * (1 - kept / plain)))
-            failed |= kept < 0.8 * plain
+            print("  processor time of a query: %.1f us without (%s), %.1f with (%s): %.1f%% fewer in the same time" % (
+                before, " ".join("%.1f" % it for it in times[False]), after, " ".join("%.1f" % it for it in times[True]), 100 * (1 - before / after)))
+            failed |= before < 0.8 * after
     finally:
         server.terminate()
     expect(not failed, "recording costs more than 20%")
