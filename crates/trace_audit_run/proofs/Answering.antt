@@ -155,6 +155,6 @@ right_is_said (Some a) (Some b) said d d' result i same good zero = record { ans
 
 pub no_is_said : (told told' : Option (List ℕ)) (said : Answer) (d d' : Bool) (result : ℕ) (h h' : Option (List ℕ)) (f f' : ℕ) → IfSome told (λ a. IfSome told' (λ b. IsAudited d a b said)) → d ≡ d'
     → (result ≡ 5 → NoIsSaid said h h' f f') → result ≡ 5 → IfSome told (λ a. IfSome told' (λ b. SaysNo d' a b h h' f f'))
-no_is_said None told' said d d' result h h' f f' i same no five = tt
-no_is_said (Some a) None said d d' result h h' f f' i same no five = tt
-no_is_said (Some a) (Some b) said d d' result h h' f f' i same no five = record { answer = said; audited = subst (λ (d : Bool). IsAudited d a b said) same i; said = no five }
+no_is_said None told' said d d' result h h' f f' i same told_no five = tt
+no_is_said (Some a) None said d d' result h h' f f' i same told_no five = tt
+no_is_said (Some a) (Some b) said d d' result h h' f f' i same told_no five = record { answer = said; audited = subst (λ (d : Bool). IsAudited d a b said) same i; said = told_no five }

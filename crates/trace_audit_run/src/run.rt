@@ -44,7 +44,6 @@ fn tell_untimely<K: Sink>(alloc: Global, sink: &mut K, row: u64) -> Status
 }
 
 /// Tells what is said of a trace: `right`, in what it is wrong and where, or where it is not timely.
-#[tactic(auto, using(crate::proofs::Answering::wrong_is_said, crate::proofs::Answering::late_is_said))]
 fn tell<K: Sink>(alloc: Global, sink: &mut K, answer: Answer) -> Status
     ensures good { result.0 ≡ 0 → plain.IsGood answer }
     ensures done { result.0 ≡ 0 → K.held sink.new ≡ with_octets right_line (K.held sink.old) }
