@@ -1,6 +1,6 @@
 -- What the first thread makes, one turn more.
 use Rattle.std.proofs.Common.{◌≡◌, ℕ, ◌+◌, ◌-◌, ◌<◌, ◌≤◌, List, [], ◌∷◌, ◌++◌, length, map, take, Option, Some, None, refl, ap, sym, subst, ◌∙◌, append_assoc, length-append, arith}
-use Rattle.std.specs.Prelude.{count_by, sum_by, All}
+use Rattle.std.specs.Prelude.{count_by, slice_index_or, sum_by, All}
 use Rattle.std.specs.List.{flat_map}
 use Rattle.std.proofs.lemmas.List.Sums.{sum_by-append}
 use mathlib.Core.List.{IsPrefix, map-append}
@@ -36,7 +36,7 @@ told_later xs ys t p h = (
 )
 
 pub all_later : (xs ys : List Item) (turns : List FirstTurn) → IsPrefix xs ys → All (IsTold xs) turns → All (IsTold ys) turns
-all_later xs ys turns p h k d lt = told_later xs ys _ p (h k d lt)
+all_later xs ys turns p h k d lt = told_later xs ys (slice_index_or turns k d) p (h k d lt)
 
 -- the first caller is told what waits
 told_first : (n : ℕ) (waiting : List FrontOut) → n ≡ 0 → told_to n waiting ≡ waiting

@@ -96,7 +96,7 @@ worker_of items k p q r b a n new w s =
     }
 
 -- newcomers from a number on
-from : ℕ → ℕ → List Passed
+abbrev from : ℕ → ℕ → List Passed
 from k zero = []
 from k (suc n) = newcomer k ∷ from (suc k) n
 
@@ -106,7 +106,12 @@ from_end k (suc n) = ap (λ (ps : List Passed). newcomer k ∷ ps) (ap (λ (j : 
 
 numbered_from : (n : ℕ) → numbered n ≡ from 0 n
 numbered_from zero = refl
-numbered_from (suc n) = ap (λ (ps : List Passed). ps ++ newcomer n ∷ []) (numbered_from n) ∙ from_end 0 n
+numbered_from (suc n) =
+    ap (λ (ps : List Passed). ps ++ newcomer n ∷ []) (numbered_from n)
+    ∙ (ap (λ (j : ℕ). from 0 n ++ newcomer j ∷ []) zero_more ∙ from_end 0 n)
+  where
+    zero_more : n ≡ 0 + n
+    zero_more = omega arith
 
 workers_from : (items : List Item) (k n : ℕ) (qs : List Passed) (bs ends : List (Option (List FrontDeed))) (sum : ℕ) → AreWorked (from k n) qs bs ends sum → AllSettle items qs → AreWorkersOf items k bs ends sum
 workers_from items k zero [] [] [] sum w s = w

@@ -23,7 +23,7 @@ pub record WorkedSo (old new : Passed) (before after : Option (List FrontDeed)) 
   pub all_used : worked.unused ≡ []
 
 -- nothing yet
-pub none_worked : (p : Passed) (told : Option (List FrontDeed)) → IsWorked p p told told 0
+abbrev pub none_worked : (p : Passed) (told : Option (List FrontDeed)) → IsWorked p p told told 0
 none_worked p told = record {
   number = refl;
   made = [];
@@ -63,6 +63,7 @@ works_on old mid new a b c n m sum so w is =
     }
 
 pub goes_on : (old mid new : Passed) (a b c : Option (List FrontDeed)) (n sum : ℕ) (went : Went) → WorkedSo old mid a b n → Goes mid new b c went → sum ≡ n + went.answered → went.goes_on ≡ true → WorkedSo old new a c sum
+unfolding works_on
 goes_on old mid new a b c n sum went so g is on = record { worked = works_on old mid new a b c n went.answered sum so g.worked is; all_used = g.all_used on }
 
 -- a turn in which nothing came
