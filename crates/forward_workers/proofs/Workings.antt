@@ -63,7 +63,7 @@ works_on old mid new a b c n m sum so w is =
     }
 
 pub goes_on : (old mid new : Passed) (a b c : Option (List FrontDeed)) (n sum : ℕ) (went : Went) → WorkedSo old mid a b n → Goes mid new b c went → sum ≡ n + went.answered → went.goes_on ≡ true → WorkedSo old new a c sum
-  unfolding works_on
+unfolding works_on
 goes_on old mid new a b c n sum went so g is on = record { worked = works_on old mid new a b c n went.answered sum so g.worked is; all_used = g.all_used on }
 
 -- a turn in which nothing came

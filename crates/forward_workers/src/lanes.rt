@@ -77,32 +77,29 @@ pub(crate) fn joined(first: Result<u64, Error>, rest: Result<u64, Error>) -> Res
     }
 }
 
+/// A forwarder that threads share, and how many turns each makes.
+#[derive(Drop)]
+pub(crate) struct Sharing<L: ForwarderKey, W: Words + Drop> {
+    pub(crate) shared: SharedForwarder<L, W>,
+    pub(crate) turns: u64,
+}
+
 /// What a worker does in its lane.
-trait Running<L: ForwarderKey, D: Door + Drop, C: Clock + Drop> {
-    /// So many turns of one worker.
-    fn run(&self, turns: u64, lane: &mut Lane<L, D, C>) -> Result<u64, Error>
+trait Running<R, L: ForwarderKey, D: Door + Drop, C: Clock + Drop> {
+    /// The turns of one worker.
+    fn run(&self, rt: &R, lane: &mut Lane<L, D, C>) -> Result<u64, Error>
         ensures { WorkerEnds lane.old.pass lane.new.pass (D.deeds lane.old.worker.door) (D.deeds lane.new.worker.door) result };
 }
 
-/// The turns of each, over one forwarder that is shared.
-#[derive(Drop)]
-struct SharedLanes<'a, R, L: ForwarderKey, W: Words + Drop> {
-    rt: &'a R,
-    shared: &'a SharedForwarder<L, W>,
-}
-
-impl<'a, R: Wait, L: ForwarderKey, W: Words + Drop, D: Door + Drop, C: Clock + Drop> Running<
-    L,
-    D,
-    C,
-> for SharedLanes<'a, R, L, W> {
-    fn run(&self, turns: u64, lane: &mut Lane<L, D, C>) -> Result<u64, Error> {
+impl<R: Wait, L: ForwarderKey, W: Words + Drop, D: Door + Drop, C: Clock + Drop> Running<R, L, D, C>
+    for Sharing<L, W> {
+    fn run(&self, rt: &R, lane: &mut Lane<L, D, C>) -> Result<u64, Error> {
         run_worker(
-            self.rt,
-            self.shared,
+            rt,
+            &self.shared,
             &mut lane.pass,
             &mut lane.worker,
-            turns,
+            self.turns,
         )
     }
 }
@@ -115,45 +112,43 @@ fn run_workers<
     L: ForwarderKey + Send,
     D: Door + Drop + Send,
     C: Clock + Drop + Send,
-    T: Running<L, D, C> + Sync,
->(rt: &R, running: &T, turns: u64, lanes: &mut [Lane<L, D, C>]) -> Result<u64, Error>
+    T: Running<R, L, D, C> + Sync,
+>(rt: &R, running: &T, lanes: &mut [Lane<L, D, C>]) -> Result<u64, Error>
     ensures { WorkersEnd (passes_of lanes.old) (passes_of lanes.new) (doors_of D.deeds lanes.old) (doors_of D.deeds lanes.new) result }
 {
     let Some((lane, others)) = lanes.split_first_mut() else {
         return Ok(0);
     };
-    let (mine, theirs) = one_and_rest(rt, running, turns, lane, turns, others);
+    let (mine, theirs) = one_and_rest(rt, running, lane, others);
     joined(mine, theirs)
 }
 
-/// A function of its own, so that what the closures require is what it is given. Each closure reads what it borrows before it lends its
-/// lanes.
+/// A function of its own, so that what the closures require is what it is given. Both closures borrow the same, and hold no number, beside
+/// the lanes that each is lent.
 #[cycle(lanes)]
 fn one_and_rest<
     R: Threads + Sync,
     L: ForwarderKey + Send,
     D: Door + Drop + Send,
     C: Clock + Drop + Send,
-    T: Running<L, D, C> + Sync,
+    T: Running<R, L, D, C> + Sync,
 >(
     rt: &R,
     running: &T,
-    turns: u64,
     lane: &mut Lane<L, D, C>,
-    their_turns: u64,
     others: &mut [Lane<L, D, C>],
 ) -> (Result<u64, Error>, Result<u64, Error>)
     ensures mine { WorkerEnds lane.old.pass lane.new.pass (D.deeds lane.old.worker.door) (D.deeds lane.new.worker.door) result.0 }
     ensures theirs { WorkersEnd (passes_of others.old) (passes_of others.new) (doors_of D.deeds others.old) (doors_of D.deeds others.new) result.1 }
 {
     let mut mine = || -> Result<u64, Error>
-        requires { IsSync T.row × IsSend L.row × IsSend D.row × IsSend C.row }
+        requires { IsSync R.row × IsSync T.row × IsSend L.row × IsSend D.row × IsSend C.row }
         ensures { WorkerEnds lane.entry.now.pass lane.exit.now.pass (D.deeds lane.entry.now.worker.door) (D.deeds lane.exit.now.worker.door) result }
-    { running.run(turns, lane) };
+    { running.run(rt, lane) };
     let mut theirs = || -> Result<u64, Error>
         requires { IsSync R.row × IsSync T.row × IsSend L.row × IsSend D.row × IsSend C.row }
         ensures { WorkersEnd (passes_of others.entry.now) (passes_of others.exit.now) (doors_of D.deeds others.entry.now) (doors_of D.deeds others.exit.now) result }
-    { run_workers(rt, running, their_turns, others) };
+    { run_workers(rt, running, others) };
     join_mut(rt, &mut mine, &mut theirs)
 }
 
@@ -164,14 +159,8 @@ pub(crate) fn run_lanes<
     W: Words + Drop + Send,
     D: Door + Drop + Send,
     C: Clock + Drop + Send,
->(
-    rt: &R,
-    shared: &SharedForwarder<L, W>,
-    turns: u64,
-    lanes: &mut [Lane<L, D, C>],
-) -> Result<u64, Error>
+>(rt: &R, sharing: &Sharing<L, W>, lanes: &mut [Lane<L, D, C>]) -> Result<u64, Error>
     ensures { WorkersEnd (passes_of lanes.old) (passes_of lanes.new) (doors_of D.deeds lanes.old) (doors_of D.deeds lanes.new) result }
 {
-    let running = SharedLanes { rt, shared };
-    run_workers(rt, &running, turns, lanes)
+    run_workers(rt, sharing, lanes)
 }

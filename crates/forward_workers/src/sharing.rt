@@ -8,7 +8,7 @@ ghost use Rattle.joint_history.specs.Words.{word_of};
 
 use crate::door::Door;
 use crate::first::run_first;
-use crate::lanes::{Lane, joined, run_lanes, seated, unseated};
+use crate::lanes::{Lane, Sharing, joined, run_lanes, seated, unseated};
 use crate::working::Worker;
 use client_core::Clock;
 use client_request::{Error, Words};
@@ -20,6 +20,19 @@ use std::collections::VecDeque;
 use std::sync::Wait;
 use std::thread::{Threads, join_mut};
 
+/// The turns of the first thread.
+fn run_mine<R: Wait, L: ForwarderKey, W: Words + Drop, F: Front, C: Clock>(
+    rt: &R,
+    sharing: &Sharing<L, W>,
+    pass: &mut Pass<L>,
+    front: &mut F,
+    clock: &mut C,
+) -> Result<u64, Error>
+    ensures { FirstEnds sharing.now.turns pass.old pass.new (F.deeds front.old) (F.deeds front.new) result }
+{
+    run_first(rt, &sharing.shared, sharing.turns, pass, front, clock)
+}
+
 /// The workers by threads of their own, and the first thread's turns in this one.
 fn first_and_workers<
     R: Threads + Wait + Sync,
@@ -30,24 +43,22 @@ fn first_and_workers<
     C: Clock + Drop + Send,
 >(
     rt: &R,
-    shared: &SharedForwarder<L, W>,
-    turns: u64,
+    sharing: &Sharing<L, W>,
     pass: &mut Pass<L>,
     front: &mut F,
     clock: &mut C,
-    their_turns: u64,
     lanes: &mut [Lane<L, D, C>],
 ) -> (Result<u64, Error>, Result<u64, Error>)
-    ensures first { FirstEnds turns pass.old pass.new (F.deeds front.old) (F.deeds front.new) result.1 }
+    ensures first { FirstEnds sharing.now.turns pass.old pass.new (F.deeds front.old) (F.deeds front.new) result.1 }
     ensures workers { WorkersEnd (passes_of lanes.old) (passes_of lanes.new) (doors_of D.deeds lanes.old) (doors_of D.deeds lanes.new) result.0 }
 {
     let mut theirs = || -> Result<u64, Error>
         requires { IsSync R.row × IsSend L.row × IsSync L.row × IsSend W.row × IsSend D.row × IsSend C.row }
         ensures { WorkersEnd (passes_of lanes.entry.now) (passes_of lanes.exit.now) (doors_of D.deeds lanes.entry.now) (doors_of D.deeds lanes.exit.now) result }
-    { run_lanes(rt, shared, their_turns, lanes) };
+    { run_lanes(rt, sharing, lanes) };
     let mut mine = || -> Result<u64, Error>
-        ensures { FirstEnds turns pass.entry.now pass.exit.now (F.deeds front.entry.now) (F.deeds front.exit.now) result }
-    { run_first(rt, shared, turns, pass, front, clock) };
+        ensures { FirstEnds sharing.entry.now.turns pass.entry.now pass.exit.now (F.deeds front.entry.now) (F.deeds front.exit.now) result }
+    { run_mine(rt, sharing, pass, front, clock) };
     join_mut(rt, &mut theirs, &mut mine)
 }
 
@@ -62,16 +73,15 @@ fn turn_by_all<
     C: Clock + Drop + Send,
 >(
     rt: &R,
-    shared: &SharedForwarder<L, W>,
+    sharing: &Sharing<L, W>,
     pass: &mut Pass<L>,
     front: &mut F,
     clock: &mut C,
-    turns: u64,
     lanes: &mut [Lane<L, D, C>],
 ) -> Result<u64, Error>
-    ensures { AllEnd turns pass.old pass.new (passes_of lanes.old) (passes_of lanes.new) (F.deeds front.old) (F.deeds front.new) (doors_of D.deeds lanes.old) (doors_of D.deeds lanes.new) result }
+    ensures { AllEnd sharing.now.turns pass.old pass.new (passes_of lanes.old) (passes_of lanes.new) (F.deeds front.old) (F.deeds front.new) (doors_of D.deeds lanes.old) (doors_of D.deeds lanes.new) result }
 {
-    let (theirs, mine) = first_and_workers(rt, shared, turns, pass, front, clock, turns, lanes);
+    let (theirs, mine) = first_and_workers(rt, sharing, pass, front, clock, lanes);
     joined(mine, theirs)
 }
 
@@ -97,19 +107,13 @@ fn share_among<
     requires callers { L.opening.callers ≡ length lanes.items + 1 }
     ensures { IfOk result (λ r. IsShared turns L.opening.first L.opening.words (F.deeds front.old) (F.deeds front.new) (doors_of D.deeds lanes.items) (told_by D.deeds r.1.items) r.0) }
 {
-    let turned = turn_by_all(
-        rt,
-        &shared,
-        &mut pass,
-        front,
-        clock,
-        turns,
-        lanes.as_mut_slice(),
-    );
+    let sharing = Sharing { shared, turns };
+    let turned = turn_by_all(rt, &sharing, &mut pass, front, clock, lanes.as_mut_slice());
     let answered = match turned {
         Ok(answered) => answered,
         Err(error) => return Err(error),
     };
+    let Sharing { shared, turns: _ } = sharing;
     let mut closed = shared.close();
     closed.history_is_legal();
     closed.settle(&mut pass);
