@@ -3,27 +3,18 @@
 
 use client_edge::{FileOpener, RandWords, RealClock, command_words};
 use client_request::Words;
-use dns_values::{IpAddr, NoMemory, Seq, StdSink, StdSource};
-use forward_record::serve_recorded;
+use dns_values::{IpAddr, Seq, StdSink, StdSource};
 use forward_run::{StatusLine, serve_as};
 use forward_words::{Fault, Options, options_of};
-use forward_workers::{Worker, serve_by_all};
 use front_edge::SocketFront;
 use rand::rngs::StdRng;
-use record_file::{RecordFile, record_of};
 use std::process::ExitCode;
-use std::sync::Wait;
-use std::thread::Threads;
-use worker_edge::{Common, SharedFront, SystemDoor};
 
 /// The exit status where the words are no command.
 const USAGE: u8 = 2;
 
 /// The exit status where memory, or the system's random words, can't be had.
 const NO_MEMORY: u8 = 6;
-
-/// The most threads that answer datagrams, at all addresses together.
-const MOST_WORKERS: usize = 16_384;
 
 /// The system's random words, where they can be had.
 fn random_words(rt: &HostRuntime) -> Option<RandWords<StdRng>> {
@@ -64,120 +55,15 @@ fn serve(
     status.0
 }
 
-/// Serves as the options and the words behind them say, and records the client within to a file of this name.
-fn serve_to(
-    rt: HostRuntime,
-    file: &str,
-    options: &Options,
-    words: &[String],
-    listened: Seq<IpAddr>,
-    mut random: RandWords<StdRng>,
-) -> u8 {
-    let alloc = rt.alloc();
-    let Ok(file) = String::from_str(alloc, file) else {
-        return NO_MEMORY;
-    };
-    let seed = random.next();
-    let served = serve_recorded(
-        alloc,
-        options,
-        seed,
-        words,
-        &mut StdSource::new(rt.stdin()),
-        &mut StdSink::new(rt.stdout()),
-        &mut StdSink::new(rt.stderr()),
-        &mut SocketFront::new(rt, alloc, listened),
-        &mut RealClock::new(rt),
-        &mut random,
-        &mut StatusLine::new(
-            alloc,
-            FileOpener::new(rt),
-            StdSink::new(rt.stderr()),
-            options.status,
-        ),
-        RecordFile::new(rt, file),
-    );
-    served.status.0
-}
-
-/// So many workers at each of so many addresses.
-fn workers_at<'a, T: Wait>(
-    rt: HostRuntime,
-    common: &'a Common<'a, T>,
-    addresses: usize,
-    each: u64,
-) -> Result<Vec<Worker<SystemDoor<'a, T>, RealClock<HostRuntime>>>, NoMemory> {
-    let alloc = rt.alloc();
-    let mut workers = Vec::new(alloc);
-    for at in 0..addresses {
-        for _ in 0..each {
-            let number = workers.len();
-            let door = SystemDoor::new(alloc, common, at, number)?;
-            let clock = RealClock::new(rt);
-            workers.push(Worker { door, clock })?;
-        }
-    }
-    Ok(workers)
-}
-
-/// The same by several threads.
-fn serve_shared<T: Threads + Wait + Sync>(
-    threads: &T,
-    rt: HostRuntime,
-    options: &Options,
-    words: &[String],
-    listened: Seq<IpAddr>,
-    mut random: RandWords<StdRng>,
-) -> u8 {
-    let alloc = rt.alloc();
-    let seed = random.next();
-    let addresses = listened.len();
-    let doors = (addresses as u64).saturating_mul(options.workers);
-    let Ok(common) = Common::new(threads, alloc, doors) else {
-        return NO_MEMORY;
-    };
-    let Ok(workers) = workers_at(rt, &common, addresses, options.workers) else {
-        return NO_MEMORY;
-    };
-    if workers.len() > MOST_WORKERS {
-        return USAGE;
-    }
-    let (status, _) = serve_by_all(
-        threads,
-        alloc,
-        options,
-        seed,
-        words,
-        &mut StdSource::new(rt.stdin()),
-        &mut StdSink::new(rt.stdout()),
-        &mut SharedFront::new(rt, alloc, listened, &common),
-        &mut RealClock::new(rt),
-        random,
-        workers,
-    );
-    status.0
-}
-
-/// Whether what is asked for is had of one worker alone: lines of status, and a record.
-fn is_of_one(options: &Options, file: Option<&str>) -> bool {
-    options.status.is_some() || file.is_some()
-}
-
 /// Does what the command line asks for. Without random words nothing is served.
-fn run<T: Threads + Wait + Sync>(threads: &T, rt: HostRuntime) -> u8 {
+fn run(rt: HostRuntime) -> u8 {
     let (Ok(words), Some(random)) = (command_words(&rt), random_words(&rt)) else {
         return NO_MEMORY;
     };
-    let (file, words) = record_of(&words);
-    match options_of(rt.alloc(), words) {
-        Ok((options, rest)) => match (options.listened.try_clone(rt.alloc()), file) {
-            (Ok(_), file) if options.workers > 1 && is_of_one(&options, file) => USAGE,
-            (Ok(listened), Some(file)) => serve_to(rt, file, &options, rest, listened, random),
-            (Ok(listened), None) if options.workers > 1 => {
-                serve_shared(threads, rt, &options, rest, listened, random)
-            }
-            (Ok(listened), None) => serve(rt, &options, rest, listened, random),
-            (Err(_), _) => NO_MEMORY,
+    match options_of(rt.alloc(), &words) {
+        Ok((options, rest)) => match options.listened.try_clone(rt.alloc()) {
+            Ok(listened) => serve(rt, &options, rest, listened, random),
+            Err(_) => NO_MEMORY,
         },
         Err(Fault::Refused) => USAGE,
         Err(Fault::NoMemory) => NO_MEMORY,
@@ -185,5 +71,5 @@ fn run<T: Threads + Wait + Sync>(threads: &T, rt: HostRuntime) -> u8 {
 }
 
 fn main(rt: HostRuntime) -> ExitCode {
-    ExitCode::from(run(&rt, rt))
+    ExitCode::from(run(rt))
 }

@@ -1,8 +1,7 @@
-//! Asks one question with a client that is stepped by hand, and records it.
+//! Asks one question with a client that is stepped by hand.
 //!
 //! A `Client` opens no socket: it is told what happens, and each row says what is to be done for it.
-//! Here the program itself does what the outs say, and plays the server: it answers what was sent. What the client was told is
-//! written as a script, which is printed in the end.
+//! Here the program itself does what the outs say, and plays the server: it answers what was sent.
 #![tactic(auto)]
 
 mod asker;
@@ -50,6 +49,5 @@ fn run(rt: &impl Print, alloc: Global, asker: &mut Asker) -> Result<(), Trouble>
 
 fn main(rt: HostRuntime) -> Result<(), Trouble> {
     let mut asker = Asker::new(rt.alloc())?;
-    run(&rt, rt.alloc(), &mut asker)?;
-    asker.print_record(&rt)
+    run(&rt, rt.alloc(), &mut asker)
 }

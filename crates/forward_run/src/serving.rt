@@ -64,7 +64,7 @@ fn asks_itself(listened: &[IpAddr], port: u16, conf: &ResolvConf) -> bool
 }
 
 /// Lets a front learn these servers, in order.
-pub fn learn_all<F: Front>(front: &mut F, servers: &[ServerConf]) -> Result<(), NoMemory>
+fn learn_all<F: Front>(front: &mut F, servers: &[ServerConf]) -> Result<(), NoMemory>
     ensures deeds { OnOk result (F.deeds front.new ≡ after_deeds (map (λ server. FrontDeed.Learned server) servers.now) (F.deeds front.old)) }
     ensures polls { F.polls front.new ≡ F.polls front.old }
 {
@@ -75,7 +75,7 @@ pub fn learn_all<F: Front>(front: &mut F, servers: &[ServerConf]) -> Result<(), 
 }
 
 /// How the program ends where the forwarder stops.
-pub fn stopped_by(alloc: Global, error: Error) -> Ending
+fn stopped_by(alloc: Global, error: Error) -> Ending
     ensures ends { IsServeEnd result }
     ensures status { (status_of result ≡ 6) ⊎ (status_of result ≡ 7) }
     ensures line { status_of result ≡ 7 → line_of result ≡ spec.numbers_line }
@@ -87,7 +87,7 @@ pub fn stopped_by(alloc: Global, error: Error) -> Ending
 }
 
 /// Listens, unless the forwarder would ask itself.
-pub fn listen<F: Front>(
+fn listen<F: Front>(
     listened: &[IpAddr],
     port: u16,
     conf: &ResolvConf,
@@ -127,7 +127,7 @@ fn forwarder_of(
 }
 
 /// Listens, tells the front the servers of a configuration, and makes a forwarder that asks them.
-pub fn begin<F: Front>(
+fn begin<F: Front>(
     alloc: Global,
     options: &Options,
     seed: u64,
@@ -177,7 +177,7 @@ fn serve_conf<F: Front, C: Clock, W: Words, V: Watch>(
 }
 
 /// The line that says how many answers there were.
-pub fn answered_line(alloc: Global, answered: u64) -> Result<Vec<u8>, AllocError>
+fn answered_line(alloc: Global, answered: u64) -> Result<Vec<u8>, AllocError>
     ensures { IfOk result (λ v. v.items ≡ spec.answered_line answered) }
 {
     let text = format!(in alloc; "answered {answered}\n")?;
@@ -185,7 +185,7 @@ pub fn answered_line(alloc: Global, answered: u64) -> Result<Vec<u8>, AllocError
 }
 
 /// The configuration whose servers are asked, of the one that a source gives.
-pub fn conf_asked<S: Source, W: Words>(
+fn conf_asked<S: Source, W: Words>(
     alloc: Global,
     options: &Options,
     source: &mut S,
@@ -234,7 +234,7 @@ fn serve_source<S: Source, F: Front, C: Clock, W: Words, V: Watch>(
 }
 
 /// Ends without a line of answers: by the line that says why, if there is one.
-pub fn end_without<K: Sink>(sink: &mut K, ending: Ending) -> Status
+fn end_without<K: Sink>(sink: &mut K, ending: Ending) -> Status
     requires { IsEndOfSource ending }
     ensures status { (result.0 ≡ status_of ending) ⊎ (result.0 ≡ 6) }
     ensures statuses { IsOtherEnd result.0 }

@@ -18,7 +18,7 @@ use front_core::Forwarder;
 use front_peers::{FrontEvent, FrontOut, FrontRow, FrontWhat};
 
 /// What happens in a turn in which the front gave this: that, or time alone where it gave nothing.
-pub fn happened(polled: Option<FrontWhat>) -> FrontWhat
+fn happened(polled: Option<FrontWhat>) -> FrontWhat
     ensures { result ≡ happened polled }
 {
     match polled {
@@ -28,7 +28,7 @@ pub fn happened(polled: Option<FrontWhat>) -> FrontWhat
 }
 
 /// Hands these outs to a front, in order.
-pub fn act_all<F: Front>(front: &mut F, outs: &[FrontOut]) -> Result<(), NoMemory>
+fn act_all<F: Front>(front: &mut F, outs: &[FrontOut]) -> Result<(), NoMemory>
     ensures deeds { OnOk result (F.deeds front.new ≡ after_deeds (acts_on outs.now) (F.deeds front.old)) }
     ensures polls { F.polls front.new ≡ F.polls front.old }
 {
@@ -69,7 +69,7 @@ pub fn turn<F: Front, C: Clock, W: Words>(
 }
 
 /// Whether an out is an answer.
-pub fn is_answer(out: &FrontOut) -> bool
+fn is_answer(out: &FrontOut) -> bool
     ensures { result ≡ is_answer out.now }
 {
     match out {
@@ -79,7 +79,7 @@ pub fn is_answer(out: &FrontOut) -> bool
 }
 
 /// How many answers a row puts out.
-pub fn answers_in(row: &FrontRow) -> usize
+fn answers_in(row: &FrontRow) -> usize
     ensures { result ≡ answers_in row.now }
 {
     row.outs

@@ -6,6 +6,4 @@ mod endings;
 #[cfg(test)]
 mod runs;
 #[cfg(test)]
-mod timely;
-#[cfg(test)]
 mod verdicts;

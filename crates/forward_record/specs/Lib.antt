@@ -1,4 +1,0 @@
-pub mod Core
-pub mod Sentences
-pub mod Serving
-pub mod Turns

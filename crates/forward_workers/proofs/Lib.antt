@@ -1,5 +1,0 @@
-pub mod Deeds
-pub mod Workings
-pub mod Firsts
-pub mod Sharings
-pub mod Serveds
