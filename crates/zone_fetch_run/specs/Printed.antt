@@ -2,7 +2,6 @@
 use Rattle.std.specs.Prelude.{◌≡◌, ◌≢◌, ℕ, ◌+◌, ◌-◌, Bool, true, false, if◌then◌else◌, List, [], ◌∷◌, ◌++◌, length, map, nat_lt, find, Option, None, Some, option_map, IfSome, IsSome}
 use Rattle.std.specs.Char.{to_ascii_lowercase}
 use Rattle.std.specs.Result.{result_ok}
-use Rattle.command_parts.specs.Numbers.{number_in}
 use Rattle.dns_base.specs.Numbers.{u32_at}
 use Rattle.dns_names.specs.Name.{Labels, spelling}
 use Rattle.dns_names.specs.Text.{name_of_text}
@@ -12,6 +11,7 @@ use Rattle.zone_records.specs.Folding.{Zone}
 use Rattle.zone_records.specs.Records.{is_soa}
 use Rattle.zone_records.specs.declared.record.ZoneRecord.{ZoneRecord}
 use Rattle.zone_fetch_run.specs.Lines.{hex_word, zone_text}
+use Rattle.zone_fetch_run.specs.Words.{number_in}
 use Rattle.zone_fetch_run.specs.declared.printed.LineFault.{LineFault}
 use Rattle.zone_fetch_run.specs.declared.printed.LineFault.TheVariants.{Wrong}
 use Rattle.zone_fetch_run.specs.declared.printed.LineFault.TheVariants as line_faults

@@ -12,6 +12,7 @@
 mod command;
 mod fetching;
 mod lines;
+mod number;
 mod printed;
 mod progress_line;
 mod run;

@@ -5,13 +5,13 @@
 ghost use Rattle.std.specs.Prelude.{◌≡◌, ◌≤◌, ◌<◌, ◌∷◌, ◌++◌, [], length, true, Some, None, IfErr, IfOk, OnOk, IfSome, IsSome, find};
 ghost use Rattle.std.specs.Char.{digit_char};
 ghost use Rattle.std.specs.Option.{option_copied};
-ghost use Rattle.command_parts.specs.Numbers.{number_in};
 ghost use Rattle.zone_records.specs.Records.{is_soa};
 ghost use Rattle.zone_fetch_run.specs.Lines.{hex_word, octet_digits};
 ghost use Rattle.zone_fetch_run.specs.Printed.{Adds, AddsZone, BeginsWith, HasFlaw, IsPrinted, IsRecordLine, added, at_line, own_serial, owner_of, serial_of, soa_after};
+ghost use Rattle.zone_fetch_run.specs.Words.{number_in};
 
 use crate::lines::zone_text;
-use command_parts::number_in;
+use crate::number::number_in;
 use dns_base::{Class, Name, NameFault, NoMemory, Rtype, Serial, Ttl};
 use std::alloc::Global;
 use zone_records::{ApplyFault, OctetList, Update, Zone, ZoneRecord};
@@ -151,7 +151,7 @@ fn owner_of(alloc: Global, word: &str) -> Result<OctetList, LineFault>
     Ok(OctetList::from_vec(octets))
 }
 
-fn number(greatest: u64, word: &str, part: Part) -> Result<u64, LineFault>
+fn number(greatest: usize, word: &str, part: Part) -> Result<usize, LineFault>
     ensures value { IfOk result (λ n. number_in 0 greatest word.now ≡ Some n) }
     ensures range { IfOk result (λ n. n ≤ greatest) }
 {

@@ -1,18 +1,17 @@
 //! Words that are taken, one after another.
 
 ghost use Rattle.std.specs.Prelude.{◌≡◌, Some, None, false, if◌then◌else◌};
-ghost use Rattle.command_parts.specs.Numbers.{number_in};
 ghost use Rattle.dns_names.specs.Text.{name_of_text};
 ghost use Rattle.std.specs.Result.{result_ok};
-ghost use Rattle.zone_fetch_run.specs.Words.{AddressGives, Answers, FileGives, WordGives, WordsGive, any_said, most_given, optioned, port_given, zone_given};
+ghost use Rattle.zone_fetch_run.specs.Words.{AddressGives, Answers, FileGives, WordGives, WordsGive, any_said, most_given, number_in, optioned, port_given, zone_given};
 
 use crate::command::{Next, Said};
-use command_parts::number_in;
+use crate::number::number_in;
 use dns_base::{IpAddr, Name, NameFault, NoMemory};
 use std::alloc::Global;
 
 /// The greatest port.
-const MOST_PORT: u64 = 65535;
+const MOST_PORT: usize = 65535;
 
 /// Why a word was not taken.
 #[derive(Clone, Copy)]
@@ -48,9 +47,9 @@ impl Said {
     fn take_most(&mut self, word: &str) -> Result<(), WordFault>
         ensures { Answers (λ o. o ≡ most_given (number_in 0 18446744073709551615 word.now) self.old) result self.new }
     {
-        match number_in(0, u64::MAX, word) {
+        match number_in(0, usize::MAX, word) {
             Some(most) => {
-                self.most = most;
+                self.most = most as u64;
                 self.next = Next::Any;
                 Ok(())
             }
