@@ -2,7 +2,7 @@
 
 usage: python3 tests/replay_lanes.py PROGRAM [--runs N] [--lanes N] [--events N] [--busy N] [--seed N] [--short]
 
-PROGRAM is the built dnsq. Each run makes a script of so many lanes (4) with so many events each (100), by datagrams or by
+PROGRAM is the built dnsq. First six inputs whose end is stored are read. Then each run makes a script of so many lanes (4) with so many events each (100), by datagrams or by
 stream, with names that come again, so that the cache answers some. Of what is written, each lane's events must stand in
 their order, each once, and nothing else; and without its lanes it must be what `dnsq replay` writes for its own events. A run
 may take a minute. With `--short` names are of one letter and half of the events are ticks, so that a script of 400000 events is no longer
@@ -17,6 +17,44 @@ import sys
 import tempfile
 
 MOMENT = 10_000
+
+# One lane, in which a server fails once its answer has expired, and what it comes to.
+ALONE = """conf nameserver 192.0.2.53
+set stale-for 3600
+lane
+at 0 ask 000001000001000000000000076578616d706c6503636f6d0000010001 00000100 -
+at 10 opened 0
+at 20 datagram 0 000081800001000100000000076578616d706c6503636f6d0000010001c00c00010001000000640004c0000201
+at 200000000 ask 000001000001000000000000076578616d706c6503636f6d0000010001 00000100 -
+at 200000010 open-failed 1 refused
+"""
+SERVED = """many 2
+lane 0 at 0 ask 000001000001000000000000076578616d706c6503636f6d0000010001 00000100 -
+> start 0 0 dgram
+> open-dgram 0 0
+lane 0 at 10 opened 0
+> send 0 0 0 000001000001000000000001076578616d706c6503636f6d000001000100002904d0000000000000
+lane 0 at 20 datagram 0 000081800001000100000000076578616d706c6503636f6d0000010001c00c00010001000000640004c0000201
+> close 0
+> reply 0 ok 000081800001000100000000076578616d706c6503636f6d0000010001c00c00010001000000640004c0000201
+lane 0 at 200000000 ask 000001000001000000000000076578616d706c6503636f6d0000010001 00000100 -
+> start 1 0 dgram
+> open-dgram 1 0
+lane 0 at 200000010 open-failed 1 refused
+> stale 1
+> reply 1 ok 000081800001000100000000076578616d706c6503636f6d0000010001c00c000100010000001e0004c0000201
+end
+"""
+USAGE = "usage: dnsq replay|conf|gen N|many|query NAME TYPE [--port P]\n"
+# Words, what is read, the status, and what is written, where that does not depend on who comes first.
+ENDS = [
+    (["many"], "", 1, "line 1 refused\n"),
+    (["many"], "x\nlane\n", 1, "line 1 refused\n"),
+    (["many"], "lane\n", 0, "many 1\nend\n"),
+    (["many"], ALONE, 0, SERVED),
+    (["many", "many"], "lane\n", 2, USAGE),
+    (["replay"], "", 0, "trace 1\nend\n"),
+]
 
 
 def name_of(labels):
@@ -106,8 +144,8 @@ def script_of(pick, lanes, events):
     return head, [["at %d %s" % (MOMENT * i, event(pick, streams)) for i in range(events)] for _ in range(lanes)]
 
 
-def run(program, command, text):
-    ran = subprocess.run([program, command], input=text.encode(), capture_output=True, timeout=600, check=False)
+def run(program, words, text):
+    ran = subprocess.run([program, *words], input=text.encode(), capture_output=True, timeout=600, check=False)
     return ran.returncode, ran.stdout.decode()
 
 
@@ -127,7 +165,7 @@ def difference(program, head, lanes, status, text):
         rows.append(line)
     if made != lanes:
         return "the events of a lane are others"
-    replayed = run(program, "replay", "\n".join(head + events) + "\n")
+    replayed = run(program, ["replay"], "\n".join(head + events) + "\n")
     if replayed != (0, "\n".join(["trace " + version] + rows + ["end"]) + "\n"):
         return "the replay of its events is another"
     return None
@@ -142,13 +180,17 @@ def main():
     asked = words.parse_args()
     busy = [subprocess.Popen([sys.executable, "-c", "while True: pass"]) for _ in range(asked.busy)]
     try:
+        for told in ENDS:
+            ended = run(asked.program, told[0], told[1])
+            if ended != told[2:]:
+                sys.exit("%s of %r ended with %r" % (" ".join(told[0]), told[1], ended))
         pick = random.Random(asked.seed)
         orders = set()
         for number in range(asked.runs):
             made = short_script_of if asked.short else script_of
             head, lanes = made(pick, asked.lanes, asked.events)
             text = "\n".join(head + [line for lane in lanes for line in ["lane"] + lane]) + "\n"
-            status, written = run(asked.program, "many", text)
+            status, written = run(asked.program, ["many"], text)
             wrong = difference(asked.program, head, lanes, status, written)
             if wrong:
                 with tempfile.NamedTemporaryFile("w", suffix=".script", delete=False) as file:

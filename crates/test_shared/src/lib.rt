@@ -1,12 +1,10 @@
-//! Tests of a client that callers share, and of the command whose lanes share one.
+//! Tests of a client that callers share.
 #![tactic(auto)]
 
 #[cfg(test)]
 mod calls;
 #[cfg(test)]
 mod crossing;
-#[cfg(test)]
-mod many;
 #[cfg(test)]
 mod scenes;
 #[cfg(test)]
