@@ -38,19 +38,19 @@ pub turned : (polled : Option FrontWhat) (row : FrontRow) (old mid new : Option 
     → mid ≡ after_deed (Polled polled) old → new ≡ after_deeds (acts_on row.outs) mid → IsTurn row old new
 turned polled row old mid new of_poll poll acts = record { polled = polled; of_poll = of_poll; deeds = more_deeds (Polled polled ∷ []) (acts_on row.outs) old mid new poll acts }
 
-rows_more : (turns : List Turn) (turn : Turn) → rows_of (turns ++ turn ∷ []) ≡ rows_of turns ++ turn.row ∷ []
+pub rows_more : (turns : List Turn) (turn : Turn) → rows_of (turns ++ turn ∷ []) ≡ rows_of turns ++ turn.row ∷ []
 rows_more [] turn = refl
 rows_more (t ∷ ts) turn = ap (λ (rows : List FrontRow). t.row ∷ rows) (rows_more ts turn)
 
-moments_more : (turns : List Turn) (turn : Turn) → moments_of (turns ++ turn ∷ []) ≡ moments_of turns ++ turn.row.event.moment.0 ∷ []
+pub moments_more : (turns : List Turn) (turn : Turn) → moments_of (turns ++ turn ∷ []) ≡ moments_of turns ++ turn.row.event.moment.0 ∷ []
 moments_more [] turn = refl
 moments_more (t ∷ ts) turn = ap (λ (ms : List ℕ). t.row.event.moment.0 ∷ ms) (moments_more ts turn)
 
-deeds_more : (turns : List Turn) (turn : Turn) → flat_map deeds_of (turns ++ turn ∷ []) ≡ flat_map deeds_of turns ++ deeds_of turn
+pub deeds_more : (turns : List Turn) (turn : Turn) → flat_map deeds_of (turns ++ turn ∷ []) ≡ flat_map deeds_of turns ++ deeds_of turn
 deeds_more [] turn = append_nil (deeds_of turn)
 deeds_more (t ∷ ts) turn = ap (λ (ds : List FrontDeed). deeds_of t ++ ds) (deeds_more ts turn) ∙ sym (append_assoc (deeds_of t) (flat_map deeds_of ts) (deeds_of turn))
 
-answers_more : (turns : List Turn) (turn : Turn) → answers_of (turns ++ turn ∷ []) ≡ answers_of turns + answers_in turn.row
+pub answers_more : (turns : List Turn) (turn : Turn) → answers_of (turns ++ turn ∷ []) ≡ answers_of turns + answers_in turn.row
 answers_more turns turn = let e = sum_by-append (λ (t : Turn). answers_in t.row) turns (turn ∷ []) in omega (arith, e)
 
 -- so many turns were made, and so many are left

@@ -10,10 +10,10 @@ use Rattle.forward_words.specs.declared.words.Asked.{Asked}
 use Rattle.forward_run.specs.Serving.{IfAsked, IsAnsweredIf, IsCut, IsDone, IsNotListened, IsNotListenedBy, IsNotListenedIf, RefusalIsSaid, numbers_line}
 use Rattle.forward_run.specs.Turns.{World}
 
-asked_with : (said : List (String Global)) (asked : Asked) (told : Option (List ℕ)) (P : Asked → List ℕ → Type 0) → asked_by said ≡ Some asked → IfSome told (P asked) → IfAsked said told P
+pub asked_with : (said : List (String Global)) (asked : Asked) (told : Option (List ℕ)) (P : Asked → List ℕ → Type 0) → asked_by said ≡ Some asked → IfSome told (P asked) → IfAsked said told P
 asked_with said asked told P is h = subst (λ (o : Option Asked). IfSome o (λ a. IfSome told (P a))) (sym is) h
 
-told_with : (told : Option (List ℕ)) (P Q : List ℕ → Type 0) → ((text : List ℕ) → P text → Q text) → IfSome told P → IfSome told Q
+pub told_with : (told : Option (List ℕ)) (P Q : List ℕ → Type 0) → ((text : List ℕ) → P text → Q text) → IfSome told P → IfSome told Q
 told_with None P Q f h = h
 told_with (Some text) P Q f h = f text h
 

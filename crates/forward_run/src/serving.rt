@@ -75,7 +75,7 @@ fn learn_all<F: Front>(front: &mut F, servers: &[ServerConf]) -> Result<(), NoMe
 }
 
 /// How the program ends where the forwarder stops.
-fn stopped_by(alloc: Global, error: Error) -> Ending
+pub fn stopped_by(alloc: Global, error: Error) -> Ending
     ensures ends { IsServeEnd result }
     ensures status { (status_of result ≡ 6) ⊎ (status_of result ≡ 7) }
     ensures line { status_of result ≡ 7 → line_of result ≡ spec.numbers_line }
@@ -110,6 +110,25 @@ fn listen<F: Front>(
     }
 }
 
+/// Listens, unless the forwarder would ask itself, and tells the front the servers of a configuration.
+pub fn begin_front<F: Front>(
+    listened: &[IpAddr],
+    port: u16,
+    conf: &ResolvConf,
+    front: &mut F,
+) -> Result<(), Ending>
+    ensures deeds { OnOk result (F.deeds front.new ≡ after_deeds (begun_deeds port conf.now) (F.deeds front.old)) }
+    ensures polls { F.polls front.new ≡ F.polls front.old }
+    ensures ends { IfErr result IsServeEnd }
+    ensures deaf { IfErr result (λ e. status_of e ≡ 5 → IsDeaf listened.now port conf.now (F.faults front.old) (F.faults front.new)) }
+    ensures no_numbers { IfErr result (λ e. status_of e ≢ 7) }
+    ensures asks_others { OnOk result (spec.asks_itself listened.now port conf.now ≡ false) }
+{
+    listen(listened, port, conf, front)?;
+    learn_all(front, conf.servers.as_slice())?;
+    Ok(())
+}
+
 /// A forwarder that asks the servers of a configuration.
 fn forwarder_of(
     alloc: Global,
@@ -127,7 +146,7 @@ fn forwarder_of(
 }
 
 /// Listens, tells the front the servers of a configuration, and makes a forwarder that asks them.
-fn begin<F: Front>(
+pub fn begin<F: Front>(
     alloc: Global,
     options: &Options,
     seed: u64,
@@ -143,8 +162,7 @@ fn begin<F: Front>(
     ensures no_numbers { IfErr result (λ e. status_of e ≢ 7) }
     ensures asks_others { OnOk result (spec.asks_itself options.now.listened port conf.now ≡ false) }
 {
-    listen(options.listened.as_slice(), port, conf, front)?;
-    learn_all(front, conf.servers.as_slice())?;
+    begin_front(options.listened.as_slice(), port, conf, front)?;
     let forwarder = forwarder_of(alloc, options, seed, conf)?;
     Ok(forwarder)
 }
@@ -177,7 +195,7 @@ fn serve_conf<F: Front, C: Clock, W: Words, V: Watch>(
 }
 
 /// The line that says how many answers there were.
-fn answered_line(alloc: Global, answered: u64) -> Result<Vec<u8>, AllocError>
+pub fn answered_line(alloc: Global, answered: u64) -> Result<Vec<u8>, AllocError>
     ensures { IfOk result (λ v. v.items ≡ spec.answered_line answered) }
 {
     let text = format!(in alloc; "answered {answered}\n")?;
@@ -185,7 +203,7 @@ fn answered_line(alloc: Global, answered: u64) -> Result<Vec<u8>, AllocError>
 }
 
 /// The configuration whose servers are asked, of the one that a source gives.
-fn conf_asked<S: Source, W: Words>(
+pub fn conf_asked<S: Source, W: Words>(
     alloc: Global,
     options: &Options,
     source: &mut S,
@@ -234,7 +252,7 @@ fn serve_source<S: Source, F: Front, C: Clock, W: Words, V: Watch>(
 }
 
 /// Ends without a line of answers: by the line that says why, if there is one.
-fn end_without<K: Sink>(sink: &mut K, ending: Ending) -> Status
+pub fn end_without<K: Sink>(sink: &mut K, ending: Ending) -> Status
     requires { IsEndOfSource ending }
     ensures status { (result.0 ≡ status_of ending) ⊎ (result.0 ≡ 6) }
     ensures statuses { IsOtherEnd result.0 }

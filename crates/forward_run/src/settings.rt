@@ -13,7 +13,7 @@ use resolver_policy::{practical, practical_choice};
 use std::alloc::Global;
 
 /// How the client's cache is set.
-pub(crate) fn cache_of(options: &Options) -> cache::Config
+pub fn cache_of(options: &Options) -> cache::Config
     ensures { result ≡ spec.cache_of options.now }
 {
     let mut config = cache::Config::new();
@@ -23,7 +23,7 @@ pub(crate) fn cache_of(options: &Options) -> cache::Config
 }
 
 /// How the client chooses among servers.
-pub(crate) fn choice_of(policy: Policy) -> redundant::Config
+pub fn choice_of(policy: Policy) -> redundant::Config
     ensures { result ≡ spec.choice_of policy }
 {
     match policy {

@@ -4,7 +4,6 @@ use crate::watch::Watch;
 use client_request::Out;
 use command_parts::deliver;
 use dns_values::Sink;
-use front_core::Forwarder;
 use front_peers::{FrontOut, FrontRow, FrontWhat};
 use resolv_conf::OpenFile;
 use std::alloc::Global;
@@ -131,14 +130,13 @@ impl<O: OpenFile + Drop, K: Sink + Drop> StatusLine<O, K> {
         second_number(str::from_utf8(&buf[..count]).ok()?)
     }
 
-    fn write(&mut self, forwarder: &Forwarder) {
+    fn write(&mut self, waiting: u64) {
         let Tally {
             hits,
             misses,
             refused,
             stale,
         } = self.tally;
-        let waiting = forwarder.waiting();
         let queries = hits
             .saturating_add(misses)
             .saturating_add(refused)
@@ -153,7 +151,7 @@ impl<O: OpenFile + Drop, K: Sink + Drop> StatusLine<O, K> {
 }
 
 impl<O: OpenFile + Drop, K: Sink + Drop> Watch for StatusLine<O, K> {
-    fn turned(&mut self, forwarder: &Forwarder, row: &FrontRow) {
+    fn turned(&mut self, waiting: u64, row: &FrontRow) {
         let Some(every) = self.every else {
             return;
         };
@@ -163,6 +161,6 @@ impl<O: OpenFile + Drop, K: Sink + Drop> Watch for StatusLine<O, K> {
             return;
         }
         self.next = second.saturating_add(every);
-        self.write(forwarder);
+        self.write(waiting);
     }
 }

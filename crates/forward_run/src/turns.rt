@@ -18,7 +18,7 @@ use front_core::Forwarder;
 use front_peers::{FrontEvent, FrontOut, FrontRow, FrontWhat};
 
 /// What happens in a turn in which the front gave this: that, or time alone where it gave nothing.
-fn happened(polled: Option<FrontWhat>) -> FrontWhat
+pub fn happened(polled: Option<FrontWhat>) -> FrontWhat
     ensures { result ≡ happened polled }
 {
     match polled {
@@ -28,7 +28,7 @@ fn happened(polled: Option<FrontWhat>) -> FrontWhat
 }
 
 /// Hands these outs to a front, in order.
-fn act_all<F: Front>(front: &mut F, outs: &[FrontOut]) -> Result<(), NoMemory>
+pub fn act_all<F: Front>(front: &mut F, outs: &[FrontOut]) -> Result<(), NoMemory>
     ensures deeds { OnOk result (F.deeds front.new ≡ after_deeds (acts_on outs.now) (F.deeds front.old)) }
     ensures polls { F.polls front.new ≡ F.polls front.old }
 {
@@ -69,7 +69,7 @@ pub fn turn<F: Front, C: Clock, W: Words>(
 }
 
 /// Whether an out is an answer.
-fn is_answer(out: &FrontOut) -> bool
+pub fn is_answer(out: &FrontOut) -> bool
     ensures { result ≡ is_answer out.now }
 {
     match out {
@@ -79,7 +79,7 @@ fn is_answer(out: &FrontOut) -> bool
 }
 
 /// How many answers a row puts out.
-fn answers_in(row: &FrontRow) -> usize
+pub fn answers_in(row: &FrontRow) -> usize
     ensures { result ≡ answers_in row.now }
 {
     row.outs
@@ -109,7 +109,7 @@ pub(crate) fn turn_all<F: Front, C: Clock, W: Words, V: Watch>(
             Ok(row) => row,
             Err(error) => return Err(error),
         };
-        watch.turned(forwarder, &row);
+        watch.turned(forwarder.waiting(), &row);
         let Some(more) = answered.checked_add(answers_in(&row) as u64) else {
             return Err(Error::NumbersUsed);
         };

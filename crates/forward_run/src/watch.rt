@@ -1,12 +1,11 @@
 //! Who watches a forwarder at work.
 
-use front_core::Forwarder;
 use front_peers::FrontRow;
 
 /// What is told of each turn of a forwarder. It has no part in what becomes of it.
 pub trait Watch {
-    /// Told after a turn: the row that it made, and the forwarder that made it.
-    fn turned(&mut self, forwarder: &Forwarder, row: &FrontRow);
+    /// Told after a turn: how many queries wait, and the row that it made.
+    fn turned(&mut self, waiting: u64, row: &FrontRow);
 }
 
 /// Who watches nothing.
@@ -14,5 +13,5 @@ pub trait Watch {
 pub struct Unwatched;
 
 impl Watch for Unwatched {
-    fn turned(&mut self, _forwarder: &Forwarder, _row: &FrontRow) {}
+    fn turned(&mut self, _waiting: u64, _row: &FrontRow) {}
 }

@@ -1,0 +1,35 @@
+-- How a forwarder ends that is not served.
+use Rattle.std.proofs.Common.{◌≡◌, ◌⊎◌, inl, inr, ℕ, arith}
+use Rattle.command_parts.specs.declared.ending.Ending.{Ending}
+use Rattle.dns_record.specs.declared.ended.Refused.{Refused}
+use Rattle.forward_run.specs.Serving.{IsOtherEnd}
+use Rattle.forward_record.specs.Serving.{IfEnds, IfNotRecorded}
+use Rattle.forward_record.specs.declared.serving.Unserved.{Unserved}
+use Rattle.forward_record.specs.declared.serving.Unserved.TheVariants.{Ends, NotRecorded}
+
+pub if_ends : (P Q : Ending → Type 0) → ((ending : Ending) → P ending → Q ending) → (e : Unserved) → IfEnds e P → IfEnds e Q
+if_ends P Q f (Ends ending) h = f ending h
+if_ends P Q f (NotRecorded why) h = h
+
+pub if_not_recorded : (P Q : Refused → Type 0) → ((why : Refused) → P why → Q why) → (e : Unserved) → IfNotRecorded e P → IfNotRecorded e Q
+if_not_recorded P Q f (Ends ending) h = h
+if_not_recorded P Q f (NotRecorded why) h = f why h
+
+-- a forwarder that is not served does not end as one that is
+pub not_served : (n : ℕ) → IsOtherEnd n → (n ≡ 0) ⊎ (n ≡ 4) → ⊥
+not_served n (inl e) (inl h) = omega arith
+not_served n (inl e) (inr h) = omega arith
+not_served n (inr (inl e)) (inl h) = omega arith
+not_served n (inr (inl e)) (inr h) = omega arith
+not_served n (inr (inr (inl e))) (inl h) = omega arith
+not_served n (inr (inr (inl e))) (inr h) = omega arith
+not_served n (inr (inr (inr (inl e)))) (inl h) = omega arith
+not_served n (inr (inr (inr (inl e)))) (inr h) = omega arith
+not_served n (inr (inr (inr (inr e)))) (inl h) = omega arith
+not_served n (inr (inr (inr (inr e)))) (inr h) = omega arith
+
+pub refusal_not_served : (n : ℕ) → (n ≡ 8) ⊎ (n ≡ 6) → (n ≡ 0) ⊎ (n ≡ 4) → ⊥
+refusal_not_served n (inl e) (inl h) = omega arith
+refusal_not_served n (inl e) (inr h) = omega arith
+refusal_not_served n (inr e) (inl h) = omega arith
+refusal_not_served n (inr e) (inr h) = omega arith

@@ -1,0 +1,4 @@
+pub mod Steps
+pub mod Turning
+pub mod Served
+pub mod Ends
