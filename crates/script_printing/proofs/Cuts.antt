@@ -1,6 +1,6 @@
 -- A text that is cut anywhere.
-use Rattle.std.proofs.Common.{◌≡◌, ◌<◌, ◌≤◌, ◌+◌, ◌-◌, ℕ, suc, zero, Bool, true, false, ◌&&◌, List, [], ◌∷◌, ◌++◌, length, take, refl, sym, ap, ◌∙◌, subst, inl, inr, arith, append_assoc, length-append}
-use Rattle.std.specs.List.{AllByRecursion, flat_map, list_all}
+use Rattle.std.proofs.Common.{◌≡◌, ◌≤◌, ◌+◌, ◌-◌, ℕ, suc, zero, true, List, [], ◌∷◌, ◌++◌, length, take, refl, sym, ap, ◌∙◌, subst, inl, inr, arith, append_assoc, length-append}
+use Rattle.std.specs.List.{AllByRecursion, flat_map}
 use Rattle.std.proofs.Math.Seq.{take-append-add, take-nil}
 use Rattle.std.proofs.lemmas.Bool.{and_parts, cases_lt}
 use Rattle.std.proofs.lemmas.List.{take-append-le}
@@ -37,8 +37,8 @@ pub record CutLines {A : Type 0} (line : A → List ℕ) (xs : List A) (octets :
 
 pub cut_lines : {A : Type 0} (text : A → List ℕ) (xs : List A) (n : ℕ) → AllByRecursion (λ x. IsPlain (text x)) xs
     → CutLines (λ x. ended (text x)) xs (take n (flat_map (λ x. ended (text x)) xs))
-cut_lines text [] n h = record { first = []; later = []; all = refl; rest = []; octets_are = take-nil n; no_line = tt }
-cut_lines text (x ∷ xs) n h = elim (cases_lt n (length (text x) + 1)) [
+cut_lines {A = A} text [] n h = record { first = []; later = []; all = refl; rest = []; octets_are = take-nil n; no_line = tt }
+cut_lines {A = A} text (x ∷ xs) n h = elim (cases_lt n (length (text x) + 1)) [
   | inl within ↦
       record {
         first = [];
