@@ -1,6 +1,6 @@
 -- A configuration that was served and recorded.
 use Rattle.std.proofs.Common.{◌≡◌, ℕ, false, List, [], Option, None, Some, String, Global, refl, ◌∙◌, ap, sym, subst}
-use Rattle.std.specs.Prelude.{IfSome}
+use Rattle.std.specs.Prelude.{IfOk, IfSome, Result, Ok, Err}
 use Rattle.client_settings.specs.Settings.{CacheSettings, RedundantSettings}
 use Rattle.client_steps.specs.Whole.{Whole, started}
 use Rattle.dns_record.specs.Laws.{RecordLaw}
@@ -22,6 +22,7 @@ use Rattle.forward_record.specs.Core.{RecordedClient}
 use Rattle.forward_record.specs.Sentences.{unrecorded_line}
 use Rattle.forward_record.specs.Serving.{IsBegun, IsNotRecorded, IsNotRecordedIf, IsRefusalSaid, IsServed, IsServedIf, IsServedOf, words_ahead, words_behind}
 use Rattle.forward_record.specs.Turns.{Recorded, Turned, scene, within}
+use Rattle.forward_record.specs.declared.serving.Unserved.{Unserved}
 
 -- a forwarder over a new client, whose record begins
 pub begun : {K : Type 0} (held : K → Option (List ℕ)) (options : Options) (conf : ResolvConf) (words : List ℕ) (before : Option (List ℕ)) (choice : RedundantSettings) (cache : CacheSettings) (client : Whole) (r : Recording) (sink : K)
@@ -72,11 +73,17 @@ served held options asked conf answered before first last old new words deeds po
     }
 
 -- where the source tells its text
-pub served_if : {K : Type 0} (held : K → Option (List ℕ)) (options : Options) (asked : Asked) (told : Option (List ℕ)) (conf : ResolvConf) (left : ℕ → ℕ) (answered : ℕ) (before : Option (List ℕ)) (last : Recorded K) (old new : World)
+served_if : {K : Type 0} (held : K → Option (List ℕ)) (options : Options) (asked : Asked) (told : Option (List ℕ)) (conf : ResolvConf) (left : ℕ → ℕ) (answered : ℕ) (before : Option (List ℕ)) (last : Recorded K) (old new : World)
     → IfSome told (λ text. IsConfAsked options text old.words conf left) → IsServed held options asked conf answered before last (record old { words = left }) new
     → IsServedIf held options asked told answered before last old new
 served_if held options asked None conf left answered before last old new read serves = tt
 served_if held options asked (Some text) conf left answered before last old new read serves = record { conf = conf; left = left; conf_asked = read; served = serves }
+
+pub serves_if : {K : Type 0} (held : K → Option (List ℕ)) (options : Options) (asked : Asked) (told : Option (List ℕ)) (conf : ResolvConf) (left : ℕ → ℕ) (before : Option (List ℕ)) (old new : World) (r : Result (ℕ × Recorded K) Unserved)
+    → IfSome told (λ text. IsConfAsked options text old.words conf left) → IfOk r (λ served. IsServed held options asked conf served.0 before served.1 (record old { words = left }) new)
+    → IfOk r (λ served. IsServedIf held options asked told served.0 before served.1 old new)
+serves_if held options asked told conf left before old new (Ok served) read h = served_if held options asked told conf left served.0 before served.1 old new read h
+serves_if held options asked told conf left before old new (Err e) read h = h
 
 pub refused_if : (options : Options) (told : Option (List ℕ)) (conf : ResolvConf) (words left : ℕ → ℕ) (faults : ℕ) (why : Refused)
     → IfSome told (λ text. IsConfAsked options text words conf left) → IsNotRecorded options conf (words_ahead left) faults why → IsNotRecordedIf options told words faults why
