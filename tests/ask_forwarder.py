@@ -362,10 +362,10 @@ def ask_words(program, server):
     time.sleep(2.2)
     ends_by(told, signal.SIGKILL)
     lines = told.stderr.read().decode().splitlines()
-    found = [re.match(r"dns_forward: queries (\d+), hits (\d+), misses (\d+), refused (\d+), waiting (\d+), stale (\d+), memory [1-9]\d* KiB$", it) for it in lines]
+    found = [re.match(r"dns_forward: queries (\d+), hits (\d+), misses (\d+), refused (\d+), waiting (\d+), stale (\d+), entries (\d+), memory [1-9]\d* KiB$", it) for it in lines]
     expect(len(lines) >= 2 and all(found), "--status 1: %r" % lines)
-    queries, hits, misses, refused, waiting, stale = map(int, found[-1].groups())
-    expect(queries == hits + misses + refused and hits >= 2 and misses >= 1 and [waiting, stale] == [0, 0], "--status 1 counts otherwise: %r" % lines[-1])
+    queries, hits, misses, refused, waiting, stale, entries = map(int, found[-1].groups())
+    expect(queries == hits + misses + refused and hits >= 2 and misses >= 1 and [waiting, stale, entries] == [0, 0, 1], "--status 1 counts otherwise: %r" % lines[-1])
     practised = start(program, port, server, ["--policy", "practice"], conf=b"nameserver 127.0.0.77\nnameserver 127.0.0.1\n")
     for n in range(8):
         got = by_datagram(port, query("o%d.example" % n))

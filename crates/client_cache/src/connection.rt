@@ -6,7 +6,7 @@
 //!                      └──nothing does──► the transport below ──its result──► kept ──► result
 //! ```
 
-ghost use Rattle.std.specs.Prelude.{◌≡◌, IfOk, OnOk, OnErr, IfErr, IsErrOf, true};
+ghost use Rattle.std.specs.Prelude.{◌≡◌, IfOk, OnOk, OnErr, IfErr, IsErrOf, length, true};
 ghost use Rattle.client_request.specs.Calls.{AnswersFailed};
 ghost use Rattle.client_request.specs.Cx.{view_of, LendsTheSame};
 ghost use Rattle.client_request.specs.Response.{IsRefusal};
@@ -106,6 +106,13 @@ impl<CR, U: SendRequest<CR>> Connection<CR, U> {
         ensures { result.now ≡ self.now.upstream }
     {
         &self.upstream
+    }
+
+    /// How many results are kept.
+    pub fn entry_count(&self) -> usize
+        ensures { result ≡ length self.now.kept.table.entries }
+    {
+        self.kept.table.len()
     }
 
     /// The transport below, which can so be called past the cache: what it posts later for a ticket of its own is handed

@@ -34,7 +34,7 @@ struct Tally {
 ///
 /// `queries` counts those that were answered or wait. One that was answered is a hit where that was in the turn in which it came, and
 /// else a miss; and refused where the answer has no question. `waiting` is how many wait now. `stale` counts what had expired among the
-/// answers of both kinds. `memory` is what the system holds for the program, in kibibytes, or 0 where it doesn't tell.
+/// answers of both kinds. `entries` is how many results are kept now. `memory` is what the system holds for the program, in kibibytes, or 0 where it doesn't tell.
 #[derive(Drop)]
 pub struct StatusLine<O: OpenFile + Drop, K: Sink + Drop> {
     alloc: Global,
@@ -141,9 +141,10 @@ impl<O: OpenFile + Drop, K: Sink + Drop> StatusLine<O, K> {
             .saturating_add(misses)
             .saturating_add(refused)
             .saturating_add(waiting);
+        let entries = forwarder.entry_count();
         let memory = self.pages().unwrap_or(0).saturating_mul(PAGE);
         if let Ok(line) = format!(in self.alloc;
-            "dns_forward: queries {queries}, hits {hits}, misses {misses}, refused {refused}, waiting {waiting}, stale {stale}, memory {memory} KiB\n"
+            "dns_forward: queries {queries}, hits {hits}, misses {misses}, refused {refused}, waiting {waiting}, stale {stale}, entries {entries}, memory {memory} KiB\n"
         ) {
             deliver(&mut self.errors, line.as_bytes());
         }

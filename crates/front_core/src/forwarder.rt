@@ -1,6 +1,6 @@
 //! The forwarder over the project's client.
 
-ghost use Rattle.std.specs.Prelude.{◌≡◌, true, false, Err, OnOk, OnErr, IfOk, IfErr, IsErrOf};
+ghost use Rattle.std.specs.Prelude.{◌≡◌, length, true, false, Err, OnOk, OnErr, IfOk, IfErr, IsErrOf};
 ghost use Rattle.client_request.specs.Response.{IsRefusal};
 ghost use Rattle.client_core.specs.Waiting.{wait_of};
 ghost use Rattle.client_steps.specs.Whole.{started};
@@ -92,5 +92,12 @@ impl Forwarder {
         ensures { result ≡ count_waiting self.now.desk.waits }
     {
         self.over.waiting()
+    }
+
+    /// How many results are kept.
+    pub fn entry_count(&self) -> usize
+        ensures { result ≡ length self.now.within.layer.kept.table.entries }
+    {
+        self.over.within().entry_count()
     }
 }

@@ -1,6 +1,6 @@
 //! The project's client within a forwarder.
 
-ghost use Rattle.std.specs.Prelude.{◌≡◌};
+ghost use Rattle.std.specs.Prelude.{◌≡◌, length};
 ghost use Rattle.client_core.specs.Waiting.{wait_of};
 ghost use Rattle.front_core.specs.Core.{IsCoreStep, core_serves};
 ghost use Rattle.right_trace.specs.Timely.{IsAskedInOctets};
@@ -40,6 +40,13 @@ impl Core {
         ensures { result ≡ client }
     {
         Core { client }
+    }
+
+    /// How many results are kept.
+    pub(crate) fn entry_count(&self) -> usize
+        ensures { result ≡ length self.now.layer.kept.table.entries }
+    {
+        self.client.layers().entry_count()
     }
 
     /// How long whoever holds the client may wait for something to happen, in microseconds from the moment of its last event on.

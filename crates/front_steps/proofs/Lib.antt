@@ -1,3 +1,5 @@
 pub mod PutOn
 pub mod Doing
 pub mod Counting
+pub mod Removing
+pub mod Passing

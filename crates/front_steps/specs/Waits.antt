@@ -2,14 +2,15 @@
 use Rattle.std.specs.Prelude.{ℕ, ◌+◌, ◌++◌, ◌&&◌, ◌||◌, not, nat_lt, Bool, true, false, List, [], ◌∷◌, length, Option, Some, None, option_and_then, option_map, Result}
 use Rattle.std.specs.BTreeMap.{insert_entry, is_at}
 use Rattle.std.specs.Cmp.Lexicographic.{slice_cmp}
-use Rattle.std.specs.Map.{lookup, remove_entry}
+use Rattle.std.specs.List.Sorted.{IsStrictlySortedBy}
+use Rattle.std.specs.Map.{keys_of, lookup, remove_entry}
 use Rattle.std.specs.Ordering.{nat_cmp}
 use Rattle.number_table.specs.Entries.{puts, frees, entry_at}
 use Rattle.client_request.specs.declared.error.Error.{Error}
 use Rattle.client_request.specs.declared.event.Out.{Out}
 use Rattle.client_request.specs.declared.event.Out.TheVariants.{Reply}
 use Rattle.front_queries.specs.Answers.{answer_to, framed, turned_away}
-use Rattle.front_queries.specs.Query.{key_of}
+use Rattle.front_queries.specs.Query.{Query, key_of}
 use Rattle.front_peers.specs.Items.{Streams, answers_by}
 use Rattle.front_peers.specs.declared.event.FrontOut.{FrontOut}
 use Rattle.front_peers.specs.declared.event.FrontOut.TheVariants.{Core, Answer}
@@ -78,6 +79,22 @@ answered number waiting w = record w {
   numbers = remove_entry (is_key waiting.key) w.numbers;
 }
 
+-- a query has the reply to its own request at once
+abbrev pub passes : Asker → Waits → Waits
+passes asker w = answered w.next (record { key = key_of asker.query; first = asker; others = [] }) (asks_anew asker w)
+
+-- what a query asks has no number any more
+abbrev pub forgets : Query → Waits → Waits
+forgets query w = record w { numbers = remove_entry (is_key (key_of query)) w.numbers }
+
+-- the numbers of requests rise
+abbrev pub Rise : List (ℕ × Waiting) → Type 0
+Rise requests = IsStrictlySortedBy nat_cmp (keys_of requests)
+
+-- what is asked stands in order
+abbrev pub AreInOrder : List (List ℕ × ℕ) → Type 0
+AreInOrder numbers = IsStrictlySortedBy (slice_cmp nat_cmp) (keys_of numbers)
+
 abbrev pub answered_if : (number : ℕ) → Option Waiting → Waits → Waits
 answered_if number None w = w
 answered_if number (Some waiting) w = answered number waiting w
@@ -121,6 +138,10 @@ puts_out out d = (Core out ∷ [], d)
 abbrev pub puts_all : List Out → Desk → List FrontOut × Desk
 puts_all [] d = ([], d)
 puts_all (out ∷ outs) d = before (puts_out out d).0 (puts_all outs (puts_out out d).1)
+
+-- these are put out as a query is asked, which waits meanwhile
+abbrev pub puts_asked : Asker → List Out → Desk → List FrontOut × Desk
+puts_asked asker outs d = puts_all outs (record d { waits = asks_anew asker d.waits })
 
 -- what a query gets while too many wait
 abbrev pub away : (by_stream : Bool) → List ℕ → List ℕ

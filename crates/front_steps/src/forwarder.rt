@@ -9,8 +9,7 @@ ghost use Rattle.front_peers.specs.declared.items.Item.TheVariants.{Asks};
 ghost use Rattle.front_steps.specs.Steps.{DidAsk, DidItem, DidQuery, DidRow, DidSo, DidSome, DidTick, Doing, Stepped, TookIn, beginning, scene};
 ghost use Rattle.front_steps.specs.Waits.{count_waiting, has_room, joins_if, may_join, turned};
 
-use crate::asked_key::AskedKey;
-use crate::putting::{Desk, put_all, turn_away};
+use crate::putting::{Desk, put_all, put_asked, turn_away};
 use crate::waits::Waits;
 use crate::within::Within;
 use client_request::{Error, Event, Moment, What, Words};
@@ -86,9 +85,10 @@ fn ask<C: Within, W: Words>(
     ensures want { IfErr result IsWant }
 {
     let request = request_of(alloc, &asker.query)?;
-    desk.waits.ask_anew(asker)?;
     let what = What::Ask { request };
-    step_within(alloc, within, words, desk, Event { moment, what }, outs)
+    let row = within.step(words, Event { moment, what })?;
+    put_asked(alloc, desk, asker, row.outs, outs)?;
+    Ok(())
 }
 
 /// A query for which there is no room is turned away.
@@ -177,8 +177,7 @@ fn take_query<C: Within, W: Words>(
     ensures sound { OnOk result (C.has_failed within.new ≡ false) }
     ensures want { IfErr result IsWant }
 {
-    let key = AskedKey::new(asker.query.key(alloc)?);
-    match desk.waits.same_asked(&key) {
+    match desk.waits.same_asked(&asker.query)? {
         Some(number) => {
             join(alloc, desk, number, asker, outs)?;
             Ok(false)

@@ -1,6 +1,8 @@
 //! What the client within puts out, in the eyes of the front.
 
-ghost use Rattle.std.specs.Prelude.{◌≡◌, ◌++◌, ◌∷◌, [], IfOk, OnOk};
+ghost use Rattle.std.specs.Prelude.{◌≡◌, ◌++◌, ◌∷◌, [], IfErr, IfOk, IfSome, OnOk};
+ghost use Rattle.client_request.specs.Timers.{IsWant};
+ghost use Rattle.client_request.specs.declared.event.Out.TheVariants as out;
 ghost use Rattle.front_peers.specs.Items as items;
 ghost use Rattle.front_steps.specs.Waits as spec;
 
@@ -109,6 +111,39 @@ pub(crate) fn put_all(
     while let Some(out) = left.pop_front() {
         put_out(alloc, desk, out, outs)?;
     }
+    Ok(())
+}
+
+/// The reply to a request of this number, where nothing else is put out.
+fn sole_reply(outs: &Outs, number: u64) -> Option<&Result<Message, Error>>
+    ensures { IfSome result (λ reply. outs.now ≡ out.Reply number reply.now ∷ []) }
+{
+    match outs.as_slice() {
+        [Out::Reply { request, result }] if *request == number => Some(result),
+        _ => None,
+    }
+}
+
+/// Puts out what the client within puts out as a query is asked. The query waits, unless its reply is all of that.
+pub(crate) fn put_asked(
+    alloc: Global,
+    desk: &mut Desk,
+    asker: Asker,
+    from: Outs,
+    outs: &mut FrontOuts,
+) -> Result<(), Error>
+    ensures outs { OnOk result (outs.new ≡ outs.old ++ (spec.puts_asked asker from desk.old).0) }
+    ensures desk { OnOk result (desk.new ≡ (spec.puts_asked asker from desk.old).1) }
+    ensures want { IfErr result IsWant }
+{
+    let number = desk.waits.next()?;
+    let Some(reply) = sole_reply(&from, number) else {
+        desk.waits.ask_anew(asker)?;
+        put_all(alloc, desk, from, outs)?;
+        return Ok(());
+    };
+    desk.waits.pass(&asker)?;
+    answer_one(alloc, reply, &asker, &mut desk.streams, outs)?;
     Ok(())
 }
 

@@ -1,7 +1,8 @@
 //! The queries that wait.
 
-ghost use Rattle.std.specs.Prelude.{◌≡◌, ◌+◌, ◌<◌, ◌^◌, true, length, OnOk, IfErr, IfNone};
+ghost use Rattle.std.specs.Prelude.{◌≡◌, ◌+◌, ◌-◌, ◌<◌, ◌^◌, true, length, IfOk, OnOk, IfErr, IfNone};
 ghost use Rattle.client_request.specs.Timers.{IsWant};
+ghost use Rattle.front_queries.specs.Query.{key_of};
 ghost use Rattle.number_table.specs.Entries.{entry_at, frees, puts};
 ghost use Rattle.std.specs.Map.{lookup};
 ghost use Rattle.front_steps.specs.Waiting.{askers_in, askers_of, askers_or_none};
@@ -12,6 +13,7 @@ use crate::others::Others;
 use client_request::Error;
 use dns_base::NoMemory;
 use front_peers::Asker;
+use front_queries::Query;
 use number_table::NumberTable;
 use std::alloc::Global;
 use std::collections::BTreeMap;
@@ -123,8 +125,8 @@ impl Waits {
         self.numbers.get(key).copied()
     }
 
-    /// The number of the request that waits and asks the same.
-    pub(crate) fn same_asked(&self, key: &AskedKey) -> Option<u64>
+    /// The number of the request that waits, of those that ask this.
+    fn same_key(&self, key: &AskedKey) -> Option<u64>
         ensures { result ≡ spec.same_asked key.now self.now }
     {
         let number = self.number_of(key)?;
@@ -133,6 +135,17 @@ impl Waits {
         } else {
             None
         }
+    }
+
+    /// The number of the request that waits and asks the same as a query. Where none waits, what the query asks isn't written down.
+    pub(crate) fn same_asked(&self, query: &Query) -> Result<Option<u64>, NoMemory>
+        ensures { IfOk result (λ number. number ≡ spec.same_asked (key_of query.now) self.now) }
+    {
+        if self.numbers.is_empty() {
+            return Ok(None);
+        }
+        let key = AskedKey::new(query.key(self.alloc)?);
+        Ok(self.same_key(&key))
     }
 
     /// How many that came by streams wait for the reply to a request, beside the query of which it was made.
@@ -210,6 +223,44 @@ impl Waits {
         if self.numbers.insert(stored, number).is_err() {
             return Err(Error::NoMemory);
         }
+        self.next = number + 1;
+        Ok(())
+    }
+
+    /// What a query asks has no number any more.
+    fn forget(&mut self, query: &Query) -> Result<(), NoMemory>
+        ensures forgotten { OnOk result (self.new ≡ spec.forgets query.now self.old) }
+        ensures in_order { OnOk result (spec.AreInOrder self.old.numbers) }
+        ensures rise { OnOk result (spec.Rise self.old.requests) }
+    {
+        if self.numbers.len() == 0 {
+            return Ok(());
+        }
+        let key = AskedKey::new(query.key(self.alloc)?);
+        let _number = self.numbers.remove(&key);
+        Ok(())
+    }
+
+    /// The number of the next request. `NumbersUsed` where none is left.
+    pub(crate) fn next(&self) -> Result<u64, Error>
+        ensures next { IfOk result (λ number. number ≡ self.now.next) }
+        ensures left { OnOk result (self.now.next < 2 ^ 64 - 1) }
+        ensures want { IfErr result IsWant }
+    {
+        if self.next == u64::MAX {
+            return Err(Error::NumbersUsed);
+        }
+        Ok(self.next)
+    }
+
+    /// A query that was asked has its reply at once, so that it never waits.
+    pub(crate) fn pass(&mut self, asker: &Asker) -> Result<(), Error>
+        ensures ok { OnOk result (self.new ≡ spec.passes asker.now self.old) }
+        ensures want { IfErr result IsWant }
+    {
+        let number = self.next()?;
+        self.forget(&asker.query)?;
+        let _none = self.take_out(number);
         self.next = number + 1;
         Ok(())
     }
