@@ -1,6 +1,6 @@
 //! The client within a forwarder, recorded.
 
-ghost use Rattle.std.specs.Prelude.{◌≡◌};
+ghost use Rattle.std.specs.Prelude.{◌≡◌, length};
 ghost use Rattle.client_core.specs.Waiting.{wait_of};
 ghost use Rattle.forward_record.specs.Core.{IsRecordedStep, serves};
 ghost use Rattle.right_trace.specs.Timely.{IsAskedInOctets};
@@ -58,6 +58,13 @@ impl<K: Sink + Drop> RecordedCore<K> {
         ensures { result ≡ wait_of self.now.client }
     {
         self.client.may_wait()
+    }
+
+    /// How many results are kept.
+    pub fn entry_count(&self) -> usize
+        ensures { result ≡ length self.now.client.layer.kept.table.entries }
+    {
+        self.client.layers().entry_count()
     }
 
     /// Why the record ended; none while it goes on.

@@ -71,7 +71,8 @@ pub(crate) fn turn_all<L: Sink, F: Front, C: Clock, W: Words, V: Watch, K: Sink 
             Err(error) => return Err(error),
         };
         tell_ended(alloc, was, forwarder.within().ended(), errors);
-        watch.turned(forwarder.waiting(), &row);
+        let entries = forwarder.within().entry_count();
+        watch.turned(forwarder.waiting(), entries, &row);
         let Some(more) = answered.checked_add(answers_in(&row) as u64) else {
             return Err(Error::NumbersUsed);
         };

@@ -130,7 +130,7 @@ impl<O: OpenFile + Drop, K: Sink + Drop> StatusLine<O, K> {
         second_number(str::from_utf8(&buf[..count]).ok()?)
     }
 
-    fn write(&mut self, waiting: u64) {
+    fn write(&mut self, waiting: u64, entries: usize) {
         let Tally {
             hits,
             misses,
@@ -141,7 +141,6 @@ impl<O: OpenFile + Drop, K: Sink + Drop> StatusLine<O, K> {
             .saturating_add(misses)
             .saturating_add(refused)
             .saturating_add(waiting);
-        let entries = forwarder.entry_count();
         let memory = self.pages().unwrap_or(0).saturating_mul(PAGE);
         if let Ok(line) = format!(in self.alloc;
             "dns_forward: queries {queries}, hits {hits}, misses {misses}, refused {refused}, waiting {waiting}, stale {stale}, entries {entries}, memory {memory} KiB\n"
@@ -152,7 +151,7 @@ impl<O: OpenFile + Drop, K: Sink + Drop> StatusLine<O, K> {
 }
 
 impl<O: OpenFile + Drop, K: Sink + Drop> Watch for StatusLine<O, K> {
-    fn turned(&mut self, waiting: u64, row: &FrontRow) {
+    fn turned(&mut self, waiting: u64, entries: usize, row: &FrontRow) {
         let Some(every) = self.every else {
             return;
         };
@@ -162,6 +161,6 @@ impl<O: OpenFile + Drop, K: Sink + Drop> Watch for StatusLine<O, K> {
             return;
         }
         self.next = second.saturating_add(every);
-        self.write(waiting);
+        self.write(waiting, entries);
     }
 }

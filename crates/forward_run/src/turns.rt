@@ -109,7 +109,7 @@ pub(crate) fn turn_all<F: Front, C: Clock, W: Words, V: Watch>(
             Ok(row) => row,
             Err(error) => return Err(error),
         };
-        watch.turned(forwarder.waiting(), &row);
+        watch.turned(forwarder.waiting(), forwarder.entry_count(), &row);
         let Some(more) = answered.checked_add(answers_in(&row) as u64) else {
             return Err(Error::NumbersUsed);
         };
