@@ -11,5 +11,3 @@ mod many;
 mod scenes;
 #[cfg(test)]
 mod tests;
-#[cfg(test)]
-mod texts;

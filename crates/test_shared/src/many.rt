@@ -1,6 +1,5 @@
 //! The command whose lanes share one client.
 
-use crate::texts::{begun, put_all};
 use client_core::{ListClock, ListEdge};
 use client_request::{ListWords, WordList};
 use dns_base::Octets;
@@ -9,32 +8,6 @@ use dnsq_many::run;
 use std::alloc::Global;
 use std::sync::Wait;
 use std::thread::Threads;
-
-/// What stands before the lanes.
-const HEAD: &str = "conf nameserver 192.0.2.53\nwords 4660 4661 4662 4663 4664 4665\n";
-
-/// The first lane.
-const FIRST: &str =
-    "at 0 ask 000001000001000000000000076578616d706c6503636f6d0000010001 00000100 -\n\
-    at 10 ask 000001000001000000000000076578616d706c6503636f6d00001c0001 00000100 -\n\
-    at 20 ask 00000100000100000000000003777777076578616d706c6503636f6d0000010001 00000100 -\n";
-
-/// The second lane.
-const SECOND: &str =
-    "at 5 ask 000001000001000000000000046d61696c076578616d706c6503636f6d0000010001 00000100 -\n\
-    at 15 ask 000001000001000000000000046d61696c076578616d706c6503636f6d00001c0001 00000100 -\n\
-    at 25 ask 000001000001000000000000036e7331076578616d706c6503636f6d0000010001 00000100 -\n";
-
-/// Both, behind the head.
-const SIX: &str = "conf nameserver 192.0.2.53\nwords 4660 4661 4662 4663 4664 4665\n\
-    lane\n\
-    at 0 ask 000001000001000000000000076578616d706c6503636f6d0000010001 00000100 -\n\
-    at 10 ask 000001000001000000000000076578616d706c6503636f6d00001c0001 00000100 -\n\
-    at 20 ask 00000100000100000000000003777777076578616d706c6503636f6d0000010001 00000100 -\n\
-    lane\n\
-    at 5 ask 000001000001000000000000046d61696c076578616d706c6503636f6d0000010001 00000100 -\n\
-    at 15 ask 000001000001000000000000046d61696c076578616d706c6503636f6d00001c0001 00000100 -\n\
-    at 25 ask 000001000001000000000000036e7331076578616d706c6503636f6d0000010001 00000100 -\n";
 
 /// The status of these words on this input, and what is written.
 fn ran<R: Threads + Wait + Sync>(
@@ -60,30 +33,6 @@ fn ran<R: Threads + Wait + Sync>(
         &mut ListWords::new(WordList::new(alloc)),
     );
     Some((status.0, Vec::from_slice(alloc, sink.as_slice()).ok()?))
-}
-
-/// Whether two lanes' rows are those of a replay of their events in that order, and each lane has its own, each once.
-fn are_replayed<R: Threads + Wait + Sync>(rt: &R, alloc: Global, text: &[u8]) -> Option<bool> {
-    let rows = text.strip_prefix(b"many 1\n".as_slice())?;
-    let mut texts = begun(alloc, HEAD)?;
-    put_all(rows, &mut texts)?;
-    let (status, trace) = ran(rt, alloc, "replay", texts.script.as_slice())?;
-    Some(
-        status == 0
-            && texts.first.as_slice() == FIRST.as_bytes()
-            && texts.second.as_slice() == SECOND.as_bytes()
-            && texts.trace.as_slice() == trace.as_slice(),
-    )
-}
-
-fn replays<R: Threads + Wait + Sync>(rt: &R, alloc: Global) -> Option<bool> {
-    let (status, text) = ran(rt, alloc, "many", SIX.as_bytes())?;
-    Some(status == 0 && are_replayed(rt, alloc, text.as_slice())?)
-}
-
-#[test]
-fn what_lanes_make_is_a_replay(rt: HostRuntime) {
-    assert!(rt; replays(&rt, rt.alloc()) == Some(true));
 }
 
 /// One lane, in which a server fails once its answer has expired.
