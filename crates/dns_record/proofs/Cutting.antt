@@ -60,6 +60,7 @@ module _ (o : Opening) where
   -- the first of the rows that are recorded so far
   first_is_record : (rows first later : List Row) (held : Option (List ℕ)) (left : List ℕ) (size : ℕ) (client : Whole) → rows ≡ first ++ later → GoesOn o rows held left size client
       → IsRecord (text_of_rows o first) first
+  unfolding start
   first_is_record rows first later held left size client all h =
       let t : ℕ = o.conf.options.timeout in
       let split : events_of rows ≡ events_of first ++ events_of later = ap events_of all ∙ map-append (λ (r : Row). r.event) first later in
