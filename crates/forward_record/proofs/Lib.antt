@@ -1,4 +1,4 @@
 pub mod Steps
 pub mod Turning
-pub mod Served
+pub mod Done
 pub mod Ends

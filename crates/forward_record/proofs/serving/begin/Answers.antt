@@ -2,7 +2,7 @@ use Rattle.std.proofs.Common.{ap, refl, ◌∙◌}
 use Rattle.client_steps.specs.Whole.{Whole}
 use Rattle.forward_record.specs.Core.{RecordedClient}
 use Rattle.forward_record.specs.Serving.{words_ahead, words_behind}
-use Rattle.forward_record.proofs.Served.{begun, not_begun}
+use Rattle.forward_record.proofs.Done.{begun, not_begun}
 use Rattle.forward_record.proofs.serving.begin.Goals as goal
 
 pub new-requires : goal.new-requires

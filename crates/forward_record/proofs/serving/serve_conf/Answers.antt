@@ -1,7 +1,7 @@
 use Rattle.std.proofs.Common.{ap}
 use Rattle.forward_run.specs.Turns.{world}
 use Rattle.forward_record.specs.Turns.{Recorded}
-use Rattle.forward_record.proofs.Served.{served}
+use Rattle.forward_record.proofs.Done.{served}
 use Rattle.forward_record.proofs.serving.serve_conf.Goals as goal
 
 pub turn_all-requires : goal.turn_all-requires

@@ -4,7 +4,7 @@ use Rattle.forward_run.specs.Turns.{world}
 use Rattle.forward_run.proofs.Written.{deaf_so, numbers_so, refused_so, same_status}
 use Rattle.forward_record.specs.Serving.{is_said}
 use Rattle.forward_record.proofs.Ends.{not_served, refusal_not_served}
-use Rattle.forward_record.proofs.Served.{refusal_said, served_to}
+use Rattle.forward_record.proofs.Done.{refusal_said, served_to}
 use Rattle.forward_record.proofs.serving.serve_recorded.Goals as goal
 
 pub returns-in-Ok-clause-served : goal.returns-in-Ok-clause-served

@@ -9,7 +9,7 @@ use Rattle.forward_run.proofs.Ends.{early_ends, not_deaf, not_refused, not_unrea
 use Rattle.forward_run.proofs.Served.{not_listened}
 use Rattle.forward_record.specs.Serving.{IsNotRecorded, IsNotRecordedIf, words_ahead}
 use Rattle.forward_record.proofs.Ends.{ends_weaker, not_recorded_weaker}
-use Rattle.forward_record.proofs.Served.{refused_if, serves_if}
+use Rattle.forward_record.proofs.Done.{refused_if, serves_if}
 use Rattle.forward_record.proofs.serving.serve_source.Goals as goal
 
 pub returns-in-Err-clause-ends : goal.returns-in-Err-clause-ends
