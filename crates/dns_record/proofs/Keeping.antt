@@ -13,6 +13,7 @@ use Rattle.client_steps.specs.Client.{plain_rows, row_step}
 use Rattle.client_steps.specs.Whole.{Client, Whole, client_with, machine, plain_step, started}
 use Rattle.dns_record.specs.Recording.{EndsIf, GoesOn, HasEnded, IsRecord, Keeps, NotedSo, Opening, Recorded, RecordedSo, Recording, Takes, end_for, lost_after, script_of_rows, text_of_rows, told_conf, with_end}
 use Rattle.dns_record.specs.declared.ended.Ended.{Ended}
+use Rattle.dns_record.proofs.Cutting.{cut_record}
 use Rattle.dns_record.proofs.Starting.{same_start}
 use Rattle.dns_script.specs.Lines.{event_line}
 use Rattle.dns_script.specs.Told.{tells_well}
@@ -65,6 +66,7 @@ ended_at o rows later held after left size client cut h written = record {
   cut = cut;
   written = written ∙ ap (with_octets cut) h.written ∙ octets_joined (text_of_rows o rows) cut o.held;
   is_record = is_record o rows held left size client h;
+  cuts = λ n behind. cut_record o rows held left size client n h behind;
 }
 
 nothing_more : (held : Option (List ℕ)) → held ≡ with_octets [] held
@@ -118,6 +120,7 @@ ended_row o rows held left right size next why client moved row h = record {
   cut = h.cut;
   written = h.written;
   is_record = h.is_record;
+  cuts = h.cuts;
 }
 
 -- where it ends between two rows

@@ -1,4 +1,5 @@
 pub mod AskedOn
 pub mod Counting
+pub mod Cutting
 pub mod Keeping
 pub mod Starting

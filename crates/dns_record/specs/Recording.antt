@@ -20,6 +20,7 @@ use Rattle.dns_values.specs.Source.{Rose, one_more}
 use Rattle.resolv_conf.specs.Conf.{default_options, name_server}
 use Rattle.resolv_conf.specs.declared.conf.ResolvConf.{ResolvConf}
 use Rattle.script_printing.specs.CanBeTold.{CanBeTold, IsInRange, are_told_settings, is_whole}
+use Rattle.script_printing.specs.Laws.{HasNoLine}
 use Rattle.script_printing.specs.Texts.{first_lane, head_text, script_of, script_text_of}
 
 -- what a record begins with: of what the client is made, the words that it will draw, and what the sink held
@@ -61,6 +62,16 @@ pub record IsRecord (text : List ℕ) (rows : List Row) : Type 0 where
   pub fits : length text ≤ 16777216
   pub replay : plain_trace script.redundant script.cache script.conf (listed script.words) (first_lane script.lanes) ≡ Some rows
 
+-- These are first octets of the record of rows: up to their last whole line the record of the first of the rows.
+pub record IsCutRecord (o : Opening) (rows : List Row) (octets : List ℕ) : Type 0 where
+  pub first : List Row
+  pub later : List Row
+  pub rows_are : rows ≡ first ++ later
+  pub rest : List ℕ
+  pub octets_are : octets ≡ text_of_rows o first ++ rest
+  pub no_line : HasNoLine rest
+  pub is_record : IsRecord (text_of_rows o first) first
+
 -- what a recorder has: the words that are left of those that were written, with how few it ends, how many octets it wrote, why it ended, if it did, and how many
 -- events came since
 pub record Recording : Type 0 where
@@ -89,7 +100,8 @@ pub record GoesOn (o : Opening) (rows : List Row) (held : Option (List ℕ)) (le
   pub timeout : client.timeout ≡ o.conf.options.timeout
   pub leads : Leads o.conf.options.timeout (client_with (listed o.words) (started o.redundant o.cache o.conf)) rows (client_with (listed left) client)
 
--- It has ended: the first of the rows are recorded, and behind their record stands at most the first of one more line.
+-- It has ended: the first of the rows are recorded, and behind their record stands at most the first of one more line. Cut anywhere behind what stands before the first event,
+-- it is a record up to its last whole line.
 pub record HasEnded (o : Opening) (rows : List Row) (held : Option (List ℕ)) : Type 0 where
   pub first : List Row
   pub later : List Row
@@ -97,6 +109,7 @@ pub record HasEnded (o : Opening) (rows : List Row) (held : Option (List ℕ)) :
   pub cut : List ℕ
   pub written : held ≡ with_octets (text_of_rows o first ++ cut) o.held
   pub is_record : IsRecord (text_of_rows o first) first
+  pub cuts : (n : ℕ) → length (text_of_rows o []) ≤ n → IsCutRecord o first (take n (text_of_rows o first))
 
 -- What was recorded of a client that put out these rows.
 abbrev pub RecordedSo : (o : Opening) → List Row → (held : Option (List ℕ)) → (left : List ℕ) → ℕ → Option Ended → Whole → Type 0

@@ -1,4 +1,4 @@
-//! A client, and the words that it draws.
+//! A client, the words that it draws, and the record of what it is told.
 
 use crate::outs::show;
 use crate::trouble::Trouble;
@@ -6,6 +6,8 @@ use client_core::{Client, Event, Moment, Row, What};
 use client_request::{ListWords, WordList};
 use client_settings::{cache, redundant};
 use dns_base::{IpAddr, SocketAddr};
+use dns_record::{Ahead, Recorder};
+use dns_values::SureSink;
 use resolv_conf::{ResolvConf, ServerConf, Transport};
 use std::alloc::Global;
 
@@ -20,12 +22,6 @@ fn conf(alloc: Global) -> Result<ResolvConf, Trouble> {
     Ok(conf)
 }
 
-fn client(alloc: Global) -> Result<Client, Trouble> {
-    let conf = conf(alloc)?;
-    let client = Client::new(alloc, &conf, redundant::Config::new(), cache::Config::new())?;
-    Ok(client)
-}
-
 /// Real words are random: they become the ids of what is sent (RFC 5452 9.2).
 fn words(alloc: Global) -> Result<ListWords, Trouble> {
     let mut words = WordList::new(alloc);
@@ -33,18 +29,39 @@ fn words(alloc: Global) -> Result<ListWords, Trouble> {
     Ok(ListWords::new(words))
 }
 
-/// A client that is told what happens, and the words that it draws.
+/// The one word is drawn and written before the first event. A client that asks more has `Ahead::SMALL` or `Ahead::LARGE`.
+const AHEAD: Ahead = Ahead { count: 1, few: 0 };
+
+/// A client that is told what happens, the words that it draws, and what records both.
 #[derive(Drop)]
 pub(crate) struct Asker {
     client: Client,
     words: ListWords,
+    recorder: Recorder,
+    record: SureSink,
 }
 
 impl Asker {
     pub(crate) fn new(alloc: Global) -> Result<Asker, Trouble> {
-        let words = words(alloc)?;
-        let client = client(alloc)?;
-        Ok(Asker { client, words })
+        let (conf, choice, cache) = (conf(alloc)?, redundant::Config::new(), cache::Config::new());
+        let mut words = words(alloc)?;
+        let mut record = SureSink::new(alloc);
+        let recorder = Recorder::begin(
+            alloc,
+            &conf,
+            choice,
+            &cache,
+            &mut words,
+            AHEAD,
+            &mut record,
+        )?;
+        let client = Client::new(alloc, &conf, choice, cache)?;
+        Ok(Asker {
+            client,
+            words,
+            recorder,
+            record,
+        })
     }
 
     /// Tells the client what happened at a moment, in microseconds, and shows what it wants done.
@@ -58,8 +75,20 @@ impl Asker {
             moment: Moment(moment),
             what,
         };
-        let row = self.client.step(&mut self.words, event)?;
+        // Without a record: `self.client.step(&mut self.words, event)?`.
+        let row = self
+            .recorder
+            .step(&mut self.client, &mut self.words, &mut self.record, event)?;
         show(rt, &row)?;
         Ok(row)
+    }
+
+    /// Prints the record, which `dnsq replay` reads.
+    pub(crate) fn print_record(&self, rt: &impl Print) -> Result<(), Trouble> {
+        println!(rt; "recorded:")?;
+        if let Ok(text) = str::from_utf8(self.record.as_slice()) {
+            print!(rt; "{text}")?;
+        }
+        Ok(())
     }
 }

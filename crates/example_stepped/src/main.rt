@@ -1,7 +1,8 @@
-//! Asks one question with a client that is stepped by hand.
+//! Asks one question with a client that is stepped by hand, and records it.
 //!
 //! A `Client` opens no socket: it is told what happens, and each row says what is to be done for it.
-//! Here the program itself does what the outs say, and plays the server: it answers what was sent.
+//! Here the program itself does what the outs say, and plays the server: it answers what was sent. What the client was told is
+//! written as a script, which is printed in the end.
 #![tactic(auto)]
 
 mod asker;
@@ -49,5 +50,6 @@ fn run(rt: &impl Print, alloc: Global, asker: &mut Asker) -> Result<(), Trouble>
 
 fn main(rt: HostRuntime) -> Result<(), Trouble> {
     let mut asker = Asker::new(rt.alloc())?;
-    run(&rt, rt.alloc(), &mut asker)
+    run(&rt, rt.alloc(), &mut asker)?;
+    asker.print_record(&rt)
 }

@@ -2,6 +2,7 @@
 
 use client_request::Error;
 use dns_base::{NameFault, NoMemory, ParseError, PushError, ShortMessage};
+use dns_record::Refused;
 use std::io;
 
 /// Why the program stops early.
@@ -11,6 +12,7 @@ pub(crate) enum Trouble {
     Message(PushError),
     Client(Error),
     Print(io::Error),
+    Record(Refused),
     /// The client sent nothing when its place opened.
     NothingSent,
 }
@@ -54,5 +56,11 @@ impl From<ShortMessage> for Trouble {
 impl From<io::Error> for Trouble {
     fn from(error: io::Error) -> Trouble {
         Trouble::Print(error)
+    }
+}
+
+impl From<Refused> for Trouble {
+    fn from(refused: Refused) -> Trouble {
+        Trouble::Record(refused)
     }
 }

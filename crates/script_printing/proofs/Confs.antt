@@ -1,8 +1,8 @@
 -- The lines of a configuration are taken as it.
-use Rattle.std.proofs.Common.{◌≡◌, ◌<◌, ◌≤◌, ◌+◌, ◌-◌, ◌*◌, ◌/◌, ◌%◌, ◌^◌, ◌==◌, ℕ, suc, Bool, true, false, not, ◌&&◌, cond, nat_lt, List, [], ◌∷◌, ◌++◌, length, drop, take, bytes_eq, map, slice_index, Option, Some, None, refl, sym, ap, ◌∙◌, arith, subst, inl, inr, append_assoc, append-nil, codes, decimal, IsAscii, All, zero, Ok, length-append}
+use Rattle.std.proofs.Common.{◌≡◌, ◌<◌, ◌+◌, ◌*◌, ◌/◌, ◌%◌, ◌^◌, ◌==◌, ℕ, suc, Bool, true, false, not, cond, nat_lt, List, [], ◌∷◌, ◌++◌, length, drop, take, bytes_eq, map, slice_index, Some, refl, sym, ap, ◌∙◌, arith, subst, inl, inr, append_assoc, append-nil, codes, decimal, IsAscii, All, zero, Ok, length-append}
 use Rattle.std.specs.Char.{is_whitespace}
-use Rattle.std.specs.List.{AllByRecursion, before_first, after_first, filter, list_all, onto_first, position_or_len, slice_split}
-use Rattle.std.specs.Str.{all_ascii_digits, encode_utf8_all}
+use Rattle.std.specs.List.{AllByRecursion, filter, list_all, onto_first, position_or_len, slice_split}
+use Rattle.std.specs.Str.{encode_utf8_all}
 use Rattle.std.specs.Str.Parse.{IsNumeral, ParsesUnsigned, digits_value, without_leading_plus}
 use Rattle.std.specs.Net.Addr.{octets_of}
 use Rattle.std.specs.Net.Grammar.{IsColonHex, IsDotted, IsGroups}
@@ -18,7 +18,7 @@ use Rattle.dns_values.specs.declared.address.IpAddr.TheVariants.{V4, V6}
 use Rattle.dns_values.specs.Address.{IsAddress, IsAddressText, address_text}
 use Rattle.dns_values.proofs.Addresses.{printed}
 use Rattle.resolv_conf.specs.Conf.{default_options, name_server}
-use Rattle.resolv_conf.specs.Line.{LineGives, WordsGive, takes, with_server, keyword_gives, options_set}
+use Rattle.resolv_conf.specs.Line.{LineGives, WordsGive, takes, with_server, options_set}
 use Rattle.resolv_conf.specs.Number.{number_of}
 use Rattle.resolv_conf.specs.Options.{flagged, numbered, option_after, options_after, options_from, valued}
 use Rattle.resolv_conf.specs.Words.{words_of, is_empty}

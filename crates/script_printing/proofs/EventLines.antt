@@ -1,6 +1,6 @@
 -- The lines of events are taken as them.
-use Rattle.std.proofs.Common.{◌≡◌, ◌<◌, ◌≤◌, ◌+◌, ◌%◌, ◌^◌, ℕ, Bool, true, false, ◌&&◌, ◌==◌, if◌then◌else◌, cond, List, [], ◌∷◌, ◌++◌, length, map, Option, Some, None, refl, sym, ap, ◌∙◌, arith, subst, append_assoc, append-nil, codes, decimal, IfSome}
-use Rattle.std.specs.List.{AllByRecursion, join_with_byte, list_all}
+use Rattle.std.proofs.Common.{◌≡◌, ℕ, Bool, true, false, List, [], ◌∷◌, ◌++◌, map, Option, Some, None, refl, ap, ◌∙◌, arith, subst, append_assoc, append-nil, codes, decimal, IfSome}
+use Rattle.std.specs.List.{AllByRecursion, join_with_byte}
 use Rattle.std.proofs.lemmas.Bool.{and_parts}
 use Rattle.dns_base.specs.OptRecord.{OptFields}
 use Rattle.client_request.specs.Request.{Request}
@@ -12,11 +12,11 @@ use Rattle.client_request.specs.declared.fault.Fault.TheVariants as fault
 use Rattle.resolv_conf.specs.declared.conf.ResolvConf.{ResolvConf}
 use Rattle.dns_script.specs.Grammar.{event_at, whole}
 use Rattle.dns_script.specs.Lines.{event_words, opt_octets, opt_word, request_words, what_words}
-use Rattle.dns_script.specs.Reading.{◌>>=◌, words_of}
-use Rattle.dns_script.specs.ScriptReading.{TakesLine, TakesLines, event_of}
+use Rattle.dns_script.specs.Reading.{◌>>=◌}
+use Rattle.dns_script.specs.ScriptReading.{TakesLine, TakesLines}
 use Rattle.dns_script.specs.TextLaws.{AreOctets, IsOptRecord, IsRequest, IsWhat}
 use Rattle.dns_script.specs.Told.{tells_well}
-use Rattle.dns_script.specs.Words.{fault_word, hex_word}
+use Rattle.dns_script.specs.Words.{fault_word}
 use Rattle.dns_script.proofs.Joined.{words_of_joined}
 use Rattle.script_printing.specs.CanBeTold.{IsEvent, are_told_events}
 use Rattle.script_printing.proofs.Lines.{ScriptReader, Settings, not_skipped, takes_named}

@@ -1,5 +1,5 @@
 -- What a loop has seen of the ranges of a script.
-use Rattle.std.proofs.Common.{ℕ, suc, ◌+◌, ◌<◌, ◌≤◌, ◌^◌, List, [], ◌∷◌, length, get_or, slice_index, take}
+use Rattle.std.proofs.Common.{ℕ, suc, ◌+◌, ◌<◌, ◌≤◌, List, [], ◌∷◌, length, get_or, slice_index, take}
 use Rattle.std.specs.List.{AllByRecursion}
 use Rattle.client_request.specs.declared.event.Event.{Event}
 use Rattle.resolv_conf.specs.declared.server.ServerConf.{ServerConf}

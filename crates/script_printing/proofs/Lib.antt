@@ -1,4 +1,5 @@
 pub mod Confs
+pub mod Cuts
 pub mod EventLines
 pub mod Heads
 pub mod InRange

@@ -1,6 +1,6 @@
 -- How a line of a script is taken: its name, and what stands behind it.
-use Rattle.std.proofs.Common.{◌≡◌, ◌<◌, ◌+◌, ℕ, suc, Bool, true, false, not, cond, eqb, nat_lt, ◌==◌, ◌||◌, List, [], ◌∷◌, ◌++◌, length, length-append, take, drop, map, Option, Some, None, refl, sym, ap, ◌∙◌, arith, subst, append_assoc, append-nil, codes, decimal}
-use Rattle.std.specs.List.{AllByRecursion, flat_map, join_with_byte, position_or_len}
+use Rattle.std.proofs.Common.{◌≡◌, ◌+◌, ℕ, suc, true, false, not, cond, nat_lt, ◌==◌, ◌||◌, List, [], ◌∷◌, ◌++◌, length, length-append, take, drop, map, Some, refl, sym, ap, ◌∙◌, arith, subst, append-nil, decimal}
+use Rattle.std.specs.List.{flat_map, join_with_byte, position_or_len}
 use Rattle.std.proofs.lemmas.Bool.{eq-eqb, lt-ltb, ne_eqb}
 use Rattle.resolv_conf.specs.declared.conf.ResolvConf.{ResolvConf}
 use Rattle.dns_script.specs.Names.{script_names}

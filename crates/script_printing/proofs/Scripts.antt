@@ -1,5 +1,5 @@
 -- The text of a script that can be told is read as it.
-use Rattle.std.proofs.Common.{◌≡◌, ◌==◌, ℕ, Bool, true, false, List, [], ◌∷◌, ◌++◌, length, map, refl, sym, ap, ◌∙◌, subst, arith, append_assoc, append-nil}
+use Rattle.std.proofs.Common.{◌≡◌, ◌==◌, ℕ, true, false, List, [], ◌∷◌, ◌++◌, length, map, refl, sym, ap, ◌∙◌, subst, arith, append_assoc, append-nil}
 use Rattle.std.specs.List.{AllByRecursion, flat_map}
 use Rattle.std.specs.Str.Lines.{lines}
 use Rattle.std.proofs.lemmas.Bool.{eqb-true}
@@ -8,11 +8,10 @@ use Rattle.client_request.specs.declared.event.Event.{Event}
 use Rattle.client_settings.specs.Settings.{CacheSettings, RedundantSettings, default_cache, default_redundant}
 use Rattle.resolv_conf.specs.Conf.{default_options}
 use Rattle.resolv_conf.specs.declared.conf.ResolvConf.{ResolvConf}
-use Rattle.resolv_conf.specs.declared.server.ServerConf.{ServerConf}
 use Rattle.dns_script.specs.Lines.{event_line}
-use Rattle.dns_script.specs.ScriptReading.{IsScript, TakesLines, begun_with}
+use Rattle.dns_script.specs.ScriptReading.{IsScript, TakesLines}
 use Rattle.dns_script.specs.declared.script.Script.{Script}
-use Rattle.script_printing.specs.CanBeTold.{CanBeTold, IsEvent, IsInRange, are_told_events}
+use Rattle.script_printing.specs.CanBeTold.{CanBeTold, IsEvent, IsInRange}
 use Rattle.script_printing.specs.Texts.{cache_lines, choice_lines, conf_lines, ended, first_lane, head_lines, head_text, script_of, script_text_of, word_lines}
 use Rattle.script_printing.proofs.Confs.{conf_taken}
 use Rattle.script_printing.proofs.EventLines.{event_plain, event_text, events_taken, reader_behind}

@@ -1,13 +1,13 @@
 -- The lines of settings and of words are taken as them.
-use Rattle.std.proofs.Common.{◌≡◌, ◌<◌, ◌≤◌, ◌*◌, ◌/◌, ◌%◌, ◌^◌, ◌==◌, ℕ, Bool, true, false, not, ◌&&◌, cond, nat_le, nat_lt, List, [], ◌∷◌, ◌++◌, map, Option, Some, None, refl, sym, ap, ◌∙◌, arith, subst, codes, decimal, option_map}
-use Rattle.std.specs.List.{AllByRecursion, join_with_byte}
+use Rattle.std.proofs.Common.{◌≡◌, ◌<◌, ◌≤◌, ◌/◌, ◌%◌, ◌^◌, ◌==◌, ℕ, Bool, true, false, not, ◌&&◌, cond, nat_le, nat_lt, List, [], ◌∷◌, ◌++◌, map, Some, refl, sym, ap, ◌∙◌, arith, codes, decimal}
+use Rattle.std.specs.List.{join_with_byte}
 use Rattle.std.specs.Ordering.{nat_cmp}
 use Rattle.std.specs.declared.cmp.Ordering.TheVariants.{Less, Equal, Greater}
 use Rattle.std.proofs.lemmas.Bool.{and_parts, eq-eqb, eqb-true, le-ltb, leb-true, ltb-false}
-use Rattle.client_request.specs.Limits.{at_most, greater_by, lesser_by, limited}
+use Rattle.client_request.specs.Limits.{greater_by, lesser_by, limited}
 use Rattle.client_settings.specs.Settings.{CacheSettings, RedundantSettings, default_cache, default_redundant, seconds}
 use Rattle.resolv_conf.specs.declared.conf.ResolvConf.{ResolvConf}
-use Rattle.dns_script.specs.Reading.{number_of, numbers_of, words_of}
+use Rattle.dns_script.specs.Reading.{number_of, numbers_of}
 use Rattle.dns_script.specs.ScriptReading.{TakesLines}
 use Rattle.dns_script.specs.Settings.{sets}
 use Rattle.dns_script.proofs.Decimals.{decimal_is_number}
@@ -15,7 +15,7 @@ use Rattle.dns_script.proofs.Joined.{words_of_joined}
 use Rattle.script_printing.specs.CanBeTold.{AreWordsInRange, are_told_limits, are_told_settings, is_told_time, is_whole}
 use Rattle.script_printing.specs.Texts.{cache_lines, choice_lines, entries_line, shown, switch_line, time_line, time_lines, word_lines}
 use Rattle.script_printing.proofs.Lines.{Settings, not_skipped, reader_at, takes_more, takes_named, takes_one}
-use Rattle.script_printing.proofs.Plain.{AreWords, IsPlain, IsWord, decimal_word, joined_plain, plain_append, word_above, words_above, word_plain, word_text}
+use Rattle.script_printing.proofs.Plain.{AreWords, IsWord, decimal_word, joined_plain, word_above, words_above, word_text}
 
 at_most_is : (v g : ℕ) → v ≤ g → lesser_by (nat_cmp v g) v g ≡ v
 at_most_is v g h = go (nat_lt v g) refl

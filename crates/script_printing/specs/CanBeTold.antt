@@ -1,5 +1,5 @@
 -- Which scripts are told by their text.
-use Rattle.std.specs.Prelude.{◌≡◌, ℕ, ◌<◌, ◌/◌, ◌%◌, ◌^◌, ◌==◌, nat_le, Bool, true, false, not, ◌&&◌, List, [], ◌∷◌, length}
+use Rattle.std.specs.Prelude.{◌≡◌, ℕ, ◌<◌, ◌/◌, ◌%◌, ◌^◌, ◌==◌, nat_le, Bool, true, false, not, ◌&&◌, List, length}
 use Rattle.std.specs.List.{AllByRecursion, list_all}
 use Rattle.client_request.specs.declared.event.Event.{Event}
 use Rattle.client_settings.specs.Settings.{CacheSettings, seconds}

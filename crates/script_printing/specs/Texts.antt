@@ -4,7 +4,7 @@ use Rattle.std.specs.List.{flat_map, join_with_byte}
 use Rattle.client_request.specs.declared.event.Event.{Event}
 use Rattle.client_settings.specs.Settings.{CacheSettings, RedundantSettings, seconds}
 use Rattle.dns_values.specs.Address.{address_text}
-use Rattle.dns_script.specs.Lines.{event_line, event_words}
+use Rattle.dns_script.specs.Lines.{event_line}
 use Rattle.dns_script.specs.declared.script.Script.{Script}
 use Rattle.resolv_conf.specs.declared.conf.ResolvConf.{ResolvConf}
 use Rattle.resolv_conf.specs.declared.options.ResolvOptions.{ResolvOptions}

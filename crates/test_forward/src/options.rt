@@ -4,6 +4,7 @@ use crate::program::{front, source, words_of};
 use client_core::ListClock;
 use client_request::{ListWords, WordList};
 use dns_values::{IpAddr, MemSink};
+use forward_record::serve_recorded;
 use forward_run::{Unwatched, serve_as};
 use forward_words::{Fault, Policy, options_of};
 use std::alloc::Global;
@@ -53,7 +54,7 @@ fn is_refused(alloc: Global, line: &str) -> Option<bool> {
 fn status(alloc: Global, line: &str, text: &str) -> Option<u8> {
     let words = words_of(alloc, line).ok()?;
     let (options, rest) = options_of(alloc, &words).ok()?;
-    let mut sink = MemSink::new(alloc, Vec::new(alloc), Vec::new(alloc));
+    let mut sink = mem_sink(alloc);
     let status = serve_as(
         alloc,
         &options,
@@ -67,6 +68,36 @@ fn status(alloc: Global, line: &str, text: &str) -> Option<u8> {
         &mut Unwatched,
     );
     Some(status.0)
+}
+
+fn mem_sink(alloc: Global) -> MemSink {
+    MemSink::new(alloc, Vec::new(alloc), Vec::new(alloc))
+}
+
+/// The status of a recorded run under these words, whose record does not end.
+fn status_recorded(alloc: Global, line: &str, text: &str) -> Option<u8> {
+    let words = words_of(alloc, line).ok()?;
+    let (options, rest) = options_of(alloc, &words).ok()?;
+    let served = serve_recorded(
+        alloc,
+        &options,
+        7,
+        rest,
+        &mut source(alloc, text)?,
+        &mut mem_sink(alloc),
+        &mut mem_sink(alloc),
+        &mut front(alloc, false)?,
+        &mut ListClock::new(Vec::new(alloc)),
+        &mut ListWords::new(WordList::new(alloc)),
+        &mut Unwatched,
+        mem_sink(alloc),
+    );
+    let forwarder = served.forwarder?;
+    let within = forwarder.within();
+    if within.ended().is_some() || within.lost() > 0 {
+        return None;
+    }
+    Some(served.status.0)
 }
 
 #[test]
@@ -87,4 +118,5 @@ fn runs_obey_their_options(rt: HostRuntime) {
     assert!(rt; status(alloc, "--listen 127.0.0.2 53 2", "nameserver 127.0.0.2") == Some(5));
     assert!(rt; status(alloc, "--port 5300 5300 2", "nameserver 127.0.0.1") == Some(5));
     assert!(rt; status(alloc, "--port 5300", "nameserver 127.0.0.1") == Some(2));
+    assert!(rt; status_recorded(alloc, "53 2", "nameserver 192.0.2.53") == Some(0));
 }

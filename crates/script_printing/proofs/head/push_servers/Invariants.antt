@@ -1,5 +1,5 @@
 -- the lines of the servers before the index have been added
-use Rattle.std.proofs.Common.{◌≡◌, ◌++◌, map, take}
+use Rattle.std.proofs.Common.{◌≡◌, ◌++◌, take}
 use Rattle.std.specs.List.{flat_map}
 use Rattle.script_printing.specs.Texts.{ended, server_line}
 use Rattle.script_printing.proofs.head.push_servers.Given as goal

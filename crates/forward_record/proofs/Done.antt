@@ -1,0 +1,105 @@
+-- A configuration that was served and recorded.
+use Rattle.std.proofs.Common.{◌≡◌, ℕ, false, List, [], Option, None, Some, String, Global, refl, ◌∙◌, ap, sym, subst}
+use Rattle.std.specs.Prelude.{IfOk, IfSome, Result, Ok, Err}
+use Rattle.client_settings.specs.Settings.{CacheSettings, RedundantSettings}
+use Rattle.client_steps.specs.Whole.{Whole, started}
+use Rattle.dns_record.specs.Laws.{RecordLaw}
+use Rattle.dns_record.specs.Recording as recording
+use Rattle.dns_record.specs.Recording.{IsRefused, Recording, opening}
+use Rattle.dns_record.specs.declared.ended.Refused.{Refused}
+use Rattle.front_steps.specs.Steps.{beginning}
+use Rattle.forward_run.specs.Front.{after_deeds}
+use Rattle.forward_run.specs.Serving.{IfAsked, IsConfAsked, asks_itself, begun_deeds}
+use Rattle.forward_run.specs.Settings.{cache_of, choice_of}
+use Rattle.forward_run.specs.Turns.{World}
+use Rattle.forward_run.specs.declared.front.FrontDeed.{FrontDeed}
+use Rattle.forward_run.proofs.Written.{asked_with, told_with}
+use Rattle.forward_words.specs.Words.{asked_by}
+use Rattle.forward_words.specs.declared.options.Options.{Options}
+use Rattle.forward_words.specs.declared.words.Asked.{Asked}
+use Rattle.resolv_conf.specs.declared.conf.ResolvConf.{ResolvConf}
+use Rattle.forward_record.specs.Core.{RecordedClient}
+use Rattle.forward_record.specs.Sentences.{unrecorded_line}
+use Rattle.forward_record.specs.Serving.{IsBegun, IsNotRecorded, IsNotRecordedIf, IsRefusalSaid, IsServed, IsServedIf, IsServedOf, words_ahead, words_behind}
+use Rattle.forward_record.specs.Turns.{Recorded, Turned, scene, within}
+use Rattle.forward_record.specs.declared.serving.Unserved.{Unserved}
+
+-- a forwarder over a new client, whose record begins
+pub begun : {K : Type 0} (held : K → Option (List ℕ)) (options : Options) (conf : ResolvConf) (words : List ℕ) (before : Option (List ℕ)) (choice : RedundantSettings) (cache : CacheSettings) (client : Whole) (r : Recording) (sink : K)
+    (core : RecordedClient K) (f : Recorded K)
+    → choice ≡ choice_of options.policy → cache ≡ cache_of options → client ≡ started choice cache conf → recording.Recorded (opening conf choice cache words before) [] (held sink) r (started choice cache conf)
+    → core ≡ record { client = client; recorder = r; sink = sink } → f ≡ beginning core → IsBegun held options conf words before f
+begun held options conf words before choice cache client r sink core f choice_is cache_is made begins core_is f_is =
+    let a : started choice cache conf ≡ started (choice_of options.policy) (cache_of options) conf =
+    ap (λ (p : RedundantSettings). started p cache conf) choice_is ∙ ap (λ (k : CacheSettings). started (choice_of options.policy) k conf) cache_is in
+    let b : recording.Recorded (opening conf (choice_of options.policy) (cache_of options) words before) [] (held sink) r (started (choice_of options.policy) (cache_of options) conf) =
+    subst (λ (k : CacheSettings). recording.Recorded (opening conf (choice_of options.policy) k words before) [] (held sink) r (started (choice_of options.policy) k conf)) cache_is
+    (subst (λ (p : RedundantSettings). recording.Recorded (opening conf p cache words before) [] (held sink) r (started p cache conf)) choice_is begins) in
+    let whole : f ≡ beginning (record { client = client; recorder = r; sink = sink }) = f_is ∙ ap beginning core_is in
+    subst (λ (g : Recorded K). IsBegun held options conf words before g) (sym whole) (record {
+      new = refl;
+      client = made ∙ a;
+      begun = subst (λ (c : Whole). recording.Recorded (opening conf (choice_of options.policy) (cache_of options) words before) [] (held sink) r c) (sym (made ∙ a)) b;
+    })
+
+-- or it is refused
+pub not_begun : (options : Options) (conf : ResolvConf) (words : List ℕ) (choice : RedundantSettings) (cache : CacheSettings) (faults after : ℕ) (why : Refused)
+    → choice ≡ choice_of options.policy → cache ≡ cache_of options → IsRefused why conf choice cache words faults after → IsNotRecorded options conf words faults why
+not_begun options conf words choice cache faults after why choice_is cache_is h = (
+  after,
+  subst (λ (k : CacheSettings). IsRefused why conf (choice_of options.policy) k words faults after) cache_is
+      (subst (λ (p : RedundantSettings). IsRefused why conf p cache words faults after) choice_is h),
+)
+
+-- and turns are made
+pub served : {K : Type 0} (held : K → Option (List ℕ)) (options : Options) (asked : Asked) (conf : ResolvConf) (answered : ℕ) (before : Option (List ℕ)) (first last : Recorded K) (old new : World) (words : ℕ → ℕ) (deeds : Option (List FrontDeed)) (polls : ℕ)
+    → IsBegun held options conf (words_ahead old.words) before first → words ≡ words_behind old.words → deeds ≡ after_deeds (begun_deeds asked.port conf) old.deeds → polls ≡ old.polls
+    → asks_itself options.listened asked.port conf ≡ false → RecordLaw
+    → Turned held asked.turns answered (scene first words deeds polls old.moments) (within last new)
+    → IsServed held options asked conf answered before last old new
+served held options asked conf answered before first last old new words deeds polls begins words_are told same others law turned =
+    let starts = after_deeds (begun_deeds asked.port conf) old.deeds in
+    let t : Turned held asked.turns answered (scene first (words_behind old.words) starts old.polls old.moments) (within last new) =
+    subst (λ (ws : ℕ → ℕ). Turned held asked.turns answered (scene first ws starts old.polls old.moments) (within last new)) words_are
+    (subst (λ (ds : Option (List FrontDeed)). Turned held asked.turns answered (scene first words ds old.polls old.moments) (within last new)) told
+    (subst (λ (n : ℕ). Turned held asked.turns answered (scene first words deeds n old.moments) (within last new)) same turned)) in
+    let o = opening conf (choice_of options.policy) (cache_of options) (words_ahead old.words) before in
+    record {
+      first = first;
+      is_begun = begins;
+      turned = t;
+      asks_others = others;
+      has = law o t.trace (held last.within.sink) last.within.recorder.words last.within.recorder.size last.within.recorder.ended last.within.client (t.keeps o [] begins.begun);
+    }
+
+-- where the source tells its text
+served_if : {K : Type 0} (held : K → Option (List ℕ)) (options : Options) (asked : Asked) (told : Option (List ℕ)) (conf : ResolvConf) (left : ℕ → ℕ) (answered : ℕ) (before : Option (List ℕ)) (last : Recorded K) (old new : World)
+    → IfSome told (λ text. IsConfAsked options text old.words conf left) → IsServed held options asked conf answered before last (record old { words = left }) new
+    → IsServedIf held options asked told answered before last old new
+served_if held options asked None conf left answered before last old new read serves = tt
+served_if held options asked (Some text) conf left answered before last old new read serves = record { conf = conf; left = left; conf_asked = read; served = serves }
+
+pub serves_if : {K : Type 0} (held : K → Option (List ℕ)) (options : Options) (asked : Asked) (told : Option (List ℕ)) (conf : ResolvConf) (left : ℕ → ℕ) (before : Option (List ℕ)) (old new : World) (r : Result (ℕ × Recorded K) Unserved)
+    → IfSome told (λ text. IsConfAsked options text old.words conf left) → IfOk r (λ served. IsServed held options asked conf served.0 before served.1 (record old { words = left }) new)
+    → IfOk r (λ served. IsServedIf held options asked told served.0 before served.1 old new)
+serves_if held options asked told conf left before old new (Ok served) read h = served_if held options asked told conf left served.0 before served.1 old new read h
+serves_if held options asked told conf left before old new (Err e) read h = h
+
+pub refused_if : (options : Options) (told : Option (List ℕ)) (conf : ResolvConf) (words left : ℕ → ℕ) (faults : ℕ) (why : Refused)
+    → IfSome told (λ text. IsConfAsked options text words conf left) → IsNotRecorded options conf (words_ahead left) faults why → IsNotRecordedIf options told words faults why
+refused_if options None conf words left faults why read refused = tt
+refused_if options (Some text) conf words left faults why read refused = record { conf = conf; left = left; conf_asked = read; is_why = refused }
+
+-- by the words that asked for it
+pub served_to : {K : Type 0} (held : K → Option (List ℕ)) (options : Options) (said : List (String Global)) (asked : Asked) (told : Option (List ℕ)) (answered : ℕ) (before : Option (List ℕ)) (last : Recorded K) (old new : World)
+    → asked_by said ≡ Some asked → IsServedIf held options asked told answered before last old new
+    → IfAsked said told (λ a text. IsServedOf held options a text answered before last old new)
+served_to held options said asked told answered before last old new is serves =
+    asked_with said asked told (λ a text. IsServedOf held options a text answered before last old new) is serves
+
+pub refusal_said : (Said : List ℕ → Type 0) (options : Options) (said : List (String Global)) (asked : Asked) (told : Option (List ℕ)) (words : ℕ → ℕ) (faults : ℕ) (why : Refused)
+    → asked_by said ≡ Some asked → IsNotRecordedIf options told words faults why → Said (unrecorded_line why)
+    → IfAsked said told (λ a text. IsRefusalSaid Said options text words faults)
+refusal_said Said options said asked told words faults why is refused line =
+    asked_with said asked told (λ a text. IsRefusalSaid Said options text words faults) is
+    (told_with told _ (λ text. IsRefusalSaid Said options text words faults) (λ text h. record { why = why; refused = h; said = line }) refused)

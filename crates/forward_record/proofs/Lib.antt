@@ -1,0 +1,4 @@
+pub mod Steps
+pub mod Turning
+pub mod Done
+pub mod Ends

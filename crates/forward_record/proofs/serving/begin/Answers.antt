@@ -1,0 +1,26 @@
+use Rattle.std.proofs.Common.{ap, refl, ◌∙◌}
+use Rattle.client_steps.specs.Whole.{Whole}
+use Rattle.forward_record.specs.Core.{RecordedClient}
+use Rattle.forward_record.specs.Serving.{words_ahead, words_behind}
+use Rattle.forward_record.proofs.Done.{begun, not_begun}
+use Rattle.forward_record.proofs.serving.begin.Goals as goal
+
+pub new-requires : goal.new-requires
+new-requires g c = ap (λ (r : RecordedClient g.row.K.Denot). r.client.failed) c.new-core.ensures ∙ ap (λ (w : Whole). w.failed) c.in-Ok-with_seed.ensures.made
+
+pub returns-in-Ok-with_seed-clause-begun : goal.returns-in-Ok-with_seed-clause-begun
+unfolding words_ahead
+returns-in-Ok-with_seed-clause-begun g c =
+    begun g.K.Sink.held c.args.options.now c.args.conf.now (words_ahead (g.W.Words.stream c.args.rng.now)) (g.K.Sink.held c.args.file) c.choice_of-choice.result c.cache_of-cache.result
+    c.in-Ok-with_seed.client c.in-Ok-begun.recorder c.begin-begun.new.sink c.new-core.result c.new.result
+    c.choice_of-choice.ensures c.cache_of-cache.ensures c.in-Ok-with_seed.ensures.made c.in-Ok-begun.ensures.begun c.new-core.ensures c.new.ensures
+
+pub returns-in-Ok-with_seed-clause-rest : goal.returns-in-Ok-with_seed-clause-rest
+unfolding words_behind
+returns-in-Ok-with_seed-clause-rest g c = c.in-Ok-begun.ensures.rest
+
+pub returns-in-Err-begun-clause-not_recorded : goal.returns-in-Err-begun-clause-not_recorded
+unfolding words_ahead
+returns-in-Err-begun-clause-not_recorded g c =
+    not_begun c.args.options.now c.args.conf.now (words_ahead (g.W.Words.stream c.args.rng.now)) c.choice_of-choice.result c.cache_of-cache.result
+    (g.K.Sink.faults c.args.file) (g.K.Sink.faults c.begin-begun.new.sink) c.in-Err-begun.refused c.choice_of-choice.ensures c.cache_of-cache.ensures c.in-Err-begun.ensures.refused

@@ -1,0 +1,4 @@
+pub mod Core
+pub mod Sentences
+pub mod Serving
+pub mod Turns

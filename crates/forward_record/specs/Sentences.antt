@@ -1,0 +1,11 @@
+-- What is told of a record.
+use Rattle.std.specs.Prelude.{ℕ, List, ◌++◌, codes}
+use Rattle.dns_record.specs.Sentences.{ended_text, refused_text}
+use Rattle.dns_record.specs.declared.ended.Ended.{Ended}
+use Rattle.dns_record.specs.declared.ended.Refused.{Refused}
+
+abbrev pub unrecorded_line : Refused → List ℕ
+unrecorded_line refused = codes "nothing is recorded: " ++ (refused_text refused ++ codes "\n")
+
+abbrev pub ended_line : Ended → List ℕ
+ended_line ended = codes "dns_forward: the record ended: " ++ (ended_text ended ++ codes "\n")

@@ -1,0 +1,105 @@
+//! The client within a forwarder, recorded.
+
+ghost use Rattle.std.specs.Prelude.{◌≡◌, length};
+ghost use Rattle.client_core.specs.Waiting.{wait_of};
+ghost use Rattle.forward_record.specs.Core.{IsRecordedStep, serves};
+ghost use Rattle.right_trace.specs.Timely.{IsAskedInOctets};
+
+use client_core::{Client, Event, Row, What, in_octets};
+use client_request::{Error, Moment, RequestMessage, Words};
+use dns_record::{Ended, Recorder};
+use dns_values::Sink;
+use front_steps::{Forwarder, Within};
+use std::marker::Model;
+
+/// A client that is asked nothing but what a forwarder asks it, and what records it.
+#[derive(Drop)]
+pub struct RecordedCore<K: Sink + Drop> {
+    client: Client,
+    recorder: Recorder,
+    sink: K,
+}
+
+/// A forwarder over a client that is recorded.
+pub type RecordedForwarder<K> = Forwarder<RecordedCore<K>>;
+
+impl<K: Sink + Drop> Model for RecordedCore<K> {
+    ghost use Rattle.forward_record.specs.Core.{RecordedClient};
+
+    ghost Value = { RecordedClient K };
+
+    ghost view = { λ c. record { client = c.client; recorder = c.recorder; sink = c.sink } };
+}
+
+/// What an event asks is made of octets.
+fn asked_in_octets(event: &Event)
+    ensures { IsAskedInOctets event.now.what }
+{
+    match &event.what {
+        What::Ask { request } => request.is_of_octets(),
+        _ => {}
+    }
+}
+
+impl<K: Sink + Drop> RecordedCore<K> {
+    /// This client, whose record has begun.
+    pub(crate) fn new(client: Client, recorder: Recorder, sink: K) -> RecordedCore<K>
+        ensures { result ≡ record { client = client; recorder = recorder; sink = sink } }
+    {
+        RecordedCore {
+            client,
+            recorder,
+            sink,
+        }
+    }
+
+    /// How long whoever holds the client may wait for something to happen, in microseconds from the moment of its last event on.
+    pub fn may_wait(&self) -> u128
+        ensures { result ≡ wait_of self.now.client }
+    {
+        self.client.may_wait()
+    }
+
+    /// How many results are kept.
+    pub fn entry_count(&self) -> usize
+        ensures { result ≡ length self.now.client.layer.kept.table.entries }
+    {
+        self.client.layers().entry_count()
+    }
+
+    /// Why the record ended; none while it goes on.
+    pub fn ended(&self) -> Option<Ended>
+        ensures { result ≡ self.now.recorder.ended }
+    {
+        self.recorder.ended()
+    }
+
+    /// How many events came since.
+    pub fn lost(&self) -> u64
+        ensures { result ≡ self.now.recorder.lost }
+    {
+        self.recorder.lost()
+    }
+}
+
+impl<K: Sink + Drop> Within for RecordedCore<K> {
+    ghost steps = { IsRecordedStep K.held };
+
+    ghost serves = { serves };
+
+    ghost has_failed = { λ c. c.client.failed };
+
+    fn step<W: Words>(&mut self, words: &mut W, event: Event) -> Result<Row, Error> {
+        asked_in_octets(&event);
+        in_octets(&event);
+        self.recorder
+            .step(&mut self.client, words, &mut self.sink, event)
+    }
+
+    fn would_serve(&self, moment: Moment, request: &RequestMessage) -> Result<bool, Error> {
+        match self.client.would_serve(moment, request) {
+            Ok(served) => Ok(served),
+            Err(_) => Err(Error::NoMemory),
+        }
+    }
+}
