@@ -6,4 +6,6 @@ mod endings;
 #[cfg(test)]
 mod runs;
 #[cfg(test)]
+mod timely;
+#[cfg(test)]
 mod verdicts;

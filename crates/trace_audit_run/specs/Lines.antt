@@ -29,3 +29,6 @@ name_of Prompts = codes "H5"
 
 abbrev pub wrong_line : Clause → (row : ℕ) → List ℕ
 wrong_line x n = codes "wrong " ++ name_of x ++ codes " row " ++ decimal n ++ codes "\n"
+
+abbrev pub untimely_line : (row : ℕ) → List ℕ
+untimely_line n = codes "untimely row " ++ decimal n ++ codes "\n"

@@ -15,5 +15,9 @@
 mod lines;
 mod run;
 mod texts;
+mod timely;
+mod words;
 
 pub use run::run_audit;
+pub use timely::audit_timely;
+pub use words::names_among;

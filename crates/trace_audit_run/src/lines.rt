@@ -54,3 +54,11 @@ pub(crate) fn wrong_line(alloc: Global, clause: Clause, row: u64) -> Result<Vec<
     let text = format!(in alloc; "wrong {name} row {row}\n")?;
     Vec::from_slice(alloc, text.as_bytes())
 }
+
+/// At which row the trace is not timely.
+pub(crate) fn untimely_line(alloc: Global, row: u64) -> Result<Vec<u8>, AllocError>
+    ensures { IfOk result (λ v. v.items ≡ plain.untimely_line row) }
+{
+    let text = format!(in alloc; "untimely row {row}\n")?;
+    Vec::from_slice(alloc, text.as_bytes())
+}
