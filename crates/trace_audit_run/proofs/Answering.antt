@@ -1,5 +1,5 @@
 -- What is answered of the texts of a script and of a trace.
-use Rattle.std.proofs.Common.{arith, ◌≡◌, ◌≢◌, ◌⊎◌, inl, inr, ℕ, List, Option, Some, None, Result, Ok, Err, IfOk, IfErr, IfSome, MatchResult, Bool, false, sym, ap, ◌∙◌, subst}
+use Rattle.std.proofs.Common.{arith, ◌≡◌, ◌≢◌, ◌⊎◌, inl, inr, ℕ, List, Option, Some, None, Result, Ok, Err, IfOk, IfErr, IfSome, MatchResult, ◌++◌, false, sym, ap, ◌∙◌, subst}
 use Rattle.std.specs.declared.alloc.Global.{Global}
 use Rattle.std.specs.declared.vec.Vec.{Vec}
 use Rattle.command_parts.specs.Ends.{IsEarly, IsSaid, line_of, status_of}
@@ -9,6 +9,7 @@ use Rattle.dns_values.specs.declared.numbers.Status.{Status}
 use Rattle.dns_script.specs.ScriptReading.{IsScript}
 use Rattle.dns_script.specs.declared.script.Script.{Script}
 use Rattle.trace_audit_run.specs.declared.texts.Answer.{Answer}
+use Rattle.trace_audit_run.specs.declared.words.Asked.{Asked}
 use Rattle.trace_audit_run.specs.Lines.{untimely_line, wrong_line}
 use Rattle.trace_judge.specs.declared.verdict.Clause.{Clause}
 use Rattle.trace_judge.specs.declared.verdict.Verdict.TheVariants.{Right, Wrong}
@@ -18,7 +19,7 @@ use Rattle.trace_audit_run.specs.Program.{Answers, EndsBy, IsAudited, IsGood, Is
 pub refuses_by : (Refuses : ℕ → Type 0) (line : ℕ → List ℕ) (n : ℕ) (e : Ending) → Refuses n → EndsBy (line n) e → RefusesBy Refuses line e
 refuses_by Refuses line n e r b = record { status = b.status; early = b.early; refused = λ one. (n, r, b.line_is one) }
 
-module _ (d : Bool) where
+module _ (d : Asked) where
   for_long_script : (t : Option (Vec ℕ Global)) (e : Ending) → EndsBy long_line e → Answers d None t (Err e)
   for_long_script t e n a b long read = record { status = n.status; early = n.early; refused = λ is. long_script long (n.line_is is) }
 
@@ -105,7 +106,7 @@ both_read None told' o o' P r r' f = tt
 both_read (Some a) None o o' P r r' f = tt
 both_read (Some a) (Some b) o o' P r r' f = f a b r r'
 
-module _ (d : Bool) where
+module _ (d : Asked) where
   pub done : (told told' : Option (List ℕ)) (o o' : Option (Vec ℕ Global)) (r : Result Answer Ending) → IfSome told (λ text. IsRead 16777216 text o) → IfSome told' (λ text. IsRead 1073741824 text o') → Answers d o o' r
       → IfOk r (λ v. IfSome told (λ a. IfSome told' (λ b. IsAudited d a b v)))
   done told told' o o' (Ok v) r r' f = both_read told told' o o' (λ a b. IsAudited d a b v) r r' f
@@ -141,20 +142,20 @@ pub usage_is_said : (line shown : List ℕ) (result : ℕ) (h h' : Option (List 
 usage_is_said line shown result h h' f f' same said two = subst (λ (x : List ℕ). IsSaid x h h' f f') same (said (λ six. omega arith))
 
 -- what is told of a trace that is not right, or not timely
-pub wrong_is_said : (said : Answer) (clause : Clause) (row : ℕ) (h h' : Option (List ℕ)) (f f' : ℕ) → said.verdict ≡ Wrong clause row → IsSaid (wrong_line clause row) h h' f f' → NoIsSaid said h h' f f'
-wrong_is_said said clause row h h' f f' is s = IsWrong clause row is s
+pub wrong_is_said : (said : Answer) (clause : Clause) (row : ℕ) (shown : List ℕ) (h h' : Option (List ℕ)) (f f' : ℕ) → said.verdict ≡ Wrong clause row → shown ≡ said.missing.items → IsSaid (wrong_line clause row ++ shown) h h' f f' → NoIsSaid said h h' f f'
+wrong_is_said said clause row shown h h' f f' is same s = IsWrong clause row is (subst (λ (x : List ℕ). IsSaid (wrong_line clause row ++ x) h h' f f') same s)
 
-pub late_is_said : (said : Answer) (row : ℕ) (h h' : Option (List ℕ)) (f f' : ℕ) → said.verdict ≡ Right → said.untimely ≡ Some row → IsSaid (untimely_line row) h h' f f' → NoIsSaid said h h' f f'
-late_is_said said row h h' f f' is late s = IsLate row is late s
+pub late_is_said : (said : Answer) (row : ℕ) (shown : List ℕ) (h h' : Option (List ℕ)) (f f' : ℕ) → said.verdict ≡ Right → said.untimely ≡ Some row → shown ≡ said.missing.items → IsSaid (untimely_line row ++ shown) h h' f f' → NoIsSaid said h h' f f'
+late_is_said said row shown h h' f f' is late same s = IsLate row is late (subst (λ (x : List ℕ). IsSaid (untimely_line row ++ x) h h' f f') same s)
 
 -- what is told of texts that were read
-pub right_is_said : (told told' : Option (List ℕ)) (said : Answer) (d d' : Bool) (result : ℕ) → IfSome told (λ a. IfSome told' (λ b. IsAudited d a b said)) → d ≡ d' → (result ≡ 0 → IsGood said) → result ≡ 0 → IfSome told (λ a. IfSome told' (λ b. IsRight d' a b))
+pub right_is_said : (told told' : Option (List ℕ)) (said : Answer) (d d' : Asked) (result : ℕ) → IfSome told (λ a. IfSome told' (λ b. IsAudited d a b said)) → d ≡ d' → (result ≡ 0 → IsGood said) → result ≡ 0 → IfSome told (λ a. IfSome told' (λ b. IsRight d' a b))
 right_is_said None told' said d d' result i same good zero = tt
 right_is_said (Some a) None said d d' result i same good zero = tt
-right_is_said (Some a) (Some b) said d d' result i same good zero = record { answer = said; audited = subst (λ (d : Bool). IsAudited d a b said) same i; good = good zero }
+right_is_said (Some a) (Some b) said d d' result i same good zero = record { answer = said; audited = subst (λ (d : Asked). IsAudited d a b said) same i; good = good zero }
 
-pub no_is_said : (told told' : Option (List ℕ)) (said : Answer) (d d' : Bool) (result : ℕ) (h h' : Option (List ℕ)) (f f' : ℕ) → IfSome told (λ a. IfSome told' (λ b. IsAudited d a b said)) → d ≡ d'
+pub no_is_said : (told told' : Option (List ℕ)) (said : Answer) (d d' : Asked) (result : ℕ) (h h' : Option (List ℕ)) (f f' : ℕ) → IfSome told (λ a. IfSome told' (λ b. IsAudited d a b said)) → d ≡ d'
     → (result ≡ 5 → NoIsSaid said h h' f f') → result ≡ 5 → IfSome told (λ a. IfSome told' (λ b. SaysNo d' a b h h' f f'))
 no_is_said None told' said d d' result h h' f f' i same told_no five = tt
 no_is_said (Some a) None said d d' result h h' f f' i same told_no five = tt
-no_is_said (Some a) (Some b) said d d' result h h' f f' i same told_no five = record { answer = said; audited = subst (λ (d : Bool). IsAudited d a b said) same i; said = told_no five }
+no_is_said (Some a) (Some b) said d d' result h h' f f' i same told_no five = record { answer = said; audited = subst (λ (d : Asked). IsAudited d a b said) same i; said = told_no five }

@@ -12,6 +12,7 @@
 //! ```
 #![tactic(auto)]
 
+mod explained;
 mod lines;
 mod run;
 mod texts;

@@ -9,8 +9,10 @@ ghost use Rattle.trace_script.specs.Judged.{conf_of};
 ghost use Rattle.trace_timely.specs.Timely.{IsUntimely};
 ghost use Rattle.trace_audit_run.specs.Program as plain;
 
+use crate::explained::explained;
 use crate::lines::{LONG_LINE, script_line, trace_line};
 use crate::timely::audit_timely;
+use crate::words::Asked;
 use client_request::Trace;
 use command_parts::statuses::{NO_MEMORY, REFUSED, SOURCE_FAULT};
 use command_parts::{Ending, says};
@@ -26,11 +28,13 @@ const MOST_OF_SCRIPT: usize = 16_777_216;
 const MOST_OF_TRACE: usize = 1_073_741_824;
 
 /// What is said of a trace.
-#[derive(Clone, Copy)]
+#[derive(Drop)]
 pub(crate) struct Answer {
     pub(crate) verdict: Verdict,
     /// The first row that is not timely, where that is asked.
     pub(crate) untimely: Option<u64>,
+    /// What is missing at the row that is told, as a line, where that is asked; else nothing.
+    pub(crate) missing: Vec<u8>,
 }
 
 /// The octets of a text to its end; none where there are more than so many.
@@ -109,33 +113,39 @@ fn untimely_in(
 }
 
 /// What is said of a trace by a script.
-fn answered(alloc: Global, timely: bool, script: &Script, trace: &Trace) -> Result<Answer, NoMemory>
-    ensures { IfOk result (plain.IsAnswer timely script.now trace.now.rows) }
+fn answered(alloc: Global, asked: Asked, script: &Script, trace: &Trace) -> Result<Answer, NoMemory>
+    ensures { IfOk result (plain.IsAnswer asked script.now trace.now.rows) }
 {
     let verdict = audit(alloc, script, trace)?;
-    let untimely = untimely_in(alloc, timely, script, trace)?;
-    Ok(Answer { verdict, untimely })
+    let untimely = untimely_in(alloc, asked.timely, script, trace)?;
+    let rows = trace.rows.as_slice();
+    let missing = explained(alloc, asked.explain, verdict, untimely, rows)?;
+    Ok(Answer {
+        verdict,
+        untimely,
+        missing,
+    })
 }
 
 /// What is said of a trace whose octets were read, by a script.
-fn judged_by(alloc: Global, timely: bool, script: &Script, trace: &[u8]) -> Result<Answer, Ending>
-    ensures { MatchResult result (plain.IsJudged timely script.now trace.now) (plain.RefusesTrace trace.now) }
+fn judged_by(alloc: Global, asked: Asked, script: &Script, trace: &[u8]) -> Result<Answer, Ending>
+    ensures { MatchResult result (plain.IsJudged asked script.now trace.now) (plain.RefusesTrace trace.now) }
 {
     let trace = match trace_in(alloc, trace) {
         Ok(trace) => trace,
         Err(ending) => return Err(ending),
     };
-    Ok(answered(alloc, timely, script, &trace)?)
+    Ok(answered(alloc, asked, script, &trace)?)
 }
 
 /// What is said of a trace by a script, each of which may be too long.
 fn judged(
     alloc: Global,
-    timely: bool,
+    asked: Asked,
     script: &Option<Vec<u8>>,
     trace: &Option<Vec<u8>>,
 ) -> Result<Answer, Ending>
-    ensures answers { plain.Answers timely script.now trace.now result }
+    ensures answers { plain.Answers asked script.now trace.now result }
     ensures early { IfErr result IsEarly }
     ensures statuses { IfErr result (λ e. (status_of e ≡ 1) ⊎ (status_of e ≡ 6)) }
 {
@@ -147,7 +157,7 @@ fn judged(
         Err(ending) => return Err(ending),
     };
     match trace {
-        Some(trace) => judged_by(alloc, timely, &script, trace),
+        Some(trace) => judged_by(alloc, asked, &script, trace),
         None => Err(too_long(alloc)),
     }
 }
@@ -156,11 +166,11 @@ fn judged(
 /// limit, before one of them is judged.
 pub(crate) fn judged_texts<S: Source, T: Source>(
     alloc: Global,
-    timely: bool,
+    asked: Asked,
     script: &mut S,
     trace: &mut T,
 ) -> Result<Answer, Ending>
-    ensures done { IfOk result (λ v. IfSome (S.left script.old) (λ a. IfSome (T.left trace.old) (λ b. plain.IsAudited timely a b v))) }
+    ensures done { IfOk result (λ v. IfSome (S.left script.old) (λ a. IfSome (T.left trace.old) (λ b. plain.IsAudited asked a b v))) }
     ensures early { IfErr result IsEarly }
     ensures no_numbers { IfErr result (λ e. status_of e ≢ 7) }
     ensures source_fault { IfErr result (λ e. status_of e ≡ 3 → Rose (S.faults script.old) (S.faults script.new) ⊎ Rose (T.faults trace.old) (T.faults trace.new)) }
@@ -168,5 +178,5 @@ pub(crate) fn judged_texts<S: Source, T: Source>(
 {
     let script = octets_of(alloc, script, MOST_OF_SCRIPT)?;
     let trace = octets_of(alloc, trace, MOST_OF_TRACE)?;
-    judged(alloc, timely, &script, &trace)
+    judged(alloc, asked, &script, &trace)
 }

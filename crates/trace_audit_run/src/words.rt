@@ -3,24 +3,68 @@
 ghost use Rattle.std.specs.Prelude.{◌≡◌};
 ghost use Rattle.trace_audit_run.specs.Words as plain;
 
-/// Whether a word is the option that asks whether the trace is timely.
-#[tactic(auto, unfolding(crate::specs::Words::is_timely_option))]
-fn is_timely_option(word: &str) -> bool
-    ensures { result ≡ plain.is_timely_option word.now }
+/// What an option asks for.
+#[derive(Clone, Copy)]
+pub(crate) enum Choice {
+    /// Whether a right trace is timely.
+    Timely,
+    /// What is missing where it is wrong, or not timely, in words.
+    Explain,
+}
+
+/// What the options ask for.
+#[derive(Clone, Copy)]
+pub(crate) struct Asked {
+    /// Whether a right trace is timely.
+    pub(crate) timely: bool,
+    /// What is missing where it is wrong, or not timely, in words.
+    pub(crate) explain: bool,
+}
+
+/// What an option asks for; none where a word is no option.
+#[tactic(auto, unfolding(crate::specs::Words::choice_of))]
+fn choice_of(word: &str) -> Option<Choice>
+    ensures { result ≡ plain.choice_of word.now }
 {
     match word {
-        "--timely" => true,
-        _ => false,
+        "--timely" => Some(Choice::Timely),
+        "--explain" => Some(Choice::Explain),
+        _ => None,
     }
 }
 
-/// Whether it is asked that the trace is timely: the first word is `--timely`.
-pub(crate) fn asks_timely(words: &[String]) -> bool
-    ensures { result ≡ plain.asks_timely words.now }
+/// What is asked for, and this besides.
+fn with(choice: Choice, asked: Asked) -> Asked
+    ensures { result ≡ plain.with_choice choice asked }
+{
+    match choice {
+        Choice::Timely => Asked {
+            timely: true,
+            explain: asked.explain,
+        },
+        Choice::Explain => Asked {
+            timely: asked.timely,
+            explain: true,
+        },
+    }
+}
+
+/// What the options before the first word that is none ask for.
+pub(crate) fn asked_by(words: &[String]) -> Asked
+    ensures { result ≡ plain.asked_by words.now }
 {
     match words {
-        [] => false,
-        [first, ..] => is_timely_option(first.as_str()),
+        [] => Asked {
+            timely: false,
+            explain: false,
+        },
+        [first, rest @ ..] => match choice_of(first.as_str()) {
+            None => Asked {
+                timely: false,
+                explain: false,
+            },
+            Some(choice) => with(choice, asked_by(rest)),
+        },
     }
 }
 
@@ -30,12 +74,9 @@ pub fn names_among(words: &[String]) -> &[String]
 {
     match words {
         [] => words,
-        [first, rest @ ..] => {
-            if is_timely_option(first.as_str()) {
-                rest
-            } else {
-                words
-            }
-        }
+        [first, rest @ ..] => match choice_of(first.as_str()) {
+            None => words,
+            Some(_) => names_among(rest),
+        },
     }
 }

@@ -44,6 +44,10 @@ have_put (o ∷ os) t = have_put os (has_put o t)
 abbrev pub after_row : Row → Waiting → Waiting
 after_row row t = have_put row.outs (met row.event t)
 
+abbrev pub after_rows : List Row → Waiting → Waiting
+after_rows [] t = t
+after_rows (row ∷ rows) t = after_rows rows (after_row row t)
+
 -- what is kept is what the definitions say
 pub record Known (h : History) (t : Waiting) : Type 0 where
   pub requests : requests.Known h t.requests
