@@ -26,10 +26,7 @@ const ANSWERED: &str = "at 18446744073709551615 bytes 0 \
 const TIMED_OUT: &str = "> reply 0 err TimedOut\n";
 
 /// What stands behind the tick, the status, and what is written.
-const RUNS: [(&str, u8, &str); 2] = [
-    (ANSWERED, 0, "right\n"),
-    (TIMED_OUT, 5, "wrong H3 row 2\n"),
-];
+const RUNS: [(&str, u8, &str); 2] = [(ANSWERED, 0, "right\n"), (TIMED_OUT, 5, "wrong H3 row 2\n")];
 
 #[test]
 fn no_deadline_passes_at_the_greatest_moment(rt: HostRuntime) -> Result<(), Fail> {

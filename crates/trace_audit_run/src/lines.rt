@@ -70,11 +70,7 @@ pub(crate) fn wrong_line(
 }
 
 /// At which row the trace is not timely; and behind it what is missing there, if that is said.
-pub(crate) fn untimely_line(
-    alloc: Global,
-    row: u64,
-    missing: &[u8],
-) -> Result<Vec<u8>, AllocError>
+pub(crate) fn untimely_line(alloc: Global, row: u64, missing: &[u8]) -> Result<Vec<u8>, AllocError>
     ensures { IfOk result (λ v. v.items ≡ plain.untimely_line row ++ missing.now) }
 {
     let text = format!(in alloc; "untimely row {row}\n")?;

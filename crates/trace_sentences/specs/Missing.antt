@@ -25,25 +25,22 @@ sentence Causes b = codes ": nothing in this row or before is the cause of such 
 sentence Orders b = orders b
 sentence Prompts b = codes ": it brings a final answer to a request that is not given it in this row"
 
--- the request that was sent or written last at a place
-abbrev pub last_said : Option ℕ → List ℕ
-last_said None = []
-last_said (Some k) = codes ", where what was sent or written last was request " ++ decimal k
+-- words and the number of a request, if there is one
+abbrev pub named : (words : List ℕ) → Option ℕ → List ℕ
+named words None = []
+named words (Some k) = words ++ decimal k
 
-abbrev pub last_at_place : Option ℕ → (before : List Row) → List ℕ
-last_at_place None before = []
-last_at_place (Some p) before = last_said (last_at p before None)
+-- the request that was sent or written last at a place
+abbrev pub last_of : (place : Option ℕ) → (before : List Row) → Option ℕ
+last_of None before = None
+last_of (Some p) before = last_at p before None
 
 abbrev pub last_words : What → (before : List Row) → List ℕ
-last_words w before = last_at_place (place_of w) before
+last_words w before = named (codes ", where what was sent or written last was request ") (last_of (place_of w) before)
 
 -- the request that waits longest
-abbrev pub waiting_said : Option ℕ → List ℕ
-waiting_said None = codes "; no request waits"
-waiting_said (Some k) = codes "; longest waits request " ++ decimal k
-
 abbrev pub waiting_words : List Row → List ℕ
-waiting_words rows = waiting_said (longest rows)
+waiting_words rows = named (codes "; longest waits request ") (longest rows)
 
 -- what is said of a place where an answer came, and of what waits
 abbrev pub where_words : Clause → What → (before : List Row) → List ℕ

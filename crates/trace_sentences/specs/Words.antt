@@ -53,11 +53,9 @@ what_words w = words_of w ++ numbered (place_of w)
 abbrev pub event_words : Event → List ℕ
 event_words e = codes "at " ++ decimal e.moment.0 ++ what_words e.what
 
-abbrev pub put_words : (request : ℕ) → (put : List ℕ) → ℕ → List ℕ
-put_words k put n = codes "request " ++ decimal k ++ put ++ decimal n
-
-abbrev pub opened_words : (place server : ℕ) → List ℕ
-opened_words p s = codes "place " ++ decimal p ++ codes " was opened to server " ++ decimal s
+-- of what number something was done, and to which other one
+abbrev pub done_to : (of : List ℕ) → ℕ → (done : List ℕ) → ℕ → List ℕ
+done_to of n done m = of ++ decimal n ++ done ++ decimal m
 
 abbrev pub given : {M : Type 0} → Result M Error → List ℕ
 given (Ok m) = codes " was given a message"
@@ -65,11 +63,11 @@ given (Err e) = codes " was given an error"
 
 -- what was put out
 abbrev pub out_words : Out → List ℕ
-out_words (Start k s v) = put_words k (codes " was handed to server ") s
-out_words (OpenDgram p s) = opened_words p s
-out_words (OpenStream p s) = opened_words p s
-out_words (Send p k i o) = put_words k (codes " was sent at place ") p
-out_words (Write p k i o) = put_words k (codes " was written at place ") p
+out_words (Start k s v) = done_to (codes "request ") k (codes " was handed to server ") s
+out_words (OpenDgram p s) = done_to (codes "place ") p (codes " was opened to server ") s
+out_words (OpenStream p s) = done_to (codes "place ") p (codes " was opened to server ") s
+out_words (Send p k i o) = done_to (codes "request ") k (codes " was sent at place ") p
+out_words (Write p k i o) = done_to (codes "request ") k (codes " was written at place ") p
 out_words (Resume p o) = codes "place " ++ decimal p ++ codes " was written to again"
 out_words (Close p) = codes "place " ++ decimal p ++ codes " was closed"
 out_words (Stale k) = codes "request " ++ decimal k ++ codes " was marked for a stale reply"

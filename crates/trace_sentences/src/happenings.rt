@@ -60,11 +60,7 @@ fn push_what(alloc: Global, text: &mut Vec<u8>, what: &What) -> Result<(), NoMem
 }
 
 /// Adds when it happened, what, and where.
-pub(crate) fn push_event(
-    alloc: Global,
-    text: &mut Vec<u8>,
-    event: &Event,
-) -> Result<(), NoMemory>
+pub(crate) fn push_event(alloc: Global, text: &mut Vec<u8>, event: &Event) -> Result<(), NoMemory>
     ensures { OnOk result (text.new.items ≡ text.old.items ++ plain.event_words event.now) }
 {
     push_number(alloc, text, "at ", event.moment.0)?;

@@ -2,6 +2,7 @@
 
 ghost use Rattle.std.specs.Prelude.{◌≡◌, ◌++◌, OnOk, slice_get};
 ghost use Rattle.trace_sentences.specs.Missing as plain;
+ghost use Rattle.trace_sentences.specs.Words.{place_of};
 
 use crate::happenings::{place_of, push_event};
 use crate::outs::{is_asked_of_some, push_asked};
@@ -44,45 +45,50 @@ fn orders(is_of_outs: bool) -> &'static str
     }
 }
 
-/// Adds which request was sent or written last at the place of an event, if one was.
-fn push_last(
+/// Adds words and the number of a request, if there is one.
+fn push_named(
     alloc: Global,
     text: &mut Vec<u8>,
-    what: &What,
-    before: &[Row],
+    words: &str,
+    request: Option<u64>,
 ) -> Result<(), NoMemory>
-    ensures { OnOk result (text.new.items ≡ text.old.items ++ plain.last_words what.now before.now) }
-{
-    let Some(place) = place_of(what) else {
-        return Ok(());
-    };
-    match last_at(place, before) {
-        None => Ok(()),
-        Some(request) => push_number(
-            alloc,
-            text,
-            ", where what was sent or written last was request ",
-            request,
-        ),
-    }
-}
-
-/// Adds that this request waits longest, or that none waits.
-fn push_longest(alloc: Global, text: &mut Vec<u8>, request: Option<u64>) -> Result<(), NoMemory>
-    ensures { OnOk result (text.new.items ≡ text.old.items ++ plain.waiting_said request) }
+    ensures { OnOk result (text.new.items ≡ text.old.items ++ plain.named words.now request) }
 {
     match request {
-        None => push_words(text, "; no request waits"),
-        Some(request) => push_number(alloc, text, "; longest waits request ", request),
+        None => Ok(()),
+        Some(request) => push_number(alloc, text, words, request),
     }
 }
 
-/// Adds which request waits longest behind some rows.
+/// The request that was sent or written last at the place of an event.
+fn last_of(what: &What, before: &[Row]) -> Option<u64>
+    ensures { result ≡ plain.last_of (place_of what.now) before.now }
+{
+    match place_of(what) {
+        None => None,
+        Some(place) => last_at(place, before),
+    }
+}
+
+/// Adds which request was sent or written last at the place of an event, if one was.
+fn push_last(alloc: Global, text: &mut Vec<u8>, what: &What, before: &[Row]) -> Result<(), NoMemory>
+    ensures { OnOk result (text.new.items ≡ text.old.items ++ plain.last_words what.now before.now) }
+{
+    let request = last_of(what, before);
+    push_named(
+        alloc,
+        text,
+        ", where what was sent or written last was request ",
+        request,
+    )
+}
+
+/// Adds which request waits longest behind some rows, if one waits.
 fn push_waiting(alloc: Global, text: &mut Vec<u8>, rows: &[Row]) -> Result<(), NoMemory>
     ensures { OnOk result (text.new.items ≡ text.old.items ++ plain.waiting_words rows.now) }
 {
     let request = longest_waiting(alloc, rows)?;
-    push_longest(alloc, text, request)
+    push_named(alloc, text, "; longest waits request ", request)
 }
 
 /// Adds what a clause asks of a row but for its outs: of what came the place's last request, and of what waits the first.
@@ -177,16 +183,14 @@ pub fn push_missing(
 }
 
 /// Adds that at a row, which is the last of these, a request is late.
-fn push_late_row(
-    alloc: Global,
-    text: &mut Vec<u8>,
-    row: &Row,
-    rows: &[Row],
-) -> Result<(), NoMemory>
+fn push_late_row(alloc: Global, text: &mut Vec<u8>, row: &Row, rows: &[Row]) -> Result<(), NoMemory>
     ensures { OnOk result (text.new.items ≡ text.old.items ++ plain.late_words row.now rows.now) }
 {
     push_event(alloc, text, &row.event)?;
-    push_words(text, ": a request has no reply though its timeout has passed")?;
+    push_words(
+        text,
+        ": a request has no reply though its timeout has passed",
+    )?;
     push_waiting(alloc, text, rows)?;
     push_words(text, "\n")
 }

@@ -25,31 +25,19 @@ fn push_done(
     push_words(text, done)
 }
 
-/// Adds that a request was handed to a server, or sent or written at a place.
-fn push_put(
+/// Adds of what number something was done, and to which other one.
+fn push_done_to(
     alloc: Global,
     text: &mut Vec<u8>,
-    request: u64,
-    put: &str,
+    of: &str,
     number: u64,
+    done: &str,
+    other: u64,
 ) -> Result<(), NoMemory>
-    ensures { OnOk result (text.new.items ≡ text.old.items ++ plain.put_words request put.now number) }
+    ensures { OnOk result (text.new.items ≡ text.old.items ++ plain.done_to of.now number done.now other) }
 {
-    push_number(alloc, text, "request ", request)?;
-    push_number(alloc, text, put, number)
-}
-
-/// Adds that a place was opened to a server.
-fn push_opened(
-    alloc: Global,
-    text: &mut Vec<u8>,
-    place: u64,
-    server: u64,
-) -> Result<(), NoMemory>
-    ensures { OnOk result (text.new.items ≡ text.old.items ++ plain.opened_words place server) }
-{
-    push_number(alloc, text, "place ", place)?;
-    push_number(alloc, text, " was opened to server ", server)
+    push_number(alloc, text, of, number)?;
+    push_number(alloc, text, done, other)
 }
 
 /// What a request was given.
@@ -68,21 +56,56 @@ fn push_out(alloc: Global, text: &mut Vec<u8>, out: &Out) -> Result<(), NoMemory
 {
     match out {
         Out::Start {
-            request, server, ..
-        } => push_put(
+            request,
+            server,
+            ..
+        } => push_done_to(
             alloc,
             text,
+            "request ",
             *request,
             " was handed to server ",
             *server as u64,
         ),
-        Out::OpenDgram { place, server } => push_opened(alloc, text, *place, *server as u64),
-        Out::OpenStream { place, server } => push_opened(alloc, text, *place, *server as u64),
+        Out::OpenDgram { place, server } => {
+            push_done_to(
+                alloc,
+                text,
+                "place ",
+                *place,
+                " was opened to server ",
+                *server as u64,
+            )
+        }
+        Out::OpenStream { place, server } => {
+            push_done_to(
+                alloc,
+                text,
+                "place ",
+                *place,
+                " was opened to server ",
+                *server as u64,
+            )
+        }
         Out::Send { place, request, .. } => {
-            push_put(alloc, text, *request, " was sent at place ", *place)
+            push_done_to(
+                alloc,
+                text,
+                "request ",
+                *request,
+                " was sent at place ",
+                *place,
+            )
         }
         Out::Write { place, request, .. } => {
-            push_put(alloc, text, *request, " was written at place ", *place)
+            push_done_to(
+                alloc,
+                text,
+                "request ",
+                *request,
+                " was written at place ",
+                *place,
+            )
         }
         Out::Resume { place, .. } => {
             push_done(alloc, text, "place ", *place, " was written to again")

@@ -11,17 +11,15 @@ fn last_with(place: u64, out: &Out, before: Option<u64>) -> Option<u64>
 {
     match out {
         Out::Send {
-            place: at, request, ..
+            place: at,
+            request,
+            ..
         }
         | Out::Write {
-            place: at, request, ..
-        } => {
-            if *at == place {
-                Some(*request)
-            } else {
-                before
-            }
-        }
+            place: at,
+            request,
+            ..
+        } => { if *at == place { Some(*request) } else { before } }
         _ => before,
     }
 }

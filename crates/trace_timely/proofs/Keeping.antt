@@ -225,10 +225,9 @@ first_waits h t is = go t.numbers refl
     go : (es : Members) → t.numbers ≡ es → IsFirst h (first_of es)
     go [] i = λ k. sym (ap (λ es. is_some (entry_at k es)) (sym i) ∙ is.numbers k)
     go (e ∷ es) i =
-        let rise : Rise 0 (e ∷ es) = subst (Rise 0) i is.rise in
-        (
+        let rise : Rise 0 (e ∷ es) = subst (Rise 0) i is.rise in (
           sym (is.numbers e.0) ∙ (ap (λ es. is_some (entry_at e.0 es)) i ∙ there e es),
-          λ k w. least e.0 k (e ∷ es) (self e.0, rise.1) (ap (λ es. is_some (entry_at k es)) (sym i) ∙ (is.numbers k ∙ w))
+          λ k w. least e.0 k (e ∷ es) (self e.0, rise.1) (ap (λ es. is_some (entry_at k es)) (sym i) ∙ (is.numbers k ∙ w)),
         )
 
 -- whether all that wait are in time
