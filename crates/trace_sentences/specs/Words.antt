@@ -53,9 +53,13 @@ what_words w = words_of w ++ numbered (place_of w)
 abbrev pub event_words : Event → List ℕ
 event_words e = codes "at " ++ decimal e.moment.0 ++ what_words e.what
 
--- of what number something was done, and to which other one
-abbrev pub done_to : (of : List ℕ) → ℕ → (done : List ℕ) → ℕ → List ℕ
-done_to of n done m = of ++ decimal n ++ done ++ decimal m
+-- of what number something was done
+unfoldable pub done : (of : List ℕ) → ℕ → (words : List ℕ) → List ℕ
+done of n words = of ++ decimal n ++ words
+
+-- and to which other one
+unfoldable pub done_to : (of : List ℕ) → ℕ → (words : List ℕ) → ℕ → List ℕ
+done_to of n words m = of ++ decimal n ++ words ++ decimal m
 
 abbrev pub given : {M : Type 0} → Result M Error → List ℕ
 given (Ok m) = codes " was given a message"
@@ -68,10 +72,10 @@ out_words (OpenDgram p s) = done_to (codes "place ") p (codes " was opened to se
 out_words (OpenStream p s) = done_to (codes "place ") p (codes " was opened to server ") s
 out_words (Send p k i o) = done_to (codes "request ") k (codes " was sent at place ") p
 out_words (Write p k i o) = done_to (codes "request ") k (codes " was written at place ") p
-out_words (Resume p o) = codes "place " ++ decimal p ++ codes " was written to again"
-out_words (Close p) = codes "place " ++ decimal p ++ codes " was closed"
-out_words (Stale k) = codes "request " ++ decimal k ++ codes " was marked for a stale reply"
-out_words (Reply k x) = codes "request " ++ decimal k ++ given x
+out_words (Resume p o) = done (codes "place ") p (codes " was written to again")
+out_words (Close p) = done (codes "place ") p (codes " was closed")
+out_words (Stale k) = done (codes "request ") k (codes " was marked for a stale reply")
+out_words (Reply k x) = done (codes "request ") k (given x)
 
 abbrev pub is_ok : {M E : Type 0} → Result M E → Bool
 is_ok (Ok m) = true

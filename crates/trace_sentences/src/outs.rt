@@ -1,7 +1,6 @@
 //! What was put out, in words; and of which outs a clause is asked.
 
 ghost use Rattle.std.specs.Prelude.{◌≡◌, ◌++◌, OnOk};
-ghost use Rattle.std.specs.Fmt.{decimal};
 ghost use Rattle.std.specs.List.{flat_map};
 ghost use Rattle.trace_sentences.specs.Words as plain;
 
@@ -12,32 +11,34 @@ use std::alloc::Global;
 use trace_judge::Clause;
 
 /// Adds of what number something was done.
+#[tactic(auto, unfolding(crate::specs::Words::done))]
 fn push_done(
     alloc: Global,
     text: &mut Vec<u8>,
     of: &str,
     number: u64,
-    done: &str,
+    words: &str,
 ) -> Result<(), NoMemory>
-    ensures { OnOk result (text.new.items ≡ text.old.items ++ of.now ++ decimal number ++ done.now) }
+    ensures { OnOk result (text.new.items ≡ text.old.items ++ plain.done of.now number words.now) }
 {
     push_number(alloc, text, of, number)?;
-    push_words(text, done)
+    push_words(text, words)
 }
 
 /// Adds of what number something was done, and to which other one.
+#[tactic(auto, unfolding(crate::specs::Words::done_to))]
 fn push_done_to(
     alloc: Global,
     text: &mut Vec<u8>,
     of: &str,
     number: u64,
-    done: &str,
+    words: &str,
     other: u64,
 ) -> Result<(), NoMemory>
-    ensures { OnOk result (text.new.items ≡ text.old.items ++ plain.done_to of.now number done.now other) }
+    ensures { OnOk result (text.new.items ≡ text.old.items ++ plain.done_to of.now number words.now other) }
 {
     push_number(alloc, text, of, number)?;
-    push_number(alloc, text, done, other)
+    push_number(alloc, text, words, other)
 }
 
 /// What a request was given.
