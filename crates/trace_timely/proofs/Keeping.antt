@@ -2,7 +2,7 @@
 use Rattle.std.proofs.Common.{◌≡◌, ℕ, suc, ◌+◌, ◌<◌, ◌≤◌, ◌==◌, ◌&&◌, ◌||◌, not, cond, max, Bool, true, false, Option, Some, None, List, [], ◌∷◌, nat_cmp, is_eq, refl, sym, ap, ◌∙◌, subst, arith}
 use Rattle.std.specs.Prelude.{if◌then◌else◌, is_some, nat_lt}
 use Rattle.std.proofs.lemmas.Bool.Decides.{nat_tests}
-use Rattle.number_table.specs.Entries.{puts, frees, entry_at}
+use Rattle.number_table.specs.Entries.{frees, entry_at}
 use Rattle.client_request.specs.Request.{Request}
 use Rattle.client_request.specs.declared.event.Event.{Event}
 use Rattle.client_request.specs.declared.event.What.{What}
@@ -23,7 +23,7 @@ use Rattle.trace_tables.specs.Requests as requests
 use Rattle.trace_tables.proofs.Asking as asking_known
 use Rattle.trace_timely.specs.declared.waiting.Waiting.{Waiting}
 use Rattle.trace_timely.specs.Longest.{IsFirst}
-use Rattle.trace_timely.specs.Waiting.{Known, nothing, joined, asked, met, answered, has_put, have_put, after_row, first_of, in_time_of, in_time_seen}
+use Rattle.trace_timely.specs.Waiting.{Known, nothing, joined, asked, met, has_put, have_put, after_row, first_of, in_time_of, in_time_seen}
 use Rattle.trace_timely.proofs.Asked.{asked_below, in_order}
 
 same_number : (a b : ℕ) → (a == b) ≡ true → a ≡ b

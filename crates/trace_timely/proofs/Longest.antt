@@ -6,7 +6,7 @@ use Rattle.right_trace.specs.Timely.{InTime}
 use Rattle.trace_tables.specs.Requests.{deadline_seen}
 use Rattle.trace_tables.proofs.Asking.{deadline_decides}
 use Rattle.trace_timely.specs.declared.waiting.Waiting.{Waiting}
-use Rattle.trace_timely.specs.Waiting.{Known, nothing, after_row, after_rows, first_of, in_time_of, in_time_seen}
+use Rattle.trace_timely.specs.Waiting.{Known, nothing, after_row, after_rows, first_of, in_time_of}
 use Rattle.trace_timely.specs.Timely.{FailsAt}
 use Rattle.trace_timely.specs.Longest.{IsLongest, IsNamed, LateAreNamed, behind, longest}
 use Rattle.trace_timely.proofs.Keeping.{decides, first_waits, known_nothing, row_known}

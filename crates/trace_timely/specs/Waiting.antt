@@ -7,7 +7,7 @@ use Rattle.client_request.specs.declared.event.What.TheVariants.{Ask}
 use Rattle.client_request.specs.declared.event.Out.{Out}
 use Rattle.client_request.specs.declared.event.Out.TheVariants.{Reply}
 use Rattle.client_request.specs.declared.event.Row.{Row}
-use Rattle.right_trace.specs.Trace.{History, Came, Put, after}
+use Rattle.right_trace.specs.Trace.{History}
 use Rattle.right_trace.specs.Requests.{waits}
 use Rattle.trace_sets.specs.Sets.{Members, Rise}
 use Rattle.trace_tables.specs.declared.requests.Requests.{Requests}
