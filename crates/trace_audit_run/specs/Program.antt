@@ -12,7 +12,6 @@ use Rattle.trace_clauses.specs.Verdicts.{IsVerdict}
 use Rattle.trace_script.specs.Judged.{conf_of, settings_of}
 use Rattle.trace_judge.specs.Verdict.{first_lane, verdict_of}
 use Rattle.trace_judge.specs.declared.verdict.Clause.{Clause}
-use Rattle.trace_judge.specs.declared.verdict.Verdict.{Verdict}
 use Rattle.trace_judge.specs.declared.verdict.Verdict.TheVariants.{Right, Wrong}
 use Rattle.trace_timely.specs.Timely.{IsUntimely}
 use Rattle.trace_audit_run.specs.declared.texts.Answer.{Answer}
