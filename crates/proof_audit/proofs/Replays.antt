@@ -15,6 +15,8 @@ use Rattle.trace_clauses.proofs.Verdicts.{kept_is_right, one_verdict}
 use Rattle.trace_questions.specs.Configured as configured
 use Rattle.trace_script.specs.Judged.{conf_of, settings_of}
 use Rattle.trace_script.specs.Judged as judged
+use Rattle.right_trace.specs.Timely.{Timely}
+use Rattle.trace_timely.proofs.Rows.{none_is_timely}
 use Rattle.proof_audit.specs.Replays.{IsSaid, IsJudgedRight, ReplaysAreRight}
 
 -- both ways of saying how a server is asked are one
@@ -38,4 +40,10 @@ pub replays : ReplaysAreRight
 replays redundant cache conf words events rows r =
     let is : right.Right (conf_of conf) (settings_of redundant cache) rows = subst (λ (c : Conf). right.Right c (settings_of redundant cache) rows) (same_conf conf) r.right in
     let said : IsSaid Right redundant cache conf events rows = kept_is_right.right_kept (conf_of conf) (settings_of redundant cache) events rows r.each is in
-    record { right = said; alone = λ v i. one_verdict (conf_of conf) (settings_of redundant cache) events rows v Right i said }
+    let timely : Timely (conf_of conf) rows = subst (λ (c : Conf). Timely c rows) (same_conf conf) r.timely in
+    record {
+      right = said;
+      alone = λ v i. one_verdict (conf_of conf) (settings_of redundant cache) events rows v Right i said;
+      timely = timely;
+      never_late = λ o i. (none_is_timely (conf_of conf) rows o i).1 timely;
+    }

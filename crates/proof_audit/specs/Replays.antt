@@ -1,5 +1,5 @@
 -- What is said of the traces of replays.
-use Rattle.std.specs.Prelude.{◌≡◌, ℕ, List, []}
+use Rattle.std.specs.Prelude.{◌≡◌, ℕ, List, [], Option, None}
 use Rattle.client_request.specs.declared.event.Event.{Event}
 use Rattle.client_request.specs.declared.event.Row.{Row}
 use Rattle.client_settings.specs.Settings.{CacheSettings, RedundantSettings}
@@ -7,15 +7,18 @@ use Rattle.client_replay.specs.Replayed.{IsReplay}
 use Rattle.resolv_conf.specs.declared.conf.ResolvConf.{ResolvConf}
 use Rattle.trace_clauses.specs.Verdicts.{Verdict, Right, IsVerdict}
 use Rattle.trace_script.specs.Judged.{conf_of, settings_of}
+use Rattle.trace_timely.specs.Timely.{IsUntimely}
 
 -- what is said of rows by these events, this configuration and these settings is so
 abbrev pub IsSaid : Verdict → RedundantSettings → CacheSettings → ResolvConf → List Event → List Row → Type 0
 IsSaid v redundant cache conf events rows = IsVerdict v (conf_of conf) (settings_of redundant cache) [] events rows
 
--- The rows of a replay are right, and nothing else is said of them.
+-- The rows of a replay are right and timely, and nothing else is said of them.
 pub record IsJudgedRight (redundant : RedundantSettings) (cache : CacheSettings) (conf : ResolvConf) (events : List Event) (rows : List Row) : Type 0 where
   pub right : IsSaid Right redundant cache conf events rows
   pub alone : (v : Verdict) → IsSaid v redundant cache conf events rows → v ≡ Right
+  pub timely : IsUntimely None (conf_of conf) [] rows
+  pub never_late : (row : Option ℕ) → IsUntimely row (conf_of conf) [] rows → row ≡ None
 
 abbrev pub ReplaysAreRight : Type 0
 ReplaysAreRight = (redundant : RedundantSettings) (cache : CacheSettings) (conf : ResolvConf) (words : ℕ → ℕ) (events : List Event) (rows : List Row) → IsReplay redundant cache conf words events rows → IsJudgedRight redundant cache conf events rows

@@ -4,6 +4,10 @@
 #[cfg(test)]
 mod endings;
 #[cfg(test)]
+mod moments;
+#[cfg(test)]
 mod runs;
+#[cfg(test)]
+mod timely;
 #[cfg(test)]
 mod verdicts;

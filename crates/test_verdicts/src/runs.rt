@@ -19,18 +19,30 @@ pub fn source(alloc: Global, text: &str, fails: u64) -> Result<MemSource, Fail> 
     Ok(MemSource::new(octets, Vec::from_slice(alloc, &[fails])?))
 }
 
-/// The program's exit status, and what it writes, on two words.
-pub fn run(
+/// The program's exit status, and what it writes, on these words.
+pub fn run_words(
     alloc: Global,
+    texts: &[&str],
     mut script: MemSource,
     mut trace: MemSource,
     fails: u64,
 ) -> Result<(u8, Vec<u8>), Fail> {
     let mut words = Vec::new(alloc);
-    words.push(String::from_str(alloc, "script")?)?;
-    words.push(String::from_str(alloc, "trace")?)?;
+    for text in texts {
+        words.push(String::from_str(alloc, text)?)?;
+    }
     let fails = Vec::from_slice(alloc, &[fails])?;
     let mut sink = MemSink::new(alloc, fails, Vec::new(alloc));
     let status = run_audit(alloc, &words, &mut script, &mut trace, &mut sink);
     Ok((status.0, Vec::from_slice(alloc, sink.as_slice())?))
+}
+
+/// The same on two words.
+pub fn run(
+    alloc: Global,
+    script: MemSource,
+    trace: MemSource,
+    fails: u64,
+) -> Result<(u8, Vec<u8>), Fail> {
+    run_words(alloc, &["script", "trace"], script, trace, fails)
 }

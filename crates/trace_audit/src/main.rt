@@ -7,7 +7,7 @@ use client_edge::{FileOpener, command_words};
 use dns_values::StdSink;
 use named_file::NamedFile;
 use std::process::ExitCode;
-use trace_audit_run::run_audit;
+use trace_audit_run::{names_among, run_audit};
 
 /// The exit status where memory can't be had.
 const NO_MEMORY: u8 = 6;
@@ -25,11 +25,12 @@ fn run(rt: HostRuntime) -> u8 {
     let Ok(words) = command_words(&rt) else {
         return NO_MEMORY;
     };
+    let names = names_among(&words);
     let status = run_audit(
         rt.alloc(),
         &words,
-        &mut NamedFile::new(FileOpener::new(rt), path(&words, 0)),
-        &mut NamedFile::new(FileOpener::new(rt), path(&words, 1)),
+        &mut NamedFile::new(FileOpener::new(rt), path(names, 0)),
+        &mut NamedFile::new(FileOpener::new(rt), path(names, 1)),
         &mut StdSink::new(rt.stdout()),
     );
     status.0

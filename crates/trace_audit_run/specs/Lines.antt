@@ -1,8 +1,12 @@
 -- The lines that are written.
-use Rattle.std.specs.Prelude.{ℕ, List, ◌++◌, codes}
+use Rattle.std.specs.Prelude.{ℕ, Bool, true, false, List, [], ◌++◌, codes, Option, Some, None}
 use Rattle.std.specs.Fmt.{decimal}
+use Rattle.client_request.specs.declared.event.Row.{Row}
 use Rattle.trace_judge.specs.declared.verdict.Clause.{Clause}
 use Rattle.trace_judge.specs.declared.verdict.Clause.TheVariants.{Events, Messages, Firsts, Causes, Orders, Prompts}
+use Rattle.trace_judge.specs.declared.verdict.Verdict.{Verdict}
+use Rattle.trace_judge.specs.declared.verdict.Verdict.TheVariants.{Right, Wrong}
+use Rattle.trace_sentences.specs.Missing.{late, missing}
 
 abbrev pub usage_line : List ℕ
 usage_line = codes "usage: trace_audit SCRIPT TRACE\n"
@@ -29,3 +33,16 @@ name_of Prompts = codes "H5"
 
 abbrev pub wrong_line : Clause → (row : ℕ) → List ℕ
 wrong_line x n = codes "wrong " ++ name_of x ++ codes " row " ++ decimal n ++ codes "\n"
+
+abbrev pub untimely_line : (row : ℕ) → List ℕ
+untimely_line n = codes "untimely row " ++ decimal n ++ codes "\n"
+
+-- what is missing where the trace is wrong, or where it is not timely
+abbrev pub explained : Verdict → (untimely : Option ℕ) → List Row → List ℕ
+explained (Wrong x n) o rows = missing x n rows
+explained Right (Some n) rows = late n rows
+explained Right None rows = []
+
+abbrev pub explained_if : Bool → Verdict → (untimely : Option ℕ) → List Row → List ℕ
+explained_if true v o rows = explained v o rows
+explained_if false v o rows = []

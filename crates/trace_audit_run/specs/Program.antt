@@ -1,5 +1,5 @@
 -- What the program says of the texts of a script and of a trace.
-use Rattle.std.specs.Prelude.{◌≡◌, ◌⊎◌, ◌<◌, ◌≤◌, ℕ, Bool, true, false, List, [], ◌∷◌, length, Option, Some, None, Result, Ok, Err, String}
+use Rattle.std.specs.Prelude.{◌≡◌, ◌⊎◌, ◌<◌, ◌≤◌, ◌++◌, ℕ, true, false, List, [], length, Option, Some, None, Result, Ok, Err}
 use Rattle.std.specs.declared.alloc.Global.{Global}
 use Rattle.std.specs.declared.vec.Vec.{Vec}
 use Rattle.client_request.specs.declared.event.Row.{Row}
@@ -12,14 +12,12 @@ use Rattle.trace_clauses.specs.Verdicts.{IsVerdict}
 use Rattle.trace_script.specs.Judged.{conf_of, settings_of}
 use Rattle.trace_judge.specs.Verdict.{first_lane, verdict_of}
 use Rattle.trace_judge.specs.declared.verdict.Clause.{Clause}
-use Rattle.trace_judge.specs.declared.verdict.Verdict.{Verdict}
-use Rattle.trace_judge.specs.declared.verdict.Verdict.TheVariants.{Wrong}
-use Rattle.trace_audit_run.specs.Lines.{script_line, trace_line, wrong_line}
+use Rattle.trace_judge.specs.declared.verdict.Verdict.TheVariants.{Right, Wrong}
+use Rattle.trace_timely.specs.Timely.{IsUntimely}
+use Rattle.trace_audit_run.specs.declared.texts.Answer.{Answer}
+use Rattle.trace_audit_run.specs.declared.words.Asked.{Asked}
+use Rattle.trace_audit_run.specs.Lines.{explained_if, script_line, trace_line, untimely_line, wrong_line}
 use Rattle.trace_audit_run.specs.Lines as lines
-
-abbrev pub are_two : List (String Global) → Bool
-are_two (a ∷ b ∷ []) = true
-are_two _ = false
 
 abbrev pub long_line : List ℕ
 long_line = lines.long_line
@@ -47,19 +45,26 @@ RefusesScript text e = RefusesBy (RefusesLine false text) script_line e
 abbrev pub RefusesTrace : (text : List ℕ) → Ending → Type 0
 RefusesTrace text e = RefusesBy (RefusesTraceLine text) trace_line e
 
+-- what is said of the rows of a trace by a script: its verdict, which row is the first that is not timely, and what is missing at the row that is told, where that is asked
+pub record IsAnswer (asked : Asked) (script : Script) (rows : List Row) (said : Answer) : Type 0 where
+  pub verdict : IsVerdict (verdict_of said.verdict) (conf_of script.conf) (settings_of script.redundant script.cache) [] (first_lane script.lanes) rows
+  pub timely : asked.timely ≡ true → IsUntimely said.untimely (conf_of script.conf) [] rows
+  pub unasked : asked.timely ≡ false → said.untimely ≡ None
+  pub missing : said.missing.items ≡ explained_if asked.explain said.verdict said.untimely rows
+
 -- what is said of the text of a trace by a script
-pub record IsJudged (script : Script) (text : List ℕ) (v : Verdict) : Type 0 where
+pub record IsJudged (asked : Asked) (script : Script) (text : List ℕ) (said : Answer) : Type 0 where
   pub rows : List Row
   pub is_trace : IsTrace text rows
-  pub verdict : IsVerdict (verdict_of v) (conf_of script.conf) (settings_of script.redundant script.cache) [] (first_lane script.lanes) rows
+  pub answer : IsAnswer asked script rows said
 
 -- The texts are a script and a trace, neither too long, and this is said of the trace.
-pub record IsAudited (a b : List ℕ) (v : Verdict) : Type 0 where
+pub record IsAudited (asked : Asked) (a b : List ℕ) (said : Answer) : Type 0 where
   pub script_fits : length a ≤ 16777216
   pub script : Script
   pub is_script : IsScript false a script
   pub trace_fits : length b ≤ 1073741824
-  pub judged : IsJudged script b v
+  pub judged : IsJudged asked script b said
 
 -- One of the texts is not taken, and this line says why; the trace is looked at only where the script is taken.
 pub data IsRefused (a b line : List ℕ) : Type 0 where
@@ -73,20 +78,34 @@ pub record IsEnd (a b : List ℕ) (e : Ending) : Type 0 where
   pub early : IsEarly e
   pub refused : status_of e ≡ 1 → IsRefused a b (line_of e)
 
-abbrev pub IsAnswer : (a b : List ℕ) → Result Verdict Ending → Type 0
-IsAnswer a b (Ok v) = IsAudited a b v
-IsAnswer a b (Err e) = IsEnd a b e
+abbrev pub IsResult : (asked : Asked) (a b : List ℕ) → Result Answer Ending → Type 0
+IsResult asked a b (Ok said) = IsAudited asked a b said
+IsResult asked a b (Err e) = IsEnd a b e
 
 -- of each two texts that were read so
-abbrev pub Answers : (script trace : Option (Vec ℕ Global)) → Result Verdict Ending → Type 0
-Answers script trace r = (a b : List ℕ) → IsRead 16777216 a script → IsRead 1073741824 b trace → IsAnswer a b r
+abbrev pub Answers : (asked : Asked) (script trace : Option (Vec ℕ Global)) → Result Answer Ending → Type 0
+Answers asked script trace r = (a b : List ℕ) → IsRead 16777216 a script → IsRead 1073741824 b trace → IsResult asked a b r
 
--- The trace is wrong, and it is said where and in what.
-pub record WrongIsSaid (a b : List ℕ) (before after : Option (List ℕ)) (faults faults_after : ℕ) : Type 0 where
-  pub clause : Clause
-  pub row : ℕ
-  pub audited : IsAudited a b (Wrong clause row)
-  pub said : IsSaid (wrong_line clause row) before after faults faults_after
+-- the trace is right, and no row is told that is not timely
+abbrev pub IsGood : Answer → Type 0
+IsGood said = (said.verdict ≡ Right) × (said.untimely ≡ None)
+
+-- It is said in which clause the trace is wrong, and where; or where it is not timely; and behind it what is missing there.
+pub data NoIsSaid (said : Answer) (before after : Option (List ℕ)) (faults faults_after : ℕ) : Type 0 where
+  IsWrong : (clause : Clause) (row : ℕ) → said.verdict ≡ Wrong clause row → IsSaid (wrong_line clause row ++ said.missing.items) before after faults faults_after → NoIsSaid said before after faults faults_after
+  IsLate : (row : ℕ) → said.verdict ≡ Right → said.untimely ≡ Some row → IsSaid (untimely_line row ++ said.missing.items) before after faults faults_after → NoIsSaid said before after faults faults_after
+
+-- The trace is right, and timely where that is asked.
+pub record IsRight (asked : Asked) (a b : List ℕ) : Type 0 where
+  pub answer : Answer
+  pub audited : IsAudited asked a b answer
+  pub good : IsGood answer
+
+-- The trace is not so, and it is said where.
+pub record SaysNo (asked : Asked) (a b : List ℕ) (before after : Option (List ℕ)) (faults faults_after : ℕ) : Type 0 where
+  pub answer : Answer
+  pub audited : IsAudited asked a b answer
+  pub said : NoIsSaid answer before after faults faults_after
 
 -- A text is refused, and it is said why.
 pub record RefusalIsSaid (a b : List ℕ) (before after : Option (List ℕ)) (faults faults_after : ℕ) : Type 0 where

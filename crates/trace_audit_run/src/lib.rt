@@ -12,8 +12,13 @@
 //! ```
 #![tactic(auto)]
 
+mod explained;
 mod lines;
 mod run;
 mod texts;
+mod timely;
+mod words;
 
 pub use run::run_audit;
+pub use timely::audit_timely;
+pub use words::names_among;

@@ -46,11 +46,33 @@ fn name_of(clause: Clause) -> &'static str
     }
 }
 
-/// Which clause fails first, and where.
-pub(crate) fn wrong_line(alloc: Global, clause: Clause, row: u64) -> Result<Vec<u8>, AllocError>
-    ensures { IfOk result (λ v. v.items ≡ plain.wrong_line clause row) }
+/// A line, and what stands behind it.
+fn joined(alloc: Global, line: &[u8], behind: &[u8]) -> Result<Vec<u8>, AllocError>
+    ensures { IfOk result (λ v. v.items ≡ line.now ++ behind.now) }
+{
+    let mut text = Vec::from_slice(alloc, line)?;
+    text.extend_from_slice(behind)?;
+    Ok(text)
+}
+
+/// Which clause fails first, and where; and behind it what is missing there, if that is said.
+pub(crate) fn wrong_line(
+    alloc: Global,
+    clause: Clause,
+    row: u64,
+    missing: &[u8],
+) -> Result<Vec<u8>, AllocError>
+    ensures { IfOk result (λ v. v.items ≡ plain.wrong_line clause row ++ missing.now) }
 {
     let name = name_of(clause);
     let text = format!(in alloc; "wrong {name} row {row}\n")?;
-    Vec::from_slice(alloc, text.as_bytes())
+    joined(alloc, text.as_bytes(), missing)
+}
+
+/// At which row the trace is not timely; and behind it what is missing there, if that is said.
+pub(crate) fn untimely_line(alloc: Global, row: u64, missing: &[u8]) -> Result<Vec<u8>, AllocError>
+    ensures { IfOk result (λ v. v.items ≡ plain.untimely_line row ++ missing.now) }
+{
+    let text = format!(in alloc; "untimely row {row}\n")?;
+    joined(alloc, text.as_bytes(), missing)
 }

@@ -1,18 +1,23 @@
 //! The texts of a script and of a trace, and what is said of them.
 
-ghost use Rattle.std.specs.Prelude.{◌≡◌, ◌≢◌, ◌⊎◌, ℕ, List, false, IfOk, IfErr, IfSome, MatchResult};
+ghost use Rattle.std.specs.Prelude.{◌≡◌, ◌≢◌, ◌⊎◌, ℕ, List, [], None, false, true, IfOk, IfErr, IfSome, MatchResult};
 ghost use Rattle.dns_values.specs.Source.{Rose};
 ghost use Rattle.command_parts.specs.Ends.{IsEarly, line_of, status_of};
 ghost use Rattle.dns_script.specs.ScriptReading.{IsScript};
 ghost use Rattle.dns_script.specs.TraceReading.{IsTrace};
+ghost use Rattle.trace_script.specs.Judged.{conf_of};
+ghost use Rattle.trace_timely.specs.Timely.{IsUntimely};
 ghost use Rattle.trace_audit_run.specs.Program as plain;
 
+use crate::explained::explained;
 use crate::lines::{LONG_LINE, script_line, trace_line};
+use crate::timely::audit_timely;
+use crate::words::Asked;
 use client_request::Trace;
 use command_parts::statuses::{NO_MEMORY, REFUSED, SOURCE_FAULT};
 use command_parts::{Ending, says};
 use dns_script::{Script, ScriptFault, read_script, read_trace};
-use dns_values::{ReadFault, Source, read_to_end};
+use dns_values::{NoMemory, ReadFault, Source, read_to_end};
 use std::alloc::{AllocError, Global};
 use trace_judge::{Verdict, audit};
 
@@ -21,6 +26,16 @@ const MOST_OF_SCRIPT: usize = 16_777_216;
 
 /// The most octets that a trace may have.
 const MOST_OF_TRACE: usize = 1_073_741_824;
+
+/// What is said of a trace.
+#[derive(Drop)]
+pub(crate) struct Answer {
+    pub(crate) verdict: Verdict,
+    /// The first row that is not timely, where that is asked.
+    pub(crate) untimely: Option<u64>,
+    /// What is missing at the row that is told, as a line, where that is asked; else nothing.
+    pub(crate) missing: Vec<u8>,
+}
 
 /// The octets of a text to its end; none where there are more than so many.
 fn octets_of<S: Source>(
@@ -80,24 +95,57 @@ fn trace_in(alloc: Global, text: &[u8]) -> Result<Trace, Ending>
     }
 }
 
+/// The first row of a trace that is not timely, where that is asked.
+fn untimely_in(
+    alloc: Global,
+    timely: bool,
+    script: &Script,
+    trace: &Trace,
+) -> Result<Option<u64>, NoMemory>
+    ensures asked { timely ≡ true → IfOk result (λ row. IsUntimely row (conf_of script.now.conf) [] trace.now.rows) }
+    ensures unasked { timely ≡ false → IfOk result (λ row. row ≡ None) }
+{
+    if timely {
+        audit_timely(alloc, script, trace)
+    } else {
+        Ok(None)
+    }
+}
+
+/// What is said of a trace by a script.
+fn answered(alloc: Global, asked: Asked, script: &Script, trace: &Trace) -> Result<Answer, NoMemory>
+    ensures { IfOk result (plain.IsAnswer asked script.now trace.now.rows) }
+{
+    let verdict = audit(alloc, script, trace)?;
+    let untimely = untimely_in(alloc, asked.timely, script, trace)?;
+    let rows = trace.rows.as_slice();
+    let missing = explained(alloc, asked.explain, verdict, untimely, rows)?;
+    Ok(Answer {
+        verdict,
+        untimely,
+        missing,
+    })
+}
+
 /// What is said of a trace whose octets were read, by a script.
-fn judged_by(alloc: Global, script: &Script, trace: &[u8]) -> Result<Verdict, Ending>
-    ensures { MatchResult result (plain.IsJudged script.now trace.now) (plain.RefusesTrace trace.now) }
+fn judged_by(alloc: Global, asked: Asked, script: &Script, trace: &[u8]) -> Result<Answer, Ending>
+    ensures { MatchResult result (plain.IsJudged asked script.now trace.now) (plain.RefusesTrace trace.now) }
 {
     let trace = match trace_in(alloc, trace) {
         Ok(trace) => trace,
         Err(ending) => return Err(ending),
     };
-    Ok(audit(alloc, script, &trace)?)
+    Ok(answered(alloc, asked, script, &trace)?)
 }
 
 /// What is said of a trace by a script, each of which may be too long.
 fn judged(
     alloc: Global,
+    asked: Asked,
     script: &Option<Vec<u8>>,
     trace: &Option<Vec<u8>>,
-) -> Result<Verdict, Ending>
-    ensures answers { plain.Answers script.now trace.now result }
+) -> Result<Answer, Ending>
+    ensures answers { plain.Answers asked script.now trace.now result }
     ensures early { IfErr result IsEarly }
     ensures statuses { IfErr result (λ e. (status_of e ≡ 1) ⊎ (status_of e ≡ 6)) }
 {
@@ -109,7 +157,7 @@ fn judged(
         Err(ending) => return Err(ending),
     };
     match trace {
-        Some(trace) => judged_by(alloc, &script, trace),
+        Some(trace) => judged_by(alloc, asked, &script, trace),
         None => Err(too_long(alloc)),
     }
 }
@@ -118,10 +166,11 @@ fn judged(
 /// limit, before one of them is judged.
 pub(crate) fn judged_texts<S: Source, T: Source>(
     alloc: Global,
+    asked: Asked,
     script: &mut S,
     trace: &mut T,
-) -> Result<Verdict, Ending>
-    ensures done { IfOk result (λ v. IfSome (S.left script.old) (λ a. IfSome (T.left trace.old) (λ b. plain.IsAudited a b v))) }
+) -> Result<Answer, Ending>
+    ensures done { IfOk result (λ v. IfSome (S.left script.old) (λ a. IfSome (T.left trace.old) (λ b. plain.IsAudited asked a b v))) }
     ensures early { IfErr result IsEarly }
     ensures no_numbers { IfErr result (λ e. status_of e ≢ 7) }
     ensures source_fault { IfErr result (λ e. status_of e ≡ 3 → Rose (S.faults script.old) (S.faults script.new) ⊎ Rose (T.faults trace.old) (T.faults trace.new)) }
@@ -129,5 +178,5 @@ pub(crate) fn judged_texts<S: Source, T: Source>(
 {
     let script = octets_of(alloc, script, MOST_OF_SCRIPT)?;
     let trace = octets_of(alloc, trace, MOST_OF_TRACE)?;
-    judged(alloc, &script, &trace)
+    judged(alloc, asked, &script, &trace)
 }

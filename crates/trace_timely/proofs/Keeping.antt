@@ -2,7 +2,7 @@
 use Rattle.std.proofs.Common.{◌≡◌, ℕ, suc, ◌+◌, ◌<◌, ◌≤◌, ◌==◌, ◌&&◌, ◌||◌, not, cond, max, Bool, true, false, Option, Some, None, List, [], ◌∷◌, nat_cmp, is_eq, refl, sym, ap, ◌∙◌, subst, arith}
 use Rattle.std.specs.Prelude.{if◌then◌else◌, is_some, nat_lt}
 use Rattle.std.proofs.lemmas.Bool.Decides.{nat_tests}
-use Rattle.number_table.specs.Entries.{puts, frees, entry_at}
+use Rattle.number_table.specs.Entries.{frees, entry_at}
 use Rattle.client_request.specs.Request.{Request}
 use Rattle.client_request.specs.declared.event.Event.{Event}
 use Rattle.client_request.specs.declared.event.What.{What}
@@ -22,7 +22,8 @@ use Rattle.trace_tables.specs.Requests.{replied_seen, deadline_seen}
 use Rattle.trace_tables.specs.Requests as requests
 use Rattle.trace_tables.proofs.Asking as asking_known
 use Rattle.trace_timely.specs.declared.waiting.Waiting.{Waiting}
-use Rattle.trace_timely.specs.Waiting.{Known, nothing, joined, asked, met, answered, has_put, have_put, after_row, first_of, in_time_of, in_time_seen}
+use Rattle.trace_timely.specs.Longest.{IsFirst}
+use Rattle.trace_timely.specs.Waiting.{Known, nothing, joined, asked, met, has_put, have_put, after_row, first_of, in_time_of, in_time_seen}
 use Rattle.trace_timely.proofs.Asked.{asked_below, in_order}
 
 same_number : (a b : ℕ) → (a == b) ≡ true → a ≡ b
@@ -211,24 +212,32 @@ module _ (c : Conf) (h : History) (r : Requests) (kr : requests.Known h r) where
         not_both : (n m : ℕ) → n < m → m ≤ n → ⊥
         not_both n m lt le = omega arith
 
--- whether all that wait are in time
-pub decides : (c : Conf) (h : History) (t : Waiting) → Known h t → (in_time_seen c.timeout t ≡ true → InTime c h) × (InTime c h → in_time_seen c.timeout t ≡ true)
-decides c h t is = go t.numbers refl
+-- the first that is kept was asked first of those that wait
+pub first_waits : (h : History) (t : Waiting) → Known h t → IsFirst h (first_of t.numbers)
+first_waits h t is = go t.numbers refl
   where
     there : (e : ℕ × Unit {0}) (es : Members) → is_some (entry_at e.0 (e ∷ es)) ≡ true
     there e es = ap (λ b. is_some (cond b (Some e.1) (entry_at e.0 es))) (equal e.0)
 
-    go : (es : Members) → t.numbers ≡ es → (in_time_of c.timeout (first_of es) t.requests ≡ true → InTime c h) × (InTime c h → in_time_of c.timeout (first_of es) t.requests ≡ true)
-    go [] i = (λ y. none_waits c h t.requests is.requests (λ k. ap (λ es. is_some (entry_at k es)) (sym i) ∙ is.numbers k), λ f. refl)
-    go (e ∷ es) i =
-        let first : waits e.0 h ≡ true = sym (is.numbers e.0) ∙ (ap (λ es. is_some (entry_at e.0 es)) i ∙ there e es) in
-        let rise : Rise 0 (e ∷ es) = subst (Rise 0) i is.rise in
-        let others : (k : ℕ) → waits k h ≡ true → e.0 ≤ k = (λ k w. least e.0 k (e ∷ es) (self e.0, rise.1) (ap (λ es. is_some (entry_at k es)) (sym i) ∙ (is.numbers k ∙ w))) in
-        by e.0 first others (deadline_seen c.timeout e.0 t.requests) refl
-      where
-        self : (a : ℕ) → a ≤ a
-        self a = omega arith
+    self : (a : ℕ) → a ≤ a
+    self a = omega arith
 
-        by : (n : ℕ) → waits n h ≡ true → ((k : ℕ) → waits k h ≡ true → n ≤ k) → (b : Bool) → deadline_seen c.timeout n t.requests ≡ b → (not (deadline_seen c.timeout n t.requests) ≡ true → InTime c h) × (InTime c h → not (deadline_seen c.timeout n t.requests) ≡ true)
-        by n first others true d = (λ y. absurd (let z : not (deadline_seen c.timeout n t.requests) ≡ false = ap not d in cc), λ f. absurd (late_then c h t.requests is.requests n first others d f))
-        by n first others false d = (λ y. in_time_if c h t.requests is.requests n first others d, λ f. ap not d)
+    go : (es : Members) → t.numbers ≡ es → IsFirst h (first_of es)
+    go [] i = λ k. sym (ap (λ es. is_some (entry_at k es)) (sym i) ∙ is.numbers k)
+    go (e ∷ es) i =
+        let rise : Rise 0 (e ∷ es) = subst (Rise 0) i is.rise in (
+          sym (is.numbers e.0) ∙ (ap (λ es. is_some (entry_at e.0 es)) i ∙ there e es),
+          λ k w. least e.0 k (e ∷ es) (self e.0, rise.1) (ap (λ es. is_some (entry_at k es)) (sym i) ∙ (is.numbers k ∙ w)),
+        )
+
+-- whether all that wait are in time
+pub decides : (c : Conf) (h : History) (t : Waiting) → Known h t → (in_time_seen c.timeout t ≡ true → InTime c h) × (InTime c h → in_time_seen c.timeout t ≡ true)
+decides c h t is = go (first_of t.numbers) (first_waits h t is)
+  where
+    by : (n : ℕ) → waits n h ≡ true → ((k : ℕ) → waits k h ≡ true → n ≤ k) → (b : Bool) → deadline_seen c.timeout n t.requests ≡ b → (not (deadline_seen c.timeout n t.requests) ≡ true → InTime c h) × (InTime c h → not (deadline_seen c.timeout n t.requests) ≡ true)
+    by n first others true d = (λ y. absurd (let z : not (deadline_seen c.timeout n t.requests) ≡ false = ap not d in cc), λ f. absurd (late_then c h t.requests is.requests n first others d f))
+    by n first others false d = (λ y. in_time_if c h t.requests is.requests n first others d, λ f. ap not d)
+
+    go : (o : Option ℕ) → IsFirst h o → (in_time_of c.timeout o t.requests ≡ true → InTime c h) × (InTime c h → in_time_of c.timeout o t.requests ≡ true)
+    go None none = (λ y. none_waits c h t.requests is.requests (λ k. sym (none k)), λ f. refl)
+    go (Some n) its = by n its.0 its.1 (deadline_seen c.timeout n t.requests) refl

@@ -1,3 +1,4 @@
 pub mod Asked
 pub mod Keeping
 pub mod Rows
+pub mod Longest

@@ -7,7 +7,7 @@ use Rattle.client_request.specs.declared.event.What.TheVariants.{Ask}
 use Rattle.client_request.specs.declared.event.Out.{Out}
 use Rattle.client_request.specs.declared.event.Out.TheVariants.{Reply}
 use Rattle.client_request.specs.declared.event.Row.{Row}
-use Rattle.right_trace.specs.Trace.{History, Came, Put, after}
+use Rattle.right_trace.specs.Trace.{History}
 use Rattle.right_trace.specs.Requests.{waits}
 use Rattle.trace_sets.specs.Sets.{Members, Rise}
 use Rattle.trace_tables.specs.declared.requests.Requests.{Requests}
@@ -43,6 +43,10 @@ have_put (o ∷ os) t = have_put os (has_put o t)
 
 abbrev pub after_row : Row → Waiting → Waiting
 after_row row t = have_put row.outs (met row.event t)
+
+abbrev pub after_rows : List Row → Waiting → Waiting
+after_rows [] t = t
+after_rows (row ∷ rows) t = after_rows rows (after_row row t)
 
 -- what is kept is what the definitions say
 pub record Known (h : History) (t : Waiting) : Type 0 where

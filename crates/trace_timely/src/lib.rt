@@ -2,7 +2,9 @@
 //! right or not, in one pass over its rows that keeps which requests wait.
 #![tactic(auto)]
 
+mod laws;
 mod untimely;
 mod waiting;
 
-pub use untimely::first_untimely;
+pub use laws::late_requests_are_named;
+pub use untimely::{first_untimely, longest_waiting};

@@ -1,6 +1,7 @@
 //! The first row at whose end a request waits past its timeout.
 
 ghost use Rattle.std.specs.Prelude.{◌≡◌, IfOk};
+ghost use Rattle.trace_timely.specs.Longest.{IsLongest, longest};
 ghost use Rattle.trace_timely.specs.Timely as plain;
 ghost use Rattle.trace_timely.specs.Waiting as waiting;
 
@@ -33,4 +34,22 @@ pub fn first_untimely(
     ensures { IfOk result (plain.TellsUntimely timeout rows.now) }
 {
     find(alloc, timeout, rows)
+}
+
+/// The first request that waits once rows have gone by.
+fn first_behind(alloc: Global, rows: &[Row]) -> Result<Option<u64>, NoMemory>
+    ensures { IfOk result (λ request. request ≡ longest rows.now) }
+{
+    let mut waiting = Waiting::new(alloc);
+    waiting.take_all(alloc, rows)?;
+    Ok(waiting.first())
+}
+
+/// The request that waits longest behind some rows: of those that were asked and have no reply, that which was asked first.
+#[tactic(auto, using(crate::proofs::Longest::waits_longest))]
+pub fn longest_waiting(alloc: Global, rows: &[Row]) -> Result<Option<u64>, NoMemory>
+    ensures value { IfOk result (λ request. request ≡ longest rows.now) }
+    ensures waits { IfOk result (IsLongest rows.now) }
+{
+    first_behind(alloc, rows)
 }

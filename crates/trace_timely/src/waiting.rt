@@ -105,6 +105,23 @@ impl Waiting {
         self.put_all(alloc, row.outs.as_slice())
     }
 
+    /// Rows go by.
+    pub(crate) fn take_all(&mut self, alloc: Global, rows: &[Row]) -> Result<(), NoMemory>
+        ensures { OnOk result (self.new ≡ plain.after_rows rows.now self.old) }
+    {
+        for row in rows {
+            self.take(alloc, row)?;
+        }
+        Ok(())
+    }
+
+    /// The request that was asked first of those that wait.
+    pub(crate) fn first(&self) -> Option<u64>
+        ensures { result ≡ plain.first_of self.now.numbers }
+    {
+        self.numbers.first()
+    }
+
     /// Whether no request that waits is at its timeout: that which was asked first is not.
     pub(crate) fn is_in_time(&self, timeout: Duration) -> bool
         ensures { result ≡ plain.in_time_seen timeout self.now }
