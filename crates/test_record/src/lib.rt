@@ -1,5 +1,9 @@
-//! A test of clients that are recorded, and of the texts of scripts.
+//! Tests of scripts that are written: texts that are read and printed again, and a client that is recorded.
 #![tactic(auto)]
 
 #[cfg(test)]
 mod recorded;
+#[cfg(test)]
+mod texts;
+#[cfg(test)]
+mod turned;
