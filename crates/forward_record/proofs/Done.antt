@@ -20,7 +20,7 @@ use Rattle.forward_words.specs.declared.words.Asked.{Asked}
 use Rattle.resolv_conf.specs.declared.conf.ResolvConf.{ResolvConf}
 use Rattle.forward_record.specs.Core.{RecordedClient}
 use Rattle.forward_record.specs.Sentences.{unrecorded_line}
-use Rattle.forward_record.specs.Serving.{IsBegun, IsNotRecorded, IsNotRecordedIf, IsRefusalSaid, IsServed, IsServedIf, IsServedOf, words_ahead, words_behind}
+use Rattle.forward_record.specs.Serving.{IsBegun, IsNotRecorded, IsNotRecordedIf, IsRefusalSaid, IsServed, IsRun, IsServedOf, words_ahead, words_behind}
 use Rattle.forward_record.specs.Turns.{Recorded, Turned, scene, within}
 use Rattle.forward_record.specs.declared.serving.Unserved.{Unserved}
 
@@ -75,13 +75,13 @@ served held options asked conf answered before first last old new words deeds po
 -- where the source tells its text
 served_if : {K : Type 0} (held : K → Option (List ℕ)) (options : Options) (asked : Asked) (told : Option (List ℕ)) (conf : ResolvConf) (left : ℕ → ℕ) (answered : ℕ) (before : Option (List ℕ)) (last : Recorded K) (old new : World)
     → IfSome told (λ text. IsConfAsked options text old.words conf left) → IsServed held options asked conf answered before last (record old { words = left }) new
-    → IsServedIf held options asked told answered before last old new
+    → IsRun held options asked told answered before last old new
 served_if held options asked None conf left answered before last old new read serves = tt
 served_if held options asked (Some text) conf left answered before last old new read serves = record { conf = conf; left = left; conf_asked = read; served = serves }
 
 pub serves_if : {K : Type 0} (held : K → Option (List ℕ)) (options : Options) (asked : Asked) (told : Option (List ℕ)) (conf : ResolvConf) (left : ℕ → ℕ) (before : Option (List ℕ)) (old new : World) (r : Result (ℕ × Recorded K) Unserved)
     → IfSome told (λ text. IsConfAsked options text old.words conf left) → IfOk r (λ served. IsServed held options asked conf served.0 before served.1 (record old { words = left }) new)
-    → IfOk r (λ served. IsServedIf held options asked told served.0 before served.1 old new)
+    → IfOk r (λ served. IsRun held options asked told served.0 before served.1 old new)
 serves_if held options asked told conf left before old new (Ok served) read h = served_if held options asked told conf left served.0 before served.1 old new read h
 serves_if held options asked told conf left before old new (Err e) read h = h
 
@@ -92,7 +92,7 @@ refused_if options (Some text) conf words left faults why read refused = record 
 
 -- by the words that asked for it
 pub served_to : {K : Type 0} (held : K → Option (List ℕ)) (options : Options) (said : List (String Global)) (asked : Asked) (told : Option (List ℕ)) (answered : ℕ) (before : Option (List ℕ)) (last : Recorded K) (old new : World)
-    → asked_by said ≡ Some asked → IsServedIf held options asked told answered before last old new
+    → asked_by said ≡ Some asked → IsRun held options asked told answered before last old new
     → IfAsked said told (λ a text. IsServedOf held options a text answered before last old new)
 served_to held options said asked told answered before last old new is serves =
     asked_with said asked told (λ a text. IsServedOf held options a text answered before last old new) is serves

@@ -72,8 +72,8 @@ pub record IsServedOf {K : Type 0} (held : K → Option (List ℕ)) (options : O
   pub served : IsServed held options asked conf answered before last (record old { words = left }) new
 
 -- the same where the source tells its text
-abbrev pub IsServedIf : {K : Type 0} (held : K → Option (List ℕ)) (options : Options) (asked : Asked) (told : Option (List ℕ)) (answered : ℕ) (before : Option (List ℕ)) (last : Recorded K) (old new : World) → Type 0
-IsServedIf held options asked told answered before last old new = IfSome told (λ text. IsServedOf held options asked text answered before last old new)
+abbrev pub IsRun : {K : Type 0} (held : K → Option (List ℕ)) (options : Options) (asked : Asked) (told : Option (List ℕ)) (answered : ℕ) (before : Option (List ℕ)) (last : Recorded K) (old new : World) → Type 0
+IsRun held options asked told answered before last old new = IfSome told (λ text. IsServedOf held options asked text answered before last old new)
 
 -- of the forwarder that is left; there is one
 abbrev pub IsLeft : {K : Type 0} → Option (Recorded K) → (Recorded K → Type 0) → Type 0

@@ -9,7 +9,7 @@ ghost use Rattle.forward_run.specs.Front.{after_deeds};
 ghost use Rattle.forward_run.specs.Serving.{IfAsked, IsDeaf, IsEndOfSource, IsNotListenedBy, IsNotListenedIf, IsServeEnd, IsSilent, RefusalIsSaid, answered_line, asks_itself, begun_deeds, numbers_line};
 ghost use Rattle.forward_run.specs.Turns.{around};
 ghost use Rattle.forward_words.specs.Words.{asked_by};
-ghost use Rattle.forward_record.specs.Serving.{HasServed, IfEnds, IfNotRecorded, IsBegun, IsNotRecorded, IsNotRecordedIf, IsRefusedTo, IsServed, IsServedIf, IsServedTo, is_said, words_ahead, words_behind};
+ghost use Rattle.forward_record.specs.Serving.{HasServed, IfEnds, IfNotRecorded, IsBegun, IsNotRecorded, IsNotRecordedIf, IsRefusedTo, IsServed, IsRun, IsServedTo, is_said, words_ahead, words_behind};
 
 use crate::recorded_core::{RecordedCore, RecordedForwarder};
 use crate::telling::tell_unrecorded;
@@ -151,7 +151,7 @@ fn serve_source<S: Source, L: Sink, F: Front, C: Clock, W: Words, V: Watch, K: S
     watch: &mut V,
     file: K,
 ) -> Result<(u64, RecordedForwarder<K>), Unserved>
-    ensures served { IfOk result (λ left. around F.deeds F.polls C.given W.stream (front.old, clock.old, rng.old) (front.new, clock.new, rng.new) (IsServedIf K.held options.now asked (S.left source.old) left.0 (K.held file) left.1)) }
+    ensures served { IfOk result (λ it. around F.deeds F.polls C.given W.stream (front.old, clock.old, rng.old) (front.new, clock.new, rng.new) (IsRun K.held options.now asked (S.left source.old) it.0 (K.held file) it.1)) }
     ensures source_fault { IfErr result (λ e. IfEnds e (λ ending. status_of ending ≡ 3 → Rose (S.faults source.old) (S.faults source.new))) }
     ensures refused { IfErr result (λ e. IfEnds e (λ ending. status_of ending ≡ 1 → IfSome (S.left source.old) (λ text. IsConfRefused text (line_of ending)))) }
     ensures deaf { IfErr result (λ e. IfEnds e (λ ending. status_of ending ≡ 5 → IsNotListenedIf options.now asked.port (S.left source.old) (W.stream rng.old) (F.faults front.old) (F.faults front.new))) }
