@@ -2,7 +2,7 @@
 
 usage: python3 tests/replay_lanes.py PROGRAM [--runs N] [--lanes N] [--events N] [--busy N] [--seed N] [--short]
 
-PROGRAM is the built dnsq. First six inputs whose end is stored are read. Then each run makes a script of so many lanes (4) with so many events each (100), by datagrams or by
+PROGRAM is the built dnsq. First six inputs whose end is stored are read, and two lanes of three questions, as what a run makes. Then each run makes a script of so many lanes (4) with so many events each (100), by datagrams or by
 stream, with names that come again, so that the cache answers some. Of what is written, each lane's events must stand in
 their order, each once, and nothing else; and without its lanes it must be what `dnsq replay` writes for its own events. A run
 may take a minute. With `--short` names are of one letter and half of the events are ticks, so that a script of 400000 events is no longer
@@ -54,6 +54,15 @@ ENDS = [
     (["many"], ALONE, 0, SERVED),
     (["many", "many"], "lane\n", 2, USAGE),
     (["replay"], "", 0, "trace 1\nend\n"),
+]
+
+# Two lanes of three questions each.
+SIX = ["conf nameserver 192.0.2.53", "words 4660 4661 4662 4663 4664 4665"], [
+    ["at %d ask 0000010000010000000000000%s 00000100 -" % (moment, name) for moment, name in lane]
+    for lane in (
+        [(0, "76578616d706c6503636f6d0000010001"), (10, "76578616d706c6503636f6d00001c0001"), (20, "3777777076578616d706c6503636f6d0000010001")],
+        [(5, "46d61696c076578616d706c6503636f6d0000010001"), (15, "46d61696c076578616d706c6503636f6d00001c0001"), (25, "36e7331076578616d706c6503636f6d0000010001")],
+    )
 ]
 
 
@@ -149,6 +158,10 @@ def run(program, words, text):
     return ran.returncode, ran.stdout.decode()
 
 
+def text_of(head, lanes):
+    return "\n".join(head + [line for lane in lanes for line in ["lane"] + lane]) + "\n"
+
+
 def difference(program, head, lanes, status, text):
     """What is not as it should be, or None."""
     lines = text.splitlines()
@@ -184,12 +197,15 @@ def main():
             ended = run(asked.program, told[0], told[1])
             if ended != told[2:]:
                 sys.exit("%s of %r ended with %r" % (" ".join(told[0]), told[1], ended))
+        wrong = difference(asked.program, *SIX, *run(asked.program, ["many"], text_of(*SIX)))
+        if wrong:
+            sys.exit("two lanes of three questions: " + wrong)
         pick = random.Random(asked.seed)
         orders = set()
         for number in range(asked.runs):
             made = short_script_of if asked.short else script_of
             head, lanes = made(pick, asked.lanes, asked.events)
-            text = "\n".join(head + [line for lane in lanes for line in ["lane"] + lane]) + "\n"
+            text = text_of(head, lanes)
             status, written = run(asked.program, ["many"], text)
             wrong = difference(asked.program, head, lanes, status, written)
             if wrong:
