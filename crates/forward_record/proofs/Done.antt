@@ -29,7 +29,7 @@ pub begun : {K : Type 0} (held : K → Option (List ℕ)) (options : Options) (c
     (core : RecordedClient K) (f : Recorded K)
     → choice ≡ choice_of options.policy → cache ≡ cache_of options → client ≡ started choice cache conf → recording.Recorded (opening conf choice cache words before) [] (held sink) r (started choice cache conf)
     → core ≡ record { client = client; recorder = r; sink = sink } → f ≡ beginning core → IsBegun held options conf words before f
-begun held options conf words before choice cache client r sink core f choice_is cache_is made begins core_is f_is =
+begun {K = K} held options conf words before choice cache client r sink core f choice_is cache_is made begins core_is f_is =
     let a : started choice cache conf ≡ started (choice_of options.policy) (cache_of options) conf =
     ap (λ (p : RedundantSettings). started p cache conf) choice_is ∙ ap (λ (k : CacheSettings). started (choice_of options.policy) k conf) cache_is in
     let b : recording.Recorded (opening conf (choice_of options.policy) (cache_of options) words before) [] (held sink) r (started (choice_of options.policy) (cache_of options) conf) =

@@ -1,5 +1,7 @@
-use Rattle.std.proofs.Common.{ap, refl, ◌∙◌}
+use Rattle.std.proofs.Common.{List, ap, sym, ◌∙◌}
 use Rattle.client_steps.specs.Whole.{Whole}
+use Rattle.dns_values.specs.declared.address.IpAddr.{IpAddr}
+use Rattle.forward_run.specs.Serving.{asks_itself}
 use Rattle.forward_record.specs.Core.{RecordedClient}
 use Rattle.forward_record.specs.Serving.{words_ahead, words_behind}
 use Rattle.forward_record.proofs.Done.{begun, not_begun}
@@ -24,3 +26,7 @@ unfolding words_ahead
 returns-in-Err-begun-clause-not_recorded g c =
     not_begun c.args.options.now c.args.conf.now (words_ahead (g.W.Words.stream c.args.rng.now)) c.choice_of-choice.result c.cache_of-cache.result
     (g.K.Sink.faults c.args.file) (g.K.Sink.faults c.begin-begun.new.sink) c.in-Err-begun.refused c.choice_of-choice.ensures c.cache_of-cache.ensures c.in-Err-begun.ensures.refused
+
+pub returns-in-Ok-with_seed-clause-asks_others : goal.returns-in-Ok-with_seed-clause-asks_others
+returns-in-Ok-with_seed-clause-asks_others g c =
+    ap (λ (ips : List IpAddr). asks_itself ips c.args.port c.args.conf.now) (sym c.as_slice.ensures) ∙ c.in-Ok.ensures.asks_others

@@ -4,8 +4,8 @@ use Rattle.forward_record.specs.Turns.{Recorded}
 use Rattle.forward_record.proofs.Done.{served}
 use Rattle.forward_record.proofs.serving.serve_conf.Goals as goal
 
-pub turn_all-requires : goal.turn_all-requires
-turn_all-requires g c = ap (λ (f : Recorded g.row.K.Denot). f.failed) c.in-Ok.ensures.begun.new
+pub turn_all-turned-requires : goal.turn_all-turned-requires
+turn_all-turned-requires g c = ap (λ (f : Recorded g.row.K.Denot). f.failed) c.in-Ok.ensures.begun.new
 
 pub returns-in-Ok-turned-clause-served : goal.returns-in-Ok-turned-clause-served
 returns-in-Ok-turned-clause-served g c =
