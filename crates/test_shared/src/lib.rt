@@ -6,6 +6,8 @@ mod calls;
 #[cfg(test)]
 mod crossing;
 #[cfg(test)]
+mod recipe;
+#[cfg(test)]
 mod scenes;
 #[cfg(test)]
 mod tests;

@@ -2,23 +2,18 @@
 //!
 //! Each lane of the script is submitted by a thread of its own; what both did stands in one journal, whose rows are what one
 //! client does with these events in that order.
-#![tactic(auto)]
-
 ghost use Rattle.std.specs.Prelude.{◌≡◌};
 ghost use Rattle.client_request.specs.Words.{listed};
 ghost use Rattle.client_shared.specs.History.{opening_of};
 ghost use Rattle.joint_history.specs.Words.{word_of};
 
-mod scripted;
-
+use crate::scenes::script;
 use client_core::{cache, redundant};
 use client_request::{Error, Events, ListWords};
 use client_shared::{ClientKey, NoGate, Opened, Pass, SharedClient, run_lanes};
 use dns_script::Script;
 use resolv_conf::ResolvConf;
-use scripted::script;
 use std::alloc::Global;
-use std::io;
 use std::marker::Brand;
 use std::sync::Wait;
 use std::thread::Threads;
@@ -86,9 +81,7 @@ fn shared<R: Threads + Wait + Sync>(rt: &R, alloc: Global) -> Option<(usize, usi
     counts.ok()
 }
 
-fn main(rt: HostRuntime) -> io::Result<()> {
-    match shared(&rt, rt.alloc()) {
-        Some((entries, receipts)) => println!(rt; "{entries} entries, {receipts} receipts"),
-        None => println!(rt; "no memory"),
-    }
+#[test]
+fn two_threads_share_one_client(rt: HostRuntime) {
+    assert!(rt; shared(&rt, rt.alloc()) == Some((4, 4)));
 }
