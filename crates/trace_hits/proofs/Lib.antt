@@ -1,0 +1,11 @@
+pub mod Short
+pub mod Viewing
+pub mod Behind
+pub mod Points
+pub mod Keeping
+pub mod Among
+pub mod Sparing
+pub mod Failing
+pub mod Judging
+pub mod Stepping
+pub mod Telling

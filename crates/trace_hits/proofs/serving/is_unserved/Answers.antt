@@ -1,0 +1,15 @@
+use Rattle.trace_questions.proofs.Deciding.{if_ok}
+use Rattle.trace_hits.proofs.Telling.{stale_none, stale_told}
+use Rattle.trace_hits.proofs.serving.is_unserved.Goals as goal
+
+pub returns-in_default-get : goal.returns-in_default-get
+returns-in_default-get c =
+    let a = c.args in
+    stale_none a.cache.now a.course.now a.message.now a.outs.now c.in-Some.question (rw c.in-Some.is at c.in_ok-question.ensures) a.failures.now c.in_default-get.ensures
+
+pub returns : goal.returns
+returns c =
+    let a = c.args in
+    if_ok c.is_unserved_of.result
+    (λ b t. stale_told a.cache.now a.course.now a.message.now a.outs.now c.in-Some.question (rw c.in-Some.is at c.in_ok-question.ensures) c.in-Some-get.kept.now c.in-Some-get.ensures b a.failures.now t)
+    c.is_unserved_of.ensures

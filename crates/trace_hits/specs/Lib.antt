@@ -1,0 +1,14 @@
+pub mod Question
+pub mod Views
+pub mod Point
+pub mod Kept
+pub mod Replies
+pub mod Course
+pub mod Outs
+pub mod Known
+pub mod Rows
+pub mod Row
+pub mod Hits
+pub mod Failures
+pub mod Serving
+pub mod Stale

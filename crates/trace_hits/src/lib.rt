@@ -1,0 +1,24 @@
+//! What the cache of a right trace owes: whether each request is answered from the cache that must be, and whether what has expired
+//! serves where servers fail.
+//!
+//! A pass over the rows keeps for each question at most one reply: the last fresh one, while each reply to the same question since
+//! then was its view, or stale. Of no other reply does a row owe anything: a fresh reply is never a view that is given in the row of
+//! its own asking. How many requests and replies came since is told by what was counted up to it. All of this is asked of right
+//! traces, in which a message without a mark is fresh exactly where it is not given in the row of its own asking.
+#![tactic(auto)]
+
+mod course;
+mod failures;
+mod hits;
+mod kept;
+mod outs;
+mod point;
+mod question;
+mod replies;
+mod row;
+mod serving;
+mod stale;
+mod views;
+
+pub use hits::first_missed_hit;
+pub use stale::first_missed_stale;
