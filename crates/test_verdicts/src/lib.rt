@@ -4,6 +4,8 @@
 #[cfg(test)]
 mod endings;
 #[cfg(test)]
+mod missed;
+#[cfg(test)]
 mod moments;
 #[cfg(test)]
 mod runs;

@@ -13,7 +13,7 @@ use Rattle.trace_audit_run.specs.declared.words.Asked.{Asked}
 use Rattle.trace_audit_run.specs.Lines.{untimely_line, wrong_line}
 use Rattle.trace_judge.specs.declared.verdict.Clause.{Clause}
 use Rattle.trace_judge.specs.declared.verdict.Verdict.TheVariants.{Right, Wrong}
-use Rattle.trace_audit_run.specs.Program.{Answers, EndsBy, IsAudited, IsGood, IsJudged, IsLate, IsRight, IsWrong, NoIsSaid, SaysNo, IsRead, IsRefused, RefusalIsSaid, RefusesBy, RefusesScript, RefusesTrace, long_line, long_script, bad_script, long_trace, bad_trace}
+use Rattle.trace_audit_run.specs.Program.{Answers, EndsBy, IsAudited, IsGood, IsJudged, IsLate, IsMissing, IsRight, IsWrong, MissedIsSaid, NoIsSaid, SaysNo, IsRead, IsRefused, RefusalIsSaid, RefusesBy, RefusesScript, RefusesTrace, long_line, long_script, bad_script, long_trace, bad_trace}
 
 -- a line that is refused, and why
 pub refuses_by : (Refuses : ℕ → Type 0) (line : ℕ → List ℕ) (n : ℕ) (e : Ending) → Refuses n → EndsBy (line n) e → RefusesBy Refuses line e
@@ -147,6 +147,9 @@ wrong_is_said said clause row shown h h' f f' is same s = IsWrong clause row is 
 
 pub late_is_said : (said : Answer) (row : ℕ) (shown : List ℕ) (h h' : Option (List ℕ)) (f f' : ℕ) → said.verdict ≡ Right → said.untimely ≡ Some row → shown ≡ said.missing.items → IsSaid (untimely_line row ++ shown) h h' f f' → NoIsSaid said h h' f f'
 late_is_said said row shown h h' f f' is late same s = IsLate row is late (subst (λ (x : List ℕ). IsSaid (untimely_line row ++ x) h h' f f') same s)
+
+pub missing_is_said : (said : Answer) (h h' : Option (List ℕ)) (f f' : ℕ) → said.verdict ≡ Right → said.untimely ≡ None → MissedIsSaid said.missed h h' f f' → NoIsSaid said h h' f f'
+missing_is_said said h h' f f' is timely s = IsMissing is timely s
 
 -- what is told of texts that were read
 pub right_is_said : (told told' : Option (List ℕ)) (said : Answer) (d d' : Asked) (result : ℕ) → IfSome told (λ a. IfSome told' (λ b. IsAudited d a b said)) → d ≡ d' → (result ≡ 0 → IsGood said) → result ≡ 0 → IfSome told (λ a. IfSome told' (λ b. IsRight d' a b))

@@ -37,6 +37,12 @@ wrong_line x n = codes "wrong " ++ name_of x ++ codes " row " ++ decimal n ++ co
 abbrev pub untimely_line : (row : ℕ) → List ℕ
 untimely_line n = codes "untimely row " ++ decimal n ++ codes "\n"
 
+abbrev pub missed_hit_line : (row : ℕ) → List ℕ
+missed_hit_line n = codes "missed hit row " ++ decimal n ++ codes "\n"
+
+abbrev pub missed_stale_line : (row : ℕ) → List ℕ
+missed_stale_line n = codes "missed stale row " ++ decimal n ++ codes "\n"
+
 -- what is missing where the trace is wrong, or where it is not timely
 abbrev pub explained : Verdict → (untimely : Option ℕ) → List Row → List ℕ
 explained (Wrong x n) o rows = missing x n rows

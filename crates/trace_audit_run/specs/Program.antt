@@ -14,9 +14,11 @@ use Rattle.trace_judge.specs.Verdict.{first_lane, verdict_of}
 use Rattle.trace_judge.specs.declared.verdict.Clause.{Clause}
 use Rattle.trace_judge.specs.declared.verdict.Verdict.TheVariants.{Right, Wrong}
 use Rattle.trace_timely.specs.Timely.{IsUntimely}
+use Rattle.trace_audit_run.specs.declared.missed.Missed.{Missed}
 use Rattle.trace_audit_run.specs.declared.texts.Answer.{Answer}
 use Rattle.trace_audit_run.specs.declared.words.Asked.{Asked}
-use Rattle.trace_audit_run.specs.Lines.{explained_if, script_line, trace_line, untimely_line, wrong_line}
+use Rattle.trace_audit_run.specs.Missed.{IsMissed, nothing}
+use Rattle.trace_audit_run.specs.Lines.{explained_if, missed_hit_line, missed_stale_line, script_line, trace_line, untimely_line, wrong_line}
 use Rattle.trace_audit_run.specs.Lines as lines
 
 abbrev pub long_line : List ℕ
@@ -45,11 +47,13 @@ RefusesScript text e = RefusesBy (RefusesLine false text) script_line e
 abbrev pub RefusesTrace : (text : List ℕ) → Ending → Type 0
 RefusesTrace text e = RefusesBy (RefusesTraceLine text) trace_line e
 
--- what is said of the rows of a trace by a script: its verdict, which row is the first that is not timely, and what is missing at the row that is told, where that is asked
+-- what is said of the rows of a trace by a script: its verdict, which row is the first that is not timely, what a right one misses, and what is missing at the row that is told, where that is asked
 pub record IsAnswer (asked : Asked) (script : Script) (rows : List Row) (said : Answer) : Type 0 where
   pub verdict : IsVerdict (verdict_of said.verdict) (conf_of script.conf) (settings_of script.redundant script.cache) [] (first_lane script.lanes) rows
   pub timely : asked.timely ≡ true → IsUntimely said.untimely (conf_of script.conf) [] rows
   pub unasked : asked.timely ≡ false → said.untimely ≡ None
+  pub missed : asked.missed ≡ true → said.verdict ≡ Right → IsMissed script rows said.missed
+  pub unmissed : asked.missed ≡ false → said.missed ≡ nothing
   pub missing : said.missing.items ≡ explained_if asked.explain said.verdict said.untimely rows
 
 -- what is said of the text of a trace by a script
@@ -86,16 +90,29 @@ IsResult asked a b (Err e) = IsEnd a b e
 abbrev pub Answers : (asked : Asked) (script trace : Option (Vec ℕ Global)) → Result Answer Ending → Type 0
 Answers asked script trace r = (a b : List ℕ) → IsRead 16777216 a script → IsRead 1073741824 b trace → IsResult asked a b r
 
--- the trace is right, and no row is told that is not timely
-abbrev pub IsGood : Answer → Type 0
-IsGood said = (said.verdict ≡ Right) × (said.untimely ≡ None)
+-- nothing is missed
+pub record MissesNone (m : Missed) : Type 0 where
+  pub hit : m.hit ≡ None
+  pub stale : m.stale ≡ None
 
--- It is said in which clause the trace is wrong, and where; or where it is not timely; and behind it what is missing there.
+-- the trace is right, and no row is told that is not timely or misses anything
+pub record IsGood (said : Answer) : Type 0 where
+  pub verdict : said.verdict ≡ Right
+  pub timely : said.untimely ≡ None
+  pub missed : MissesNone said.missed
+
+-- It is said where a hit is missed, or else an expired answer.
+pub data MissedIsSaid (m : Missed) (before after : Option (List ℕ)) (faults faults_after : ℕ) : Type 0 where
+  IsHit : (row : ℕ) → m.hit ≡ Some row → IsSaid (missed_hit_line row) before after faults faults_after → MissedIsSaid m before after faults faults_after
+  IsStale : (row : ℕ) → m.hit ≡ None → m.stale ≡ Some row → IsSaid (missed_stale_line row) before after faults faults_after → MissedIsSaid m before after faults faults_after
+
+-- It is said in which clause the trace is wrong, and where; or where it is not timely; and behind it what is missing there; or where a right and timely one misses a hit, or else an expired answer.
 pub data NoIsSaid (said : Answer) (before after : Option (List ℕ)) (faults faults_after : ℕ) : Type 0 where
   IsWrong : (clause : Clause) (row : ℕ) → said.verdict ≡ Wrong clause row → IsSaid (wrong_line clause row ++ said.missing.items) before after faults faults_after → NoIsSaid said before after faults faults_after
   IsLate : (row : ℕ) → said.verdict ≡ Right → said.untimely ≡ Some row → IsSaid (untimely_line row ++ said.missing.items) before after faults faults_after → NoIsSaid said before after faults faults_after
+  IsMissing : said.verdict ≡ Right → said.untimely ≡ None → MissedIsSaid said.missed before after faults faults_after → NoIsSaid said before after faults faults_after
 
--- The trace is right, and timely where that is asked.
+-- The trace is right, and timely and misses nothing where that is asked.
 pub record IsRight (asked : Asked) (a b : List ℕ) : Type 0 where
   pub answer : Answer
   pub audited : IsAudited asked a b answer

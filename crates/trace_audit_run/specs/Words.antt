@@ -5,17 +5,18 @@ use Rattle.std.specs.Str.{bytes_eq}
 use Rattle.std.specs.String.{string_bytes}
 use Rattle.trace_audit_run.specs.declared.words.Asked.{Asked}
 use Rattle.trace_audit_run.specs.declared.words.Choice.{Choice}
-use Rattle.trace_audit_run.specs.declared.words.Choice.TheVariants.{Timely, Explain}
+use Rattle.trace_audit_run.specs.declared.words.Choice.TheVariants.{Timely, All, Explain}
 
 -- what a word asks for, if it is an option
 unfoldable pub choice_of : List ℕ → Option Choice
-choice_of word = if bytes_eq word (codes "--timely") then Some Timely else if bytes_eq word (codes "--explain") then Some Explain else None
+choice_of word = if bytes_eq word (codes "--timely") then Some Timely else if bytes_eq word (codes "--all") then Some All else if bytes_eq word (codes "--explain") then Some Explain else None
 
 abbrev pub nothing : Asked
-nothing = record { timely = false; explain = false }
+nothing = record { timely = false; missed = false; explain = false }
 
 abbrev pub with_choice : Choice → Asked → Asked
 with_choice Timely asked = record asked { timely = true }
+with_choice All asked = record asked { timely = true; missed = true }
 with_choice Explain asked = record asked { explain = true }
 
 abbrev pub with_option : Option Choice → Asked → Asked

@@ -14,11 +14,13 @@
 
 mod explained;
 mod lines;
+mod missed;
 mod run;
 mod texts;
 mod timely;
 mod words;
 
+pub use missed::{Missed, audit_hits};
 pub use run::run_audit;
 pub use timely::audit_timely;
 pub use words::names_among;

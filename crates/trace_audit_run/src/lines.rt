@@ -76,3 +76,19 @@ pub(crate) fn untimely_line(alloc: Global, row: u64, missing: &[u8]) -> Result<V
     let text = format!(in alloc; "untimely row {row}\n")?;
     joined(alloc, text.as_bytes(), missing)
 }
+
+/// At which row a request should have been answered from the cache.
+pub(crate) fn missed_hit_line(alloc: Global, row: u64) -> Result<Vec<u8>, AllocError>
+    ensures { IfOk result (λ v. v.items ≡ plain.missed_hit_line row) }
+{
+    let text = format!(in alloc; "missed hit row {row}\n")?;
+    Vec::from_slice(alloc, text.as_bytes())
+}
+
+/// At which row a request was asked that what had expired should have served.
+pub(crate) fn missed_stale_line(alloc: Global, row: u64) -> Result<Vec<u8>, AllocError>
+    ensures { IfOk result (λ v. v.items ≡ plain.missed_stale_line row) }
+{
+    let text = format!(in alloc; "missed stale row {row}\n")?;
+    Vec::from_slice(alloc, text.as_bytes())
+}

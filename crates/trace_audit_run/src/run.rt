@@ -5,11 +5,14 @@ ghost use Rattle.dns_values.specs.Source.{Rose};
 ghost use Rattle.dns_values.specs.Sink.{IsFlushed, with_octets};
 ghost use Rattle.command_parts.specs.Ends.{IsBegun, IsSaid};
 ghost use Rattle.trace_judge.specs.declared.verdict.Clause.{Clause};
-ghost use Rattle.trace_audit_run.specs.Lines.{right_line, untimely_line, usage_line, wrong_line};
+ghost use Rattle.trace_audit_run.specs.Lines.{missed_hit_line, missed_stale_line, right_line, untimely_line, usage_line, wrong_line};
 ghost use Rattle.trace_audit_run.specs.Program as plain;
 ghost use Rattle.trace_audit_run.specs.Words.{are_two, asked_by, names_among};
 
-use crate::lines::{RIGHT_LINE, USAGE_LINE, untimely_line, wrong_line};
+use crate::lines::{
+    RIGHT_LINE, USAGE_LINE, missed_hit_line, missed_stale_line, untimely_line, wrong_line,
+};
+use crate::missed::Missed;
 use crate::texts::{Answer, judged_texts};
 use crate::words::{asked_by, names_among};
 use command_parts::statuses::{NO_MEMORY, NO_REPLY, USAGE};
@@ -49,7 +52,48 @@ fn tell_untimely<K: Sink>(alloc: Global, sink: &mut K, row: u64, missing: &[u8])
     }
 }
 
-/// Tells what is said of a trace: `right`, in what it is wrong and where, or where it is not timely.
+/// Tells at which row a right trace misses a hit.
+fn tell_hit<K: Sink>(alloc: Global, sink: &mut K, row: u64) -> Status
+    ensures status { (result.0 ≡ 5) ⊎ (result.0 ≡ 6) }
+    ensures said { result.0 ≡ 5 → IsSaid (missed_hit_line row) (K.held sink.old) (K.held sink.new) (K.faults sink.old) (K.faults sink.new) }
+{
+    match missed_hit_line(alloc, row) {
+        Ok(line) => end_by(sink, NO_REPLY, &line),
+        Err(_) => NO_MEMORY,
+    }
+}
+
+/// Tells at which row a request of a right trace is asked that misses an expired answer.
+fn tell_stale<K: Sink>(alloc: Global, sink: &mut K, row: u64) -> Status
+    ensures status { (result.0 ≡ 5) ⊎ (result.0 ≡ 6) }
+    ensures said { result.0 ≡ 5 → IsSaid (missed_stale_line row) (K.held sink.old) (K.held sink.new) (K.faults sink.old) (K.faults sink.new) }
+{
+    match missed_stale_line(alloc, row) {
+        Ok(line) => end_by(sink, NO_REPLY, &line),
+        Err(_) => NO_MEMORY,
+    }
+}
+
+/// Tells what a right and timely trace misses: `right` where it misses nothing.
+fn tell_missed<K: Sink>(alloc: Global, sink: &mut K, missed: Missed) -> Status
+    ensures good { result.0 ≡ 0 → plain.MissesNone missed }
+    ensures done { result.0 ≡ 0 → K.held sink.new ≡ with_octets right_line (K.held sink.old) }
+    ensures flushed { result.0 ≡ 0 → IsFlushed (K.held sink.new) (K.flushed sink.new) }
+    ensures no { result.0 ≡ 5 → plain.MissedIsSaid missed (K.held sink.old) (K.held sink.new) (K.faults sink.old) (K.faults sink.new) }
+    ensures sink_fault { result.0 ≡ 4 → Rose (K.faults sink.old) (K.faults sink.new) }
+    ensures cut { result.0 ≡ 4 → IsBegun right_line (K.held sink.old) (K.held sink.new) }
+    ensures others { (result.0 ≡ 0) ⊎ ((result.0 ≡ 4) ⊎ ((result.0 ≡ 5) ⊎ (result.0 ≡ 6))) }
+{
+    match missed.hit {
+        Some(row) => tell_hit(alloc, sink, row),
+        None => match missed.stale {
+            Some(row) => tell_stale(alloc, sink, row),
+            None => deliver(sink, RIGHT_LINE.as_bytes()),
+        },
+    }
+}
+
+/// Tells what is said of a trace: `right`, in what it is wrong and where, where it is not timely, or what it misses.
 fn tell<K: Sink>(alloc: Global, sink: &mut K, answer: Answer) -> Status
     ensures good { result.0 ≡ 0 → plain.IsGood answer }
     ensures done { result.0 ≡ 0 → K.held sink.new ≡ with_octets right_line (K.held sink.old) }
@@ -63,7 +107,7 @@ fn tell<K: Sink>(alloc: Global, sink: &mut K, answer: Answer) -> Status
         Verdict::Wrong { clause, row } => tell_wrong(alloc, sink, clause, row, &answer.missing),
         Verdict::Right => match answer.untimely {
             Some(row) => tell_untimely(alloc, sink, row, &answer.missing),
-            None => deliver(sink, RIGHT_LINE.as_bytes()),
+            None => tell_missed(alloc, sink, answer.missed),
         },
     }
 }
@@ -77,7 +121,8 @@ fn are_two(words: &[String]) -> bool
 
 /// Reads a script and a trace, judges the trace by the script, and writes what is said of it: `right`, or which clause fails first and
 /// at which row, counted from 0. Under the option `--timely` the first row of a right trace is told that is not timely, and under
-/// `--explain` a second line says what is missing at the row that is told. The words behind the options name the two
+/// `--all` beside that the first that misses a hit, or else the first whose request what had expired should have served. Under `--explain`
+/// a second line says what is missing at the row that is told, where that is wrong or not timely. The words behind the options name the two
 /// (`names_among`); who calls this opens them.
 pub fn run_audit<S: Source, T: Source, K: Sink>(
     alloc: Global,

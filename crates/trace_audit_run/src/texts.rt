@@ -11,6 +11,7 @@ ghost use Rattle.trace_audit_run.specs.Program as plain;
 
 use crate::explained::explained;
 use crate::lines::{LONG_LINE, script_line, trace_line};
+use crate::missed::{Missed, missed_in};
 use crate::timely::audit_timely;
 use crate::words::Asked;
 use client_request::Trace;
@@ -33,6 +34,8 @@ pub(crate) struct Answer {
     pub(crate) verdict: Verdict,
     /// The first row that is not timely, where that is asked.
     pub(crate) untimely: Option<u64>,
+    /// What it misses, where that is asked and it is right.
+    pub(crate) missed: Missed,
     /// What is missing at the row that is told, as a line, where that is asked; else nothing.
     pub(crate) missing: Vec<u8>,
 }
@@ -118,11 +121,13 @@ fn answered(alloc: Global, asked: Asked, script: &Script, trace: &Trace) -> Resu
 {
     let verdict = audit(alloc, script, trace)?;
     let untimely = untimely_in(alloc, asked.timely, script, trace)?;
+    let missed = missed_in(alloc, asked.missed, verdict, script, trace)?;
     let rows = trace.rows.as_slice();
     let missing = explained(alloc, asked.explain, verdict, untimely, rows)?;
     Ok(Answer {
         verdict,
         untimely,
+        missed,
         missing,
     })
 }

@@ -8,6 +8,8 @@ ghost use Rattle.trace_audit_run.specs.Words as plain;
 pub(crate) enum Choice {
     /// Whether a right trace is timely.
     Timely,
+    /// Whether it is timely, and misses no hit and no expired answer.
+    All,
     /// What is missing where it is wrong, or not timely, in words.
     Explain,
 }
@@ -17,6 +19,8 @@ pub(crate) enum Choice {
 pub(crate) struct Asked {
     /// Whether a right trace is timely.
     pub(crate) timely: bool,
+    /// Whether it misses a hit or an expired answer.
+    pub(crate) missed: bool,
     /// What is missing where it is wrong, or not timely, in words.
     pub(crate) explain: bool,
 }
@@ -28,6 +32,7 @@ fn choice_of(word: &str) -> Option<Choice>
 {
     match word {
         "--timely" => Some(Choice::Timely),
+        "--all" => Some(Choice::All),
         "--explain" => Some(Choice::Explain),
         _ => None,
     }
@@ -40,10 +45,17 @@ fn with(choice: Choice, asked: Asked) -> Asked
     match choice {
         Choice::Timely => Asked {
             timely: true,
+            missed: asked.missed,
+            explain: asked.explain,
+        },
+        Choice::All => Asked {
+            timely: true,
+            missed: true,
             explain: asked.explain,
         },
         Choice::Explain => Asked {
             timely: asked.timely,
+            missed: asked.missed,
             explain: true,
         },
     }
@@ -56,11 +68,13 @@ pub(crate) fn asked_by(words: &[String]) -> Asked
     match words {
         [] => Asked {
             timely: false,
+            missed: false,
             explain: false,
         },
         [first, rest @ ..] => match choice_of(first.as_str()) {
             None => Asked {
                 timely: false,
+                missed: false,
                 explain: false,
             },
             Some(choice) => with(choice, asked_by(rest)),
