@@ -1,7 +1,6 @@
 -- What the first thread makes, one turn more.
 use Rattle.std.proofs.Common.{◌≡◌, ℕ, zero, suc, ◌+◌, ◌-◌, ◌<◌, ◌≤◌, List, [], ◌∷◌, ◌++◌, length, map, take, Option, refl, ap, sym, subst, ◌∙◌, append_assoc, length-append, arith}
-use Rattle.std.specs.Prelude.{count_by, slice_index_or, sum_by, All}
-use Rattle.std.specs.List.{flat_map}
+use Rattle.std.specs.Prelude.{count_by, slice_index_or, All}
 use Rattle.std.proofs.lemmas.List.Sums.{sum_by-append}
 use mathlib.Core.List.{IsPrefix, map-append}
 use Rattle.joint_history.proofs.Beginnings.{prefix_self, prefix_trans}
@@ -20,7 +19,7 @@ use Rattle.front_shared.specs.declared.entry.Item.{Item}
 use Rattle.front_shared.specs.declared.entry.Item.TheVariants.{Made}
 use Rattle.front_shared.specs.declared.entry.Receipt.{Receipt}
 use Rattle.front_shared.proofs.Histories.{all_more, all_none, length_made}
-use Rattle.forward_workers.specs.Turning.{FirstTurn, HasTurned, IsOfPoll, IsTold, first_answers, first_deeds, rows_of}
+use Rattle.forward_workers.specs.Turning.{FirstTurn, HasTurned, IsOfPoll, IsTold, first_deeds, rows_of}
 use Rattle.forward_workers.proofs.Deeds.{flat_more, more_deeds, nil_behind, no_deeds, take_front, take_whole}
 
 entries_made : (entries : List Entry) → entries_in (map Made entries) ≡ entries

@@ -1,17 +1,16 @@
 -- Workers in their lanes, and the history of all.
-use Rattle.std.proofs.Common.{◌≡◌, ℕ, zero, suc, ◌+◌, ◌<◌, List, [], ◌∷◌, ◌++◌, length, map, Option, Result, Ok, refl, ap, sym, subst, ◌∙◌, append_assoc, length-append, arith}
+use Rattle.std.proofs.Common.{◌≡◌, ℕ, zero, suc, ◌+◌, ◌<◌, List, [], ◌∷◌, ◌++◌, length, map, Option, Result, Ok, Err, refl, ap, sym, subst, ◌∙◌, append_assoc, length-append, arith}
 use Rattle.std.specs.Prelude.{IfOk, slice_index_or}
 use Rattle.std.specs.List.{AllZip}
 use Rattle.client_request.specs.declared.error.Error.{Error}
-use Rattle.client_steps.specs.Whole.{Whole}
 use Rattle.forward_run.specs.declared.front.FrontDeed.{FrontDeed}
 use Rattle.front_peers.specs.declared.event.FrontRow.{FrontRow}
 use Rattle.front_shared.specs.History.{IsLegal, IsSettled, Opening, Passed, calls, newcomer, numbered, opening_of}
 use Rattle.front_shared.specs.declared.entry.Item.{Item}
-use Rattle.front_steps.specs.Steps.{Forwarding}
-use Rattle.forward_workers.specs.Sharing.{AreWorkersOf, HaveCome, IsShared, Settles, World, lanes_world, passes_of, rows_by, world_of}
+use Rattle.forward_workers.specs.Sharing.{AreWorkersOf, HaveCome, IsShared, Settles, lanes_world, passes_of, rows_by, world_of}
 use Rattle.forward_workers.specs.Turning.{FirstDone, HasTurned, IsFirstOf}
 use Rattle.forward_workers.specs.Working.{HasWorked, IsWorkerOf, WorkerDone}
+use Rattle.forward_workers.specs.declared.crew.Came.{Came}
 use Rattle.forward_workers.specs.declared.crew.Done.{Done}
 use Rattle.forward_workers.specs.declared.crew.First.{First}
 use Rattle.forward_workers.specs.declared.crew.Lane.{Lane}
@@ -152,7 +151,7 @@ first_of items count p q r b a n new t s =
     })
 
 -- all that threads made
-pub shares : {L F D C : Type 0} (front : F → Option (List FrontDeed)) (door : D → Option (List FrontDeed)) (count : ℕ) (o : Opening) (items : List Item) (first : Lane L (First F C)) (turned : Done L (First F C))
+shares : {L F D C : Type 0} (front : F → Option (List FrontDeed)) (door : D → Option (List FrontDeed)) (count : ℕ) (o : Opening) (items : List Item) (first : Lane L (First F C)) (turned : Done L (First F C))
     (lanes : List (Lane L (Worker D C))) (done : List (Done L (Worker D C))) (workers : List (Worker D C)) (q : Passed) (sum : ℕ)
     → IsLegal o items → first.pass ∷ passes_of lanes ≡ numbered o.callers → o.callers ≡ length lanes + 1
     → FirstDone front count first turned → length done ≡ length lanes
@@ -178,3 +177,20 @@ shares {L} {F} {D} {C} front door count o items first turned lanes done workers 
           workers_from door items 1 lanes done workers come.others (others_new first.pass (passes_of lanes) o.callers (length lanes) passes callers)
           (each_zip (WorkerDone door) lanes done long each) come.settled;
     }
+
+ok_with : {A E : Type 0} (r : Result A E) (P Q : A → Type 0) → ((a : A) → P a → Q a) → IfOk r P → IfOk r Q
+ok_with (Ok a) P Q f h = f a h
+ok_with (Err e) P Q f h = tt
+
+-- the same of what they came to, unless one of them gave up
+pub shares_if : {L F D C : Type 0} (front : F → Option (List FrontDeed)) (door : D → Option (List FrontDeed)) (count : ℕ) (o : Opening) (items : List Item) (first : Lane L (First F C)) (turned : Done L (First F C))
+    (lanes : List (Lane L (Worker D C))) (done : List (Done L (Worker D C))) (q : Passed) (result : Result (Came D C) Error)
+    → IsLegal o items → first.pass ∷ passes_of lanes ≡ numbered o.callers → o.callers ≡ length lanes + 1
+    → FirstDone front count first turned → length done ≡ length lanes
+    → ((k : ℕ) (l : Lane L (Worker D C)) (d : Done L (Worker D C)) → k < length lanes → WorkerDone door (slice_index_or lanes k l) (slice_index_or done k d))
+    → IsSettled items turned.lane.pass q → IfOk result (λ came. HaveCome items done turned.answered came.workers.items came.answered)
+    → IfOk result (λ came. IsShared count o.first o.words (lanes_world front door first.own lanes) (world_of front door turned.lane.own came.workers.items) came.answered)
+shares_if {L} {F} {D} {C} front door count o items first turned lanes done q result legal passes callers mine long each settled come =
+    ok_with result (λ came. HaveCome items done turned.answered came.workers.items came.answered)
+    (λ came. IsShared count o.first o.words (lanes_world front door first.own lanes) (world_of front door turned.lane.own came.workers.items) came.answered)
+    (λ came h. shares front door count o items first turned lanes done came.workers.items q came.answered legal passes callers mine long each settled h) come

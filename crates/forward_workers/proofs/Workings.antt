@@ -1,7 +1,6 @@
 -- What a worker makes, one turn more.
 use Rattle.std.proofs.Common.{◌≡◌, ℕ, ◌+◌, List, [], ◌∷◌, ◌++◌, Option, Some, None, refl, ap, sym, ◌∙◌, append_assoc, arith}
-use Rattle.std.specs.Prelude.{count_by, sum_by}
-use Rattle.std.specs.List.{flat_map}
+use Rattle.std.specs.Prelude.{count_by}
 use Rattle.std.proofs.lemmas.List.Sums.{sum_by-append}
 use Rattle.forward_run.specs.Front.{acts_on, after_deeds}
 use Rattle.forward_run.specs.declared.front.FrontDeed.{FrontDeed}
@@ -13,7 +12,7 @@ use Rattle.front_shared.specs.History.{IsBehind, IsSubmitted, Passed, calls}
 use Rattle.front_shared.specs.Waiting.{for_any, is_for_any}
 use Rattle.front_shared.specs.declared.entry.Receipt.{Receipt}
 use Rattle.forward_workers.specs.Doors.{taken}
-use Rattle.forward_workers.specs.Working.{GoesOn, HasWorked, worker_answers, worker_deeds}
+use Rattle.forward_workers.specs.Working.{GoesOn, HasWorked, worker_deeds}
 use Rattle.forward_workers.proofs.Deeds.{flat_more, more_deeds, nil_behind, no_deeds}
 
 -- nothing yet

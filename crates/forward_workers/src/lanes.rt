@@ -1,6 +1,6 @@
 //! Workers, each by a thread of its own.
 
-ghost use Rattle.std.specs.Prelude.{◌≡◌, ◌+◌, ◌<◌, length, map, slice_index_or, vec_len, ℕ, IfOk};
+ghost use Rattle.std.specs.Prelude.{◌≡◌, ◌+◌, ◌<◌, length, map, slice_index_or, ℕ, IfOk};
 ghost use Rattle.forward_workers.specs.Sharing.{HaveCome, Settles, passes_of};
 ghost use Rattle.forward_workers.specs.Working.{WorkerDone};
 
@@ -50,8 +50,8 @@ pub(crate) fn run_lanes<
     turns: u64,
     lanes: Vec<Lane<L, Worker<D, C>>>,
 ) -> Result<Vec<Done<L, Worker<D, C>>>, AllocError>
-    ensures count { IfOk result (λ done. vec_len done ≡ vec_len lanes) }
-    ensures each { IfOk result (λ done. (k : ℕ) (lane : _) (d : _) → k < vec_len lanes → WorkerDone D.deeds (slice_index_or lanes.items k lane) (slice_index_or done.items k d)) }
+    ensures count { IfOk result (λ done. length done.items ≡ length lanes.items) }
+    ensures each { IfOk result (λ done. (k : ℕ) (lane : _) (d : _) → k < length lanes.items → WorkerDone D.deeds (slice_index_or lanes.items k lane) (slice_index_or done.items k d)) }
 {
     thread::map_vec(rt, lanes, &|lane| run_worker(rt, shared, turns, lane))
 }

@@ -1,6 +1,6 @@
 //! One forwarder that the first thread and the workers share.
 
-ghost use Rattle.std.specs.Prelude.{◌≡◌, ◌+◌, ◌<◌, ◌^◌, ◌∷◌, ℕ, false, length, slice_index_or, vec_len, IfOk};
+ghost use Rattle.std.specs.Prelude.{◌≡◌, ◌+◌, ◌<◌, ◌^◌, ◌∷◌, ℕ, false, length, slice_index_or, IfOk};
 ghost use Rattle.std.specs.Thread.{IsSend, IsSync};
 ghost use Rattle.forward_workers.specs.Sharing.{IsShared, lanes_world, passes_of, world_of};
 ghost use Rattle.forward_workers.specs.Turning.{FirstDone};
@@ -41,14 +41,14 @@ fn first_and_workers<
     Done<L, First<F, C>>,
 )
     requires { first.pass.number ≡ 0 }
-    ensures count { IfOk result.0 (λ done. vec_len done ≡ vec_len lanes) }
-    ensures workers { IfOk result.0 (λ done. (k : ℕ) (lane : _) (d : _) → k < vec_len lanes → WorkerDone D.deeds (slice_index_or lanes.items k lane) (slice_index_or done.items k d)) }
+    ensures count { IfOk result.0 (λ done. length done.items ≡ length lanes.items) }
+    ensures workers { IfOk result.0 (λ done. (k : ℕ) (lane : _) (d : _) → k < length lanes.items → WorkerDone D.deeds (slice_index_or lanes.items k lane) (slice_index_or done.items k d)) }
     ensures first { FirstDone F.deeds turns first result.1 }
 {
     let theirs = move || -> Result<Vec<Done<L, Worker<D, C>>>, AllocError>
         requires { IsSync R.row × IsSend L.row × IsSync L.row × IsSend W.row × IsSend D.row × IsSend C.row }
-        ensures count { IfOk result (λ done. vec_len done ≡ vec_len lanes) }
-        ensures each { IfOk result (λ done. (k : ℕ) (lane : _) (d : _) → k < vec_len lanes → WorkerDone D.deeds (slice_index_or lanes.items k lane) (slice_index_or done.items k d)) }
+        ensures count { IfOk result (λ done. length done.items ≡ length lanes.items) }
+        ensures each { IfOk result (λ done. (k : ℕ) (lane : _) (d : _) → k < length lanes.items → WorkerDone D.deeds (slice_index_or lanes.items k lane) (slice_index_or done.items k d)) }
     { run_lanes(rt, shared, turns, lanes) };
     let mine = move || -> Done<L, First<F, C>>
         requires { first.pass.number ≡ 0 }

@@ -1,4 +1,14 @@
+use Rattle.std.proofs.Common.{◌+◌, ap, length, arith}
+use Rattle.forward_workers.proofs.Sharings.{numbered_length}
 use Rattle.forward_workers.proofs.sharing.share.Goals as goal
 
 pub seated-requires : goal.seated-requires
-seated-requires g c = ?
+seated-requires g c =
+    let front = ap length c.from-passes.ensures.0 in
+    let all = ap length c.in-Some.ensures.items in
+    let made = ap length c.in-Ok.ensures.passes in
+    let count = numbered_length (c.len.result + 1) in
+    let workers = ap length c.from.ensures.0 in
+    let long = c.len.ensures in
+    let stored = c.args.crew.workers.ok.0 in
+    omega (arith, front, all, made, count, workers, long, stored)
