@@ -3,10 +3,12 @@ use Rattle.std.proofs.Common.{◌≡◌, ℕ, zero, suc, ◌+◌, ◌<◌, List,
 use Rattle.std.specs.Prelude.{IfOk, slice_index_or}
 use Rattle.std.specs.List.{AllZip}
 use Rattle.client_request.specs.declared.error.Error.{Error}
+use Rattle.client_steps.specs.Whole.{Whole}
 use Rattle.forward_run.specs.declared.front.FrontDeed.{FrontDeed}
 use Rattle.front_peers.specs.declared.event.FrontRow.{FrontRow}
 use Rattle.front_shared.specs.History.{IsLegal, IsSettled, Opening, Passed, calls, newcomer, numbered, opening_of}
 use Rattle.front_shared.specs.declared.entry.Item.{Item}
+use Rattle.front_steps.specs.Steps.{Forwarding}
 use Rattle.forward_workers.specs.Sharing.{AreWorkersOf, HaveCome, IsShared, Settles, lanes_world, passes_of, rows_by, world_of}
 use Rattle.forward_workers.specs.Turning.{FirstDone, HasTurned, IsFirstOf}
 use Rattle.forward_workers.specs.Working.{HasWorked, IsWorkerOf, WorkerDone}
@@ -194,3 +196,14 @@ shares_if {L} {F} {D} {C} front door count o items first turned lanes done q res
     ok_with result (λ came. HaveCome items done turned.answered came.workers.items came.answered)
     (λ came. IsShared count o.first o.words (lanes_world front door first.own lanes) (world_of front door turned.lane.own came.workers.items) came.answered)
     (λ came h. shares front door count o items first turned lanes done came.workers.items q came.answered legal passes callers mine long each settled h) come
+
+-- the same of the forwarder, the words and the workers that were shared
+pub shared_by : {L F D C : Type 0} (front : F → Option (List FrontDeed)) (door : D → Option (List FrontDeed)) (count : ℕ) (o : Opening) (f : Forwarding Whole) (words : ℕ → ℕ) (callers : ℕ)
+    (first own : First F C) (lanes : List (Lane L (Worker D C))) (workers : List (Worker D C)) (result : Result (Came D C) Error)
+    → o ≡ opening_of f words callers → map (λ l. l.own) lanes ≡ workers
+    → IfOk result (λ came. IsShared count o.first o.words (lanes_world front door first lanes) (world_of front door own came.workers.items) came.answered)
+    → IfOk result (λ came. IsShared count f words (world_of front door first workers) (world_of front door own came.workers.items) came.answered)
+shared_by {L} {F} {D} {C} front door count o f words callers first own lanes workers result opening seats h =
+    subst
+    (λ (z : Opening × List (Worker D C)). IfOk result (λ came. IsShared count z.0.first z.0.words (world_of front door first z.1) (world_of front door own came.workers.items) came.answered))
+    (λ i. (opening i, seats i)) h
