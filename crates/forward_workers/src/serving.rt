@@ -1,6 +1,6 @@
 //! What the program does with several workers.
 
-ghost use Rattle.std.specs.Prelude.{◌≡◌, ◌+◌, ◌<◌, ◌^◌, false, length, None, IfErr, IfOk, IfSome};
+ghost use Rattle.std.specs.Prelude.{◌≡◌, ◌+◌, ◌<◌, ◌^◌, ℕ, false, length, None, IfErr, IfOk, IfSome};
 ghost use Rattle.dns_values.specs.Sink.{IsFlushed};
 ghost use Rattle.dns_values.specs.Source.{Rose};
 ghost use Rattle.command_parts.specs.Conf.{IsConfRefused};
@@ -57,6 +57,13 @@ fn turn_all<
     }
 }
 
+/// Each word has 64 bits. It does nothing.
+fn words_are_short<W: Words>(rng: &W)
+    ensures { (k : ℕ) → W.stream rng.now k < 2 ^ 64 }
+{
+    let _rng = rng;
+}
+
 /// Listens, and makes the turns of all.
 fn serve_conf<
     R: Threads + Wait + Sync,
@@ -88,6 +95,7 @@ fn serve_conf<
         Ok(forwarder) => forwarder,
         Err(ending) => return (first, Err(ending)),
     };
+    words_are_short(&rng);
     let crew = Crew { first, workers };
     let (first, came) = turn_all(rt, alloc, forwarder, rng, asked.turns, crew);
     match came {
