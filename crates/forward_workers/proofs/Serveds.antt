@@ -1,5 +1,5 @@
 -- A configuration that several threads served, and what is written at the end.
-use Rattle.std.proofs.Common.{◌≡◌, ◌<◌, ◌^◌, ℕ, false, List, Option, Some, None, ap, subst, sym, lit≤, String, Global}
+use Rattle.std.proofs.Common.{◌≡◌, ◌<◌, ◌^◌, ℕ, false, List, Option, Some, None, subst, sym, lit≤, String, Global}
 use Rattle.std.specs.Prelude.{IfSome}
 use Rattle.client_steps.specs.Whole.{Whole}
 use Rattle.command_parts.specs.Ends.{IsBegun}
