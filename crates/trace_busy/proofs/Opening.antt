@@ -1,5 +1,5 @@
 -- Whether an exchange of a request is open is what the definitions say.
-use Rattle.std.proofs.Common.{◌≡◌, ℕ, suc, ◌+◌, ◌<◌, ◌≤◌, ◌==◌, ◌&&◌, ◌||◌, ◌⊎◌, inl, inr, not, Bool, true, false, if◌then◌else◌, List, [], ◌∷◌, reverse, length, map, Option, Some, None, refl, sym, ap, ap₂, ◌∙◌, subst, arith}
+use Rattle.std.proofs.Common.{◌≡◌, ℕ, suc, ◌+◌, ◌<◌, ◌==◌, ◌&&◌, ◌||◌, ◌⊎◌, inl, inr, not, Bool, true, false, if◌then◌else◌, List, [], ◌∷◌, reverse, length, map, Option, Some, None, refl, sym, ap, ap₂, ◌∙◌, subst, arith}
 use Rattle.std.specs.Prelude.{is_some, nat_lt}
 use Rattle.std.proofs.lemmas.Bool.Decides.{nat_tests}
 use Rattle.number_table.specs.Entries.{entry_at}
@@ -10,11 +10,11 @@ use Rattle.right_trace.specs.Trace.{History, Conf}
 use Rattle.right_trace.specs.Time.{now, stream_timeout}
 use Rattle.right_trace.specs.Messages.{Octets, CarriesBy}
 use Rattle.right_trace.specs.Requests.{Asking, asking, replied, start, started, same_via}
-use Rattle.right_trace.specs.Places.{Site, site, is_of_kind, stand, Stand, Unused, Opening, Alive, Gone, is_alive}
+use Rattle.right_trace.specs.Places.{Site, site, is_of_kind, Stand, Unused, Opening, Alive, Gone, is_alive}
 use Rattle.right_trace.specs.Parts.{IsIn}
-use Rattle.right_trace.specs.Frames.{brings, came_here}
+use Rattle.right_trace.specs.Frames.{came_here}
 use Rattle.right_trace.specs.Writes.{Written, waiting_with}
-use Rattle.right_trace.specs.Exchanges.{Stands, IsOpenWith, IsLeftOpen, IsAmong, unanswered, octets_for, is_before, waited_for}
+use Rattle.right_trace.specs.Exchanges.{Stands, IsLeftOpen, IsAmong, unanswered, octets_for, is_before, waited_for}
 use Rattle.right_trace.specs.Busy.{IsBusyAt, Exchanging}
 use Rattle.trace_tables.specs.declared.places.Place.{Place}
 use Rattle.trace_tables.specs.declared.sends.Sent.{Sent}
@@ -24,6 +24,8 @@ use Rattle.trace_tables.specs.Requests.{start_seen, started_seen}
 use Rattle.trace_frames.specs.Frames.{frames_of}
 use Rattle.trace_frames.specs.Waiting.{waiting_seen}
 use Rattle.message_matching.specs.Matching.{carries_by}
+use Rattle.message_matching.specs.Shapes.{same_octets}
+use Rattle.message_matching.proofs.Names.{octets_same}
 use Rattle.message_matching.proofs.Requests.{carries_so, so_carries}
 use Rattle.trace_questions.specs.declared.configured.ServerUse.{ServerUse}
 use Rattle.trace_questions.specs.Configured.{use_of}
@@ -33,10 +35,11 @@ use Rattle.trace_exchanges.specs.Open.{is_for, octets_of}
 use Rattle.trace_exchanges.proofs.Finding.{own, in_reverse, reverse_in, sent_so, so_sent, written_so, so_written}
 use Rattle.trace_due.specs.Loose.{brings_seen}
 use Rattle.trace_due.proofs.Waits.{freeing, brings_is}
+use Rattle.trace_busy.specs.declared.waits.Carried.{Carried}
 use Rattle.trace_busy.specs.declared.waits.Spot.{Spot}
 use Rattle.trace_busy.specs.declared.busy.Scene.{Scene}
-use Rattle.trace_busy.specs.Waits.{is_spot}
-use Rattle.trace_busy.specs.Busy.{Known, some_sent, some_written, is_open_by, is_handed, is_open_at, some_open}
+use Rattle.trace_busy.specs.Waits.{IsSo, is_spot}
+use Rattle.trace_busy.specs.Busy.{Known, is_of, carried_as, or_else, carries_seen, some_sent, some_written, is_open_by, is_handed, is_open_at, some_open}
 
 pub either : (a b : Bool) → (a || b) ≡ true → (a ≡ true) ⊎ (b ≡ true)
 either true b e = inl refl
@@ -59,44 +62,74 @@ so_lt : (a b : ℕ) → a < b → nat_lt a b ≡ true
 so_lt a b lt = grind (arith, nat_tests)
 
 -- what is found of sends and writes
-record SentSo (r : Request) (k id n : ℕ) (xs : List Sent) : Type 0 where
+record SentSo (r : Request) (k id n : ℕ) (xs : List Sent) (t : Scene) : Type 0 where
   send : Sent
   there : IsIn send xs
   is_it : is_for k id n send ≡ true
-  carries : carries_by Dgram send.octets r id ≡ true
+  carries : carries_seen Dgram r k id send.octets t ≡ true
 
-found_sent : (r : Request) (k id n : ℕ) (xs : List Sent) → some_sent r k id n xs ≡ true → SentSo r k id n xs
-found_sent r k id n [] e = absurd (cc)
-found_sent r k id n (x ∷ xs) e = go (found_sent r k id n xs) (either (is_for k id n x && carries_by Dgram x.octets r id) _ e)
+found_sent : (r : Request) (k id n : ℕ) (xs : List Sent) (t : Scene) → some_sent r k id n xs t ≡ true → SentSo r k id n xs t
+found_sent r k id n [] t e = absurd (cc)
+found_sent r k id n (x ∷ xs) t e = go (found_sent r k id n xs t) (either (is_for k id n x && carries_seen Dgram r k id x.octets t) _ e)
   where
-    go : (some_sent r k id n xs ≡ true → SentSo r k id n xs) → ((is_for k id n x && carries_by Dgram x.octets r id) ≡ true) ⊎ (some_sent r k id n xs ≡ true) → SentSo r k id n (x ∷ xs)
-    go rest (inl e) = (let q = both (is_for k id n x) (carries_by Dgram x.octets r id) e in record { send = x; there = inl refl; is_it = q.0; carries = q.1 })
+    go : (some_sent r k id n xs t ≡ true → SentSo r k id n xs t) → ((is_for k id n x && carries_seen Dgram r k id x.octets t) ≡ true) ⊎ (some_sent r k id n xs t ≡ true) → SentSo r k id n (x ∷ xs) t
+    go rest (inl e) = (let q = both (is_for k id n x) (carries_seen Dgram r k id x.octets t) e in record { send = x; there = inl refl; is_it = q.0; carries = q.1 })
     go rest (inr e) = (let f = rest e in record { send = f.send; there = inr f.there; is_it = f.is_it; carries = f.carries })
 
-finds_sent : (r : Request) (k id n : ℕ) (y : Sent) (xs : List Sent) → IsIn y xs → is_for k id n y ≡ true → carries_by Dgram y.octets r id ≡ true → some_sent r k id n xs ≡ true
-finds_sent r k id n y [] i e c = absurd i
-finds_sent r k id n y (x ∷ xs) (inl s) e c = first_true _ _ (ap (λ (x : Sent). is_for k id n x && carries_by Dgram x.octets r id) s ∙ all (is_for k id n y) (carries_by Dgram y.octets r id) e c)
-finds_sent r k id n y (x ∷ xs) (inr i) e c = second_true _ _ (finds_sent r k id n y xs i e c)
+finds_sent : (r : Request) (k id n : ℕ) (y : Sent) (xs : List Sent) (t : Scene) → IsIn y xs → is_for k id n y ≡ true → carries_seen Dgram r k id y.octets t ≡ true → some_sent r k id n xs t ≡ true
+finds_sent r k id n y [] t i e c = absurd i
+finds_sent r k id n y (x ∷ xs) t (inl s) e c =
+    first_true _ _ (ap (λ (x : Sent). is_for k id n x && carries_seen Dgram r k id x.octets t) s ∙ all (is_for k id n y) (carries_seen Dgram r k id y.octets t) e c)
+finds_sent r k id n y (x ∷ xs) t (inr i) e c = second_true _ _ (finds_sent r k id n y xs t i e c)
 
-record WrittenSo (r : Request) (k id : ℕ) (ws : List Written) : Type 0 where
+record WrittenSo (r : Request) (k id : ℕ) (ws : List Written) (t : Scene) : Type 0 where
   write : Written
   there : IsIn write ws
   is_request : write.request ≡ k
-  carries : carries_by Stream write.octets r id ≡ true
+  carries : carries_seen Stream r k id write.octets t ≡ true
 
-found_written : (r : Request) (k id : ℕ) (ws : List Written) → some_written r k id ws ≡ true → WrittenSo r k id ws
-found_written r k id [] e = absurd (cc)
-found_written r k id (w ∷ ws) e = go (found_written r k id ws) (either ((w.request == k) && carries_by Stream w.octets r id) _ e)
+found_written : (r : Request) (k id : ℕ) (ws : List Written) (t : Scene) → some_written r k id ws t ≡ true → WrittenSo r k id ws t
+found_written r k id [] t e = absurd (cc)
+found_written r k id (w ∷ ws) t e = go (found_written r k id ws t) (either ((w.request == k) && carries_seen Stream r k id w.octets t) _ e)
   where
-    go : (some_written r k id ws ≡ true → WrittenSo r k id ws) → (((w.request == k) && carries_by Stream w.octets r id) ≡ true) ⊎ (some_written r k id ws ≡ true) → WrittenSo r k id (w ∷ ws)
-    go rest (inl e) = (let q = both (w.request == k) (carries_by Stream w.octets r id) e in record { write = w; there = inl refl; is_request = same_number w.request k q.0; carries = q.1 })
+    go : (some_written r k id ws t ≡ true → WrittenSo r k id ws t) → (((w.request == k) && carries_seen Stream r k id w.octets t) ≡ true) ⊎ (some_written r k id ws t ≡ true) → WrittenSo r k id (w ∷ ws) t
+    go rest (inl e) = (let q = both (w.request == k) (carries_seen Stream r k id w.octets t) e in record { write = w; there = inl refl; is_request = same_number w.request k q.0; carries = q.1 })
     go rest (inr e) = (let f = rest e in record { write = f.write; there = inr f.there; is_request = f.is_request; carries = f.carries })
 
-finds_written : (r : Request) (k id : ℕ) (y : Written) (ws : List Written) → IsIn y ws → y.request ≡ k → carries_by Stream y.octets r id ≡ true → some_written r k id ws ≡ true
-finds_written r k id y [] i e c = absurd i
-finds_written r k id y (w ∷ ws) (inl s) e c =
-    first_true _ _ (ap (λ (w : Written). (w.request == k) && carries_by Stream w.octets r id) s ∙ all (y.request == k) (carries_by Stream y.octets r id) (ap (λ (n : ℕ). n == k) e ∙ own k) c)
-finds_written r k id y (w ∷ ws) (inr i) e c = second_true _ _ (finds_written r k id y ws i e c)
+finds_written : (r : Request) (k id : ℕ) (y : Written) (ws : List Written) (t : Scene) → IsIn y ws → y.request ≡ k → carries_seen Stream r k id y.octets t ≡ true → some_written r k id ws t ≡ true
+finds_written r k id y [] t i e c = absurd i
+finds_written r k id y (w ∷ ws) t (inl s) e c =
+    first_true _ _ (ap (λ (w : Written). (w.request == k) && carries_seen Stream r k id w.octets t) s ∙ all (y.request == k) (carries_seen Stream r k id y.octets t) (ap (λ (n : ℕ). n == k) e ∙ own k) c)
+finds_written r k id y (w ∷ ws) t (inr i) e c = second_true _ _ (finds_written r k id y ws t i e c)
+
+-- what was noted is so
+via_is : (u v : Via) → same_via u v ≡ true → u ≡ v
+via_is Dgram Dgram e = refl
+via_is Dgram Stream e = absurd (cc)
+via_is Stream Dgram e = absurd (cc)
+via_is Stream Stream e = refl
+
+abbrev request_of : Option Asking → Request → Request
+request_of None r = r
+request_of (Some a) r = a.request
+
+noted_is : (h : History) (v : Via) (r : Request) (k id m : ℕ) (o : Octets) (y : Carried) → asking k h ≡ Some (record { request = r; moment = m }) → IsSo k h y → is_of v id o y ≡ true → y.carries ≡ carries_by v o r id
+noted_is h v r k id m o y asked so e =
+    let p = both (same_via y.via v) ((y.id == id) && same_octets y.octets o) e in
+    let q = both (y.id == id) (same_octets y.octets o) p.1 in
+    let same : so.0.request ≡ r = ap (λ (a : Option Asking). request_of a r) (sym so.1 ∙ asked) in
+    so.2
+    ∙ (ap (λ (u : Via). carries_by u y.octets so.0.request y.id) (via_is y.via v p.0)
+    ∙ (ap (λ (x : Octets). carries_by v x so.0.request y.id) (octets_same y.octets o q.1)
+    ∙ (ap (λ (q : Request). carries_by v o q y.id) same ∙ ap (λ (n : ℕ). carries_by v o r n) (same_number y.id id q.0))))
+
+carried_is : (h : History) (v : Via) (r : Request) (k id m : ℕ) (o : Octets) (ys : List Carried) → asking k h ≡ Some (record { request = r; moment = m }) → ((y : Carried) → IsIn y ys → IsSo k h y) → or_else (carried_as v id o ys) (carries_by v o r id) ≡ carries_by v o r id
+carried_is h v r k id m o [] asked so = refl
+carried_is h v r k id m o (y ∷ ys) asked so = go (carried_is h v r k id m o ys asked (λ z i. so z (inr i))) (is_of v id o y) refl
+  where
+    go : or_else (carried_as v id o ys) (carries_by v o r id) ≡ carries_by v o r id → (b : Bool) → is_of v id o y ≡ b → or_else (if b then Some y.carries else carried_as v id o ys) (carries_by v o r id) ≡ carries_by v o r id
+    go rest true e = noted_is h v r k id m o y asked (so y (inl refl)) e
+    go rest false e = rest
 
 before_is : (n : ℕ) (o : Option ℕ) → is_young n o ≡ is_before n o
 unfolding stream_timeout
@@ -128,11 +161,15 @@ module _ (c : Conf) (end : History) (t : Scene) (servers : c.servers ≡ map use
   long : length c.servers ≡ length t.servers.now
   long = ap length servers ∙ as_long t.servers.now
 
+  -- what was noted of octets is what they are
+  noted : (v : Via) (r : Request) (k id m : ℕ) → asking k end ≡ Some (record { request = r; moment = m }) → (o : Octets) → carries_seen v r k id o t ≡ carries_by v o r id
+  noted v r k id m asked o = carried_is end v r k id m o (listed k t.waits.now.carried) asked (known.waits.carried k)
+
   -- by datagrams
-  dgram_so : (r : Request) (k p id : ℕ) (m : ℕ) → asking k end ≡ Some (record { request = r; moment = m }) → is_of_kind Stream (site p end) ≡ false → some_sent r k id t.ledger.now.books.requests.clock (listed p t.sends.now) ≡ true
+  dgram_so : (r : Request) (k p id : ℕ) (m : ℕ) → asking k end ≡ Some (record { request = r; moment = m }) → is_of_kind Stream (site p end) ≡ false → some_sent r k id t.ledger.now.books.requests.clock (listed p t.sends.now) t ≡ true
       → (o : Octets) × IsAmong o (unanswered r p k id (now end) end) × CarriesBy Dgram o r id
   dgram_so r k p id m asked kind e =
-      let f = found_sent r k id t.ledger.now.books.requests.clock (listed p t.sends.now) e in
+      let f = found_sent r k id t.ledger.now.books.requests.clock (listed p t.sends.now) t e in
       let y = f.send in
       let q = both ((y.request == k) && (y.id == id)) (nat_lt t.ledger.now.books.requests.clock (y.moment + 5000000)) f.is_it in
       let i = both (y.request == k) (y.id == id) q.0 in
@@ -141,16 +178,16 @@ module _ (c : Conf) (end : History) (t : Scene) (servers : c.servers ≡ map use
       subst (λ (n : ℕ). IsAmong y.octets (octets_of k id n (reverse (listed p t.sends.now)))) known.ledger.books.requests.time
       (subst (λ (id : ℕ). IsAmong y.octets (octets_of k id t.ledger.now.books.requests.clock (reverse (listed p t.sends.now)))) (same_number y.id id i.1)
       (subst (λ (k : ℕ). IsAmong y.octets (octets_of k y.id t.ledger.now.books.requests.clock (reverse (listed p t.sends.now)))) (same_number y.request k i.0) am)) in
-      (y.octets, subst (IsAmong y.octets) (known.sends.waits k p id (now end) (record { request = r; moment = m }) kind asked) an, carries_so Dgram y.octets r id f.carries)
+      (y.octets, subst (IsAmong y.octets) (known.sends.waits k p id (now end) (record { request = r; moment = m }) kind asked) an, carries_so Dgram y.octets r id (sym (noted Dgram r k id m asked y.octets) ∙ f.carries))
 
   so_dgram : (r : Request) (k p id : ℕ) (m : ℕ) → asking k end ≡ Some (record { request = r; moment = m }) → is_of_kind Stream (site p end) ≡ false → (o : Octets) → IsAmong o (unanswered r p k id (now end) end) → CarriesBy Dgram o r id
-      → some_sent r k id t.ledger.now.books.requests.clock (listed p t.sends.now) ≡ true
+      → some_sent r k id t.ledger.now.books.requests.clock (listed p t.sends.now) t ≡ true
   so_dgram r k p id m asked kind o am c =
       let f = sent_so k id (now end) o (reverse (listed p t.sends.now)) (subst (IsAmong o) (sym (known.sends.waits k p id (now end) (record { request = r; moment = m }) kind asked)) am) in
       let y = f.send in
-      finds_sent r k id t.ledger.now.books.requests.clock y (listed p t.sends.now) (in_reverse y (listed p t.sends.now) f.there)
+      finds_sent r k id t.ledger.now.books.requests.clock y (listed p t.sends.now) t (in_reverse y (listed p t.sends.now) f.there)
       (all ((y.request == k) && (y.id == id)) _ (all (y.request == k) (y.id == id) (ap (λ (n : ℕ). n == k) f.is_request ∙ own k) (ap (λ (n : ℕ). n == id) f.is_id ∙ own id)) (ap (λ (n : ℕ). nat_lt n (y.moment + 5000000)) known.ledger.books.requests.time ∙ f.young))
-      (so_carries Dgram y.octets r id (subst (λ (o : Octets). CarriesBy Dgram o r id) (sym f.is_octets) c))
+      (noted Dgram r k id m asked y.octets ∙ so_carries Dgram y.octets r id (subst (λ (o : Octets). CarriesBy Dgram o r id) (sym f.is_octets) c))
 
   -- by stream
   left_waiting : (p id : ℕ) → brings_seen id (frames_of p t.ledger.now.frames.brought) ≡ false → waiting_seen p id t.ledger.now.waiting ≡ waiting_with (came_here p end) p id end
@@ -164,24 +201,24 @@ module _ (c : Conf) (end : History) (t : Scene) (servers : c.servers ≡ map use
   young_is : (k s : ℕ) → is_young t.ledger.now.books.requests.clock (start_seen k s Stream t.ledger.now.books.requests) ≡ is_before (now end) (start k s Stream end)
   young_is k s = before_is t.ledger.now.books.requests.clock (start_seen k s Stream t.ledger.now.books.requests) ∙ ap₂ is_before known.ledger.books.requests.time (known.ledger.books.requests.starts k s Stream)
 
-  stream_so : (r : Request) (k p id s : ℕ) → is_open_by Stream r k p id s t ≡ true → (o : Octets) × IsAmong o (waited_for Stream r s p k id (now end) (came_here p end) end end) × CarriesBy Stream o r id
-  stream_so r k p id s e =
+  stream_so : (r : Request) (k p id s m : ℕ) → asking k end ≡ Some (record { request = r; moment = m }) → is_open_by Stream r k p id s t ≡ true → (o : Octets) × IsAmong o (waited_for Stream r s p k id (now end) (came_here p end) end end) × CarriesBy Stream o r id
+  stream_so r k p id s m asked e =
       let q = both (is_young t.ledger.now.books.requests.clock (start_seen k s Stream t.ledger.now.books.requests)) _ e in
       let u = both (not (brings_seen id (frames_of p t.ledger.now.frames.brought))) _ q.1 in
-      let f = found_written r k id (waiting_seen p id t.ledger.now.waiting) u.1 in
+      let f = found_written r k id (waiting_seen p id t.ledger.now.waiting) t u.1 in
       let w = f.write in
       let am : IsAmong w.octets (octets_for k (waiting_seen p id t.ledger.now.waiting)) = subst (λ (k : ℕ). IsAmong w.octets (octets_for k (waiting_seen p id t.ledger.now.waiting))) f.is_request (so_written w (waiting_seen p id t.ledger.now.waiting) f.there) in
       let an : IsAmong w.octets (octets_for k (waiting_with (came_here p end) p id end)) = subst (λ (ws : List Written). IsAmong w.octets (octets_for k ws)) (left_waiting p id (not_true (brings_seen id (frames_of p t.ledger.now.frames.brought)) u.0)) am in
-      (w.octets, subst (λ b. IsAmong w.octets (if b then octets_for k (waiting_with (came_here p end) p id end) else [])) (sym (sym (young_is k s) ∙ q.0)) an, carries_so Stream w.octets r id f.carries)
+      (w.octets, subst (λ b. IsAmong w.octets (if b then octets_for k (waiting_with (came_here p end) p id end) else [])) (sym (sym (young_is k s) ∙ q.0)) an, carries_so Stream w.octets r id (sym (noted Stream r k id m asked w.octets) ∙ f.carries))
 
-  so_stream : (r : Request) (k p id s : ℕ) (o : Octets) → IsAmong o (waited_for Stream r s p k id (now end) (came_here p end) end end) → CarriesBy Stream o r id → is_open_by Stream r k p id s t ≡ true
-  so_stream r k p id s o am c = young (is_before (now end) (start k s Stream end)) refl am
+  so_stream : (r : Request) (k p id s m : ℕ) → asking k end ≡ Some (record { request = r; moment = m }) → (o : Octets) → IsAmong o (waited_for Stream r s p k id (now end) (came_here p end) end end) → CarriesBy Stream o r id → is_open_by Stream r k p id s t ≡ true
+  so_stream r k p id s m asked o am c = young (is_before (now end) (start k s Stream end)) refl am
     where
-      left : (b : Bool) → brings_seen id (frames_of p t.ledger.now.frames.brought) ≡ b → IsAmong o (octets_for k (waiting_with (came_here p end) p id end)) → (not b && some_written r k id (waiting_seen p id t.ledger.now.waiting)) ≡ true
+      left : (b : Bool) → brings_seen id (frames_of p t.ledger.now.frames.brought) ≡ b → IsAmong o (octets_for k (waiting_with (came_here p end) p id end)) → (not b && some_written r k id (waiting_seen p id t.ledger.now.waiting) t) ≡ true
       left true i am = absurd (subst (λ (ws : List Written). IsAmong o (octets_for k ws)) (brought_gone p id i) am)
       left false i am =
           let f = written_so k o (waiting_seen p id t.ledger.now.waiting) (subst (λ (ws : List Written). IsAmong o (octets_for k ws)) (sym (left_waiting p id i)) am) in
-          finds_written r k id f.write (waiting_seen p id t.ledger.now.waiting) f.there f.is_request (so_carries Stream f.write.octets r id (subst (λ (o : Octets). CarriesBy Stream o r id) (sym f.is_octets) c))
+          finds_written r k id f.write (waiting_seen p id t.ledger.now.waiting) t f.there f.is_request (noted Stream r k id m asked f.write.octets ∙ so_carries Stream f.write.octets r id (subst (λ (o : Octets). CarriesBy Stream o r id) (sym f.is_octets) c))
 
       young : (b : Bool) → is_before (now end) (start k s Stream end) ≡ b → IsAmong o (if b then octets_for k (waiting_with (came_here p end) p id end) else []) → is_open_by Stream r k p id s t ≡ true
       young true i am =
@@ -212,7 +249,7 @@ module _ (c : Conf) (end : History) (t : Scene) (servers : c.servers ≡ map use
 
     waited_so : (v : Via) (p id s : ℕ) → site p end ≡ Some (record { via = v; server = s }) → is_open_by v r k p id s t ≡ true → (o : Octets) × IsAmong o (waited_for v r s p k id (now end) (came_here p end) end end) × CarriesBy v o r id
     waited_so Dgram p id s at e = dgram_so r k p id m asked (ap (is_of_kind Stream) at) e
-    waited_so Stream p id s at e = stream_so r k p id s e
+    waited_so Stream p id s at e = stream_so r k p id s m asked e
 
     open_so : (y : Spot) (o : Option Place) → entry_at y.place t.ledger.now.books.places ≡ o → is_open_at r k y o t ≡ true → (s : ℕ) × IsBusyAt c s k end
     open_so y None there e = absurd (cc)
@@ -236,7 +273,7 @@ module _ (c : Conf) (end : History) (t : Scene) (servers : c.servers ≡ map use
     -- the other way
     opened_is : (v : Via) (p id s : ℕ) → site p end ≡ Some (record { via = v; server = s }) → (o : Octets) → IsAmong o (waited_for v r s p k id (now end) (came_here p end) end end) → CarriesBy v o r id → is_open_by v r k p id s t ≡ true
     opened_is Dgram p id s at o am c = so_dgram r k p id m asked (ap (is_of_kind Stream) at) o am c
-    opened_is Stream p id s at o am c = so_stream r k p id s o am c
+    opened_is Stream p id s at o am c = so_stream r k p id s m asked o am c
 
     spot_is : (v : Via) (p id s : ℕ) (o : Octets) → IsAmong o (waited_for v r s p k id (now end) (came_here p end) end end) → is_spot p id (listed k t.waits.now.spots) ≡ true
     spot_is Dgram p id s o am = known.waits.sent r k p id (now end) o am

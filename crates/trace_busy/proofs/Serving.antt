@@ -1,5 +1,5 @@
 -- Whether a server is busy for all requests that it has is what the definitions say.
-use Rattle.std.proofs.Common.{◌≡◌, ℕ, suc, ◌+◌, ◌<◌, ◌≤◌, ◌==◌, ◌&&◌, ◌||◌, ◌⊎◌, inl, inr, Bool, true, false, if◌then◌else◌, List, [], ◌∷◌, map, Option, Some, None, refl, sym, ap, ap₂, ◌∙◌, subst, arith}
+use Rattle.std.proofs.Common.{◌≡◌, ℕ, ◌+◌, ◌≤◌, ◌==◌, ◌&&◌, ◌||◌, ◌⊎◌, inl, inr, Bool, true, false, if◌then◌else◌, List, [], ◌∷◌, Some, refl, sym, ap, ap₂, ◌∙◌, subst, arith}
 use Rattle.std.specs.Prelude.{is_some, nat_le}
 use Rattle.std.proofs.lemmas.Bool.Decides.{nat_tests}
 use Rattle.number_table.specs.Entries.{entry_at}
@@ -7,13 +7,11 @@ use Rattle.client_request.specs.declared.event.Via.{Via}
 use Rattle.client_request.specs.declared.event.Via.TheVariants.{Dgram, Stream}
 use Rattle.right_trace.specs.Trace.{History, Conf}
 use Rattle.right_trace.specs.Time.{now, Ever, back_off}
-use Rattle.right_trace.specs.Requests.{start, started, same_via}
+use Rattle.right_trace.specs.Requests.{started, same_via}
 use Rattle.right_trace.specs.Places.{is_at, stand, Stand, Unused, Opening, Alive, Gone, is_alive, is_opening, is_live, live}
-use Rattle.right_trace.specs.Parts.{IsIn}
 use Rattle.right_trace.specs.Writes.{is_unwritten}
-use Rattle.right_trace.specs.Busy.{HappenedWithin, IsBusyAt, Exchanging, PlaceIsOpening, PlacesAreTaken, StreamIsOpening, StreamIsWriting, BackingOff}
+use Rattle.right_trace.specs.Busy.{HappenedWithin, IsBusyAt, PlaceIsOpening, PlacesAreTaken, StreamIsOpening, StreamIsWriting, BackingOff}
 use Rattle.trace_tables.specs.declared.requests.Started.{Started}
-use Rattle.trace_tables.specs.Known.{stand_seen}
 use Rattle.trace_tables.specs.Requests.{start_of}
 use Rattle.trace_writes.specs.Writing.{unwritten_seen}
 use Rattle.trace_writes.proofs.Leaving as leaving

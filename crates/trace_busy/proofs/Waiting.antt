@@ -1,32 +1,37 @@
 -- What is kept of requests that wait goes on.
-use Rattle.std.proofs.Common.{◌≡◌, ℕ, suc, ◌+◌, ◌<◌, ◌≤◌, ◌==◌, ◌&&◌, ◌||◌, ◌⊎◌, inl, inr, not, max, Bool, true, false, if◌then◌else◌, List, [], ◌∷◌, Option, Some, None, refl, sym, ap, ap₂, ◌∙◌, subst, arith}
+use Rattle.std.proofs.Common.{◌≡◌, ℕ, ◌+◌, ◌<◌, ◌==◌, ◌&&◌, ◌||◌, inl, inr, not, max, Bool, true, false, if◌then◌else◌, List, [], ◌∷◌, Option, Some, None, refl, sym, ap, ap₂, ◌∙◌, subst, arith}
 use Rattle.std.specs.Prelude.{is_some, nat_lt}
 use Rattle.std.proofs.lemmas.Bool.Decides.{nat_tests}
-use Rattle.number_table.specs.Entries.{puts, frees, entry_at}
+use Rattle.number_table.specs.Entries.{frees, entry_at}
 use Rattle.client_request.specs.Request.{Request}
 use Rattle.client_request.specs.declared.event.Event.{Event}
 use Rattle.client_request.specs.declared.event.What.{What}
 use Rattle.client_request.specs.declared.event.What.TheVariants.{Ask, Opened, OpenFailed, SendFailed, ShortSend, Datagram, RecvFailed, Wrote, WriteFailed, Bytes, ReadFailed, Ended, Tick}
 use Rattle.client_request.specs.declared.event.Out.{Out}
 use Rattle.client_request.specs.declared.event.Out.TheVariants.{Start, OpenDgram, OpenStream, Send, Write, Resume, Close, Stale, Reply}
+use Rattle.client_request.specs.declared.event.Via.{Via}
+use Rattle.client_request.specs.declared.event.Via.TheVariants.{Dgram, Stream}
 use Rattle.right_trace.specs.Trace.{History, Came, Put}
 use Rattle.right_trace.specs.Time.{now, read_timeout}
 use Rattle.right_trace.specs.Messages.{Octets, is_valid}
-use Rattle.right_trace.specs.Requests.{Asking, asking, asking_of, asks, is_ask, replied, waits}
+use Rattle.right_trace.specs.Requests.{Asking, asking, asking_of, asks, is_ask, replied}
 use Rattle.right_trace.specs.Frames.{brings, came, came_here}
-use Rattle.right_trace.specs.Writes.{Written, is_write, written_by, waiting_with}
-use Rattle.right_trace.specs.Exchanges.{IsAmong, has_answer, is_send, sent_octets, unanswered, octets_for}
+use Rattle.right_trace.specs.Parts.{IsIn}
+use Rattle.right_trace.specs.Writes.{waiting_with}
+use Rattle.right_trace.specs.Exchanges.{IsAmong, has_answer, unanswered, octets_for}
+use Rattle.message_matching.specs.Matching.{carries_by}
 use Rattle.trace_tables.specs.declared.requests.Requests.{Requests}
 use Rattle.trace_tables.specs.Lists.{listed, adds}
 use Rattle.trace_tables.specs.Requests.{replied_seen}
 use Rattle.trace_tables.specs.Requests as requests
 use Rattle.trace_tables.proofs.Listing.{listed_adds}
-use Rattle.trace_sets.specs.Sets.{Members, Rise}
+use Rattle.trace_sets.specs.Sets.{Rise}
 use Rattle.trace_sets.proofs.Keeping as sets
 use Rattle.trace_loads.proofs.Meeting.{asked_below}
+use Rattle.trace_busy.specs.declared.waits.Carried.{Carried}
 use Rattle.trace_busy.specs.declared.waits.Spot.{Spot}
 use Rattle.trace_busy.specs.declared.waits.Waits.{Waits}
-use Rattle.trace_busy.specs.Waits.{Known, GoesOn, nothing, joined, is_asked, met, goes_to, has_put, is_valid_asking, waits_validly, is_spot}
+use Rattle.trace_busy.specs.Waits.{Known, GoesOn, IsSo, noted_as, joined, is_asked, met, has_put, is_valid_asking, is_spot}
 
 same_number : (a b : ℕ) → (a == b) ≡ true → a ≡ b
 same_number a b e = grind (arith, nat_tests)
@@ -63,6 +68,24 @@ none_asked k h e = go (is_some (asking k h)) refl
     go : (b : Bool) → is_some (asking k h) ≡ b → b ≡ false
     go true i = absurd (less (asks h) k e (asked_below k h i))
     go false i = refl
+
+-- what was asked stays so
+asking_stays : (h : History) (e : Event) (k : ℕ) (a : Asking) → asking k h ≡ Some a → asking k (Came e ∷ h) ≡ Some a
+asking_stays h e k a asked = go (is_ask e.what && (asks h == k)) refl
+  where
+    less : (a b : ℕ) → a ≡ b → b < a → ⊥
+    less a b e lt = omega arith
+
+    one_and : (a b : Bool) → (a && b) ≡ true → b ≡ true
+    one_and true b e = e
+    one_and false b e = absurd (cc)
+
+    go : (b : Bool) → (is_ask e.what && (asks h == k)) ≡ b → (if b then asking_of e.what (max e.moment.0 (now h)) else asking k h) ≡ Some a
+    go true i = absurd (less (asks h) k (same_number (asks h) k (one_and (is_ask e.what) (asks h == k) i)) (asked_below k h (ap is_some asked)))
+    go false i = asked
+
+so_still : (h : History) (e : Event) (k : ℕ) (y : Carried) → IsSo k h y → IsSo k (Came e ∷ h) y
+so_still h e k y so = (so.0, asking_stays h e k so.0 so.1, so.2)
 
 -- the next request is asked
 module _ (h : History) (r : Requests) (t : Waits) (kr : requests.Known h r) (is : Known h t) (e : Event) where
@@ -105,6 +128,7 @@ module _ (h : History) (r : Requests) (t : Waits) (kr : requests.Known h r) (is 
     rise = joined_rise (is_valid q && not (replied_seen r.asked r));
     sent = λ q k p id n o am. is.sent q k p id n o (sent_event h e q k p id n o am);
     written = λ ms k p id o am. is.written (came_here p h) k p id o (written_event h e ms k p id o am);
+    carried = λ k y am. so_still h e k y (is.carried k y am);
   }
 
   quiet : (w : What) → e.what ≡ w → is_ask w ≡ false → Known (Came e ∷ h) t
@@ -113,6 +137,7 @@ module _ (h : History) (r : Requests) (t : Waits) (kr : requests.Known h r) (is 
     rise = is.rise;
     sent = λ q k p id n o am. is.sent q k p id n o (sent_event h e q k p id n o am);
     written = λ ms k p id o am. is.written (came_here p h) k p id o (written_event h e ms k p id o am);
+    carried = λ k y am. so_still h e k y (is.carried k y am);
   }
 
   pub known_met : Known (Came e ∷ h) (met e.what r t)
@@ -186,20 +211,46 @@ module _ (h : History) (t : Waits) (is : Known h t) where
       go true e = ap is_some (ap (λ (n : ℕ). entry_at n (frees j t.requests)) (sym (same_number j k e)) ∙ sets.freed_none 0 j t.requests is.rise) ∙ none (is_some (asking k h)) (is_valid_asking (asking k h))
       go false e = ap is_some (sets.stays k j t.requests e) ∙ is.requests k
 
-  pub known_put : (o : Out) → Known (Put o ∷ h) (has_put o t)
-  known_put (Send q j i m) = record { requests = is.requests; rise = is.rise; sent = λ r k p id n o am. sent_more q j i m r k p id n o am; written = λ ms k p id o am. spot_stays j q i k p id t.spots (is.written ms k p id o am) }
-  known_put (Write q j i m) = record { requests = is.requests; rise = is.rise; sent = λ r k p id n o am. spot_stays j q i k p id t.spots (is.sent r k p id n o am); written = λ ms k p id o am. written_more q j i m ms k p id o am }
-  known_put (Reply j x) = record { requests = λ k. replied_more j k; rise = sets.rise_frees 0 j t.requests is.rise; sent = λ r k p id n o am. is.sent r k p id n o am; written = λ ms k p id o am. is.written ms k p id o am }
-  known_put (Start j s v) = record { requests = is.requests; rise = is.rise; sent = λ r k p id n o am. is.sent r k p id n o am; written = λ ms k p id o am. is.written ms k p id o am }
-  known_put (OpenDgram p s) = record { requests = is.requests; rise = is.rise; sent = λ r k p id n o am. is.sent r k p id n o am; written = λ ms k p id o am. is.written ms k p id o am }
-  known_put (OpenStream p s) = record { requests = is.requests; rise = is.rise; sent = λ r k p id n o am. is.sent r k p id n o am; written = λ ms k p id o am. is.written ms k p id o am }
-  known_put (Resume p m) = record { requests = is.requests; rise = is.rise; sent = λ r k p id n o am. is.sent r k p id n o am; written = λ ms k p id o am. is.written ms k p id o am }
-  known_put (Close p) = record { requests = is.requests; rise = is.rise; sent = λ r k p id n o am. is.sent r k p id n o am; written = λ ms k p id o am. is.written ms k p id o am }
-  known_put (Stale j) = record { requests = is.requests; rise = is.rise; sent = λ r k p id n o am. is.sent r k p id n o am; written = λ ms k p id o am. is.written ms k p id o am }
+  -- what was noted, and one more
+  noted_so : (v : Via) (j i : ℕ) (m : Octets) (o : Option Asking) → asking j h ≡ o → (k : ℕ) (y : Carried) → IsIn y (listed k (noted_as v j i m o t.carried)) → IsSo k h y
+  noted_so v j i m None e k y am = is.carried k y am
+  noted_so v j i m (Some a) e k y am = go (j == k) refl (subst (λ (ys : List Carried). IsIn y ys) (listed_adds k j new t.carried) am)
+    where
+      new : Carried
+      new = record { via = v; id = i; octets = m; carries = carries_by v m a.request i }
+
+      go : (b : Bool) → (j == k) ≡ b → IsIn y (if b then new ∷ listed k t.carried else listed k t.carried) → IsSo k h y
+      go true s (inl same) = subst (λ (x : Carried). IsSo k h x) same (a, subst (λ (n : ℕ). asking n h ≡ Some a) (same_number j k s) e, refl)
+      go true s (inr am) = is.carried k y am
+      go false s am = is.carried k y am
+
+  module _ (rs : Requests) (kr : requests.Known h rs) where
+    pub known_put : (o : Out) → Known (Put o ∷ h) (has_put o rs t)
+    known_put (Send q j i m) = record {
+      requests = is.requests;
+      rise = is.rise;
+      sent = λ r k p id n o am. sent_more q j i m r k p id n o am;
+      written = λ ms k p id o am. spot_stays j q i k p id t.spots (is.written ms k p id o am);
+      carried = λ k y am. noted_so Dgram j i m (entry_at j rs.askings) (sym (kr.askings j)) k y am;
+    }
+    known_put (Write q j i m) = record {
+      requests = is.requests;
+      rise = is.rise;
+      sent = λ r k p id n o am. spot_stays j q i k p id t.spots (is.sent r k p id n o am);
+      written = λ ms k p id o am. written_more q j i m ms k p id o am;
+      carried = λ k y am. noted_so Stream j i m (entry_at j rs.askings) (sym (kr.askings j)) k y am;
+    }
+    known_put (Reply j x) = record { requests = λ k. replied_more j k; rise = sets.rise_frees 0 j t.requests is.rise; sent = λ r k p id n o am. is.sent r k p id n o am; written = λ ms k p id o am. is.written ms k p id o am; carried = is.carried }
+    known_put (Start j s v) = record { requests = is.requests; rise = is.rise; sent = λ r k p id n o am. is.sent r k p id n o am; written = λ ms k p id o am. is.written ms k p id o am; carried = is.carried }
+    known_put (OpenDgram p s) = record { requests = is.requests; rise = is.rise; sent = λ r k p id n o am. is.sent r k p id n o am; written = λ ms k p id o am. is.written ms k p id o am; carried = is.carried }
+    known_put (OpenStream p s) = record { requests = is.requests; rise = is.rise; sent = λ r k p id n o am. is.sent r k p id n o am; written = λ ms k p id o am. is.written ms k p id o am; carried = is.carried }
+    known_put (Resume p m) = record { requests = is.requests; rise = is.rise; sent = λ r k p id n o am. is.sent r k p id n o am; written = λ ms k p id o am. is.written ms k p id o am; carried = is.carried }
+    known_put (Close p) = record { requests = is.requests; rise = is.rise; sent = λ r k p id n o am. is.sent r k p id n o am; written = λ ms k p id o am. is.written ms k p id o am; carried = is.carried }
+    known_put (Stale j) = record { requests = is.requests; rise = is.rise; sent = λ r k p id n o am. is.sent r k p id n o am; written = λ ms k p id o am. is.written ms k p id o am; carried = is.carried }
 
 pub goes_on : GoesOn
 goes_on = record {
-  begins = record { requests = λ k. refl; rise = tt; sent = λ r k p id n o am. absurd am; written = λ ms k p id o am. absurd am };
+  begins = record { requests = λ k. refl; rise = tt; sent = λ r k p id n o am. absurd am; written = λ ms k p id o am. absurd am; carried = λ k y am. absurd am };
   event = λ h r t e kr is. known_met h r t kr is e;
-  out = λ h t o is. known_put h t is o;
+  out = λ h r t o kr is. known_put h t is r kr o;
 }

@@ -1,15 +1,16 @@
 -- Whether each valid request that waits is busy.
-use Rattle.std.specs.Prelude.{◌≡◌, ℕ, ◌+◌, ◌==◌, ◌&&◌, ◌||◌, not, nat_le, nat_lt, Bool, true, false, length, map, List, [], ◌∷◌, Option, Some, None}
+use Rattle.std.specs.Prelude.{◌≡◌, ℕ, ◌==◌, ◌&&◌, ◌||◌, not, nat_le, nat_lt, Bool, true, false, if◌then◌else◌, length, map, List, [], ◌∷◌, Option, Some, None}
 use Rattle.number_table.specs.Entries.{entry_at}
 use Rattle.client_request.specs.Request.{Request}
 use Rattle.client_request.specs.declared.event.Via.{Via}
 use Rattle.client_request.specs.declared.event.Via.TheVariants.{Dgram, Stream}
 use Rattle.right_trace.specs.Trace.{History, Conf}
-use Rattle.right_trace.specs.Requests.{Asking}
 use Rattle.right_trace.specs.Places.{is_alive, is_opening}
 use Rattle.right_trace.specs.Writes.{Written}
 use Rattle.right_trace.specs.Right.{WaitingIsBusy}
+use Rattle.right_trace.specs.Requests.{Asking, same_via}
 use Rattle.message_matching.specs.Matching.{carries_by}
+use Rattle.message_matching.specs.Shapes.{same_octets}
 use Rattle.trace_tables.specs.declared.places.Place.{Place}
 use Rattle.trace_tables.specs.declared.requests.Started.{Started}
 use Rattle.trace_tables.specs.declared.sends.Sent.{Sent}
@@ -22,7 +23,6 @@ use Rattle.trace_frames.specs.Ledger as ledger
 use Rattle.trace_writes.specs.declared.writing.Writing.{Writing}
 use Rattle.trace_writes.specs.Writing.{unwritten_seen}
 use Rattle.trace_writes.specs.Writing as writing
-use Rattle.trace_questions.specs.declared.configured.ServerUse.{ServerUse}
 use Rattle.trace_questions.specs.Configured.{use_of}
 use Rattle.trace_questions.specs.Outs.{Tells}
 use Rattle.trace_exchanges.specs.Coming.{is_young}
@@ -31,6 +31,7 @@ use Rattle.trace_exchanges.specs.Open as open_sends
 use Rattle.trace_due.specs.Loose.{brings_seen}
 use Rattle.trace_sets.specs.Sets.{Members, members, size, some_of}
 use Rattle.trace_loads.specs.Loads as loads
+use Rattle.trace_busy.specs.declared.waits.Carried.{Carried}
 use Rattle.trace_busy.specs.declared.waits.Spot.{Spot}
 use Rattle.trace_busy.specs.declared.busy.Scene.{Scene}
 use Rattle.trace_busy.specs.Backs.{is_within}
@@ -46,21 +47,36 @@ pub record Known (end : History) (t : Scene) : Type 0 where
   pub waits : waits.Known end t.waits.now
   pub backs : backs.Known end t.backs.now
 
--- some of these are waited for, and carry the request
-abbrev pub some_sent : Request → (k id now : ℕ) → List Sent → Bool
-some_sent r k id n [] = false
-some_sent r k id n (x ∷ xs) = (is_for k id n x && carries_by Dgram x.octets r id) || some_sent r k id n xs
+-- whether octets carry the request, as it was noted, or as they are
+abbrev pub is_of : Via → (id : ℕ) → List ℕ → Carried → Bool
+is_of v id o y = same_via y.via v && ((y.id == id) && same_octets y.octets o)
 
-abbrev pub some_written : Request → (k id : ℕ) → List Written → Bool
-some_written r k id [] = false
-some_written r k id (w ∷ ws) = ((w.request == k) && carries_by Stream w.octets r id) || some_written r k id ws
+abbrev pub carried_as : Via → (id : ℕ) → List ℕ → List Carried → Option Bool
+carried_as v id o [] = None
+carried_as v id o (y ∷ ys) = if is_of v id o y then Some y.carries else carried_as v id o ys
+
+abbrev pub or_else : Option Bool → Bool → Bool
+or_else None c = c
+or_else (Some b) c = b
+
+abbrev pub carries_seen : Via → Request → (k id : ℕ) → List ℕ → Scene → Bool
+carries_seen v r k id o t = or_else (carried_as v id o (listed k t.waits.now.carried)) (carries_by v o r id)
+
+-- some of these are waited for, and carry the request
+abbrev pub some_sent : Request → (k id now : ℕ) → List Sent → Scene → Bool
+some_sent r k id n [] t = false
+some_sent r k id n (x ∷ xs) t = (is_for k id n x && carries_seen Dgram r k id x.octets t) || some_sent r k id n xs t
+
+abbrev pub some_written : Request → (k id : ℕ) → List Written → Scene → Bool
+some_written r k id [] t = false
+some_written r k id (w ∷ ws) t = ((w.request == k) && carries_seen Stream r k id w.octets t) || some_written r k id ws t
 
 -- an exchange of request k at place p is open, by the kind of the place
 abbrev pub is_open_by : Via → Request → (k p id : ℕ) → (server : ℕ) → Scene → Bool
-is_open_by Dgram r k p id s t = some_sent r k id t.ledger.now.books.requests.clock (listed p t.sends.now)
+is_open_by Dgram r k p id s t = some_sent r k id t.ledger.now.books.requests.clock (listed p t.sends.now) t
 is_open_by Stream r k p id s t =
     is_young t.ledger.now.books.requests.clock (start_seen k s Stream t.ledger.now.books.requests)
-    && (not (brings_seen id (frames_of p t.ledger.now.frames.brought)) && some_written r k id (waiting_seen p id t.ledger.now.waiting))
+    && (not (brings_seen id (frames_of p t.ledger.now.frames.brought)) && some_written r k id (waiting_seen p id t.ledger.now.waiting) t)
 
 -- the request was handed to the server
 abbrev pub is_handed : (k s : ℕ) → Scene → Bool

@@ -14,7 +14,7 @@ ghost use Rattle.client_request.specs.declared.event.Via.TheVariants.{Stream};
 ghost use Rattle.trace_busy.specs.Busy as plain;
 
 use crate::backs::Backs;
-use crate::waits::{Spot, Waits};
+use crate::waits::{Carried, Spot, Waits};
 use client_request::{RequestMessage, Via};
 use dns_base::{NoMemory, Octets};
 use message_matching::carries;
@@ -25,7 +25,7 @@ use trace_frames::{Brought, Ledger, Written};
 use trace_loads::Loads;
 use trace_questions::ServerUse;
 use trace_sets::{Members, count};
-use trace_tables::{Newest, Place, Sent, Stand, Started};
+use trace_tables::{Newest, Place, Sent, Stand, Started, same_via};
 use trace_writes::Writing;
 
 /// What is known behind a row.
@@ -65,43 +65,23 @@ fn is_waited_for(request: u64, id: u16, now: u64, send: &Sent) -> bool
         && u128::from(now) < u128::from(send.moment) + 5_000_000
 }
 
-/// Whether one of these is waited for, and carries the request.
-fn some_sent(
-    alloc: Global,
-    asked: &RequestMessage,
-    request: u64,
-    id: u16,
-    now: u64,
-    sends: &[Sent],
-) -> Result<bool, NoMemory>
-    ensures { IfOk result (λ b. b ≡ plain.some_sent asked.now request id now sends.now) }
+/// Whether what was noted was noted of these octets, under this id.
+fn is_of(via: Via, id: u16, octets: &Octets, noted: &Carried) -> bool
+    ensures { result ≡ plain.is_of via id octets.now noted.now }
 {
-    for send in sends {
-        if is_waited_for(request, id, now, send)
-            && carries(alloc, Via::Dgram, &send.octets, asked, id)?
-        {
-            return Ok(true);
-        }
-    }
-    Ok(false)
+    same_via(noted.via, via) && noted.id == id && noted.octets.as_slice() == octets.as_slice()
 }
 
-/// Whether one of these is the request's, and carries it.
-fn some_written(
-    alloc: Global,
-    asked: &RequestMessage,
-    request: u64,
-    id: u16,
-    writes: &Newest<Written>,
-) -> Result<bool, NoMemory>
-    ensures { IfOk result (λ b. b ≡ plain.some_written asked.now request id writes.now) }
+/// Whether octets carry a request, if that was noted.
+fn carried_as(via: Via, id: u16, octets: &Octets, carried: &Newest<Carried>) -> Option<bool>
+    ensures { result ≡ plain.carried_as via id octets.now carried.now }
 {
-    for written in writes {
-        if written.request == request && carries(alloc, Via::Stream, &written.octets, asked, id)? {
-            return Ok(true);
+    for noted in carried {
+        if is_of(via, id, octets, noted) {
+            return Some(noted.carries);
         }
     }
-    Ok(false)
+    None
 }
 
 /// Whether a frame with a whole header among these has an id.
@@ -194,6 +174,79 @@ fn is_within(now: u64, begun: Option<&u64>) -> bool
 }
 
 impl<'a> Scene<'a> {
+    /// Whether octets carry a request, if that was noted of it.
+    fn noted(&self, via: Via, request: u64, id: u16, octets: &Octets) -> Option<bool>
+        ensures { result ≡ plain.carried_as via id octets.now (listed request self.now.waits.now.carried) }
+    {
+        match self.waits.carried.get(request) {
+            None => None,
+            Some(carried) => carried_as(via, id, octets, carried),
+        }
+    }
+
+    /// Whether octets carry a request.
+    fn carries(
+        &self,
+        alloc: Global,
+        via: Via,
+        asked: &RequestMessage,
+        request: u64,
+        id: u16,
+        octets: &Octets,
+    ) -> Result<bool, NoMemory>
+        ensures { IfOk result (λ b. b ≡ plain.carries_seen via asked.now request id octets.now self.now) }
+    {
+        match self.noted(via, request, id, octets) {
+            Some(carries) => Ok(carries),
+            None => carries(alloc, via, octets, asked, id),
+        }
+    }
+
+    /// Whether one of these is waited for, and carries the request.
+    fn some_sent(
+        &self,
+        alloc: Global,
+        asked: &RequestMessage,
+        request: u64,
+        id: u16,
+        sends: &[Sent],
+    ) -> Result<bool, NoMemory>
+        ensures { IfOk result (λ b. b ≡ plain.some_sent asked.now request id self.now.ledger.now.books.requests.clock sends.now self.now) }
+    {
+        let now = self.ledger.books.requests.clock;
+        for send in sends {
+            if is_waited_for(request, id, now, send)
+                && self.carries(alloc, Via::Dgram, asked, request, id, &send.octets)?
+            {
+                return Ok(true);
+            }
+        }
+        Ok(false)
+    }
+
+    /// Whether one of these is the request's, and carries it.
+    fn some_written(
+        &self,
+        alloc: Global,
+        asked: &RequestMessage,
+        request: u64,
+        id: u16,
+        writes: &Newest<Written>,
+    ) -> Result<bool, NoMemory>
+        ensures { IfOk result (λ b. b ≡ plain.some_written asked.now request id writes.now self.now) }
+    {
+        for written in writes {
+            if written.request == request
+                && self.carries(alloc, Via::Stream, asked, request, id, &written.octets)?
+            {
+                return Ok(true);
+            }
+        }
+        Ok(false)
+    }
+}
+
+impl<'a> Scene<'a> {
     /// Whether an exchange of a request by datagrams is open at a place.
     fn is_open_dgram(
         &self,
@@ -202,12 +255,11 @@ impl<'a> Scene<'a> {
         request: u64,
         spot: Spot,
     ) -> Result<bool, NoMemory>
-        ensures { IfOk result (λ b. b ≡ plain.some_sent asked.now request spot.id self.now.ledger.now.books.requests.clock (listed spot.place self.now.sends.now)) }
+        ensures { IfOk result (λ b. b ≡ plain.some_sent asked.now request spot.id self.now.ledger.now.books.requests.clock (listed spot.place self.now.sends.now) self.now) }
     {
-        let now = self.ledger.books.requests.clock;
         match self.sends.get(spot.place) {
             None => Ok(false),
-            Some(sends) => some_sent(alloc, asked, request, spot.id, now, sends.as_slice()),
+            Some(sends) => self.some_sent(alloc, asked, request, spot.id, sends.as_slice()),
         }
     }
 
@@ -219,14 +271,14 @@ impl<'a> Scene<'a> {
         request: u64,
         spot: Spot,
     ) -> Result<bool, NoMemory>
-        ensures { IfOk result (λ b. b ≡ plain.some_written asked.now request spot.id (waiting_seen spot.place spot.id self.now.ledger.now.waiting)) }
+        ensures { IfOk result (λ b. b ≡ plain.some_written asked.now request spot.id (waiting_seen spot.place spot.id self.now.ledger.now.waiting) self.now) }
     {
         let Some(at) = self.ledger.waiting.get(spot.place) else {
             return Ok(false);
         };
         match at.get(u64::from(spot.id)) {
             None => Ok(false),
-            Some(writes) => some_written(alloc, asked, request, spot.id, writes),
+            Some(writes) => self.some_written(alloc, asked, request, spot.id, writes),
         }
     }
 

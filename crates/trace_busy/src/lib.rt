@@ -10,4 +10,4 @@ mod waits;
 pub use backs::{Backs, meet_backs, note_used, put_backs};
 pub use busy::Scene;
 pub use laws::{backs_go_on, waits_go_on};
-pub use waits::{Spot, Waits};
+pub use waits::{Carried, Spot, Waits};

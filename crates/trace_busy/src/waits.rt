@@ -1,11 +1,12 @@
-//! Which valid requests wait, and where requests were sent or written.
+//! Which valid requests wait, where requests were sent or written, and whether what was sent or written so carries them.
 
 ghost use Rattle.std.specs.Prelude.{◌≡◌, OnOk};
 ghost use Rattle.number_table.specs.Entries.{frees};
 ghost use Rattle.trace_busy.specs.Waits as plain;
 
-use client_request::{Out, RequestMessage, What};
-use dns_base::NoMemory;
+use client_request::{Out, RequestMessage, Via, What};
+use dns_base::{NoMemory, Octets};
+use message_matching::carries;
 use number_table::NumberTable;
 use request_validity::RequestValidity;
 use std::alloc::Global;
@@ -19,12 +20,34 @@ pub struct Spot {
     pub id: u16,
 }
 
+/// Octets as which a request was sent or written under an id once it was asked, and whether they carry it. It is noted so that it
+/// need not be found again behind each row for which the request waits.
+pub struct Carried {
+    pub via: Via,
+    pub id: u16,
+    pub octets: Octets,
+    pub carries: bool,
+}
+
+impl Drop for Carried {
+    fn drop(self) {
+        let Carried {
+            via: _,
+            id: _,
+            octets: _,
+            carries: _,
+        } = self;
+    }
+}
+
 /// What is known of requests that wait.
 pub struct Waits {
     /// The valid requests that have no reply.
     pub requests: Members,
     /// By request.
     pub spots: NumberTable<Newest<Spot>>,
+    /// By request.
+    pub carried: NumberTable<Newest<Carried>>,
 }
 
 impl Drop for Waits {
@@ -32,6 +55,7 @@ impl Drop for Waits {
         let Waits {
             requests: _,
             spots: _,
+            carried: _,
         } = self;
     }
 }
@@ -60,6 +84,7 @@ impl Waits {
         Waits {
             requests: NumberTable::new(alloc),
             spots: NumberTable::new(alloc),
+            carried: NumberTable::new(alloc),
         }
     }
 
@@ -89,23 +114,53 @@ impl Waits {
         add(&mut self.spots, alloc, request, Spot { place, id })
     }
 
-    /// An out is put.
-    pub fn put(&mut self, alloc: Global, out: &Out) -> Result<(), NoMemory>
-        ensures { OnOk result (self.new ≡ plain.has_put out.now self.old) }
+    /// What a request is sent or written as is noted, if it was asked.
+    fn note(
+        &mut self,
+        alloc: Global,
+        requests: &Requests,
+        via: Via,
+        request: u64,
+        id: u16,
+        octets: &Octets,
+    ) -> Result<(), NoMemory>
+        ensures { OnOk result (self.new ≡ plain.notes via request id octets.now requests.now self.old) }
+    {
+        let Some(asked) = requests.askings.get(request) else {
+            return Ok(());
+        };
+        let noted = Carried {
+            via,
+            id,
+            octets: octets.try_clone()?,
+            carries: carries(alloc, via, octets, &asked.request, id)?,
+        };
+        add(&mut self.carried, alloc, request, noted)
+    }
+
+    /// An out is put, over the requests as they were.
+    pub fn put(&mut self, alloc: Global, requests: &Requests, out: &Out) -> Result<(), NoMemory>
+        ensures { OnOk result (self.new ≡ plain.has_put out.now requests.now self.old) }
     {
         match out {
             Out::Send {
                 place,
                 request,
                 id,
-                ..
-            } => self.go_to(alloc, *request, *place, *id),
+                octets,
+            } => {
+                self.note(alloc, requests, Via::Dgram, *request, *id, octets)?;
+                self.go_to(alloc, *request, *place, *id)
+            }
             Out::Write {
                 place,
                 request,
                 id,
-                ..
-            } => self.go_to(alloc, *request, *place, *id),
+                octets,
+            } => {
+                self.note(alloc, requests, Via::Stream, *request, *id, octets)?;
+                self.go_to(alloc, *request, *place, *id)
+            }
             Out::Reply { request, .. } => {
                 take_out(&mut self.requests, *request);
                 Ok(())

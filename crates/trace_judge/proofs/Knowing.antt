@@ -67,7 +67,7 @@ tables_out h o bad t is_bad k =
       pass = p;
       loads = loading.goes_on.out h t.pass.ledger.books t.loads o k.pass.ledger.books k.loads;
       held = d;
-      waits = waiting.goes_on.out h t.waits o k.waits;
+      waits = waiting.goes_on.out h t.pass.ledger.books.requests t.waits o k.pass.ledger.books.requests k.waits;
       backs = backing.goes_on.out h o bad t.pass.ledger.books.requests.clock t.pass.ledger.books.places (pass.has_put (newest h) o t.pass).ledger.books.places (tables.has_put (newest h) o bad t).held t.backs
           k.pass.ledger.books.requests.time is_bad k.pass.ledger.books.places p.ledger.books.places d k.backs;
       exchanged = exchanging.goes_on.out h t.exchanged o k.exchanged;

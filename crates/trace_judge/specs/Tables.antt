@@ -36,7 +36,7 @@ has_put w o bad t = notes_used t.pass.ledger.books.requests.clock (record {
   pass = pass.has_put w o t.pass;
   loads = loads.has_put w o t.pass.ledger.books t.loads;
   held = held.has_put o t.held;
-  waits = waits.has_put o t.waits;
+  waits = waits.has_put o t.pass.ledger.books.requests t.waits;
   backs = backs.has_put w o bad t.pass.ledger.books.requests.clock t.pass.ledger.books.places t.backs;
   exchanged = exchanged.has_put o t.exchanged;
 })

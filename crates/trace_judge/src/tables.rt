@@ -91,7 +91,7 @@ impl Tables {
         let books = &self.pass.ledger.books;
         self.loads.put(alloc, books, what, out)?;
         self.held.put(alloc, out)?;
-        self.waits.put(alloc, out)?;
+        self.waits.put(alloc, &books.requests, out)?;
         let moment = books.requests.clock;
         put_backs(&mut self.backs, &books.places, what, out, is_bad, moment)?;
         put_exchange(&mut self.exchanged, alloc, out)?;

@@ -1,11 +1,11 @@
 -- those that are left tell what all tell
 use Rattle.std.proofs.Common.{◌≡◌}
 use Rattle.trace_busy.specs.Busy.{some_written}
-use Rattle.trace_busy.proofs.busy.some_written.Given as goal
+use Rattle.trace_busy.proofs.busy.Scene.some_written.Given as goal
 
 abbrev pub invariant-loop-written : goal.invariant-loop-written
 invariant-loop-written l = record {
   can_next : (goal.iterator-loop-written).can_next l.written-iterator;
   is_finite : (goal.iterator-loop-written).is_finite l.written-iterator;
-  same : some_written l.asked l.request l.id l.written-iterator ≡ some_written l.asked l.request l.id l.writes;
+  same : some_written l.asked l.request l.id l.written-iterator l.self ≡ some_written l.asked l.request l.id l.writes l.self;
 }
