@@ -1,5 +1,7 @@
 -- Replays are judged right.
-use Rattle.std.proofs.Common.{◌≡◌, ◌||◌, Bool, true, false, List, [], ◌∷◌, map, refl, sym, ap, ◌∙◌, subst}
+use Rattle.std.proofs.Common.{◌≡◌, ◌||◌, Bool, true, false, ℕ, zero, suc, List, [], ◌∷◌, Option, Some, None, map, refl, sym, ap, ◌∙◌, subst}
+use Rattle.client_request.specs.Composed.{composed}
+use Rattle.client_request.specs.declared.event.Row.{Row}
 use Rattle.client_settings.specs.Settings.{CacheSettings, RedundantSettings}
 use Rattle.client_steps.specs.Whole.{asks_by_streams, is_tcp}
 use Rattle.client_steps.specs.Headline as headline
@@ -9,7 +11,10 @@ use Rattle.resolv_conf.specs.declared.server.ServerConf.{ServerConf}
 use Rattle.resolv_conf.specs.declared.server.Transport.{Transport}
 use Rattle.resolv_conf.specs.declared.server.Transport.TheVariants.{UdpTcp, Tcp}
 use Rattle.right_trace.specs.Right as right
-use Rattle.right_trace.specs.Trace.{Conf, Use}
+use Rattle.right_trace.specs.Hit.{AllHit}
+use Rattle.right_trace.specs.Settings.{Settings}
+use Rattle.right_trace.specs.StaleServed.{AllServeStale}
+use Rattle.right_trace.specs.Trace.{History, Conf, Use, after}
 use Rattle.trace_clauses.specs.Verdicts.{Verdict, Right, IsVerdict}
 use Rattle.trace_clauses.proofs.Verdicts.{kept_is_right, one_verdict}
 use Rattle.trace_questions.specs.Configured as configured
@@ -17,6 +22,11 @@ use Rattle.trace_script.specs.Judged.{conf_of, settings_of}
 use Rattle.trace_script.specs.Judged as judged
 use Rattle.right_trace.specs.Timely.{Timely}
 use Rattle.trace_timely.proofs.Rows.{none_is_timely}
+use Rattle.trace_hits.specs.Hits.{IsMissedHit}
+use Rattle.trace_hits.specs.Stale.{IsMissedStale}
+use Rattle.trace_hits.specs.Row.{room_of, Hit}
+use Rattle.trace_hits.specs.Rows.{FailsAt}
+use Rattle.trace_hits.specs.Serving.{Serve}
 use Rattle.proof_audit.specs.Replays.{IsSaid, IsJudgedRight, ReplaysAreRight}
 
 -- both ways of saying how a server is asked are one
@@ -36,14 +46,41 @@ same_uses o (s ∷ ss) =
 same_conf : (conf : ResolvConf) → headline.conf_of conf ≡ conf_of conf
 same_conf conf = ap (λ (us : List Use). record { servers = us; timeout = conf.options.timeout }) (sym (same_uses conf.options conf.servers))
 
+-- what holds of all rows fails at none
+hits_fail : (cache : CacheSettings) (n : ℕ) (c : Conf) (s : Settings) (x : History) (rows : List Row) → FailsAt (Hit cache) n c s x rows → AllHit c s composed (room_of cache) x rows → ⊥
+hits_fail cache zero c s x [] f t = f
+hits_fail cache (suc n) c s x [] f t = f
+hits_fail cache zero c s x (row ∷ rows) f t = f t.0
+hits_fail cache (suc n) c s x (row ∷ rows) f t = hits_fail cache n c s (after row x) rows f.1 t.1
+
+stale_fails : (cache : CacheSettings) (n : ℕ) (c : Conf) (s : Settings) (x : History) (rows : List Row) → FailsAt (Serve cache) n c s x rows → AllServeStale c s (room_of cache) x rows → ⊥
+stale_fails cache zero c s x [] f t = f
+stale_fails cache (suc n) c s x [] f t = f
+stale_fails cache zero c s x (row ∷ rows) f t = f t.0
+stale_fails cache (suc n) c s x (row ∷ rows) f t = stale_fails cache n c s (after row x) rows f.1 t.1
+
+none_missed : (cache : CacheSettings) (c : Conf) (s : Settings) (rows : List Row) (o : Option ℕ) → IsMissedHit o cache c s [] rows → AllHit c s composed (room_of cache) [] rows → o ≡ None
+none_missed cache c s rows None i t = refl
+none_missed cache c s rows (Some n) i t = absurd (hits_fail cache n c s [] rows i t)
+
+none_unserved : (cache : CacheSettings) (c : Conf) (s : Settings) (rows : List Row) (o : Option ℕ) → IsMissedStale o cache c s [] rows → AllServeStale c s (room_of cache) [] rows → o ≡ None
+none_unserved cache c s rows None i t = refl
+none_unserved cache c s rows (Some n) i t = absurd (stale_fails cache n c s [] rows i t)
+
 pub replays : ReplaysAreRight
 replays redundant cache conf words events rows r =
     let is : right.Right (conf_of conf) (settings_of redundant cache) rows = subst (λ (c : Conf). right.Right c (settings_of redundant cache) rows) (same_conf conf) r.right in
     let said : IsSaid Right redundant cache conf events rows = kept_is_right.right_kept (conf_of conf) (settings_of redundant cache) events rows r.each is in
+    let hits : AllHit (conf_of conf) (settings_of redundant cache) composed (room_of cache) [] rows = subst (λ (c : Conf). AllHit c (settings_of redundant cache) composed (room_of cache) [] rows) (same_conf conf) r.hits in
+    let stale : AllServeStale (conf_of conf) (settings_of redundant cache) (room_of cache) [] rows = subst (λ (c : Conf). AllServeStale c (settings_of redundant cache) (room_of cache) [] rows) (same_conf conf) r.stale in
     let timely : Timely (conf_of conf) rows = subst (λ (c : Conf). Timely c rows) (same_conf conf) r.timely in
     record {
       right = said;
       alone = λ v i. one_verdict (conf_of conf) (settings_of redundant cache) events rows v Right i said;
       timely = timely;
       never_late = λ o i. (none_is_timely (conf_of conf) rows o i).1 timely;
+      hits = hits;
+      never_missed = λ o i. none_missed cache (conf_of conf) (settings_of redundant cache) rows o i hits;
+      stale = stale;
+      always_served = λ o i. none_unserved cache (conf_of conf) (settings_of redundant cache) rows o i stale;
     }
