@@ -2,6 +2,7 @@
 """Tells the processor time that a hit and a miss take a forwarder, beside Unbound and dnsmasq.
 
     python3 bench/forward.py PROGRAM [ROUNDS [SECONDS]]
+    python3 bench/forward.py --workers N PROGRAM [ROUNDS [SECONDS]]
 
 PROGRAM is the built dns_forward. An NSD on loopback has an answer of one record for every name, since Unbound hands on no more of it. Each forwarder is one process of one thread; with two
 processors or more it is kept on the first, and dnsperf with NSD on the others. In ROUNDS rounds (5), in turn, dnsperf asks each for SECONDS seconds
@@ -9,6 +10,10 @@ processors or more it is kept on the first, and dnsperf with NSD on the others. 
 processor time of the forwarder's process by queries that were answered is told, and its share in the system, round by round, and then
 the medians and their ratios to ours. Queries that were lost, or answered by another code than NOERROR, are told too. Without NSD or
 dnsperf nothing is measured, and that is said; nor are Unbound and dnsmasq where they are missing.
+
+With --workers N ours alone is asked for hits, with one thread and with N workers, in turn, each on the first N processors and dnsperf on
+the others: how many it answers a second, the ratio of the medians, and of the processor time of a query what is not in the system. What
+a worker holds the lock for is a part of that, since it makes no system call under it.
 """
 
 import os
@@ -140,9 +145,60 @@ def measure(program, folder, port_of, server, rounds, seconds):
     return taken
 
 
+def on(first, last, words):
+    """A command on these processors."""
+    return ["taskset", "-c", "%d-%d" % (first, last)] + words if shutil.which("taskset") else words
+
+
+def measure_workers(program, folder, server, count, rounds, seconds):
+    """How many hits a second one thread answers, and so many workers, on as many processors as there are workers."""
+    last = (os.cpu_count() or 1) - 1
+    others = (min(count, last), last)
+    hits = folder / "hits"
+    hits.write_text("".join("h%d.example A\n" % n for n in range(HITS)))
+    running, port_of, rates, owns = {}, {}, {}, {}
+    try:
+        for workers in (1, count):
+            port_of[workers] = free_port()
+            words = ours(program, folder, port_of[workers], server)
+            words = on(0, count - 1, [words[0], "--workers", str(workers)] + words[1:])
+            with open(folder / "resolv.conf", "rb") as source:
+                running[workers] = subprocess.Popen(words, stdin=source, stdout=subprocess.DEVNULL, stderr=subprocess.DEVNULL)
+        time.sleep(1)
+        for turn in range(rounds):
+            for workers, child in running.items():
+                asked = ["dnsperf", "-s", "127.0.0.1", "-p", str(port_of[workers]), "-d", str(hits)]
+                if turn == 0:
+                    subprocess.run(asked + ["-n", "2", "-c", "1", "-q", "20"], capture_output=True)
+                before = ticks(child.pid)
+                threads = others[1] - others[0] + 1
+                out = subprocess.run(on(*others, asked + ["-l", str(seconds), "-T", str(threads), "-c", "16", "-q", "400"]), capture_output=True, text=True).stdout
+                after = ticks(child.pid)
+                rate = float(re.search(r"Queries per second:\s+([\d.]+)", out).group(1))
+                lost = int(re.search(r"Queries lost:\s+(\d+)", out).group(1))
+                answered = int(re.search(r"Queries completed:\s+(\d+)", out).group(1))
+                good = re.search(r"NOERROR (\d+)", out)
+                each = 1e6 * (sum(after) - sum(before)) / TICKS / max(answered, 1)
+                own = 1e6 * (after[0] - before[0]) / TICKS / max(answered, 1)
+                wrong = answered - (int(good.group(1)) if good else 0)
+                print("%2d workers: %8.0f a second, %5.2f us of processor, %5.2f outside the system, %d lost, %d not NOERROR" % (workers, rate, each, own, lost, wrong))
+                rates.setdefault(workers, []).append(rate)
+                owns.setdefault(workers, []).append(own)
+    finally:
+        for child in running.values():
+            child.kill()
+            child.wait()
+    one, many = statistics.median(rates[1]), statistics.median(rates[count])
+    print("one thread %.0f a second, %d workers %.0f: %.2f times; under the lock at most %.2f us a query" % (one, count, many, many / one, statistics.median(owns[count])))
+
+
 def main():
     if len(sys.argv) < 2:
         sys.exit(__doc__)
+    workers = 0
+    if sys.argv[1] == "--workers":
+        workers = int(sys.argv[2])
+        del sys.argv[1:3]
     if not (shutil.which("nsd") or os.path.exists("/usr/sbin/nsd")) or not shutil.which("dnsperf"):
         print("skipped: there is no nsd, or no dnsperf")
         return 0
@@ -153,6 +209,9 @@ def main():
         os.chmod(place, 0o755)
         nsd = serve(place, server, "  minimal-responses: yes\n")
         try:
+            if workers:
+                measure_workers(os.path.abspath(sys.argv[1]), Path(place), server, workers, rounds, seconds)
+                return 0
             taken = measure(os.path.abspath(sys.argv[1]), Path(place), {}, server, rounds, seconds)
         finally:
             nsd.terminate()

@@ -1,16 +1,18 @@
 //! The program `dns_forward`: it answers DNS clients of this host, and keeps what servers answer.
 #![tactic(auto)]
 
-use client_edge::{FileOpener, RandWords, RealClock, command_words};
-use client_request::Words;
-use dns_values::{IpAddr, Seq, StdSink, StdSource};
-use forward_record::serve_recorded;
-use forward_run::{StatusLine, serve_as};
+mod alone;
+mod shared;
+
+use alone::{serve, serve_to};
+use client_edge::{RandWords, command_words};
 use forward_words::{Fault, Options, options_of};
-use front_edge::SocketFront;
 use rand::rngs::StdRng;
-use record_file::{RecordFile, record_of};
+use record_file::record_of;
+use shared::serve_by_threads;
 use std::process::ExitCode;
+use std::sync::Wait;
+use std::thread::Threads;
 
 /// The exit status where the words are no command.
 const USAGE: u8 = 2;
@@ -26,90 +28,37 @@ fn random_words(rt: &HostRuntime) -> Option<RandWords<StdRng>> {
     }
 }
 
-/// Serves as the options and the words behind them say, over the system's sockets, by its clock and under its random words, of which
-/// the first is that by which the cache is hashed. The types are the real ones, so that nothing in memory stands for one of them.
-fn serve(
-    rt: HostRuntime,
-    options: &Options,
-    words: &[String],
-    listened: Seq<IpAddr>,
-    mut random: RandWords<StdRng>,
-) -> u8 {
-    let alloc = rt.alloc();
-    let seed = random.next();
-    let status = serve_as(
-        alloc,
-        options,
-        seed,
-        words,
-        &mut StdSource::new(rt.stdin()),
-        &mut StdSink::new(rt.stdout()),
-        &mut SocketFront::new(rt, alloc, listened),
-        &mut RealClock::new(rt),
-        &mut random,
-        &mut StatusLine::new(
-            alloc,
-            FileOpener::new(rt),
-            StdSink::new(rt.stderr()),
-            options.status,
-        ),
-    );
-    status.0
-}
-
-/// Serves as the options and the words behind them say, and records the client within to a file of this name.
-fn serve_to(
-    rt: HostRuntime,
-    file: &str,
-    options: &Options,
-    words: &[String],
-    listened: Seq<IpAddr>,
-    mut random: RandWords<StdRng>,
-) -> u8 {
-    let alloc = rt.alloc();
-    let Ok(file) = String::from_str(alloc, file) else {
-        return NO_MEMORY;
-    };
-    let seed = random.next();
-    let served = serve_recorded(
-        alloc,
-        options,
-        seed,
-        words,
-        &mut StdSource::new(rt.stdin()),
-        &mut StdSink::new(rt.stdout()),
-        &mut StdSink::new(rt.stderr()),
-        &mut SocketFront::new(rt, alloc, listened),
-        &mut RealClock::new(rt),
-        &mut random,
-        &mut StatusLine::new(
-            alloc,
-            FileOpener::new(rt),
-            StdSink::new(rt.stderr()),
-            options.status,
-        ),
-        RecordFile::new(rt, file),
-    );
-    served.status.0
+/// Whether what is asked for is done by one thread alone: a record has one client's events in order, and how much was done is told of one.
+fn is_of_one(options: &Options, file: Option<&str>) -> bool {
+    file.is_some() || options.status.is_some()
 }
 
 /// Does what the command line asks for. Without random words nothing is served.
-fn run(rt: HostRuntime) -> u8 {
+fn run<T: Threads + Wait + Sync>(threads: &T, rt: HostRuntime) -> u8 {
     let (Ok(words), Some(random)) = (command_words(&rt), random_words(&rt)) else {
         return NO_MEMORY;
     };
     let (file, words) = record_of(&words);
-    match options_of(rt.alloc(), words) {
-        Ok((options, rest)) => match (options.listened.try_clone(rt.alloc()), file) {
-            (Ok(listened), Some(file)) => serve_to(rt, file, &options, rest, listened, random),
-            (Ok(listened), None) => serve(rt, &options, rest, listened, random),
-            (Err(_), _) => NO_MEMORY,
-        },
-        Err(Fault::Refused) => USAGE,
-        Err(Fault::NoMemory) => NO_MEMORY,
+    let (options, rest) = match options_of(rt.alloc(), words) {
+        Ok(read) => read,
+        Err(Fault::Refused) => return USAGE,
+        Err(Fault::NoMemory) => return NO_MEMORY,
+    };
+    let Ok(listened) = options.listened.try_clone(rt.alloc()) else {
+        return NO_MEMORY;
+    };
+    if options.workers >= 2 {
+        if is_of_one(&options, file) {
+            return USAGE;
+        }
+        return serve_by_threads(threads, rt, &options, rest, listened, random);
+    }
+    match file {
+        Some(file) => serve_to(rt, file, &options, rest, listened, random),
+        None => serve(rt, &options, rest, listened, random),
     }
 }
 
 fn main(rt: HostRuntime) -> ExitCode {
-    ExitCode::from(run(rt))
+    ExitCode::from(run(&rt, rt))
 }

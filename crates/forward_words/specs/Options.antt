@@ -1,4 +1,4 @@
--- The options of the forwarder's command line: `[--listen ADDRESS ..] [--port P] [--entries N] [--stale SECONDS] [--policy crate|practice] [--status SECONDS]`.
+-- The options of the forwarder's command line: `[--listen ADDRESS ..] [--port P] [--entries N] [--stale SECONDS] [--policy crate|practice] [--status SECONDS] [--workers N]`.
 use Rattle.std.specs.Prelude.{◌≡◌, ℕ, ◌&&◌, ◌==◌, not, Bool, true, false, if◌then◌else◌, List, [], ◌∷◌, ◌++◌, take, codes, Option, None, Some, option_map, String, Result, Ok, Err}
 use Rattle.std.specs.Borrow.{Bor}
 use Rattle.std.specs.Cmp.Lexicographic.{pointwise}
@@ -19,7 +19,7 @@ use Rattle.forward_words.specs.declared.taking.Kind.TheVariants as kinds
 
 -- before the first option
 abbrev pub nothing_said : Options
-nothing_said = record { listened = []; port = None; entries = 100000; stale = 0; policy = policies.Plain; status = None }
+nothing_said = record { listened = []; port = None; entries = 100000; stale = 0; policy = policies.Plain; status = None; workers = 1 }
 
 -- where no address is said, it is listened at 127.0.0.1
 abbrev pub listened_at : List IpAddr → List IpAddr
@@ -38,6 +38,7 @@ kind_of name =
     else if bytes_eq name (codes "--stale") then Some kinds.Stale
     else if bytes_eq name (codes "--policy") then Some kinds.Policy
     else if bytes_eq name (codes "--status") then Some kinds.Status
+    else if bytes_eq name (codes "--workers") then Some kinds.Workers
     else None
 
 -- an address of one interface, which is not one of IPv4 that is written as one of IPv6
@@ -67,6 +68,9 @@ stale_said text o = option_map (λ n. record o { stale = n }) (number_in 0 60480
 abbrev pub status_said : List ℕ → Options → Option Options
 status_said text o = option_map (λ n. record o { status = Some n }) (number_in 1 86400 text)
 
+abbrev pub workers_said : List ℕ → Options → Option Options
+workers_said text o = option_map (λ n. record o { workers = n }) (number_in 1 64 text)
+
 unfoldable pub policy_of : List ℕ → Option Policy
 policy_of text =
     if bytes_eq text (codes "crate") then Some policies.Plain
@@ -84,6 +88,7 @@ ValueGives kinds.Entries text o answer = answer ≡ entries_said text o
 ValueGives kinds.Stale text o answer = answer ≡ stale_said text o
 ValueGives kinds.Policy text o answer = answer ≡ policy_said text o
 ValueGives kinds.Status text o answer = answer ≡ status_said text o
+ValueGives kinds.Workers text o answer = answer ≡ workers_said text o
 
 -- What a call answers that takes a value, with what is said then.
 abbrev pub Answers : (Option Options → Type 0) → Result (Unit {0}) Fault → Options → Type 0

@@ -31,6 +31,8 @@ pub struct Options {
     pub policy: Policy,
     /// After how many seconds it is told again how much was done, if it is.
     pub status: Option<u64>,
+    /// How many threads answer datagrams at each address.
+    pub workers: u64,
 }
 
 /// Why words are no options.
@@ -64,6 +66,7 @@ impl Options {
             stale: 0,
             policy: Policy::Plain,
             status: None,
+            workers: 1,
         }
     }
 
@@ -99,6 +102,7 @@ impl Options {
 /// | `--stale` | for how many seconds an answer that has expired is given where the servers fail, from 0 to 604800; 0 where it isn't said (RFC 8767) |
 /// | `--policy` | `crate`, as where it isn't said, or `practice` |
 /// | `--status` | after how many seconds it is told again how much was done, from 1 to 86400 |
+/// | `--workers` | how many threads answer datagrams at each address, from 1 to 64; 1 where it isn't said |
 ///
 /// They end before the first word that is none of these, or has no value behind it. An address that stands for all of the host's, as
 /// 0.0.0.0, is refused, since an answer would not always come from the address that was asked; and so is one of IPv4 that is written as

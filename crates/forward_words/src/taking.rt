@@ -2,7 +2,7 @@
 
 ghost use Rattle.std.specs.Prelude.{◌≡◌, ◌++◌, ◌∷◌, [], option_map, true};
 ghost use Rattle.command_parts.specs.Numbers.{number_in};
-ghost use Rattle.forward_words.specs.Options.{AllAnswer, Answers, ListenGives, ValueGives, entries_said, kind_of, may_listen, policy_of, policy_said, port_said, stale_said, status_said};
+ghost use Rattle.forward_words.specs.Options.{AllAnswer, Answers, ListenGives, ValueGives, entries_said, kind_of, may_listen, policy_of, policy_said, port_said, stale_said, status_said, workers_said};
 
 use crate::options::{Fault, Options, Policy};
 use command_parts::number_in;
@@ -16,6 +16,9 @@ const MOST_STALE: u64 = 604_800;
 
 /// The longest time between two lines, in seconds: a day.
 const MOST_STATUS: u64 = 86_400;
+
+/// The most threads that answer datagrams at one address.
+const MOST_WORKERS: u64 = 64;
 
 /// What an option says.
 #[derive(Clone, Copy)]
@@ -32,6 +35,8 @@ pub(crate) enum Kind {
     Policy,
     /// How often it is told how much was done.
     Status,
+    /// How many threads answer datagrams.
+    Workers,
 }
 
 /// What the option of this name says.
@@ -46,6 +51,7 @@ fn kind_of(name: &str) -> Option<Kind>
         "--stale" => Some(Kind::Stale),
         "--policy" => Some(Kind::Policy),
         "--status" => Some(Kind::Status),
+        "--workers" => Some(Kind::Workers),
         _ => None,
     }
 }
@@ -149,6 +155,18 @@ impl Options {
         }
     }
 
+    fn take_workers(&mut self, text: &str) -> Result<(), Fault>
+        ensures { Answers (λ o. o ≡ workers_said text.now self.old) result self.new }
+    {
+        match number_in(1, MOST_WORKERS, text) {
+            Some(workers) => {
+                self.workers = workers;
+                Ok(())
+            }
+            None => Err(Fault::Refused),
+        }
+    }
+
     /// Takes the value of an option.
     fn take(&mut self, kind: Kind, text: &str) -> Result<(), Fault>
         ensures { Answers (ValueGives kind text.now self.old) result self.new }
@@ -160,6 +178,7 @@ impl Options {
             Kind::Stale => self.take_stale(text),
             Kind::Policy => self.take_policy(text),
             Kind::Status => self.take_status(text),
+            Kind::Workers => self.take_workers(text),
         }
     }
 }

@@ -8,7 +8,7 @@ use dns_values::{IpAddr, SocketAddr};
 use std::net;
 
 /// The address that the system gave. What it says beside the address and the port of IPv6 is left out.
-pub(crate) fn address_of(addr: net::SocketAddr) -> SocketAddr
+pub fn address_of(addr: net::SocketAddr) -> SocketAddr
     ensures ip { IsSameIp result.ip (socket_ip addr) }
     ensures port { result.port ≡ socket_port addr }
 {

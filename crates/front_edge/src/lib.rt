@@ -15,6 +15,7 @@ mod front;
 mod listeners;
 mod streams;
 
+pub use address::address_of;
 pub use dgrams::SystemDgrams;
 pub use front::{ListenerFront, SocketFront};
 pub use listeners::{OpenListeners, SystemListeners};

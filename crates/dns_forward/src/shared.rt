@@ -1,0 +1,76 @@
+//! A forwarder that several threads share.
+
+use crate::{NO_MEMORY, USAGE};
+use client_edge::{RandWords, RealClock};
+use client_request::Words;
+use dns_values::{IpAddr, NoMemory, Seq, StdSink, StdSource};
+use forward_words::Options;
+use forward_workers::{Crew, First, Worker, serve_by_all};
+use rand::rngs::StdRng;
+use std::sync::Wait;
+use std::thread::Threads;
+use worker_edge::{Common, SharedFront, SystemDoor};
+
+/// The most threads that answer datagrams, at all addresses together.
+const MOST_WORKERS: u64 = 16_384;
+
+/// So many workers at each of so many addresses.
+fn workers_at<'a, T: Wait>(
+    rt: HostRuntime,
+    common: &'a Common<'a, T>,
+    addresses: usize,
+    each: u64,
+) -> Result<Vec<Worker<SystemDoor<'a, T>, RealClock<HostRuntime>>>, NoMemory> {
+    let alloc = rt.alloc();
+    let mut workers = Vec::new(alloc);
+    for at in 0..addresses {
+        for _ in 0..each {
+            let number = workers.len();
+            let door = SystemDoor::new(alloc, common, at, number)?;
+            let clock = RealClock::new(rt);
+            workers.push(Worker { door, clock })?;
+        }
+    }
+    Ok(workers)
+}
+
+/// Serves by as many threads at each address as the options say, beside this one, over the system's sockets, by its clock and
+/// under its random words, of which the first is that by which the cache is hashed.
+pub fn serve_by_threads<T: Threads + Wait + Sync>(
+    threads: &T,
+    rt: HostRuntime,
+    options: &Options,
+    words: &[String],
+    listened: Seq<IpAddr>,
+    mut random: RandWords<StdRng>,
+) -> u8 {
+    let alloc = rt.alloc();
+    let addresses = listened.len();
+    let doors = (addresses as u64).saturating_mul(options.workers);
+    if doors > MOST_WORKERS {
+        return USAGE;
+    }
+    let seed = random.next();
+    let Ok(common) = Common::new(threads, alloc, doors) else {
+        return NO_MEMORY;
+    };
+    let Ok(workers) = workers_at(rt, &common, addresses, options.workers) else {
+        return NO_MEMORY;
+    };
+    let first = First {
+        front: SharedFront::new(rt, alloc, listened, &common),
+        clock: RealClock::new(rt),
+    };
+    let (status, _) = serve_by_all(
+        threads,
+        alloc,
+        options,
+        seed,
+        words,
+        &mut StdSource::new(rt.stdin()),
+        &mut StdSink::new(rt.stdout()),
+        random,
+        Crew { first, workers },
+    );
+    status.0
+}

@@ -1,0 +1,210 @@
+//! What the program does with several workers.
+
+ghost use Rattle.std.specs.Prelude.{◌≡◌, ◌+◌, ◌<◌, ◌^◌, ℕ, false, length, None, IfErr, IfOk, IfSome};
+ghost use Rattle.dns_values.specs.Sink.{IsFlushed};
+ghost use Rattle.dns_values.specs.Source.{Rose};
+ghost use Rattle.command_parts.specs.Conf.{IsConfRefused};
+ghost use Rattle.command_parts.specs.Ends.{IsSaid, line_of, status_of};
+ghost use Rattle.forward_run.specs.Serving.{IfAsked, IsDeaf, IsEndOfSource, IsNotListenedBy, IsNotListenedIf, IsServeEnd, IsSilent, RefusalIsSaid, numbers_line};
+ghost use Rattle.forward_words.specs.Words.{asked_by};
+ghost use Rattle.forward_workers.specs.Served.{IsAnsweredIf, IsCutBy, IsDoneBy, IsServed};
+ghost use Rattle.forward_workers.specs.Sharing.{IsShared, world_of};
+
+use crate::crew::{Came, Crew, First, Worker};
+use crate::door::Door;
+use crate::sharing::share;
+use client_core::Clock;
+use client_request::{Error, Words};
+use command_parts::statuses::{NO_MEMORY, USAGE};
+use command_parts::{Ending, deliver};
+use dns_base::Status;
+use dns_values::{Sink, Source};
+use forward_run::{Front, answered_line, begin, conf_asked, end_without, stopped_by};
+use forward_words::{Asked, Options, asked_by};
+use front_core::Forwarder;
+use front_shared::Opened;
+use proof_front::every_forwarded_trace_is_right;
+use resolv_conf::ResolvConf;
+use std::alloc::Global;
+use std::marker::Brand;
+use std::sync::Wait;
+use std::thread::Threads;
+
+/// The turns of all over a forwarder. What the first thread has of its own, and what they came to.
+fn turn_all<
+    R: Threads + Wait + Sync,
+    W: Words + Drop + Send,
+    F: Front + Drop,
+    D: Door + Drop + Send,
+    C: Clock + Drop + Send,
+>(
+    rt: &R,
+    alloc: Global,
+    forwarder: Forwarder,
+    rng: W,
+    turns: u64,
+    crew: Crew<F, D, C>,
+) -> (First<F, C>, Result<Came<D, C>, Error>)
+    requires lives { forwarder.failed ≡ false }
+    requires count { length crew.workers.items + 1 < 2 ^ 32 }
+    ensures { IfOk result.1 (λ came. IsShared turns forwarder (W.stream rng) (world_of F.deeds D.deeds crew.first crew.workers.items) (world_of F.deeds D.deeds result.0 came.workers.items) came.answered) }
+{
+    match Opened::new(alloc) {
+        Ok(opened) => {
+            share::<R, Brand, W, F, D, C>(rt, alloc, opened, forwarder, rng, turns, crew)
+        }
+        Err(_) => (crew.first, Err(Error::NoMemory)),
+    }
+}
+
+/// Each word has 64 bits. It does nothing.
+fn words_are_short<W: Words>(rng: &W)
+    ensures { (k : ℕ) → W.stream rng.now k < 2 ^ 64 }
+{
+    let _rng = rng;
+}
+
+/// Listens, and makes the turns of all.
+fn serve_conf<
+    R: Threads + Wait + Sync,
+    W: Words + Drop + Send,
+    F: Front + Drop,
+    D: Door + Drop + Send,
+    C: Clock + Drop + Send,
+>(
+    rt: &R,
+    alloc: Global,
+    options: &Options,
+    seed: u64,
+    asked: Asked,
+    conf: &ResolvConf,
+    rng: W,
+    crew: Crew<F, D, C>,
+) -> (First<F, C>, Result<Came<D, C>, Ending>)
+    requires count { length crew.workers.items + 1 < 2 ^ 32 }
+    ensures served { IfOk result.1 (λ came. IsServed options.now asked conf.now came.answered (W.stream rng) (world_of F.deeds D.deeds crew.first crew.workers.items) (world_of F.deeds D.deeds result.0 came.workers.items)) }
+    ensures ends { IfErr result.1 IsServeEnd }
+    ensures deaf { IfErr result.1 (λ e. status_of e ≡ 5 → IsDeaf options.now.listened asked.port conf.now (F.faults crew.first.front) (F.faults result.0.front)) }
+    ensures line { IfErr result.1 (λ e. status_of e ≡ 7 → line_of e ≡ numbers_line) }
+{
+    let Crew { first, workers } = crew;
+    let First { mut front, clock } = first;
+    let begun = begin(alloc, options, seed, asked.port, conf, &mut front);
+    let first = First { front, clock };
+    let forwarder = match begun {
+        Ok(forwarder) => forwarder,
+        Err(ending) => return (first, Err(ending)),
+    };
+    words_are_short(&rng);
+    let crew = Crew { first, workers };
+    let (first, came) = turn_all(rt, alloc, forwarder, rng, asked.turns, crew);
+    match came {
+        Ok(came) => {
+            every_forwarded_trace_is_right();
+            (first, Ok(came))
+        }
+        Err(error) => (first, Err(stopped_by(alloc, error))),
+    }
+}
+
+/// What all came to, and the line that is written at the end.
+#[derive(Drop)]
+struct Written<D: Door + Drop, C: Clock + Drop> {
+    line: Vec<u8>,
+    workers: Vec<Worker<D, C>>,
+}
+
+/// The line that is written at the end, and the workers.
+fn serve_source<
+    R: Threads + Wait + Sync,
+    S: Source,
+    W: Words + Drop + Send,
+    F: Front + Drop,
+    D: Door + Drop + Send,
+    C: Clock + Drop + Send,
+>(
+    rt: &R,
+    alloc: Global,
+    options: &Options,
+    seed: u64,
+    asked: Asked,
+    source: &mut S,
+    mut rng: W,
+    crew: Crew<F, D, C>,
+) -> (First<F, C>, Result<Written<D, C>, Ending>)
+    requires count { length crew.workers.items + 1 < 2 ^ 32 }
+    ensures done { IfOk result.1 (λ w. IsAnsweredIf options.now asked (S.left source.old) (W.stream rng) w.line.items (world_of F.deeds D.deeds crew.first crew.workers.items) (world_of F.deeds D.deeds result.0 w.workers.items)) }
+    ensures source_fault { IfErr result.1 (λ e. status_of e ≡ 3 → Rose (S.faults source.old) (S.faults source.new)) }
+    ensures refused { IfErr result.1 (λ e. status_of e ≡ 1 → IfSome (S.left source.old) (λ text. IsConfRefused text (line_of e))) }
+    ensures deaf { IfErr result.1 (λ e. status_of e ≡ 5 → IsNotListenedIf options.now asked.port (S.left source.old) (W.stream rng) (F.faults crew.first.front) (F.faults result.0.front)) }
+    ensures ends { IfErr result.1 IsEndOfSource }
+    ensures numbers { IfErr result.1 (λ e. status_of e ≡ 7 → line_of e ≡ numbers_line) }
+{
+    let conf = match conf_asked(alloc, options, source, &mut rng) {
+        Ok(conf) => conf,
+        Err(ending) => return (crew.first, Err(ending)),
+    };
+    let (first, came) = serve_conf(rt, alloc, options, seed, asked, &conf, rng, crew);
+    let Came { answered, workers } = match came {
+        Ok(came) => came,
+        Err(ending) => return (first, Err(ending)),
+    };
+    match answered_line(alloc, answered) {
+        Ok(line) => (first, Ok(Written { line, workers })),
+        Err(_) => (first, Err(Ending::Silent(NO_MEMORY))),
+    }
+}
+
+/// Answers DNS clients as the options and the words behind them say, as `forward_run`'s `serve_as` does, but by several threads that
+/// share one forwarder: TURNS turns are the first thread's, which has the front, and each worker makes as many at most at its door.
+///
+/// The statuses are those of `serve_as`. Where memory or numbers run out for one thread, all end by that status. The front is always
+/// given back, and the workers at the statuses 0, 2 and 4.
+pub fn serve_by_all<
+    R: Threads + Wait + Sync,
+    S: Source,
+    K: Sink,
+    W: Words + Drop + Send,
+    F: Front + Drop,
+    D: Door + Drop + Send,
+    C: Clock + Drop + Send,
+>(
+    rt: &R,
+    alloc: Global,
+    options: &Options,
+    seed: u64,
+    words: &[String],
+    source: &mut S,
+    sink: &mut K,
+    rng: W,
+    crew: Crew<F, D, C>,
+) -> (Status, Crew<F, D, C>)
+    requires count { length crew.workers.items + 1 < 2 ^ 32 }
+    ensures usage { result.0.0 ≡ 2 → asked_by words.now ≡ None }
+    ensures no_command { asked_by words.now ≡ None → result.0.0 ≡ 2 }
+    ensures done { result.0.0 ≡ 0 → IsDoneBy K.held options.now words.now (S.left source.old) (W.stream rng) sink.old sink.new (world_of F.deeds D.deeds crew.first crew.workers.items) (world_of F.deeds D.deeds result.1.first result.1.workers.items) }
+    ensures flushed { result.0.0 ≡ 0 → IsFlushed (K.held sink.new) (K.flushed sink.new) }
+    ensures refused { result.0.0 ≡ 1 → IfAsked words.now (S.left source.old) (λ asked text. RefusalIsSaid text (K.held sink.old) (K.held sink.new) (K.faults sink.old) (K.faults sink.new)) }
+    ensures source_fault { result.0.0 ≡ 3 → Rose (S.faults source.old) (S.faults source.new) }
+    ensures cut { result.0.0 ≡ 4 → IsCutBy K.held options.now words.now (S.left source.old) (W.stream rng) sink.old sink.new (world_of F.deeds D.deeds crew.first crew.workers.items) (world_of F.deeds D.deeds result.1.first result.1.workers.items) }
+    ensures sink_fault { result.0.0 ≡ 4 → Rose (K.faults sink.old) (K.faults sink.new) }
+    ensures deaf { result.0.0 ≡ 5 → IsNotListenedBy options.now words.now (S.left source.old) (W.stream rng) (F.faults crew.first.front) (F.faults result.1.first.front) }
+    ensures silent { IsSilent result.0.0 → K.held sink.new ≡ K.held sink.old }
+    ensures numbers { result.0.0 ≡ 7 → IsSaid numbers_line (K.held sink.old) (K.held sink.new) (K.faults sink.old) (K.faults sink.new) }
+    ensures status { result.0.0 < 8 }
+{
+    let Some(asked) = asked_by(words) else {
+        return (USAGE, crew);
+    };
+    let (first, written) = serve_source(rt, alloc, options, seed, asked, source, rng, crew);
+    match written {
+        Ok(written) => {
+            let Written { line, workers } = written;
+            (deliver(sink, &line), Crew { first, workers })
+        }
+        Err(ending) => {
+            let workers = Vec::new(alloc);
+            (end_without(sink, ending), Crew { first, workers })
+        }
+    }
+}

@@ -1,0 +1,82 @@
+//! What opens the sockets that workers share.
+
+use crate::common::{Common, SharedSocket};
+use crate::wakes::WakeDgrams;
+use client_edge::{fault_of, system_address};
+use client_request::Fault;
+use dns_values::SocketAddr;
+use front_edge::{OpenListeners, SystemListeners, SystemStreams};
+use std::net::{Ipv4Addr, Net, SocketAddrV4, TcpListener, TcpStream, UdpSocket};
+use std::sync::Wait;
+use std::time::Duration;
+use std::{io, net};
+
+/// The longest time for which a worker sleeps at a socket, in seconds.
+const MOST_SLEEP: u64 = 1;
+
+/// Opens listeners of the system: for datagrams one that workers share, in place of which whoever waits at the front has one that wakes
+/// it.
+#[derive(Drop)]
+pub struct SharedListeners<'a, T: Wait, R: Net<Listener = TcpListener, Stream = TcpStream> + Copy> {
+    rt: R,
+    common: &'a Common<'a, T>,
+    streams: SystemListeners<R>,
+}
+
+impl<'a, T: Wait, R: Net<Listener = TcpListener, Stream = TcpStream> + Copy> SharedListeners<
+    'a,
+    T,
+    R,
+> {
+    /// Over the system's network.
+    pub(crate) fn new(rt: R, common: &'a Common<'a, T>) -> SharedListeners<'a, T, R> {
+        SharedListeners {
+            rt,
+            common,
+            streams: SystemListeners::new(rt),
+        }
+    }
+
+    /// A socket at which workers sleep, but not for ever.
+    fn bound(&self, addr: SocketAddr) -> io::Result<UdpSocket> {
+        let socket = UdpSocket::bind(&self.rt, system_address(addr))?;
+        socket.set_read_timeout(Some(Duration::from_secs(MOST_SLEEP)))?;
+        Ok(socket)
+    }
+
+    /// A socket of this host at a port that the system picks, which does not wait.
+    fn local(&self) -> io::Result<UdpSocket> {
+        let local = net::SocketAddr::V4(SocketAddrV4::new(Ipv4Addr::new(127, 0, 0, 1), 0));
+        let socket = UdpSocket::bind(&self.rt, local)?;
+        socket.set_nonblocking(true)?;
+        Ok(socket)
+    }
+
+    fn opened(&self, addr: SocketAddr) -> io::Result<(SharedSocket, WakeDgrams)> {
+        let socket = self.bound(addr)?;
+        let woken = self.local()?;
+        let waking = self.local()?;
+        waking.connect(woken.local_addr()?)?;
+        woken.connect(waking.local_addr()?)?;
+        Ok((SharedSocket { socket, waking }, WakeDgrams::new(woken)))
+    }
+}
+
+impl<'a, T: Wait, R: Net<Listener = TcpListener, Stream = TcpStream> + Copy> OpenListeners<
+    WakeDgrams,
+    SystemStreams,
+> for SharedListeners<'a, T, R> {
+    fn open_dgrams(&mut self, addr: SocketAddr) -> Result<WakeDgrams, Fault> {
+        match self.opened(addr) {
+            Ok((socket, woken)) => match self.common.put(socket) {
+                Ok(()) => Ok(woken),
+                Err(_) => Err(Fault::Other),
+            },
+            Err(error) => Err(fault_of(error.kind())),
+        }
+    }
+
+    fn open_streams(&mut self, addr: SocketAddr) -> Result<SystemStreams, Fault> {
+        self.streams.open_streams(addr)
+    }
+}
