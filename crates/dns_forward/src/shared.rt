@@ -20,13 +20,13 @@ fn workers_at<'a, T: Wait>(
     common: &'a Common<'a, T>,
     addresses: usize,
     each: u64,
-) -> Result<Vec<Worker<SystemDoor<'a, T>, RealClock<HostRuntime>>>, NoMemory> {
+) -> Result<Vec<Worker<SystemDoor<'a, T, HostRuntime>, RealClock<HostRuntime>>>, NoMemory> {
     let alloc = rt.alloc();
     let mut workers = Vec::new(alloc);
     for at in 0..addresses {
         for _ in 0..each {
             let number = workers.len();
-            let door = SystemDoor::new(alloc, common, at, number)?;
+            let door = SystemDoor::new(rt, alloc, common, at, number)?;
             let clock = RealClock::new(rt);
             workers.push(Worker { door, clock })?;
         }

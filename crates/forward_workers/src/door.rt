@@ -14,15 +14,26 @@ use front_peers::{FrontOut, FrontWhat};
 pub trait Door {
     ghost deeds: { Self → Option (List FrontDeed) };
 
-    /// What came of a DNS client. It sleeps until something comes, but not for ever: then it gives nothing.
+    /// Sleeps until something comes, but not for ever, and at once where something has come.
+    fn wait(&mut self) -> Result<(), NoMemory>
+        ensures deeds { OnOk result (deeds self.new ≡ deeds self.old) };
+
+    /// Whether something has come that was not taken yet.
+    fn has_come(&self) -> bool;
+
+    /// What came of a DNS client, one thing after another, without sleep.
     fn take(&mut self) -> Result<Option<FrontWhat>, NoMemory>
         ensures deeds { IfOk result (λ what. deeds self.new ≡ after_deeds (taken what) (deeds self.old)) };
 
-    /// Sends an answer by a datagram, whichever door its query came by.
+    /// Answers by a datagram, whichever door its query came by. It may lie there until `flush`.
     fn answer(&mut self, out: &FrontOut) -> Result<(), NoMemory>
         ensures deeds { OnOk result (deeds self.new ≡ after_deed (FrontDeed.Acted out.now) (deeds self.old)) };
 
-    /// Wakes whoever waits at the front that this door is beside.
+    /// Wakes whoever waits at the front that this door is beside, by the next `flush` at the latest.
     fn wake(&mut self)
+        ensures deeds { deeds self.new ≡ deeds self.old };
+
+    /// Sends what was answered and lies there.
+    fn flush(&mut self)
         ensures deeds { deeds self.new ≡ deeds self.old };
 }

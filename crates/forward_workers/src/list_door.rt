@@ -59,6 +59,16 @@ impl ListDoor {
 impl Door for ListDoor {
     ghost deeds = { λ d. Some d.deeds };
 
+    fn wait(&mut self) -> Result<(), NoMemory>
+        ensures { self.new ≡ self.old }
+    {
+        Ok(())
+    }
+
+    fn has_come(&self) -> bool {
+        !self.whats.is_empty()
+    }
+
     fn take(&mut self) -> Result<Option<FrontWhat>, NoMemory>
         ensures what { IfOk result (λ what. what ≡ next_of self.old.whats) }
         ensures deeds { IfOk result (λ what. self.new.deeds ≡ self.old.deeds ++ taken what) }
@@ -81,6 +91,10 @@ impl Door for ListDoor {
     }
 
     fn wake(&mut self)
+        ensures { self.new ≡ self.old }
+    {}
+
+    fn flush(&mut self)
         ensures { self.new ≡ self.old }
     {}
 }

@@ -1,6 +1,6 @@
 //! What a worker does.
 
-ghost use Rattle.std.specs.Prelude.{◌≡◌, IfNone, IfOk, IfSome, OnOk, count_by};
+ghost use Rattle.std.specs.Prelude.{◌≡◌, ◌≤◌, false, IfNone, IfOk, IfSome, OnOk, count_by};
 ghost use Rattle.forward_run.specs.Front.{acts_on, after_deeds};
 ghost use Rattle.forward_workers.specs.Working.{GoesOn, HasWorked, WorkerDone};
 ghost use Rattle.front_shared.specs.Waiting.{for_any};
@@ -12,7 +12,7 @@ use client_core::Clock;
 use client_request::{Error, Words};
 use dns_base::NoMemory;
 use front_peers::{FrontEvent, FrontOut};
-use front_shared::{ForwarderKey, Pass, Receipt, SharedForwarder, is_for_any};
+use front_shared::{ForwarderKey, Held, Pass, Receipt, SharedForwarder, is_for_any};
 use std::sync::Wait;
 
 /// Sends an answer, if it is one by a datagram.
@@ -51,13 +51,12 @@ fn put_out<D: Door>(receipt: &Receipt, door: &mut D) -> Result<u64, NoMemory>
     Ok(count_for_any(receipt.row.outs.as_slice()) as u64)
 }
 
-/// One turn of a worker: what its door gives is an event of the forwarder at its clock's moment, and of that event's row it sends what is
-/// answered by datagrams. A row by which something begins to wait for the first thread wakes it. How many answers it sent, if it goes
-/// on: it ends with the history.
+/// One turn of a worker who holds the forwarder: what its door gives is an event of the forwarder at its clock's moment, and of that
+/// event's row it answers what is answered by datagrams. A row by which something begins to wait for the first thread wakes it. How
+/// many answers that were, if it goes on: it ends with the history.
 #[tactic(auto, using(crate::proofs::Workings::makes_row, crate::proofs::Workings::takes_nothing, crate::proofs::Workings::finds_end))]
-fn work<R: Wait, L: ForwarderKey, W: Words + Drop, D: Door + Drop, C: Clock + Drop>(
-    rt: &R,
-    shared: &SharedForwarder<L, W>,
+fn work<L: ForwarderKey, W: Words + Drop, D: Door + Drop, C: Clock + Drop>(
+    held: &mut Held<'_, L, W>,
     pass: &mut Pass<L>,
     worker: &mut Worker<D, C>,
 ) -> Result<Option<u64>, Error>
@@ -65,13 +64,13 @@ fn work<R: Wait, L: ForwarderKey, W: Words + Drop, D: Door + Drop, C: Clock + Dr
     ensures ends { IfOk result (λ r. IfNone r (HasWorked pass.old pass.new (D.deeds worker.old.door) (D.deeds worker.new.door) 0)) }
 {
     let Some(what) = worker.door.take()? else {
-        return Ok(if shared.has_ended(rt) { None } else { Some(0) });
+        return Ok(Some(0));
     };
     let event = FrontEvent {
         moment: worker.clock.now(),
         what,
     };
-    match shared.submit(rt, pass, event) {
+    match held.submit(pass, event) {
         Ok(receipt) => {
             let answered = put_out(&receipt, &mut worker.door)?;
             Ok(Some(answered))
@@ -81,7 +80,72 @@ fn work<R: Wait, L: ForwarderKey, W: Words + Drop, D: Door + Drop, C: Clock + Dr
     }
 }
 
-/// So many turns of a worker, or those up to the end of the history. How many answers it sent.
+/// What turns of a worker came to, one behind another.
+#[derive(Drop)]
+struct Turns {
+    /// How many they were.
+    made: u64,
+    /// How many answers they put out.
+    answered: u64,
+    /// Whether the history has ended.
+    at_end: bool,
+}
+
+/// Turns of a worker who holds the forwarder meanwhile, as long as its door has more, and at most so many.
+#[tactic(auto, using(crate::proofs::Workings::begins_to_work, crate::proofs::Workings::goes_on, crate::proofs::Workings::works_on, crate::proofs::Workings::has_worked))]
+fn work_held<L: ForwarderKey, W: Words + Drop, D: Door + Drop, C: Clock + Drop>(
+    held: Held<'_, L, W>,
+    most: u64,
+    pass: &mut Pass<L>,
+    worker: &mut Worker<D, C>,
+) -> Result<Turns, Error>
+    ensures worked { IfOk result (λ t. HasWorked pass.old pass.new (D.deeds worker.old.door) (D.deeds worker.new.door) t.answered) }
+    ensures goes_on { IfOk result (λ t. t.at_end ≡ false → GoesOn pass.old pass.new (D.deeds worker.old.door) (D.deeds worker.new.door) t.answered) }
+    ensures made { IfOk result (λ t. t.made ≤ most) }
+{
+    let mut held = held;
+    let mut turns = Turns {
+        made: 0,
+        answered: 0,
+        at_end: false,
+    };
+    while turns.made < most && worker.door.has_come() {
+        let Some(more) = work(&mut held, pass, worker)? else {
+            turns.at_end = true;
+            return Ok(turns);
+        };
+        let Some(answered) = turns.answered.checked_add(more) else {
+            return Err(Error::NumbersUsed);
+        };
+        turns.answered = answered;
+        turns.made += 1;
+    }
+    Ok(turns)
+}
+
+/// How many turns a worker makes at most while it holds the forwarder.
+const AT_ONCE: u64 = 32;
+
+/// Turns of a worker, at most so many: it waits until something has come, takes what has, and sends what it answered once others may
+/// hold the forwarder.
+fn work_once<R: Wait, L: ForwarderKey, W: Words + Drop, D: Door + Drop, C: Clock + Drop>(
+    rt: &R,
+    shared: &SharedForwarder<L, W>,
+    most: u64,
+    pass: &mut Pass<L>,
+    worker: &mut Worker<D, C>,
+) -> Result<Turns, Error>
+    ensures worked { IfOk result (λ t. HasWorked pass.old pass.new (D.deeds worker.old.door) (D.deeds worker.new.door) t.answered) }
+    ensures goes_on { IfOk result (λ t. t.at_end ≡ false → GoesOn pass.old pass.new (D.deeds worker.old.door) (D.deeds worker.new.door) t.answered) }
+    ensures made { IfOk result (λ t. t.made ≤ most) }
+{
+    worker.door.wait()?;
+    let turns = work_held(shared.hold(rt), most.min(AT_ONCE), pass, worker)?;
+    worker.door.flush();
+    Ok(turns)
+}
+
+/// So many turns of a worker, or those up to the end of the history; a wait by which nothing came is one. How many answers it put out.
 #[tactic(auto, using(crate::proofs::Workings::begins_to_work, crate::proofs::Workings::goes_on, crate::proofs::Workings::works_on, crate::proofs::Workings::has_worked))]
 fn work_on<R: Wait, L: ForwarderKey, W: Words + Drop, D: Door + Drop, C: Clock + Drop>(
     rt: &R,
@@ -95,16 +159,15 @@ fn work_on<R: Wait, L: ForwarderKey, W: Words + Drop, D: Door + Drop, C: Clock +
     let mut answered: u64 = 0;
     let mut left = turns;
     while left > 0 {
-        let more = match work(rt, shared, pass, worker) {
-            Ok(Some(more)) => more,
-            Ok(None) => return Ok(answered),
-            Err(error) => return Err(error),
-        };
-        let Some(sum) = answered.checked_add(more) else {
+        let more = work_once(rt, shared, left, pass, worker)?;
+        let Some(sum) = answered.checked_add(more.answered) else {
             return Err(Error::NumbersUsed);
         };
         answered = sum;
-        left -= 1;
+        if more.at_end || more.made == 0 && shared.has_ended(rt) {
+            return Ok(answered);
+        }
+        left -= more.made.max(1);
     }
     Ok(answered)
 }

@@ -17,4 +17,4 @@ pub use entry::{Entry, Item, Receipt};
 pub use handing::is_for_any;
 pub use key::{ForwarderKey, Opened};
 pub use pass::Pass;
-pub use shared::{Closed, SharedForwarder};
+pub use shared::{Closed, Held, SharedForwarder};

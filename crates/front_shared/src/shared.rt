@@ -16,7 +16,7 @@ use front_peers::FrontEvent;
 use joint_history::{Joint, Seat};
 use std::alloc::{AllocError, Global};
 use std::marker::{Model, PhantomData};
-use std::sync::{Mutex, Wait};
+use std::sync::{Mutex, MutexGuard, Wait};
 
 /// A forwarder that several threads share. What its callers did is one history, which proofs know.
 #[derive(Drop)]
@@ -43,6 +43,14 @@ impl<L: ForwarderKey, W: Words + Drop> Model for SharedForwarder<L, W> {
 pub struct Closed<L: ForwarderKey, W: Words + Drop> {
     joint: Joint<Item>,
     desk: Desk<L, W>,
+    ghost same: { word_of joint ≡ L.table },
+}
+
+/// A forwarder that a caller holds, for calls between which no other caller has one.
+#[derive(Drop)]
+pub struct Held<'a, L: ForwarderKey, W: Words + Drop> {
+    joint: &'a Joint<Item>,
+    desk: MutexGuard<'a, Desk<L, W>>,
     ghost same: { word_of joint ≡ L.table },
 }
 
@@ -128,6 +136,14 @@ impl<L: ForwarderKey, W: Words + Drop> SharedForwarder<L, W> {
         self.desk.lock(rt).submit(&self.joint, pass, event)
     }
 
+    /// Holds the forwarder, once no other call is at it: until what this gives is dropped, no other caller is.
+    pub fn hold<R: Wait>(&self, rt: &R) -> Held<'_, L, W> {
+        Held {
+            joint: &self.joint,
+            desk: self.desk.lock(rt),
+        }
+    }
+
     /// Ends the history: each later call of any caller answers `Failed`.
     pub fn end<R: Wait>(&self, rt: &R, pass: &mut Pass<L>)
         ensures { IsBehind pass.old pass.new }
@@ -157,6 +173,18 @@ impl<L: ForwarderKey, W: Words + Drop> SharedForwarder<L, W> {
             joint,
             desk: desk.into_inner(),
         }
+    }
+}
+
+impl<'a, L: ForwarderKey, W: Words + Drop> Held<'a, L, W> {
+    /// The same as `SharedForwarder::submit`.
+    pub fn submit(&mut self, pass: &mut Pass<L>, event: FrontEvent) -> Result<Receipt, Error>
+        ensures ok { IfOk result (λ r. IsSubmitted pass.old pass.new event r) }
+        ensures behind { IsErrOf result Error.Failed → IsBehind pass.old pass.new }
+        ensures refused { IfErr result (λ e. e ≢ Error.Failed → IsWant e × (IsFull pass.old pass.new ⊎ IsEnded pass.old pass.new)) }
+        ensures memory { IsErrOf result Error.NoMemory → IsEnded pass.old pass.new }
+    {
+        self.desk.submit(self.joint, pass, event)
     }
 }
 

@@ -24,6 +24,14 @@ pub struct CountedDoor<'a> {
 impl<'a> Door for CountedDoor<'a> {
     ghost deeds = { λ _. None };
 
+    fn wait(&mut self) -> Result<(), NoMemory> {
+        self.over.wait()
+    }
+
+    fn has_come(&self) -> bool {
+        self.over.has_come()
+    }
+
     fn take(&mut self) -> Result<Option<FrontWhat>, NoMemory> {
         self.over.take()
     }
@@ -35,6 +43,8 @@ impl<'a> Door for CountedDoor<'a> {
     }
 
     fn wake(&mut self) {}
+
+    fn flush(&mut self) {}
 }
 
 /// A front that waits until so many answers were sent.

@@ -4,7 +4,7 @@
 //! What stands here adapts: of what the system gives, and of what becomes of what it is handed, no clause speaks.
 //!
 //! ```text
-//! let common = Common::new(alloc, doors)?;
+//! let common = Common::new(&threads, alloc, doors)?;
 //! let mut front = SharedFront::new(rt, alloc, addresses, &common);
 //! let door = SystemDoor::new(rt, alloc, &common, at, number)?;
 //! ```

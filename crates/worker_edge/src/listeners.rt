@@ -8,11 +8,7 @@ use dns_values::SocketAddr;
 use front_edge::{OpenListeners, SystemListeners, SystemStreams};
 use std::net::{Ipv4Addr, Net, SocketAddrV4, TcpListener, TcpStream, UdpSocket};
 use std::sync::Wait;
-use std::time::Duration;
 use std::{io, net};
-
-/// The longest time for which a worker sleeps at a socket, in seconds.
-const MOST_SLEEP: u64 = 1;
 
 /// Opens listeners of the system: for datagrams one that workers share, in place of which whoever waits at the front has one that wakes
 /// it.
@@ -37,23 +33,20 @@ impl<'a, T: Wait, R: Net<Listener = TcpListener, Stream = TcpStream> + Copy> Sha
         }
     }
 
-    /// A socket at which workers sleep, but not for ever.
-    fn bound(&self, addr: SocketAddr) -> io::Result<UdpSocket> {
-        let socket = UdpSocket::bind(&self.rt, system_address(addr))?;
-        socket.set_read_timeout(Some(Duration::from_secs(MOST_SLEEP)))?;
+    /// A socket that does not wait.
+    fn bound(&self, addr: net::SocketAddr) -> io::Result<UdpSocket> {
+        let socket = UdpSocket::bind(&self.rt, addr)?;
+        socket.set_nonblocking(true)?;
         Ok(socket)
     }
 
     /// A socket of this host at a port that the system picks, which does not wait.
     fn local(&self) -> io::Result<UdpSocket> {
-        let local = net::SocketAddr::V4(SocketAddrV4::new(Ipv4Addr::new(127, 0, 0, 1), 0));
-        let socket = UdpSocket::bind(&self.rt, local)?;
-        socket.set_nonblocking(true)?;
-        Ok(socket)
+        self.bound(net::SocketAddr::V4(SocketAddrV4::new(Ipv4Addr::new(127, 0, 0, 1), 0)))
     }
 
     fn opened(&self, addr: SocketAddr) -> io::Result<(SharedSocket, WakeDgrams)> {
-        let socket = self.bound(addr)?;
+        let socket = self.bound(system_address(addr))?;
         let woken = self.local()?;
         let waking = self.local()?;
         waking.connect(woken.local_addr()?)?;

@@ -2,11 +2,18 @@
 
 use crate::common::Common;
 use client_edge::system_address;
-use dns_values::NoMemory;
+use dns_values::{NoMemory, Octets};
 use listener_peers::Sender;
 use std::alloc::Global;
 use std::net::UdpSocket;
 use std::sync::Wait;
+
+/// An answer that lies here.
+#[derive(Drop)]
+struct Unsent {
+    peer: u64,
+    octets: Octets,
+}
 
 /// Sends answers, each by the socket at which its query came. The sockets are asked for once there is one.
 #[derive(Drop)]
@@ -14,6 +21,7 @@ pub(crate) struct Post<'a, T: Wait> {
     alloc: Global,
     common: &'a Common<'a, T>,
     sockets: Vec<UdpSocket>,
+    unsent: Vec<Unsent>,
 }
 
 impl<'a, T: Wait> Post<'a, T> {
@@ -22,6 +30,7 @@ impl<'a, T: Wait> Post<'a, T> {
             alloc,
             common,
             sockets: Vec::new(alloc),
+            unsent: Vec::new(alloc),
         }
     }
 
@@ -35,14 +44,35 @@ impl<'a, T: Wait> Post<'a, T> {
 
     /// Sends octets to a peer of datagrams, once: its sender is forgotten then.
     pub(crate) fn answer(&mut self, peer: u64, octets: &[u8]) -> Result<(), NoMemory> {
+        if self.sockets.is_empty() {
+            self.sockets = self.common.sockets(self.alloc)?;
+        }
+        self.send(peer, octets);
+        Ok(())
+    }
+
+    /// Octets for a peer of datagrams, which lie here until they are sent.
+    pub(crate) fn put(&mut self, peer: u64, octets: Octets) -> Result<(), NoMemory> {
+        self.unsent.push(Unsent { peer, octets })?;
+        Ok(())
+    }
+
+    /// Sends all that lies here, in order.
+    pub(crate) fn flush(&mut self) {
+        for Unsent { peer, octets } in &self.unsent {
+            self.send(*peer, octets.as_slice());
+        }
+        self.unsent.clear();
+    }
+
+    fn send(&self, peer: u64, octets: &[u8]) {
         let Some(Sender { door, from }) = self.common.take(peer) else {
-            return Ok(());
+            return;
         };
-        if let Some(socket) = self.socket(door)? {
+        if let Some(socket) = self.sockets.get(door) {
             match socket.send_to(octets, system_address(from)) {
                 Ok(_) | Err(_) => {}
             }
         }
-        Ok(())
     }
 }
