@@ -104,23 +104,27 @@ fn work_held<L: ForwarderKey, W: Words + Drop, D: Door + Drop, C: Clock + Drop>(
     ensures made { IfOk result (λ t. t.made ≤ most) }
 {
     let mut held = held;
-    let mut turns = Turns {
-        made: 0,
-        answered: 0,
-        at_end: false,
-    };
-    while turns.made < most && worker.door.has_come() {
+    let mut answered: u64 = 0;
+    let mut left = most;
+    while left > 0 && worker.door.has_come() {
         let Some(more) = work(&mut held, pass, worker)? else {
-            turns.at_end = true;
-            return Ok(turns);
+            return Ok(Turns {
+                made: most - left,
+                answered,
+                at_end: true,
+            });
         };
-        let Some(answered) = turns.answered.checked_add(more) else {
+        let Some(sum) = answered.checked_add(more) else {
             return Err(Error::NumbersUsed);
         };
-        turns.answered = answered;
-        turns.made += 1;
+        answered = sum;
+        left -= 1;
     }
-    Ok(turns)
+    Ok(Turns {
+        made: most - left,
+        answered,
+        at_end: false,
+    })
 }
 
 /// How many turns a worker makes at most while it holds the forwarder.
