@@ -10,6 +10,7 @@ use Rattle.front_steps.specs.Steps.{Forwarding}
 use Rattle.forward_workers.specs.Turning.{IsFirstOf}
 use Rattle.forward_workers.specs.Working.{IsWorkerOf}
 use Rattle.forward_workers.specs.declared.crew.Done.{Done}
+use Rattle.forward_workers.specs.declared.crew.Crew.{Crew}
 use Rattle.forward_workers.specs.declared.crew.First.{First}
 use Rattle.forward_workers.specs.declared.crew.Lane.{Lane}
 use Rattle.forward_workers.specs.declared.crew.Worker.{Worker}
@@ -22,6 +23,15 @@ pub record World : Type 0 where
 -- what those tell that a first thread and workers have
 abbrev pub world_of : {F D C : Type 0} → (F → Option (List FrontDeed)) → (D → Option (List FrontDeed)) → First F C → List (Worker D C) → World
 world_of front door first workers = record { front = front first.front; doors = map (λ w. door w.door) workers }
+
+-- this is so of what those tell before and after
+abbrev pub amid : {F D C : Type 0} → (F → Option (List FrontDeed)) → (D → Option (List FrontDeed)) → (first : First F C) → (workers : List (Worker D C)) → (later : First F C) → (later_workers : List (Worker D C))
+    → (World → World → Type 0) → Type 0
+amid front door first workers later later_workers P = P (world_of front door first workers) (world_of front door later later_workers)
+
+-- the same of a crew
+abbrev pub amid_crew : {F D C : Type 0} → (F → Option (List FrontDeed)) → (D → Option (List FrontDeed)) → (before after : Crew F D C) → (World → World → Type 0) → Type 0
+amid_crew front door before after P = amid front door before.first before.workers.items after.first after.workers.items P
 
 -- the rows of a caller in a history, each with its place
 abbrev pub rows_by : (caller : ℕ) → List Item → List (ℕ × FrontRow)

@@ -8,7 +8,7 @@ ghost use Rattle.command_parts.specs.Ends.{IsSaid, line_of, status_of};
 ghost use Rattle.forward_run.specs.Serving.{IfAsked, IsDeaf, IsEndOfSource, IsNotListenedBy, IsNotListenedIf, IsServeEnd, IsSilent, RefusalIsSaid, numbers_line};
 ghost use Rattle.forward_words.specs.Words.{asked_by};
 ghost use Rattle.forward_workers.specs.Served.{IsAnsweredIf, IsCutBy, IsDoneBy, IsServed};
-ghost use Rattle.forward_workers.specs.Sharing.{IsShared, world_of};
+ghost use Rattle.forward_workers.specs.Sharing.{IsShared, amid, amid_crew, world_of};
 
 use crate::crew::{Came, Crew, First, Worker};
 use crate::door::Door;
@@ -133,7 +133,7 @@ fn serve_source<
     crew: Crew<F, D, C>,
 ) -> (First<F, C>, Result<Written<D, C>, Ending>)
     requires count { length crew.workers.items + 1 < 2 ^ 32 }
-    ensures done { IfOk result.1 (λ w. IsAnsweredIf options.now asked (S.left source.old) (W.stream rng) w.line.items (world_of F.deeds D.deeds crew.first crew.workers.items) (world_of F.deeds D.deeds result.0 w.workers.items)) }
+    ensures done { IfOk result.1 (λ w. amid F.deeds D.deeds crew.first crew.workers.items result.0 w.workers.items (IsAnsweredIf options.now asked (S.left source.old) (W.stream rng) w.line.items)) }
     ensures source_fault { IfErr result.1 (λ e. status_of e ≡ 3 → Rose (S.faults source.old) (S.faults source.new)) }
     ensures refused { IfErr result.1 (λ e. status_of e ≡ 1 → IfSome (S.left source.old) (λ text. IsConfRefused text (line_of e))) }
     ensures deaf { IfErr result.1 (λ e. status_of e ≡ 5 → IsNotListenedIf options.now asked.port (S.left source.old) (W.stream rng) (F.faults crew.first.front) (F.faults result.0.front)) }
@@ -182,11 +182,11 @@ pub fn serve_by_all<
     requires count { length crew.workers.items + 1 < 2 ^ 32 }
     ensures usage { result.0.0 ≡ 2 → asked_by words.now ≡ None }
     ensures no_command { asked_by words.now ≡ None → result.0.0 ≡ 2 }
-    ensures done { result.0.0 ≡ 0 → IsDoneBy K.held options.now words.now (S.left source.old) (W.stream rng) sink.old sink.new (world_of F.deeds D.deeds crew.first crew.workers.items) (world_of F.deeds D.deeds result.1.first result.1.workers.items) }
+    ensures done { result.0.0 ≡ 0 → amid_crew F.deeds D.deeds crew result.1 (IsDoneBy K.held options.now words.now (S.left source.old) (W.stream rng) sink.old sink.new) }
     ensures flushed { result.0.0 ≡ 0 → IsFlushed (K.held sink.new) (K.flushed sink.new) }
     ensures refused { result.0.0 ≡ 1 → IfAsked words.now (S.left source.old) (λ asked text. RefusalIsSaid text (K.held sink.old) (K.held sink.new) (K.faults sink.old) (K.faults sink.new)) }
     ensures source_fault { result.0.0 ≡ 3 → Rose (S.faults source.old) (S.faults source.new) }
-    ensures cut { result.0.0 ≡ 4 → IsCutBy K.held options.now words.now (S.left source.old) (W.stream rng) sink.old sink.new (world_of F.deeds D.deeds crew.first crew.workers.items) (world_of F.deeds D.deeds result.1.first result.1.workers.items) }
+    ensures cut { result.0.0 ≡ 4 → amid_crew F.deeds D.deeds crew result.1 (IsCutBy K.held options.now words.now (S.left source.old) (W.stream rng) sink.old sink.new) }
     ensures sink_fault { result.0.0 ≡ 4 → Rose (K.faults sink.old) (K.faults sink.new) }
     ensures deaf { result.0.0 ≡ 5 → IsNotListenedBy options.now words.now (S.left source.old) (W.stream rng) (F.faults crew.first.front) (F.faults result.1.first.front) }
     ensures silent { IsSilent result.0.0 → K.held sink.new ≡ K.held sink.old }
