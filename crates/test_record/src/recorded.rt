@@ -1,6 +1,6 @@
 //! A client that is recorded.
 
-use client_core::Client;
+use client_core::{Client, Event};
 use client_request::ListWords;
 use dns_base::NoMemory;
 use dns_record::{Ahead, Ended, Recorder};
@@ -20,6 +20,20 @@ at 20000 datagram 0 123481800001000100000000076578616d706c6503636f6d0000010001c0
 /// The one word of the script.
 const AHEAD: Ahead = Ahead { count: 1, few: 0 };
 
+/// A client takes these events, while it is recorded.
+fn take(
+    recorder: &mut Recorder,
+    client: &mut Client,
+    words: &mut ListWords,
+    sink: &mut MemSink,
+    events: Vec<Event>,
+) -> Result<(), Fail> {
+    for event in events {
+        let _row = recorder.step(client, words, sink, event)?;
+    }
+    Ok(())
+}
+
 /// The text that is recorded of a client that takes the events of a script.
 fn recorded(alloc: Global, script: Script, sink: &mut MemSink) -> Result<Option<Ended>, Fail> {
     let Script {
@@ -34,9 +48,13 @@ fn recorded(alloc: Global, script: Script, sink: &mut MemSink) -> Result<Option<
     let mut recorder = begun.map_err(|_| NoMemory)?;
     let mut client = Client::new(alloc, &conf, redundant, cache)?;
     for lane in lanes.into_vec() {
-        for event in lane.into_vec() {
-            let _row = recorder.step(&mut client, &mut words, sink, event)?;
-        }
+        take(
+            &mut recorder,
+            &mut client,
+            &mut words,
+            sink,
+            lane.into_vec(),
+        )?;
     }
     Ok(recorder.ended())
 }

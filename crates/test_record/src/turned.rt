@@ -76,30 +76,86 @@ fn begun(
     Ok((client, recorder))
 }
 
-/// The trace of a client that is asked and then turned twice, while it is recorded.
-fn live(alloc: Global, ahead: Ahead, sink: &mut MemSink) -> Result<Vec<u8>, Fail> {
+/// A client that is recorded, with what it is turned over.
+#[derive(Drop)]
+struct Scene {
+    client: Client,
+    recorder: Recorder,
+    words: ListWords,
+    edge: ListEdge,
+    clock: ListClock,
+}
+
+fn edge_and_clock(alloc: Global) -> Result<(ListEdge, ListClock), Fail> {
+    let edge = answered(alloc)?;
+    Ok((edge, clock(alloc)?))
+}
+
+/// A client whose record has begun.
+fn scene(alloc: Global, sink: &mut MemSink) -> Result<Scene, Fail> {
     let mut words = words(alloc)?;
-    let (mut client, mut recorder) = begun(alloc, ahead, &mut words, sink)?;
-    let (mut edge, mut clock) = (answered(alloc)?, clock(alloc)?);
-    let mut rows = Rows::new(alloc);
+    let (client, recorder) = begun(alloc, Ahead { count: 3, few: 1 }, &mut words, sink)?;
+    let (edge, clock) = edge_and_clock(alloc)?;
+    Ok(Scene {
+        client,
+        recorder,
+        words,
+        edge,
+        clock,
+    })
+}
+
+/// It is asked by hand.
+fn step(alloc: Global, scene: &mut Scene, sink: &mut MemSink, rows: &mut Rows) -> Result<(), Fail> {
     let event = Event {
         moment: Moment(0),
         what: What::Ask {
             request: request(alloc)?,
         },
     };
-    rows.push(recorder.step(&mut client, &mut words, sink, event)?)?;
+    rows.push(
+        scene
+            .recorder
+            .step(&mut scene.client, &mut scene.words, sink, event)?,
+    )?;
+    Ok(())
+}
+
+/// It is turned once.
+fn turn(scene: &mut Scene, sink: &mut MemSink, rows: &mut Rows) -> Result<(), Fail> {
+    rows.push(recorded_turn(
+        &mut scene.client,
+        &mut scene.edge,
+        &mut scene.clock,
+        &mut scene.words,
+        &mut scene.recorder,
+        sink,
+    )?)?;
+    Ok(())
+}
+
+/// The trace of a client that is asked and then turned twice, while it is recorded.
+fn live(alloc: Global, sink: &mut MemSink) -> Result<Vec<u8>, Fail> {
+    let mut scene = scene(alloc, sink)?;
+    let mut rows = Rows::new(alloc);
+    step(alloc, &mut scene, sink, &mut rows)?;
     for _ in 0..2u32 {
-        rows.push(recorded_turn(
-            &mut client,
-            &mut edge,
-            &mut clock,
-            &mut words,
-            &mut recorder,
-            sink,
-        )?)?;
+        turn(&mut scene, sink, &mut rows)?;
     }
     Ok(trace_text(alloc, &Trace { rows })?)
+}
+
+/// One client's answer to these events.
+fn replay(
+    client: &mut Client,
+    words: &mut ListWords,
+    events: Vec<Event>,
+    rows: &mut Rows,
+) -> Result<(), Fail> {
+    for event in events {
+        rows.push(client.step(words, event)?)?;
+    }
+    Ok(())
 }
 
 /// The trace of a replay of what was recorded.
@@ -115,9 +171,7 @@ fn replayed(alloc: Global, sink: &MemSink) -> Result<Vec<u8>, Fail> {
     let mut words = ListWords::new(words);
     let mut rows = Rows::new(alloc);
     for lane in lanes.into_vec() {
-        for event in lane.into_vec() {
-            rows.push(client.step(&mut words, event)?)?;
-        }
+        replay(&mut client, &mut words, lane.into_vec(), &mut rows)?;
     }
     Ok(trace_text(alloc, &Trace { rows })?)
 }
@@ -130,41 +184,51 @@ fn sink(alloc: Global) -> MemSink {
 fn a_replay_is_what_was_put_out(rt: HostRuntime) -> Result<(), Fail> {
     let alloc = rt.alloc();
     let mut sink = sink(alloc);
-    let put_out = live(alloc, Ahead { count: 3, few: 1 }, &mut sink)?;
+    let put_out = live(alloc, &mut sink)?;
     let again = replayed(alloc, &sink)?;
     assert!(rt; put_out.as_slice() == again.as_slice() && put_out.len() > 400);
     Ok(())
+}
+
+/// Whether a lookup has the answer as its reply, and its record ended by a fault of the sink, with two events behind it.
+fn is_answered(alloc: Global, sink: &mut MemSink) -> Result<bool, Fail> {
+    let Scene {
+        mut client,
+        mut recorder,
+        words: _,
+        mut edge,
+        mut clock,
+    } = scene(alloc, sink)?;
+    let request = request(alloc)?;
+    let reply = recorded_ask(
+        &mut client,
+        &mut edge,
+        &mut clock,
+        &mut recorder,
+        sink,
+        0,
+        request,
+    )?;
+    let is_answer = match &reply {
+        Some(Ok(message)) => message.as_slice() == ANSWER.as_slice(),
+        _ => false,
+    };
+    Ok(is_answer && recorder.ended() == Some(Ended::SinkFailed) && recorder.lost() == 2)
+}
+
+/// A sink of which this write fails, counted from 0.
+fn failing_sink(alloc: Global, write: u64) -> Result<MemSink, Fail> {
+    let mut fails = Vec::new(alloc);
+    fails.push(write)?;
+    Ok(MemSink::new(alloc, fails, Vec::new(alloc)))
 }
 
 #[test]
 fn a_lookup_goes_on_behind_the_end(rt: HostRuntime) -> Result<(), Fail> {
     let alloc = rt.alloc();
     // What stands before the first event is the first write, and the second event the third.
-    let mut fails = Vec::new(alloc);
-    fails.push(2)?;
-    let mut sink = MemSink::new(alloc, fails, Vec::new(alloc));
-    let mut words = words(alloc)?;
-    let (mut client, mut recorder) = begun(
-        alloc,
-        Ahead { count: 3, few: 1 },
-        &mut words,
-        &mut sink,
-    )?;
-    let (mut edge, mut clock) = (answered(alloc)?, clock(alloc)?);
-    let reply = recorded_ask(
-        &mut client,
-        &mut edge,
-        &mut clock,
-        &mut recorder,
-        &mut sink,
-        0,
-        request(alloc)?,
-    )?;
-    let is_answer = match &reply {
-        Some(Ok(message)) => message.as_slice() == ANSWER.as_slice(),
-        _ => false,
-    };
-    assert!(rt; is_answer && recorder.ended() == Some(Ended::SinkFailed) && recorder.lost() == 2);
+    let mut sink = failing_sink(alloc, 2)?;
+    assert!(rt; is_answered(alloc, &mut sink)?);
     let again = replayed(alloc, &sink)?;
     assert!(rt; again.len() > 100);
     Ok(())
