@@ -62,9 +62,9 @@ fn opens(deed: &FrontDeed) -> bool {
     )
 }
 
-/// The status of a run of two workers and one turn of the first thread, what is written, and how many sockets the front opened.
+/// The status of a run of two workers, two turns each, what is written, and how many sockets the front opened.
 fn run<R: Threads + Wait + Sync>(rt: &R, alloc: Global) -> Option<(u8, bool, usize)> {
-    let words = words_of(alloc, "--workers 2 53 1").ok()?;
+    let words = words_of(alloc, "--workers 2 53 2").ok()?;
     let (options, rest) = options_of(alloc, &words).ok()?;
     let text = Octets::from_slice(alloc, b"nameserver 192.0.2.53").ok()?;
     let mut source = MemSource::new(text, Vec::new(alloc));
