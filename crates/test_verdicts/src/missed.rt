@@ -38,48 +38,97 @@ const FAILED: &str = "> reply 1 err Dgram Connect refused\n";
 const VIEW: &str =
     "> reply 1 ok 123481800001000100000000076578616d706c6503636f6d0000010001076578616d706c6503636f6d0000010001000000460004c0000201\n";
 
-/// The words, how long what has expired may serve, the last events and the outs of each, the status, and what is written.
+/// What it says when it has expired.
+const STALE: &str = "> stale 1\n\
+> reply 1 ok 123481800001000100000000076578616d706c6503636f6d0000010001076578616d706c6503636f6d00000100010000001e0004c0000201\n";
+
+const OTHER: &str =
+    "at 20100 ask 000001000001000000000000076578616d706c65036f72670000010001 00000100 -\n";
+
+const OTHER_REFUSED: &str = "at 20200 open-failed 1 refused\n";
+
+const THIRD: &str = "> start 2 0 dgram\n\
+> open-dgram 2 0\n";
+
+const NOTHING: (&str, &str) = ("", "");
+
+/// The words, a setting, the version of the trace, the last events and the outs of each, the status, and what is written.
 type Case = (
     &'static [&'static str],
-    u64,
-    [(&'static str, &'static str); 2],
+    &'static str,
+    u8,
+    [(&'static str, &'static str); 3],
     u8,
     &'static str,
 );
 
-const CASES: [Case; 5] = [
+const ALL: &[&str] = &["--all", "script", "trace"];
+
+const CASES: [Case; 8] = [
     (
-        &["--all", "script", "trace"],
-        0,
-        [(SOON, ANEW), ("", "")],
+        ALL,
+        "stale-for 0",
+        1,
+        [(SOON, ANEW), NOTHING, NOTHING],
         5,
         "missed hit row 3\n",
     ),
     (
         &["--timely", "script", "trace"],
-        0,
-        [(SOON, ANEW), ("", "")],
+        "stale-for 0",
+        1,
+        [(SOON, ANEW), NOTHING, NOTHING],
         0,
         "right\n",
     ),
     (
-        &["--all", "script", "trace"],
-        0,
-        [(SOON, VIEW), ("", "")],
+        ALL,
+        "stale-for 0",
+        1,
+        [(SOON, VIEW), NOTHING, NOTHING],
         0,
         "right\n",
     ),
+    // One request and one reply between count for four entries.
+    (
+        ALL,
+        "max-cache-entries 5",
+        1,
+        [(OTHER, ANEW), (OTHER_REFUSED, FAILED), (SOON, THIRD)],
+        5,
+        "missed hit row 5\n",
+    ),
+    (
+        ALL,
+        "max-cache-entries 4",
+        1,
+        [(OTHER, ANEW), (OTHER_REFUSED, FAILED), (SOON, THIRD)],
+        0,
+        "right\n",
+    ),
+    // The error of the server is given in a row behind that of the asking.
     (
         &["--explain", "--all", "script", "trace"],
-        3600,
-        [(LATER, ANEW), (REFUSED, FAILED)],
+        "stale-for 3600",
+        1,
+        [(LATER, ANEW), (REFUSED, FAILED), NOTHING],
         5,
         "missed stale row 3\n",
     ),
     (
-        &["--all", "script", "trace"],
-        30,
-        [(LATER, ANEW), (REFUSED, FAILED)],
+        ALL,
+        "stale-for 3600",
+        2,
+        [(LATER, ANEW), (REFUSED, STALE), NOTHING],
+        0,
+        "right\n",
+    ),
+    // The answer may serve no longer.
+    (
+        ALL,
+        "stale-for 30",
+        1,
+        [(LATER, ANEW), (REFUSED, FAILED), NOTHING],
         0,
         "right\n",
     ),
@@ -87,12 +136,13 @@ const CASES: [Case; 5] = [
 
 #[test]
 fn what_is_missed_is_told(rt: HostRuntime) -> Result<(), Fail> {
-    for (words, seconds, [(first, outs), (second, more)], status, line) in CASES {
+    for (words, setting, version, events, status, line) in CASES {
+        let [(first, outs), (second, more), (third, last)] = events;
         let script = format!(in rt.alloc();
-            "conf nameserver 192.0.2.53\nset stale-for {seconds}\n{ASKED}{OPENED}{ANSWERED}{first}{second}"
+            "conf nameserver 192.0.2.53\nset {setting}\n{ASKED}{OPENED}{ANSWERED}{first}{second}{third}"
         )?;
         let trace = format!(in rt.alloc();
-            "trace 1\n{ASKED}{SENT}{OPENED}{WRITTEN}{ANSWERED}{GIVEN}{first}{outs}{second}{more}end\n"
+            "trace {version}\n{ASKED}{SENT}{OPENED}{WRITTEN}{ANSWERED}{GIVEN}{first}{outs}{second}{more}{third}{last}end\n"
         )?;
         let script = source(rt.alloc(), script.as_str(), 99)?;
         let trace = source(rt.alloc(), trace.as_str(), 99)?;
