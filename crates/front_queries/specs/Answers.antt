@@ -1,5 +1,5 @@
 -- Answers to queries that are taken.
-use Rattle.std.specs.Prelude.{ℕ, ◌/◌, ◌%◌, ◌==◌, ◌&&◌, not, max, min, nat_le, is_some, Bool, true, false, List, ◌∷◌, length, Option, None, option_map, Result, Ok, Err, if◌then◌else◌}
+use Rattle.std.specs.Prelude.{ℕ, ◌/◌, ◌%◌, ◌==◌, ◌&&◌, not, max, min, nat_le, nat_lt, is_some, Bool, true, false, List, ◌∷◌, length, Option, None, option_map, Result, Ok, Err, if◌then◌else◌}
 use Rattle.std.specs.Option.{option_map_or}
 use Rattle.dns_values.specs.declared.numbers.Section.TheVariants.{Answer, Authority, Additional}
 use Rattle.dns_names.specs.Name.{Labels}
@@ -76,10 +76,23 @@ truncated q answer = spelled (with_tc true (header_of answer)) q.asked (opt_for 
 abbrev pub fitting : Query → (answer : List ℕ) → List ℕ
 fitting q answer = if nat_le (length answer) (most_octets q) then answer else truncated q answer
 
+-- Of a reply of more than 4096 octets no more than its header and OPT record is read for a datagram: what it says would be cut off again.
+abbrev pub is_cut : Query → (reply : List ℕ) → Bool
+is_cut q reply = nat_lt 4096 (length reply) && not (is_untold q reply)
+
+-- what such a reply is answered by a datagram: its header under the query's id with TC, the question, and the OPT record
+abbrev pub cut : Query → (reply : List ℕ) → List ℕ
+cut q reply = spelled (with_tc true (with_id (id_of q.header) (header_of reply))) q.asked (opt_for q (high_bits reply))
+
+-- the answer as a datagram
+abbrev pub by_datagram : Query → (reply : Result (List ℕ) Error) → List ℕ
+by_datagram q (Ok message) = if is_cut q message then cut q message else fitting q (answer_of q (Ok message))
+by_datagram q (Err error) = fitting q (failed q)
+
 -- a message behind its two octets of length (RFC 1035 4.2.2)
 abbrev pub framed : List ℕ → List ℕ
 framed message = length message / 256 % 256 ∷ length message % 256 ∷ message
 
 -- the octets that answer a query: behind those of others by a stream, or as a datagram
 abbrev pub answer_to : Query → (by_stream : Bool) → (reply : Result (List ℕ) Error) → List ℕ
-answer_to q by_stream reply = if by_stream then framed (answer_of q reply) else fitting q (answer_of q reply)
+answer_to q by_stream reply = if by_stream then framed (answer_of q reply) else by_datagram q reply

@@ -1,7 +1,8 @@
 //! Answers to queries that are taken.
 
-ghost use Rattle.std.specs.Prelude.{◌≡◌, ◌≤◌, ◌<◌, IfOk, Ok, Some, length};
+ghost use Rattle.std.specs.Prelude.{◌≡◌, ◌≤◌, ◌<◌, true, IfOk, Ok, Some, length};
 ghost use Rattle.dns_base.specs.Draft.{counts_in};
+ghost use Rattle.dns_base.specs.Header.{with_tc};
 ghost use Rattle.dns_base.specs.Sections.{HasNoRecords};
 ghost use Rattle.client_request.specs.Composed.{IsCopied};
 ghost use Rattle.client_request.specs.Composing.{IsComposed};
@@ -10,7 +11,7 @@ ghost use Rattle.front_queries.specs.Simple.{simple_of};
 
 use crate::copying::{add_opt, copy_questions, copy_section};
 use crate::query::Query;
-use crate::simple::{Simple, is_answered, patched, simple_of};
+use crate::simple::{Simple, header_for, is_answered, patched, simple_of};
 use crate::spelling::{PAYLOAD_SIZE, bare, own_opt, spelled, spelled_message};
 use client_request::{CopyRecordsError, Error};
 use dns_base::{Builder, Header, Message, NoMemory, Octets, OptRecord, Rcode, Section};
@@ -18,6 +19,9 @@ use std::alloc::Global;
 
 /// The most octets of a message (RFC 1035 4.2.2).
 const MOST: usize = 65535;
+
+/// The most octets of a reply that is looked through for a datagram.
+const MOST_READ: usize = 4096;
 
 /// The least octets of a datagram that each client takes (RFC 6891 6.2.3).
 const LEAST_PAYLOAD_SIZE: u16 = 512;
@@ -166,12 +170,20 @@ fn most_octets(query: &Query) -> u16
     taken.max(LEAST_PAYLOAD_SIZE).min(PAYLOAD_SIZE)
 }
 
+/// The header of what is cut.
+fn truncating(header: Header) -> Header
+    ensures { result ≡ with_tc true header }
+{
+    let mut header = header;
+    header.set_tc(true);
+    header
+}
+
 /// What is left of an answer that is too long for a datagram.
 fn truncated(alloc: Global, query: &Query, answer: &Message) -> Result<Octets, NoMemory>
     ensures { IfOk result (λ o. o ≡ spec.truncated query.now answer.now) }
 {
-    let mut header = answer.header();
-    header.set_tc(true);
+    let header = truncating(answer.header());
     spelled(alloc, header, query, opt_for(query, high_bits(answer)))
 }
 
@@ -184,6 +196,38 @@ fn fitting(alloc: Global, query: &Query, answer: Message) -> Result<Octets, NoMe
     } else {
         truncated(alloc, query, &answer)
     }
+}
+
+/// Whether a reply is too long to be looked through for a datagram.
+fn is_cut(query: &Query, reply: &Message) -> bool
+    ensures { result ≡ spec.is_cut query.now reply.now }
+{
+    reply.as_slice().len() > MOST_READ && !is_untold(query, reply)
+}
+
+/// What such a reply is answered by a datagram.
+fn cut(alloc: Global, query: &Query, reply: &Message) -> Result<Octets, NoMemory>
+    ensures { IfOk result (λ o. o ≡ spec.cut query.now reply.now) }
+{
+    let header = truncating(header_for(query, reply));
+    spelled(alloc, header, query, opt_for(query, high_bits(reply)))
+}
+
+/// The datagram that answers a query whose request had this reply.
+fn by_datagram(
+    alloc: Global,
+    query: &Query,
+    reply: &Result<Message, Error>,
+) -> Result<Octets, NoMemory>
+    ensures { IfOk result (λ o. o ≡ spec.by_datagram query.now reply.now) }
+{
+    if let Ok(message) = reply {
+        if is_cut(query, message) {
+            return cut(alloc, query, message);
+        }
+    }
+    let answer = answer_of(alloc, query, reply)?;
+    fitting(alloc, query, answer)
 }
 
 /// A message behind its two octets of length, as a stream has it (RFC 1035 4.2.2).
@@ -204,7 +248,7 @@ pub fn framed(alloc: Global, message: &[u8]) -> Result<Octets, NoMemory>
 /// 6.1.1, 7; RFC 7873 4). SERVFAIL is answered where there is no reply, where it can't be read or is longer than 65535
 /// octets, and where its code has high bits and the query has no OPT record. A datagram has at most the octets that the
 /// client takes, 512 at least and 1232 at most; of a longer answer its header with TC, the question and the OPT record
-/// are left (RFC 2181 9).
+/// are left (RFC 2181 9), and so of each to a reply of more than 4096 octets, which is not composed for that.
 pub fn answer_to(
     alloc: Global,
     query: &Query,
@@ -213,11 +257,11 @@ pub fn answer_to(
 ) -> Result<Octets, NoMemory>
     ensures { IfOk result (λ o. o ≡ spec.answer_to query.now by_stream reply.now) }
 {
-    let answer = answer_of(alloc, query, reply)?;
     if by_stream {
+        let answer = answer_of(alloc, query, reply)?;
         framed(alloc, answer.as_slice())
     } else {
-        fitting(alloc, query, answer)
+        by_datagram(alloc, query, reply)
     }
 }
 

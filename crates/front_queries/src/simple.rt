@@ -206,7 +206,7 @@ fn counts_for(octets: &[u8], additional: u16) -> [u8; 8]
 }
 
 /// The header of a reply under the id of a query.
-fn header_for(query: &Query, reply: &Message) -> Header
+pub(crate) fn header_for(query: &Query, reply: &Message) -> Header
     ensures { result ≡ with_id (id_of query.now.header) (header_of reply.now) }
 {
     let mut header = reply.header();
