@@ -5,7 +5,8 @@
 
 PROGRAM is the built dns_forward. A server of this script's own answers each datagram with TC, and each name by a stream with 3,745
 addresses: 59,970 octets. ANSWERS names (2,000) are asked, 20 at a time, by datagrams, whose answers are cut, and a tenth of them once more by a
-stream each, so that it is seen that they are kept: the server is not asked again. The memory that the system holds for the forwarder is told after each tenth,
+stream each, so that it is seen that they are kept: the server is not asked again. Then a name whose answer has a record of authority behind its addresses, so that it can't be
+given by its own octets, is asked by datagrams again and again: each is cut, and may take half a millisecond of a processor at most. The memory that the system holds for the forwarder is told after each tenth,
 and what an answer takes of it: more than four times its octets and 0.7 KB ends with status 1, as does a kept answer that is not given whole, and memory
 that grows by more than a tenth as the same names are asked again.
 """
@@ -23,6 +24,9 @@ from pathlib import Path
 ADDRESSES = 3745
 ANSWERS = 2000
 AT_ONCE = 20
+# An NS record of the question's name, which names the question's name.
+AUTHORITY = struct.pack("!HHHIHH", 0xC00C, 2, 1, 86400, 2, 0xC00C)
+MOST_CUT = 500
 HEADER = struct.Struct("!HHHHHH")
 
 
@@ -33,8 +37,8 @@ def question_of(message):
     return message[12:end + 5]
 
 
-def answer_to(query, records, flags=0x8580):
-    return HEADER.pack(int.from_bytes(query[:2], "big"), flags, 1, len(records) // 16, 0, 0) + question_of(query) + records
+def answer_to(query, records, flags=0x8580, authority=b""):
+    return HEADER.pack(int.from_bytes(query[:2], "big"), flags, 1, len(records) // 16, len(authority) > 0, 0) + question_of(query) + records + authority
 
 
 def without_age(answer):
@@ -73,7 +77,7 @@ class Server:
                 if len(size) < 2:
                     return
                 query = read.read(int.from_bytes(size, "big"))
-                message = answer_to(query, self.records)
+                message = answer_to(query, self.records, authority=AUTHORITY if query[13:14] == b"a" else b"")
                 self.asked += 1
                 try:
                     stream.sendall(struct.pack("!H", len(message)) + message)
@@ -87,8 +91,8 @@ def free_port():
         return it.getsockname()[1]
 
 
-def query(number, id):
-    name = b"n%d" % number
+def query(number, id, first=b"n"):
+    name = b"%s%d" % (first, number)
     return HEADER.pack(id, 0x0100, 1, 0, 0, 0) + bytes([len(name)]) + name + b"\x05large\x00\x00\x01\x00\x01"
 
 
@@ -120,6 +124,15 @@ def whole(port, number):
         message = query(number, 7)
         stream.sendall(struct.pack("!H", len(message)) + message)
         return read.read(int.from_bytes(read.read(2), "big"))
+
+
+def cut(client, port, count):
+    """Asks so many times for one name with authority behind its answer, and takes each answer."""
+    for id in range(count):
+        client.sendto(query(0, id, b"a"), ("127.0.0.1", port))
+        answer = client.recv(4096)
+        if answer[:2] != struct.pack("!H", id) or not answer[2] & 2 or answer[3] & 15:
+            sys.exit("a datagram is not cut: %s" % answer[:12].hex())
 
 
 def memory(child):
@@ -160,6 +173,12 @@ def measure(program, answers):
         ask(client, port, list(kept))
         print("and by a datagram: %.1f MB" % (memory(child) / 1e6))
         is_well &= memory(child) - first <= 1.1 * (now - first) + 40e6
+        cut(client, port, 1)
+        took = seconds(child)
+        cut(client, port, 2000)
+        each = (seconds(child) - took) * 1e6 / 2000
+        is_well &= each <= MOST_CUT
+        print("one with authority behind it, again by a datagram: %.0f us of processor%s" % (each, "" if each <= MOST_CUT else ", over"))
         print("an answer has %d octets, and %.2f times as many are held for it" % (octets, (now - first) / answers / octets))
         return is_well
     finally:
