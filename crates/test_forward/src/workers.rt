@@ -1,36 +1,23 @@
 //! Runs of the program by several threads.
 
 use crate::meeting::{CountedDoor, PatientFront};
+use crate::messages::QUERY;
+use crate::program::{source, words_of};
 use client_core::{ListClock, Out};
 use client_request::{ListWords, WordList};
 use dns_base::{NoMemory, Octets};
-use dns_values::{MemSink, MemSource};
+use dns_values::MemSink;
 use forward_run::{FrontDeed, ListFront};
 use forward_words::options_of;
 use forward_workers::{Crew, First, ListDoor, Worker, serve_by_all};
 use front_peers::{FrontOut, FrontWhat};
-use std::alloc::{AllocError, Global};
+use std::alloc::Global;
 use std::sync::Wait;
 use std::sync::atomic::AtomicU64;
 use std::thread::Threads;
 
 /// A query of another opcode, which is refused.
 const NOTIFY: [u8; 12] = [0, 1, 0x28, 0, 0, 0, 0, 0, 0, 0, 0, 0];
-
-/// A question for the address of example.com, with RD.
-const QUERY: [u8; 29] = [
-    0xbe, 0xef, 1, 0, 0, 1, 0, 0, 0, 0, 0, 0, 7, 101, 120, 97, 109, 112, 108, 101, 3, 99, 111, 109,
-    0, 0, 1, 0, 1,
-];
-
-/// The words of a line, with single blanks between.
-fn words_of(alloc: Global, line: &str) -> Result<Vec<String>, AllocError> {
-    let mut words = Vec::new(alloc);
-    for word in line.split(' ') {
-        words.push(String::from_str(alloc, word)?)?;
-    }
-    Ok(words)
-}
 
 fn came(alloc: Global, peer: u64, octets: &[u8]) -> Result<FrontWhat, NoMemory> {
     let octets = Octets::from_slice(alloc, octets)?;
@@ -62,24 +49,35 @@ fn opens(deed: &FrontDeed) -> bool {
     )
 }
 
-/// The status of a run of two workers, two turns each, what is written, and how many sockets the front opened.
-fn run<R: Threads + Wait + Sync>(rt: &R, alloc: Global) -> Option<(u8, bool, usize)> {
-    let words = words_of(alloc, "--workers 2 53 2").ok()?;
-    let (options, rest) = options_of(alloc, &words).ok()?;
-    let text = Octets::from_slice(alloc, b"nameserver 192.0.2.53").ok()?;
-    let mut source = MemSource::new(text, Vec::new(alloc));
-    let mut sink = MemSink::new(alloc, Vec::new(alloc), Vec::new(alloc));
-    let sent = AtomicU64::new(0);
+/// Two workers, beside a front that waits until both have answered.
+fn workers<'a>(
+    alloc: Global,
+    sent: &'a AtomicU64,
+) -> Option<Vec<Worker<CountedDoor<'a>, ListClock>>> {
+    let mut workers = Vec::new(alloc);
+    workers.push(worker(alloc, 7, sent)?).ok()?;
+    workers.push(worker(alloc, 9, sent)?).ok()?;
+    Some(workers)
+}
+
+fn first<'a>(alloc: Global, sent: &'a AtomicU64) -> First<PatientFront<'a>, ListClock> {
     let front = PatientFront {
         over: ListFront::new(alloc, Vec::new(alloc), None),
-        sent: &sent,
+        sent,
         awaited: 2,
     };
     let clock = ListClock::new(Vec::new(alloc));
-    let first = First { front, clock };
-    let mut workers = Vec::new(alloc);
-    workers.push(worker(alloc, 7, &sent)?).ok()?;
-    workers.push(worker(alloc, 9, &sent)?).ok()?;
+    First { front, clock }
+}
+
+/// The status of a run of two workers, two turns each, what is written, and how many sockets the front opened.
+fn run<R: Threads + Wait + Sync>(rt: &R, alloc: Global) -> Option<(u8, bool, usize)> {
+    let sent = AtomicU64::new(0);
+    let words = words_of(alloc, "--workers 2 53 2").ok()?;
+    let (options, rest) = options_of(alloc, &words).ok()?;
+    let mut source = source(alloc, "nameserver 192.0.2.53")?;
+    let workers = workers(alloc, &sent)?;
+    let mut sink = MemSink::new(alloc, Vec::new(alloc), Vec::new(alloc));
     let (status, crew) = serve_by_all(
         rt,
         alloc,
@@ -89,15 +87,15 @@ fn run<R: Threads + Wait + Sync>(rt: &R, alloc: Global) -> Option<(u8, bool, usi
         &mut source,
         &mut sink,
         ListWords::new(WordList::new(alloc)),
-        Crew { first, workers },
+        Crew {
+            first: first(alloc, &sent),
+            workers,
+        },
     );
     let deeds = crew.first.front.deeds();
     let opened = deeds.iter().filter(|deed| opens(deed)).count();
-    Some((
-        status.0,
-        sink.as_slice() == b"answered 2\n".as_slice(),
-        opened,
-    ))
+    let is_said = sink.as_slice() == b"answered 2\n".as_slice();
+    Some((status.0, is_said, opened))
 }
 
 /// Each worker's query that is refused is answered; both ask the same, so one socket is opened, by the first thread.
