@@ -51,7 +51,7 @@ pub struct Closed<L: ForwarderKey, W: Words + Drop> {
 pub struct Held<'a, L: ForwarderKey, W: Words + Drop> {
     joint: &'a Joint<Item>,
     desk: MutexGuard<'a, Desk<L, W>>,
-    ghost same: { word_of joint ≡ L.table },
+    ghost same: { word_of joint.now ≡ L.table },
 }
 
 /// The pass of the next caller.
