@@ -78,7 +78,7 @@ fn begun(
 
 /// A client that is recorded, with what it is turned over.
 #[derive(Drop)]
-struct Scene {
+struct Recording {
     client: Client,
     recorder: Recorder,
     words: ListWords,
@@ -92,11 +92,11 @@ fn edge_and_clock(alloc: Global) -> Result<(ListEdge, ListClock), Fail> {
 }
 
 /// A client whose record has begun.
-fn scene(alloc: Global, sink: &mut MemSink) -> Result<Scene, Fail> {
+fn begun_recording(alloc: Global, sink: &mut MemSink) -> Result<Recording, Fail> {
     let mut words = words(alloc)?;
     let (client, recorder) = begun(alloc, Ahead { count: 3, few: 1 }, &mut words, sink)?;
     let (edge, clock) = edge_and_clock(alloc)?;
-    Ok(Scene {
+    Ok(Recording {
         client,
         recorder,
         words,
@@ -106,7 +106,12 @@ fn scene(alloc: Global, sink: &mut MemSink) -> Result<Scene, Fail> {
 }
 
 /// It is asked by hand.
-fn step(alloc: Global, scene: &mut Scene, sink: &mut MemSink, rows: &mut Rows) -> Result<(), Fail> {
+fn step(
+    alloc: Global,
+    scene: &mut Recording,
+    sink: &mut MemSink,
+    rows: &mut Rows,
+) -> Result<(), Fail> {
     let event = Event {
         moment: Moment(0),
         what: What::Ask {
@@ -122,7 +127,7 @@ fn step(alloc: Global, scene: &mut Scene, sink: &mut MemSink, rows: &mut Rows) -
 }
 
 /// It is turned once.
-fn turn(scene: &mut Scene, sink: &mut MemSink, rows: &mut Rows) -> Result<(), Fail> {
+fn turn(scene: &mut Recording, sink: &mut MemSink, rows: &mut Rows) -> Result<(), Fail> {
     rows.push(recorded_turn(
         &mut scene.client,
         &mut scene.edge,
@@ -136,7 +141,7 @@ fn turn(scene: &mut Scene, sink: &mut MemSink, rows: &mut Rows) -> Result<(), Fa
 
 /// The trace of a client that is asked and then turned twice, while it is recorded.
 fn live(alloc: Global, sink: &mut MemSink) -> Result<Vec<u8>, Fail> {
-    let mut scene = scene(alloc, sink)?;
+    let mut scene = begun_recording(alloc, sink)?;
     let mut rows = Rows::new(alloc);
     step(alloc, &mut scene, sink, &mut rows)?;
     for _ in 0..2u32 {
@@ -192,13 +197,13 @@ fn a_replay_is_what_was_put_out(rt: HostRuntime) -> Result<(), Fail> {
 
 /// Whether a lookup has the answer as its reply, and its record ended by a fault of the sink, with two events behind it.
 fn is_answered(alloc: Global, sink: &mut MemSink) -> Result<bool, Fail> {
-    let Scene {
+    let Recording {
         mut client,
         mut recorder,
         words: _,
         mut edge,
         mut clock,
-    } = scene(alloc, sink)?;
+    } = begun_recording(alloc, sink)?;
     let request = request(alloc)?;
     let reply = recorded_ask(
         &mut client,
