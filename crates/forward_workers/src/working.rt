@@ -168,10 +168,17 @@ fn work_on<R: Wait, L: ForwarderKey, W: Words + Drop, D: Door + Drop, C: Clock +
             return Err(Error::NumbersUsed);
         };
         answered = sum;
-        if more.at_end || more.made == 0 && shared.has_ended(rt) {
+        if more.at_end {
             return Ok(answered);
         }
-        left -= more.made.max(1);
+        if more.made == 0 {
+            if shared.has_ended(rt) {
+                return Ok(answered);
+            }
+            left -= 1;
+        } else {
+            left -= more.made;
+        }
     }
     Ok(answered)
 }
