@@ -1,6 +1,7 @@
 //! What is said of right traces in which a hit or an expired answer is missed.
 
 use crate::runs::{run_words, source};
+use std::alloc::Global;
 use std::test::Fail;
 
 const ASKED: &str =
@@ -134,21 +135,35 @@ const CASES: [Case; 8] = [
     ),
 ];
 
+fn script_of(alloc: Global, setting: &str, events: [(&str, &str); 3]) -> Result<String, Fail> {
+    let [(first, _), (second, _), (third, _)] = events;
+    let head = format!(in alloc; "conf nameserver 192.0.2.53\nset {setting}\n")?;
+    Ok(format!(in alloc; "{head}{ASKED}{OPENED}{ANSWERED}{first}{second}{third}")?)
+}
+
+fn trace_of(alloc: Global, version: u8, events: [(&str, &str); 3]) -> Result<String, Fail> {
+    let [(first, outs), (second, more), (third, last)] = events;
+    let head = format!(in alloc; "trace {version}\n{ASKED}{SENT}{OPENED}")?;
+    let kept = format!(in alloc; "{WRITTEN}{ANSWERED}{GIVEN}")?;
+    Ok(format!(in alloc; "{head}{kept}{first}{outs}{second}{more}{third}{last}end\n")?)
+}
+
+/// The status of a case, and what is written.
+fn run_case(alloc: Global, case: &Case) -> Result<(u8, Vec<u8>), Fail> {
+    let (words, setting, version, events, _, _) = *case;
+    let script = script_of(alloc, setting, events)?;
+    let trace = trace_of(alloc, version, events)?;
+    let script = source(alloc, script.as_str(), 99)?;
+    let trace = source(alloc, trace.as_str(), 99)?;
+    run_words(alloc, words, script, trace, 99)
+}
+
 #[test]
 fn what_is_missed_is_told(rt: HostRuntime) -> Result<(), Fail> {
-    for (words, setting, version, events, status, line) in CASES {
-        let [(first, outs), (second, more), (third, last)] = events;
-        let script = format!(in rt.alloc();
-            "conf nameserver 192.0.2.53\nset {setting}\n{ASKED}{OPENED}{ANSWERED}{first}{second}{third}"
-        )?;
-        let trace = format!(in rt.alloc();
-            "trace {version}\n{ASKED}{SENT}{OPENED}{WRITTEN}{ANSWERED}{GIVEN}{first}{outs}{second}{more}{third}{last}end\n"
-        )?;
-        let script = source(rt.alloc(), script.as_str(), 99)?;
-        let trace = source(rt.alloc(), trace.as_str(), 99)?;
-        let (ended, written) = run_words(rt.alloc(), words, script, trace, 99)?;
-        assert_eq!(rt; ended, status, "{line}");
-        assert!(rt; written.as_slice() == line.as_bytes());
+    for case in CASES.iter() {
+        let (ended, written) = run_case(rt.alloc(), case)?;
+        assert_eq!(rt; ended, case.4, "{}", case.5);
+        assert!(rt; written.as_slice() == case.5.as_bytes());
     }
     Ok(())
 }
