@@ -1,0 +1,22 @@
+use Rattle.std.proofs.Common.{sym, subst}
+use Rattle.dns_lookup_run.specs.Recorded.{RecordedEnd, asked}
+use Rattle.dns_lookup_run.specs.Worlds.{world}
+use Rattle.dns_lookup_run.specs.declared.recorded.Recorded.{Recorded}
+use Rattle.dns_lookup_run.proofs.Records.{conf_ends, of_recorded, refused_ends}
+use Rattle.dns_lookup_run.proofs.Runs.{refusal_told, why_none}
+use Rattle.dns_lookup_run.proofs.recorded.run_recorded.Goals as goal
+
+pub returns-in-Err-Refused-clause-ends : goal.returns-in-Err-Refused-clause-ends
+returns-in-Err-Refused-clause-ends g c =
+    rw c.without.ensures (refused_ends _ _ _ _ _ _ _ _ _ _ _ _ _ c.in-Err-Refused.refusal (rw c.in-Err-Refused.field-0-is at c.in-Err-Refused.ensures) c.tell_refusal.ensures.status)
+
+pub returns-in-Err-clause-ends : goal.returns-in-Err-clause-ends
+returns-in-Err-clause-ends g c =
+    rw c.without.ensures (conf_ends _ _ _ _ _ _ _ _ _ _ _ _ _ c.in-Ok.lookup c.in-Ok.ensures c.tell_conf.ensures.status)
+
+pub returns-in-Ok-tell_notes-clause-statuses : goal.returns-in-Ok-tell_notes-clause-statuses
+returns-in-Ok-tell_notes-clause-statuses g c = of_recorded c.ask_recorded.result.status.0 c.ask_recorded.ensures.statuses
+
+pub returns-in-Ok-tell_notes-clause-ends : goal.returns-in-Ok-tell_notes-clause-ends
+returns-in-Ok-tell_notes-clause-ends g c =
+    asked c.in-Ok.lookup c.in-Ok-conf_of.found _ c.tell_notes.new.errors c.in-Ok.ensures c.in-Ok-conf_of.ensures.conf (rw c.as_slice.ensures at c.in-Ok-tell_notes.ensures.said) c.ask_recorded.ensures.ends
