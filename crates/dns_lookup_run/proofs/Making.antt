@@ -93,8 +93,8 @@ module _ {A : Type 0} (made : A → Whole → List Row → A → Whole → Type 
 -- rows that were made one type after another are recorded
 pub all_kept : {R : Type 0} (kept : R → Option (List ℕ)) (lookup : Lookup) (n : ℕ) (rtypes : List Rtype) (answers : List Answer) (rows : List Row) (a b : Recordings R) (old new : Scene)
     → AreMade (keeps_by kept) lookup n rtypes answers rows a b old new → Keeps rows (kept a.sink) a.recorder old.client (kept b.sink) b.recorder new.client
-all_kept kept lookup n rtypes answers rows a b old new (none_made n a s) = λ o before h. subst (λ (rs : List Row). Recorded o rs (kept a.sink) a.recorder s.client) (sym (append-nil before)) h
-all_kept kept lookup n rtypes answers rows a b old new (one_made n rtype more answer others later all a m b old mid new is rest all_is) = λ o before h.
+all_kept kept lookup _ _ _ _ _ _ _ _ (none_made n a s) = λ o before h. subst (λ (rs : List Row). Recorded o rs (kept a.sink) a.recorder s.client) (sym (append-nil before)) h
+all_kept kept lookup _ _ _ _ _ _ _ _ (one_made n rtype more answer others later all a m b old mid new is rest all_is) = λ o before h.
     let first : List Row = rows_of is.answered.asked.asking is.answered.asked.turns in
     subst (λ (rs : List Row). Recorded o rs (kept b.sink) b.recorder new.client)
     (append_assoc before first later ∙ ap (λ (rs : List Row). before ++ rs) (sym all_is))

@@ -1,5 +1,5 @@
 -- What a lookup ends with that is recorded.
-use Rattle.std.proofs.Common.{◌≡◌, ◌≢◌, ◌⊎◌, inl, inr, ℕ, ◌<◌, List, [], Option, String, Global, Ok, Err, refl, ap, sym, subst, ◌∙◌, arith}
+use Rattle.std.proofs.Common.{◌≡◌, ◌≢◌, ◌⊎◌, inl, inr, ℕ, ◌<◌, ◌≤◌, List, [], Option, String, Global, Ok, Err, refl, ap, sym, subst, ◌∙◌, arith}
 use Rattle.client_request.specs.Words.{listed}
 use Rattle.client_settings.specs.Settings.{CacheSettings, RedundantSettings, default_cache}
 use Rattle.client_steps.specs.Whole.{started}
@@ -11,14 +11,17 @@ use Rattle.dns_record.specs.declared.ended.Refused.{Refused}
 use Rattle.resolver_policy.specs.Practice.{practical_choice}
 use Rattle.resolver_policy.specs.declared.found.Found.{Found}
 use Rattle.resolv_conf.specs.declared.conf.ResolvConf.{ResolvConf}
+use Rattle.dns_values.specs.Source.{Rose}
 use Rattle.dns_lookup_run.specs.Conf.{IsConfOf}
-use Rattle.dns_lookup_run.specs.Ends.{EndsTold, HasPage, IsOfAsking, IsToldSo}
+use Rattle.dns_lookup_run.specs.Ends.{EndsTold, HasPage, IsOfAsking, IsToldSo, TellsWhy}
 use Rattle.dns_lookup_run.specs.Making.{IsMadeFor}
 use Rattle.dns_lookup_run.specs.Recorded.{AskedEnd, IsRecordedFor, RecordedEnd, Recordings, asked, keeps_by, no_conf, no_memory, not_recorded, refused, unrecorded_line, words_ahead}
 use Rattle.dns_lookup_run.specs.Reports.{notes_text}
 use Rattle.dns_lookup_run.specs.Sentences.{numbers_text}
 use Rattle.dns_lookup_run.specs.Worlds.{World, at_words, begun, said}
+use Rattle.dns_lookup_run.proofs.Endings.{rose_later}
 use Rattle.dns_lookup_run.proofs.Making.{all_kept}
+use Rattle.dns_lookup_run.proofs.Runs.{of_asking}
 use Rattle.dns_lookup_words.specs.Words.{LookupGives}
 use Rattle.dns_lookup_words.specs.declared.lookup.Lookup.{Lookup}
 use Rattle.dns_lookup_words.specs.declared.wrong.Refusal.{Refusal}
@@ -83,3 +86,33 @@ module _ {L R : Type 0} (held : L → Option (List ℕ)) (faults : L → ℕ) (k
   pub conf_ends : (lookup : Lookup) → LookupGives words (Ok lookup) → (status ≡ 3) ⊎ (status ≡ 6) → RecordedEnd held faults kept file_faults words told status before after first last old new
   conf_ends lookup judged (inl three) = no_conf lookup judged three
   conf_ends lookup judged (inr six) = no_memory six
+
+-- one of two statuses, at each of which nothing is asked
+pub of_told : (n one : ℕ) → 1 < one → one < 9 → (n ≡ one) ⊎ (n ≡ 6) → (n ≢ 1) × (n < 9)
+of_told n one more less (inl is) = (λ h. omega arith, omega arith)
+of_told n one more less (inr six) = (λ h. omega arith, omega arith)
+
+-- where memory ran out no sentence is owed
+no_sentence : (n : ℕ) → n ≡ 6 → TellsWhy n ⊎ (n ≡ 8) → ⊥
+no_sentence n six (inl (inl two)) = omega arith
+no_sentence n six (inl (inr (inl three))) = omega arith
+no_sentence n six (inl (inr (inr (inl five)))) = omega arith
+no_sentence n six (inl (inr (inr (inr seven)))) = omega arith
+no_sentence n six (inr eight) = omega arith
+
+-- a sentence that is told at one status is handed on
+pub told_flushed : (n one : ℕ) (P : Type 0) → (n ≡ one) ⊎ (n ≡ 6) → (n ≡ one → P) → TellsWhy n ⊎ (n ≡ 8) → P
+told_flushed n one P (inl is) flushed why = flushed is
+told_flushed n one P (inr six) flushed why = absurd (no_sentence n six why)
+
+pub asking_flushed : (n : ℕ) (P : Type 0) → IsOfAsking n → ((n ≡ 5) ⊎ (n ≡ 7) → P) → TellsWhy n ⊎ (n ≡ 8) → P
+asking_flushed n P of flushed (inl (inl two)) = absurd ((of_asking n of).1 two)
+asking_flushed n P of flushed (inl (inr (inl three))) = absurd ((of_asking n of).2 three)
+asking_flushed n P of flushed (inl (inr (inr (inl five)))) = flushed (inl five)
+asking_flushed n P of flushed (inl (inr (inr (inr seven)))) = flushed (inr seven)
+asking_flushed n P of flushed (inr eight) = let small : n < 8 = (of_asking n of).0.1 in absurd (omega arith)
+
+-- the same behind another sentence
+pub flushed_later : (a b c : ℕ) (P : Type 0) → a ≤ b → P ⊎ Rose b c → P ⊎ Rose a c
+flushed_later a b c P count (inl flushed) = inl flushed
+flushed_later a b c P count (inr rose) = inr (rose_later a b c count rose)

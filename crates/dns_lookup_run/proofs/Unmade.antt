@@ -1,6 +1,6 @@
 -- Of words that come nothing is told but what is answered.
 use Rattle.std.proofs.Common.{ℕ, List, Option, Result, Ok, Err}
-use Rattle.std.specs.Prelude.{IfOk, Unit}
+use Rattle.std.specs.Prelude.{IfOk}
 use Rattle.client_loop.specs.Asking.{IsAnswered, Scene}
 use Rattle.client_request.specs.Request.{Request}
 use Rattle.client_request.specs.declared.error.Error.{Error}

@@ -1,6 +1,6 @@
 //! Who asks a client: with words as they come, or recorded.
 
-ghost use Rattle.std.specs.Prelude.{ℕ, List, Unit, IfOk, IsErrOf};
+ghost use Rattle.std.specs.Prelude.{ℕ, List, IfOk, IsErrOf};
 ghost use Rattle.client_loop.specs.Asking.{StopsForNumbers, between};
 ghost use Rattle.client_request.specs.declared.error.Error.{Error};
 ghost use Rattle.client_request.specs.declared.event.Row.{Row};

@@ -2,24 +2,30 @@ use Rattle.std.proofs.Common.{refl, sym, subst}
 use Rattle.dns_lookup_run.specs.Recorded.{AskedEnd, words_ahead}
 use Rattle.dns_lookup_run.specs.Worlds.{world}
 use Rattle.dns_lookup_run.specs.declared.recorded.Recorded.{Recorded}
-use Rattle.dns_lookup_run.proofs.Records.{asked_end, refused_end}
+use Rattle.dns_lookup_run.proofs.Records.{asked_end, asking_flushed, refused_end, told_flushed}
 use Rattle.dns_lookup_run.proofs.recorded.ask_recorded.Goals as goal
 
 pub returns-in-Err-clause-ends : goal.returns-in-Err-clause-ends
 unfolding words_ahead
 returns-in-Err-clause-ends g c =
     let old = world (g.W.Words.stream c.args.rng.now) (g.E.Edge.deeds c.args.edge.now.edge) (g.E.Edge.polls c.args.edge.now.edge) (g.C.Clock.given c.args.clock.now.clock) in
-    let new = world (g.W.Words.stream c.begin.new.words) (g.E.Edge.deeds c.args.edge.now.edge) (g.E.Edge.polls c.args.edge.now.edge) (g.C.Clock.given c.args.clock.now.clock) in
+    let new = world (g.W.Words.stream c.begin-begun.new.words) (g.E.Edge.deeds c.args.edge.now.edge) (g.E.Edge.polls c.args.edge.now.edge) (g.C.Clock.given c.args.clock.now.clock) in
     subst (λ (r : Recorded g.row.R.Denot). AskedEnd g.L.Sink.held g.L.Sink.faults g.R.Sink.held g.R.Sink.faults c.args.lookup.now c.args.conf.now r.status.0 c.args.errors.now c.tell_unrecorded.new.errors c.args.file r.sink old new) (sym c.without.ensures)
-    (refused_end g.L.Sink.held g.L.Sink.faults g.R.Sink.held g.R.Sink.faults c.args.lookup.now c.args.conf.now c.tell_unrecorded.result.0 c.args.errors.now c.tell_unrecorded.new.errors c.args.file c.begin.new.sink old new
+    (refused_end g.L.Sink.held g.L.Sink.faults g.R.Sink.held g.R.Sink.faults c.args.lookup.now c.args.conf.now c.tell_unrecorded.result.0 c.args.errors.now c.tell_unrecorded.new.errors c.args.file c.begin-begun.new.sink old new
     c.practical_choice-choice.result c.new-cache.result c.practical_choice-choice.ensures c.new-cache.ensures c.in-Err.refused c.in-Err.ensures.refused c.tell_unrecorded.ensures.status c.tell_unrecorded.ensures.said)
 
 pub returns-clause-ends : goal.returns-clause-ends
 unfolding words_ahead
 returns-clause-ends g c =
     let old = world (g.W.Words.stream c.args.rng.now) (g.E.Edge.deeds c.args.edge.now.edge) (g.E.Edge.polls c.args.edge.now.edge) (g.C.Clock.given c.args.clock.now.clock) in
-    let new = world (g.W.Words.stream c.begin.new.words) (g.E.Edge.deeds c.ask_all-status.new.edge.edge) (g.E.Edge.polls c.ask_all-status.new.edge.edge) (g.C.Clock.given c.ask_all-status.new.clock.clock) in
+    let new = world (g.W.Words.stream c.begin-begun.new.words) (g.E.Edge.deeds c.ask_all-status.new.edge.edge) (g.E.Edge.polls c.ask_all-status.new.edge.edge) (g.C.Clock.given c.ask_all-status.new.clock.clock) in
     subst (λ (r : Recorded g.row.R.Denot). AskedEnd g.L.Sink.held g.L.Sink.faults g.R.Sink.held g.R.Sink.faults c.args.lookup.now c.args.conf.now r.status.0 c.args.errors.now c.ask_all-status.new.errors c.args.file r.sink old new) (sym c.with.ensures)
     (asked_end g.L.Sink.held g.L.Sink.faults g.R.Sink.held g.R.Sink.faults c.args.lookup.now c.args.conf.now c.ask_all-status.result.0 c.args.errors.now c.ask_all-status.new.errors c.args.file c.ask_all-status.new.rng.sink old new
-    c.practical_choice-choice.result c.new-cache.result c.practical_choice-choice.ensures c.new-cache.ensures c.in-Ok.recorder c.begin.new.sink c.ask_all-status.new.rng refl c.in-Ok.ensures.words c.in-Ok.ensures.begun c.record_law.ensures
+    c.practical_choice-choice.result c.new-cache.result c.practical_choice-choice.ensures c.new-cache.ensures c.in-Ok.recorder c.begin-begun.new.sink c.ask_all-status.new.rng refl c.in-Ok.ensures.words c.in-Ok.ensures.begun c.record_law.ensures
     c.ask_all-status.ensures.statuses c.ask_all-status.ensures.ends c.ask_all-status.ensures.quiet c.ask_all-status.ensures.stops c.ask_all-status.ensures.made)
+
+pub returns-in-Err-clause-line_flushed : goal.returns-in-Err-clause-line_flushed
+returns-in-Err-clause-line_flushed g c = rw c.without.ensures (told_flushed c.tell_unrecorded.result.0 8 _ c.tell_unrecorded.ensures.status c.tell_unrecorded.ensures.flushed)
+
+pub returns-clause-line_flushed : goal.returns-clause-line_flushed
+returns-clause-line_flushed g c = rw c.with.ensures (asking_flushed c.ask_all-status.result.0 _ c.ask_all-status.ensures.statuses c.ask_all-status.ensures.line_flushed)
