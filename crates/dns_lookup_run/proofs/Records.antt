@@ -92,6 +92,15 @@ pub of_told : (n one : ℕ) → 1 < one → one < 9 → (n ≡ one) ⊎ (n ≡ 6
 of_told n one more less (inl is) = (λ h. omega arith, omega arith)
 of_told n one more less (inr six) = (λ h. omega arith, omega arith)
 
+pub refused_status : (n : ℕ) → (n ≡ 8) ⊎ (n ≡ 6) → IsOfAsking n ⊎ (n ≡ 8)
+refused_status n (inl eight) = inr eight
+refused_status n (inr six) = inl (inr (inr (inr (inl six))))
+
+-- and at no other status
+pub told_only : (n one other : ℕ) (P : Type 0) → (n ≡ one) ⊎ (n ≡ 6) → one ≢ other → 6 ≢ other → n ≡ other → P
+told_only n one other P (inl is) not_one not_six same = absurd (omega arith)
+told_only n one other P (inr six) not_one not_six same = absurd (omega arith)
+
 -- where memory ran out no sentence is owed
 no_sentence : (n : ℕ) → n ≡ 6 → TellsWhy n ⊎ (n ≡ 8) → ⊥
 no_sentence n six (inl (inl two)) = omega arith
@@ -105,12 +114,16 @@ pub told_flushed : (n one : ℕ) (P : Type 0) → (n ≡ one) ⊎ (n ≡ 6) → 
 told_flushed n one P (inl is) flushed why = flushed is
 told_flushed n one P (inr six) flushed why = absurd (no_sentence n six why)
 
+-- an asking has no other status than these
+pub not_eight : (n : ℕ) → IsOfAsking n → n ≢ 8
+not_eight n of = λ eight. let small : n < 8 = (of_asking n of).0.1 in omega arith
+
 pub asking_flushed : (n : ℕ) (P : Type 0) → IsOfAsking n → ((n ≡ 5) ⊎ (n ≡ 7) → P) → TellsWhy n ⊎ (n ≡ 8) → P
 asking_flushed n P of flushed (inl (inl two)) = absurd ((of_asking n of).1 two)
 asking_flushed n P of flushed (inl (inr (inl three))) = absurd ((of_asking n of).2 three)
 asking_flushed n P of flushed (inl (inr (inr (inl five)))) = flushed (inl five)
 asking_flushed n P of flushed (inl (inr (inr (inr seven)))) = flushed (inr seven)
-asking_flushed n P of flushed (inr eight) = let small : n < 8 = (of_asking n of).0.1 in absurd (omega arith)
+asking_flushed n P of flushed (inr eight) = absurd (not_eight n of eight)
 
 -- the same behind another sentence
 pub flushed_later : (a b c : ℕ) (P : Type 0) → a ≤ b → P ⊎ Rose b c → P ⊎ Rose a c

@@ -1,8 +1,8 @@
-use Rattle.std.proofs.Common.{refl, sym, subst}
+use Rattle.std.proofs.Common.{inl, refl, sym, subst, arith}
 use Rattle.dns_lookup_run.specs.Recorded.{AskedEnd, words_ahead}
 use Rattle.dns_lookup_run.specs.Worlds.{world}
 use Rattle.dns_lookup_run.specs.declared.recorded.Recorded.{Recorded}
-use Rattle.dns_lookup_run.proofs.Records.{asked_end, asking_flushed, refused_end, told_flushed}
+use Rattle.dns_lookup_run.proofs.Records.{asked_end, asking_flushed, not_eight, refused_end, refused_status, told_flushed, told_only}
 use Rattle.dns_lookup_run.proofs.recorded.ask_recorded.Goals as goal
 
 pub returns-in-Err-clause-ends : goal.returns-in-Err-clause-ends
@@ -29,3 +29,24 @@ returns-in-Err-clause-line_flushed g c = rw c.without.ensures (told_flushed c.te
 
 pub returns-clause-line_flushed : goal.returns-clause-line_flushed
 returns-clause-line_flushed g c = rw c.with.ensures (asking_flushed c.ask_all-status.result.0 _ c.ask_all-status.ensures.statuses c.ask_all-status.ensures.line_flushed)
+
+pub returns-in-Err-clause-statuses : goal.returns-in-Err-clause-statuses
+returns-in-Err-clause-statuses g c = rw c.without.ensures (refused_status c.tell_unrecorded.result.0 c.tell_unrecorded.ensures.status)
+
+pub returns-in-Err-clause-flushed : goal.returns-in-Err-clause-flushed
+returns-in-Err-clause-flushed g c = rw c.without.ensures (told_only c.tell_unrecorded.result.0 8 0 _ c.tell_unrecorded.ensures.status (λ h. omega arith) (λ h. omega arith))
+
+pub returns-in-Err-clause-sink_fault : goal.returns-in-Err-clause-sink_fault
+returns-in-Err-clause-sink_fault g c = rw c.without.ensures (told_only c.tell_unrecorded.result.0 8 4 _ c.tell_unrecorded.ensures.status (λ h. omega arith) (λ h. omega arith))
+
+pub returns-clause-statuses : goal.returns-clause-statuses
+returns-clause-statuses g c = rw c.with.ensures (inl c.ask_all-status.ensures.statuses)
+
+pub returns-clause-flushed : goal.returns-clause-flushed
+returns-clause-flushed g c = rw c.with.ensures c.ask_all-status.ensures.flushed
+
+pub returns-clause-silent : goal.returns-clause-silent
+returns-clause-silent g c = rw c.with.ensures (λ eight. absurd (not_eight c.ask_all-status.result.0 c.ask_all-status.ensures.statuses eight))
+
+pub returns-clause-sink_fault : goal.returns-clause-sink_fault
+returns-clause-sink_fault g c = rw c.with.ensures c.ask_all-status.ensures.sink_fault
