@@ -87,16 +87,12 @@ module _ {L R : Type 0} (held : L → Option (List ℕ)) (faults : L → ℕ) (k
   conf_ends lookup judged (inl three) = no_conf lookup judged three
   conf_ends lookup judged (inr six) = no_memory six
 
--- one of two statuses, at each of which nothing is asked
-pub of_told : (n one : ℕ) → 1 < one → one < 9 → (n ≡ one) ⊎ (n ≡ 6) → (n ≢ 1) × (n < 9)
-of_told n one more less (inl is) = (λ h. omega arith, omega arith)
-of_told n one more less (inr six) = (λ h. omega arith, omega arith)
-
+-- the statuses of a refusal
 pub refused_status : (n : ℕ) → (n ≡ 8) ⊎ (n ≡ 6) → IsOfAsking n ⊎ (n ≡ 8)
 refused_status n (inl eight) = inr eight
 refused_status n (inr six) = inl (inr (inr (inr (inl six))))
 
--- and at no other status
+-- and at no other status is it
 pub told_only : (n one other : ℕ) (P : Type 0) → (n ≡ one) ⊎ (n ≡ 6) → one ≢ other → 6 ≢ other → n ≡ other → P
 told_only n one other P (inl is) not_one not_six same = absurd (omega arith)
 told_only n one other P (inr six) not_one not_six same = absurd (omega arith)
@@ -114,10 +110,11 @@ pub told_flushed : (n one : ℕ) (P : Type 0) → (n ≡ one) ⊎ (n ≡ 6) → 
 told_flushed n one P (inl is) flushed why = flushed is
 told_flushed n one P (inr six) flushed why = absurd (no_sentence n six why)
 
--- an asking has no other status than these
+-- an asking does not end as one that can't be recorded
 pub not_eight : (n : ℕ) → IsOfAsking n → n ≢ 8
 not_eight n of = λ eight. let small : n < 8 = (of_asking n of).0.1 in omega arith
 
+-- the sentence of an asking is handed on
 pub asking_flushed : (n : ℕ) (P : Type 0) → IsOfAsking n → ((n ≡ 5) ⊎ (n ≡ 7) → P) → TellsWhy n ⊎ (n ≡ 8) → P
 asking_flushed n P of flushed (inl (inl two)) = absurd ((of_asking n of).1 two)
 asking_flushed n P of flushed (inl (inr (inl three))) = absurd ((of_asking n of).2 three)

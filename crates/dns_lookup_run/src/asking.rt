@@ -55,7 +55,8 @@ pub(crate) fn asked<E: Edge + Drop, C: Clock + Drop, A: Asks>(
 ) -> Result<Outcome, Error>
     ensures answered { IfOk result (λ c. on E.deeds E.waits E.polls C.given A.stream (client.old, edge.old, clock.old, words.old) (client.new, edge.new, clock.new, words.new)
         (Gave lookup.now rtype number c.answer)) }
-    ensures made { IfOk result (λ c. GaveBy E.deeds E.waits E.polls C.given A.stream A.made (client.old, edge.old, clock.old, words.old) (client.new, edge.new, clock.new, words.new) lookup.now rtype number c.answer) }
+    ensures made { IfOk result (λ c. GaveBy E.deeds E.waits E.polls C.given A.stream A.made
+        (client.old, edge.old, clock.old, words.old) (client.new, edge.new, clock.new, words.new) lookup.now rtype number c.answer) }
     ensures numbers { IsErrOf result NumbersUsed → on E.deeds E.waits E.polls C.given A.stream (client.old, edge.old, clock.old, words.old)
         (client.new, edge.new, clock.new, words.new) (Stopped lookup.now rtype) }
 {

@@ -34,7 +34,8 @@ pub(crate) trait Asks {
         request: RequestMessage,
     ) -> Result<Answered, Error>
         ensures answered { IfOk result (AskedBy E.deeds E.waits E.polls C.given stream made (client.old, edge.old, clock.old, self.old) (client.new, edge.new, clock.new, self.new) number request) }
-        ensures numbers { IsErrOf result Error.NumbersUsed → between E.deeds E.waits E.polls C.given stream (client.old, edge.old, clock.old, self.old) (client.new, edge.new, clock.new, self.new) (StopsForNumbers request) };
+        ensures numbers { IsErrOf result Error.NumbersUsed →
+            between E.deeds E.waits E.polls C.given stream (client.old, edge.old, clock.old, self.old) (client.new, edge.new, clock.new, self.new) (StopsForNumbers request) };
 }
 
 impl<W: Words> Asks for W {

@@ -131,7 +131,8 @@ pub(crate) fn ask_all<K: Sink, L: Sink, E: Edge + Drop, C: Clock + Drop, A: Asks
 ) -> Status
     ensures statuses { IsOfAsking result.0 }
     ensures ends { around E.deeds E.polls C.given A.stream (edge.old, clock.old, rng.old) (edge.new, clock.new, rng.new) (EndsTold L.held L.faults lookup.now conf.now result.0 errors.old errors.new) }
-    ensures made { result.0 ≢ 6 → result.0 ≢ 7 → around E.deeds E.polls C.given A.stream (edge.old, clock.old, rng.old) (edge.new, clock.new, rng.new) (IsMadeFor A.made lookup.now conf.now rng.old rng.new) }
+    ensures made { result.0 ≢ 6 → result.0 ≢ 7 → around E.deeds E.polls C.given A.stream (edge.old, clock.old, rng.old) (edge.new, clock.new, rng.new)
+        (IsMadeFor A.made lookup.now conf.now rng.old rng.new) }
     ensures stops { result.0 ≡ 7 → said L.held L.faults errors.old errors.new numbers_text }
     ensures line_flushed { (result.0 ≡ 5) ⊎ (result.0 ≡ 7) → IsFlushed (L.held errors.new) (L.flushed errors.new) ⊎ Rose (L.faults errors.old) (L.faults errors.new) }
     ensures quiet { HasPage result.0 → L.held errors.new ≡ L.held errors.old }

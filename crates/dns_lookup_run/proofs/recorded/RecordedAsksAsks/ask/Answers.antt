@@ -9,7 +9,7 @@ pub returns-clause-answered : goal.returns-clause-answered
 returns-clause-answered g c =
     let after : Recordings g.row.K.Denot = record { recorder = c.recorded_ask.new.recorder; sink = c.recorded_ask.new.sink } in
     let Gives : Recordings g.row.K.Denot → Type 0 = λ old.
-        IfOk c.recorded_ask.result
-        (AskedBy g.E.Edge.deeds g.E.Edge.waits g.E.Edge.polls g.C.Clock.given (λ r. left_of r.recorder) (keeps_by g.K.Sink.held) (c.args.client.now, c.args.edge.now, c.args.clock.now, old)
-        (c.recorded_ask.new.client, c.recorded_ask.new.edge, c.recorded_ask.new.clock, after) c.args.number c.args.request) in
+    IfOk c.recorded_ask.result
+    (AskedBy g.E.Edge.deeds g.E.Edge.waits g.E.Edge.polls g.C.Clock.given (λ r. left_of r.recorder) (keeps_by g.K.Sink.held) (c.args.client.now, c.args.edge.now, c.args.clock.now, old)
+    (c.recorded_ask.new.client, c.recorded_ask.new.edge, c.recorded_ask.new.clock, after) c.args.number c.args.request) in
     subst Gives c.self.view_is c.recorded_ask.ensures.answered
