@@ -1,16 +1,16 @@
 -- What a client put out while a lookup was asked, and that it is recorded.
-use Rattle.std.proofs.Common.{◌≡◌, ◌≢◌, ◌⊎◌, inl, inr, ℕ, ◌+◌, Bool, true, false, List, [], ◌∷◌, ◌++◌, refl, ap, sym, subst, ◌∙◌, append_assoc, append-nil, Option, None, Some, Result, Ok, Err}
+use Rattle.std.proofs.Common.{◌≡◌, ◌≢◌, inl, inr, ℕ, ◌+◌, true, false, List, [], ◌∷◌, ◌++◌, refl, ap, sym, subst, ◌∙◌, append_assoc, append-nil, Option, Result, Ok, Err}
 use Rattle.std.specs.Prelude.{IfOk, is_some, unwrap_or}
 use Rattle.client_core.specs.declared.edge.Deed.{Deed}
-use Rattle.client_loop.specs.Asking.{Scene, rows_of, scene}
+use Rattle.client_loop.specs.Asking.{Scene, rows_of}
 use Rattle.client_request.specs.declared.error.Error.{Error}
 use Rattle.client_request.specs.declared.event.Row.{Row}
 use Rattle.client_steps.specs.Whole.{Whole}
 use Rattle.dns_record.specs.Asking.{IsAnsweredAnd}
-use Rattle.dns_record.specs.Recording.{Keeps, Opening, Recorded}
+use Rattle.dns_record.specs.Recording.{Keeps, Recorded}
 use Rattle.dns_values.specs.declared.numbers.Rtype.{Rtype}
 use Rattle.resolv_conf.specs.declared.conf.ResolvConf.{ResolvConf}
-use Rattle.dns_lookup_run.specs.Asking.{Answer, Brought, HasBegun, request_for, types_at}
+use Rattle.dns_lookup_run.specs.Asking.{Answer, Brought, HasBegun, request_for}
 use Rattle.dns_lookup_run.specs.Ends.{HasPage, IsOfAsking}
 use Rattle.dns_lookup_run.specs.Making.{AreMade, IsMadeFor, none_made, one_made}
 use Rattle.dns_lookup_run.specs.Recorded.{Recordings, keeps_by}

@@ -1,22 +1,19 @@
 -- What a lookup ends with that is recorded.
-use Rattle.std.proofs.Common.{◌≡◌, ◌≢◌, ◌⊎◌, inl, inr, ℕ, ◌<◌, ◌≤◌, List, [], Option, String, Global, Ok, Err, refl, ap, sym, subst, ◌∙◌, arith}
+use Rattle.std.proofs.Common.{◌≡◌, ◌≢◌, ◌⊎◌, inl, inr, ℕ, ◌<◌, ◌≤◌, List, [], Option, String, Global, Ok, Err, ap, subst, arith}
 use Rattle.client_request.specs.Words.{listed}
 use Rattle.client_settings.specs.Settings.{CacheSettings, RedundantSettings, default_cache}
 use Rattle.client_steps.specs.Whole.{started}
 use Rattle.client_loop.specs.Asking.{scene}
 use Rattle.dns_record.specs.Asking.{left_of}
 use Rattle.dns_record.specs.Laws.{RecordLaw}
-use Rattle.dns_record.specs.Recording.{HasEnded, IsRefused, Recorded, Recording, opening}
+use Rattle.dns_record.specs.Recording.{IsRefused, Recorded, Recording, opening}
 use Rattle.dns_record.specs.declared.ended.Refused.{Refused}
 use Rattle.resolver_policy.specs.Practice.{practical_choice}
-use Rattle.resolver_policy.specs.declared.found.Found.{Found}
 use Rattle.resolv_conf.specs.declared.conf.ResolvConf.{ResolvConf}
 use Rattle.dns_values.specs.Source.{Rose}
-use Rattle.dns_lookup_run.specs.Conf.{IsConfOf}
-use Rattle.dns_lookup_run.specs.Ends.{EndsTold, HasPage, IsOfAsking, IsToldSo, TellsWhy}
+use Rattle.dns_lookup_run.specs.Ends.{EndsTold, HasPage, IsOfAsking, TellsWhy}
 use Rattle.dns_lookup_run.specs.Making.{IsMadeFor}
 use Rattle.dns_lookup_run.specs.Recorded.{AskedEnd, IsRecordedFor, RecordedEnd, Recordings, asked, keeps_by, no_conf, no_memory, not_recorded, refused, unrecorded_line, words_ahead}
-use Rattle.dns_lookup_run.specs.Reports.{notes_text}
 use Rattle.dns_lookup_run.specs.Sentences.{numbers_text}
 use Rattle.dns_lookup_run.specs.Worlds.{World, at_words, begun, said}
 use Rattle.dns_lookup_run.proofs.Endings.{rose_later}

@@ -1,7 +1,4 @@
-use Rattle.std.proofs.Common.{sym, subst}
-use Rattle.dns_lookup_run.specs.Recorded.{RecordedEnd, asked}
-use Rattle.dns_lookup_run.specs.Worlds.{world}
-use Rattle.dns_lookup_run.specs.declared.recorded.Recorded.{Recorded}
+use Rattle.dns_lookup_run.specs.Recorded.{asked}
 use Rattle.dns_lookup_run.proofs.Records.{conf_ends, flushed_later, of_recorded, refused_ends}
 use Rattle.dns_lookup_run.proofs.Runs.{refusal_told, why_none}
 use Rattle.dns_lookup_run.proofs.recorded.run_recorded.Goals as goal
