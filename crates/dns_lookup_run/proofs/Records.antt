@@ -6,7 +6,7 @@ use Rattle.client_steps.specs.Whole.{started}
 use Rattle.client_loop.specs.Asking.{scene}
 use Rattle.dns_record.specs.Asking.{left_of}
 use Rattle.dns_record.specs.Laws.{RecordLaw}
-use Rattle.dns_record.specs.Recording.{IsRefused, Recorded, Recording, opening}
+use Rattle.dns_record.specs.Recording.{IsRefused, Recorded, Recording, drawn, opening}
 use Rattle.dns_record.specs.declared.ended.Refused.{Refused}
 use Rattle.resolver_policy.specs.Practice.{practical_choice}
 use Rattle.resolv_conf.specs.declared.conf.ResolvConf.{ResolvConf}
@@ -22,6 +22,11 @@ use Rattle.dns_lookup_run.proofs.Runs.{of_asking}
 use Rattle.dns_lookup_words.specs.Words.{LookupGives}
 use Rattle.dns_lookup_words.specs.declared.lookup.Lookup.{Lookup}
 use Rattle.dns_lookup_words.specs.declared.wrong.Refusal.{Refusal}
+
+-- what holds of the words that are drawn ahead, by their count: so many of them are not compared one by one
+pub with_ahead : (P : List ℕ → Type 0) (words : ℕ → ℕ) (count : ℕ) → P (drawn count words) → count ≡ 4096 → P (words_ahead words)
+unfolding words_ahead
+with_ahead P words count h is = subst P (ap (λ (n : ℕ). drawn n words) is) h
 
 module _ {L R : Type 0} (held : L → Option (List ℕ)) (faults : L → ℕ) (kept : R → Option (List ℕ)) (file_faults : R → ℕ) (lookup : Lookup) (conf : ResolvConf) (status : ℕ) (before after : L) (first last : R) (old new : World)
     (choice : RedundantSettings) (cache : CacheSettings) (choice_is : choice ≡ practical_choice) (cache_is : cache ≡ default_cache) where

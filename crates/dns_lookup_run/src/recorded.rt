@@ -145,6 +145,13 @@ impl<K: Sink + Drop> Recorded<K> {
     }
 }
 
+/// Which words are drawn ahead: a lookup asks little.
+fn ahead() -> Ahead
+    ensures { result ≡ record { count = 4096; few = 1024 } }
+{
+    Ahead::SMALL
+}
+
 /// Asks for the types of a lookup, and records it.
 fn ask_recorded<K: Sink, L: Sink, E: Edge + Drop, C: Clock + Drop, W: Words, R: Sink + Drop>(
     alloc: Global,
@@ -170,7 +177,7 @@ fn ask_recorded<K: Sink, L: Sink, E: Edge + Drop, C: Clock + Drop, W: Words, R: 
     let choice = practical_choice();
     let cache = cache::Config::new();
     let mut file = file;
-    let begun = Recorder::begin(alloc, conf, choice, &cache, rng, Ahead::SMALL, &mut file);
+    let begun = Recorder::begin(alloc, conf, choice, &cache, rng, ahead(), &mut file);
     let recorder = match begun {
         Ok(recorder) => recorder,
         Err(refused) => return without(tell_unrecorded(alloc, refused, errors), file),
