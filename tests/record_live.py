@@ -3,7 +3,7 @@
 
     python3 tests/record_live.py DNS_LOOKUP DNS_FORWARD DNSQ TRACE_AUDIT [lookup] [forward] [cost] [faults] [--seconds N] [--reference FOLDER] [--keep FOLDER]
 
-The four are the built programs; without further words all four parts are run. Those of a lookup want a `dns_lookup` that takes `--record`, which waits for its proofs. An NSD serves a zone on loopback behind a relay of this script's own,
+The four are the built programs; without further words all four parts are run. An NSD serves a zone on loopback behind a relay of this script's own,
 which keeps each datagram and each stream's octets that a client sends it, in order. In the second quarter of the time the relay says nothing, in the third it is closed,
 so that clients are refused, and then it is back; some answers are truncated, so that clients come by streams.
 

@@ -35,7 +35,7 @@ two : (lookup : Lookup) (first second : Rtype) (a b : Answer) (old mid new : Sce
 two lookup first second a b old mid new h k = one_asked 0 first (second ∷ []) a (b ∷ []) old mid new h (one lookup 1 second b mid new k)
 
 -- a new client, whose edge learned the servers, stands where the first request is asked
-begins : (conf : ResolvConf) (client : Whole) (old : World) (deeds : Option (List Deed)) (waits : Option (List ℕ)) (polls : ℕ)
+pub begins : (conf : ResolvConf) (client : Whole) (old : World) (deeds : Option (List Deed)) (waits : Option (List ℕ)) (polls : ℕ)
     → HasBegun conf client old.deeds deeds old.polls polls → scene client old.words deeds waits polls old.moments ≡ begun conf old waits
 begins conf client old deeds waits polls h =
     ap (λ m. scene m old.words deeds waits polls old.moments) h.made
@@ -69,7 +69,7 @@ abbrev pub later_types : Option Rtype → List Rtype
 later_types None = record { 0 = 28 } ∷ []
 later_types (Some rtype) = []
 
-types_are : (said : Option Rtype) (rtype : Rtype) → rtype ≡ unwrap_or said (record { 0 = 1 }) → types_at said ≡ rtype ∷ later_types said
+pub types_are : (said : Option Rtype) (rtype : Rtype) → rtype ≡ unwrap_or said (record { 0 = 1 }) → types_at said ≡ rtype ∷ later_types said
 types_are None rtype is = ap (λ (t : Rtype). t ∷ record { 0 = 28 } ∷ []) (sym is)
 types_are (Some said) rtype is = ap (λ (t : Rtype). t ∷ []) (sym is)
 

@@ -6,3 +6,5 @@ pub mod Sentences
 pub mod Watched
 pub mod Worlds
 pub mod Passing
+pub mod Making
+pub mod Recorded

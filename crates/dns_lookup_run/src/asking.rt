@@ -3,26 +3,24 @@
 ghost use Rattle.std.specs.Prelude.{◌≡◌, ◌≢◌, IfOk, IfErr, IsErrOf};
 ghost use Rattle.client_request.specs.declared.error.Error.TheVariants.{NumbersUsed};
 ghost use Rattle.dns_lookup_run.specs.Asking.{Gave, Stopped, request_for};
+ghost use Rattle.dns_lookup_run.specs.Making.{GaveBy};
 ghost use Rattle.dns_lookup_run.specs.Watched.{on};
 
+use crate::asks::{Answered, Asks};
 use crate::watched_clock::WatchedClock;
 use crate::watched_edge::{Heard, WatchedEdge};
 use client_core::{Client, Clock, Edge};
-use client_loop::ask;
-use client_request::{Compose, Error, RequestMessage, Words};
+use client_request::{Compose, Error, RequestMessage};
 use dns_base::Message;
 use dns_lookup_words::Lookup;
 use dns_values::Rtype;
 use std::alloc::Global;
 
-/// What servers answer: a message or an error; none where a million turns passed without either.
-pub(crate) type Answer = Option<Result<Message, Error>>;
-
 /// What a request came to.
 #[derive(Drop)]
 pub(crate) struct Outcome {
     /// What was answered.
-    pub(crate) answer: Answer,
+    pub(crate) answer: Answered,
     /// From whom octets came last while it was asked; none where it was answered from what is kept.
     pub(crate) heard: Option<Heard>,
     /// How long it took, in microseconds.
@@ -45,7 +43,7 @@ fn request_for(alloc: Global, lookup: &Lookup, rtype: Rtype) -> Result<RequestMe
 /// Asks a client the request of a lookup for a type, under the number of its next request.
 ///
 /// `NoMemory`, or `NumbersUsed` where a number would pass the greatest `u64`. After an error the client is not to be used again.
-pub(crate) fn asked<E: Edge + Drop, C: Clock + Drop, W: Words>(
+pub(crate) fn asked<E: Edge + Drop, C: Clock + Drop, A: Asks>(
     alloc: Global,
     lookup: &Lookup,
     rtype: Rtype,
@@ -53,17 +51,19 @@ pub(crate) fn asked<E: Edge + Drop, C: Clock + Drop, W: Words>(
     client: &mut Client,
     edge: &mut WatchedEdge<E>,
     clock: &mut WatchedClock<C>,
-    words: &mut W,
+    words: &mut A,
 ) -> Result<Outcome, Error>
-    ensures answered { IfOk result (λ c. on E.deeds E.waits E.polls C.given W.stream (client.old, edge.old, clock.old, words.old) (client.new, edge.new, clock.new, words.new)
+    ensures answered { IfOk result (λ c. on E.deeds E.waits E.polls C.given A.stream (client.old, edge.old, clock.old, words.old) (client.new, edge.new, clock.new, words.new)
         (Gave lookup.now rtype number c.answer)) }
-    ensures numbers { IsErrOf result NumbersUsed → on E.deeds E.waits E.polls C.given W.stream (client.old, edge.old, clock.old, words.old)
+    ensures made { IfOk result (λ c. GaveBy E.deeds E.waits E.polls C.given A.stream A.made
+        (client.old, edge.old, clock.old, words.old) (client.new, edge.new, clock.new, words.new) lookup.now rtype number c.answer) }
+    ensures numbers { IsErrOf result NumbersUsed → on E.deeds E.waits E.polls C.given A.stream (client.old, edge.old, clock.old, words.old)
         (client.new, edge.new, clock.new, words.new) (Stopped lookup.now rtype) }
 {
     edge.forget();
     clock.forget();
     let request = request_for(alloc, lookup, rtype)?;
-    match ask(client, edge, clock, words, number, request) {
+    match words.ask(client, edge, clock, number, request) {
         Ok(answer) => Ok(Outcome {
             answer,
             heard: edge.heard(),

@@ -10,10 +10,12 @@
 #![tactic(auto)]
 
 mod asking;
+mod asks;
 mod conf;
 mod page;
 mod passing_edge;
 mod program;
+mod recorded;
 mod reports;
 mod telling;
 mod watched_clock;
@@ -21,5 +23,6 @@ mod watched_edge;
 
 pub use passing_edge::{Asked, PassingEdge};
 pub use program::run;
+pub use recorded::{Recorded, run_recorded};
 pub use watched_clock::WatchedClock;
 pub use watched_edge::{Heard, News, Opened, Tidings, WatchedEdge};

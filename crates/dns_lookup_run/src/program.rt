@@ -9,10 +9,12 @@ ghost use Rattle.dns_values.specs.Sink.{IsFlushed};
 ghost use Rattle.dns_lookup_run.specs.Worlds.{around, is_message, said};
 ghost use Rattle.dns_lookup_run.specs.Asking.{Brought, HasBegun};
 ghost use Rattle.dns_lookup_run.specs.Ends.{EndsTold, HasNoConf, HasPage, IsOfAsking, IsRefusalTold, TellsWhy, WordsEnd};
+ghost use Rattle.dns_lookup_run.specs.Making.{IsMadeFor};
 ghost use Rattle.dns_lookup_run.specs.Reports.{told_of};
 ghost use Rattle.dns_lookup_run.specs.Sentences.{answer_text, numbers_text, unanswered_text};
 
 use crate::asking::{Outcome, asked};
+use crate::asks::Asks;
 use crate::conf::conf_of;
 use crate::page::page;
 use crate::reports::reports;
@@ -117,7 +119,7 @@ fn client_of<E: Edge>(alloc: Global, conf: &ResolvConf, edge: &mut E) -> Result<
 }
 
 /// Asks for the type of a lookup, or for A and then AAAA, and writes what is answered. The first without an answer ends it.
-fn ask_all<K: Sink, L: Sink, E: Edge + Drop, C: Clock + Drop, W: Words>(
+pub(crate) fn ask_all<K: Sink, L: Sink, E: Edge + Drop, C: Clock + Drop, A: Asks>(
     alloc: Global,
     lookup: &Lookup,
     conf: &ResolvConf,
@@ -125,10 +127,12 @@ fn ask_all<K: Sink, L: Sink, E: Edge + Drop, C: Clock + Drop, W: Words>(
     errors: &mut L,
     edge: &mut WatchedEdge<E>,
     clock: &mut WatchedClock<C>,
-    rng: &mut W,
+    rng: &mut A,
 ) -> Status
     ensures statuses { IsOfAsking result.0 }
-    ensures ends { around E.deeds E.polls C.given W.stream (edge.old, clock.old, rng.old) (edge.new, clock.new, rng.new) (EndsTold L.held L.faults lookup.now conf.now result.0 errors.old errors.new) }
+    ensures ends { around E.deeds E.polls C.given A.stream (edge.old, clock.old, rng.old) (edge.new, clock.new, rng.new) (EndsTold L.held L.faults lookup.now conf.now result.0 errors.old errors.new) }
+    ensures made { result.0 ≢ 6 → result.0 ≢ 7 → around E.deeds E.polls C.given A.stream (edge.old, clock.old, rng.old) (edge.new, clock.new, rng.new)
+        (IsMadeFor A.made lookup.now conf.now rng.old rng.new) }
     ensures stops { result.0 ≡ 7 → said L.held L.faults errors.old errors.new numbers_text }
     ensures line_flushed { (result.0 ≡ 5) ⊎ (result.0 ≡ 7) → IsFlushed (L.held errors.new) (L.flushed errors.new) ⊎ Rose (L.faults errors.old) (L.faults errors.new) }
     ensures quiet { HasPage result.0 → L.held errors.new ≡ L.held errors.old }

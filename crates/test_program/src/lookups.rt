@@ -4,8 +4,9 @@ use crate::runs::{sink, source};
 use client_core::{ListClock, ListEdge, What};
 use client_request::{Fault, ListWords, WordList};
 use dns_base::Octets;
-use dns_lookup_run::{PassingEdge, WatchedClock, WatchedEdge, run};
+use dns_lookup_run::{PassingEdge, WatchedClock, WatchedEdge, run, run_recorded};
 use dns_values::{MemSink, MemSource};
+use record_file::record_of;
 use std::alloc::{AllocError, Global};
 use std::test::Fail;
 
@@ -79,7 +80,21 @@ fn status(
     let mut edge = WatchedEdge::new(alloc, PassingEdge::new(alloc, edge));
     let mut clock = WatchedClock::new(ListClock::new(Vec::new(alloc)));
     let mut random = ListWords::new(WordList::new(alloc));
-    run(
+    let (file, words) = record_of(words);
+    if file.is_none() {
+        let status = run(
+            alloc,
+            words,
+            source,
+            written,
+            said,
+            &mut edge,
+            &mut clock,
+            &mut random,
+        );
+        return status.0;
+    }
+    let recorded = run_recorded(
         alloc,
         words,
         source,
@@ -88,8 +103,14 @@ fn status(
         &mut edge,
         &mut clock,
         &mut random,
-    )
-    .0
+        MemSink::new(alloc, Vec::new(alloc), Vec::new(alloc)),
+    );
+    recorded.tell_ended(alloc, said);
+    // The words alone have 8192 octets: each is 0, which is the id of the answer.
+    if recorded.status.0 == 0 && recorded.sink.as_slice().len() < 8192 {
+        return u8::MAX;
+    }
+    recorded.status.0
 }
 
 /// Whether a run with a sink ends so. The configuration, which words may make needless, names no server.
@@ -146,9 +167,16 @@ dns_lookup: 192.0.2.53:53 (UDP): connection refused
 dns_lookup: 192.0.2.53:53 (UDP): connection refused
 ";
 
-const RUNS: [Run; 18] = [
+const RUNS: [Run; 19] = [
     Run {
         words: "@192.0.2.53 example.com A",
+        answers: true,
+        status: 0,
+        written: PAGE,
+        said: "",
+    },
+    Run {
+        words: "--record FILE @192.0.2.53 example.com A",
         answers: true,
         status: 0,
         written: PAGE,
