@@ -1,5 +1,5 @@
 -- What a lookup ends with that is recorded.
-use Rattle.std.specs.Prelude.{◌≡◌, ◌≢◌, ℕ, List, ◌++◌, Option, String, Ok, Err, codes}
+use Rattle.std.specs.Prelude.{◌≡◌, ◌≢◌, ◌⊎◌, ℕ, List, ◌++◌, Option, String, Ok, Err, codes}
 use Rattle.std.specs.Fmt.{decimal}
 use Rattle.std.specs.declared.alloc.Global.{Global}
 use Rattle.client_request.specs.Words.{listed}
@@ -15,7 +15,7 @@ use Rattle.resolver_policy.specs.Practice.{practical_choice}
 use Rattle.resolver_policy.specs.declared.found.Found.{Found}
 use Rattle.resolv_conf.specs.declared.conf.ResolvConf.{ResolvConf}
 use Rattle.dns_lookup_run.specs.Conf.{IsConfOf}
-use Rattle.dns_lookup_run.specs.Ends.{EndsTold, IsOfAsking, IsToldSo}
+use Rattle.dns_lookup_run.specs.Ends.{EndsTold, IsOfAsking, IsToldSo, TellsWhy}
 use Rattle.dns_lookup_run.specs.Making.{IsMadeFor}
 use Rattle.dns_lookup_run.specs.Reports.{notes_text}
 use Rattle.dns_lookup_run.specs.Worlds.{World, at_words, said}
@@ -36,6 +36,10 @@ pub record Recordings (R : Type 0) : Type 0 where
 -- rows are recorded, where this is what a sink holds
 abbrev pub keeps_by : {R : Type 0} → (R → Option (List ℕ)) → Recordings R → Whole → List Row → Recordings R → Whole → Type 0
 keeps_by kept a client rows b moved = Keeps rows (kept a.sink) a.recorder client (kept b.sink) b.recorder moved
+
+-- a sentence tells why it ended so
+abbrev pub IsTold : (status : ℕ) → Type 0
+IsTold status = TellsWhy status ⊎ (status ≡ 8)
 
 abbrev pub unrecorded_line : Refused → List ℕ
 unrecorded_line refused = codes "dns_lookup: nothing is recorded: " ++ (refused_text refused ++ codes "\n")

@@ -6,8 +6,8 @@ ghost use Rattle.command_parts.specs.Ends.{IsSaid};
 ghost use Rattle.dns_record.specs.Asking.{left_of};
 ghost use Rattle.dns_values.specs.Sink.{IsFlushed};
 ghost use Rattle.dns_values.specs.Source.{Rose};
-ghost use Rattle.dns_lookup_run.specs.Ends.{HasNoConf, IsOfAsking, IsRefusalTold, TellsWhy};
-ghost use Rattle.dns_lookup_run.specs.Recorded.{AsksTo, Ran, ended_line, keeps_by, unrecorded_line};
+ghost use Rattle.dns_lookup_run.specs.Ends.{HasNoConf, IsOfAsking, IsRefusalTold};
+ghost use Rattle.dns_lookup_run.specs.Recorded.{AsksTo, IsTold, Ran, ended_line, keeps_by, unrecorded_line};
 ghost use Rattle.dns_lookup_run.specs.Worlds.{around, said};
 
 use crate::asks::{Answered, Asks};
@@ -171,7 +171,7 @@ fn ask_recorded<K: Sink, L: Sink, E: Edge + Drop, C: Clock + Drop, W: Words, R: 
     ensures silent { result.status.0 ≡ 8 → K.held sink.new ≡ K.held sink.old }
     ensures sink_fault { result.status.0 ≡ 4 → Rose (K.faults sink.old) (K.faults sink.new) }
     ensures count { K.faults sink.old ≤ K.faults sink.new }
-    ensures line_flushed { TellsWhy result.status.0 ⊎ (result.status.0 ≡ 8) → IsFlushed (L.held errors.new) (L.flushed errors.new) ⊎ Rose (L.faults errors.old) (L.faults errors.new) }
+    ensures line_flushed { IsTold result.status.0 → IsFlushed (L.held errors.new) (L.flushed errors.new) ⊎ Rose (L.faults errors.old) (L.faults errors.new) }
 {
     record_law();
     let choice = practical_choice();
@@ -223,7 +223,7 @@ pub fn run_recorded<
     ensures silent { (result.status.0 ≡ 2) ⊎ ((result.status.0 ≡ 3) ⊎ (result.status.0 ≡ 8)) → K.held sink.new ≡ K.held sink.old }
     ensures sink_fault { result.status.0 ≡ 4 → Rose (K.faults sink.old) (K.faults sink.new) }
     ensures count { K.faults sink.old ≤ K.faults sink.new }
-    ensures line_flushed { TellsWhy result.status.0 ⊎ (result.status.0 ≡ 8) → IsFlushed (L.held told.new) (L.flushed told.new) ⊎ Rose (L.faults told.old) (L.faults told.new) }
+    ensures line_flushed { IsTold result.status.0 → IsFlushed (L.held told.new) (L.flushed told.new) ⊎ Rose (L.faults told.old) (L.faults told.new) }
 {
     let lookup = match lookup_of(alloc, words) {
         Ok(lookup) => lookup,
