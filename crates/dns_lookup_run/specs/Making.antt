@@ -1,8 +1,10 @@
 -- What a client put out while a lookup was asked.
-use Rattle.std.specs.Prelude.{◌≡◌, ℕ, ◌+◌, List, [], ◌∷◌, ◌++◌, Option}
+use Rattle.std.specs.Prelude.{◌≡◌, ℕ, ◌+◌, List, [], ◌∷◌, ◌++◌, Option, Result, IfOk, IsErrOf}
 use Rattle.client_core.specs.declared.edge.Deed.{Deed}
-use Rattle.client_loop.specs.Asking.{Scene, between, rows_of, scene}
+use Rattle.client_loop.specs.Asking.{Scene, StopsForNumbers, between, rows_of, scene}
 use Rattle.client_request.specs.Request.{Request}
+use Rattle.client_request.specs.declared.error.Error.{Error}
+use Rattle.client_request.specs.declared.error.Error.TheVariants.{NumbersUsed}
 use Rattle.client_request.specs.declared.event.Row.{Row}
 use Rattle.client_steps.specs.Whole.{Whole}
 use Rattle.dns_record.specs.Asking.{IsAnsweredAnd}
@@ -10,6 +12,7 @@ use Rattle.dns_values.specs.declared.numbers.Rtype.{Rtype}
 use Rattle.dns_lookup_run.specs.Asking.{Answer, request_for, types_at}
 use Rattle.dns_lookup_run.specs.Watched.{Seen, Times, on}
 use Rattle.dns_lookup_run.specs.Worlds.{World, begun}
+use Rattle.dns_lookup_run.specs.declared.asking.Outcome.{Outcome}
 use Rattle.dns_lookup_words.specs.declared.lookup.Lookup.{Lookup}
 use Rattle.resolv_conf.specs.declared.conf.ResolvConf.{ResolvConf}
 
@@ -19,11 +22,25 @@ abbrev pub AskedBy : {E C A : Type 0} → (E → Option (List Deed)) → (E → 
 AskedBy deeds waits polls given stream made old new number request answer =
     between deeds waits polls given stream old new (IsAnsweredAnd (λ rows. made old.3 old.0 rows new.3 new.0) number 1000000 request answer)
 
+-- the same of what a call gave
+abbrev pub AskedIf : {E C A : Type 0} → Result Answer Error → (E → Option (List Deed)) → (E → Option (List ℕ)) → (E → ℕ) → (C → Option (List ℕ)) → (A → ℕ → ℕ) → (A → Whole → List Row → A → Whole → Type 0) → (old new : Whole × E × C × A)
+    → ℕ → Request → Type 0
+AskedIf result deeds waits polls given stream made old new number request = IfOk result (AskedBy deeds waits polls given stream made old new number request)
+
+-- A call that finds no number left stopped for that.
+abbrev pub StopsIf : {E C A : Type 0} → Result Answer Error → (E → Option (List Deed)) → (E → Option (List ℕ)) → (E → ℕ) → (C → Option (List ℕ)) → (A → ℕ → ℕ) → (old new : Whole × E × C × A) → Request → Type 0
+StopsIf result deeds waits polls given stream old new request = IsErrOf result NumbersUsed → between deeds waits polls given stream old new (StopsForNumbers request)
+
 -- the same of a type of a lookup, by what a watched edge and a watched clock tell
 abbrev pub GaveBy : {E C A : Type 0} → (E → Option (List Deed)) → (E → Option (List ℕ)) → (E → ℕ) → (C → Option (List ℕ)) → (A → ℕ → ℕ) → (A → Whole → List Row → A → Whole → Type 0) → (old new : Whole × Seen E × Times C × A)
     → Lookup → Rtype → ℕ → Answer → Type 0
 GaveBy deeds waits polls given stream made old new lookup rtype number answer =
     on deeds waits polls given stream old new (IsAnsweredAnd (λ rows. made old.3 old.0 rows new.3 new.0) number 1000000 (request_for lookup rtype) answer)
+
+-- the same of what a call gave
+abbrev pub GaveIf : {E C A : Type 0} → Result Outcome Error → (E → Option (List Deed)) → (E → Option (List ℕ)) → (E → ℕ) → (C → Option (List ℕ)) → (A → ℕ → ℕ) → (A → Whole → List Row → A → Whole → Type 0)
+    → (old new : Whole × Seen E × Times C × A) → Lookup → Rtype → ℕ → Type 0
+GaveIf result deeds waits polls given stream made old new lookup rtype number = IfOk result (λ c. GaveBy deeds waits polls given stream made old new lookup rtype number c.answer)
 
 -- Types are asked for one after another, from the request of this number on, each was answered so, and these are the rows, of which this is told.
 pub data AreMade {A : Type 0} (made : A → Whole → List Row → A → Whole → Type 0) (lookup : Lookup) : ℕ → List Rtype → List Answer → List Row → (first last : A) → Scene → Scene → Type 0 where

@@ -3,7 +3,7 @@
 ghost use Rattle.std.specs.Prelude.{◌≡◌, ◌≢◌, IfOk, IfErr, IsErrOf};
 ghost use Rattle.client_request.specs.declared.error.Error.TheVariants.{NumbersUsed};
 ghost use Rattle.dns_lookup_run.specs.Asking.{Gave, Stopped, request_for};
-ghost use Rattle.dns_lookup_run.specs.Making.{GaveBy};
+ghost use Rattle.dns_lookup_run.specs.Making.{GaveIf};
 ghost use Rattle.dns_lookup_run.specs.Watched.{on};
 
 use crate::asks::{Answered, Asks};
@@ -55,8 +55,7 @@ pub(crate) fn asked<E: Edge + Drop, C: Clock + Drop, A: Asks>(
 ) -> Result<Outcome, Error>
     ensures answered { IfOk result (λ c. on E.deeds E.waits E.polls C.given A.stream (client.old, edge.old, clock.old, words.old) (client.new, edge.new, clock.new, words.new)
         (Gave lookup.now rtype number c.answer)) }
-    ensures made { IfOk result (λ c. GaveBy E.deeds E.waits E.polls C.given A.stream A.made
-        (client.old, edge.old, clock.old, words.old) (client.new, edge.new, clock.new, words.new) lookup.now rtype number c.answer) }
+    ensures made { GaveIf result E.deeds E.waits E.polls C.given A.stream A.made (client.old, edge.old, clock.old, words.old) (client.new, edge.new, clock.new, words.new) lookup.now rtype number }
     ensures numbers { IsErrOf result NumbersUsed → on E.deeds E.waits E.polls C.given A.stream (client.old, edge.old, clock.old, words.old)
         (client.new, edge.new, clock.new, words.new) (Stopped lookup.now rtype) }
 {

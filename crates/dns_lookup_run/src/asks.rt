@@ -1,11 +1,9 @@
 //! Who asks a client: with words as they come, or recorded.
 
-ghost use Rattle.std.specs.Prelude.{ℕ, List, IfOk, IsErrOf};
-ghost use Rattle.client_loop.specs.Asking.{StopsForNumbers, between};
-ghost use Rattle.client_request.specs.declared.error.Error.{Error};
+ghost use Rattle.std.specs.Prelude.{ℕ, List};
 ghost use Rattle.client_request.specs.declared.event.Row.{Row};
 ghost use Rattle.client_steps.specs.Whole.{Whole};
-ghost use Rattle.dns_lookup_run.specs.Making.{AskedBy};
+ghost use Rattle.dns_lookup_run.specs.Making.{AskedIf, StopsIf};
 
 use client_core::{Client, Clock, Edge};
 use client_loop::ask;
@@ -33,9 +31,8 @@ pub(crate) trait Asks {
         number: u64,
         request: RequestMessage,
     ) -> Result<Answered, Error>
-        ensures answered { IfOk result (AskedBy E.deeds E.waits E.polls C.given stream made (client.old, edge.old, clock.old, self.old) (client.new, edge.new, clock.new, self.new) number request) }
-        ensures numbers { IsErrOf result Error.NumbersUsed →
-            between E.deeds E.waits E.polls C.given stream (client.old, edge.old, clock.old, self.old) (client.new, edge.new, clock.new, self.new) (StopsForNumbers request) };
+        ensures answered { AskedIf result E.deeds E.waits E.polls C.given stream made (client.old, edge.old, clock.old, self.old) (client.new, edge.new, clock.new, self.new) number request }
+        ensures numbers { StopsIf result E.deeds E.waits E.polls C.given stream (client.old, edge.old, clock.old, self.old) (client.new, edge.new, clock.new, self.new) request };
 }
 
 impl<W: Words> Asks for W {

@@ -165,8 +165,7 @@ fn ask_recorded<K: Sink, L: Sink, E: Edge + Drop, C: Clock + Drop, W: Words, R: 
     file: R,
 ) -> Recorded<R>
     ensures statuses { IsOfAsking result.status.0 ⊎ (result.status.0 ≡ 8) }
-    ensures ends { around E.deeds E.polls C.given W.stream (edge.old, clock.old, rng.old) (edge.new, clock.new, rng.new)
-        (AsksTo L.held L.faults R.held R.faults lookup.now conf.now errors.old errors.new file result) }
+    ensures ends { around E.deeds E.polls C.given W.stream (edge.old, clock.old, rng.old) (edge.new, clock.new, rng.new) (AsksTo L.held L.faults R.held R.faults lookup.now conf.now errors.old errors.new file result) }
     ensures flushed { result.status.0 ≡ 0 → IsFlushed (K.held sink.new) (K.flushed sink.new) }
     ensures silent { result.status.0 ≡ 8 → K.held sink.new ≡ K.held sink.old }
     ensures sink_fault { result.status.0 ≡ 4 → Rose (K.faults sink.old) (K.faults sink.new) }
@@ -216,8 +215,7 @@ pub fn run_recorded<
 ) -> Recorded<R>
     ensures statuses { (result.status.0 ≢ 1) × (result.status.0 < 9) }
     ensures usage { result.status.0 ≡ 2 → IsRefusalTold words.now (L.held told.old) (L.held told.new) (L.faults told.old) (L.faults told.new) }
-    ensures ends { around E.deeds E.polls C.given W.stream (edge.old, clock.old, rng.old) (edge.new, clock.new, rng.new)
-        (Ran L.held L.faults R.held R.faults words.now (S.left source.old) told.old told.new file result) }
+    ensures ends { around E.deeds E.polls C.given W.stream (edge.old, clock.old, rng.old) (edge.new, clock.new, rng.new) (Ran L.held L.faults R.held R.faults words.now (S.left source.old) told.old told.new file result) }
     ensures flushed { result.status.0 ≡ 0 → IsFlushed (K.held sink.new) (K.flushed sink.new) }
     ensures no_conf { result.status.0 ≡ 3 → HasNoConf (S.left source.old) (S.faults source.old) (S.faults source.new) (said L.held L.faults told.old told.new) }
     ensures silent { (result.status.0 ≡ 2) ⊎ ((result.status.0 ≡ 3) ⊎ (result.status.0 ≡ 8)) → K.held sink.new ≡ K.held sink.old }
