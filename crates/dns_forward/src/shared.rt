@@ -12,7 +12,7 @@ use std::thread::Threads;
 use worker_edge::{Common, SharedFront, SystemDoor};
 
 /// The most threads that answer datagrams, at all addresses together.
-const MOST_WORKERS: u64 = 16_384;
+const MOST_WORKERS: usize = 16_384;
 
 /// So many workers at each of so many addresses.
 fn workers_at<'a, T: Wait>(
@@ -47,7 +47,7 @@ pub fn serve_by_threads<T: Threads + Wait + Sync>(
     let alloc = rt.alloc();
     let addresses = listened.len();
     let doors = (addresses as u64).saturating_mul(options.workers);
-    if doors > MOST_WORKERS {
+    if doors > MOST_WORKERS as u64 {
         return USAGE;
     }
     let seed = random.next();
@@ -57,6 +57,10 @@ pub fn serve_by_threads<T: Threads + Wait + Sync>(
     let Ok(workers) = workers_at(rt, &common, addresses, options.workers) else {
         return NO_MEMORY;
     };
+    // There is one for each door.
+    if workers.len() > MOST_WORKERS {
+        return USAGE;
+    }
     let first = First {
         front: SharedFront::new(rt, alloc, listened, &common),
         clock: RealClock::new(rt),
