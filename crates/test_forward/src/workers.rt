@@ -27,12 +27,12 @@ fn came(alloc: Global, peer: u64, octets: &[u8]) -> Result<FrontWhat, NoMemory> 
 /// A worker to whom the query and one that is refused come, in this order.
 fn worker<'a>(
     alloc: Global,
-    peer: u64,
+    peers: [u64; 2],
     sent: &'a AtomicU64,
 ) -> Option<Worker<CountedDoor<'a>, ListClock>> {
     let mut whats = Vec::new(alloc);
-    whats.push(came(alloc, peer, &QUERY).ok()?).ok()?;
-    whats.push(came(alloc, peer + 1, &NOTIFY).ok()?).ok()?;
+    whats.push(came(alloc, peers[0], &QUERY).ok()?).ok()?;
+    whats.push(came(alloc, peers[1], &NOTIFY).ok()?).ok()?;
     let over = ListDoor::new(alloc, whats);
     Some(Worker {
         door: CountedDoor { over, sent },
@@ -55,8 +55,8 @@ fn workers<'a>(
     sent: &'a AtomicU64,
 ) -> Option<Vec<Worker<CountedDoor<'a>, ListClock>>> {
     let mut workers = Vec::new(alloc);
-    workers.push(worker(alloc, 7, sent)?).ok()?;
-    workers.push(worker(alloc, 9, sent)?).ok()?;
+    workers.push(worker(alloc, [7, 8], sent)?).ok()?;
+    workers.push(worker(alloc, [9, 10], sent)?).ok()?;
     Some(workers)
 }
 
@@ -77,6 +77,9 @@ fn run<R: Threads + Wait + Sync>(rt: &R, alloc: Global) -> Option<(u8, bool, usi
     let (options, rest) = options_of(alloc, &words).ok()?;
     let mut source = source(alloc, "nameserver 192.0.2.53")?;
     let workers = workers(alloc, &sent)?;
+    if workers.len() > 2 {
+        return None;
+    }
     let mut sink = MemSink::new(alloc, Vec::new(alloc), Vec::new(alloc));
     let (status, crew) = serve_by_all(
         rt,
