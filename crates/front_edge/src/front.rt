@@ -181,7 +181,7 @@ impl<R: Net<Listener = TcpListener, Stream = TcpStream> + Copy> ListenerFront<
         ensures faults { result.faults ≡ 0 }
     {
         let network = SystemNetwork::new(rt, alloc);
-        ListenerFront::over(network, SystemListeners::new(rt), alloc, addresses)
+        ListenerFront::over(network, SystemListeners::new(rt, alloc), alloc, addresses)
     }
 }
 

@@ -5,6 +5,7 @@ use crate::streams::SystemStreams;
 use client_edge::{fault_of, system_address};
 use client_request::Fault;
 use dns_values::SocketAddr;
+use std::alloc::Global;
 use std::io;
 use std::net::{Net, TcpListener, TcpStream, UdpSocket};
 
@@ -21,12 +22,13 @@ pub trait OpenListeners<D, L> {
 #[derive(Drop)]
 pub struct SystemListeners<R: Net<Listener = TcpListener, Stream = TcpStream> + Copy> {
     rt: R,
+    alloc: Global,
 }
 
 impl<R: Net<Listener = TcpListener, Stream = TcpStream> + Copy> SystemListeners<R> {
     /// Over the system's network.
-    pub fn new(rt: R) -> SystemListeners<R> {
-        SystemListeners { rt }
+    pub fn new(rt: R, alloc: Global) -> SystemListeners<R> {
+        SystemListeners { rt, alloc }
     }
 
     /// A socket that is bound and does not wait.
@@ -50,7 +52,7 @@ impl<R: Net<Listener = TcpListener, Stream = TcpStream> + Copy> OpenListeners<
 > for SystemListeners<R> {
     fn open_dgrams(&mut self, addr: SocketAddr) -> Result<SystemDgrams, Fault> {
         match self.bound(addr) {
-            Ok(socket) => Ok(SystemDgrams::new(socket)),
+            Ok(socket) => Ok(SystemDgrams::new(self.alloc, socket)),
             Err(error) => Err(fault_of(error.kind())),
         }
     }

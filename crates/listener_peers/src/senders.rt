@@ -4,8 +4,8 @@ ghost use Rattle.std.specs.Prelude.{◌≡◌, [], IfOk, OnOk};
 ghost use Rattle.listener_peers.specs.Senders.{and_next, but_sender, sender_at, with_room};
 
 use dns_values::{NoMemory, SocketAddr};
+use number_table::NumberTable;
 use std::alloc::Global;
-use std::collections::BTreeMap;
 use std::marker::Model;
 
 /// How many senders are kept at most.
@@ -24,7 +24,7 @@ pub struct Sender {
 /// there are more than can be kept.
 pub struct Senders {
     next: u64,
-    by_number: BTreeMap<u64, Sender>,
+    by_number: NumberTable<Sender>,
 }
 
 impl Drop for Senders {
@@ -41,7 +41,7 @@ impl Model for Senders {
 
     ghost Value = { Senders };
 
-    ghost view = { λ s. record { next = s.next; kept = s.by_number.entries } };
+    ghost view = { λ s. record { next = s.next; kept = s.by_number } };
 }
 
 impl Senders {
@@ -51,7 +51,7 @@ impl Senders {
     {
         Senders {
             next: first,
-            by_number: BTreeMap::new(alloc),
+            by_number: NumberTable::new(alloc),
         }
     }
 
@@ -72,7 +72,7 @@ impl Senders {
         ensures sender { result ≡ sender_at number self.old.kept }
         ensures forgotten { self.new ≡ record { next = self.old.next; kept = but_sender number self.old.kept } }
     {
-        self.by_number.remove(&number)
+        self.by_number.remove(number)
     }
 
     /// Forgets the oldest sender where there are as many as can be kept.

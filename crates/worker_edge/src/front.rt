@@ -34,7 +34,7 @@ impl<'a, T: Wait, R: Net<Listener = TcpListener, Stream = TcpStream> + Copy> Sha
         common: &'a Common<'a, T>,
     ) -> SharedFront<'a, T, R> {
         let network = SystemNetwork::new(rt, alloc);
-        let opener = SharedListeners::new(rt, common);
+        let opener = SharedListeners::new(rt, alloc, common);
         SharedFront {
             over: ListenerFront::over(network, opener, alloc, addresses),
             post: Post::new(alloc, common),

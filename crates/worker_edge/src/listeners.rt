@@ -6,6 +6,7 @@ use client_edge::{fault_of, system_address};
 use client_request::Fault;
 use dns_values::SocketAddr;
 use front_edge::{OpenListeners, SystemListeners, SystemStreams};
+use std::alloc::Global;
 use std::net::{Ipv4Addr, Net, SocketAddrV4, TcpListener, TcpStream, UdpSocket};
 use std::sync::Wait;
 use std::{io, net};
@@ -25,11 +26,15 @@ impl<'a, T: Wait, R: Net<Listener = TcpListener, Stream = TcpStream> + Copy> Sha
     R,
 > {
     /// Over the system's network.
-    pub(crate) fn new(rt: R, common: &'a Common<'a, T>) -> SharedListeners<'a, T, R> {
+    pub(crate) fn new(
+        rt: R,
+        alloc: Global,
+        common: &'a Common<'a, T>,
+    ) -> SharedListeners<'a, T, R> {
         SharedListeners {
             rt,
             common,
-            streams: SystemListeners::new(rt),
+            streams: SystemListeners::new(rt, alloc),
         }
     }
 
