@@ -14,7 +14,8 @@ use dns_values::{IpAddr, NoMemory, Seq, SocketAddr};
 use forward_run::Front;
 use front_peers::{FrontOut, FrontWhat};
 use listener_peers::{
-    DgramDoor, DgramListener, Heard, Listener, PeerBooks, ServerBooks, StreamDoor, Told,
+    BatchDgrams, DgramDoor, DgramListener, Heard, Listener, PeerBooks, ServerBooks, StreamDoor,
+    Told,
 };
 use resolv_conf::ServerConf;
 use socket_places::{Books, Network};
@@ -49,7 +50,7 @@ pub struct ListenerFront<
 /// A front over the system's sockets.
 pub type SocketFront<R> = ListenerFront<
     SystemNetwork<R>,
-    SystemDgrams,
+    BatchDgrams<SystemDgrams>,
     SystemStreams,
     SystemListeners<R>,
 >;
@@ -166,7 +167,7 @@ impl<
 
 impl<R: Net<Listener = TcpListener, Stream = TcpStream> + Copy> ListenerFront<
     SystemNetwork<R>,
-    SystemDgrams,
+    BatchDgrams<SystemDgrams>,
     SystemStreams,
     SystemListeners<R>,
 > {
@@ -175,7 +176,12 @@ impl<R: Net<Listener = TcpListener, Stream = TcpStream> + Copy> ListenerFront<
         rt: R,
         alloc: Global,
         addresses: Seq<IpAddr>,
-    ) -> ListenerFront<SystemNetwork<R>, SystemDgrams, SystemStreams, SystemListeners<R>>
+    ) -> ListenerFront<
+        SystemNetwork<R>,
+        BatchDgrams<SystemDgrams>,
+        SystemStreams,
+        SystemListeners<R>,
+    >
         ensures addresses { result.addresses ≡ addresses }
         ensures polls { result.polls ≡ 0 }
         ensures faults { result.faults ≡ 0 }

@@ -5,6 +5,7 @@ use crate::streams::SystemStreams;
 use client_edge::{fault_of, system_address};
 use client_request::Fault;
 use dns_values::SocketAddr;
+use listener_peers::BatchDgrams;
 use std::alloc::Global;
 use std::io;
 use std::net::{Net, TcpListener, TcpStream, UdpSocket};
@@ -47,12 +48,12 @@ impl<R: Net<Listener = TcpListener, Stream = TcpStream> + Copy> SystemListeners<
 }
 
 impl<R: Net<Listener = TcpListener, Stream = TcpStream> + Copy> OpenListeners<
-    SystemDgrams,
+    BatchDgrams<SystemDgrams>,
     SystemStreams,
 > for SystemListeners<R> {
-    fn open_dgrams(&mut self, addr: SocketAddr) -> Result<SystemDgrams, Fault> {
+    fn open_dgrams(&mut self, addr: SocketAddr) -> Result<BatchDgrams<SystemDgrams>, Fault> {
         match self.bound(addr) {
-            Ok(socket) => Ok(SystemDgrams::new(self.alloc, socket)),
+            Ok(socket) => Ok(BatchDgrams::new(self.alloc, SystemDgrams::new(socket))),
             Err(error) => Err(fault_of(error.kind())),
         }
     }

@@ -1,1 +1,2 @@
+mod Batching
 mod Taking

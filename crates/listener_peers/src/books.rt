@@ -109,7 +109,7 @@ fn send<D: DgramListener + Drop>(
     dgrams: &mut Vec<DgramDoor<D>>,
     at: usize,
     to: SocketAddr,
-    octets: &[u8],
+    octets: &Octets,
 ) -> Result<(), NoMemory>
     ensures { OnOk result (SendsAt (slice_get dgrams.old.items at) at to octets.now dgrams.old.items dgrams.new.items) }
 {
@@ -346,12 +346,7 @@ impl<D: DgramListener + Drop, L: Listener + Drop> PeerBooks<D, L> {
         ensures { OnOk result (AnswersDatagram number octets.now self.old self.new) }
     {
         match self.senders.take(number) {
-            Some(sender) => send(
-                &mut self.dgrams,
-                sender.door,
-                sender.from,
-                octets.as_slice(),
-            ),
+            Some(sender) => send(&mut self.dgrams, sender.door, sender.from, octets),
             None => Ok(()),
         }
     }

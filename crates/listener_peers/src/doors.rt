@@ -8,7 +8,7 @@ ghost use Rattle.socket_places.specs.Told.{IsFresh};
 
 use crate::heard::Spot;
 use crate::listener::{DgramListener, Letter, Listener};
-use dns_values::{NoMemory, SocketAddr};
+use dns_values::{NoMemory, Octets, SocketAddr};
 use socket_places::{Answer, Asked};
 use std::alloc::Global;
 use std::marker::Model;
@@ -70,7 +70,7 @@ impl<D: DgramListener + Drop> DgramDoor<D> {
     }
 
     /// Hands it a datagram: how many of its octets it took.
-    pub fn send(&mut self, to: SocketAddr, octets: &[u8]) -> Result<Answer<usize>, NoMemory>
+    pub fn send(&mut self, to: SocketAddr, octets: &Octets) -> Result<Answer<usize>, NoMemory>
         ensures { IfOk result (λ answer. self.new ≡ after_post (Post.Went to octets.now answer) self.old) }
     {
         self.listener.send(to, octets)

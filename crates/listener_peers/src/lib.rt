@@ -5,6 +5,7 @@
 //! one wait over them and the places of a client.
 #![tactic(auto)]
 
+mod batch;
 mod books;
 mod doors;
 mod heard;
@@ -17,6 +18,7 @@ mod senders;
 mod server;
 mod unsent;
 
+pub use batch::{BatchDgrams, Outgoing};
 pub use books::{FIRST_STREAM, PeerBooks};
 pub use doors::{DgramDoor, StreamDoor};
 pub use heard::{Heard, Spot};

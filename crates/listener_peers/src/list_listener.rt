@@ -93,7 +93,6 @@ impl Listener for ListListener {
 /// was done with it. Past their ends it has none to give, and takes all octets. It takes no more octets than it is handed, whatever
 /// its list says.
 pub struct ListDgrams {
-    alloc: Global,
     descriptor: i32,
     letters: VecDeque<Answer<Letter>>,
     sends: VecDeque<Answer<usize>>,
@@ -103,7 +102,6 @@ pub struct ListDgrams {
 impl Drop for ListDgrams {
     fn drop(self) {
         let ListDgrams {
-            alloc: _,
             descriptor: _,
             letters: _,
             sends: _,
@@ -169,7 +167,6 @@ impl ListDgrams {
         ensures { result ≡ record { descriptor = descriptor; posts = [] } }
     {
         ListDgrams {
-            alloc,
             descriptor,
             letters: VecDeque::from(letters),
             sends: VecDeque::from(sends),
@@ -202,13 +199,13 @@ impl DgramListener for ListDgrams {
         Ok(answer)
     }
 
-    fn send(&mut self, to: SocketAddr, octets: &[u8]) -> Result<Answer<usize>, NoMemory> {
-        let most = octets.len();
+    fn send(&mut self, to: SocketAddr, octets: &Octets) -> Result<Answer<usize>, NoMemory> {
+        let most = octets.as_slice().len();
         let planned = self.sends.pop_front().unwrap_or(Answer::Done(most));
         let (answer, copy) = within(most, &planned);
         self.posts.push(Post::Went {
             to,
-            octets: Octets::from_slice(self.alloc, octets)?,
+            octets: octets.try_clone()?,
             answer: copy,
         })?;
         Ok(answer)

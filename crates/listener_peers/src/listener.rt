@@ -52,7 +52,7 @@ pub trait DgramListener {
         ensures posts { IfOk result (λ answer. posts self.new ≡ after_one (Post.Came answer) (posts self.old)) };
 
     /// Hands it a datagram: how many of its octets it took.
-    fn send(&mut self, to: SocketAddr, octets: &[u8]) -> Result<Answer<usize>, NoMemory>
+    fn send(&mut self, to: SocketAddr, octets: &Octets) -> Result<Answer<usize>, NoMemory>
         ensures within { IfOk result (IsWithin (length octets.now)) }
         ensures posts { IfOk result (λ answer. posts self.new ≡ after_one (Post.Went to octets.now answer) (posts self.old)) };
 }

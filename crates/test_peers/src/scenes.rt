@@ -10,7 +10,7 @@ use std::alloc::Global;
 pub type ListServer = ServerBooks<ListNetwork, ListDgrams, ListListener>;
 
 /// A peer's address.
-const FROM: SocketAddr = SocketAddr {
+pub const FROM: SocketAddr = SocketAddr {
     ip: IpAddr::V4([192, 0, 2, 1]),
     port: 53,
 };

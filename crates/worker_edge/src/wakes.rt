@@ -2,7 +2,7 @@
 
 ghost use Rattle.std.specs.Prelude.{None};
 
-use dns_values::{NoMemory, SocketAddr};
+use dns_values::{NoMemory, Octets, SocketAddr};
 use listener_peers::{DgramListener, Letter};
 use socket_places::Answer;
 use std::alloc::Global;
@@ -43,7 +43,7 @@ impl DgramListener for WakeDgrams {
         Ok(Answer::Later)
     }
 
-    fn send(&mut self, _to: SocketAddr, _octets: &[u8]) -> Result<Answer<usize>, NoMemory> {
+    fn send(&mut self, _to: SocketAddr, _octets: &Octets) -> Result<Answer<usize>, NoMemory> {
         Ok(Answer::Done(0))
     }
 }
