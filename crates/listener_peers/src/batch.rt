@@ -1,6 +1,7 @@
 //! A socket for datagrams that receives, and sends, many one behind another.
 
-ghost use Rattle.std.specs.Prelude.{◌≡◌, [], None, false, IfOk, OnOk};
+ghost use Rattle.std.specs.Prelude.{◌≡◌, [], None, false, length, IfOk, OnOk};
+ghost use Rattle.socket_places.specs.Told.{IsWithin};
 ghost use Rattle.listener_peers.specs.Batches.{Ends, Fills, GivesNext, PutsAnother, Receives, ReceivesOne, SendsAll, TakesIf, taken};
 
 use crate::listener::{DgramListener, Letter};
@@ -184,6 +185,7 @@ impl<D: DgramListener + Drop> DgramListener for BatchDgrams<D> {
     }
 
     fn send(&mut self, to: SocketAddr, octets: &Octets) -> Result<Answer<usize>, NoMemory>
+        ensures within { IfOk result (IsWithin (length octets.now)) }
         ensures taken { IfOk result (TakesIf self.old.gives to octets.now self.old self.new) }
     {
         if !self.gives {
