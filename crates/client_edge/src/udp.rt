@@ -120,11 +120,11 @@ impl<R: Net + Drop> UdpConnect<R> {
     fn bind(&self) -> io::Result<UdpSocket> {
         let local = any_local(system_address(self.addr));
         for _ in 1..TRIES {
-            if let Ok(socket) = UdpSocket::bind(&self.rt, local) {
+            if let Ok(socket) = self.rt.bind_udp(local) {
                 return Ok(socket);
             }
         }
-        UdpSocket::bind(&self.rt, local)
+        self.rt.bind_udp(local)
     }
 
     fn open(&self) -> io::Result<UdpDgram> {

@@ -1,5 +1,5 @@
 -- A socket for datagrams that receives, and sends, many one behind another.
-use Rattle.std.specs.Prelude.{◌≡◌, ℕ, Bool, true, false, List, [], ◌∷◌, ◌++◌, length, Option, None, Some}
+use Rattle.std.specs.Prelude.{◌≡◌, ◌+◌, ◌<◌, ◌≤◌, ℕ, suc, Bool, true, false, List, [], ◌∷◌, ◌++◌, length, Option, None, Some}
 use Rattle.client_request.specs.declared.fault.Fault.{Fault}
 use Rattle.dns_values.specs.declared.address.SocketAddr.{SocketAddr}
 use Rattle.socket_places.specs.declared.socket.Answer.{Answer}
@@ -25,15 +25,26 @@ taken (Done letter) b = record b { came = b.came ++ letter ∷ [] }
 taken (Failed fault) b = record b { fault = Some fault }
 taken Later b = b
 
--- The socket was asked for a datagram once.
-pub record ReceivesOne (old new : Batch) : Type 0 where
+abbrev pub is_letter : Answer Letter → Bool
+is_letter (Done letter) = true
+is_letter (Failed fault) = false
+is_letter Later = false
+
+-- the most datagrams that are received, or sent, one behind another
+abbrev pub at_once : ℕ
+at_once = 32
+
+-- The socket was asked for a datagram once, and gave one or not.
+pub record ReceivesOne (old new : Batch) (more : Bool) : Type 0 where
   pub answer : Answer Letter
   pub after : new ≡ taken answer (record old { posts = after_one (Came answer) old.posts })
+  pub more_is : more ≡ is_letter answer
 
--- The socket was asked for datagrams, and what it gave stands in order.
-pub data Receives (first : Batch) : Batch → Type 0 where
-  asked_nothing : Receives first first
-  asked_more : (old new : Batch) → Receives first old → ReceivesOne old new → Receives first new
+-- The socket was asked for datagrams until it gave none, so often at most, and what it gave stands in order.
+pub data Receives : (most : ℕ) → (old new : Batch) → Type 0 where
+  asked_enough : (b : Batch) → Receives 0 b b
+  gave_none : (most : ℕ) (old new : Batch) → ReceivesOne old new false → Receives (suc most) old new
+  gave_one : (most : ℕ) (old next new : Batch) → ReceivesOne old next true → Receives most next new → Receives (suc most) old new
 
 -- These were sent in order, whatever the socket answered.
 pub data SendsAll : List Outgoing → (old new : Option (List Post)) → Type 0 where
@@ -59,17 +70,17 @@ GivesFirst (letter ∷ more) old new answer = (new ≡ record old { came = more 
 -- Datagrams are received where whoever asks was told that there are no more.
 abbrev pub Fills : (gives : Bool) → (old new : Batch) → Type 0
 Fills true old new = new ≡ old
-Fills false old new = Receives (record old { gives = true }) new
+Fills false old new = Receives at_once (record old { gives = true }) new
 
 pub record GivesNext (old new : Batch) (answer : Answer Letter) : Type 0 where
   pub filled : Batch
   pub fills : Fills old.gives old filled
   pub first : GivesFirst filled.came filled new answer
 
--- A datagram stands behind those that are not sent yet, or all of these are sent.
+-- A datagram stands behind those that are not sent yet; where these are as many as are sent one behind another, all are sent.
 pub data Puts (out : Outgoing) (old new : Batch) : Type 0 where
-  stands : new ≡ record old { unsent = old.unsent ++ out ∷ [] } → Puts out old new
-  all_sent : SendsAll (old.unsent ++ out ∷ []) old.posts new.posts → new ≡ record old { posts = new.posts; unsent = [] } → Puts out old new
+  stands : length old.unsent + 1 < at_once → new ≡ record old { unsent = old.unsent ++ out ∷ [] } → Puts out old new
+  all_sent : at_once ≤ length old.unsent + 1 → SendsAll (old.unsent ++ out ∷ []) old.posts new.posts → new ≡ record old { posts = new.posts; unsent = [] } → Puts out old new
 
 -- It is sent at once where nothing is given, and else it is put with the others.
 pub record PutsAnother (to : SocketAddr) (octets : List ℕ) (old new : Batch) : Type 0 where

@@ -1,11 +1,10 @@
 -- Listeners: what they are asked for, and what comes of it.
-use Rattle.std.specs.Prelude.{◌≡◌, ℕ, ℤ, Bool, true, false, if◌then◌else◌, List, [], ◌∷◌, ◌++◌, map, Option, None, Some, slice_get, slice_set}
-use Rattle.dns_values.specs.Source.{one_more}
+use Rattle.std.specs.Prelude.{◌≡◌, ℕ, ℤ, true, false, List, Option, None, Some, slice_set}
 use Rattle.dns_values.specs.declared.address.SocketAddr.{SocketAddr}
 use Rattle.socket_places.specs.declared.socket.Answer.{Answer}
 use Rattle.socket_places.specs.declared.socket.Answer.TheVariants.{Done, Failed, Later}
 use Rattle.socket_places.specs.declared.network.Asked.{Asked}
-use Rattle.socket_places.specs.Told.{after_one, found_at}
+use Rattle.socket_places.specs.Told.{after_one}
 use Rattle.listener_peers.specs.declared.listener.Post.{Post}
 
 -- the answer without its value

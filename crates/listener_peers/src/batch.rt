@@ -2,7 +2,7 @@
 
 ghost use Rattle.std.specs.Prelude.{◌≡◌, [], None, false, length, IfOk, OnOk};
 ghost use Rattle.socket_places.specs.Told.{IsWithin};
-ghost use Rattle.listener_peers.specs.Batches.{Ends, Fills, GivesNext, PutsAnother, Receives, ReceivesOne, SendsAll, TakesIf, taken};
+ghost use Rattle.listener_peers.specs.Batches.{Ends, Fills, GivesNext, PutsAnother, Receives, ReceivesOne, SendsAll, TakesIf, at_once, is_letter, taken};
 
 use crate::listener::{DgramListener, Letter};
 use client_request::Fault;
@@ -94,7 +94,8 @@ impl<D: DgramListener + Drop> BatchDgrams<D> {
 
     /// Keeps what the socket gave: whether that was a datagram.
     fn take_in(&mut self, answer: Answer<Letter>) -> Result<bool, NoMemory>
-        ensures { OnOk result (self.new ≡ taken answer self.old) }
+        ensures kept { OnOk result (self.new ≡ taken answer self.old) }
+        ensures more { IfOk result (λ more. more ≡ is_letter answer) }
     {
         match answer {
             Answer::Done(letter) => {
@@ -111,7 +112,7 @@ impl<D: DgramListener + Drop> BatchDgrams<D> {
 
     /// Receives a datagram: whether one came.
     fn receive_one(&mut self, alloc: Global, buf: &mut [u8]) -> Result<bool, NoMemory>
-        ensures { OnOk result (ReceivesOne self.old self.new) }
+        ensures { IfOk result (ReceivesOne self.old self.new) }
     {
         let answer = self.socket.receive(alloc, buf)?;
         self.take_in(answer)
@@ -119,7 +120,7 @@ impl<D: DgramListener + Drop> BatchDgrams<D> {
 
     /// Receives what came, as much as is received one behind another.
     fn receive_all(&mut self, alloc: Global, buf: &mut [u8]) -> Result<(), NoMemory>
-        ensures { OnOk result (Receives self.old self.new) }
+        ensures { OnOk result (Receives at_once self.old self.new) }
     {
         for _ in 0..AT_ONCE {
             if !self.receive_one(alloc, buf)? {
