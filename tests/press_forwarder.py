@@ -93,6 +93,18 @@ def serve(port):
             dgrams.sendto(answer, peer)
 
 
+def port_of_no_client():
+    """A free port below those that the system gives clients, so that none of them has it while the server is dead."""
+    while True:
+        port = random.randrange(20000, 32000)
+        with socket.socket(socket.AF_INET, socket.SOCK_DGRAM) as it:
+            try:
+                it.bind(("127.0.0.1", port))
+                return port
+            except OSError:
+                continue
+
+
 def server_at(port):
     server = multiprocessing.Process(target=serve, args=(port,), daemon=True)
     server.start()
@@ -355,7 +367,7 @@ def main():
     if len(sys.argv) < 2:
         sys.exit(__doc__)
     program = os.path.abspath(sys.argv[1])
-    server_port, port = free_port(), free_port()
+    server_port, port = port_of_no_client(), free_port()
     server = server_at(server_port)
     forwarder = start(program, port, server_port)
     atexit.register(forwarder.kill)
