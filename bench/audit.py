@@ -14,10 +14,10 @@ rows; requests that wait, as many rows long; frames that come at once, each of w
 question, behind which views of the oldest are given. Of these it is told how many times as long ten times as much takes, and `grows` where that is above 14 times: these have no bound
 yet, and docs/MEASURED.md says what is known of them.
 
-With --long the judge alone is timed, by BENCH_AUDIT, the built bench_audit, over texts that no script of the programs may be long enough
-for: 100,000 and 1,000,000 rows, up to ten questions at a time by datagrams, and one question of which the answer is kept. A replay is
-repeated with later moments and higher numbers; nothing is open where it ends. It is judged three times and not at all, in turn, and a
-third of the difference counts. The same bounds hold.
+With --long the judge alone is timed, by BENCH_AUDIT, which `bench/build --proved bench_audit` makes, over texts that no script of the
+programs may be long enough for: 100,000 and 1,000,000 rows, up to ten questions at a time by datagrams, and one question of which the
+answer is kept. A replay is repeated with later moments and higher numbers; nothing is open where it ends. It is judged three times and
+not at all, in turn, and a third of the difference counts. The same bounds hold.
 
 Ends with status 1 where a bound of the honest ones is passed, or a trace is not judged right.
 """

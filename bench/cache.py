@@ -2,7 +2,7 @@
 
 usage: python3 bench/cache.py PROGRAM [--large]
 
-PROGRAM is the built bench_hits. A client keeps the answers of 1, 10, 1,000, 100,000 and 1,000,000 names and is then asked for
+PROGRAM is what `bench/build --proved bench_hits` makes. A client keeps the answers of 1, 10, 1,000, 100,000 and 1,000,000 names and is then asked for
 them, any one at random. Each measure is taken with a million of such requests and with none, and the difference of the
 processor times counts, of the least of five runs each. It is what `Client::step` takes for a request that is answered at
 once, with the making of that request, in one process and without any socket. More than three times as long with 1,000,000

@@ -2,8 +2,8 @@
 
 usage: python3 bench/messages.py PROGRAM [PEER]
 
-PROGRAM is the built tool_messages. 100 messages of 65535 octets with 4000 records are read and printed, and 100 of
-half the octets with half the records; the least of five runs of each and their ratio are told. Then `tool_messages time`
+PROGRAM is the built tool_texts. 100 messages of 65535 octets with 4000 records are read and printed, and 100 of
+half the octets with half the records; the least of five runs of each and their ratio are told. Then a line `time`
 reads an answer of 45 octets and writes it again, in turn with libknot (where a C compiler and libknot's headers are
 there: the few lines of C below are built in a temporary folder) and with PEER, a program whose first line of output
 tells as `N ns each` how long another library takes for the same. The least times of five rounds and their ratios are
@@ -79,7 +79,7 @@ def message(octets, records):
 
 
 def reading_seconds(program, octets, records):
-    lines = (message(octets, records) + "\n") * MESSAGES
+    lines = ("message " + message(octets, records) + "\n") * MESSAGES
     began = time.perf_counter()
     printed = subprocess.run([program], input=lines.encode(), stdout=subprocess.PIPE, check=True).stdout
     took = time.perf_counter() - began
@@ -102,8 +102,8 @@ def knot_program(folder):
     return program if built.returncode == 0 else None
 
 
-def nanoseconds(command, form):
-    printed = subprocess.run(command, stdout=subprocess.PIPE, check=True, text=True).stdout
+def nanoseconds(program, form, line=""):
+    printed = subprocess.run([program], input=line, stdout=subprocess.PIPE, check=True, text=True).stdout
     return int(re.search(form, printed).group(1))
 
 
@@ -111,8 +111,8 @@ def compare(program, peers):
     """Runs all in turn, so that each meets the same other load."""
     rounds = []
     for _ in range(RUNS):
-        times = [nanoseconds([program, "time", str(ANSWERS)], r"^(\d+)$")]
-        rounds.append(times + [nanoseconds([peer], r"^.*?(\d+) ns each") for _, peer in peers])
+        times = [nanoseconds(program, r"^(\d+)$", "time %d\n" % ANSWERS)]
+        rounds.append(times + [nanoseconds(peer, r"^.*?(\d+) ns each") for _, peer in peers])
     ours, *others = (min(times) for times in zip(*rounds))
     print("an answer read and written: %d ns" % ours)
     for (name, _), theirs in zip(peers, others):

@@ -2,7 +2,7 @@
 
 usage: python3 bench/shared.py PROGRAM [EVENTS]
 
-PROGRAM is the built bench_steps. An address is learned, and then asked for so many times (400,000); the cache answers each. Told
+PROGRAM is what `bench/build --proved bench_steps` makes. An address is learned, and then asked for so many times (400,000); the cache answers each. Told
 are the events a second by the clock, the best of five runs each: by a client alone, under a lock, shared without a journal,
 shared with one by one thread, and by 1, 2 and 4 lanes with a thread each; and what each way adds to an event of the way before
 it, in nanoseconds: the lock, the history, and the copies of events and outs with the journal that keeps them. Then the most memory that a client without a

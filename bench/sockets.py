@@ -3,12 +3,12 @@
 
     python3 bench/sockets.py PROGRAM [NAMES]
 
-PROGRAM is the built bench_sockets. An NSD on loopback, at 100 addresses, has an answer for every name. First NAMES (60,000) are asked of
-one server, one at a time: its descriptors and its memory are looked at each tenth of a second, and those of the last half may not pass
-those of the first by more than a descriptor or a tenth. Then 1,000, 3,000 and 10,000 are asked at once of 100 servers, and the
-processor time of each is told, and the exponent between the first and the last: more than 1.3 ends with status 1, as does a name without
-a message. Where there is a C compiler, bench/ask.c asks the same names, in turn with the program, five times each, and the ratio of
-their processor times is told. Without NSD nothing is measured, and that is said.
+PROGRAM is what `bench/build --proved bench_sockets` makes. An NSD on loopback, at 100 addresses, has an answer for every name. First
+NAMES (60,000) are asked of one server, one at a time: its descriptors and its memory are looked at each tenth of a second, and those of
+the last half may not pass those of the first by more than a descriptor or a tenth. Then 1,000, 3,000 and 10,000 are asked at once of 100
+servers, and the processor time of each is told, and the exponent between the first and the last: more than 1.3 ends with status 1, as
+does a name without a message. Where there is a C compiler, bench/ask.c asks the same names, in turn with the program, five times each, and
+the ratio of their processor times is told. Without NSD nothing is measured, and that is said.
 """
 
 import math

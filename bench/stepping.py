@@ -2,7 +2,7 @@
 
 usage: python3 bench/stepping.py PROGRAM
 
-PROGRAM is the built bench_steps. One name after another is asked for and answered, three events each, by datagrams and on
+PROGRAM is what `bench/build --proved bench_steps` makes. One name after another is asked for and answered, three events each, by datagrams and on
 one stream; no row is kept, and of the answers the cache keeps its thousand. Each run steps through 100,000, 1,000,000 and
 10,000,000 events. Told are the least processor time of three runs each, how many times as long ten times as many events
 take, and the most memory that a run had. More than 12 times as long, or more than 1 MB of memory more for ten times as many

@@ -78,7 +78,7 @@ def main():
             paths = ["%s/%d-%d" % (room, number, n) for n in (1, 2)]
             for n, path in zip((1, 2), paths):
                 with open(path, "w") as file:
-                    file.write("\n".join(lines(n)) + "\n")
+                    file.write("".join("stream %s\n" % line for line in lines(n)))
             took = [[], []]
             for _ in range(RUNS):
                 for times, path in zip(took, paths):

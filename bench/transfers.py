@@ -54,7 +54,8 @@ def main():
         paths = ["%s/%d" % (room, size) for size in sizes]
         for size, path in zip(sizes, paths):
             with open(path, "w") as file:
-                file.write("\n".join(["walk 600000000 600000000 3600000000"] + transfer(size) * (IN_ALL // size)) + "\n")
+                lines = ["walk 600000000 600000000 3600000000"] + transfer(size) * (IN_ALL // size)
+                file.write("".join("stream %s\n" % line for line in lines))
         took = [[], []]
         for _ in range(RUNS):
             for times, path in zip(took, paths):

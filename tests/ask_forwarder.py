@@ -15,8 +15,8 @@ clients: two with cookies, one without EDNS and one with DO get OPT as RFC 6891 
 one of version 0 without options, with DO as they sent it.
 odd: queries that a cache must not be poisoned by, each before a plain one, which must be answered as the server does.
 getent (Unbound) and dnsperf (the first server): glibc's resolver is answered, over a configuration in a mount namespace of its own; so is every query of dnsperf's.
-ends: SIGTERM ends it within a second. Before the first server also: other addresses of this host, IPv6 too, are listened; `--policy practice` passes
-a dead server by; a port in use is status 5, and 0.0.0.0 and :: are status 2; with standard error closed it goes on.
+ends: SIGTERM ends it within a second. Before the first server also: other addresses of this host, IPv6 too, are listened; a dead server is passed
+by; a port in use is status 5, and 0.0.0.0 and :: are status 2, each with its sentence; files are read as they are found; with standard error closed it goes on.
 
 What needs a tool that is not installed, or a namespace that can't be made, is left out, and that is said. How it stands up to load and to who
 means it ill: tests/press_forwarder.py.
@@ -325,20 +325,36 @@ def ask_dnsperf(port, folder):
     print("dnsperf: 12000 queries are answered")
 
 
+def is_sentence(told, beginning):
+    """Whether one line is told, which begins so behind the program's name."""
+    return told.count(b"\n") == 1 and told.endswith(b"\n") and told.startswith(b"dns_forward: " + beginning.encode())
+
+
 def ask_words(program, server):
     port = free_port()
-    for words, wanted in [(["--listen", "0.0.0.0", "5353", "1"], 2), (["--listen", "::", "5353", "1"], 2), (["--policy", "other", "5353", "1"], 2), (["0", "1"], 2)]:
+    for words, named in [(["--listen", "0.0.0.0", "5353", "1"], "--listen 0.0.0.0: "), (["--listen", "::", "5353", "1"], "--listen ::: "), (["--policy", "other", "5353", "1"], "--policy other: "),
+                         (["0", "1"], "0: "), (["--entries"], "--entries: "), ([], "no port")]:
         ran = subprocess.run([program, *words], input=b"nameserver 127.0.0.1\n", capture_output=True)
-        expect((ran.returncode, ran.stdout) == (wanted, b""), "%r: status %d, %r" % (words, ran.returncode, ran.stdout))
-    for conf, wanted in [(b"nameserver x\n", (1, b"line 1 refused\n")), (b"nameserver 127.0.0.1\n", (0, b"answered 0\n"))]:
-        ran = subprocess.run([program, "--port", str(server), str(port), "1"], input=conf, capture_output=True)
-        expect((ran.returncode, ran.stdout) == wanted, "%r: status %d, %r" % (conf, ran.returncode, ran.stdout))
+        expect((ran.returncode, ran.stdout) == (2, b"") and is_sentence(ran.stderr, named), "%r: status %d, %r, %r" % (words, ran.returncode, ran.stdout, ran.stderr))
+    for words in ["--help"], ["--version"]:
+        ran = subprocess.run([program, *words], stdin=subprocess.DEVNULL, capture_output=True)
+        expect(ran.returncode == 0 and ran.stdout.startswith((b"usage: dns_forward", b"dns_forward ")) and ran.stderr == b"", "%r: status %d, %r" % (words, ran.returncode, ran.stdout))
+    note = "dns_forward: line 1 has something else than one address behind nameserver\n"
+    for words, conf, wanted, told in [
+            ([], "nameserver x\n", (1, b"no nameserver line is taken\n"), note + "dns_forward: standard input: no nameserver line is taken\n"),
+            ([], "nameserver 127.0.0.1:5353\nnameserver 127.0.0.1\n", (0, b"answered 0\n"), note),
+            ([], "nameserver fe80::1%lo\n", (0, b"answered 0\n"), "dns_forward: line 1 has a zone identifier, which is dropped with what stands behind it\n"),
+            ([], "nameserver 127.0.0.1 # main\n", (0, b"answered 0\n"), ""),
+            (["--policy", "crate"], "nameserver x\n", (1, b"line 1 refused\n"), "dns_forward: standard input: line 1 refused\n"),
+            (["--policy", "crate"], "nameserver 127.0.0.1\n", (0, b"answered 0\n"), "")]:
+        ran = subprocess.run([program, *words, "--port", str(server), str(port), "1"], input=conf.encode(), capture_output=True)
+        expect((ran.returncode, ran.stdout, ran.stderr) == (*wanted, told.encode()), "%r %r: status %d, %r, %r" % (words, conf, ran.returncode, ran.stdout, ran.stderr))
     with socket.socket(socket.AF_INET, socket.SOCK_DGRAM) as used:
         used.bind(("127.0.0.1", port))
         ran = subprocess.run([program, "--port", str(server), str(port), "1"], input=b"nameserver 127.0.0.1\n", capture_output=True)
-    expect((ran.returncode, ran.stdout) == (5, b""), "a port in use: status %d, %r" % (ran.returncode, ran.stdout))
+    expect((ran.returncode, ran.stdout) == (5, b"") and is_sentence(ran.stderr, "can't listen at port %d of 127.0.0.1: address in use" % port), "a port in use: status %d, %r" % (ran.returncode, ran.stderr))
     ran = subprocess.run([program, "--port", str(port), str(port), "1"], input=b"nameserver 127.0.0.1\n", capture_output=True)
-    expect(ran.returncode == 5, "a server that is the forwarder: status %d" % ran.returncode)
+    expect(ran.returncode == 5 and is_sentence(ran.stderr, "the server 127.0.0.1:%d is this very forwarder" % port), "a server that is the forwarder: status %d, %r" % (ran.returncode, ran.stderr))
     listens = ["--listen", "127.0.0.2", "--listen", "127.0.0.3"]
     if Path("/proc/net/if_inet6").exists() and Path("/proc/net/if_inet6").read_text():
         listens += ["--listen", "::1"]
@@ -366,12 +382,12 @@ def ask_words(program, server):
     expect(len(lines) >= 2 and all(found), "--status 1: %r" % lines)
     queries, hits, misses, refused, waiting, stale, entries = map(int, found[-1].groups())
     expect(queries == hits + misses + refused and hits >= 2 and misses >= 1 and [waiting, stale, entries] == [0, 0, 1], "--status 1 counts otherwise: %r" % lines[-1])
-    practised = start(program, port, server, ["--policy", "practice"], conf=b"nameserver 127.0.0.77\nnameserver 127.0.0.1\n")
+    practised = start(program, port, server, [], conf=b"nameserver 127.0.0.77\nnameserver 127.0.0.1\n")
     for n in range(8):
         got = by_datagram(port, query("o%d.example" % n))
-        expect(got is not None and status(got) == 0 and got[7] == 1, "--policy practice with a dead server: %r" % got)
+        expect(got is not None and status(got) == 0 and got[7] == 1, "a dead server: %r" % got)
     ends_by(practised, signal.SIGKILL)
-    print("words: the statuses, other addresses, standard error closed, --status and --policy practice")
+    print("words: the statuses and their sentences, files as they are found, other addresses, standard error closed, --status and a dead server")
 
 
 def by_stream_at(at, port, octets):

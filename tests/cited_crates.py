@@ -4,7 +4,8 @@ usage: python3 tests/cited_crates.py [--write]
 
 A crate's line names the libraries that its own files cite, and no other: what those stand on in turn is theirs to name. A
 library is cited by a path in code (`NAME::`, `use NAME`) or in a definition or proof (`Rattle.NAME.`). The lines stand
-lowest first. Status 1 where a name is missing, is cited by nothing, or stands too early; with --write the lines are written anew.
+lowest first. A program of bench/ has its line in its file `crates`, and files of code and proofs that end in `.txt` besides. Status 1
+where a name is missing, is cited by nothing, or stands too early; with --write the lines are written anew.
 """
 
 import pathlib
@@ -16,10 +17,15 @@ ALWAYS = {"std", "core", "crate", "self", "super"}
 LISTED = re.compile(r"^(\w+)((?: [^:#]*)?):([^#]*)$")
 
 
+def kind(path):
+    """How a file's name ends, but for the `.txt` of one in bench/."""
+    return pathlib.Path(path.name.removesuffix(".txt")).suffix
+
+
 def bare(path):
     """The text of a file without its comments and the texts in it."""
     text = path.read_text(encoding="utf-8")
-    if path.suffix == ".antt":
+    if kind(path) == ".antt":
         return re.sub(r"--.*", "", text)
     return re.sub(r'//.*|"(?:[^"\\\n]|\\.)*"', "", text)
 
@@ -49,23 +55,22 @@ def names_in_code(text):
     return set(names) - local_names(text)
 
 
-def cited(crate, libraries):
+def cited(folder, libraries):
     """The libraries that a crate's own files cite."""
     names = set()
-    for path in sorted((TOP / "crates" / crate).glob("*/**/*")):
-        part = path.relative_to(TOP / "crates" / crate).parts[0]
-        if part not in ("src", "specs", "proofs") or path.suffix not in (".rt", ".antt"):
+    for path in sorted(folder.glob("*/**/*")):
+        if path.relative_to(folder).parts[0] not in ("src", "specs", "proofs") or kind(path) not in (".rt", ".antt"):
             continue
         text = bare(path)
         names.update(re.findall(r"\bRattle\.(\w+)", text))
-        if path.suffix == ".rt":
+        if kind(path) == ".rt":
             names.update(names_in_code(text))
-    return {name for name in names & libraries if name != crate} - ALWAYS
+    return {name for name in names & libraries if name != folder.name} - ALWAYS
 
 
-def read_lines():
-    """The lines of crates.txt: each a remark, or a crate with its options and libraries."""
-    for line in (TOP / "crates.txt").read_text(encoding="utf-8").splitlines():
+def read_lines(path):
+    """The lines of a file as crates.txt: each a remark, or a crate with its options and libraries."""
+    for line in path.read_text(encoding="utf-8").splitlines():
         found = LISTED.match(line)
         yield line, found and (found.group(1), found.group(2), found.group(3).split())
 
@@ -76,28 +81,40 @@ def in_order(crate, names, places):
     return " ".join([crate + ":"] + own + sorted(names - set(places)))
 
 
-def main():
-    lines = list(read_lines())
-    rows = {row[0]: row for _, row in lines if row}
-    places = {name: place for place, name in enumerate(rows)}
-    libraries = set(rows) | {name for row in rows.values() for name in row[2]}
+def held(lines, folder, places, libraries):
+    """What is wrong with lines, and the lines as they should be; their crates lie in the folder."""
     faults, written = [], []
     for line, row in lines:
         if not row:
             written.append(line)
             continue
         crate, options, names = row
-        found = cited(crate, libraries)
+        found = cited(folder / crate, libraries)
         written.append(in_order(crate + options, found, places))
         faults += [f"{crate}: cites {name}, which its line does not name" for name in sorted(found - set(names))]
-        faults += [f"{crate}: its line names {name}, which nothing in it cites" for name in sorted(set(names) - found)]
-        faults += [f"{crate}: stands before {name}" for name in sorted(found & set(places)) if places[name] > places[crate]]
+        faults += [f"{crate}: its line names {name}, which is no library or which nothing in it cites" for name in sorted(set(names) - found)]
+        last = places.get(crate, len(places))
+        faults += [f"{crate}: stands before {name}" for name in sorted(found & set(places)) if places[name] > last]
+    return faults, written
+
+
+def main():
+    files = [TOP / "crates.txt", *sorted(TOP.glob("bench/*/crates"))]
+    lines = {path: list(read_lines(path)) for path in files}
+    rows = {row[0]: row for _, row in lines[files[0]] if row}
+    places = {name: place for place, name in enumerate(rows)}
+    libraries = set(rows) | {name for row in rows.values() for name in row[2]}
+    faults = []
+    for path in files:
+        found, written = held(lines[path], TOP / "crates" if path == files[0] else path.parent.parent, places, libraries)
+        faults += found
+        if "--write" in sys.argv[1:]:
+            path.write_text("\n".join(written) + "\n", encoding="utf-8")
+    if "--write" in sys.argv[1:]:
+        return 0
     there = {path.name for path in (TOP / "crates").iterdir() if (path / "src").is_dir()}
     faults += [f"{name}: a folder, and no line" for name in sorted(there - set(rows))]
     faults += [f"{name}: a line, and no folder" for name in sorted(set(rows) - there)]
-    if "--write" in sys.argv[1:]:
-        (TOP / "crates.txt").write_text("\n".join(written) + "\n", encoding="utf-8")
-        return 0
     print(*faults, sep="\n", end="\n" if faults else "")
     return 1 if faults else 0
 

@@ -1,10 +1,10 @@
 #!/usr/bin/env python3
-"""Compares `tool_messages` with another reader of messages, on random and mangled messages.
+"""Compares how `tool_texts` reads messages with another reader of them, on random and mangled messages.
 
     python3 tests/compare_messages.py REFERENCE_FOLDER PROGRAM [COUNT [SEED]]
 
 REFERENCE_FOLDER has the package `plain` with the module `wire`; without it nothing is compared, and that is
-said. PROGRAM is the built `tool_messages`, and COUNT the number of messages, 2000 if it is left out. Prints the first
+said. PROGRAM is the built `tool_texts`, and COUNT the number of messages, 2000 if it is left out. Prints the first
 message that differs, or how many were the same.
 """
 
@@ -18,7 +18,7 @@ TYPES = [1, 2, 3, 4, 5, 6, 7, 8, 9, 12, 14, 15, 16, 28, 33, 39, 41, 46, 99]
 
 
 def expected(wire, line):
-    """What tool_messages prints for a line, by the reference."""
+    """What is printed of a message, by the reference."""
     if len(line) % 2 or any(c not in "0123456789abcdef" for c in line) or len(line) < 24:
         return ["refused"]
     message = wire.Message(bytes.fromhex(line))
@@ -170,7 +170,7 @@ def main():
     count = int(sys.argv[3]) if len(sys.argv) > 3 else 2000
     rng = random.Random(int(sys.argv[4]) if len(sys.argv) > 4 else 1)
     lines = [line_of(rng) for _ in range(count)]
-    ran = subprocess.run([program], input="".join(line + "\n" for line in lines), capture_output=True, text=True)
+    ran = subprocess.run([program], input="".join("message " + line + "\n" for line in lines), capture_output=True, text=True)
     found = blocks(ran.stdout.splitlines())
     refused = 0
     for at, line in enumerate(lines):

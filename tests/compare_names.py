@@ -3,7 +3,7 @@
     python3 tests/compare_names.py REFERENCE_FOLDER PROGRAM [COUNT [SEED]]
 
 REFERENCE_FOLDER has the package `plain` with the module `wire`; without it nothing is compared, and that is
-said. PROGRAM is the built `tool_names`, and COUNT the number of texts, 20000 if it is left out.
+said. PROGRAM is the built `tool_texts`, and COUNT the number of texts, 20000 if it is left out.
 """
 
 import random

@@ -1,10 +1,10 @@
 #!/usr/bin/env python3
-"""Compares `tool_presentation` with kdig, on stored messages and on random ones.
+"""Compares how `tool_texts` prints messages with kdig, on stored messages and on random ones.
 
     python3 tests/compare_presentation.py MESSAGES PROGRAM [COUNT [SEED]]
 
 MESSAGES is a file of JSON, a list of objects with a message as `hex`; without it only random messages are compared.
-PROGRAM is the built `tool_presentation`, or `try`, which runs it unproved by `rt try`. COUNT is the number of random
+PROGRAM is the built `tool_texts`, or `try`, which runs it unproved by `rt try`. COUNT is the number of random
 messages, 300 if it is left out. kdig (of the package knot-dnsutils) prints what a server of this script on loopback
 answers it; without kdig nothing is compared, and that is said. Texts are compared up to blanks. Prints the first
 message that differs, or how many were the same.
@@ -87,9 +87,9 @@ def even(lines):
 
 def printed(program, messages):
     """The lines that the tool prints of each message."""
-    text = "".join(message.hex() + "\n" for message in messages)
+    text = "".join("present " + message.hex() + "\n" for message in messages)
     if program == "try":
-        ran = subprocess.run(["rt", "try"], input=text, capture_output=True, text=True, cwd=TOP / "crates/tool_presentation")
+        ran = subprocess.run(["rt", "try"], input=text, capture_output=True, text=True, cwd=TOP / "crates/tool_texts")
     else:
         ran = subprocess.run([program], input=text, capture_output=True, text=True)
     out, block = [], []

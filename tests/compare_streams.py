@@ -275,7 +275,7 @@ def main():
         walkers.append(Walker(modules, seed))
         for _ in range(walkers[-1].rng.choice((5, 20, 60, 150))):
             walkers[-1].step()
-    asked = "".join(line + "\n" for walker in walkers for line in walker.lines)
+    asked = "".join("stream %s\n" % line for walker in walkers for line in walker.lines)
     ran = subprocess.run(program, input=asked.encode(), capture_output=True, timeout=600)
     got, at, failed = ran.stdout.decode().split("\n"), 0, 0
     for walker in walkers:

@@ -3,7 +3,7 @@
     python3 tests/compare_texts.py FOLDER PROGRAM TRACE.. [-- COUNT]
 
 FOLDER has the other client, as a Python package `plain` with a module `script`. PROGRAM is the built
-`tool_traces`, and each TRACE a file with the text of a trace. Each front of each trace is compared, and
+`tool_texts`, and each TRACE a file with the text of a trace. Each front of each trace is compared, and
 COUNT texts (20000 if it is left out) with one octet changed, left out or put in; the events of each
 trace are compared as a script.
 """
@@ -16,17 +16,23 @@ import sys
 OCTETS = b"0123456789abcdefABF -\n\r#>+x\x00\x80\xc3\xff"
 
 
-def answer(program, text, script):
-    words = [program, "script"] if script else [program]
-    return subprocess.run(words, input=text, stdout=subprocess.PIPE, check=True).stdout.decode().strip()
+def line_of(text, script):
+    """The line that asks whether a text is read."""
+    octets = "".join(chr(o) if 32 <= o < 127 and o != 92 else "\\x%02x" % o for o in text)
+    return "%s %s\n" % ("script" if script else "trace", octets)
 
 
-def expected(module, text, script, stage):
+def answers(program, cases):
+    lines = "".join(line_of(text, script) for text, script in cases)
+    return subprocess.run([program], input=lines, stdout=subprocess.PIPE, check=True, text=True).stdout.splitlines()
+
+
+def expected(module, text, script):
     try:
         if script:
-            module.read_script(text, False, stage)
+            module.read_script(text)
         else:
-            module.read_trace(text, stage)
+            module.read_trace(text)
         return "ok"
     except module.ScriptFault as fault:
         return "line %d" % fault.line
@@ -77,9 +83,11 @@ def main():
         else:
             cases.append((changed(rng, script_of(text)), True))
     wrong = 0
-    for text, script in cases:
-        want = expected(module, text, script, 6)
-        got = answer(program, text, script)
+    found = answers(program, cases)
+    if len(found) != len(cases):
+        sys.exit("%d of %d texts were answered" % (len(found), len(cases)))
+    for (text, script), got in zip(cases, found):
+        want = expected(module, text, script)
         if want != got:
             wrong += 1
             if wrong < 10:

@@ -1,9 +1,11 @@
-"""Says where docs/SCRIPTS.md and README.md name what the code does not have, or leave out what it has. It proves nothing.
+"""Says where docs/SCRIPTS.md and README.md name what the code does not have, or leave out what it has, and which figure of README.md
+stands in no measurement. It proves nothing.
 
 usage: python3 tests/documented.py
 
 The names of events, outs, faults, errors and settings stand in definitions as `codes "NAME"`, the exit statuses in
-crates/command_parts/src/statuses.rt; each must stand in the tables of the documents, and no other.
+crates/command_parts/src/statuses.rt; each must stand in the tables of the documents, and no other. A figure is a number with its unit, or
+one of thousands, in the table of README.md's "How fast"; it must stand in docs/MEASURED.md in the same digits.
 """
 
 import pathlib
@@ -33,6 +35,18 @@ def compared(what, documented, real):
     return faults + [f"docs/SCRIPTS.md: {what} {it} is not documented" for it in sorted(real - documented)]
 
 
+def figures(text):
+    """The numbers of a text that have a unit, and those of thousands."""
+    return set(re.findall(r"(?<![\d.,])(\d[\d.,]*\d|\d)(?= (?:ns|µs|ms|s|MB|KiB)\b)", text)) | set(re.findall(r"(?<![\d.,])\d{1,3}(?:,\d{3})+(?![\d,])", text))
+
+
+def unmeasured(readme, measured):
+    """What is wrong with the figures of a README."""
+    table = [line for line in readme.split("## How fast", 1)[1].split("\n## ", 1)[0].splitlines() if line.startswith("|")]
+    there = set(re.findall(r"\d[\d.,]*\d|\d", measured))
+    return [f"README.md: the figure {it} stands in no row of docs/MEASURED.md" for it in sorted(figures("\n".join(table)) - there)]
+
+
 def main():
     scripts = (TOP / "docs/SCRIPTS.md").read_text(encoding="utf-8")
     lines = names(SPECS / "Names.antt", "script_names")
@@ -55,6 +69,7 @@ def main():
     commands = set(re.findall(r"^\| `(\w+)[^`]*` \|", readme.split("## dnsq", 1)[1].split("##", 1)[0], re.M))
     usage = (TOP / "crates/dnsq_run/src/usage.rt").read_text(encoding="utf-8")
     faults += [f"README.md: no command {it}" for it in sorted(commands) if f'"{it}"' not in usage and it not in usage]
+    faults += unmeasured(readme, (TOP / "docs/MEASURED.md").read_text(encoding="utf-8"))
     print(*faults, sep="\n", end="\n" if faults else "")
     return 1 if faults else 0
 

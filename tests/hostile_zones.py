@@ -234,17 +234,17 @@ def line(kept):
 
 def run(program, port, *options):
     done = subprocess.run([program, *options, "--port", str(port), ZONE, "127.0.0.1"], capture_output=True, text=True, timeout=60)
-    return done.returncode, done.stdout
+    return done.returncode, done.stdout, done.stderr
 
 
 def lines_of(text):
     return [" ".join([row.split(" ", 1)[0].rstrip("."), row.split(" ", 1)[1]]) for row in text.splitlines()]
 
 
-def agrees(zone, status, text):
+def agrees(server, zone, status, text, said):
     if zone is None:
-        return status == 5 and text.startswith("failed ") and text.count("\n") == 1
-    return status == 0 and lines_of(text) == [line(k) for k in sorted(zone)]
+        return (status, text) == (5, "") and said.startswith(f"zone_fetch: {ZONE} from 127.0.0.1:{server.port}: failed ") and said.count("\n") == 1
+    return (status, said) == (0, "") and lines_of(text) == [line(k) for k in sorted(zone)]
 
 
 def main():
@@ -257,23 +257,23 @@ def main():
             before, server.sent = case(rng)
             if n % 2:
                 zone = zone_after(None, AXFR, server.sent[AXFR])
-                status, text = run(program, server.port)
+                status, text, said = run(program, server.port)
             else:
                 path.write_text("".join(line(k) + "\n" for k in sorted(before)))
                 zone = zone_after(before, IXFR, server.sent[IXFR])
                 if zone == "again":
                     zone = zone_after(None, AXFR, server.sent[AXFR])
-                status, text = run(program, server.port, "--from", str(path))
-            if not agrees(zone, status, text):
-                print(f"transfer {n} differs: status {status}\n{text}", "expected", zone and [line(k) for k in sorted(zone)])
+                status, text, said = run(program, server.port, "--from", str(path))
+            if not agrees(server, zone, status, text, said):
+                print(f"transfer {n} differs: status {status}\n{text}{said}", "expected", zone and [line(k) for k in sorted(zone)])
                 print([[(r.owner, r.rtype, r.serial) for r in records] for _, records in server.sent[AXFR if n % 2 else IXFR]])
                 sys.exit(1)
             taken, refused = taken + (zone is not None), refused + (zone is None)
     print(f"{taken} transfers taken, {refused} refused, all as the forms say")
     server.endless, began = True, time.time()
-    status, text = run(program, server.port, "--most", "20000000")
-    print(f"a transfer without an end: status {status}, {text.strip()}, after {time.time() - began:.1f} s")
-    sys.exit(0 if (status, text) == (5, "failed too-large\n") else 1)
+    status, text, said = run(program, server.port, "--most", "20000000")
+    print(f"a transfer without an end: status {status}, {said.strip()}, after {time.time() - began:.1f} s")
+    sys.exit(0 if (status, text) == (5, "") and "failed too-large: its records take more than 20000000 octets" in said else 1)
 
 
 if __name__ == "__main__":

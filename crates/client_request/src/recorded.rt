@@ -18,12 +18,23 @@ use std::marker::Model;
 
 /// What is recorded of a request. What is sent is the base message under the recorded header, with the
 /// recorded OPT record in place of those of its additional section.
-#[derive(Debug, Drop)]
+#[derive(Debug)]
 pub(crate) struct Recorded {
     alloc: Global,
     base: Message,
     header: Header,
     opt: Option<RecordedOpt>,
+}
+
+impl Drop for Recorded {
+    fn drop(self) {
+        let Recorded {
+            alloc: _,
+            base: _,
+            header: _,
+            opt: _,
+        } = self;
+    }
 }
 
 impl Model for Recorded {

@@ -16,9 +16,15 @@ use std::marker::Model;
 
 /// A request for one message: no query without a first question that can be read, and none for a whole
 /// zone.
-#[derive(Debug, Drop)]
+#[derive(Debug)]
 pub struct RequestMessage {
     recorded: Recorded,
+}
+
+impl Drop for RequestMessage {
+    fn drop(self) {
+        let RequestMessage { recorded: _ } = self;
+    }
 }
 
 impl Model for RequestMessage {

@@ -15,9 +15,15 @@ use std::alloc::Global;
 use std::marker::Model;
 
 /// A request for a zone, or for its changes (RFC 5936, RFC 1995).
-#[derive(Debug, Drop)]
+#[derive(Debug)]
 pub struct RequestMessageMulti {
     recorded: Recorded,
+}
+
+impl Drop for RequestMessageMulti {
+    fn drop(self) {
+        let RequestMessageMulti { recorded: _ } = self;
+    }
 }
 
 impl Model for RequestMessageMulti {

@@ -27,11 +27,20 @@ pub struct Timer {
 
 /// The timers that are set and neither fired nor cancelled: the due moment of each by its number, and the
 /// heap, in which cancelled ones may stand too, but not at its top.
-#[derive(Drop)]
 pub struct Timers {
     heap: Vec<(u128, TimerId)>,
     table: NumberTable<u128>,
     next: u64,
+}
+
+impl Drop for Timers {
+    fn drop(self) {
+        let Timers {
+            heap: _,
+            table: _,
+            next: _,
+        } = self;
+    }
 }
 
 impl Model for Timers {

@@ -14,9 +14,14 @@ use std::alloc::Global;
 use std::marker::Model;
 
 /// A message: twelve octets at least.
-#[derive(Drop)]
 pub struct Message {
     octets: Octets,
+}
+
+impl Drop for Message {
+    fn drop(self) {
+        let Message { octets: _ } = self;
+    }
 }
 
 impl Model for Message {
@@ -222,6 +227,7 @@ impl Message {
     pub fn into_octets(self) -> Octets
         ensures { result ≡ self }
     {
-        self.octets
+        let Message { octets } = self;
+        octets
     }
 }

@@ -1,9 +1,9 @@
 //! A forwarder of one thread: plain, or with the client within recorded.
 
-use crate::NO_MEMORY;
 use client_edge::{FileOpener, RandWords, RealClock};
 use client_request::Words;
 use dns_values::{IpAddr, Seq, StdSink, StdSource};
+use forward_conf::end_without_memory;
 use forward_record::serve_recorded;
 use forward_run::{StatusLine, serve_as};
 use forward_words::Options;
@@ -29,6 +29,7 @@ pub fn serve(
         words,
         &mut StdSource::new(rt.stdin()),
         &mut StdSink::new(rt.stdout()),
+        &mut StdSink::new(rt.stderr()),
         &mut SocketFront::new(rt, alloc, listened),
         &mut RealClock::new(rt),
         &mut random,
@@ -53,7 +54,7 @@ pub fn serve_to(
 ) -> u8 {
     let alloc = rt.alloc();
     let Ok(file) = String::from_str(alloc, file) else {
-        return NO_MEMORY;
+        return end_without_memory(&mut StdSink::new(rt.stderr())).0;
     };
     let seed = random.next();
     let served = serve_recorded(

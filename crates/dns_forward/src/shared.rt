@@ -1,9 +1,10 @@
 //! A forwarder that several threads share.
 
-use crate::{NO_MEMORY, USAGE};
 use client_edge::{RandWords, RealClock};
 use client_request::Words;
+use command_parts::{end_by, statuses};
 use dns_values::{IpAddr, NoMemory, Seq, StdSink, StdSource};
+use forward_conf::end_without_memory;
 use forward_words::Options;
 use forward_workers::{Crew, First, Worker, serve_by_all};
 use rand::rngs::StdRng;
@@ -13,6 +14,10 @@ use worker_edge::{Common, SharedFront, SystemDoor};
 
 /// The most threads that answer datagrams, at all addresses together.
 const MOST_WORKERS: usize = 16_384;
+
+/// What is told where there would be more.
+const TOO_MANY: &[u8] =
+    b"dns_forward: --workers: more than 16384 threads at all addresses together; see dns_forward --help\n";
 
 /// So many workers at each of so many addresses.
 fn workers_at<'a, T: Wait>(
@@ -45,21 +50,22 @@ pub fn serve_by_threads<T: Threads + Wait + Sync>(
     mut random: RandWords<StdRng>,
 ) -> u8 {
     let alloc = rt.alloc();
+    let mut errors = StdSink::new(rt.stderr());
     let addresses = listened.len();
     let doors = (addresses as u64).saturating_mul(options.workers);
     if doors > MOST_WORKERS as u64 {
-        return USAGE;
+        return end_by(&mut errors, statuses::USAGE, TOO_MANY).0;
     }
     let seed = random.next();
     let Ok(common) = Common::new(threads, alloc, doors) else {
-        return NO_MEMORY;
+        return end_without_memory(&mut errors).0;
     };
     let Ok(workers) = workers_at(rt, &common, addresses, options.workers) else {
-        return NO_MEMORY;
+        return end_without_memory(&mut errors).0;
     };
     // There is one for each door.
     if workers.len() > MOST_WORKERS {
-        return USAGE;
+        return end_by(&mut errors, statuses::USAGE, TOO_MANY).0;
     }
     let first = First {
         front: SharedFront::new(rt, alloc, listened, &common),
@@ -73,6 +79,7 @@ pub fn serve_by_threads<T: Threads + Wait + Sync>(
         words,
         &mut StdSource::new(rt.stdin()),
         &mut StdSink::new(rt.stdout()),
+        &mut errors,
         random,
         Crew { first, workers },
     );

@@ -2,14 +2,17 @@
 #![tactic(auto)]
 
 use client_edge::{ConfFile, FileOpener, RandWords, RealClock, SocketEdge, command_words};
-use dns_lookup_run::{PassingEdge, WatchedClock, WatchedEdge, run, run_recorded};
-use dns_values::StdSink;
+use command_parts::statuses;
+use dns_lookup_run::{
+    PassingEdge, WatchedClock, WatchedEdge, run, run_recorded, tell_no_memory, tell_no_random,
+    tell_page,
+};
+use dns_values::{Status, StdSink};
+use program_words::page_asked;
 use rand::rngs::StdRng;
 use record_file::{RecordFile, record_of};
+use std::io::Stderr;
 use std::process::ExitCode;
-
-/// The exit status where memory, or the system's random words, can't be had.
-const NO_MEMORY: u8 = 6;
 
 /// The system's random words, where they can be had.
 fn random_words(rt: &HostRuntime) -> Option<RandWords<StdRng>> {
@@ -22,67 +25,80 @@ fn random_words(rt: &HostRuntime) -> Option<RandWords<StdRng>> {
 /// Does what the words ask for and records it to a file of this name.
 fn ask_recorded(
     rt: HostRuntime,
-    file: &str,
+    file: String,
     words: &[String],
-    files: FileOpener<HostRuntime>,
+    errors: &mut StdSink<Stderr>,
     edge: SocketEdge<HostRuntime>,
     clock: RealClock<HostRuntime>,
     random: &mut RandWords<StdRng>,
-) -> u8 {
-    let Ok(file) = String::from_str(rt.alloc(), file) else {
-        return NO_MEMORY;
-    };
-    let mut errors = StdSink::new(rt.stderr());
+) -> Status {
     let recorded = run_recorded(
         rt.alloc(),
         words,
-        &mut ConfFile::new(files),
+        &mut ConfFile::new(FileOpener::new(rt)),
         &mut StdSink::new(rt.stdout()),
-        &mut errors,
+        errors,
         &mut WatchedEdge::new(rt.alloc(), PassingEdge::new(rt.alloc(), edge)),
         &mut WatchedClock::new(clock),
         random,
         RecordFile::new(rt, file),
     );
-    recorded.tell_ended(rt.alloc(), &mut errors);
-    recorded.status.0
+    recorded.tell_ended(rt.alloc(), errors);
+    recorded.status
 }
 
-/// Does what the command line asks for: of servers that the system's file names, over the system's sockets, by its clock and under its
-/// random words. The types are the real ones, so that nothing in memory stands for one of them. Without random words nothing is asked.
+/// Does what words ask for: of servers that the system's file names, over the system's sockets, by its clock and under its random words.
+/// The types are the real ones, so that nothing in memory stands for one of them. Without random words nothing is asked.
 fn ask(
     rt: HostRuntime,
-    files: FileOpener<HostRuntime>,
+    words: &[String],
+    errors: &mut StdSink<Stderr>,
     edge: SocketEdge<HostRuntime>,
     clock: RealClock<HostRuntime>,
-    random: Option<RandWords<StdRng>>,
-) -> u8 {
-    let (Ok(words), Some(mut random)) = (command_words(&rt), random) else {
-        return NO_MEMORY;
+) -> Status {
+    let Some(mut random) = random_words(&rt) else {
+        return tell_no_random(errors);
     };
-    let (file, words) = record_of(&words);
+    let (file, words) = record_of(words);
     if let Some(file) = file {
-        return ask_recorded(rt, file, words, files, edge, clock, &mut random);
+        return match String::from_str(rt.alloc(), file) {
+            Ok(file) => ask_recorded(rt, file, words, errors, edge, clock, &mut random),
+            Err(_) => tell_no_memory(errors),
+        };
     }
     let status = run(
         rt.alloc(),
         words,
-        &mut ConfFile::new(files),
+        &mut ConfFile::new(FileOpener::new(rt)),
         &mut StdSink::new(rt.stdout()),
-        &mut StdSink::new(rt.stderr()),
+        errors,
         &mut WatchedEdge::new(rt.alloc(), PassingEdge::new(rt.alloc(), edge)),
         &mut WatchedClock::new(clock),
         &mut random,
     );
-    status.0
+    if status == statuses::NO_MEMORY {
+        tell_no_memory(errors);
+    }
+    status
+}
+
+/// Does what the command line asks for: help, the release, or a lookup.
+fn status_of(rt: HostRuntime, errors: &mut StdSink<Stderr>) -> Status {
+    let Ok(words) = command_words(&rt) else {
+        return tell_no_memory(errors);
+    };
+    if let Some(page) = page_asked(&words) {
+        return tell_page(rt.alloc(), page, &mut StdSink::new(rt.stdout()), errors);
+    }
+    ask(
+        rt,
+        &words,
+        errors,
+        SocketEdge::new(rt, rt.alloc()),
+        RealClock::new(rt),
+    )
 }
 
 fn main(rt: HostRuntime) -> ExitCode {
-    ExitCode::from(ask(
-        rt,
-        FileOpener::new(rt),
-        SocketEdge::new(rt, rt.alloc()),
-        RealClock::new(rt),
-        random_words(&rt),
-    ))
+    ExitCode::from(status_of(rt, &mut StdSink::new(rt.stderr())).0)
 }

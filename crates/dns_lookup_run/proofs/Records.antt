@@ -11,10 +11,10 @@ use Rattle.dns_record.specs.declared.ended.Refused.{Refused}
 use Rattle.resolver_policy.specs.Practice.{practical_choice}
 use Rattle.resolv_conf.specs.declared.conf.ResolvConf.{ResolvConf}
 use Rattle.dns_values.specs.Source.{Rose}
-use Rattle.dns_lookup_run.specs.Ends.{EndsTold, HasPage, IsOfAsking, TellsWhy}
+use Rattle.dns_lookup_run.specs.Ends.{EndsTold, IsOfAsking, TellsWhy}
 use Rattle.dns_lookup_run.specs.Making.{IsMadeFor}
 use Rattle.dns_lookup_run.specs.Recorded.{AskedEnd, IsRecordedFor, RecordedEnd, Recordings, asked, keeps_by, no_conf, no_memory, not_recorded, refused, unrecorded_line, words_ahead}
-use Rattle.dns_lookup_run.specs.Sentences.{numbers_text}
+use Rattle.dns_lookup_run.specs.Sentences.{numbers_text, unwritten_text}
 use Rattle.dns_lookup_run.specs.Worlds.{World, at_words, begun, said}
 use Rattle.dns_lookup_run.proofs.Endings.{rose_later}
 use Rattle.dns_lookup_run.proofs.Making.{all_kept}
@@ -60,14 +60,14 @@ module _ {L R : Type 0} (held : L → Option (List ℕ)) (faults : L → ℕ) (k
   pub asked_end : (r : Recording) (middle : R) (end : Recordings R) → end.sink ≡ last → r.words ≡ words_ahead old.words
       → Recorded (opening conf choice cache (words_ahead old.words) (kept first)) [] (kept middle) r (started choice cache conf) → RecordLaw → IsOfAsking status
       → EndsTold held faults lookup conf status before after (at_words (left_of r) old) (at_words (left_of end.recorder) new)
-      → (HasPage status → held after ≡ held before) → (status ≡ 7 → said held faults before after numbers_text)
+      → (status ≡ 0 → held after ≡ held before) → (status ≡ 4 → said held faults before after unwritten_text) → (status ≡ 7 → said held faults before after numbers_text)
       → (status ≢ 6 → status ≢ 7 → IsMadeFor (keeps_by kept) lookup conf (record { recorder = r; sink = middle }) end (at_words (left_of r) old) (at_words (left_of end.recorder) new))
       → AskedEnd held faults kept file_faults lookup conf status before after first last old new
-  asked_end r middle end same words begins law of ends quiet stops made =
+  asked_end r middle end same words begins law of ends quiet unwritten stops made =
       let last_is : record { recorder = end.recorder; sink = end.sink } ≡ record { recorder = end.recorder; sink = last } = ap (λ (k : R). record { recorder = end.recorder; sink = k }) same in
       asked r end.recorder middle of
       (subst (λ (ws : List ℕ). EndsTold held faults lookup conf status before after (at_words (listed ws) old) (at_words (left_of end.recorder) new)) words ends)
-      (record { quiet = quiet; stops = stops })
+      (record { quiet = quiet; unwritten = unwritten; stops = stops })
       (λ no_six no_seven. recorded_for r end.recorder middle words begins law
       (subst (λ (b : Recordings R). IsMadeFor (keeps_by kept) lookup conf (record { recorder = r; sink = middle }) b (at_words (left_of r) old) (at_words (left_of end.recorder) new)) last_is (made no_six no_seven)))
 
@@ -103,8 +103,9 @@ told_only n one other P (inr six) not_one not_six same = absurd (omega arith)
 no_sentence : (n : ℕ) → n ≡ 6 → TellsWhy n ⊎ (n ≡ 8) → ⊥
 no_sentence n six (inl (inl two)) = omega arith
 no_sentence n six (inl (inr (inl three))) = omega arith
-no_sentence n six (inl (inr (inr (inl five)))) = omega arith
-no_sentence n six (inl (inr (inr (inr seven)))) = omega arith
+no_sentence n six (inl (inr (inr (inl four)))) = omega arith
+no_sentence n six (inl (inr (inr (inr (inl five))))) = omega arith
+no_sentence n six (inl (inr (inr (inr (inr seven))))) = omega arith
 no_sentence n six (inr eight) = omega arith
 
 -- a sentence that is told at one status is handed on
@@ -117,11 +118,10 @@ pub not_eight : (n : ℕ) → IsOfAsking n → n ≢ 8
 not_eight n of = λ eight. let small : n < 8 = (of_asking n of).0.1 in omega arith
 
 -- the sentence of an asking is handed on
-pub asking_flushed : (n : ℕ) (P : Type 0) → IsOfAsking n → ((n ≡ 5) ⊎ (n ≡ 7) → P) → TellsWhy n ⊎ (n ≡ 8) → P
+pub asking_flushed : (n : ℕ) (P : Type 0) → IsOfAsking n → ((n ≡ 4) ⊎ ((n ≡ 5) ⊎ (n ≡ 7)) → P) → TellsWhy n ⊎ (n ≡ 8) → P
 asking_flushed n P of flushed (inl (inl two)) = absurd ((of_asking n of).1 two)
 asking_flushed n P of flushed (inl (inr (inl three))) = absurd ((of_asking n of).2 three)
-asking_flushed n P of flushed (inl (inr (inr (inl five)))) = flushed (inl five)
-asking_flushed n P of flushed (inl (inr (inr (inr seven)))) = flushed (inr seven)
+asking_flushed n P of flushed (inl (inr (inr why))) = flushed why
 asking_flushed n P of flushed (inr eight) = absurd (not_eight n of eight)
 
 -- the same behind another sentence

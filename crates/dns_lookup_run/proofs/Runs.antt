@@ -8,9 +8,9 @@ use Rattle.command_parts.specs.declared.ending.Ending.{Ending}
 use Rattle.command_parts.specs.declared.ending.Ending.TheVariants.{Says, Silent}
 use Rattle.resolver_policy.specs.declared.found.Found.{Found}
 use Rattle.dns_lookup_run.specs.Conf.{IsConfOf, IsTooLong}
-use Rattle.dns_lookup_run.specs.Ends.{EndsTold, HasNoConf, HasPage, IsOfAsking, IsRefusalTold, WordsEnd, asked, no_conf, no_memory, refused, too_long, unread}
+use Rattle.dns_lookup_run.specs.Ends.{EndsTold, HasNoConf, IsOfAsking, IsRefusalTold, WordsEnd, asked, no_conf, no_memory, refused, too_long, unread}
 use Rattle.dns_lookup_run.specs.Reports.{notes_text}
-use Rattle.dns_lookup_run.specs.Sentences.{conf_text, numbers_text}
+use Rattle.dns_lookup_run.specs.Sentences.{conf_text, numbers_text, unwritten_text}
 use Rattle.dns_lookup_words.specs.Sentences.{sentence}
 use Rattle.dns_lookup_words.specs.Words.{LookupGives}
 use Rattle.dns_lookup_words.specs.declared.lookup.Lookup.{Lookup}
@@ -35,9 +35,10 @@ module _ {L : Type 0} (held : L → Option (List ℕ)) (faults : L → ℕ) (wor
 
   pub asked_ends : (lookup : Lookup) (conf : Found) (left : ℕ → ℕ) (mid : L) → LookupGives words (Ok lookup) → IsConfOf lookup told old.words conf left
       → said held faults before mid (notes_text conf.notes) → IsOfAsking status → EndsTold held faults lookup conf.conf status mid after (at_words left old) new
-      → (HasPage status → held after ≡ held mid) → (status ≡ 7 → said held faults mid after numbers_text) → WordsEnd held faults words told status before after old new
-  asked_ends lookup conf left mid judged is_conf noted of ends quiet stops =
-      asked lookup conf left mid judged is_conf noted ((of_asking status of).1, (of_asking status of).2) ends (record { quiet = quiet; stops = stops })
+      → (status ≡ 0 → held after ≡ held mid) → (status ≡ 4 → said held faults mid after unwritten_text) → (status ≡ 7 → said held faults mid after numbers_text)
+      → WordsEnd held faults words told status before after old new
+  asked_ends lookup conf left mid judged is_conf noted of ends quiet unwritten stops =
+      asked lookup conf left mid judged is_conf noted ((of_asking status of).1, (of_asking status of).2) ends (record { quiet = quiet; unwritten = unwritten; stops = stops })
 
 -- the sentence of a refusal is told
 pub refusal_told : (words : List (String Global)) (refusal : Refusal) (before after : Option (List ℕ)) (faults faults_after : ℕ) → LookupGives words (Err refusal)

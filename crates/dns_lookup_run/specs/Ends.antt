@@ -13,7 +13,7 @@ use Rattle.dns_lookup_run.specs.Asking.{Answer, AreAnswered, IsAskedFor, request
 use Rattle.resolver_policy.specs.declared.found.Found.{Found}
 use Rattle.dns_lookup_run.specs.Conf.{IsConfOf, IsTooLong}
 use Rattle.dns_lookup_run.specs.Reports.{notes_text, tells}
-use Rattle.dns_lookup_run.specs.Sentences.{answer_text, numbers_text, refused_text, unread_text}
+use Rattle.dns_lookup_run.specs.Sentences.{answer_text, numbers_text, refused_text, unread_text, unwritten_text}
 use Rattle.dns_lookup_words.specs.Sentences.{sentence}
 use Rattle.dns_lookup_words.specs.Words.{LookupGives}
 use Rattle.dns_lookup_words.specs.declared.lookup.Lookup.{Lookup}
@@ -27,9 +27,9 @@ HasPage status = (status ≡ 0) ⊎ (status ≡ 4)
 abbrev pub IsOfAsking : ℕ → Type 0
 IsOfAsking status = (status ≡ 0) ⊎ ((status ≡ 4) ⊎ ((status ≡ 5) ⊎ ((status ≡ 6) ⊎ (status ≡ 7))))
 
--- the statuses at which a sentence tells why nothing is written
+-- the statuses at which a sentence tells why nothing is written, or not all
 abbrev pub TellsWhy : ℕ → Type 0
-TellsWhy status = (status ≡ 2) ⊎ ((status ≡ 3) ⊎ ((status ≡ 5) ⊎ (status ≡ 7)))
+TellsWhy status = (status ≡ 2) ⊎ ((status ≡ 3) ⊎ ((status ≡ 4) ⊎ ((status ≡ 5) ⊎ (status ≡ 7))))
 
 -- Why there is no configuration, and the sentence that tells it: reading it failed, or it is too long.
 pub data HasNoConf (told : Option (List ℕ)) (faults faults_after : ℕ) (Told : List ℕ → Type 0) : Type 0 where
@@ -88,9 +88,10 @@ pub record EndsSo (lookup : Lookup) (conf : ResolvConf) (status : ℕ) (Told : L
 abbrev pub EndsTold : {L : Type 0} → (L → Option (List ℕ)) → (L → ℕ) → Lookup → ResolvConf → ℕ → (before after : L) → (old new : World) → Type 0
 EndsTold held faults lookup conf status before after old new = EndsSo lookup conf status (tells held faults conf.servers before after) old new
 
--- where a page is written nothing more is told, and where numbers are used up that is
+-- where pages are written nothing more is told, and where one is not written whole, or numbers are used up, that is
 pub record IsToldSo {L : Type 0} (held : L → Option (List ℕ)) (faults : L → ℕ) (status : ℕ) (mid after : L) : Type 0 where
-  pub quiet : HasPage status → held after ≡ held mid
+  pub quiet : status ≡ 0 → held after ≡ held mid
+  pub unwritten : status ≡ 4 → said held faults mid after unwritten_text
   pub stops : status ≡ 7 → said held faults mid after numbers_text
 
 -- What words end with, where this is what a sink holds and its count of faults: they are refused, or a lookup whose configuration can't be had, or

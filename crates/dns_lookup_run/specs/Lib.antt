@@ -8,3 +8,4 @@ pub mod Worlds
 pub mod Passing
 pub mod Making
 pub mod Recorded
+pub mod Pages

@@ -30,3 +30,7 @@ conf_text (Silent status) = unread_text
 
 abbrev pub numbers_text : List ℕ
 numbers_text = codes "dns_lookup: numbers are used up\n"
+
+-- the sink of a page failed
+abbrev pub unwritten_text : List ℕ
+unwritten_text = codes "dns_lookup: writing to standard output failed\n"

@@ -12,6 +12,7 @@
 mod asking;
 mod asks;
 mod conf;
+mod help;
 mod page;
 mod passing_edge;
 mod program;
@@ -21,8 +22,10 @@ mod telling;
 mod watched_clock;
 mod watched_edge;
 
+pub use help::tell_page;
 pub use passing_edge::{Asked, PassingEdge};
 pub use program::run;
 pub use recorded::{Recorded, run_recorded};
+pub use telling::{tell_no_memory, tell_no_random};
 pub use watched_clock::WatchedClock;
 pub use watched_edge::{Heard, News, Opened, Tidings, WatchedEdge};

@@ -5,26 +5,26 @@ ghost use Rattle.client_settings.specs.Settings.{default_cache};
 ghost use Rattle.resolver_policy.specs.Practice.{practical_choice};
 ghost use Rattle.client_steps.specs.Whole.{started};
 ghost use Rattle.dns_values.specs.Source.{Rose};
-ghost use Rattle.dns_values.specs.Sink.{IsFlushed};
+ghost use Rattle.dns_values.specs.Sink.{IsFlushed, with_octets};
 ghost use Rattle.dns_lookup_run.specs.Worlds.{around, is_message, said};
 ghost use Rattle.dns_lookup_run.specs.Asking.{Brought, HasBegun};
 ghost use Rattle.dns_lookup_run.specs.Ends.{EndsTold, HasNoConf, HasPage, IsOfAsking, IsRefusalTold, TellsWhy, WordsEnd};
 ghost use Rattle.dns_lookup_run.specs.Making.{IsMadeFor};
 ghost use Rattle.dns_lookup_run.specs.Reports.{told_of};
-ghost use Rattle.dns_lookup_run.specs.Sentences.{answer_text, numbers_text, unanswered_text};
+ghost use Rattle.dns_lookup_run.specs.Sentences.{answer_text, numbers_text, unanswered_text, unwritten_text};
 
 use crate::asking::{Outcome, asked};
 use crate::asks::Asks;
 use crate::conf::conf_of;
 use crate::page::page;
 use crate::reports::reports;
-use crate::telling::{tell_conf, tell_notes, tell_refusal, tell_stop, tell_unanswered};
+use crate::telling::{UNWRITTEN, tell_conf, tell_notes, tell_refusal, tell_stop, tell_unanswered};
 use crate::watched_clock::WatchedClock;
 use crate::watched_edge::{Opened, WatchedEdge};
 use client_core::{Client, Clock, Edge, cache};
 use client_loop::learn_all;
 use client_request::{Error, Words};
-use command_parts::{deliver, statuses};
+use command_parts::{deliver, end_by, statuses};
 use dns_base::{NoMemory, Rtype, Status};
 use dns_lookup_words::{Fault, Lookup, lookup_of};
 use dns_values::{Sink, Source};
@@ -50,6 +50,25 @@ fn tell_failed<L: Sink>(
     }
 }
 
+/// Writes a page, or tells that it could not be written whole.
+pub(crate) fn write_page<K: Sink, L: Sink>(text: &[u8], sink: &mut K, errors: &mut L) -> Status
+    ensures statuses { (result.0 ≡ 0) ⊎ ((result.0 ≡ 4) ⊎ (result.0 ≡ 6)) }
+    ensures done { result.0 ≡ 0 → K.held sink.new ≡ with_octets text.now (K.held sink.old) }
+    ensures quiet { result.0 ≡ 0 → L.held errors.new ≡ L.held errors.old }
+    ensures no_fault { result.0 ≡ 0 → L.faults errors.new ≡ L.faults errors.old }
+    ensures unwritten { result.0 ≡ 4 → said L.held L.faults errors.old errors.new unwritten_text }
+    ensures line_flushed { result.0 ≡ 4 → IsFlushed (L.held errors.new) (L.flushed errors.new) ⊎ Rose (L.faults errors.old) (L.faults errors.new) }
+    ensures flushed { result.0 ≡ 0 → IsFlushed (K.held sink.new) (K.flushed sink.new) }
+    ensures sink_fault { result.0 ≡ 4 → Rose (K.faults sink.old) (K.faults sink.new) }
+    ensures count { K.faults sink.old ≤ K.faults sink.new }
+{
+    let status = deliver(sink, text);
+    if status == statuses::SINK_FAULT {
+        return end_by(errors, status, UNWRITTEN);
+    }
+    status
+}
+
 /// Writes what a request came to: the message, or sentences that say why there is none.
 fn write_outcome<K: Sink, L: Sink>(
     alloc: Global,
@@ -64,16 +83,17 @@ fn write_outcome<K: Sink, L: Sink>(
     ensures good { HasPage result.0 → is_message outcome.now.answer ≡ true }
     ensures bad { result.0 ≡ 5 → is_message outcome.now.answer ≡ false }
     ensures said { result.0 ≡ 5 → said L.held L.faults errors.old errors.new (answer_text outcome.now.answer ++ told_of servers.now opened.now) }
-    ensures line_flushed { result.0 ≡ 5 → IsFlushed (L.held errors.new) (L.flushed errors.new) ⊎ Rose (L.faults errors.old) (L.faults errors.new) }
-    ensures quiet { HasPage result.0 → L.held errors.new ≡ L.held errors.old }
-    ensures no_fault { HasPage result.0 → L.faults errors.new ≡ L.faults errors.old }
+    ensures unwritten { result.0 ≡ 4 → said L.held L.faults errors.old errors.new unwritten_text }
+    ensures line_flushed { (result.0 ≡ 4) ⊎ (result.0 ≡ 5) → IsFlushed (L.held errors.new) (L.flushed errors.new) ⊎ Rose (L.faults errors.old) (L.faults errors.new) }
+    ensures quiet { result.0 ≡ 0 → L.held errors.new ≡ L.held errors.old }
+    ensures no_fault { result.0 ≡ 0 → L.faults errors.new ≡ L.faults errors.old }
     ensures flushed { result.0 ≡ 0 → IsFlushed (K.held sink.new) (K.flushed sink.new) }
     ensures sink_fault { result.0 ≡ 4 → Rose (K.faults sink.old) (K.faults sink.new) }
     ensures count { K.faults sink.old ≤ K.faults sink.new }
 {
     match &outcome.answer {
         Some(Ok(message)) => match page(alloc, is_short, message, outcome, servers, opened) {
-            Ok(text) => deliver(sink, text.as_bytes()),
+            Ok(text) => write_page(text.as_bytes(), sink, errors),
             Err(NoMemory) => statuses::NO_MEMORY,
         },
         Some(Err(error)) => tell_failed(alloc, Some(*error), servers, opened, errors),
@@ -97,9 +117,10 @@ fn tell<K: Sink, L: Sink>(
     ensures numbers { result.0 ≡ 7 → IsErrOf came Error.NumbersUsed }
     ensures said { result.0 ≡ 5 → IfOk came (λ o. said L.held L.faults errors.old errors.new (answer_text o.answer ++ told_of servers.now opened.now)) }
     ensures stops { result.0 ≡ 7 → said L.held L.faults errors.old errors.new numbers_text }
-    ensures line_flushed { (result.0 ≡ 5) ⊎ (result.0 ≡ 7) → IsFlushed (L.held errors.new) (L.flushed errors.new) ⊎ Rose (L.faults errors.old) (L.faults errors.new) }
-    ensures quiet { HasPage result.0 → L.held errors.new ≡ L.held errors.old }
-    ensures no_fault { HasPage result.0 → L.faults errors.new ≡ L.faults errors.old }
+    ensures unwritten { result.0 ≡ 4 → said L.held L.faults errors.old errors.new unwritten_text }
+    ensures line_flushed { (result.0 ≡ 4) ⊎ ((result.0 ≡ 5) ⊎ (result.0 ≡ 7)) → IsFlushed (L.held errors.new) (L.flushed errors.new) ⊎ Rose (L.faults errors.old) (L.faults errors.new) }
+    ensures quiet { result.0 ≡ 0 → L.held errors.new ≡ L.held errors.old }
+    ensures no_fault { result.0 ≡ 0 → L.faults errors.new ≡ L.faults errors.old }
     ensures flushed { result.0 ≡ 0 → IsFlushed (K.held sink.new) (K.flushed sink.new) }
     ensures sink_fault { result.0 ≡ 4 → Rose (K.faults sink.old) (K.faults sink.new) }
     ensures count { K.faults sink.old ≤ K.faults sink.new }
@@ -134,8 +155,9 @@ pub(crate) fn ask_all<K: Sink, L: Sink, E: Edge + Drop, C: Clock + Drop, A: Asks
     ensures made { result.0 ≢ 6 → result.0 ≢ 7 → around E.deeds E.polls C.given A.stream (edge.old, clock.old, rng.old) (edge.new, clock.new, rng.new)
         (IsMadeFor A.made lookup.now conf.now rng.old rng.new) }
     ensures stops { result.0 ≡ 7 → said L.held L.faults errors.old errors.new numbers_text }
-    ensures line_flushed { (result.0 ≡ 5) ⊎ (result.0 ≡ 7) → IsFlushed (L.held errors.new) (L.flushed errors.new) ⊎ Rose (L.faults errors.old) (L.faults errors.new) }
-    ensures quiet { HasPage result.0 → L.held errors.new ≡ L.held errors.old }
+    ensures unwritten { result.0 ≡ 4 → said L.held L.faults errors.old errors.new unwritten_text }
+    ensures line_flushed { (result.0 ≡ 4) ⊎ ((result.0 ≡ 5) ⊎ (result.0 ≡ 7)) → IsFlushed (L.held errors.new) (L.flushed errors.new) ⊎ Rose (L.faults errors.old) (L.faults errors.new) }
+    ensures quiet { result.0 ≡ 0 → L.held errors.new ≡ L.held errors.old }
     ensures flushed { result.0 ≡ 0 → IsFlushed (K.held sink.new) (K.flushed sink.new) }
     ensures sink_fault { result.0 ≡ 4 → Rose (K.faults sink.old) (K.faults sink.new) }
     ensures count { K.faults sink.old ≤ K.faults sink.new }
@@ -178,7 +200,8 @@ pub(crate) fn ask_all<K: Sink, L: Sink, E: Edge + Drop, C: Clock + Drop, A: Asks
 /// The servers that the words name are asked, or else those of the configuration that is found in what `source` gives, as
 /// `resolver_policy` has them asked in practice. What is answered is written to `sink`. Where nothing is, a sentence to `errors`
 /// says why, and a line for each server what it brought; before that a line for each line of the configuration that was not
-/// taken as it stands. The status stands whatever becomes of these, unless memory ran out there.
+/// taken as it stands. A sentence says too where a page was not written whole. The status stands whatever becomes of these, unless
+/// memory ran out there; that is told by `tell_no_memory`.
 pub fn run<S: Source, K: Sink, L: Sink, E: Edge + Drop, C: Clock + Drop, W: Words>(
     alloc: Global,
     words: &[String],

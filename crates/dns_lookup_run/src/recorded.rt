@@ -13,7 +13,7 @@ ghost use Rattle.dns_lookup_run.specs.Worlds.{around, said};
 use crate::asks::{Answered, Asks};
 use crate::conf::conf_of;
 use crate::program::ask_all;
-use crate::telling::{tell_conf, tell_notes, tell_refusal};
+use crate::telling::{tell_conf, tell_no_memory, tell_notes, tell_refusal};
 use crate::watched_clock::WatchedClock;
 use crate::watched_edge::WatchedEdge;
 use client_core::{Client, Clock, Edge, cache};
@@ -134,13 +134,16 @@ fn ended_line(alloc: Global, ended: Ended, lost: u64) -> Result<String, NoMemory
 }
 
 impl<K: Sink + Drop> Recorded<K> {
-    /// Tells why the record ended, if it did, as far as the sink takes it.
+    /// Tells why the record ended, if it did, and that memory ran out, if it did, as far as the sink takes it. Where few words are left
+    /// memory did not run out, and the line of the record says so.
     pub fn tell_ended<L: Sink>(&self, alloc: Global, errors: &mut L) {
-        let Some(ended) = self.ended else {
-            return;
-        };
-        if let Ok(line) = ended_line(alloc, ended, self.lost) {
-            end_by(errors, self.status, line.as_bytes());
+        if let Some(ended) = self.ended {
+            if let Ok(line) = ended_line(alloc, ended, self.lost) {
+                end_by(errors, self.status, line.as_bytes());
+            }
+        }
+        if self.status == statuses::NO_MEMORY && self.ended != Some(Ended::WordsUsed) {
+            tell_no_memory(errors);
         }
     }
 }

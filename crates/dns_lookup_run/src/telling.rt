@@ -34,6 +34,27 @@ pub(crate) fn tell_refusal<L: Sink>(
     }
 }
 
+/// What is told where a page is not written whole.
+pub(crate) const UNWRITTEN: &[u8] = b"dns_lookup: writing to standard output failed\n";
+
+/// Tells that memory ran out, as far as the sink takes it.
+pub fn tell_no_memory<L: Sink>(errors: &mut L) -> Status
+    ensures { result.0 ≡ 6 }
+{
+    end_by(errors, statuses::NO_MEMORY, b"dns_lookup: memory ran out\n")
+}
+
+/// Tells that no random words can be had, as far as the sink takes it.
+pub fn tell_no_random<L: Sink>(errors: &mut L) -> Status
+    ensures { result.0 ≡ 6 }
+{
+    end_by(
+        errors,
+        statuses::NO_MEMORY,
+        b"dns_lookup: no random words can be had\n",
+    )
+}
+
 /// What is told where there is no configuration and no server is named.
 const UNREAD_CONF: &[u8] =
     b"dns_lookup: /etc/resolv.conf could not be read, and no server is named by @ADDRESS\n";

@@ -13,7 +13,8 @@ wrong_text wrongs.Server = codes "names no server, which only an address does"
 wrong_text wrongs.Port = codes "is no port"
 wrong_text wrongs.Address = codes "is no address"
 wrong_text wrongs.Name = codes "is no name"
-wrong_text wrongs.Type = codes "is no type that one message answers"
+wrong_text wrongs.Type = codes "is neither a known type nor TYPE with a number"
+wrong_text wrongs.Transfer = codes "is no type that one message answers"
 wrong_text wrongs.Time = codes "gives no seconds from 1 to 600"
 wrong_text wrongs.Option = codes "is no option"
 wrong_text wrongs.More = codes "is one word too many"
@@ -28,12 +29,11 @@ word_at words n = text_of (slice_get words n)
 
 -- the sentence of a word that is wrong
 abbrev pub word_sentence : List ℕ → Wrong → List ℕ
-word_sentence word wrong = codes "dns_lookup: " ++ (word ++ (codes " " ++ (wrong_text wrong ++ codes "\n")))
+word_sentence word wrong = codes "dns_lookup: " ++ (word ++ (codes " " ++ (wrong_text wrong ++ codes "; see dns_lookup --help\n")))
 
 -- the sentence of a refusal, which names the wrong word
 abbrev pub sentence : List (String Global) → Refusal → List ℕ
 sentence words (Word n wrong) = word_sentence (word_at words n) wrong
-sentence words NoPort = codes "dns_lookup: no port stands behind -p\n"
-sentence words NoAddress = codes "dns_lookup: no address stands behind -x\n"
-sentence words NoName =
-    codes "dns_lookup: no name is asked for: dns_lookup [@SERVER ..] [-p PORT] (-x ADDRESS | NAME [TYPE]) [+tcp] [+dnssec] [+short] [+time=SECONDS]\n"
+sentence words NoPort = codes "dns_lookup: no port stands behind -p; see dns_lookup --help\n"
+sentence words NoAddress = codes "dns_lookup: no address stands behind -x; see dns_lookup --help\n"
+sentence words NoName = codes "dns_lookup: no name is asked for; see dns_lookup --help\n"

@@ -76,17 +76,14 @@ name_given None said = Err wrongs.Name
 name_given (Some name) said = Ok (record said { name = Some name })
 
 -- TYPE, of which AXFR is none: no one message answers it
-abbrev pub one_message : ℕ → Option ℕ
-one_message n = if n == 252 then None else Some n
-
 abbrev pub type_given : Option ℕ → Said → Result Said Wrong
 type_given None said = Err wrongs.Type
-type_given (Some n) said = Ok (record said { rtype = Some (record { 0 = n }) })
+type_given (Some n) said = if n == 252 then Err wrongs.Transfer else Ok (record said { rtype = Some (record { 0 = n }) })
 
 -- A word that is no option is the name. The next such word is the type, and there are no others.
 abbrev pub plain_at : Option Labels → Option Rtype → List ℕ → Said → Result Said Wrong
 plain_at None rtype word said = name_given (result_ok (name_of_text word)) said
-plain_at (Some name) None word said = type_given (option_and_then one_message (type_of_text word)) said
+plain_at (Some name) None word said = type_given (type_of_text word) said
 plain_at (Some name) (Some rtype) word said = Err wrongs.More
 
 abbrev pub plain_said : List ℕ → Said → Result Said Wrong

@@ -1,8 +1,8 @@
 //! Words that are taken, one after another.
 
-ghost use Rattle.std.specs.Prelude.{◌≡◌, Ok, Err, Some, None, true, false, if◌then◌else◌, option_and_then, option_copied, option_map};
+ghost use Rattle.std.specs.Prelude.{◌≡◌, Ok, Err, Some, None, true, false, if◌then◌else◌, option_copied, option_map};
 ghost use Rattle.std.specs.Result.{result_ok};
-ghost use Rattle.dns_lookup_words.specs.Words.{AddressGives, AllAnswer, Answers, ServerGives, WordGives, WordsGive, AnyGives, begins_option, fault_at, flagged, name_given, option_or_plain, plain_said, port_said, server_text, time_said, time_text, type_given, one_message};
+ghost use Rattle.dns_lookup_words.specs.Words.{AddressGives, AllAnswer, Answers, ServerGives, WordGives, WordsGive, AnyGives, begins_option, fault_at, flagged, name_given, option_or_plain, plain_said, port_said, server_text, time_said, time_text, type_given};
 ghost use Rattle.dns_names.specs.Text.{name_of_text};
 ghost use Rattle.dns_values.specs.NumberNames.{type_of_text};
 
@@ -48,18 +48,12 @@ fn begins_option(word: &[u8]) -> bool
     }
 }
 
-/// The type that a word names, unless no one message answers it.
+/// The type that a word names.
 fn type_in(word: &str) -> Option<Rtype>
-    ensures { option_map (λ t. t.0) result ≡ option_and_then one_message (type_of_text word.now) }
+    ensures { option_map (λ t. t.0) result ≡ type_of_text word.now }
 {
     match Rtype::from_text(word) {
-        Ok(rtype) => {
-            if rtype == Rtype::AXFR {
-                None
-            } else {
-                Some(rtype)
-            }
-        }
+        Ok(rtype) => Some(rtype),
         Err(_) => None,
     }
 }
@@ -140,15 +134,16 @@ impl Said {
     }
 
     fn take_type(&mut self, word: &str) -> Result<(), WordFault>
-        ensures { Answers (λ o. o ≡ type_given (option_and_then one_message (type_of_text word.now)) self.old) result self.new }
+        ensures { Answers (λ o. o ≡ type_given (type_of_text word.now) self.old) result self.new }
     {
-        match type_in(word) {
-            Some(rtype) => {
-                self.rtype = Some(rtype);
-                Ok(())
-            }
-            None => Err(WordFault::Wrong(Wrong::Type)),
+        let Some(rtype) = type_in(word) else {
+            return Err(WordFault::Wrong(Wrong::Type));
+        };
+        if rtype == Rtype::AXFR {
+            return Err(WordFault::Wrong(Wrong::Transfer));
         }
+        self.rtype = Some(rtype);
+        Ok(())
     }
 
     /// Takes a word that is no option: the name, or else the type.

@@ -16,7 +16,8 @@ fn wrong_text(wrong: Wrong) -> &'static str
         Wrong::Port => "is no port",
         Wrong::Address => "is no address",
         Wrong::Name => "is no name",
-        Wrong::Type => "is no type that one message answers",
+        Wrong::Type => "is neither a known type nor TYPE with a number",
+        Wrong::Transfer => "is no type that one message answers",
         Wrong::Time => "gives no seconds from 1 to 600",
         Wrong::Option => "is no option",
         Wrong::More => "is one word too many",
@@ -38,7 +39,7 @@ fn word_sentence(alloc: Global, word: &str, wrong: Wrong) -> Result<String, NoMe
     ensures { IfOk result (λ s. string_bytes s ≡ word_sentence word.now wrong) }
 {
     let text = wrong_text(wrong);
-    Ok(format!(in alloc; "dns_lookup: {word} {text}\n")?)
+    Ok(format!(in alloc; "dns_lookup: {word} {text}; see dns_lookup --help\n")?)
 }
 
 /// The sentence that tells why these words are no lookup: one line, which names the wrong word as it was given.
@@ -47,11 +48,9 @@ pub fn sentence(alloc: Global, words: &[String], refusal: Refusal) -> Result<Str
 {
     let text = match refusal {
         Refusal::Word { at, wrong } => return word_sentence(alloc, word_at(words, at), wrong),
-        Refusal::NoPort => "dns_lookup: no port stands behind -p\n",
-        Refusal::NoAddress => "dns_lookup: no address stands behind -x\n",
-        Refusal::NoName => {
-            "dns_lookup: no name is asked for: dns_lookup [@SERVER ..] [-p PORT] (-x ADDRESS | NAME [TYPE]) [+tcp] [+dnssec] [+short] [+time=SECONDS]\n"
-        }
+        Refusal::NoPort => "dns_lookup: no port stands behind -p; see dns_lookup --help\n",
+        Refusal::NoAddress => "dns_lookup: no address stands behind -x; see dns_lookup --help\n",
+        Refusal::NoName => "dns_lookup: no name is asked for; see dns_lookup --help\n",
     };
     Ok(String::from_str(alloc, text)?)
 }

@@ -15,8 +15,10 @@ pub enum Wrong {
     Address,
     /// It stands where the name must, and is none: outside the grammar of names, or too long.
     Name,
-    /// It stands where the type must, and is none, or is AXFR, which no one message answers.
+    /// It stands where the type must, and is none.
     Type,
+    /// It stands where the type must, and is AXFR, which no one message answers.
+    Transfer,
     /// What stands behind its `+time=` is no number from 1 to 600.
     Time,
     /// It begins as an option does, and is none.

@@ -18,9 +18,15 @@ use std::marker::Model;
 static ROOT: [u8; 1] = [0];
 
 /// A name that owns its octets, uncompressed; none for the root.
-#[derive(Debug, Drop)]
+#[derive(Debug)]
 pub struct Name {
     octets: Vec<u8>,
+}
+
+impl Drop for Name {
+    fn drop(self) {
+        let Name { octets: _ } = self;
+    }
 }
 
 impl Model for Name {

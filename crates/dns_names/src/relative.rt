@@ -11,10 +11,15 @@ use std::alloc::Global;
 use std::marker::Model;
 
 /// Labels without the root, of 254 octets at most with their lengths; maybe none.
-#[derive(Drop)]
 pub struct RelativeName {
     /// The same labels with the root.
     absolute: Name,
+}
+
+impl Drop for RelativeName {
+    fn drop(self) {
+        let RelativeName { absolute: _ } = self;
+    }
 }
 
 impl Model for RelativeName {

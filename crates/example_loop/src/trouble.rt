@@ -1,7 +1,8 @@
 //! What can go wrong in this program.
 
 use client_request::Error;
-use dns_base::{NameFault, NoMemory, PushError};
+use dns_base::{NameFault, NoMemory, ParseError, PushError, ShortMessage};
+use dns_record::Refused;
 use std::io;
 use std::num::TryFromIntError;
 
@@ -12,6 +13,9 @@ pub(crate) enum Trouble {
     Message(PushError),
     Client(Error),
     System(io::Error),
+    Record(Refused),
+    /// The client sent nothing when its place opened.
+    NothingSent,
     /// The clock has counted more microseconds than a moment has.
     Late,
 }
@@ -40,9 +44,27 @@ impl From<NoMemory> for Trouble {
     }
 }
 
+impl From<ParseError> for Trouble {
+    fn from(error: ParseError) -> Trouble {
+        Trouble::Client(error.into())
+    }
+}
+
+impl From<ShortMessage> for Trouble {
+    fn from(error: ShortMessage) -> Trouble {
+        Trouble::Client(error.into())
+    }
+}
+
 impl From<io::Error> for Trouble {
     fn from(error: io::Error) -> Trouble {
         Trouble::System(error)
+    }
+}
+
+impl From<Refused> for Trouble {
+    fn from(refused: Refused) -> Trouble {
+        Trouble::Record(refused)
     }
 }
 

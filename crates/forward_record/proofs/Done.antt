@@ -9,17 +9,20 @@ use Rattle.dns_record.specs.Recording.{IsRefused, Recording, opening}
 use Rattle.dns_record.specs.declared.ended.Refused.{Refused}
 use Rattle.front_steps.specs.Steps.{beginning}
 use Rattle.forward_run.specs.Front.{after_deeds}
-use Rattle.forward_run.specs.Serving.{IfAsked, IsConfAsked, asks_itself, begun_deeds}
-use Rattle.forward_run.specs.Settings.{cache_of, choice_of}
+use Rattle.forward_conf.specs.Itself.{asks_itself}
+use Rattle.forward_conf.specs.Reading.{IsConfAsked}
+use Rattle.forward_conf.specs.Settings.{cache_of, choice_of}
+use Rattle.forward_run.specs.Ends.{IfAsked}
+use Rattle.forward_run.specs.Serving.{begun_deeds}
 use Rattle.forward_run.specs.Turns.{World}
 use Rattle.forward_run.specs.declared.front.FrontDeed.{FrontDeed}
 use Rattle.forward_run.proofs.Written.{asked_with, told_with}
-use Rattle.forward_words.specs.Words.{asked_by}
+use Rattle.forward_words.specs.Words.{asked_in, command_of}
 use Rattle.forward_words.specs.declared.options.Options.{Options}
 use Rattle.forward_words.specs.declared.words.Asked.{Asked}
 use Rattle.resolv_conf.specs.declared.conf.ResolvConf.{ResolvConf}
 use Rattle.forward_record.specs.Core.{RecordedClient}
-use Rattle.forward_record.specs.Sentences.{unrecorded_line}
+use Rattle.forward_record.specs.Sentences.{unrecorded_line, unrecorded_sentence}
 use Rattle.forward_record.specs.Serving.{IsBegun, IsNotRecorded, IsNotRecordedIf, IsRefusalSaid, IsServed, IsRun, IsServedOf, words_ahead, words_behind}
 use Rattle.forward_record.specs.Turns.{Recorded, Turned, scene, within}
 use Rattle.forward_record.specs.declared.serving.Unserved.{Unserved}
@@ -92,14 +95,14 @@ refused_if options (Some text) conf words left faults why read refused = record 
 
 -- by the words that asked for it
 pub served_to : {K : Type 0} (held : K → Option (List ℕ)) (options : Options) (said : List (String Global)) (asked : Asked) (told : Option (List ℕ)) (answered : ℕ) (before : Option (List ℕ)) (last : Recorded K) (old new : World)
-    → asked_by said ≡ Some asked → IsRun held options asked told answered before last old new
-    → IfAsked said told (λ a text. IsServedOf held options a text answered before last old new)
+    → Ok asked ≡ command_of said → IsRun held options asked told answered before last old new
+    → IfAsked (asked_in said) told (λ a text. IsServedOf held options a text answered before last old new)
 served_to held options said asked told answered before last old new is serves =
     asked_with said asked told (λ a text. IsServedOf held options a text answered before last old new) is serves
 
-pub refusal_said : (Said : List ℕ → Type 0) (options : Options) (said : List (String Global)) (asked : Asked) (told : Option (List ℕ)) (words : ℕ → ℕ) (faults : ℕ) (why : Refused)
-    → asked_by said ≡ Some asked → IsNotRecordedIf options told words faults why → Said (unrecorded_line why)
-    → IfAsked said told (λ a text. IsRefusalSaid Said options text words faults)
-refusal_said Said options said asked told words faults why is refused line =
-    asked_with said asked told (λ a text. IsRefusalSaid Said options text words faults) is
-    (told_with told _ (λ text. IsRefusalSaid Said options text words faults) (λ text h. record { why = why; refused = h; said = line }) refused)
+pub refusal_said : (Said Told : List ℕ → Type 0) (options : Options) (said : List (String Global)) (asked : Asked) (told : Option (List ℕ)) (words : ℕ → ℕ) (faults : ℕ) (why : Refused)
+    → Ok asked ≡ command_of said → IsNotRecordedIf options told words faults why → Said (unrecorded_line why) → Told (unrecorded_sentence why)
+    → IfAsked (asked_in said) told (λ a text. IsRefusalSaid Said Told options text words faults)
+refusal_said Said Told options said asked told words faults why is refused line sentence =
+    asked_with said asked told (λ a text. IsRefusalSaid Said Told options text words faults) is
+    (told_with told _ (λ text. IsRefusalSaid Said Told options text words faults) (λ text h. record { why = why; refused = h; said = line; told = sentence }) refused)

@@ -1,4 +1,5 @@
 pub mod Core
 pub mod Sentences
 pub mod Serving
+pub mod Telling
 pub mod Turns

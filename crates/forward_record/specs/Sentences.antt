@@ -7,5 +7,8 @@ use Rattle.dns_record.specs.declared.ended.Refused.{Refused}
 abbrev pub unrecorded_line : Refused → List ℕ
 unrecorded_line refused = codes "nothing is recorded: " ++ (refused_text refused ++ codes "\n")
 
+abbrev pub unrecorded_sentence : Refused → List ℕ
+unrecorded_sentence refused = codes "dns_forward: " ++ unrecorded_line refused
+
 abbrev pub ended_line : Ended → List ℕ
 ended_line ended = codes "dns_forward: the record ended: " ++ (ended_text ended ++ codes "\n")

@@ -1,21 +1,24 @@
 -- What the program does where it is recorded, and how it ends.
-use Rattle.std.specs.Prelude.{◌≡◌, ◌⊎◌, ℕ, false, List, [], Option, None, Some, IfSome, String}
-use Rattle.std.specs.declared.alloc.Global.{Global}
+use Rattle.std.specs.Prelude.{◌≡◌, ◌≢◌, ◌⊎◌, ℕ, false, List, [], Option, None, Some, IfSome}
 use Rattle.command_parts.specs.Ends.{IsSaid}
-use Rattle.command_parts.specs.declared.ending.Ending.{Ending}
 use Rattle.client_steps.specs.Whole.{started}
 use Rattle.dns_record.specs.Recording as recording
 use Rattle.dns_record.specs.Recording.{HasEnded, IsRefused, drawn, opening, rest_behind}
 use Rattle.dns_record.specs.declared.ended.Refused.{Refused}
+use Rattle.forward_conf.specs.Itself.{asks_itself}
+use Rattle.forward_conf.specs.Reading.{IsConfAsked}
+use Rattle.forward_conf.specs.Sentences.{status_of}
+use Rattle.forward_conf.specs.Settings.{cache_of, choice_of}
+use Rattle.forward_conf.specs.declared.cause.Cause.{Cause}
+use Rattle.forward_run.specs.Ends.{IfAsked}
 use Rattle.forward_run.specs.Front.{after_deeds}
-use Rattle.forward_run.specs.Serving.{IfAsked, IsConfAsked, asks_itself, begun_deeds}
-use Rattle.forward_run.specs.Settings.{cache_of, choice_of}
+use Rattle.forward_run.specs.Serving.{begun_deeds}
 use Rattle.forward_run.specs.Turns.{World}
 use Rattle.forward_words.specs.declared.options.Options.{Options}
 use Rattle.forward_words.specs.declared.words.Asked.{Asked}
 use Rattle.front_steps.specs.Steps.{beginning}
 use Rattle.resolv_conf.specs.declared.conf.ResolvConf.{ResolvConf}
-use Rattle.forward_record.specs.Sentences.{unrecorded_line}
+use Rattle.forward_record.specs.Sentences.{unrecorded_line, unrecorded_sentence}
 use Rattle.forward_record.specs.Turns.{Recorded, Turned, within}
 use Rattle.forward_record.specs.declared.serving.Served.{Served}
 use Rattle.forward_record.specs.declared.serving.Unserved.{Unserved}
@@ -42,15 +45,20 @@ pub record IsBegun {K : Type 0} (held : K → Option (List ℕ)) (options : Opti
 abbrev pub IsNotRecorded : Options → ResolvConf → (words : List ℕ) → (faults : ℕ) → Refused → Type 0
 IsNotRecorded options conf words faults why = (after : ℕ) × IsRefused why conf (choice_of options.policy) (cache_of options) words faults after
 
--- nothing is served and this holds of the ending, if it is one without a record
-abbrev pub IfEnds : Unserved → (Ending → Type 0) → Type 0
-IfEnds (Ends ending) P = P ending
+-- nothing is served and this holds of the cause, if it is one without a record
+abbrev pub IfEnds : Unserved → (Cause → Type 0) → Type 0
+IfEnds (Ends cause) P = P cause
 IfEnds (NotRecorded why) P = Unit {0}
 
 -- or this of why nothing can be recorded, if it is that
 abbrev pub IfNotRecorded : Unserved → (Refused → Type 0) → Type 0
-IfNotRecorded (Ends ending) P = Unit {0}
+IfNotRecorded (Ends cause) P = Unit {0}
 IfNotRecorded (NotRecorded why) P = P why
+
+-- or this holds unless memory ran out
+abbrev pub IfSpeaks : Unserved → Type 0 → Type 0
+IfSpeaks (Ends cause) P = status_of cause ≢ 6 → P
+IfSpeaks (NotRecorded why) P = P
 
 -- The configuration was served and recorded, in which no server is the forwarder itself: it was listened, once, the servers were learned, and so many turns were made, which
 -- put out so many answers. Of the words those that came first stand in the record. The sink has the record of the first of the rows of the client within.
@@ -81,9 +89,9 @@ IsLeft None P = ⊥
 IsLeft (Some f) P = P f
 
 -- by the words that asked for it
-abbrev pub IsServedTo : {K : Type 0} → (K → Option (List ℕ)) → Options → List (String Global) → (told : Option (List ℕ)) → (file : K) → Served K → (old new : World) → Type 0
-IsServedTo held options words told file served old new =
-    IfAsked words told (λ asked text. IsLeft served.forwarder (λ last. IsServedOf held options asked text served.answered (held file) last old new))
+abbrev pub IsServedTo : {K : Type 0} → (K → Option (List ℕ)) → Options → Option Asked → (told : Option (List ℕ)) → (file : K) → Served K → (old new : World) → Type 0
+IsServedTo held options asked told file served old new =
+    IfAsked asked told (λ a text. IsLeft served.forwarder (λ last. IsServedOf held options a text served.answered (held file) last old new))
 
 -- the statuses at which it was served
 abbrev pub HasServed : {K : Type 0} → Served K → Type 0
@@ -99,14 +107,15 @@ pub record IsRefusedOf (options : Options) (text : List ℕ) (words : ℕ → �
 abbrev pub IsNotRecordedIf : (options : Options) (told : Option (List ℕ)) (words : ℕ → ℕ) (faults : ℕ) → Refused → Type 0
 IsNotRecordedIf options told words faults why = IfSome told (λ text. IsRefusedOf options text words faults why)
 
--- And a line says why.
-pub record IsRefusalSaid (Said : List ℕ → Type 0) (options : Options) (text : List ℕ) (words : ℕ → ℕ) (faults : ℕ) : Type 0 where
+-- And a line says why, and a sentence.
+pub record IsRefusalSaid (Said Told : List ℕ → Type 0) (options : Options) (text : List ℕ) (words : ℕ → ℕ) (faults : ℕ) : Type 0 where
   pub why : Refused
   pub refused : IsRefusedOf options text words faults why
   pub said : Said (unrecorded_line why)
+  pub told : Told (unrecorded_sentence why)
 
-abbrev pub IsRefusedTo : Options → List (String Global) → (told : Option (List ℕ)) → (faults : ℕ) → (words : ℕ → ℕ) → (Said : List ℕ → Type 0) → Type 0
-IsRefusedTo options said told faults words Said = IfAsked said told (λ asked text. IsRefusalSaid Said options text words faults)
+abbrev pub IsRefusedTo : Options → Option Asked → (told : Option (List ℕ)) → (faults : ℕ) → (words : ℕ → ℕ) → (Said Told : List ℕ → Type 0) → Type 0
+IsRefusedTo options asked told faults words Said Told = IfAsked asked told (λ a text. IsRefusalSaid Said Told options text words faults)
 
 -- a line is written whole, or the first of it, and then the sink's count of faults rose
 abbrev pub is_said : {O : Type 0} → (O → Option (List ℕ)) → (O → ℕ) → (old new : O) → (line : List ℕ) → Type 0

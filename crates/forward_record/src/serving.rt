@@ -1,31 +1,37 @@
 //! What the program does where it is recorded.
 
 ghost use Rattle.std.specs.Prelude.{◌≡◌, ◌<◌, ◌⊎◌, false, None, OnOk, IfOk, IfErr, IfSome};
-ghost use Rattle.command_parts.specs.Conf.{IsConfRefused};
-ghost use Rattle.command_parts.specs.Ends.{IsBegun as IsLineBegun, IsSaid, line_of, status_of};
+ghost use Rattle.command_parts.specs.Ends.{IsBegun as IsLineBegun, IsSaid};
 ghost use Rattle.dns_values.specs.Sink.{IsFlushed, with_octets};
 ghost use Rattle.dns_values.specs.Source.{Rose};
+ghost use Rattle.forward_conf.specs.Causes.{IsServeCause, IsSilent};
+ghost use Rattle.forward_conf.specs.Itself.{asks_itself};
+ghost use Rattle.forward_conf.specs.Reading.{AnyNotes, NotesIn};
+ghost use Rattle.forward_conf.specs.Sentences.{numbers_line, output_sentence};
+ghost use Rattle.forward_run.specs.Ends.{EndsBecause, IfAsked, IsEndCause, IsNotListenedBy, RefusalIsSaid};
 ghost use Rattle.forward_run.specs.Front.{after_deeds};
-ghost use Rattle.forward_run.specs.Serving.{IfAsked, IsDeaf, IsEndOfSource, IsNotListenedBy, IsNotListenedIf, IsServeEnd, IsSilent, RefusalIsSaid, answered_line, asks_itself, begun_deeds, numbers_line};
+ghost use Rattle.forward_run.specs.Serving.{answered_line, begun_deeds};
 ghost use Rattle.forward_run.specs.Turns.{around};
-ghost use Rattle.forward_words.specs.Words.{asked_by};
-ghost use Rattle.forward_record.specs.Serving.{HasServed, IfEnds, IfNotRecorded, IsBegun, IsNotRecorded, IsNotRecordedIf, IsRefusedTo, IsServed, IsRun, IsServedTo, is_said, words_ahead, words_behind};
+ghost use Rattle.forward_words.specs.Sentences.{unasked_sentence};
+ghost use Rattle.forward_words.specs.Words.{asked_in, command_of};
+ghost use Rattle.forward_record.specs.Serving.{HasServed, IfEnds, IfNotRecorded, IfSpeaks, IsBegun, IsNotRecorded, IsNotRecordedIf, IsRefusedTo, IsServed, IsRun, IsServedTo, is_said, words_ahead, words_behind};
+ghost use Rattle.forward_record.specs.Telling.{HasTold, IsNotedThen, IsTold, IsWhy, is_told};
 
 use crate::recorded_core::{RecordedCore, RecordedForwarder};
 use crate::telling::tell_unrecorded;
 use crate::turns::turn_all;
 use client_core::{Client, Clock};
 use client_request::Words;
-use command_parts::statuses::{NO_MEMORY, USAGE};
-use command_parts::{Ending, deliver};
+use command_parts::deliver;
+use command_parts::statuses::NO_MEMORY;
 use dns_base::Status;
 use dns_record::{Ahead, Recorder, Refused, record_law};
 use dns_values::{Sink, Source};
-use forward_run::{
-    Front, Watch, answered_line, begin_front, cache_of, choice_of, conf_asked, end_without,
-    stopped_by,
+use forward_conf::{
+    Cause, cache_of, choice_of, conf_asked, end_because, end_delivered, tell_unasked,
 };
-use forward_words::{Asked, Options, asked_by};
+use forward_run::{Front, Watch, answered_line, begin_front, stopped_by};
+use forward_words::{Asked, Options, command_of};
 use front_steps::Forwarder;
 use resolv_conf::ResolvConf;
 use std::alloc::Global;
@@ -34,7 +40,7 @@ use std::alloc::Global;
 #[derive(Drop)]
 enum Unserved {
     /// As `forward_run` ends.
-    Ends(Ending),
+    Ends(Cause),
     /// Nothing can be recorded.
     NotRecorded(Refused),
 }
@@ -67,14 +73,12 @@ fn begin<F: Front, W: Words, K: Sink + Drop>(
     ensures deeds { OnOk result (F.deeds front.new ≡ after_deeds (begun_deeds port conf.now) (F.deeds front.old)) }
     ensures polls { F.polls front.new ≡ F.polls front.old }
     ensures asks_others { OnOk result (asks_itself options.now.listened port conf.now ≡ false) }
-    ensures ends { IfErr result (λ e. IfEnds e IsServeEnd) }
-    ensures deaf { IfErr result (λ e. IfEnds e (λ ending. status_of ending ≡ 5 → IsDeaf options.now.listened port conf.now (F.faults front.old) (F.faults front.new))) }
-    ensures numbers { IfErr result (λ e. IfEnds e (λ ending. status_of ending ≡ 7 → line_of ending ≡ numbers_line)) }
+    ensures cause { IfErr result (λ e. IfEnds e (IsServeCause (F.gave front.new) (F.is_deaf_at front.new) (F.faults front.old) (F.faults front.new) options.now.listened port conf.now)) }
     ensures not_recorded { IfErr result (λ e. IfNotRecorded e (IsNotRecorded options.now conf.now (words_ahead (W.stream rng.old)) (K.faults file))) }
 {
     match begin_front(options.listened.as_slice(), port, conf, front) {
         Ok(()) => {}
-        Err(ending) => return Err(Unserved::Ends(ending)),
+        Err(cause) => return Err(Unserved::Ends(cause)),
     }
     let mut file = file;
     let choice = choice_of(options.policy);
@@ -89,7 +93,7 @@ fn begin<F: Front, W: Words, K: Sink + Drop>(
             let core = RecordedCore::new(client, recorder, file);
             Ok(Forwarder::new(alloc, core))
         }
-        Err(_) => Err(Unserved::Ends(Ending::Silent(NO_MEMORY))),
+        Err(_) => Err(Unserved::Ends(Cause::NoMemory)),
     }
 }
 
@@ -108,9 +112,8 @@ fn serve_conf<L: Sink, F: Front, C: Clock, W: Words, V: Watch, K: Sink + Drop>(
     file: K,
 ) -> Result<(u64, RecordedForwarder<K>), Unserved>
     ensures served { IfOk result (λ left. around F.deeds F.polls C.given W.stream (front.old, clock.old, rng.old) (front.new, clock.new, rng.new) (IsServed K.held options.now asked conf.now left.0 (K.held file) left.1)) }
-    ensures ends { IfErr result (λ e. IfEnds e IsServeEnd) }
-    ensures deaf { IfErr result (λ e. IfEnds e (λ ending. status_of ending ≡ 5 → IsDeaf options.now.listened asked.port conf.now (F.faults front.old) (F.faults front.new))) }
-    ensures numbers { IfErr result (λ e. IfEnds e (λ ending. status_of ending ≡ 7 → line_of ending ≡ numbers_line)) }
+    ensures told { HasTold (L.held errors.old) (L.held errors.new) (L.faults errors.old) (L.faults errors.new) }
+    ensures cause { IfErr result (λ e. IfEnds e (IsServeCause (F.gave front.new) (F.is_deaf_at front.new) (F.faults front.old) (F.faults front.new) options.now.listened asked.port conf.now)) }
     ensures not_recorded { IfErr result (λ e. IfNotRecorded e (IsNotRecorded options.now conf.now (words_ahead (W.stream rng.old)) (K.faults file))) }
 {
     let begun = begin(alloc, options, seed, asked.port, conf, front, rng, file);
@@ -133,7 +136,7 @@ fn serve_conf<L: Sink, F: Front, C: Clock, W: Words, V: Watch, K: Sink + Drop>(
             record_law();
             Ok((answered, forwarder))
         }
-        Err(error) => Err(Unserved::Ends(stopped_by(alloc, error))),
+        Err(error) => Err(Unserved::Ends(stopped_by(error))),
     }
 }
 
@@ -152,16 +155,14 @@ fn serve_source<S: Source, L: Sink, F: Front, C: Clock, W: Words, V: Watch, K: S
     file: K,
 ) -> Result<(u64, RecordedForwarder<K>), Unserved>
     ensures served { IfOk result (λ it. around F.deeds F.polls C.given W.stream (front.old, clock.old, rng.old) (front.new, clock.new, rng.new) (IsRun K.held options.now asked (S.left source.old) it.0 (K.held file) it.1)) }
-    ensures source_fault { IfErr result (λ e. IfEnds e (λ ending. status_of ending ≡ 3 → Rose (S.faults source.old) (S.faults source.new))) }
-    ensures refused { IfErr result (λ e. IfEnds e (λ ending. status_of ending ≡ 1 → IfSome (S.left source.old) (λ text. IsConfRefused text (line_of ending)))) }
-    ensures deaf { IfErr result (λ e. IfEnds e (λ ending. status_of ending ≡ 5 → IsNotListenedIf options.now asked.port (S.left source.old) (W.stream rng.old) (F.faults front.old) (F.faults front.new))) }
-    ensures ends { IfErr result (λ e. IfEnds e IsEndOfSource) }
-    ensures numbers { IfErr result (λ e. IfEnds e (λ ending. status_of ending ≡ 7 → line_of ending ≡ numbers_line)) }
+    ensures noted { OnOk result (IsNotedThen (NotesIn options.now.policy (S.left source.old)) (L.held errors.old) (L.held errors.new) (L.faults errors.old) (L.faults errors.new)) }
+    ensures told { IfErr result (λ e. IfSpeaks e (IsNotedThen AnyNotes (L.held errors.old) (L.held errors.new) (L.faults errors.old) (L.faults errors.new))) }
+    ensures cause { IfErr result (λ e. IfEnds e (IsEndCause options.now asked.port (S.left source.old) (W.stream rng.old) (F.gave front.new) (F.is_deaf_at front.new) (F.faults front.old) (F.faults front.new) (S.faults source.old) (S.faults source.new))) }
     ensures not_recorded { IfErr result (λ e. IfNotRecorded e (IsNotRecordedIf options.now (S.left source.old) (W.stream rng.old) (K.faults file))) }
 {
-    let conf = match conf_asked(alloc, options, source, rng) {
+    let conf = match conf_asked(alloc, options, source, errors, rng) {
         Ok(conf) => conf,
-        Err(ending) => return Err(Unserved::Ends(ending)),
+        Err(cause) => return Err(Unserved::Ends(cause)),
     };
     serve_conf(
         alloc, options, seed, asked, &conf, errors, front, clock, rng, watch, file,
@@ -185,7 +186,8 @@ fn write_answered<O: Sink>(alloc: Global, answered: u64, sink: &mut O) -> Status
 /// Answers DNS clients as `forward_run::serve_as` does, and records the client within: `file` then holds a script whose replay gives
 /// its rows, or the first of them. It is told of a record's end by a line to `errors`.
 ///
-/// As of `serve_as`, and where nothing is served since nothing can be recorded 8: a line to `sink` says why.
+/// As of `serve_as`, and where nothing is served since nothing can be recorded 8: a line to `sink` says why, and a sentence to
+/// `errors`.
 pub fn serve_recorded<
     S: Source,
     O: Sink,
@@ -209,44 +211,52 @@ pub fn serve_recorded<
     watch: &mut V,
     file: K,
 ) -> Served<K>
-    ensures usage { result.status.0 ≡ 2 → asked_by words.now ≡ None }
-    ensures no_command { asked_by words.now ≡ None → result.status.0 ≡ 2 }
-    ensures served { HasServed result → around F.deeds F.polls C.given W.stream (front.old, clock.old, rng.old) (front.new, clock.new, rng.new) (IsServedTo K.held said.now words.now (S.left source.old) file result) }
+    ensures usage { result.status.0 ≡ 2 → asked_in words.now ≡ None }
+    ensures no_command { asked_in words.now ≡ None → (result.status.0 ≡ 2) ⊎ (result.status.0 ≡ 6) }
+    ensures usage_told { result.status.0 ≡ 2 → IfErr (command_of words.now) (λ unasked. IsSaid (unasked_sentence words.now unasked) (L.held errors.old) (L.held errors.new) (L.faults errors.old) (L.faults errors.new)) }
+    ensures served { HasServed result → around F.deeds F.polls C.given W.stream (front.old, clock.old, rng.old) (front.new, clock.new, rng.new) (IsServedTo K.held said.now (asked_in words.now) (S.left source.old) file result) }
     ensures done { result.status.0 ≡ 0 → O.held sink.new ≡ with_octets (answered_line result.answered) (O.held sink.old) }
     ensures flushed { result.status.0 ≡ 0 → IsFlushed (O.held sink.new) (O.flushed sink.new) }
-    ensures refused { result.status.0 ≡ 1 → IfAsked words.now (S.left source.old) (λ asked text. RefusalIsSaid text (O.held sink.old) (O.held sink.new) (O.faults sink.old) (O.faults sink.new)) }
+    ensures noted { result.status.0 ≡ 0 → IsNotedThen (NotesIn said.now.policy (S.left source.old)) (L.held errors.old) (L.held errors.new) (L.faults errors.old) (L.faults errors.new) }
+    ensures refused { result.status.0 ≡ 1 → IfAsked (asked_in words.now) (S.left source.old) (λ _ text. RefusalIsSaid said.now.policy text (O.held sink.old) (O.held sink.new) (O.faults sink.old) (O.faults sink.new)) }
     ensures source_fault { result.status.0 ≡ 3 → Rose (S.faults source.old) (S.faults source.new) }
     ensures cut { result.status.0 ≡ 4 → IsLineBegun (answered_line result.answered) (O.held sink.old) (O.held sink.new) }
     ensures sink_fault { result.status.0 ≡ 4 → Rose (O.faults sink.old) (O.faults sink.new) }
-    ensures deaf { result.status.0 ≡ 5 → IsNotListenedBy said.now words.now (S.left source.old) (W.stream rng.old) (F.faults front.old) (F.faults front.new) }
+    ensures cut_told { result.status.0 ≡ 4 → IsTold output_sentence (L.held errors.old) (L.held errors.new) (L.faults errors.old) (L.faults errors.new) }
+    ensures deaf { result.status.0 ≡ 5 → IsNotListenedBy said.now (asked_in words.now) (S.left source.old) (W.stream rng.old) (F.faults front.old) (F.faults front.new) }
     ensures silent { IsSilent result.status.0 → O.held sink.new ≡ O.held sink.old }
     ensures numbers { result.status.0 ≡ 7 → IsSaid numbers_line (O.held sink.old) (O.held sink.new) (O.faults sink.old) (O.faults sink.new) }
-    ensures not_recorded { result.status.0 ≡ 8 → IsRefusedTo said.now words.now (S.left source.old) (K.faults file) (W.stream rng.old) (is_said O.held O.faults sink.old sink.new) }
+    ensures why { EndsBecause result.status.0 → IfSome (asked_in words.now) (λ asked. IsWhy (IsEndCause said.now asked.port (S.left source.old) (W.stream rng.old) (F.gave front.new) (F.is_deaf_at front.new) (F.faults front.old) (F.faults front.new) (S.faults source.old) (S.faults source.new)) said.now.listened asked.port result.status.0 (L.held errors.old) (L.held errors.new) (L.faults errors.old) (L.faults errors.new)) }
+    ensures not_recorded { result.status.0 ≡ 8 → IsRefusedTo said.now (asked_in words.now) (S.left source.old) (K.faults file) (W.stream rng.old) (is_said O.held O.faults sink.old sink.new) (is_told L.held L.faults errors.old errors.new) }
     ensures status { result.status.0 < 9 }
 {
-    let Some(asked) = asked_by(words) else {
-        return Served {
-            status: USAGE,
-            answered: 0,
-            forwarder: None,
-        };
+    let asked = match command_of(words) {
+        Ok(asked) => asked,
+        Err(unasked) => {
+            return Served {
+                status: tell_unasked(alloc, words, unasked, errors),
+                answered: 0,
+                forwarder: None,
+            };
+        }
     };
+    let listened = said.listened.as_slice();
     let served = serve_source(
         alloc, said, seed, asked, source, errors, front, clock, rng, watch, file,
     );
     match served {
         Ok((answered, forwarder)) => Served {
-            status: write_answered(alloc, answered, sink),
+            status: end_delivered(errors, write_answered(alloc, answered, sink)),
             answered,
             forwarder: Some(forwarder),
         },
-        Err(Unserved::Ends(ending)) => Served {
-            status: end_without(sink, ending),
+        Err(Unserved::Ends(cause)) => Served {
+            status: end_because(alloc, listened, asked.port, sink, errors, cause),
             answered: 0,
             forwarder: None,
         },
         Err(Unserved::NotRecorded(refused)) => Served {
-            status: tell_unrecorded(alloc, refused, sink),
+            status: tell_unrecorded(alloc, refused, sink, errors),
             answered: 0,
             forwarder: None,
         },

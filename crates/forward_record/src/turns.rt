@@ -6,6 +6,7 @@ ghost use Rattle.client_request.specs.Response.{IsRefusal};
 ghost use Rattle.client_request.specs.Timers.{IsWant};
 ghost use Rattle.client_request.specs.Words.{IsGivenOn};
 ghost use Rattle.forward_run.specs.Turns.{IsTurn, around};
+ghost use Rattle.forward_record.specs.Telling.{HasTold};
 ghost use Rattle.forward_record.specs.Turns.{Makes, TurnedBy};
 
 use crate::recorded_core::RecordedForwarder;
@@ -60,6 +61,7 @@ pub(crate) fn turn_all<L: Sink, F: Front, C: Clock, W: Words, V: Watch, K: Sink 
 ) -> Result<u64, Error>
     requires { forwarder.old.failed ≡ false }
     ensures turned { IfOk result (λ answered. around F.deeds F.polls C.given W.stream (front.old, clock.old, words.old) (front.new, clock.new, words.new) (TurnedBy K.held turns answered forwarder.old forwarder.new)) }
+    ensures told { HasTold (L.held errors.old) (L.held errors.new) (L.faults errors.old) (L.faults errors.new) }
     ensures want { IfErr result IsWant }
 {
     let mut answered: u64 = 0;

@@ -1,8 +1,11 @@
 -- A configuration that was served.
-use Rattle.std.proofs.Common.{◌≡◌, ◌<◌, ◌^◌, ℕ, false, List, [], ◌∷◌, map, Option, Some, None, ◌∙◌, ap, subst, lit≤}
+use Rattle.std.proofs.Common.{◌≡◌, ◌<◌, ◌^◌, ℕ, false, List, [], ◌∷◌, map, Option, Some, None, ◌∙◌, ap, subst}
 use Rattle.std.specs.Prelude.{IfSome}
 use Rattle.client_steps.specs.Whole.{Whole}
-use Rattle.command_parts.specs.Conf.{Configures}
+use Rattle.forward_conf.specs.Itself.{asks_itself}
+use Rattle.forward_conf.specs.Reading.{IsConfAsked}
+use Rattle.forward_conf.specs.Settings.{cache_of, choice_of}
+use Rattle.forward_conf.proofs.Fits.{validity_fits}
 use Rattle.forward_words.specs.declared.options.Options.{Options}
 use Rattle.forward_words.specs.declared.words.Asked.{Asked}
 use Rattle.front_steps.specs.Steps.{Forwarding}
@@ -10,8 +13,7 @@ use Rattle.proof_front.specs.Forwarding.{EveryForwardedTraceIsRight}
 use Rattle.resolv_conf.specs.declared.conf.ResolvConf.{ResolvConf}
 use Rattle.resolv_conf.specs.declared.server.ServerConf.{ServerConf}
 use Rattle.forward_run.specs.Front.{after_deed, after_deeds}
-use Rattle.forward_run.specs.Serving.{IsAnsweredIf, IsConfAsked, IsDeaf, IsNotListenedIf, IsServed, answered_line, asks_itself, begun_deeds, first_of}
-use Rattle.forward_run.specs.Settings.{cache_of, choice_of, conf_of, words_left}
+use Rattle.forward_run.specs.Serving.{IsAnsweredIf, IsServed, answered_line, begun_deeds, first_of}
 use Rattle.forward_run.specs.Turns.{Turned, World, rows_of, scene, within}
 use Rattle.forward_run.specs.declared.front.FrontDeed.{FrontDeed}
 use Rattle.forward_run.specs.declared.front.FrontDeed.TheVariants.{Learned, Listens}
@@ -42,15 +44,8 @@ served options asked conf answered first last old new deeds polls made told same
       last = last;
       turned = t;
       asks_others = others;
-      right = every (choice_of options.policy) (cache_of options) conf old.words (rows_of t.turns) t.trace last new.words t.forwards (lit≤ tt) small;
+      right = every (choice_of options.policy) (cache_of options) conf old.words (rows_of t.turns) t.trace last new.words t.forwards (validity_fits options) small;
     }
-
--- the servers of a configuration that was read are asked
-pub asked_of : (told left_text : Option (List ℕ)) (options : Options) (words left : ℕ → ℕ) (read conf : ResolvConf)
-    → IfSome told (λ text. Configures text read × (left_text ≡ Some [])) → conf ≡ conf_of options words read → left ≡ words_left options words read
-    → IfSome told (λ text. IsConfAsked options text words conf left)
-asked_of None left_text options words left read conf h is leaves = tt
-asked_of (Some text) left_text options words left read conf h is leaves = record { read = read; configures = h.0; conf_is = is; left_is = leaves }
 
 -- with what is written then
 pub answered_so : (told : Option (List ℕ)) (options : Options) (asked : Asked) (conf : ResolvConf) (left : ℕ → ℕ) (answered : ℕ) (line : List ℕ) (old new : World)
@@ -59,10 +54,3 @@ pub answered_so : (told : Option (List ℕ)) (options : Options) (asked : Asked)
 answered_so None options asked conf left answered line old new h serves is = tt
 answered_so (Some text) options asked conf left answered line old new h serves is =
     record { conf = conf; left = left; conf_asked = h; answered = answered; served = serves; line_is = is }
-
--- or it can't be listened
-pub not_listened : (told : Option (List ℕ)) (options : Options) (port : ℕ) (conf : ResolvConf) (words left : ℕ → ℕ) (faults faults_after : ℕ)
-    → IfSome told (λ text. IsConfAsked options text words conf left) → IsDeaf options.listened port conf faults faults_after
-    → IsNotListenedIf options port told words faults faults_after
-not_listened None options port conf words left faults faults_after h deaf = tt
-not_listened (Some text) options port conf words left faults faults_after h deaf = record { conf = conf; left = left; conf_asked = h; deaf = deaf }

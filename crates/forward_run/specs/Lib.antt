@@ -1,4 +1,4 @@
+pub mod Ends
 pub mod Front
-pub mod Settings
-pub mod Turns
 pub mod Serving
+pub mod Turns

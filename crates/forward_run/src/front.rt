@@ -1,12 +1,14 @@
 //! The front of a forwarder: where its outs are acted on and its events come from.
 
-ghost use Rattle.std.specs.Prelude.{◌≡◌, ℕ, List, Option, OnOk, OnErr, IfOk};
+ghost use Rattle.std.specs.Prelude.{◌≡◌, ℕ, List, Option, OnOk, OnErr, IfOk, IfErr, IfSome};
+ghost use Rattle.client_request.specs.declared.fault.Fault.{Fault};
 ghost use Rattle.dns_values.specs.Source.{Rose, one_more};
+ghost use Rattle.dns_values.specs.declared.address.IpAddr.{IpAddr};
 ghost use Rattle.forward_run.specs.Front.{after_deed};
 ghost use Rattle.forward_run.specs.declared.front.FrontDeed.{FrontDeed};
 
 use client_request::Fault;
-use dns_base::NoMemory;
+use dns_base::{IpAddr, NoMemory};
 use front_peers::{FrontOut, FrontWhat};
 use resolv_conf::ServerConf;
 
@@ -26,7 +28,7 @@ pub enum FrontDeed {
 /// Where a forwarder's outs are acted on, and its events come from.
 ///
 /// Where a front knows what was done with it, it tells that as one list. It counts its polls, and the faults of its listening; a
-/// count stands still at its last value.
+/// count stands still at its last value. It may tell which fault its listening gave, and at which address.
 pub trait Front {
     ghost deeds: { Self → Option (List FrontDeed) };
 
@@ -34,11 +36,23 @@ pub trait Front {
 
     ghost faults: { Self → ℕ };
 
+    ghost gave: { Self → Fault → Type 0 } = { λ _ _. Unit {0} };
+
+    ghost is_deaf_at: { Self → IpAddr → Type 0 } = { λ _ _. Unit {0} };
+
     /// Takes queries on a port from now on.
     fn listen(&mut self, port: u16) -> Result<(), Fault>
         ensures deeds { OnOk result (deeds self.new ≡ after_deed (FrontDeed.Listens port) (deeds self.old)) }
         ensures polls { polls self.new ≡ polls self.old }
-        ensures refused { OnErr result (Rose (faults self.old) (faults self.new)) };
+        ensures refused { OnErr result (Rose (faults self.old) (faults self.new)) }
+        ensures gave { IfErr result (gave self.new) };
+
+    /// The address at which it could not listen, once it could not, where it knows that.
+    fn deaf_at(&self) -> Option<IpAddr>
+        ensures { IfSome result (is_deaf_at self.now) }
+    {
+        None
+    }
 
     /// The next server's address, numbered from 0.
     fn learn_server(&mut self, server: &ServerConf) -> Result<(), NoMemory>

@@ -5,17 +5,13 @@
 mod front;
 mod list_front;
 mod serving;
-mod settings;
 mod status_line;
 mod turns;
 mod watch;
 
 pub use front::{Front, FrontDeed};
 pub use list_front::ListFront;
-pub use serving::{
-    answered_line, begin, begin_front, conf_asked, end_without, serve, serve_as, stopped_by,
-};
-pub use settings::{cache_of, choice_of};
+pub use serving::{answered_line, begin, begin_front, serve, serve_as, stopped_by};
 pub use status_line::StatusLine;
 pub use turns::{act_all, answers_in, happened, is_answer, turn};
 pub use watch::{Unwatched, Watch};

@@ -1,2 +1,3 @@
 pub mod Options
+pub mod Sentences
 pub mod Words

@@ -2,13 +2,18 @@
 //!
 //! ```text
 //! let (options, rest) = options_of(alloc, &words)?;
-//! let asked = asked_by(rest)?;
+//! let asked = command_of(rest)?;
 //! ```
 #![tactic(auto)]
 
+mod kind;
 mod options;
 mod taking;
+mod telling;
 mod words;
+mod wrong;
 
-pub use options::{Fault, Options, Policy, options_of};
-pub use words::{Asked, asked_by};
+pub use options::{Options, Policy, options_of};
+pub use telling::{refusal_sentence, unasked_sentence};
+pub use words::{Asked, asked_by, command_of};
+pub use wrong::{Fault, Refusal, Unasked, Wrong};

@@ -2,8 +2,10 @@
 
 ghost use Rattle.std.specs.Prelude.{◌≡◌, IfOk};
 ghost use Rattle.forward_words.specs.Options.{IsRead, finished, nothing_said};
+ghost use Rattle.forward_words.specs.declared.options.Policy.{Policy};
 
 use crate::taking::take_all;
+use crate::wrong::Fault;
 use dns_values::{IpAddr, NoMemory, Seq};
 use std::alloc::Global;
 
@@ -25,8 +27,14 @@ pub struct Options {
     pub port: Option<u16>,
     /// How many answers are kept at most.
     pub entries: u64,
-    /// For how long an answer that has expired is given where the servers fail, in seconds.
-    pub stale: u64,
+    /// For how long an answer that has expired is given where the servers fail, in seconds; as the policy has it where it isn't said.
+    pub stale: Option<u64>,
+    /// For how long a failure is kept, in seconds; as the policy has it where it isn't said.
+    pub failure: Option<u64>,
+    /// For how long an answer is kept at most, in seconds.
+    pub max_ttl: u64,
+    /// For how long it is kept at most that a name, or its data, is not there, in seconds.
+    pub max_negative_ttl: u64,
     /// How servers are asked.
     pub policy: Policy,
     /// After how many seconds it is told again how much was done, if it is.
@@ -35,46 +43,32 @@ pub struct Options {
     pub workers: u64,
 }
 
-/// Why words are no options.
-#[derive(Clone, Copy, Debug, PartialEq, Eq)]
-pub enum Fault {
-    /// The value of one is none that it takes.
-    Refused,
-    /// Memory ran out.
-    NoMemory,
-}
-
-impl From<NoMemory> for Fault {
-    ghost use Rattle.forward_words.specs.declared.options.Fault.{Fault};
-
-    ghost from_gives = { λ _ e. e ≡ Fault.NoMemory };
-
-    fn from(_e: NoMemory) -> Fault {
-        Fault::NoMemory
-    }
-}
-
 impl Options {
-    /// What no option says: that it is listened at no address, 100,000 answers are kept, and none once it has expired.
-    pub(crate) fn new(alloc: Global) -> Options
-        ensures { result ≡ nothing_said }
+    /// What no option says: that it is listened at no address, and 100,000 answers are kept, each for a week at most and what is not
+    /// there for an hour.
+    fn new(alloc: Global, policy: Policy) -> Options
+        ensures { result ≡ nothing_said policy }
     {
         Options {
             listened: Seq::new(alloc),
             port: None,
             entries: 100_000,
-            stale: 0,
-            policy: Policy::Plain,
+            stale: None,
+            failure: None,
+            max_ttl: 604_800,
+            max_negative_ttl: 3600,
+            policy,
             status: None,
             workers: 1,
         }
     }
 
-    /// What the options say where there is none.
+    /// What is said where there is no option and servers are asked as the configuration says: it is listened at 127.0.0.1, and all
+    /// else is as by default, but 100,000 answers are kept.
     pub fn defaults(alloc: Global) -> Result<Options, NoMemory>
-        ensures { IfOk result (λ options. options ≡ finished nothing_said) }
+        ensures { IfOk result (λ options. options ≡ finished (nothing_said Policy.Plain)) }
     {
-        let mut options = Options::new(alloc);
+        let mut options = Options::new(alloc, Policy::Plain);
         options.finish()?;
         Ok(options)
     }
@@ -99,18 +93,22 @@ impl Options {
 /// | `--listen` | an address of this host at which it is listened; several may be said; 127.0.0.1 where none is |
 /// | `--port` | the port at which every server is asked, in place of its own, from 1 to 65535 |
 /// | `--entries` | how many answers are kept, from 1 to 1000000000; 100000 where it isn't said |
-/// | `--stale` | for how many seconds an answer that has expired is given where the servers fail, from 0 to 604800; 0 where it isn't said (RFC 8767) |
-/// | `--policy` | `crate`, as where it isn't said, or `practice` |
+/// | `--stale` | for how many seconds an answer that has expired is given where the servers fail, from 0 to 604800 (RFC 8767) |
+/// | `--failure` | for how many seconds a failure is kept, from 1 to 300 (RFC 9520) |
+/// | `--max-ttl` | for how many seconds an answer is kept at most, from 60 to 6048000; 604800 where it isn't said |
+/// | `--max-negative-ttl` | for how many seconds it is kept at most that a name, or its data, is not there, from 60 to 86400; 3600 where it isn't said |
+/// | `--policy` | `practice`, as where it isn't said, or `crate` |
 /// | `--status` | after how many seconds it is told again how much was done, from 1 to 86400 |
 /// | `--workers` | how many threads answer datagrams at each address, from 1 to 64; 1 where it isn't said |
 ///
-/// They end before the first word that is none of these, or has no value behind it. An address that stands for all of the host's, as
+/// Where `--stale` and `--failure` aren't said, they are as the policy has them. The options end before the first word that is none
+/// of these, or has no value behind it. An address that stands for all of the host's, as
 /// 0.0.0.0, is refused, since an answer would not always come from the address that was asked; and so is one of IPv4 that is written as
 /// one of IPv6.
 pub fn options_of(alloc: Global, words: &[String]) -> Result<(Options, &[String]), Fault>
     ensures { IsRead words.now result }
 {
-    let mut options = Options::new(alloc);
+    let mut options = Options::new(alloc, Policy::Practice);
     let rest = take_all(&mut options, words)?;
     options.finish()?;
     Ok((options, rest))

@@ -1,14 +1,19 @@
 -- A configuration that several threads served, and what is written at the end.
-use Rattle.std.proofs.Common.{◌≡◌, ◌<◌, ◌^◌, ℕ, false, List, Option, Some, None, subst, sym, lit≤, String, Global}
+use Rattle.std.proofs.Common.{◌≡◌, ◌<◌, ◌^◌, ℕ, false, List, Option, Some, None, Ok, subst, String, Global}
 use Rattle.std.specs.Prelude.{IfSome}
 use Rattle.client_steps.specs.Whole.{Whole}
 use Rattle.command_parts.specs.Ends.{IsBegun}
 use Rattle.dns_values.specs.Sink.{with_octets}
+use Rattle.forward_conf.specs.Itself.{asks_itself}
+use Rattle.forward_conf.specs.Reading.{IsConfAsked}
+use Rattle.forward_conf.specs.Settings.{cache_of, choice_of}
+use Rattle.forward_conf.proofs.Fits.{validity_fits}
 use Rattle.forward_run.specs.Front.{after_deeds}
-use Rattle.forward_run.specs.Serving.{IfAsked, IsConfAsked, answered_line, asks_itself, begun_deeds, first_of}
-use Rattle.forward_run.specs.Settings.{cache_of, choice_of}
+use Rattle.forward_run.specs.Ends.{IfAsked}
+use Rattle.forward_run.specs.Serving.{answered_line, begun_deeds, first_of}
 use Rattle.forward_run.specs.declared.front.FrontDeed.{FrontDeed}
-use Rattle.forward_words.specs.Words.{asked_by}
+use Rattle.forward_run.proofs.Written.{asked_with, told_with}
+use Rattle.forward_words.specs.Words.{asked_in, command_of}
 use Rattle.forward_words.specs.declared.options.Options.{Options}
 use Rattle.forward_words.specs.declared.words.Asked.{Asked}
 use Rattle.front_shared.specs.History.{rows_of}
@@ -29,7 +34,7 @@ served options asked conf answered words first front old new made told every sma
     subst (λ (f : Forwarding Whole). P f (after_deeds (begun_deeds asked.port conf) old.front)) made (subst (λ (ds : Option (List FrontDeed)). P first ds) told shared) in
     record {
       shared = t;
-      right = every (choice_of options.policy) (cache_of options) conf words (rows_of t.legal.entries) t.legal.trace t.legal.last t.legal.left t.legal.made.forwards (lit≤ tt) small;
+      right = every (choice_of options.policy) (cache_of options) conf words (rows_of t.legal.entries) t.legal.trace t.legal.last t.legal.left t.legal.made.forwards (validity_fits options) small;
       asks_others = others;
     }
 
@@ -40,23 +45,16 @@ answered_so None options asked conf words left answered line old new h serves is
 answered_so (Some text) options asked conf words left answered line old new h serves is =
     record { conf = conf; left = left; conf_asked = h; answered = answered; served = serves; line_is = is }
 
-asked_with : (said : List (String Global)) (asked : Asked) (told : Option (List ℕ)) (P : Asked → List ℕ → Type 0) → asked_by said ≡ Some asked → IfSome told (P asked) → IfAsked said told P
-asked_with said asked told P is h = subst (λ (o : Option Asked). IfSome o (λ a. IfSome told (P a))) (sym is) h
-
-told_with : (told : Option (List ℕ)) (P Q : List ℕ → Type 0) → ((text : List ℕ) → P text → Q text) → IfSome told P → IfSome told Q
-told_with None P Q f h = h
-told_with (Some text) P Q f h = f text h
-
-pub done_so : (said : List (String Global)) (asked : Asked) (told : Option (List ℕ)) (options : Options) (words : ℕ → ℕ) (line : List ℕ) (before after : Option (List ℕ)) (old new : World)
-    → asked_by said ≡ Some asked → IsAnsweredIf options asked told words line old new → after ≡ with_octets line before
-    → IfAsked said told (λ a text. IsDone options a text words before after old new)
-done_so said asked told options words line before after old new is h written =
-    asked_with said asked told (λ a text. IsDone options a text words before after old new) is
+pub done_so : (words_said : List (String Global)) (asked : Asked) (told : Option (List ℕ)) (options : Options) (words : ℕ → ℕ) (line : List ℕ) (before after : Option (List ℕ)) (old new : World)
+    → Ok asked ≡ command_of words_said → IsAnsweredIf options asked told words line old new → after ≡ with_octets line before
+    → IfAsked (asked_in words_said) told (λ a text. IsDone options a text words before after old new)
+done_so words_said asked told options words line before after old new is h written =
+    asked_with words_said asked told (λ a text. IsDone options a text words before after old new) is
     (told_with told _ (λ text. IsDone options asked text words before after old new) (λ text answered. record { line = line; answered = answered; written = written }) h)
 
-pub cut_so : (said : List (String Global)) (asked : Asked) (told : Option (List ℕ)) (options : Options) (words : ℕ → ℕ) (line : List ℕ) (before after : Option (List ℕ)) (old new : World)
-    → asked_by said ≡ Some asked → IsAnsweredIf options asked told words line old new → IsBegun line before after
-    → IfAsked said told (λ a text. IsCut options a text words before after old new)
-cut_so said asked told options words line before after old new is h begun =
-    asked_with said asked told (λ a text. IsCut options a text words before after old new) is
+pub cut_so : (words_said : List (String Global)) (asked : Asked) (told : Option (List ℕ)) (options : Options) (words : ℕ → ℕ) (line : List ℕ) (before after : Option (List ℕ)) (old new : World)
+    → Ok asked ≡ command_of words_said → IsAnsweredIf options asked told words line old new → IsBegun line before after
+    → IfAsked (asked_in words_said) told (λ a text. IsCut options a text words before after old new)
+cut_so words_said asked told options words line before after old new is h begun =
+    asked_with words_said asked told (λ a text. IsCut options a text words before after old new) is
     (told_with told _ (λ text. IsCut options asked text words before after old new) (λ text answered. record { line = line; answered = answered; begun = begun }) h)

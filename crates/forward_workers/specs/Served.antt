@@ -1,11 +1,13 @@
 -- What holds once several threads have served.
-use Rattle.std.specs.Prelude.{◌≡◌, ℕ, false, List, Option, IfSome, String}
-use Rattle.std.specs.declared.alloc.Global.{Global}
+use Rattle.std.specs.Prelude.{◌≡◌, ℕ, false, List, Option, IfSome}
 use Rattle.command_parts.specs.Ends.{IsBegun}
 use Rattle.dns_values.specs.Sink.{with_octets}
+use Rattle.forward_conf.specs.Itself.{asks_itself}
+use Rattle.forward_conf.specs.Reading.{IsConfAsked}
+use Rattle.forward_conf.specs.Settings.{cache_of, choice_of}
 use Rattle.forward_run.specs.Front.{after_deeds}
-use Rattle.forward_run.specs.Serving.{IfAsked, IsConfAsked, answered_line, asks_itself, begun_deeds, first_of}
-use Rattle.forward_run.specs.Settings.{cache_of, choice_of}
+use Rattle.forward_run.specs.Ends.{IfAsked}
+use Rattle.forward_run.specs.Serving.{answered_line, begun_deeds, first_of}
 use Rattle.forward_words.specs.declared.options.Options.{Options}
 use Rattle.forward_words.specs.declared.words.Asked.{Asked}
 use Rattle.proof_front.specs.Forwarding.{IsRightTrace}
@@ -42,8 +44,8 @@ pub record IsCut (options : Options) (asked : Asked) (text : List ℕ) (words : 
   pub answered : IsAnswered options asked text words line old new
   pub begun : IsBegun line before after
 
-abbrev pub IsDoneBy : {K : Type 0} → (K → Option (List ℕ)) → Options → (said : List (String Global)) → (told : Option (List ℕ)) → (words : ℕ → ℕ) → (before after : K) → (old new : World) → Type 0
-IsDoneBy held options said told words before after old new = IfAsked said told (λ asked text. IsDone options asked text words (held before) (held after) old new)
+abbrev pub IsDoneBy : {K : Type 0} → (K → Option (List ℕ)) → Options → (asked : Option Asked) → (told : Option (List ℕ)) → (words : ℕ → ℕ) → (before after : K) → (old new : World) → Type 0
+IsDoneBy held options asked told words before after old new = IfAsked asked told (λ a text. IsDone options a text words (held before) (held after) old new)
 
-abbrev pub IsCutBy : {K : Type 0} → (K → Option (List ℕ)) → Options → (said : List (String Global)) → (told : Option (List ℕ)) → (words : ℕ → ℕ) → (before after : K) → (old new : World) → Type 0
-IsCutBy held options said told words before after old new = IfAsked said told (λ asked text. IsCut options asked text words (held before) (held after) old new)
+abbrev pub IsCutBy : {K : Type 0} → (K → Option (List ℕ)) → Options → (asked : Option Asked) → (told : Option (List ℕ)) → (words : ℕ → ℕ) → (before after : K) → (old new : World) → Type 0
+IsCutBy held options asked told words before after old new = IfAsked asked told (λ a text. IsCut options a text words (held before) (held after) old new)

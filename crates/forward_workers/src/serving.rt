@@ -1,12 +1,15 @@
 //! What the program does with several workers.
 
-ghost use Rattle.std.specs.Prelude.{◌≡◌, ◌+◌, ◌<◌, ◌^◌, ℕ, false, length, None, IfErr, IfOk, IfSome};
+ghost use Rattle.std.specs.Prelude.{◌≡◌, ◌≢◌, ◌⊎◌, ◌+◌, ◌<◌, ◌^◌, ℕ, false, length, None, IfErr, IfOk, IfSome, OnOk};
 ghost use Rattle.dns_values.specs.Sink.{IsFlushed};
 ghost use Rattle.dns_values.specs.Source.{Rose};
-ghost use Rattle.command_parts.specs.Conf.{IsConfRefused};
-ghost use Rattle.command_parts.specs.Ends.{IsSaid, line_of, status_of};
-ghost use Rattle.forward_run.specs.Serving.{IfAsked, IsDeaf, IsEndOfSource, IsNotListenedBy, IsNotListenedIf, IsServeEnd, IsSilent, RefusalIsSaid, numbers_line};
-ghost use Rattle.forward_words.specs.Words.{asked_by};
+ghost use Rattle.command_parts.specs.Ends.{IsSaid};
+ghost use Rattle.forward_conf.specs.Causes.{IsServeCause, IsSilent};
+ghost use Rattle.forward_conf.specs.Reading.{AnyNotes, IsNoted, IsTold, NotesIn};
+ghost use Rattle.forward_conf.specs.Sentences.{numbers_line, output_sentence, status_of};
+ghost use Rattle.forward_run.specs.Ends.{EndsBecause, IfAsked, IsEndCause, IsNotListenedBy, IsWhy, RefusalIsSaid};
+ghost use Rattle.forward_words.specs.Sentences.{unasked_sentence};
+ghost use Rattle.forward_words.specs.Words.{asked_in, command_of};
 ghost use Rattle.forward_workers.specs.Served.{IsAnsweredIf, IsCutBy, IsDoneBy, IsServed};
 ghost use Rattle.forward_workers.specs.Sharing.{IsShared, amid, amid_crew, world_of};
 
@@ -15,12 +18,12 @@ use crate::door::Door;
 use crate::sharing::share;
 use client_core::Clock;
 use client_request::{Error, Words};
-use command_parts::statuses::{NO_MEMORY, USAGE};
-use command_parts::{Ending, deliver};
+use command_parts::deliver;
 use dns_base::Status;
 use dns_values::{Sink, Source};
-use forward_run::{Front, answered_line, begin, conf_asked, end_without, stopped_by};
-use forward_words::{Asked, Options, asked_by};
+use forward_conf::{Cause, conf_asked, end_because, end_delivered, tell_unasked};
+use forward_run::{Front, answered_line, begin, stopped_by};
+use forward_words::{Asked, Options, command_of};
 use front_core::Forwarder;
 use front_shared::Opened;
 use proof_front::every_forwarded_trace_is_right;
@@ -80,12 +83,10 @@ fn serve_conf<
     conf: &ResolvConf,
     rng: W,
     crew: Crew<F, D, C>,
-) -> (First<F, C>, Result<Came<D, C>, Ending>)
+) -> (First<F, C>, Result<Came<D, C>, Cause>)
     requires count { length crew.workers.items + 1 < 2 ^ 32 }
     ensures served { IfOk result.1 (λ came. IsServed options.now asked conf.now came.answered (W.stream rng) (world_of F.deeds D.deeds crew.first crew.workers.items) (world_of F.deeds D.deeds result.0 came.workers.items)) }
-    ensures ends { IfErr result.1 IsServeEnd }
-    ensures deaf { IfErr result.1 (λ e. status_of e ≡ 5 → IsDeaf options.now.listened asked.port conf.now (F.faults crew.first.front) (F.faults result.0.front)) }
-    ensures line { IfErr result.1 (λ e. status_of e ≡ 7 → line_of e ≡ numbers_line) }
+    ensures cause { IfErr result.1 (IsServeCause (F.gave result.0.front) (F.is_deaf_at result.0.front) (F.faults crew.first.front) (F.faults result.0.front) options.now.listened asked.port conf.now) }
 {
     let Crew { first, workers } = crew;
     let First { mut front, clock } = first;
@@ -93,7 +94,7 @@ fn serve_conf<
     let first = First { front, clock };
     let forwarder = match begun {
         Ok(forwarder) => forwarder,
-        Err(ending) => return (first, Err(ending)),
+        Err(cause) => return (first, Err(cause)),
     };
     words_are_short(&rng);
     let crew = Crew { first, workers };
@@ -103,7 +104,7 @@ fn serve_conf<
             every_forwarded_trace_is_right();
             (first, Ok(came))
         }
-        Err(error) => (first, Err(stopped_by(alloc, error))),
+        Err(error) => (first, Err(stopped_by(error))),
     }
 }
 
@@ -118,6 +119,7 @@ struct Written<D: Door + Drop, C: Clock + Drop> {
 fn serve_source<
     R: Threads + Wait + Sync,
     S: Source,
+    L: Sink,
     W: Words + Drop + Send,
     F: Front + Drop,
     D: Door + Drop + Send,
@@ -129,29 +131,28 @@ fn serve_source<
     seed: u64,
     asked: Asked,
     source: &mut S,
+    errors: &mut L,
     mut rng: W,
     crew: Crew<F, D, C>,
-) -> (First<F, C>, Result<Written<D, C>, Ending>)
+) -> (First<F, C>, Result<Written<D, C>, Cause>)
     requires count { length crew.workers.items + 1 < 2 ^ 32 }
     ensures done { IfOk result.1 (λ w. amid F.deeds D.deeds crew.first crew.workers.items result.0 w.workers.items (IsAnsweredIf options.now asked (S.left source.old) (W.stream rng) w.line.items)) }
-    ensures source_fault { IfErr result.1 (λ e. status_of e ≡ 3 → Rose (S.faults source.old) (S.faults source.new)) }
-    ensures refused { IfErr result.1 (λ e. status_of e ≡ 1 → IfSome (S.left source.old) (λ text. IsConfRefused text (line_of e))) }
-    ensures deaf { IfErr result.1 (λ e. status_of e ≡ 5 → IsNotListenedIf options.now asked.port (S.left source.old) (W.stream rng) (F.faults crew.first.front) (F.faults result.0.front)) }
-    ensures ends { IfErr result.1 IsEndOfSource }
-    ensures numbers { IfErr result.1 (λ e. status_of e ≡ 7 → line_of e ≡ numbers_line) }
+    ensures noted { OnOk result.1 (IsNoted (NotesIn options.now.policy (S.left source.old)) (L.held errors.old) (L.held errors.new) (L.faults errors.old) (L.faults errors.new)) }
+    ensures told { IfErr result.1 (λ cause. status_of cause ≢ 6 → IsNoted AnyNotes (L.held errors.old) (L.held errors.new) (L.faults errors.old) (L.faults errors.new)) }
+    ensures cause { IfErr result.1 (IsEndCause options.now asked.port (S.left source.old) (W.stream rng) (F.gave result.0.front) (F.is_deaf_at result.0.front) (F.faults crew.first.front) (F.faults result.0.front) (S.faults source.old) (S.faults source.new)) }
 {
-    let conf = match conf_asked(alloc, options, source, &mut rng) {
+    let conf = match conf_asked(alloc, options, source, errors, &mut rng) {
         Ok(conf) => conf,
-        Err(ending) => return (crew.first, Err(ending)),
+        Err(cause) => return (crew.first, Err(cause)),
     };
     let (first, came) = serve_conf(rt, alloc, options, seed, asked, &conf, rng, crew);
     let Came { answered, workers } = match came {
         Ok(came) => came,
-        Err(ending) => return (first, Err(ending)),
+        Err(cause) => return (first, Err(cause)),
     };
     match answered_line(alloc, answered) {
         Ok(line) => (first, Ok(Written { line, workers })),
-        Err(_) => (first, Err(Ending::Silent(NO_MEMORY))),
+        Err(_) => (first, Err(Cause::NoMemory)),
     }
 }
 
@@ -164,6 +165,7 @@ pub fn serve_by_all<
     R: Threads + Wait + Sync,
     S: Source,
     K: Sink,
+    L: Sink,
     W: Words + Drop + Send,
     F: Front + Drop,
     D: Door + Drop + Send,
@@ -176,35 +178,44 @@ pub fn serve_by_all<
     words: &[String],
     source: &mut S,
     sink: &mut K,
+    errors: &mut L,
     rng: W,
     crew: Crew<F, D, C>,
 ) -> (Status, Crew<F, D, C>)
     requires count { length crew.workers.items + 1 < 2 ^ 32 }
-    ensures usage { result.0.0 ≡ 2 → asked_by words.now ≡ None }
-    ensures no_command { asked_by words.now ≡ None → result.0.0 ≡ 2 }
-    ensures done { result.0.0 ≡ 0 → amid_crew F.deeds D.deeds crew result.1 (IsDoneBy K.held options.now words.now (S.left source.old) (W.stream rng) sink.old sink.new) }
+    ensures usage { result.0.0 ≡ 2 → asked_in words.now ≡ None }
+    ensures no_command { asked_in words.now ≡ None → (result.0.0 ≡ 2) ⊎ (result.0.0 ≡ 6) }
+    ensures usage_told { result.0.0 ≡ 2 → IfErr (command_of words.now) (λ unasked. IsSaid (unasked_sentence words.now unasked) (L.held errors.old) (L.held errors.new) (L.faults errors.old) (L.faults errors.new)) }
+    ensures done { result.0.0 ≡ 0 → amid_crew F.deeds D.deeds crew result.1 (IsDoneBy K.held options.now (asked_in words.now) (S.left source.old) (W.stream rng) sink.old sink.new) }
     ensures flushed { result.0.0 ≡ 0 → IsFlushed (K.held sink.new) (K.flushed sink.new) }
-    ensures refused { result.0.0 ≡ 1 → IfAsked words.now (S.left source.old) (λ asked text. RefusalIsSaid text (K.held sink.old) (K.held sink.new) (K.faults sink.old) (K.faults sink.new)) }
+    ensures noted { result.0.0 ≡ 0 → IsNoted (NotesIn options.now.policy (S.left source.old)) (L.held errors.old) (L.held errors.new) (L.faults errors.old) (L.faults errors.new) }
+    ensures refused { result.0.0 ≡ 1 → IfAsked (asked_in words.now) (S.left source.old) (λ _ text. RefusalIsSaid options.now.policy text (K.held sink.old) (K.held sink.new) (K.faults sink.old) (K.faults sink.new)) }
     ensures source_fault { result.0.0 ≡ 3 → Rose (S.faults source.old) (S.faults source.new) }
-    ensures cut { result.0.0 ≡ 4 → amid_crew F.deeds D.deeds crew result.1 (IsCutBy K.held options.now words.now (S.left source.old) (W.stream rng) sink.old sink.new) }
+    ensures cut { result.0.0 ≡ 4 → amid_crew F.deeds D.deeds crew result.1 (IsCutBy K.held options.now (asked_in words.now) (S.left source.old) (W.stream rng) sink.old sink.new) }
     ensures sink_fault { result.0.0 ≡ 4 → Rose (K.faults sink.old) (K.faults sink.new) }
-    ensures deaf { result.0.0 ≡ 5 → IsNotListenedBy options.now words.now (S.left source.old) (W.stream rng) (F.faults crew.first.front) (F.faults result.1.first.front) }
+    ensures cut_told { result.0.0 ≡ 4 → IsTold output_sentence (L.held errors.old) (L.held errors.new) (L.faults errors.old) (L.faults errors.new) }
+    ensures deaf { result.0.0 ≡ 5 → IsNotListenedBy options.now (asked_in words.now) (S.left source.old) (W.stream rng) (F.faults crew.first.front) (F.faults result.1.first.front) }
     ensures silent { IsSilent result.0.0 → K.held sink.new ≡ K.held sink.old }
     ensures numbers { result.0.0 ≡ 7 → IsSaid numbers_line (K.held sink.old) (K.held sink.new) (K.faults sink.old) (K.faults sink.new) }
+    ensures why { EndsBecause result.0.0 → IfSome (asked_in words.now) (λ asked. IsWhy (IsEndCause options.now asked.port (S.left source.old) (W.stream rng) (F.gave result.1.first.front) (F.is_deaf_at result.1.first.front) (F.faults crew.first.front) (F.faults result.1.first.front) (S.faults source.old) (S.faults source.new)) options.now.listened asked.port result.0.0 (L.held errors.old) (L.held errors.new) (L.faults errors.old) (L.faults errors.new)) }
     ensures status { result.0.0 < 8 }
 {
-    let Some(asked) = asked_by(words) else {
-        return (USAGE, crew);
+    let asked = match command_of(words) {
+        Ok(asked) => asked,
+        Err(unasked) => return (tell_unasked(alloc, words, unasked, errors), crew),
     };
-    let (first, written) = serve_source(rt, alloc, options, seed, asked, source, rng, crew);
+    let (first, written) = serve_source(rt, alloc, options, seed, asked, source, errors, rng, crew);
     match written {
         Ok(written) => {
             let Written { line, workers } = written;
-            (deliver(sink, &line), Crew { first, workers })
+            let status = end_delivered(errors, deliver(sink, &line));
+            (status, Crew { first, workers })
         }
-        Err(ending) => {
+        Err(cause) => {
             let workers = Vec::new(alloc);
-            (end_without(sink, ending), Crew { first, workers })
+            let listened = options.listened.as_slice();
+            let status = end_because(alloc, listened, asked.port, sink, errors, cause);
+            (status, Crew { first, workers })
         }
     }
 }

@@ -1,6 +1,8 @@
 -- The front over listeners, the streams of peers and the places of a client.
 use Rattle.std.specs.Prelude.{◌≡◌, ℕ, ◌+◌, List, length, Option, None, Some}
 use Rattle.dns_values.specs.declared.address.IpAddr.{IpAddr}
+use Rattle.client_request.specs.declared.fault.Fault.{Fault}
+use Rattle.front_edge.specs.declared.front.DeafAt.{DeafAt}
 use Rattle.front_peers.specs.declared.event.FrontOut.{FrontOut}
 use Rattle.front_peers.specs.declared.event.FrontOut.TheVariants as outs
 use Rattle.front_peers.specs.declared.event.FrontWhat.{FrontWhat}
@@ -13,12 +15,23 @@ use Rattle.listener_peers.specs.declared.server.Told.{Told}
 use Rattle.listener_peers.specs.declared.server.Told.TheVariants as tolds
 use Rattle.socket_places.specs.Books.{Acts}
 
--- what contracts see of it: where it is to listen, its books, how often it was polled, and how often it could not listen
+-- what contracts see of it: where it is to listen, its books, how often it was polled, and how often it could not listen, with the last place
 pub record Kept : Type 0 where
   pub addresses : List IpAddr
   pub books : Server
   pub polls : ℕ
   pub faults : ℕ
+  pub deaf : Option DeafAt
+
+-- it could not listen, by this fault
+abbrev pub IsDeafBy : Option DeafAt → Fault → Type 0
+IsDeafBy None fault = ⊥
+IsDeafBy (Some deaf) fault = deaf.fault ≡ fault
+
+-- and at this address
+abbrev pub IsDeafAt : Option DeafAt → IpAddr → Type 0
+IsDeafAt None ip = ⊥
+IsDeafAt (Some deaf) ip = deaf.ip ≡ ip
 
 -- what came of a peer
 abbrev pub heard_as : Heard → FrontWhat

@@ -1,9 +1,9 @@
 //! The front over listeners, the streams of peers and the places of a client.
 
-ghost use Rattle.std.specs.Prelude.{◌≡◌, ◌+◌, ◌++◌, [], ◌∷◌, None, length, OnOk, OnErr, IfOk};
+ghost use Rattle.std.specs.Prelude.{◌≡◌, ◌+◌, ◌++◌, [], ◌∷◌, None, length, OnOk, OnErr, IfErr, IfOk, IfSome};
 ghost use Rattle.dns_values.specs.Source.{Rose, one_more};
 ghost use Rattle.listener_peers.specs.Waits.{Polls};
-ghost use Rattle.front_edge.specs.Fronts.{IsActed, IsListening, PollGives, told_as};
+ghost use Rattle.front_edge.specs.Fronts.{IsActed, IsDeafAt, IsDeafBy, IsListening, PollGives, told_as};
 
 use crate::dgrams::SystemDgrams;
 use crate::listeners::{OpenListeners, SystemListeners};
@@ -26,7 +26,16 @@ use std::net::{Net, TcpListener, TcpStream};
 /// The longest wait, in microseconds.
 const MOST_WAIT: u128 = 1_000_000;
 
-/// A front over a network and listeners: their books, how often it was polled, and how often it could not listen.
+/// Where it can't be listened, and by which fault.
+#[derive(Clone, Copy, Debug, PartialEq, Eq)]
+pub struct DeafAt {
+    /// The address.
+    pub ip: IpAddr,
+    /// Why it can't.
+    pub fault: Fault,
+}
+
+/// A front over a network and listeners: their books, how often it was polled, and how often it could not listen, with the last place.
 ///
 /// No call but `wait` sleeps: that one until there is something at a listener, a peer or a place, but for no more than a second,
 /// so that whoever turns over it goes on where nothing comes. At most 1,048,576 octets wait for a peer; while some do, nothing is
@@ -45,6 +54,7 @@ pub struct ListenerFront<
     books: ServerBooks<N, D, L>,
     polls: u64,
     faults: u64,
+    deaf: Option<DeafAt>,
 }
 
 /// A front over the system's sockets.
@@ -65,7 +75,7 @@ impl<
 
     ghost Value = { Kept };
 
-    ghost view = { λ f. record { addresses = f.addresses; books = f.books; polls = f.polls; faults = f.faults } };
+    ghost view = { λ f. record { addresses = f.addresses; books = f.books; polls = f.polls; faults = f.faults; deaf = f.deaf } };
 }
 
 /// What the books tell, as what happens to a forwarder.
@@ -125,11 +135,14 @@ fn listen_all<
     addresses: &[IpAddr],
     port: u16,
     books: &mut ServerBooks<N, D, L>,
-) -> Result<(), Fault>
+) -> Result<(), DeafAt>
     ensures { OnOk result (IsListening (length addresses.now) books.old books.new) }
 {
     for ip in addresses {
-        listen_at(opener, SocketAddr { ip: *ip, port }, books)?;
+        match listen_at(opener, SocketAddr { ip: *ip, port }, books) {
+            Ok(()) => {}
+            Err(fault) => return Err(DeafAt { ip: *ip, fault }),
+        }
     }
     Ok(())
 }
@@ -161,6 +174,7 @@ impl<
             books: ServerBooks::new(alloc, places, PeerBooks::new(alloc)),
             polls: 0,
             faults: 0,
+            deaf: None,
         }
     }
 }
@@ -203,11 +217,16 @@ impl<
 
     ghost faults = { λ f. f.faults };
 
+    ghost gave = { λ f fault. IsDeafBy f.deaf fault };
+
+    ghost is_deaf_at = { λ f ip. IsDeafAt f.deaf ip };
+
     fn listen(&mut self, port: u16) -> Result<(), Fault>
         ensures listens { OnOk result (IsListening (length self.old.addresses) self.old.books self.new.books) }
         ensures polls { self.new.polls ≡ self.old.polls }
         ensures faults { OnOk result (self.new.faults ≡ self.old.faults) }
         ensures refused { OnErr result (Rose self.old.faults self.new.faults) }
+        ensures gave { IfErr result (IsDeafBy self.new.deaf) }
     {
         let listens = listen_all(
             &mut self.opener,
@@ -215,10 +234,23 @@ impl<
             port,
             &mut self.books,
         );
-        if listens.is_err() {
-            self.faults = self.faults.saturating_add(1);
+        match listens {
+            Ok(()) => Ok(()),
+            Err(deaf) => {
+                self.faults = self.faults.saturating_add(1);
+                self.deaf = Some(deaf);
+                Err(deaf.fault)
+            }
         }
-        listens
+    }
+
+    fn deaf_at(&self) -> Option<IpAddr>
+        ensures { IfSome result (IsDeafAt self.now.deaf) }
+    {
+        match self.deaf {
+            Some(deaf) => Some(deaf.ip),
+            None => None,
+        }
     }
 
     fn learn_server(&mut self, server: &ServerConf) -> Result<(), NoMemory>

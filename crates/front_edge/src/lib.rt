@@ -17,6 +17,6 @@ mod streams;
 
 pub use address::address_of;
 pub use dgrams::SystemDgrams;
-pub use front::{ListenerFront, SocketFront};
+pub use front::{DeafAt, ListenerFront, SocketFront};
 pub use listeners::{OpenListeners, SystemListeners};
 pub use streams::SystemStreams;

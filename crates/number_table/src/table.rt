@@ -14,13 +14,23 @@ const COMPACT_ABOVE: usize = 16;
 /// A table by number. It is quick where keys are mostly inserted in rising order, and mostly removed from the
 /// least on: a key above all others is added at the end, and an entry that is removed leaves an empty slot,
 /// which goes once more than half of the slots are empty.
-#[derive(Debug, Drop)]
+#[derive(Debug)]
 pub struct NumberTable<V> {
     slots: Vec<Slot<V>>,
     // The slots before this place are empty.
     front: usize,
     // How many slots are not empty.
     len: usize,
+}
+
+impl<V: Drop> Drop for NumberTable<V> {
+    fn drop(self) {
+        let NumberTable {
+            slots: _,
+            front: _,
+            len: _,
+        } = self;
+    }
 }
 
 impl<V> Model for NumberTable<V> {

@@ -1,18 +1,21 @@
 -- What the lines of a configuration are taken for, as it is found on a system.
 use Rattle.std.specs.Prelude.{◌≡◌, ◌⊎◌, ◌==◌, ℕ, ◌+◌, List, [], ◌∷◌, ◌++◌, length, codes, nat_lt, Option, None, Some, Bool, true, false, if◌then◌else◌}
-use Rattle.std.specs.List.{before_first, position_or_len}
+use Rattle.std.specs.List.{before_first, list_any, position_or_len}
 use Rattle.std.specs.Str.{IsUtf8, bytes_eq}
-use Rattle.resolv_conf.specs.Files.{empty_conf}
+use Rattle.resolv_conf.specs.Conf.{default_options}
 use Rattle.resolv_conf.specs.Line.{Outcome, LineGives}
 use Rattle.resolv_conf.specs.Words.{Words, words_of, lines_of}
+use Rattle.resolv_conf.specs.declared.options.ResolvOptions.{ResolvOptions}
+use Rattle.resolv_conf.specs.declared.server.ServerConf.{ServerConf}
 use Rattle.resolver_policy.specs.Plain.{uncommented}
 use Rattle.resolver_policy.specs.declared.found.Found.{Found}
+use Rattle.resolver_policy.specs.declared.note.Note.{Note}
 use Rattle.resolver_policy.specs.declared.note.Why.{Why}
 use Rattle.resolver_policy.specs.declared.note.Why.TheVariants as whys
 
--- before the first line
-abbrev pub nothing_found : Found
-nothing_found = record { conf = empty_conf; notes = [] }
+-- before the first line, where these are the options
+abbrev pub beginning : ResolvOptions → Found
+beginning options = record { conf = record { servers = []; options = options }; notes = [] }
 
 -- a line is told of, behind those before
 abbrev pub told : ℕ → Why → Found → Found
@@ -72,6 +75,27 @@ abbrev pub ReadsLines : ℕ → List (List ℕ) → (old new : Found) → Type 0
 ReadsLines n [] old new = new ≡ old
 ReadsLines n (line ∷ lines) old new = (mid : Found) × ReadsLine n line old mid × ReadsLines (n + 1) lines mid new
 
--- This is found in a text.
+-- This is found in a text, from these options on.
+abbrev pub IsFoundFrom : ResolvOptions → List ℕ → Found → Type 0
+IsFoundFrom options text found = ReadsLines 1 (lines_of text) (beginning options) found
+
+-- the same from those by default on
 abbrev pub IsFoundIn : List ℕ → Found → Type 0
-IsFoundIn text found = ReadsLines 1 (lines_of text) nothing_found found
+IsFoundIn text found = IsFoundFrom default_options text found
+
+-- it is told of a line that names a server
+abbrev pub is_of_server : Why → Bool
+is_of_server whys.Server = true
+is_of_server whys.Zone = true
+is_of_server _ = false
+
+abbrev pub tell_of_servers : List Note → Bool
+tell_of_servers notes = list_any (λ note. is_of_server note.why) notes
+
+-- lines name servers, and none of them is taken
+abbrev pub names_none : List ServerConf → List Note → Bool
+names_none [] notes = tell_of_servers notes
+names_none (server ∷ servers) notes = false
+
+abbrev pub takes_no_server : Found → Bool
+takes_no_server found = names_none found.conf.servers found.notes

@@ -2,6 +2,7 @@
 use Rattle.std.specs.Prelude.{ℕ, ◌*◌, ◌/◌, ◌^◌, zero, suc, true, List, [], ◌++◌, length, take, drop, min, max, if◌then◌else◌}
 use Rattle.client_request.specs.Words.{rest_of}
 use Rattle.client_settings.specs.Settings.{RedundantSettings}
+use Rattle.resolv_conf.specs.Conf.{default_options}
 use Rattle.resolv_conf.specs.declared.conf.ResolvConf.{ResolvConf}
 use Rattle.resolv_conf.specs.declared.options.ResolvOptions.{ResolvOptions}
 use Rattle.resolv_conf.specs.declared.server.ServerConf.{ServerConf}
@@ -9,6 +10,10 @@ use Rattle.resolv_conf.specs.declared.server.ServerConf.{ServerConf}
 -- an error of a transport, REFUSED and SERVFAIL of one server wait for what the others say
 abbrev pub practical_choice : RedundantSettings
 practical_choice = record { defer_transport_error = true; defer_refused = true; defer_servfail = true }
+
+-- the options of a configuration that says none: a second for a round, and three of them
+abbrev pub practical_options : ResolvOptions
+practical_options = record default_options { timeout = 1000000; attempts = 3 }
 
 -- how often each server is named: as `attempts` says, from 1 to 5
 abbrev pub rounds_of : ResolvOptions → ℕ

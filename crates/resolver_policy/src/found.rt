@@ -6,12 +6,12 @@ ghost use Rattle.std.specs.Str.Iter.{split_whitespace_rest};
 ghost use Rattle.dns_values.specs.Source.{Rose};
 ghost use Rattle.dns_values.specs.declared.streams.ReadFault.TheVariants as faults;
 ghost use Rattle.resolv_conf.specs.Words.{lines_of, words_of};
-ghost use Rattle.resolver_policy.specs.Found.{IsFoundIn, Reads, ReadsLine, ReadsLines, ReadsOptions, ReadsServer, ReadsWords, before_zone, nothing_found, option_line, told, why_not};
+ghost use Rattle.resolver_policy.specs.Found.{IsFoundFrom, IsFoundIn, Reads, ReadsLine, ReadsLines, ReadsOptions, ReadsServer, ReadsWords, before_zone, beginning, is_of_server, option_line, takes_no_server, tell_of_servers, told, why_not};
 
 use crate::note::{Note, Notes, Why};
 use crate::plain::uncommented;
 use dns_values::{NoMemory, ReadFault, Source, read_to_end};
-use resolv_conf::{LineFault, ResolvConf};
+use resolv_conf::{LineFault, ResolvConf, ResolvOptions, Servers};
 use std::alloc::Global;
 use std::str::{self, SplitWhitespace};
 
@@ -36,6 +36,23 @@ fn why_not(first: &str) -> Why
         "search" => Why::Search,
         _ => Why::Keyword,
     }
+}
+
+/// Whether this is told of a line that names a server.
+fn is_of_server(why: Why) -> bool
+    ensures { result ≡ is_of_server why }
+{
+    match why {
+        Why::Server | Why::Zone => true,
+        _ => false,
+    }
+}
+
+/// Whether any of these is told of a line that names a server.
+fn tell_of_servers(notes: &[Note]) -> bool
+    ensures { result ≡ tell_of_servers notes.now }
+{
+    notes.iter().any(|note| is_of_server(note.why))
 }
 
 /// The next word.
@@ -84,12 +101,15 @@ fn split_line(text: &[u8]) -> (&[u8], &[u8])
 }
 
 impl Found {
-    /// What is found where no line is.
-    fn new(alloc: Global) -> Found
-        ensures { result ≡ nothing_found }
+    /// What is found where no line is, from these options on.
+    fn new(alloc: Global, options: ResolvOptions) -> Found
+        ensures { result ≡ beginning options }
     {
         Found {
-            conf: ResolvConf::new(alloc),
+            conf: ResolvConf {
+                servers: Servers::new(alloc),
+                options,
+            },
             notes: Notes::new(alloc),
         }
     }
@@ -187,24 +207,49 @@ impl Found {
         Ok(())
     }
 
-    /// Reads a source to its end, or to octet 16777217, and takes of each line what is understood.
+    /// Reads a source to its end, or to octet 16777217, and takes of each line what is understood. What it doesn't say of the
+    /// options is as it is said here.
     ///
     /// A line is read without its comment, which begins with a semicolon or a number sign that stands first or behind a blank.
     /// Then it is read as `ResolvConf::parse_line` does, each option for itself and an address without its zone identifier.
     /// What is refused is told, with the line's number, and reading goes on.
     ///
     /// `TooLong` where the source gives more than 16777216 octets, `Failed` only where its count of faults rose, and `NoMemory`.
+    pub fn read_from<S: Source>(
+        alloc: Global,
+        options: ResolvOptions,
+        source: &mut S,
+    ) -> Result<Found, ReadFault>
+        ensures found { IfOk result (λ found. IfSome (S.left source.old) (λ text. IsFoundFrom options text found × (S.left source.new ≡ Some []))) }
+        ensures too_long { IfErr result (λ e. e ≡ faults.TooLong → IfSome (S.left source.old) (λ text. 16777216 < length text)) }
+        ensures failed { IfErr result (λ e. e ≡ faults.Failed → Rose (S.faults source.old) (S.faults source.new)) }
+        ensures count { S.faults source.old ≤ S.faults source.new }
+    {
+        let text = read_to_end(alloc, source, MOST_OCTETS)?;
+        let mut found = Found::new(alloc, options);
+        match found.read_lines(alloc, &text) {
+            Ok(()) => Ok(found),
+            Err(NoMemory) => Err(ReadFault::NoMemory),
+        }
+    }
+
+    /// The same, where what is not said of the options is as by default.
     pub fn read<S: Source>(alloc: Global, source: &mut S) -> Result<Found, ReadFault>
         ensures found { IfOk result (λ found. IfSome (S.left source.old) (λ text. IsFoundIn text found × (S.left source.new ≡ Some []))) }
         ensures too_long { IfErr result (λ e. e ≡ faults.TooLong → IfSome (S.left source.old) (λ text. 16777216 < length text)) }
         ensures failed { IfErr result (λ e. e ≡ faults.Failed → Rose (S.faults source.old) (S.faults source.new)) }
         ensures count { S.faults source.old ≤ S.faults source.new }
     {
-        let text = read_to_end(alloc, source, MOST_OCTETS)?;
-        let mut found = Found::new(alloc);
-        match found.read_lines(alloc, &text) {
-            Ok(()) => Ok(found),
-            Err(NoMemory) => Err(ReadFault::NoMemory),
+        Found::read_from(alloc, ResolvOptions::new(alloc), source)
+    }
+
+    /// Whether lines name servers, and none of them is taken.
+    pub fn takes_no_server(&self) -> bool
+        ensures { result ≡ takes_no_server self.now }
+    {
+        match self.conf.servers.as_slice() {
+            [] => tell_of_servers(self.notes.as_slice()),
+            _ => false,
         }
     }
 }

@@ -20,4 +20,4 @@ mod practice;
 
 pub use found::Found;
 pub use note::{Note, Notes, Why};
-pub use practice::{practical, practical_choice};
+pub use practice::{practical, practical_choice, practical_options};

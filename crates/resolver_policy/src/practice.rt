@@ -1,7 +1,7 @@
 //! What a client is given in practice.
 
 ghost use Rattle.std.specs.Prelude.{◌≡◌, ◌≤◌, ◌<◌, ◌*◌, length, IfOk};
-ghost use Rattle.resolver_policy.specs.Practice.{first_place, from_place, in_rounds, place_drawn, practical, practical_choice, rounds_of, time_of_round, words_left};
+ghost use Rattle.resolver_policy.specs.Practice.{first_place, from_place, in_rounds, place_drawn, practical, practical_choice, practical_options, rounds_of, time_of_round, words_left};
 
 use client_request::Words;
 use client_settings::redundant;
@@ -28,6 +28,16 @@ pub fn practical_choice() -> redundant::Config
     config.set_defer_refused(true);
     config.set_defer_servfail(true);
     config
+}
+
+/// The options of a configuration that says none: a lost datagram is asked again after a second, and once more.
+pub fn practical_options(alloc: Global) -> ResolvOptions
+    ensures { result ≡ practical_options }
+{
+    let mut options = ResolvOptions::new(alloc);
+    options.timeout = Duration::from_secs(1);
+    options.attempts = 3;
+    options
 }
 
 /// How often each server is named.

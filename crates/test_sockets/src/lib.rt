@@ -1,9 +1,14 @@
-//! Tests of the books of an edge over sockets in memory.
+//! Tests of edges and of the books below them: over sockets in memory, and over the sockets, the clock, the random words and the files of
+//! this host.
 #![tactic(auto)]
 
 #[cfg(test)]
-mod books;
+mod client_edges;
 #[cfg(test)]
-mod parts;
+mod edge_books;
 #[cfg(test)]
-mod scenes;
+mod front_edges;
+#[cfg(test)]
+mod listener_books;
+#[cfg(test)]
+mod queries;

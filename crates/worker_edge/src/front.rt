@@ -1,6 +1,7 @@
 //! The front of the first thread.
 
 ghost use Rattle.std.specs.Prelude.{None};
+ghost use Rattle.front_edge.specs.Fronts.{IsDeafAt, IsDeafBy};
 
 use crate::common::Common;
 use crate::listeners::SharedListeners;
@@ -50,8 +51,16 @@ impl<'a, T: Wait, R: Net<Listener = TcpListener, Stream = TcpStream> + Copy> Fro
 
     ghost faults = { λ f. f.over.faults };
 
+    ghost gave = { λ f fault. IsDeafBy f.over.deaf fault };
+
+    ghost is_deaf_at = { λ f ip. IsDeafAt f.over.deaf ip };
+
     fn listen(&mut self, port: u16) -> Result<(), Fault> {
         self.over.listen(port)
+    }
+
+    fn deaf_at(&self) -> Option<IpAddr> {
+        self.over.deaf_at()
     }
 
     fn learn_server(&mut self, server: &ServerConf) -> Result<(), NoMemory> {

@@ -3,14 +3,12 @@
 
 use client_edge::{FileOpener, RandWords, RealClock, SocketEdge, command_words};
 use dns_values::StdSink;
+use program_words::page_asked;
 use rand::rngs::StdRng;
 use std::fs;
 use std::io::Stderr;
 use std::process::ExitCode;
-use zone_fetch_run::{ProgressLine, run_fetch};
-
-/// The exit status where memory, or the system's random words, can't be had.
-const NO_MEMORY: u8 = 6;
+use zone_fetch_run::{ProgressLine, World, fetch_to, tell_no_memory, tell_no_random, tell_page};
 
 /// The system's random words, where they can be had.
 fn random_words(rt: &HostRuntime) -> Option<RandWords<StdRng>> {
@@ -30,41 +28,53 @@ fn terminal(rt: &HostRuntime) -> Option<StdSink<Stderr>> {
     }
 }
 
-/// Does what the command line asks for: of a server over the system's sockets, by its clock and under its random words, with a zone
-/// that one of its files may have. The types are the real ones, so that nothing in memory stands for one of them. Without random words
-/// nothing is asked.
+/// Does what words ask for: of a server over the system's sockets, by its clock and under its random words, with a zone that one of its
+/// files may have. The types are the real ones, so that nothing in memory stands for one of them. Without random words nothing is asked.
 fn fetch(
     rt: HostRuntime,
-    mut files: FileOpener<HostRuntime>,
-    mut edge: SocketEdge<HostRuntime>,
-    mut later: SocketEdge<HostRuntime>,
-    mut clock: RealClock<HostRuntime>,
-    random: Option<RandWords<StdRng>>,
+    words: &[String],
+    edge: SocketEdge<HostRuntime>,
+    later: SocketEdge<HostRuntime>,
 ) -> u8 {
-    let (Ok(words), Some(mut random)) = (command_words(&rt), random) else {
-        return NO_MEMORY;
+    let mut errors = StdSink::new(rt.stderr());
+    let Some(random) = random_words(&rt) else {
+        return tell_no_random(&mut errors).0;
     };
-    let status = run_fetch(
-        rt.alloc(),
+    let mut world = World {
+        opener: FileOpener::new(rt),
+        edge,
+        later,
+        clock: RealClock::new(rt),
+        random,
+        progress: ProgressLine::new(rt.alloc(), terminal(&rt)),
+    };
+    let mut sink = StdSink::new(rt.stdout());
+    fetch_to(rt.alloc(), words, &mut sink, &mut errors, &mut world).0
+}
+
+/// Does what the command line asks for: help, the release, or a zone.
+fn run(rt: HostRuntime) -> u8 {
+    let mut errors = StdSink::new(rt.stderr());
+    let Ok(words) = command_words(&rt) else {
+        return tell_no_memory(&mut errors).0;
+    };
+    if let Some(page) = page_asked(&words) {
+        return tell_page(
+            rt.alloc(),
+            page,
+            &mut StdSink::new(rt.stdout()),
+            &mut errors,
+        )
+        .0;
+    }
+    fetch(
+        rt,
         &words,
-        &mut files,
-        &mut StdSink::new(rt.stdout()),
-        &mut edge,
-        &mut later,
-        &mut clock,
-        &mut random,
-        &mut ProgressLine::new(rt.alloc(), terminal(&rt)),
-    );
-    status.0
+        SocketEdge::new(rt, rt.alloc()),
+        SocketEdge::new(rt, rt.alloc()),
+    )
 }
 
 fn main(rt: HostRuntime) -> ExitCode {
-    ExitCode::from(fetch(
-        rt,
-        FileOpener::new(rt),
-        SocketEdge::new(rt, rt.alloc()),
-        SocketEdge::new(rt, rt.alloc()),
-        RealClock::new(rt),
-        random_words(&rt),
-    ))
+    ExitCode::from(run(rt))
 }

@@ -1,16 +1,22 @@
 -- How the program ends, from the parts that it ran.
-use Rattle.std.proofs.Common.{◌≡◌, ◌≢◌, ◌⊎◌, inl, inr, ℕ, Bool, List, Option, subst, arith}
+use Rattle.std.proofs.Common.{◌≡◌, ◌≢◌, ◌⊎◌, inl, inr, ℕ, List, Option, Ok, Err, subst, sym, ap, ◌∙◌, arith}
 use Rattle.std.proofs.lemmas.Bool.Decides.{eqb_tells}
+use Rattle.command_parts.specs.Ends.{IsSaid}
 use Rattle.dns_values.specs.Sink.{with_octets}
 use Rattle.dns_values.specs.Source.{Rose}
 use Rattle.dns_values.specs.declared.numbers.Status.{Status}
 use Rattle.zone_records.specs.Folding.{Zone}
 use Rattle.zone_transfer.specs.Turning.{Scene}
-use Rattle.zone_fetch_run.specs.Ends.{FetchEnds, Files, HasStopped, HasZone, RoseUnread, Texts, out_of_memory, stopped, unwritten, written}
+use Rattle.zone_fetch_run.specs.Ends.{End, FetchEnds, Files, HasStopped, HasZone, RoseUnread, TellsByLine, TellsBySentence, Texts, is_refused, is_stopped, is_unwritten, is_written, out_of_memory}
+use Rattle.zone_fetch_run.specs.Ends as ends
 use Rattle.zone_fetch_run.specs.Lines.{zone_text}
+use Rattle.zone_fetch_run.specs.Sentences.{refusal_sentence, stop_sentence, unwritten_sentence}
 use Rattle.zone_fetch_run.specs.Stops.{Tells, line_of, status_of}
+use Rattle.zone_fetch_run.specs.Words.{IsCommand}
+use Rattle.zone_fetch_run.specs.declared.command.Command.{Command}
 use Rattle.zone_fetch_run.specs.declared.stop.Stop.{Stop}
 use Rattle.zone_fetch_run.specs.declared.stop.Stop.TheVariants.{Unread}
+use Rattle.zone_fetch_run.specs.declared.wrong.Refusal.{Refusal}
 
 -- the stop at which the files' faults rose is the one that is told
 pub rose_at : (faults faults_after : ℕ) (stop : Stop) → RoseUnread faults faults_after stop → stop ≡ Unread → Rose faults faults_after
@@ -21,18 +27,46 @@ not_three n (inl a) e = omega arith
 not_three n (inr (inl a)) e = omega arith
 not_three n (inr (inr a)) e = omega arith
 
-module _ {K : Type 0} (held : K → Option (List ℕ)) (faults : K → ℕ) (words : Texts) (files : Files) (random : ℕ → ℕ) (status : Status) (before after : K) (old new later later_new : Scene) where
-  pub ended_written : (zone : Zone) (is_loaded : Bool) → HasZone words files random zone is_loaded old new later later_new
-      → (status.0 ≡ 0 → held after ≡ with_octets (zone_text is_loaded zone.records) (held before)) → (status.0 ≡ 4 → Rose (faults before) (faults after)) → (status.0 ≡ 0) ⊎ ((status.0 ≡ 4) ⊎ (status.0 ≡ 6))
-      → FetchEnds held faults words files random status before after old new later later_new
-  ended_written zone is_loaded h whole failed (inl e) = written zone is_loaded h e (whole e)
-  ended_written zone is_loaded h whole failed (inr (inl e)) = unwritten zone is_loaded h e (failed e)
-  ended_written zone is_loaded h whole failed (inr (inr e)) = out_of_memory e
+-- a status that is told, or memory ran out there
+same_number : (told status : Status) (n : ℕ) → (told ≡ status) ⊎ (told.0 ≡ 6) → told.0 ≡ n → n ≢ 6 → status.0 ≡ n
+same_number told status n (inl same) is other = ap (λ (s : Status). s.0) (sym same) ∙ is
+same_number told status n (inr six) is other = absurd (other (sym is ∙ six))
 
-  pub ended_stopped : (stop : Stop) → HasStopped words files random old new later later_new stop → (status.0 ≡ status_of stop) ⊎ (status.0 ≡ 6)
-      → (status.0 ≢ 6 → Tells (line_of stop) (held before) (held after) (faults before) (faults after)) → FetchEnds held faults words files random status before after old new later later_new
-  ended_stopped stop h (inr e) tells = out_of_memory e
-  ended_stopped stop h (inl is) tells = elim (eqb_tells status.0 6) [
+module _ (words : Texts) (files : Files) (random : ℕ → ℕ) (Told : End → Type 0) (status : ℕ) (old new later later_new : Scene) where
+  pub ended_refused : (refusal : Refusal) → IsCommand words (Err refusal) → (status ≡ 2) ⊎ (status ≡ 6) → (status ≡ 2 → Told (ends.refused refusal)) → FetchEnds words files random Told status old new later later_new
+  ended_refused refusal judged (inl two) tells = is_refused refusal judged two (tells two)
+  ended_refused refusal judged (inr six) tells = out_of_memory six
+
+  pub ended_stopped : (command : Command) (stop : Stop) → IsCommand words (Ok command) → HasStopped command files random old new later later_new stop → (status ≡ status_of stop) ⊎ (status ≡ 6)
+      → (status ≢ 6 → Told (ends.stopped command stop)) → FetchEnds words files random Told status old new later later_new
+  ended_stopped command stop judged h (inr six) tells = out_of_memory six
+  ended_stopped command stop judged h (inl is) tells = elim (eqb_tells status 6) [
     | inl same ↦ out_of_memory same.1
-    | inr other ↦ stopped stop h is (tells other.1)
+    | inr other ↦ is_stopped command stop judged h is (tells other.1)
   ]
+
+  pub ended_written : (command : Command) (zone : Zone) → IsCommand words (Ok command) → HasZone command files random zone old new later later_new
+      → (status ≡ 0 → Told (ends.written (zone_text command.text zone.records))) → (status ≡ 4 → Told ends.unwritten) → (status ≡ 0) ⊎ ((status ≡ 4) ⊎ (status ≡ 6))
+      → FetchEnds words files random Told status old new later later_new
+  ended_written command zone judged h whole failed (inl zero) = is_written command zone judged h zero (whole zero)
+  ended_written command zone judged h whole failed (inr (inl four)) = is_unwritten command zone judged h four (failed four)
+  ended_written command zone judged h whole failed (inr (inr six)) = out_of_memory six
+
+-- the statuses of a zone that was written, told of or not
+pub written_statuses : (told status : Status) → (told ≡ status) ⊎ (told.0 ≡ 6) → (status.0 ≡ 0) ⊎ ((status.0 ≡ 4) ⊎ (status.0 ≡ 6)) → (told.0 ≡ 0) ⊎ ((told.0 ≡ 4) ⊎ (told.0 ≡ 6))
+written_statuses told status (inr six) of = inr (inr six)
+written_statuses told status (inl same) of = subst (λ (s : Status). (s.0 ≡ 0) ⊎ ((s.0 ≡ 4) ⊎ (s.0 ≡ 6))) (sym same) of
+
+-- what a status tells that is told of
+pub told_at : (told status : Status) (n : ℕ) (P : Type 0) → (told ≡ status) ⊎ (told.0 ≡ 6) → n ≢ 6 → (status.0 ≡ n → P) → told.0 ≡ n → P
+told_at told status n P same other holds is = holds (same_number told status n same is other)
+
+-- a sentence is handed on wherever one is told
+pub handed_on_at : (n one : ℕ) (P : Type 0) → (n ≡ one) ⊎ (n ≡ 6) → (n ≡ one → P) → n ≢ 6 → P
+handed_on_at n one P (inl is) holds no_six = holds is
+handed_on_at n one P (inr six) holds no_six = absurd (no_six six)
+
+pub handed_on_written : (n : ℕ) (P : Type 0) → (n ≡ 0) ⊎ ((n ≡ 4) ⊎ (n ≡ 6)) → (n ≡ 4 → P) → n ≢ 0 → n ≢ 6 → P
+handed_on_written n P (inl zero) holds no_zero no_six = absurd (no_zero zero)
+handed_on_written n P (inr (inl four)) holds no_zero no_six = holds four
+handed_on_written n P (inr (inr six)) holds no_zero no_six = absurd (no_six six)

@@ -33,7 +33,6 @@ fault_line faults.NoReply = codes "failed no-reply\n"
 fault_line faults.NoMemory = []
 
 abbrev pub status_of : Stop → ℕ
-status_of stops.Usage = 2
 status_of stops.Unread = 3
 status_of (stops.NotPrinted flaw) = 1
 status_of (stops.NotFetched fault) = fault_status fault
@@ -58,7 +57,6 @@ flaw_text (flaws.Line line part) = codes "line " ++ decimal line ++ codes ": " +
 abbrev pub line_of : Stop → List ℕ
 line_of (stops.NotPrinted flaw) = codes "no printed zone: " ++ flaw_text flaw ++ 10 ∷ []
 line_of (stops.NotFetched fault) = fault_line fault
-line_of stops.Usage = []
 line_of stops.Unread = []
 line_of stops.NoMemory = []
 

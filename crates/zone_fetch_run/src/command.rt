@@ -1,10 +1,10 @@
 //! What the words ask for.
 
 ghost use Rattle.std.specs.Prelude.{◌≡◌};
-ghost use Rattle.zone_fetch_run.specs.Words.{IsJudged, IsSaidBy, command_in, nothing_said};
+ghost use Rattle.zone_fetch_run.specs.Words.{IsJudged, IsSaidBy, command_in, missing, nothing_said};
 
-use crate::taking::WordFault;
-use dns_base::{IpAddr, Name, NoMemory, SocketAddr};
+use crate::wrong::{Fault, Refusal};
+use dns_base::{IpAddr, Name, SocketAddr};
 use std::alloc::Global;
 
 /// The port at which a server is asked where none is said (RFC 5936 2).
@@ -74,8 +74,20 @@ impl Said {
     }
 }
 
+/// Why words end before a zone: the value of an option is due, or the zone itself.
+fn missing(next: Next) -> Refusal
+    ensures { result ≡ missing next }
+{
+    match next {
+        Next::Port => Refusal::NoPort,
+        Next::Most => Refusal::NoMost,
+        Next::File => Refusal::NoFile,
+        Next::Any | Next::Address | Next::Nothing => Refusal::NoZone,
+    }
+}
+
 /// The command that is said: a zone and a server.
-fn command_in(said: Said) -> Option<Command>
+fn command_in(said: Said) -> Result<Command, Refusal>
     ensures { result ≡ command_in said }
 {
     let Said {
@@ -85,38 +97,42 @@ fn command_in(said: Said) -> Option<Command>
         text,
         zone,
         server,
-        next: _,
+        next,
     } = said;
     match (zone, server) {
-        (Some(apex), Some(ip)) => Some(Command {
+        (Some(apex), Some(ip)) => Ok(Command {
             apex,
             server: SocketAddr { ip, port },
             most,
             file,
             text,
         }),
-        _ => None,
+        (Some(_), None) => Err(Refusal::NoAddress),
+        (None, _) => Err(missing(next)),
     }
 }
 
 /// What the words say, if each may stand where it does.
-fn said_by(alloc: Global, words: &[String]) -> Result<Option<Said>, NoMemory>
+fn said_by(alloc: Global, words: &[String]) -> Result<Said, Fault>
     ensures { IsSaidBy words.now result }
 {
     let mut said = Said::new();
     match said.take_all(alloc, words) {
-        Ok(()) => Ok(Some(said)),
-        Err(WordFault::Refused) => Ok(None),
-        Err(WordFault::NoMemory) => Err(NoMemory),
+        Ok(()) => Ok(said),
+        Err(fault) => Err(fault),
     }
 }
 
-/// The command of the words, which do not hold the program's own name; none where they are no command.
-pub(crate) fn command_of(alloc: Global, words: &[String]) -> Result<Option<Command>, NoMemory>
+/// The command of the words, which do not hold the program's own name. `Refused` names the first word that is wrong, or says what is
+/// missing.
+pub(crate) fn command_of(alloc: Global, words: &[String]) -> Result<Command, Fault>
     ensures { IsJudged words.now result }
 {
-    match said_by(alloc, words)? {
-        Some(said) => Ok(command_in(said)),
-        None => Ok(None),
+    match said_by(alloc, words) {
+        Ok(said) => match command_in(said) {
+            Ok(command) => Ok(command),
+            Err(refusal) => Err(Fault::Refused(refusal)),
+        },
+        Err(fault) => Err(fault),
     }
 }

@@ -1,17 +1,19 @@
 //! What the program does.
 
-ghost use Rattle.std.specs.Prelude.{◌≡◌, ◌⊎◌, Some, IfOk, IfErr, IfSome};
+ghost use Rattle.std.specs.Prelude.{◌≡◌, ◌≢◌, ◌⊎◌, Some, IfOk, IfErr, IfSome};
 ghost use Rattle.dns_values.specs.Sink.{IsFlushed, with_octets};
 ghost use Rattle.dns_values.specs.Source.{Rose};
-ghost use Rattle.zone_fetch_run.specs.Ends.{FetchEnds, HasStopped, HasZone, IsBase, IsFiled, IsOfFile, IsUnbased, RoseUnread};
+ghost use Rattle.zone_fetch_run.specs.Ends.{FetchEndsIn, HasStopped, HasZone, IsBase, IsFiled, IsOfFile, IsUnbased, LineEnds, RoseUnread, TellsBySentence};
 ghost use Rattle.zone_fetch_run.specs.Fetching.{over};
 ghost use Rattle.zone_fetch_run.specs.Lines.{zone_text};
 
 use crate::command::{Command, command_of};
+use crate::explaining::{tell_no_memory, tell_refusal, tell_stop, tell_written};
 use crate::fetching::bring;
 use crate::lines::write_zone;
 use crate::printed::{Flaw, Unread, zone_of};
 use crate::stop::{Stop, tell};
+use crate::wrong::Fault;
 use client_core::{Clock, Edge};
 use client_request::Words;
 use command_parts::statuses;
@@ -73,35 +75,31 @@ fn zone_before<O: OpenFile>(alloc: Global, command: &Command, opener: &mut O) ->
     }
 }
 
-/// The zone that the words ask for, and whether it is written in the form that name servers load.
+/// The zone that a command asks for.
 fn zone_asked<O: OpenFile, E: Edge, C: Clock, W: Words, P: Progress>(
     alloc: Global,
-    words: &[String],
+    command: &Command,
     opener: &mut O,
     edge: &mut E,
     later: &mut E,
     clock: &mut C,
     random: &mut W,
     progress: &mut P,
-) -> Result<(Zone, bool), Stop>
-    ensures zone { IfOk result (λ x. over E.deeds E.polls C.given (edge.old, later.old, clock.old) (edge.new, later.new, clock.new) (HasZone words.now (O.files opener.old) (W.stream random.old) x.0 x.1)) }
-    ensures stop { IfErr result (over E.deeds E.polls C.given (edge.old, later.old, clock.old) (edge.new, later.new, clock.new) (HasStopped words.now (O.files opener.old) (W.stream random.old))) }
+) -> Result<Zone, Stop>
+    ensures zone { IfOk result (λ zone. over E.deeds E.polls C.given (edge.old, later.old, clock.old) (edge.new, later.new, clock.new) (HasZone command.now (O.files opener.old) (W.stream random.old) zone)) }
+    ensures stop { IfErr result (over E.deeds E.polls C.given (edge.old, later.old, clock.old) (edge.new, later.new, clock.new) (HasStopped command.now (O.files opener.old) (W.stream random.old))) }
     ensures unread { IfErr result (RoseUnread (O.faults opener.old) (O.faults opener.new)) }
 {
-    let command = match command_of(alloc, words)? {
-        Some(command) => command,
-        None => return Err(Stop::Usage),
-    };
-    let mut zone = match zone_before(alloc, &command, opener) {
+    let mut zone = match zone_before(alloc, command, opener) {
         Ok(zone) => zone,
         Err(stop) => return Err(stop),
     };
     let brought = bring(
-        alloc, &command, &mut zone, edge, later, clock, random, progress,
+        alloc, command, &mut zone, edge, later, clock, random, progress,
     );
     progress.end();
     match brought {
-        Ok(()) => Ok((zone, command.text)),
+        Ok(()) => Ok(zone),
         Err(fault) => Err(Stop::NotFetched(fault)),
     }
 }
@@ -139,12 +137,74 @@ pub fn run_fetch<O: OpenFile, K: Sink, E: Edge, C: Clock, W: Words, P: Progress>
     random: &mut W,
     progress: &mut P,
 ) -> Status
-    ensures ends { over E.deeds E.polls C.given (edge.old, later.old, clock.old) (edge.new, later.new, clock.new) (FetchEnds K.held K.faults words.now (O.files opener.old) (W.stream random.old) result sink.old sink.new) }
+    ensures ends { over E.deeds E.polls C.given (edge.old, later.old, clock.old) (edge.new, later.new, clock.new) (LineEnds K.held K.faults words.now (O.files opener.old) (W.stream random.old) result sink.old sink.new) }
     ensures unread { result.0 ≡ 3 → Rose (O.faults opener.old) (O.faults opener.new) }
     ensures flushed { result.0 ≡ 0 → IsFlushed (K.held sink.new) (K.flushed sink.new) }
 {
-    match zone_asked(alloc, words, opener, edge, later, clock, random, progress) {
-        Ok((zone, is_loaded)) => tell_zone(alloc, sink, &zone, is_loaded),
+    let command = match command_of(alloc, words) {
+        Ok(command) => command,
+        Err(Fault::Refused(_)) => return statuses::USAGE,
+        Err(Fault::NoMemory) => return statuses::NO_MEMORY,
+    };
+    match zone_asked(
+        alloc, &command, opener, edge, later, clock, random, progress,
+    ) {
+        Ok(zone) => tell_zone(alloc, sink, &zone, command.text),
         Err(stop) => tell(alloc, sink, stop),
+    }
+}
+
+/// What is around a fetch. No edge was used before.
+#[derive(Drop)]
+pub struct World<O, E, C, W, P> {
+    /// What opens the file that has the zone as it was printed before.
+    pub opener: O,
+    /// What is asked.
+    pub edge: E,
+    /// What is asked for the whole zone where changes were asked for and the server has none to another serial.
+    pub later: E,
+    pub clock: C,
+    pub random: W,
+    /// What is told how far the transfer is.
+    pub progress: P,
+}
+
+/// Does the same as `run_fetch`, and tells why in a sentence to `errors` where the status is another than 0: which word is wrong, or
+/// what is missing; which file can't be read or has no printed zone, and why; which zone was not fetched of which server, and why; or
+/// that the sink failed, or memory ran out. Nothing is written to the sink then, but what it took of a zone. A fault of `errors` changes
+/// no status.
+pub fn fetch_to<O: OpenFile, K: Sink, L: Sink, E: Edge, C: Clock, W: Words, P: Progress>(
+    alloc: Global,
+    words: &[String],
+    sink: &mut K,
+    errors: &mut L,
+    world: &mut World<O, E, C, W, P>,
+) -> Status
+    ensures ends { FetchEndsIn E.deeds E.polls C.given O.files W.stream words.now (TellsBySentence K.held K.faults L.held L.faults words.now (sink.old, errors.old) (sink.new, errors.new)) result.0 world.old world.new }
+    ensures unread { result.0 ≡ 3 → Rose (O.faults world.old.opener) (O.faults world.new.opener) }
+    ensures flushed { result.0 ≡ 0 → IsFlushed (K.held sink.new) (K.flushed sink.new) }
+    ensures handed_on { result.0 ≢ 0 → result.0 ≢ 6 → IsFlushed (L.held errors.new) (L.flushed errors.new) ⊎ Rose (L.faults errors.old) (L.faults errors.new) }
+{
+    let command = match command_of(alloc, words) {
+        Ok(command) => command,
+        Err(Fault::Refused(refusal)) => return tell_refusal(alloc, words, refusal, errors),
+        Err(Fault::NoMemory) => return tell_no_memory(errors),
+    };
+    let asked = zone_asked(
+        alloc,
+        &command,
+        &mut world.opener,
+        &mut world.edge,
+        &mut world.later,
+        &mut world.clock,
+        &mut world.random,
+        &mut world.progress,
+    );
+    match asked {
+        Ok(zone) => {
+            let status = tell_zone(alloc, sink, &zone, command.text);
+            tell_written(status, errors)
+        }
+        Err(stop) => tell_stop(alloc, &command, stop, errors),
     }
 }

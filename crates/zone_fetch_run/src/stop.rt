@@ -16,8 +16,6 @@ use zone_transfer::FetchFault;
 /// Why no zone is written.
 #[derive(Clone, Copy)]
 pub(crate) enum Stop {
-    /// The words are no command.
-    Usage,
     /// The file can't be read.
     Unread,
     /// The file has no zone that was printed.
@@ -66,12 +64,11 @@ fn fault_line(fault: FetchFault) -> &'static str
 }
 
 #[tactic(auto, using(crate::proofs::Telling::no_three))]
-fn status_of(stop: Stop) -> Status
+pub(crate) fn status_of(stop: Stop) -> Status
     ensures status { result.0 ≡ status_of stop }
     ensures unread { result.0 ≡ 3 → stop ≡ Stop.Unread }
 {
     match stop {
-        Stop::Usage => statuses::USAGE,
         Stop::Unread => statuses::SOURCE_FAULT,
         Stop::NotPrinted(_) => statuses::REFUSED,
         Stop::NotFetched(fault) => fault_status(fault),
@@ -116,7 +113,7 @@ fn line_of(alloc: Global, stop: Stop) -> Result<String, NoMemory>
     match stop {
         Stop::NotPrinted(flaw) => Ok(format!(in alloc; "no printed zone: {flaw}\n")?),
         Stop::NotFetched(fault) => Ok(String::from_str(alloc, fault_line(fault))?),
-        Stop::Usage | Stop::Unread | Stop::NoMemory => Ok(String::new(alloc)),
+        Stop::Unread | Stop::NoMemory => Ok(String::new(alloc)),
     }
 }
 

@@ -1,32 +1,26 @@
 //! Words that are taken, one after another.
 
-ghost use Rattle.std.specs.Prelude.{◌≡◌, Some, None, false, if◌then◌else◌};
+ghost use Rattle.std.specs.Prelude.{◌≡◌, Ok, Err, Some, None, false, if◌then◌else◌};
 ghost use Rattle.dns_names.specs.Text.{name_of_text};
 ghost use Rattle.std.specs.Result.{result_ok};
-ghost use Rattle.zone_fetch_run.specs.Words.{AddressGives, Answers, FileGives, WordGives, WordsGive, any_said, most_given, number_in, optioned, port_given, zone_given};
+ghost use Rattle.zone_fetch_run.specs.Words.{AddressGives, AllAnswer, Answers, FileGives, WordGives, WordsGive, any_said, fault_at, most_given, number_in, optioned, port_given, zone_given};
 
 use crate::command::{Next, Said};
 use crate::number::number_in;
-use dns_base::{IpAddr, Name, NameFault, NoMemory};
+use crate::wrong::{Fault, Refusal, WordFault, Wrong};
+use dns_base::{IpAddr, Name, NameFault};
 use std::alloc::Global;
 
 /// The greatest port.
 const MOST_PORT: usize = 65535;
 
-/// Why a word was not taken.
-#[derive(Clone, Copy)]
-pub(crate) enum WordFault {
-    Refused,
-    NoMemory,
-}
-
-impl From<NoMemory> for WordFault {
-    ghost use Rattle.zone_fetch_run.specs.declared.taking.WordFault.{WordFault};
-
-    ghost from_gives = { λ _ e. e ≡ WordFault.NoMemory };
-
-    fn from(_e: NoMemory) -> WordFault {
-        WordFault::NoMemory
+/// Why words were not taken of which the one of this number was not.
+fn fault_at(at: usize, fault: WordFault) -> Fault
+    ensures { result ≡ fault_at at fault }
+{
+    match fault {
+        WordFault::Wrong(wrong) => Fault::Refused(Refusal::Word { at, wrong }),
+        WordFault::NoMemory => Fault::NoMemory,
     }
 }
 
@@ -40,7 +34,7 @@ impl Said {
                 self.next = Next::Any;
                 Ok(())
             }
-            None => Err(WordFault::Refused),
+            None => Err(WordFault::Wrong(Wrong::Port)),
         }
     }
 
@@ -53,7 +47,7 @@ impl Said {
                 self.next = Next::Any;
                 Ok(())
             }
-            None => Err(WordFault::Refused),
+            None => Err(WordFault::Wrong(Wrong::Most)),
         }
     }
 
@@ -72,7 +66,7 @@ impl Said {
         ensures { Answers (AddressGives word.now self.old) result self.new }
     {
         let Ok(ip) = IpAddr::from_text(word) else {
-            return Err(WordFault::Refused);
+            return Err(WordFault::Wrong(Wrong::Address));
         };
         self.server = Some(ip);
         self.next = Next::Nothing;
@@ -89,8 +83,8 @@ impl Said {
                 Ok(())
             }
             Err(NameFault::NoMemory) => Err(WordFault::NoMemory),
-            Err(NameFault::Parse) => Err(WordFault::Refused),
-            Err(NameFault::Long) => Err(WordFault::Refused),
+            Err(NameFault::Parse) => Err(WordFault::Wrong(Wrong::Zone)),
+            Err(NameFault::Long) => Err(WordFault::Wrong(Wrong::Zone)),
         }
     }
 
@@ -128,20 +122,22 @@ impl Said {
             Next::Most => self.take_most(word),
             Next::File => self.take_file(alloc, word),
             Next::Address => self.take_address(word),
-            Next::Nothing => Err(WordFault::Refused),
+            Next::Nothing => Err(WordFault::Wrong(Wrong::More)),
         }
     }
 
     /// Takes words in order, up to the first that may not stand where it does.
-    pub(crate) fn take_all(&mut self, alloc: Global, words: &[String]) -> Result<(), WordFault>
-        ensures { Answers (WordsGive words.now self.old) result self.new }
+    pub(crate) fn take_all(&mut self, alloc: Global, words: &[String]) -> Result<(), Fault>
+        ensures { AllAnswer (WordsGive 0 words.now self.old) result self.new }
     {
         let mut rest = words;
+        let mut at = 0;
         while let Some((word, behind)) = rest.split_first() {
             match self.take(alloc, word.as_str()) {
                 Ok(()) => rest = behind,
-                Err(fault) => return Err(fault),
+                Err(fault) => return Err(fault_at(at, fault)),
             }
+            at += 1;
         }
         Ok(())
     }

@@ -41,17 +41,22 @@ returns-clause-ends g c =
     (scene c.asked-came.new.client (g.A.Asks.stream c.asked-came.new.words) (g.E.Edge.deeds c.asked-came.new.edge.edge) (g.E.Edge.waits c.asked-came.new.edge.edge) (g.E.Edge.polls c.asked-came.new.edge.edge) (g.C.Clock.given c.asked-came.new.clock.clock))
     c.asked-came.result c.asked-came-2.result (sym c.is_some.ensures ∙ c.if-is_some.false) c.asked-came.ensures.answered (c.tell-status.ensures.good (inl zero))
     c.asked-came-2.ensures.answered c.asked-came-2.ensures.numbers c.tell.ensures.good c.tell.ensures.bad (λ five. told_by g.L.Sink.held g.L.Sink.faults c.args.conf.now.servers c.opened-2.result.now c.args.errors.now c.tell.new.errors c.asked-came-2.result
-    ((rw (c.as_slice-servers.ensures, c.tell-status.ensures.quiet (inl zero), c.tell-status.ensures.no_fault (inl zero)) at c.tell.ensures.said) five)) c.tell.ensures.numbers
+    ((rw (c.as_slice-servers.ensures, c.tell-status.ensures.quiet zero, c.tell-status.ensures.no_fault zero) at c.tell.ensures.said) five)) c.tell.ensures.numbers
 
 pub returns-clause-stops : goal.returns-clause-stops
 returns-clause-stops g c = λ seven.
     let zero : c.tell-status.result.0 ≡ 0 = omega arith in
-    told_later _ _ _ _ _ _ _ (c.tell-status.ensures.quiet (inl zero)) (c.tell-status.ensures.no_fault (inl zero)) (c.tell.ensures.stops seven)
+    told_later _ _ _ _ _ _ _ (c.tell-status.ensures.quiet zero) (c.tell-status.ensures.no_fault zero) (c.tell.ensures.stops seven)
+
+pub returns-clause-unwritten : goal.returns-clause-unwritten
+returns-clause-unwritten g c = λ four.
+    let zero : c.tell-status.result.0 ≡ 0 = omega arith in
+    told_later _ _ _ _ _ _ _ (c.tell-status.ensures.quiet zero) (c.tell-status.ensures.no_fault zero) (c.tell.ensures.unwritten four)
 
 pub returns-clause-line_flushed : goal.returns-clause-line_flushed
 returns-clause-line_flushed g c = λ ended.
     let zero : c.tell-status.result.0 ≡ 0 = omega arith in
-    rw (c.tell-status.ensures.no_fault (inl zero)) at (c.tell.ensures.line_flushed ended)
+    rw (c.tell-status.ensures.no_fault zero) at (c.tell.ensures.line_flushed ended)
 
 pub returns-clause-sink_fault : goal.returns-clause-sink_fault
 returns-clause-sink_fault g c = λ four. rose_later _ _ _ c.tell-status.ensures.count (c.tell.ensures.sink_fault four)

@@ -19,4 +19,4 @@ returns-in-Err-clause-no_conf g c = λ three.
 pub returns-in-Ok-tell_notes-clause-ends : goal.returns-in-Ok-tell_notes-clause-ends
 returns-in-Ok-tell_notes-clause-ends g c =
     asked_ends _ _ _ _ _ _ _ _ _ c.in-Ok.lookup c.in-Ok-conf_of.found _ c.tell_notes.new.errors c.in-Ok.ensures c.in-Ok-conf_of.ensures.conf
-    (rw c.as_slice.ensures at c.in-Ok-tell_notes.ensures.said) c.ask_all.ensures.statuses c.ask_all.ensures.ends c.ask_all.ensures.quiet c.ask_all.ensures.stops
+    (rw c.as_slice.ensures at c.in-Ok-tell_notes.ensures.said) c.ask_all.ensures.statuses c.ask_all.ensures.ends c.ask_all.ensures.quiet c.ask_all.ensures.unwritten c.ask_all.ensures.stops

@@ -30,7 +30,7 @@ returns-clause-ends g c =
     (with_ahead (λ (ws : List ℕ). recording.Recorded (opening c.args.conf.now c.practical_choice-choice.result c.new-cache.result ws (g.R.Sink.held c.args.file)) [] (g.R.Sink.held c.begin-begun.new.sink) c.in-Ok.recorder
     (started c.practical_choice-choice.result c.new-cache.result c.args.conf.now)) old.words c.ahead.result.count c.in-Ok.ensures.begun (ap (λ (a : Ahead). a.count) c.ahead.ensures))
     c.record_law.ensures
-    c.ask_all-status.ensures.statuses c.ask_all-status.ensures.ends c.ask_all-status.ensures.quiet c.ask_all-status.ensures.stops c.ask_all-status.ensures.made)
+    c.ask_all-status.ensures.statuses c.ask_all-status.ensures.ends c.ask_all-status.ensures.quiet c.ask_all-status.ensures.unwritten c.ask_all-status.ensures.stops c.ask_all-status.ensures.made)
 
 pub returns-in-Err-clause-line_flushed : goal.returns-in-Err-clause-line_flushed
 returns-in-Err-clause-line_flushed g c = rw c.without.ensures (told_flushed c.tell_unrecorded.result.0 8 _ c.tell_unrecorded.ensures.status c.tell_unrecorded.ensures.flushed)

@@ -1,7 +1,7 @@
 use Rattle.std.proofs.Common.{List, ap, sym, ◌∙◌}
 use Rattle.client_steps.specs.Whole.{Whole}
 use Rattle.dns_values.specs.declared.address.IpAddr.{IpAddr}
-use Rattle.forward_run.specs.Serving.{asks_itself}
+use Rattle.forward_conf.specs.Itself.{asks_itself}
 use Rattle.forward_record.specs.Core.{RecordedClient}
 use Rattle.forward_record.specs.Serving.{words_ahead, words_behind}
 use Rattle.forward_record.proofs.Done.{begun, not_begun}

@@ -3,6 +3,7 @@ use Rattle.std.proofs.lemmas.Grind.{common_steps}
 use Rattle.forward_run.specs.Turns.{answers_in}
 use Rattle.forward_record.specs.Turns.{scene}
 use Rattle.forward_run.proofs.Turning.{wants}
+use Rattle.forward_record.proofs.Told.{told_more, told_nothing}
 use Rattle.forward_record.proofs.Turning.{TurnedSo, all_turned, none_turned, turned_more}
 use Rattle.forward_record.proofs.turns.turn_all.Goals as goal
 
@@ -11,6 +12,7 @@ loop-left-init g c = record {
   so = none_turned g.K.Sink.held c.args.turns
       (scene c.args.forwarder.now (g.W.Words.stream c.args.words.now) (g.F.Front.deeds c.args.front.now) (g.F.Front.polls c.args.front.now) (g.C.Clock.given c.args.clock.now));
   lasts = c.requires;
+  told = told_nothing (g.L.Sink.held c.args.errors.now) (g.L.Sink.faults c.args.errors.now);
 }
 
 pub loop-left-preserved : goal.loop-left-preserved
@@ -23,6 +25,8 @@ loop-left-preserved g c =
       so = subst (λ (n : ℕ). TurnedSo g.K.Sink.held c.args.turns (c.loop-left.left - 1) n old new) more
           (turned_more g.K.Sink.held c.args.turns c.loop-left.left c.loop-left.answered old mid new c.in-Ok.row c.loop-left.invariant.so c.in-Ok.ensures.turn c.in-Ok.ensures.made c.in-Ok.ensures.moment c.in-Ok.ensures.polls c.loop-left-test.true);
       lasts = c.in-Ok.ensures.lasts;
+      told = told_more (g.L.Sink.held c.args.errors.now) (g.L.Sink.held c.loop-left.errors) (g.L.Sink.held c.tell_ended.new.errors) (g.L.Sink.faults c.args.errors.now) (g.L.Sink.faults c.loop-left.errors)
+          (g.L.Sink.faults c.tell_ended.new.errors) c.loop-left.invariant.told c.tell_ended.ensures;
     }
 
 pub returns-clause-turned : goal.returns-clause-turned
@@ -34,3 +38,8 @@ returns-clause-turned g c =
 
 pub returns-in-Err-clause-want : goal.returns-in-Err-clause-want
 returns-in-Err-clause-want g c = wants c.in-Err.error c.loop-left.forwarder.failed c.in-Err.ensures.refused c.in-Err.ensures.failed_only c.loop-left.invariant.lasts
+
+pub returns-in_default-clause-told : goal.returns-in_default-clause-told
+returns-in_default-clause-told g c =
+    told_more (g.L.Sink.held c.args.errors.now) (g.L.Sink.held c.loop-left.errors) (g.L.Sink.held c.tell_ended.new.errors) (g.L.Sink.faults c.args.errors.now) (g.L.Sink.faults c.loop-left.errors)
+    (g.L.Sink.faults c.tell_ended.new.errors) c.loop-left.invariant.told c.tell_ended.ensures

@@ -1,6 +1,6 @@
 use Rattle.std.proofs.Common.{List, ap, sym, ◌∙◌}
 use Rattle.dns_values.specs.declared.address.IpAddr.{IpAddr}
-use Rattle.forward_run.specs.Serving.{asks_itself}
+use Rattle.forward_conf.specs.Itself.{asks_itself}
 use Rattle.forward_run.proofs.serving.begin.Goals as goal
 
 pub returns-clause-asks_others : goal.returns-clause-asks_others

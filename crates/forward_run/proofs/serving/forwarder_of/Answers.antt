@@ -2,7 +2,7 @@ use Rattle.std.proofs.Common.{ap, ◌∙◌}
 use Rattle.client_settings.specs.Settings.{CacheSettings, RedundantSettings}
 use Rattle.client_steps.specs.Whole.{started}
 use Rattle.front_steps.specs.Steps.{beginning}
-use Rattle.forward_run.specs.Settings.{choice_of}
+use Rattle.forward_conf.specs.Settings.{choice_of}
 use Rattle.forward_run.proofs.serving.forwarder_of.Goals as goal
 
 pub returns-in-Ok : goal.returns-in-Ok

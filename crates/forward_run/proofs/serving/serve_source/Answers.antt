@@ -1,27 +1,23 @@
 use Rattle.forward_run.specs.Turns.{world}
-use Rattle.forward_run.proofs.Ends.{early_ends, not_deaf, not_refused, not_unread, serve_ends}
-use Rattle.forward_run.proofs.Served.{answered_so, not_listened}
+use Rattle.forward_run.proofs.Ends.{any_notes, read_end, serve_end}
+use Rattle.forward_run.proofs.Served.{answered_so}
 use Rattle.forward_run.proofs.serving.serve_source.Goals as goal
 
-pub returns-in-Err-clause-deaf : goal.returns-in-Err-clause-deaf
-returns-in-Err-clause-deaf g c = λ five. absurd (not_deaf c.in-Err.ending c.in-Err.ensures.early five)
+pub returns-in-Err-clause-cause : goal.returns-in-Err-clause-cause
+returns-in-Err-clause-cause g c =
+    read_end c.args.options.now c.args.asked.port (g.S.Source.left c.args.source.now) (g.W.Words.stream c.args.rng.now) (g.F.Front.gave c.args.front.now) (g.F.Front.is_deaf_at c.args.front.now)
+    (g.F.Front.faults c.args.front.now) (g.F.Front.faults c.args.front.now) (g.S.Source.faults c.args.source.now) (g.S.Source.faults c.conf_asked.new.source) c.in-Err.cause c.in-Err.ensures.cause
 
-pub returns-in-Err-clause-ends : goal.returns-in-Err-clause-ends
-returns-in-Err-clause-ends g c = early_ends c.in-Err.ending c.in-Err.ensures.early
+pub returns-in-Err-serve_conf-clause-told : goal.returns-in-Err-serve_conf-clause-told
+returns-in-Err-serve_conf-clause-told g c = λ _.
+    any_notes c.args.options.now.policy (g.S.Source.left c.args.source.now) (g.L.Sink.held c.args.errors.now) (g.L.Sink.held c.conf_asked.new.errors) (g.L.Sink.faults c.args.errors.now)
+    (g.L.Sink.faults c.conf_asked.new.errors) c.in-Ok.ensures.noted
 
-pub returns-in-Err-serve_conf-clause-source_fault : goal.returns-in-Err-serve_conf-clause-source_fault
-returns-in-Err-serve_conf-clause-source_fault g c = λ three. absurd (not_unread c.in-Err-serve_conf.ending c.in-Err-serve_conf.ensures.ends three)
-
-pub returns-in-Err-serve_conf-clause-refused : goal.returns-in-Err-serve_conf-clause-refused
-returns-in-Err-serve_conf-clause-refused g c = λ one. absurd (not_refused c.in-Err-serve_conf.ending c.in-Err-serve_conf.ensures.ends one)
-
-pub returns-in-Err-serve_conf-clause-deaf : goal.returns-in-Err-serve_conf-clause-deaf
-returns-in-Err-serve_conf-clause-deaf g c = λ five.
-    not_listened (g.S.Source.left c.args.source.now) c.args.options.now c.args.asked.port c.in-Ok.conf (g.W.Words.stream c.args.rng.now) (g.W.Words.stream c.conf_asked.new.rng)
-    (g.F.Front.faults c.args.front.now) (g.F.Front.faults c.serve_conf.new.front) c.in-Ok.ensures.asked (c.in-Err-serve_conf.ensures.deaf five)
-
-pub returns-in-Err-serve_conf-clause-ends : goal.returns-in-Err-serve_conf-clause-ends
-returns-in-Err-serve_conf-clause-ends g c = serve_ends c.in-Err-serve_conf.ending c.in-Err-serve_conf.ensures.ends
+pub returns-in-Err-serve_conf-clause-cause : goal.returns-in-Err-serve_conf-clause-cause
+returns-in-Err-serve_conf-clause-cause g c =
+    serve_end c.args.options.now c.args.asked.port (g.S.Source.left c.args.source.now) c.in-Ok.conf (g.W.Words.stream c.args.rng.now) (g.W.Words.stream c.conf_asked.new.rng)
+    (g.F.Front.gave c.serve_conf.new.front) (g.F.Front.is_deaf_at c.serve_conf.new.front) (g.F.Front.faults c.args.front.now) (g.F.Front.faults c.serve_conf.new.front)
+    (g.S.Source.faults c.args.source.now) (g.S.Source.faults c.conf_asked.new.source) c.in-Err-serve_conf.cause c.in-Ok.ensures.asked c.in-Err-serve_conf.ensures.cause
 
 pub returns-clause-done : goal.returns-clause-done
 returns-clause-done g c =

@@ -1,7 +1,11 @@
-use Rattle.std.proofs.Common.{Option, subst}
-use Rattle.zone_fetch_run.specs.Words.{WordsGive, nothing_said, said_whole}
-use Rattle.zone_fetch_run.specs.declared.command.Said.{Said}
+use Rattle.zone_fetch_run.proofs.Taken.{is_command, is_refused, not_said}
 use Rattle.zone_fetch_run.proofs.command.command_of.Goals as goal
 
-pub returns-in-Some : goal.returns-in-Some
-returns-in-Some c = said_whole c.in-Some.said (subst (λ (o : Option Said). WordsGive c.args.words.now nothing_said o) c.in-Some.is c.in_ok-said.ensures) c.command_in.ensures
+pub returns-in-Ok-command_in : goal.returns-in-Ok-command_in
+returns-in-Ok-command_in c = is_command c.args.words.now c.in-Ok.said c.in-Ok-command_in.command c.in-Ok.ensures c.in-Ok-command_in.ensures
+
+pub returns-in-Err-command_in : goal.returns-in-Err-command_in
+returns-in-Err-command_in c = is_refused c.args.words.now c.in-Ok.said c.in-Err-command_in.refusal c.in-Ok.ensures c.in-Err-command_in.ensures
+
+pub returns-in-Err : goal.returns-in-Err
+returns-in-Err c = not_said c.args.words.now c.in-Err.fault c.in-Err.ensures

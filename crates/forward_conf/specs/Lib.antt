@@ -1,0 +1,5 @@
+pub mod Causes
+pub mod Itself
+pub mod Reading
+pub mod Sentences
+pub mod Settings

@@ -1,0 +1,59 @@
+-- What a forwarder is made of, as the options say.
+use Rattle.std.specs.Prelude.{ℕ, Option, None, Some}
+use Rattle.std.specs.Ordering.{nat_cmp}
+use Rattle.client_request.specs.Limits.{limited}
+use Rattle.client_settings.specs.Settings.{CacheSettings, RedundantSettings, default_cache, default_redundant, seconds}
+use Rattle.command_parts.specs.Conf.{conf_at}
+use Rattle.forward_words.specs.declared.options.Options.{Options}
+use Rattle.forward_words.specs.declared.options.Policy.{Policy}
+use Rattle.forward_words.specs.declared.options.Policy.TheVariants.{Plain, Practice}
+use Rattle.resolv_conf.specs.declared.conf.ResolvConf.{ResolvConf}
+use Rattle.resolver_policy.specs.Practice as practice
+
+-- for how long an answer that has expired is given where that isn't said: a day in practice
+abbrev pub stale_by : Policy → ℕ
+stale_by Plain = 0
+stale_by Practice = 86400
+
+-- and for how long a failure is kept
+abbrev pub failure_by : Policy → ℕ
+failure_by Plain = 30
+failure_by Practice = 5
+
+-- what is said, or else this
+abbrev pub said_or : ℕ → Option ℕ → ℕ
+said_or n None = n
+said_or n (Some said) = said
+
+-- as by default, but for how many answers are kept, and for how long each kind of them
+abbrev pub cache_of : Options → CacheSettings
+cache_of o = record default_cache {
+  max_cache_entries = limited nat_cmp 1 1000000000 o.entries;
+  max_validity = limited nat_cmp (seconds 60) (seconds 6048000) (seconds o.max_ttl);
+  transport_failure_duration = limited nat_cmp (seconds 1) (seconds 300) (seconds (said_or (failure_by o.policy) o.failure));
+  misc_error_duration = limited nat_cmp (seconds 1) (seconds 300) (seconds (said_or (failure_by o.policy) o.failure));
+  max_nxdomain_validity = limited nat_cmp (seconds 60) (seconds 86400) (seconds o.max_negative_ttl);
+  max_nodata_validity = limited nat_cmp (seconds 60) (seconds 86400) (seconds o.max_negative_ttl);
+  stale_for = limited nat_cmp (seconds 0) (seconds 604800) (seconds (said_or (stale_by o.policy) o.stale));
+}
+
+-- which results of one server are put off
+abbrev pub choice_of : Policy → RedundantSettings
+choice_of Plain = default_redundant
+choice_of Practice = practice.practical_choice
+
+-- the configuration whose servers are asked, of one that was read
+abbrev pub conf_by : Policy → (words : ℕ → ℕ) → ResolvConf → ResolvConf
+conf_by Plain words conf = conf
+conf_by Practice words conf = practice.practical words conf
+
+abbrev pub conf_of : Options → (words : ℕ → ℕ) → ResolvConf → ResolvConf
+conf_of o words conf = conf_by o.policy words (conf_at o.port conf)
+
+-- the words that are left then
+abbrev pub left_by : Policy → (words : ℕ → ℕ) → ResolvConf → ℕ → ℕ
+left_by Plain words conf = words
+left_by Practice words conf = practice.words_left words conf
+
+abbrev pub words_left : Options → (words : ℕ → ℕ) → ResolvConf → ℕ → ℕ
+words_left o words conf = left_by o.policy words (conf_at o.port conf)

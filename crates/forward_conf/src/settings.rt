@@ -1,0 +1,87 @@
+//! What a forwarder is made of, as the options say.
+
+ghost use Rattle.std.specs.Prelude.{◌≡◌, IfOk};
+ghost use Rattle.forward_conf.specs.Settings as spec;
+
+use client_request::Words;
+use client_settings::{cache, redundant};
+use command_parts::conf_at;
+use dns_base::{Duration, NoMemory};
+use forward_words::{Options, Policy};
+use resolv_conf::ResolvConf;
+use resolver_policy::{practical, practical_choice};
+use std::alloc::Global;
+
+/// For how long an answer that has expired is given in practice where the servers fail, in seconds: a day (RFC 8767 5).
+const STALE: u64 = 86_400;
+
+/// For how long a failure is kept in practice, in seconds (RFC 9520 3.2).
+const FAILURE: u64 = 5;
+
+/// The same by the client's own settings.
+const CLIENT_FAILURE: u64 = 30;
+
+/// For how long an answer that has expired is given, where that isn't said.
+fn stale_by(policy: Policy) -> u64
+    ensures { result ≡ spec.stale_by policy }
+{
+    match policy {
+        Policy::Plain => 0,
+        Policy::Practice => STALE,
+    }
+}
+
+/// For how long a failure is kept, where that isn't said.
+fn failure_by(policy: Policy) -> u64
+    ensures { result ≡ spec.failure_by policy }
+{
+    match policy {
+        Policy::Plain => CLIENT_FAILURE,
+        Policy::Practice => FAILURE,
+    }
+}
+
+/// How the client's cache is set.
+pub fn cache_of(options: &Options) -> cache::Config
+    ensures { result ≡ spec.cache_of options.now }
+{
+    let stale = options.stale.unwrap_or(stale_by(options.policy));
+    let failure = options.failure.unwrap_or(failure_by(options.policy));
+    let negative = Duration::from_secs(options.max_negative_ttl);
+    let mut config = cache::Config::new();
+    config.set_max_cache_entries(options.entries);
+    config.set_max_validity(Duration::from_secs(options.max_ttl));
+    config.set_max_nxdomain_validity(negative);
+    config.set_max_nodata_validity(negative);
+    config.set_transport_failure_duration(Duration::from_secs(failure));
+    config.set_misc_error_duration(Duration::from_secs(failure));
+    config.set_stale_for(Duration::from_secs(stale));
+    config
+}
+
+/// How the client chooses among servers.
+pub fn choice_of(policy: Policy) -> redundant::Config
+    ensures { result ≡ spec.choice_of policy }
+{
+    match policy {
+        Policy::Plain => redundant::Config::new(),
+        Policy::Practice => practical_choice(),
+    }
+}
+
+/// The configuration whose servers are asked, of the one that was read.
+pub(crate) fn conf_of<W: Words>(
+    alloc: Global,
+    options: &Options,
+    conf: ResolvConf,
+    random: &mut W,
+) -> Result<ResolvConf, NoMemory>
+    ensures conf { IfOk result (λ c. c ≡ spec.conf_of options.now (W.stream random.old) conf) }
+    ensures left { IfOk result (λ _. W.stream random.new ≡ spec.words_left options.now (W.stream random.old) conf) }
+{
+    let conf = conf_at(options.port, conf);
+    match options.policy {
+        Policy::Plain => Ok(conf),
+        Policy::Practice => practical(alloc, conf, random),
+    }
+}

@@ -1,0 +1,125 @@
+//! The options by their names, and the numbers that they take.
+
+ghost use Rattle.std.specs.Prelude.{◌≡◌, ◌≤◌};
+ghost use Rattle.forward_words.specs.Options.{kind_of, number_said, range_of};
+
+use crate::options::Options;
+
+/// The most answers that are kept.
+const MOST_ENTRIES: u64 = 1_000_000_000;
+
+/// The longest time for which an answer is given that has expired, in seconds: a week.
+const MOST_STALE: u64 = 604_800;
+
+/// The longest time for which a failure is kept, in seconds (RFC 9520 3.2).
+const MOST_FAILURE: u64 = 300;
+
+/// The least time for which an answer may be kept at most, in seconds.
+const LEAST_TTL: u64 = 60;
+
+/// The longest time for which an answer is kept, in seconds: ten weeks.
+const MOST_TTL: u64 = 6_048_000;
+
+/// The longest time for which it is kept that something is not there, in seconds: a day.
+const MOST_NEGATIVE_TTL: u64 = 86_400;
+
+/// The longest time between two lines, in seconds: a day.
+const MOST_STATUS: u64 = 86_400;
+
+/// The most threads that answer datagrams at one address.
+const MOST_WORKERS: u64 = 64;
+
+/// What an option says.
+#[derive(Clone, Copy)]
+pub(crate) enum Kind {
+    /// An address that is listened.
+    Listen,
+    /// How servers are asked.
+    Policy,
+    /// A number.
+    Number(Number),
+}
+
+/// What a number says.
+#[derive(Clone, Copy)]
+pub(crate) enum Number {
+    /// The port of all servers.
+    Port,
+    /// How many answers are kept.
+    Entries,
+    /// For how long an answer is given that has expired.
+    Stale,
+    /// For how long a failure is kept.
+    Failure,
+    /// For how long an answer is kept at most.
+    MaxTtl,
+    /// For how long it is kept at most that something is not there.
+    MaxNegativeTtl,
+    /// How often it is told how much was done.
+    Status,
+    /// How many threads answer datagrams.
+    Workers,
+}
+
+/// The numbers from the least to the greatest.
+#[derive(Clone, Copy)]
+pub(crate) struct NumberRange {
+    pub(crate) least: u64,
+    pub(crate) greatest: u64,
+}
+
+/// What the option of this name says.
+#[tactic(auto, unfolding(crate::specs::Options::kind_of))]
+pub(crate) fn kind_of(name: &str) -> Option<Kind>
+    ensures { result ≡ kind_of name.now }
+{
+    match name {
+        "--listen" => Some(Kind::Listen),
+        "--policy" => Some(Kind::Policy),
+        "--port" => Some(Kind::Number(Number::Port)),
+        "--entries" => Some(Kind::Number(Number::Entries)),
+        "--stale" => Some(Kind::Number(Number::Stale)),
+        "--failure" => Some(Kind::Number(Number::Failure)),
+        "--max-ttl" => Some(Kind::Number(Number::MaxTtl)),
+        "--max-negative-ttl" => Some(Kind::Number(Number::MaxNegativeTtl)),
+        "--status" => Some(Kind::Number(Number::Status)),
+        "--workers" => Some(Kind::Number(Number::Workers)),
+        _ => None,
+    }
+}
+
+/// Which numbers an option takes.
+pub(crate) fn range_of(number: Number) -> NumberRange
+    ensures { result ≡ range_of number }
+{
+    let (least, greatest) = match number {
+        Number::Port => (1, 65535),
+        Number::Entries => (1, MOST_ENTRIES),
+        Number::Stale => (0, MOST_STALE),
+        Number::Failure => (1, MOST_FAILURE),
+        Number::MaxTtl => (LEAST_TTL, MOST_TTL),
+        Number::MaxNegativeTtl => (LEAST_TTL, MOST_NEGATIVE_TTL),
+        Number::Status => (1, MOST_STATUS),
+        Number::Workers => (1, MOST_WORKERS),
+    };
+    NumberRange { least, greatest }
+}
+
+impl Options {
+    /// Says a number that the option takes.
+    pub(crate) fn say(&mut self, number: Number, n: u64)
+        requires { n ≤ (range_of number).greatest }
+        ensures { self.new ≡ number_said number n self.old }
+    {
+        match number {
+            Number::Port => self.port = Some(n as u16),
+            Number::Entries => self.entries = n,
+            Number::Stale => self.stale = Some(n),
+            Number::Failure => self.failure = Some(n),
+            Number::MaxTtl => self.max_ttl = n,
+            Number::MaxNegativeTtl => self.max_negative_ttl = n,
+            Number::Status => self.status = Some(n),
+            Number::Workers => self.workers = n,
+        }
+    }
+}

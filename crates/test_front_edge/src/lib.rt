@@ -1,7 +1,0 @@
-//! A test of a forwarder's front over the system's sockets: DNS clients on this host ask by a datagram and by a stream.
-#![tactic(auto)]
-
-#[cfg(test)]
-mod loopback;
-#[cfg(test)]
-mod serving;

@@ -1,9 +1,0 @@
-//! A test of the program's query over the system's sockets: a server on this host that truncates by datagram and answers by stream.
-#![tactic(auto)]
-
-#[cfg(test)]
-mod asking;
-#[cfg(test)]
-mod loopback;
-#[cfg(test)]
-mod servers;

@@ -1,0 +1,3 @@
+//! Tests of a history that several threads make.
+
+mod notes;

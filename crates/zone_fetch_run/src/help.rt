@@ -1,0 +1,77 @@
+//! What the program tells of itself.
+
+ghost use Rattle.std.specs.Prelude.{◌≡◌, ◌⊎◌, IfOk};
+ghost use Rattle.std.specs.String.{string_bytes};
+ghost use Rattle.command_parts.specs.Ends.{IsSaid};
+ghost use Rattle.dns_values.specs.Sink.{IsFlushed, with_octets};
+ghost use Rattle.dns_values.specs.Source.{Rose};
+ghost use Rattle.zone_fetch_run.specs.Pages.{page_text};
+ghost use Rattle.zone_fetch_run.specs.Sentences.{unwritten_sentence};
+
+use crate::explaining::{tell_no_memory, tell_written};
+use command_parts::deliver;
+use dns_base::{NoMemory, Sink, Status};
+use program_words::{Page, version_line};
+use std::alloc::Global;
+
+/// The words and statuses, as they are told to who asks for help.
+const HELP: &str = "\
+usage: zone_fetch [--text] [--port P] [--most OCTETS] [--from FILE] ZONE ADDRESS
+       zone_fetch --help | --version
+
+Asks a name server for a zone by stream (AXFR), and prints it, a record a line, sorted, once all of it is there.
+
+  ZONE            the zone's name; the final dot may be left out
+  ADDRESS         the server, an address alone, IPv4 or IPv6
+  --text          print in the form that name servers load, OWNER TTL CLASS TYPE \\# LENGTH HEX;
+                  without it a line is OWNER TTL CLASS TYPE HEX, the class and the type as numbers
+  --port P        ask at this port, from 1 to 65535, in place of 53
+  --most OCTETS   refuse a zone whose records are reckoned to take more memory, 1000000000 octets without it
+  --from FILE     FILE has the zone as it was printed before without --text: ask for its changes alone (IXFR)
+
+Options stand before the zone, and the last of each counts.
+
+Exit status:
+  0  the zone was printed whole
+  1  FILE has no zone that was printed without --text
+  2  the words are no command
+  3  FILE could not be read
+  4  standard output failed
+  5  the zone was not fetched
+  6  memory ran out, or no random words could be had
+  7  a number would pass 64 bits
+On each but 0 a sentence on standard error says why.
+";
+
+/// What is told.
+fn page_text(alloc: Global, page: Page) -> Result<String, NoMemory>
+    ensures { IfOk result (λ s. string_bytes s ≡ page_text HELP.now page) }
+{
+    match page {
+        Page::Help => Ok(String::from_str(alloc, HELP)?),
+        Page::Version => version_line(alloc, "zone_fetch"),
+    }
+}
+
+/// Writes the words and statuses, or the release, and answers the exit status: 0, or why it was not written whole, which a sentence to
+/// `errors` says.
+pub fn tell_page<K: Sink, L: Sink>(
+    alloc: Global,
+    page: Page,
+    sink: &mut K,
+    errors: &mut L,
+) -> Status
+    ensures statuses { (result.0 ≡ 0) ⊎ ((result.0 ≡ 4) ⊎ (result.0 ≡ 6)) }
+    ensures done { result.0 ≡ 0 → K.held sink.new ≡ with_octets (page_text HELP.now page) (K.held sink.old) }
+    ensures flushed { result.0 ≡ 0 → IsFlushed (K.held sink.new) (K.flushed sink.new) }
+    ensures quiet { result.0 ≡ 0 → L.held errors.new ≡ L.held errors.old }
+    ensures sink_fault { result.0 ≡ 4 → Rose (K.faults sink.old) (K.faults sink.new) }
+{
+    match page_text(alloc, page) {
+        Ok(text) => {
+            let status = deliver(sink, text.as_bytes());
+            tell_written(status, errors)
+        }
+        Err(NoMemory) => tell_no_memory(errors),
+    }
+}

@@ -1,0 +1,131 @@
+#!/usr/bin/env python3
+"""Has `zone_fetch` and `dns_lookup` end in each way that a test can bring about, and compares what they say.
+
+usage: python3 tests/tell_ends.py ZONE_FETCH DNS_LOOKUP
+
+On status 0 nothing stands on standard error, on every other one sentence there names the cause, and nothing else is written. It needs a `/dev/full`, and servers on loopback that it opens itself.
+"""
+
+import pathlib
+import re
+import socket
+import struct
+import subprocess
+import sys
+import tempfile
+import threading
+
+TOP = pathlib.Path(__file__).resolve().parent.parent
+RELEASE = re.search(r'RELEASE: &str = "([^"]+)"', (TOP / "crates/program_words/src/release.rt").read_text(encoding="utf-8")).group(1)
+
+faults = []
+
+
+def ran(program, words, out=subprocess.PIPE):
+    done = subprocess.run([program, *words], stdout=out, stderr=subprocess.PIPE, stdin=subprocess.DEVNULL, timeout=120)
+    return done.returncode, (done.stdout or b"").decode(), done.stderr.decode()
+
+
+def expect(what, got, wanted):
+    if got != wanted:
+        faults.append(f"{what}:\n  {got}\n  and not\n  {wanted}")
+
+
+def serve(answer):
+    """A server of streams at a free port that does this with each."""
+    listener = socket.create_server(("127.0.0.1", 0))
+
+    def go():
+        while True:
+            stream, _ = listener.accept()
+            with stream:
+                length = struct.unpack("!H", stream.recv(2, socket.MSG_WAITALL))[0]
+                answer(stream, stream.recv(length, socket.MSG_WAITALL))
+
+    threading.Thread(target=go, daemon=True).start()
+    return listener.getsockname()[1]
+
+
+def refuse(code):
+    def answer(stream, query):
+        reply = query[:2] + bytes([0x84, code]) + query[4:6] + bytes(6) + query[12:]
+        stream.sendall(struct.pack("!H", len(reply)) + reply)
+    return answer
+
+
+def pages(program):
+    name = pathlib.PurePath(program).name
+    for word, begins in (("--help", f"usage: {name} "), ("--version", f"{name} {RELEASE} (proved with Rattle's logic ")):
+        status, out, said = ran(program, [word])
+        expect(f"{name} {word}", (status, out.startswith(begins), out.endswith("\n"), said), (0, True, True, ""))
+        with open("/dev/full", "wb") as full:
+            expect(f"{name} {word} to a full device", ran(program, [word], full), (4, "", f"{name}: writing to standard output failed\n"))
+
+
+def fetches(program, folder):
+    see = "; see zone_fetch --help\n"
+    for words, said in (
+        ([], "no zone is asked for"),
+        (["--port"], "no port stands behind --port"),
+        (["--most"], "no count of octets stands behind --most"),
+        (["--from"], "no file stands behind --from"),
+        (["--port", "0", "a.test", "127.0.0.1"], "0 is no port from 1 to 65535"),
+        (["--port", "65536", "a.test", "127.0.0.1"], "65536 is no port from 1 to 65535"),
+        (["--most", "+1", "a.test", "127.0.0.1"], "+1 is no count of octets"),
+        (["a..test", "127.0.0.1"], "a..test is neither an option nor the name of a zone"),
+        (["a.test"], "no address of a server stands behind the zone"),
+        (["a.test", "ns.a.test"], "ns.a.test stands behind the zone a.test, where the server must, and is no address"),
+        (["--port=53", "a.test", "127.0.0.1"], "a.test stands behind the zone --port=53, where the server must, and is no address"),
+        (["a.test", "::1", "--text"], "--text stands behind the server's address, where no word may"),
+        (["--help", "--help"], "--help stands behind the zone --help, where the server must, and is no address"),
+    ):
+        expect(words, ran(program, words), (2, "", f"zone_fetch: {said}{see}"))
+    file = folder / "before"
+    expect("no file", ran(program, ["--from", str(file), "a.test", "127.0.0.1"]), (3, "", f"zone_fetch: {file} could not be read\n"))
+    file.write_text("a.test 1 1 1\n")
+    said = f"zone_fetch: {file}: no printed zone: line 1: fewer than five words\n"
+    expect("a bad file", ran(program, ["--from", str(file), "a.test", "127.0.0.1"]), (1, "", said))
+    with socket.create_server(("127.0.0.1", 0)) as closed:
+        port = closed.getsockname()[1]
+    at = lambda port: ["--port", str(port), "a.test", "127.0.0.1"]
+    left = lambda port, why: (5, "", f"zone_fetch: a.test from 127.0.0.1:{port}: {why}\n")
+    expect("a closed port", ran(program, at(port)), left(port, "failed connect: connection refused"))
+    for code, name in ((2, "SERVFAIL"), (5, "REFUSED"), (9, "NOTAUTH")):
+        port = serve(refuse(code))
+        expect(name, ran(program, at(port)), left(port, f"failed refused: the server answered {name}"))
+    port = serve(lambda stream, query: stream.sendall(b"\x00\x64" + query[:20]))
+    expect("a cut stream", ran(program, at(port))[:2], left(port, "")[:2])
+    expect("a cut stream", ran(program, at(port))[2].startswith(f"zone_fetch: a.test from 127.0.0.1:{port}: failed transport: "), True)
+
+
+def lookups(program):
+    see = "; see dns_lookup --help\n"
+    for words, said in (
+        ([], "no name is asked for"),
+        (["-p"], "no port stands behind -p"),
+        (["-x"], "no address stands behind -x"),
+        (["-h"], "-h is no option"),
+        (["a.test", "IN", "A"], "IN is neither a known type nor TYPE with a number"),
+        (["a.test", "b.test"], "b.test is neither a known type nor TYPE with a number"),
+        (["a.test", "AXFR"], "AXFR is no type that one message answers"),
+        (["a.test", "A", "AAAA"], "AAAA is one word too many"),
+        (["@localhost", "a.test"], "@localhost names no server, which only an address does"),
+    ):
+        expect(words, ran(program, words), (2, "", f"dns_lookup: {said}{see}"))
+
+
+def main():
+    if len(sys.argv) != 3:
+        sys.exit(__doc__.split("\n\n", 2)[1])
+    fetch, lookup = sys.argv[1:]
+    for program in sys.argv[1:]:
+        pages(program)
+    with tempfile.TemporaryDirectory() as folder:
+        fetches(fetch, pathlib.Path(folder))
+    lookups(lookup)
+    print("\n".join(faults) or "each end is told")
+    sys.exit(1 if faults else 0)
+
+
+if __name__ == "__main__":
+    main()
