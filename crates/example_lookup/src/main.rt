@@ -13,11 +13,11 @@ use trouble::Trouble;
 
 type Resolver = StubResolver<SocketEdge<HostRuntime>, RealClock<HostRuntime>, RandWords<StdRng>>;
 
-/// The name of the host, where the command line has one.
-fn host_of(rt: HostRuntime) -> Result<Option<Name>, Trouble> {
+/// The name of the host that the command line has.
+fn host_of(rt: HostRuntime) -> Result<Name, Trouble> {
     match env::args(&rt)?.nth(1) {
-        Some(word) => Ok(Some(Name::from_text(rt.alloc(), word.as_str())?)),
-        None => Ok(None),
+        Some(word) => Ok(Name::from_text(rt.alloc(), word.as_str())?),
+        None => Err(Trouble::Usage("example_lookup NAME")),
     }
 }
 
@@ -49,10 +49,7 @@ fn print(
     clock: RealClock<HostRuntime>,
     words: RandWords<StdRng>,
 ) -> Result<(), Trouble> {
-    let Some(host) = host_of(rt)? else {
-        println!(rt; "usage: example_lookup NAME")?;
-        return Ok(());
-    };
+    let host = host_of(rt)?;
     for address in find(rt.alloc(), files, edge, clock, words, &host)?.iter() {
         println!(rt; "{address}")?;
     }

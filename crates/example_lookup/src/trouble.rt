@@ -8,6 +8,8 @@ use stub_resolver::HostFault;
 /// Why the program ends early.
 #[derive(Debug, Drop)]
 pub enum Trouble {
+    /// There is no word: these must stand there.
+    Usage(&'static str),
     /// The command line, standard output or the system's random words failed.
     Io(io::Error),
     /// The word is no name.

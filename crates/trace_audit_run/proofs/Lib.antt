@@ -1,2 +1,4 @@
 pub mod Answering
+pub mod Ended
 pub mod Missing
+pub mod Stopping

@@ -1,4 +1,7 @@
 pub mod Lines
 pub mod Words
 pub mod Missed
+pub mod Stops
+pub mod Sentences
 pub mod Program
+pub mod Ends

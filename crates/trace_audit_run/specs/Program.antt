@@ -1,10 +1,10 @@
 -- What the program says of the texts of a script and of a trace.
-use Rattle.std.specs.Prelude.{◌≡◌, ◌⊎◌, ◌<◌, ◌≤◌, ◌++◌, ℕ, true, false, List, [], length, Option, Some, None, Result, Ok, Err}
+use Rattle.std.specs.Prelude.{◌≡◌, ◌⊎◌, ◌<◌, ◌≤◌, ◌++◌, ℕ, true, false, List, [], length, Option, Some, None, Result, Ok, Err, IfSome}
 use Rattle.std.specs.declared.alloc.Global.{Global}
 use Rattle.std.specs.declared.vec.Vec.{Vec}
 use Rattle.client_request.specs.declared.event.Row.{Row}
-use Rattle.command_parts.specs.declared.ending.Ending.{Ending}
-use Rattle.command_parts.specs.Ends.{IsEarly, IsSaid, line_of, status_of}
+use Rattle.command_parts.specs.Ends.{IsSaid}
+use Rattle.dns_values.specs.Source.{Rose}
 use Rattle.dns_script.specs.ScriptReading.{IsScript, RefusesLine}
 use Rattle.dns_script.specs.TraceReading.{IsTrace, RefusesTraceLine}
 use Rattle.dns_script.specs.declared.script.Script.{Script}
@@ -15,6 +15,10 @@ use Rattle.trace_judge.specs.declared.verdict.Clause.{Clause}
 use Rattle.trace_judge.specs.declared.verdict.Verdict.TheVariants.{Right, Wrong}
 use Rattle.trace_timely.specs.Timely.{IsUntimely}
 use Rattle.trace_audit_run.specs.declared.missed.Missed.{Missed}
+use Rattle.trace_audit_run.specs.declared.stop.Stop.{Stop}
+use Rattle.trace_audit_run.specs.declared.stop.Stop.TheVariants.{Line, Long, NoMemory, Unread}
+use Rattle.trace_audit_run.specs.declared.stop.Text.{Text}
+use Rattle.trace_audit_run.specs.declared.stop.Text.TheVariants as texts
 use Rattle.trace_audit_run.specs.declared.texts.Answer.{Answer}
 use Rattle.trace_audit_run.specs.declared.words.Asked.{Asked}
 use Rattle.trace_audit_run.specs.Missed.{IsMissed, nothing}
@@ -29,23 +33,28 @@ abbrev pub IsRead : (most : ℕ) → (text : List ℕ) → Option (Vec ℕ Globa
 IsRead most text None = most < length text
 IsRead most text (Some v) = (v.items ≡ text) × (length text ≤ most)
 
--- it ends by this line, unless memory ran out
-pub record EndsBy (line : List ℕ) (e : Ending) : Type 0 where
-  pub status : (status_of e ≡ 1) ⊎ (status_of e ≡ 6)
-  pub early : IsEarly e
-  pub line_is : status_of e ≡ 1 → line_of e ≡ line
+-- a text can't be read, whose count of faults rose, or memory ran out
+abbrev pub IsUnread : Text → (faults faults_after : ℕ) → Stop → Type 0
+IsUnread text faults faults_after (Unread that) = (that ≡ text) × Rose faults faults_after
+IsUnread text faults faults_after NoMemory = Unit {0}
+IsUnread text faults faults_after (Long that) = ⊥
+IsUnread text faults faults_after (Line that n) = ⊥
 
--- it ends since a line is refused, unless memory ran out
-pub record RefusesBy (Refuses : ℕ → Type 0) (line : ℕ → List ℕ) (e : Ending) : Type 0 where
-  pub status : (status_of e ≡ 1) ⊎ (status_of e ≡ 6)
-  pub early : IsEarly e
-  pub refused : status_of e ≡ 1 → (n : ℕ) × Refuses n × (line_of e ≡ line n)
+-- a line of the script is refused, or memory ran out
+abbrev pub RefusesScript : (text : List ℕ) → Stop → Type 0
+RefusesScript text (Line texts.Script n) = RefusesLine false text n
+RefusesScript text (Line texts.Trace n) = ⊥
+RefusesScript text NoMemory = Unit {0}
+RefusesScript text (Long that) = ⊥
+RefusesScript text (Unread that) = ⊥
 
-abbrev pub RefusesScript : (text : List ℕ) → Ending → Type 0
-RefusesScript text e = RefusesBy (RefusesLine false text) script_line e
-
-abbrev pub RefusesTrace : (text : List ℕ) → Ending → Type 0
-RefusesTrace text e = RefusesBy (RefusesTraceLine text) trace_line e
+-- or one of the trace
+abbrev pub RefusesTrace : (text : List ℕ) → Stop → Type 0
+RefusesTrace text (Line texts.Trace n) = RefusesTraceLine text n
+RefusesTrace text (Line texts.Script n) = ⊥
+RefusesTrace text NoMemory = Unit {0}
+RefusesTrace text (Long that) = ⊥
+RefusesTrace text (Unread that) = ⊥
 
 -- what is said of the rows of a trace by a script: its verdict, which row is the first that is not timely, what a right one misses, and what is missing at the row that is told, where that is asked
 pub record IsAnswer (asked : Asked) (script : Script) (rows : List Row) (said : Answer) : Type 0 where
@@ -77,18 +86,51 @@ pub data IsRefused (a b line : List ℕ) : Type 0 where
   long_trace : (script : Script) → length a ≤ 16777216 → IsScript false a script → 1073741824 < length b → line ≡ long_line → IsRefused a b line
   bad_trace : (script : Script) (n : ℕ) → length a ≤ 16777216 → IsScript false a script → length b ≤ 1073741824 → RefusesTraceLine b n → line ≡ trace_line n → IsRefused a b line
 
-pub record IsEnd (a b : List ℕ) (e : Ending) : Type 0 where
-  pub status : (status_of e ≡ 1) ⊎ (status_of e ≡ 6)
-  pub early : IsEarly e
-  pub refused : status_of e ≡ 1 → IsRefused a b (line_of e)
+-- The script is taken.
+pub record IsTaken (a : List ℕ) : Type 0 where
+  pub fits : length a ≤ 16777216
+  pub script : Script
+  pub is_script : IsScript false a script
 
-abbrev pub IsResult : (asked : Asked) (a b : List ℕ) → Result Answer Ending → Type 0
+-- why nothing is said: a text is too long, or a line of it is refused; the trace is looked at only where the script is taken
+abbrev pub IsStop : (a b : List ℕ) → Stop → Type 0
+IsStop a b (Long texts.Script) = 16777216 < length a
+IsStop a b (Line texts.Script n) = (length a ≤ 16777216) × RefusesLine false a n
+IsStop a b (Long texts.Trace) = IsTaken a × (1073741824 < length b)
+IsStop a b (Line texts.Trace n) = IsTaken a × ((length b ≤ 1073741824) × RefusesTraceLine b n)
+IsStop a b (Unread text) = Unit {0}
+IsStop a b NoMemory = Unit {0}
+
+-- The text at which it stopped, if it could not be read, has a count of faults that rose.
+abbrev pub RoseAt : (faults faults_after of_trace of_trace_after : ℕ) → Stop → Type 0
+RoseAt faults faults_after of_trace of_trace_after (Unread texts.Script) = Rose faults faults_after
+RoseAt faults faults_after of_trace of_trace_after (Unread texts.Trace) = Rose of_trace of_trace_after
+RoseAt faults faults_after of_trace of_trace_after (Long text) = Unit {0}
+RoseAt faults faults_after of_trace of_trace_after (Line text n) = Unit {0}
+RoseAt faults faults_after of_trace of_trace_after NoMemory = Unit {0}
+
+-- It stopped at texts that were read.
+abbrev pub IsNoFault : Stop → Type 0
+IsNoFault (Unread text) = ⊥
+IsNoFault (Long text) = Unit {0}
+IsNoFault (Line text n) = Unit {0}
+IsNoFault NoMemory = Unit {0}
+
+abbrev pub IsResult : (asked : Asked) (a b : List ℕ) → Result Answer Stop → Type 0
 IsResult asked a b (Ok said) = IsAudited asked a b said
-IsResult asked a b (Err e) = IsEnd a b e
+IsResult asked a b (Err stop) = IsStop a b stop
 
 -- of each two texts that were read so
-abbrev pub Answers : (asked : Asked) (script trace : Option (Vec ℕ Global)) → Result Answer Ending → Type 0
+abbrev pub Answers : (asked : Asked) (script trace : Option (Vec ℕ Global)) → Result Answer Stop → Type 0
 Answers asked script trace r = (a b : List ℕ) → IsRead 16777216 a script → IsRead 1073741824 b trace → IsResult asked a b r
+
+-- of each trace that was read so, by a script that was taken
+abbrev pub JudgesIn : (asked : Asked) (script : Script) (trace : Option (Vec ℕ Global)) → Result Answer Stop → Type 0
+JudgesIn asked script trace r = (a b : List ℕ) → length a ≤ 16777216 → IsScript false a script → IsRead 1073741824 b trace → IsResult asked a b r
+
+-- what holds of the texts that two sources give, where that is told
+abbrev pub over : {S T : Type 0} → (S → Option (List ℕ)) → (T → Option (List ℕ)) → S → T → (List ℕ → List ℕ → Type 0) → Type 0
+over left left' script trace P = IfSome (left script) (λ a. IfSome (left' trace) (λ b. P a b))
 
 -- nothing is missed
 pub record MissesNone (m : Missed) : Type 0 where

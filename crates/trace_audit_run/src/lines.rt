@@ -13,27 +13,8 @@ pub(crate) const USAGE_LINE: &str = "usage: trace_audit SCRIPT TRACE\n";
 /// What is written where a trace is right.
 pub(crate) const RIGHT_LINE: &str = "right\n";
 
-/// What is written where a text is too long.
-pub(crate) const LONG_LINE: &str = "input too long\n";
-
-/// A line of the script is refused.
-pub(crate) fn script_line(alloc: Global, line: u64) -> Result<Vec<u8>, AllocError>
-    ensures { IfOk result (λ v. v.items ≡ plain.script_line line) }
-{
-    let text = format!(in alloc; "script line {line} refused\n")?;
-    Vec::from_slice(alloc, text.as_bytes())
-}
-
-/// A line of the trace is refused.
-pub(crate) fn trace_line(alloc: Global, line: u64) -> Result<Vec<u8>, AllocError>
-    ensures { IfOk result (λ v. v.items ≡ plain.trace_line line) }
-{
-    let text = format!(in alloc; "trace line {line} refused\n")?;
-    Vec::from_slice(alloc, text.as_bytes())
-}
-
 /// How a clause is called: `Events`, or `H1` to `H5` in the order in which they are asked.
-fn name_of(clause: Clause) -> &'static str
+pub(crate) fn name_of(clause: Clause) -> &'static str
     ensures { result.now ≡ plain.name_of clause }
 {
     match clause {

@@ -1,22 +1,27 @@
 //! What the program does, over two sources and a sink.
 
-ghost use Rattle.std.specs.Prelude.{◌≡◌, ◌++◌, ◌⊎◌, ◌<◌, false, IfSome};
+ghost use Rattle.std.specs.Prelude.{◌≡◌, ◌≢◌, ◌++◌, ◌⊎◌, ◌<◌, false, IfSome};
 ghost use Rattle.dns_values.specs.Source.{Rose};
 ghost use Rattle.dns_values.specs.Sink.{IsFlushed, with_octets};
 ghost use Rattle.command_parts.specs.Ends.{IsBegun, IsSaid};
 ghost use Rattle.trace_judge.specs.declared.verdict.Clause.{Clause};
+ghost use Rattle.trace_audit_run.specs.Ends.{EndsBySentence};
 ghost use Rattle.trace_audit_run.specs.Lines.{missed_hit_line, missed_stale_line, right_line, untimely_line, usage_line, wrong_line};
 ghost use Rattle.trace_audit_run.specs.Program as plain;
+ghost use Rattle.trace_audit_run.specs.Sentences.{answer_sentence, unwritten_sentence};
 ghost use Rattle.trace_audit_run.specs.Words.{are_two, asked_by, names_among};
 
+use crate::explaining::{tell_no_memory, tell_stop, tell_usage, tell_written_answer};
 use crate::lines::{
     RIGHT_LINE, USAGE_LINE, missed_hit_line, missed_stale_line, untimely_line, wrong_line,
 };
 use crate::missed::Missed;
+use crate::sentences::answer_sentence;
+use crate::stop::end_at;
 use crate::texts::{Answer, judged_texts};
 use crate::words::{asked_by, names_among};
 use command_parts::statuses::{NO_MEMORY, NO_REPLY, USAGE};
-use command_parts::{Ending, deliver, end_by};
+use command_parts::{deliver, end_by};
 use dns_base::Status;
 use dns_values::{Sink, Source};
 use std::alloc::Global;
@@ -112,6 +117,33 @@ fn tell<K: Sink>(alloc: Global, sink: &mut K, answer: Answer) -> Status
     }
 }
 
+/// Tells what is said of a trace, and why that is not `right`.
+fn tell_answer<K: Sink, L: Sink>(
+    alloc: Global,
+    names: &[String],
+    answer: Answer,
+    sink: &mut K,
+    errors: &mut L,
+) -> Status
+    ensures good { result.0 ≡ 0 → plain.IsGood answer }
+    ensures done { result.0 ≡ 0 → K.held sink.new ≡ with_octets right_line (K.held sink.old) }
+    ensures flushed { result.0 ≡ 0 → IsFlushed (K.held sink.new) (K.flushed sink.new) }
+    ensures quiet { result.0 ≡ 0 → L.held errors.new ≡ L.held errors.old }
+    ensures no { result.0 ≡ 5 → plain.NoIsSaid answer (K.held sink.old) (K.held sink.new) (K.faults sink.old) (K.faults sink.new) }
+    ensures told { result.0 ≡ 5 → IsSaid (answer_sentence names.now answer) (L.held errors.old) (L.held errors.new) (L.faults errors.old) (L.faults errors.new) }
+    ensures sink_fault { result.0 ≡ 4 → Rose (K.faults sink.old) (K.faults sink.new) }
+    ensures cut { result.0 ≡ 4 → IsBegun right_line (K.held sink.old) (K.held sink.new) }
+    ensures said { result.0 ≡ 4 → IsSaid unwritten_sentence (L.held errors.old) (L.held errors.new) (L.faults errors.old) (L.faults errors.new) }
+    ensures handed_on { result.0 ≢ 0 → result.0 ≢ 6 → IsFlushed (L.held errors.new) (L.flushed errors.new) ⊎ Rose (L.faults errors.old) (L.faults errors.new) }
+    ensures others { (result.0 ≡ 0) ⊎ ((result.0 ≡ 4) ⊎ ((result.0 ≡ 5) ⊎ (result.0 ≡ 6))) }
+{
+    let Ok(sentence) = answer_sentence(alloc, names, &answer) else {
+        return tell_no_memory(errors);
+    };
+    let status = tell(alloc, sink, answer);
+    tell_written_answer(status, sentence.as_bytes(), errors)
+}
+
 /// Whether the words are two, which name a script and a trace.
 fn are_two(words: &[String]) -> bool
     ensures { result ≡ are_two words.now }
@@ -154,7 +186,32 @@ pub fn run_audit<S: Source, T: Source, K: Sink>(
     }
     match judged_texts(alloc, asked_by(words), script, trace) {
         Ok(answer) => tell(alloc, sink, answer),
-        Err(Ending::Silent(status)) => status,
-        Err(Ending::Says(status, line)) => end_by(sink, status, &line),
+        Err(stop) => end_at(alloc, sink, stop),
+    }
+}
+
+/// Does the same as `run_audit`, and tells why in a sentence to `errors` where the status is another than 0: which word is missing, or stands
+/// where none may; which file is too long, can't be read, or has a line that is refused, and which line; which trace is not right, and
+/// in which row; or that the sink failed, or memory ran out. A fault of `errors` changes no status.
+pub fn audit_to<S: Source, T: Source, K: Sink, L: Sink>(
+    alloc: Global,
+    words: &[String],
+    script: &mut S,
+    trace: &mut T,
+    sink: &mut K,
+    errors: &mut L,
+) -> Status
+    ensures ends { EndsBySentence S.left S.faults T.left T.faults K.held K.faults L.held L.faults words.now result.0 (script.old, trace.old, sink.old, errors.old) (script.new, trace.new, sink.new, errors.new) }
+    ensures no_words { are_two (names_among words.now) ≡ false → (result.0 ≡ 2) ⊎ (result.0 ≡ 6) }
+    ensures flushed { result.0 ≡ 0 → IsFlushed (K.held sink.new) (K.flushed sink.new) }
+    ensures handed_on { result.0 ≢ 0 → result.0 ≢ 6 → IsFlushed (L.held errors.new) (L.flushed errors.new) ⊎ Rose (L.faults errors.old) (L.faults errors.new) }
+{
+    let names = names_among(words);
+    if !are_two(names) {
+        return tell_usage(alloc, names, sink, errors);
+    }
+    match judged_texts(alloc, asked_by(words), script, trace) {
+        Ok(answer) => tell_answer(alloc, names, answer, sink, errors),
+        Err(stop) => tell_stop(alloc, names, stop, sink, errors),
     }
 }

@@ -1,8 +1,6 @@
 //! The texts of a script and of a trace, and what is said of them.
 
-ghost use Rattle.std.specs.Prelude.{◌≡◌, ◌≢◌, ◌⊎◌, ℕ, List, [], None, false, true, IfOk, IfErr, IfSome, MatchResult};
-ghost use Rattle.dns_values.specs.Source.{Rose};
-ghost use Rattle.command_parts.specs.Ends.{IsEarly, line_of, status_of};
+ghost use Rattle.std.specs.Prelude.{◌≡◌, [], None, false, true, IfOk, IfErr, IfSome, MatchResult};
 ghost use Rattle.dns_script.specs.ScriptReading.{IsScript};
 ghost use Rattle.dns_script.specs.TraceReading.{IsTrace};
 ghost use Rattle.trace_script.specs.Judged.{conf_of};
@@ -10,16 +8,14 @@ ghost use Rattle.trace_timely.specs.Timely.{IsUntimely};
 ghost use Rattle.trace_audit_run.specs.Program as plain;
 
 use crate::explained::explained;
-use crate::lines::{LONG_LINE, script_line, trace_line};
 use crate::missed::{Missed, missed_in};
+use crate::stop::{Stop, Text};
 use crate::timely::audit_timely;
 use crate::words::Asked;
 use client_request::Trace;
-use command_parts::statuses::{NO_MEMORY, REFUSED, SOURCE_FAULT};
-use command_parts::{Ending, says};
 use dns_script::{Script, ScriptFault, read_script, read_trace};
 use dns_values::{NoMemory, ReadFault, Source, read_to_end};
-use std::alloc::{AllocError, Global};
+use std::alloc::Global;
 use trace_judge::{Verdict, audit};
 
 /// The most octets that a script may have.
@@ -44,57 +40,39 @@ pub(crate) struct Answer {
 fn octets_of<S: Source>(
     alloc: Global,
     source: &mut S,
+    text: Text,
     most: usize,
-) -> Result<Option<Vec<u8>>, Ending>
-    ensures read { IfOk result (λ o. IfSome (S.left source.old) (λ text. plain.IsRead most text o)) }
-    ensures silent { IfErr result (λ e. (status_of e ≡ 3) ⊎ (status_of e ≡ 6)) }
-    ensures early { IfErr result IsEarly }
-    ensures source_fault { IfErr result (λ e. status_of e ≡ 3 → Rose (S.faults source.old) (S.faults source.new)) }
+) -> Result<Option<Vec<u8>>, Stop>
+    ensures read { IfOk result (λ o. IfSome (S.left source.old) (λ its. plain.IsRead most its o)) }
+    ensures unread { IfErr result (plain.IsUnread text (S.faults source.old) (S.faults source.new)) }
 {
     match read_to_end(alloc, source, most) {
         Ok(octets) => Ok(Some(octets)),
         Err(ReadFault::TooLong) => Ok(None),
-        Err(ReadFault::Failed) => Err(Ending::Silent(SOURCE_FAULT)),
-        Err(ReadFault::NoMemory) => Err(Ending::Silent(NO_MEMORY)),
+        Err(ReadFault::Failed) => Err(Stop::Unread(text)),
+        Err(ReadFault::NoMemory) => Err(Stop::NoMemory),
     }
-}
-
-/// How it ends where a line is refused.
-fn refused(line: Result<Vec<u8>, AllocError>) -> Ending
-    ensures { (its : List ℕ) → IfOk line (λ v. v.items ≡ its) → plain.EndsBy its result }
-{
-    match line {
-        Ok(line) => Ending::Says(REFUSED, line),
-        Err(_) => Ending::Silent(NO_MEMORY),
-    }
-}
-
-/// How it ends where a text is too long.
-fn too_long(alloc: Global) -> Ending
-    ensures { plain.EndsBy plain.long_line result }
-{
-    says(alloc, REFUSED, LONG_LINE)
 }
 
 /// The script of octets that were read.
-fn script_in(alloc: Global, text: &[u8]) -> Result<Script, Ending>
+fn script_in(alloc: Global, text: &[u8]) -> Result<Script, Stop>
     ensures { MatchResult result (λ script. IsScript false text.now script) (plain.RefusesScript text.now) }
 {
     match read_script(alloc, text, false) {
         Ok(script) => Ok(script),
-        Err(ScriptFault::Line(line)) => Err(refused(script_line(alloc, line))),
-        Err(ScriptFault::NoMemory) => Err(Ending::Silent(NO_MEMORY)),
+        Err(ScriptFault::Line(line)) => Err(Stop::Line(Text::Script, line)),
+        Err(ScriptFault::NoMemory) => Err(Stop::NoMemory),
     }
 }
 
 /// The trace of octets that were read.
-fn trace_in(alloc: Global, text: &[u8]) -> Result<Trace, Ending>
+fn trace_in(alloc: Global, text: &[u8]) -> Result<Trace, Stop>
     ensures { MatchResult result (λ trace. IsTrace text.now trace.rows) (plain.RefusesTrace text.now) }
 {
     match read_trace(alloc, text) {
         Ok(trace) => Ok(trace),
-        Err(ScriptFault::Line(line)) => Err(refused(trace_line(alloc, line))),
-        Err(ScriptFault::NoMemory) => Err(Ending::Silent(NO_MEMORY)),
+        Err(ScriptFault::Line(line)) => Err(Stop::Line(Text::Trace, line)),
+        Err(ScriptFault::NoMemory) => Err(Stop::NoMemory),
     }
 }
 
@@ -133,14 +111,30 @@ fn answered(alloc: Global, asked: Asked, script: &Script, trace: &Trace) -> Resu
 }
 
 /// What is said of a trace whose octets were read, by a script.
-fn judged_by(alloc: Global, asked: Asked, script: &Script, trace: &[u8]) -> Result<Answer, Ending>
+fn judged_by(alloc: Global, asked: Asked, script: &Script, trace: &[u8]) -> Result<Answer, Stop>
     ensures { MatchResult result (plain.IsJudged asked script.now trace.now) (plain.RefusesTrace trace.now) }
 {
     let trace = match trace_in(alloc, trace) {
         Ok(trace) => trace,
-        Err(ending) => return Err(ending),
+        Err(stop) => return Err(stop),
     };
     Ok(answered(alloc, asked, script, &trace)?)
+}
+
+/// What is said of a trace, which may be too long, by a script.
+fn judged_in(
+    alloc: Global,
+    asked: Asked,
+    script: &Script,
+    trace: &Option<Vec<u8>>,
+) -> Result<Answer, Stop>
+    ensures answers { plain.JudgesIn asked script.now trace.now result }
+    ensures no_fault { IfErr result plain.IsNoFault }
+{
+    match trace {
+        Some(trace) => judged_by(alloc, asked, script, trace),
+        None => Err(Stop::Long(Text::Trace)),
+    }
 }
 
 /// What is said of a trace by a script, each of which may be too long.
@@ -149,21 +143,16 @@ fn judged(
     asked: Asked,
     script: &Option<Vec<u8>>,
     trace: &Option<Vec<u8>>,
-) -> Result<Answer, Ending>
+) -> Result<Answer, Stop>
     ensures answers { plain.Answers asked script.now trace.now result }
-    ensures early { IfErr result IsEarly }
-    ensures statuses { IfErr result (λ e. (status_of e ≡ 1) ⊎ (status_of e ≡ 6)) }
+    ensures no_fault { IfErr result plain.IsNoFault }
 {
-    let Some(script) = script else {
-        return Err(too_long(alloc));
-    };
-    let script = match script_in(alloc, script) {
-        Ok(script) => script,
-        Err(ending) => return Err(ending),
-    };
-    match trace {
-        Some(trace) => judged_by(alloc, asked, &script, trace),
-        None => Err(too_long(alloc)),
+    match script {
+        Some(text) => match script_in(alloc, text) {
+            Ok(script) => judged_in(alloc, asked, &script, trace),
+            Err(stop) => Err(stop),
+        },
+        None => Err(Stop::Long(Text::Script)),
     }
 }
 
@@ -174,14 +163,12 @@ pub(crate) fn judged_texts<S: Source, T: Source>(
     asked: Asked,
     script: &mut S,
     trace: &mut T,
-) -> Result<Answer, Ending>
-    ensures done { IfOk result (λ v. IfSome (S.left script.old) (λ a. IfSome (T.left trace.old) (λ b. plain.IsAudited asked a b v))) }
-    ensures early { IfErr result IsEarly }
-    ensures no_numbers { IfErr result (λ e. status_of e ≢ 7) }
-    ensures source_fault { IfErr result (λ e. status_of e ≡ 3 → Rose (S.faults script.old) (S.faults script.new) ⊎ Rose (T.faults trace.old) (T.faults trace.new)) }
-    ensures refused { IfErr result (λ e. status_of e ≡ 1 → IfSome (S.left script.old) (λ a. IfSome (T.left trace.old) (λ b. plain.IsRefused a b (line_of e)))) }
+) -> Result<Answer, Stop>
+    ensures done { IfOk result (λ v. plain.over S.left T.left script.old trace.old (λ a b. plain.IsAudited asked a b v)) }
+    ensures stopped { IfErr result (λ stop. plain.over S.left T.left script.old trace.old (λ a b. plain.IsStop a b stop)) }
+    ensures unread { IfErr result (plain.RoseAt (S.faults script.old) (S.faults script.new) (T.faults trace.old) (T.faults trace.new)) }
 {
-    let script = octets_of(alloc, script, MOST_OF_SCRIPT)?;
-    let trace = octets_of(alloc, trace, MOST_OF_TRACE)?;
+    let script = octets_of(alloc, script, Text::Script, MOST_OF_SCRIPT)?;
+    let trace = octets_of(alloc, trace, Text::Trace, MOST_OF_TRACE)?;
     judged(alloc, asked, &script, &trace)
 }
