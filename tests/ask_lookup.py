@@ -73,9 +73,9 @@ ASKED = [["www.example", "A"], ["www.example", "aaaa"], ["alias.example", "A"], 
          ["svc.example", "SVCB"], ["web.example", "HTTPS"], ["other.example", "AAAA"], ["away.example", "A"],
          ["back.example", "PTR"], ["a.wild.example", "TXT"], ["secure.example", "DS"], ["_udp.example", "A"],
          ["text.example", "TXT", "+tcp"], ["example", "TYPE257"], [r"\119ww.example.", "A"], ["old.example", "DNAME"],
-         ["missing.example", "MX", "+dnssec"]]
+         ["missing.example", "MX", "+dnssec"], ["A", "IN", "www.example"], ["www.example", "IN", "A"], ["-t", "MX", "example"], ["-tMX", "-qexample", "+nodnssec"]]
 WRONG = [(["@www.example", "example"], "@www.example"), (["-p", "0", "example"], "0"), (["example", "NOTYPE"], "NOTYPE"),
-         (["a..b"], "a..b"), (["example", "A", "B"], "B"), (["example", "+fast"], "+fast"), (["-x", "one"], "one"),
+         (["a..b"], "a..b"), (["example", "A", "elsewhere"], "elsewhere"), (["example", "-t", "NOTYPE"], "NOTYPE"), (["example", "CH"], "CH"), (["example", "+trace"], "+trace"), (["@::1%lo", "example"], "@::1%lo"), (["example", "+fast"], "+fast"), (["-x", "one"], "one"),
          (["example", "+time=0"], "+time=0"), (["example", "AXFR"], "AXFR"), ([], "name"), (["-p"], "-p")]
 
 

@@ -16,23 +16,31 @@ use std::alloc::Global;
 
 /// The words and statuses, as they are told to who asks for help.
 const HELP: &str = "\
-usage: dns_lookup [--record FILE] [@SERVER ..] [-p PORT] (-x ADDRESS | NAME [TYPE])
-                  [+tcp] [+dnssec] [+short] [+time=SECONDS]
+usage: dns_lookup [--record FILE] [@SERVER ..] [-p PORT] (-x ADDRESS | [-q] NAME)
+                  [[-c] CLASS] [[-t] TYPE] [+OPTION ..] [--]
        dns_lookup --help | --version
 
-Asks servers for the records of a name, and writes what they answer.
+Asks servers for the records of a name, and writes what they answer. The words are those of dig, in any order; one that dig has and that
+stands not here is refused.
 
   --record FILE   write what the client saw as a script that replays; it stands first
-  @SERVER         ask this server, an address alone, IPv4 or IPv6; several are asked one after another where one does
-                  not serve, and without one those of /etc/resolv.conf are
+  @SERVER         ask this server, an address alone, IPv4 or IPv6, which may stand in brackets; several are asked one after another
+                  where one does not serve, and without one those of /etc/resolv.conf are. Behind # may stand the port of all
   -p PORT         ask every server at this port, from 1 to 65535
   -x ADDRESS      ask for the names of an address
+  -q NAME         ask for this name, whatever it looks like
   NAME            the name; the final dot may be left out, and no suffix is searched
-  TYPE            a type by its name, in any case, or TYPE123, and not AXFR; without one A and then AAAA
-  +tcp            ask by streams alone
-  +dnssec         set DO, so that signatures come too
+  -c CLASS        the class, which is IN
+  -t TYPE         a type by its name, in any case, or TYPE123, and not AXFR; without one A and then AAAA. Behind it no word alone is one
+  CLASS, TYPE     the same; a name that looks like one needs -q or a final dot
+  --              no word behind it is an option
+
+Options, of which dig's first letters are enough, in any case; no behind the plus turns one off:
+  +tcp, +vc       ask by streams alone
+  +dnssec, +do    set DO, so that signatures come too
   +short          write the data of the answer section alone, a line for each record
-  +time=SECONDS   give a request so long, from 1 to 600
+  +time=SECONDS   give a request so long, from 1 to 600; +timeout=SECONDS is the same
+  +all, +rec      and others whose state is always so, as +nocmd and +nosearch
 
 Exit status:
   0  each answer was written whole, whatever its response code

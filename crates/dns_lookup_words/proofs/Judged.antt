@@ -1,5 +1,6 @@
 -- Words are one thing.
-use Rattle.std.proofs.Common.{◌≡◌, ◌+◌, ℕ, List, refl, ap, sym, subst, ◌∙◌, Option, None, Some, Result, Ok, Err, String, Global}
+use Rattle.std.specs.List.{before_first}
+use Rattle.std.proofs.Common.{◌≡◌, ◌+◌, ◌==◌, ℕ, Bool, true, false, length, List, refl, ap, sym, subst, ◌∙◌, Option, None, Some, Result, Ok, Err, String, Global}
 use Rattle.std.specs.String.{string_bytes}
 use Rattle.dns_names.specs.Name.{Labels}
 use Rattle.dns_values.proofs.Addresses.{one_address}
@@ -11,14 +12,28 @@ use Rattle.dns_lookup_words.specs.declared.wrong.Fault.{Fault}
 use Rattle.dns_lookup_words.specs.declared.wrong.Fault.TheVariants as faults
 use Rattle.dns_lookup_words.specs.declared.wrong.Refusal.{Refusal}
 use Rattle.dns_lookup_words.specs.declared.wrong.Refusal.TheVariants.{Word}
+use Rattle.dns_lookup_words.specs.declared.wrong.Value.{Value}
+use Rattle.dns_lookup_words.specs.declared.wrong.Value.TheVariants as values
 use Rattle.dns_lookup_words.specs.declared.wrong.Wrong.{Wrong}
-use Rattle.dns_lookup_words.specs.Words.{AddressGives, AnyGives, GivesAt, IsJudged, IsSaidBy, LookupGives, ServerGives, WordGives, WordsGive, asked, bad_word, good_word, no_word, nothing_said, said_whole, server_text, with_address, with_server, wrong_word}
+use Rattle.dns_lookup_words.specs.Words.{AddressGives, GivesAt, GluedGives, IsJudged, IsSaidBy, LookupGives, ServerAt, ServerAtNumber, ServerAtSame, ServerAtText, SignGives, ValueGives, ValuedGives, WordGives, WordsGive, asked, bad_word, bare, behind, behind_first, good_word, is_other, no_word, nothing_said, number_in, said_whole, valued, with_address, with_server, wrong_word}
 
-one_server : (text : List ℕ) (said : Said) (a b : Result Said Wrong) → ServerGives text said a → ServerGives text said b → a ≡ b
-one_server text said (Ok x) (Ok y) h k = ap Ok (h.2 ∙ ap (λ ip. with_server ip said) (one_address text h.0 k.0 h.1 k.1) ∙ sym k.2)
-one_server text said (Ok x) (Err w) h k = absurd (k.0 h.0 h.1)
-one_server text said (Err v) (Ok y) h k = absurd (h.0 k.0 k.1)
-one_server text said (Err v) (Err w) h k = ap Err (h.1 ∙ sym k.1)
+one_server_at : (text : List ℕ) (port : Option ℕ) (said : Said) (a b : Result Said Wrong) → ServerAt text port said a → ServerAt text port said b → a ≡ b
+one_server_at text port said (Ok x) (Ok y) h k = ap Ok (h.2 ∙ ap (λ ip. with_server ip port said) (one_address text h.0 k.0 h.1 k.1) ∙ sym k.2)
+one_server_at text port said (Ok x) (Err w) h k = absurd (k.0 h.0 h.1)
+one_server_at text port said (Err v) (Ok y) h k = absurd (h.0 k.0 k.1)
+one_server_at text port said (Err v) (Err w) h k = ap Err (h.1 ∙ sym k.1)
+
+one_same : (other : Bool) (port : ℕ) (text : List ℕ) (said : Said) (a b : Result Said Wrong) → ServerAtSame other port text said a → ServerAtSame other port text said b → a ≡ b
+one_same true port text said a b h k = h ∙ sym k
+one_same false port text said a b h k = one_server_at text (Some port) said a b h k
+
+one_number : (port : Option ℕ) (text : List ℕ) (said : Said) (a b : Result Said Wrong) → ServerAtNumber port text said a → ServerAtNumber port text said b → a ≡ b
+one_number None text said a b h k = h ∙ sym k
+one_number (Some port) text said a b h k = one_same (is_other said.port port) port text said a b h k
+
+one_server : (port : Option (List ℕ)) (text : List ℕ) (said : Said) (a b : Result Said Wrong) → ServerAtText port text said a → ServerAtText port text said b → a ≡ b
+one_server None text said a b h k = one_server_at text said.port said a b h k
+one_server (Some port) text said a b h k = one_number (number_in 65535 port) text said a b h k
 
 one_reverse : (name : Option Labels) (word : List ℕ) (said : Said) (a b : Result Said Wrong) → AddressGives name word said a → AddressGives name word said b → a ≡ b
 one_reverse (Some name) word said a b h k = h ∙ sym k
@@ -27,14 +42,31 @@ one_reverse None word said (Ok x) (Err w) h k = absurd (k.0 h.0 h.1)
 one_reverse None word said (Err v) (Ok y) h k = absurd (h.0 k.0 k.1)
 one_reverse None word said (Err v) (Err w) h k = ap Err (h.1 ∙ sym k.1)
 
-one_any : (text : Option (List ℕ)) (word : List ℕ) (said : Said) (a b : Result Said Wrong) → AnyGives text word said a → AnyGives text word said b → a ≡ b
-one_any (Some text) word said a b h k = one_server text said a b h k
-one_any None word said a b h k = h ∙ sym k
+one_value : (value : Value) (word : List ℕ) (said : Said) (a b : Result Said Wrong) → ValueGives value word said a → ValueGives value word said b → a ≡ b
+one_value values.Port word said a b h k = h ∙ sym k
+one_value values.Address word said a b h k = one_reverse said.name word said a b h k
+one_value values.Type word said a b h k = h ∙ sym k
+one_value values.Class word said a b h k = h ∙ sym k
+one_value values.Name word said a b h k = h ∙ sym k
+
+one_glued : (apart : Bool) (value : Value) (word : List ℕ) (said : Said) (a b : Result Said Wrong) → GluedGives apart value word said a → GluedGives apart value word said b → a ≡ b
+one_glued true value word said a b h k = h ∙ sym k
+one_glued false value word said a b h k = one_value value word said a b h k
+
+one_dash : (v : Option (Value × List ℕ)) (text : List ℕ) (said : Said) (a b : Result Said Wrong) → ValuedGives v text said a → ValuedGives v text said b → a ≡ b
+one_dash (Some v) text said a b h k = one_glued (length v.1 == 0) v.0 v.1 said a b h k
+one_dash None text said a b h k = h ∙ sym k
+
+one_any : (server plus dash : Option (List ℕ)) (word : List ℕ) (said : Said) (a b : Result Said Wrong) → SignGives server plus dash word said a → SignGives server plus dash word said b → a ≡ b
+one_any (Some text) plus dash word said a b h k = one_server (behind_first 35 text) (bare (before_first (λ c. c == 35) text)) said a b h k
+one_any None (Some text) dash word said a b h k = h ∙ sym k
+one_any None None (Some text) word said a b h k = one_dash (valued text) text said a b h k
+one_any None None None word said a b h k = h ∙ sym k
 
 one_at : (n : Next) (word : List ℕ) (said : Said) (a b : Result Said Wrong) → GivesAt n word said a → GivesAt n word said b → a ≡ b
-one_at next.Any word said a b h k = one_any (server_text word) word said a b h k
-one_at next.Port word said a b h k = h ∙ sym k
-one_at next.Address word said a b h k = one_reverse said.name word said a b h k
+one_at next.Any word said a b h k = one_any (behind 64 word) (behind 43 word) (behind 45 word) word said a b h k
+one_at next.Plain word said a b h k = h ∙ sym k
+one_at (next.Value value) word said a b h k = one_value value word (record said { next = next.Any }) a b h k
 
 one_word : (word : List ℕ) (said : Said) (a b : Result Said Wrong) → WordGives word said a → WordGives word said b → a ≡ b
 one_word word said a b h k = one_at said.next word said a b h k

@@ -1,5 +1,5 @@
 -- Words that are taken, one after another.
-use Rattle.std.proofs.Common.{◌≡◌, ◌≢◌, ◌+◌, ◌==◌, ℕ, Bool, true, false, if◌then◌else◌, List, [], ◌∷◌, length, refl, ap, sym, subst, arith, Option, None, Some, Result, Ok, Err, String, Global}
+use Rattle.std.proofs.Common.{◌≡◌, ◌≢◌, ◌+◌, ◌==◌, ℕ, Bool, true, false, if◌then◌else◌, List, [], ◌∷◌, length, refl, ap, sym, subst, ◌∙◌, arith, Option, None, Some, Result, Ok, Err, String, Global}
 use Rattle.std.proofs.lemmas.Bool.Decides.{nat_tests}
 use Rattle.std.specs.Borrow.{Bor}
 use Rattle.std.specs.Option.{MatchOption, option_copied}
@@ -10,20 +10,23 @@ use Rattle.dns_lookup_words.specs.declared.wrong.Refusal.TheVariants.{Word}
 use Rattle.dns_lookup_words.specs.declared.wrong.Fault.{Fault}
 use Rattle.dns_lookup_words.specs.declared.wrong.WordFault.{WordFault}
 use Rattle.dns_lookup_words.specs.declared.wrong.WordFault.TheVariants as faults
-use Rattle.dns_lookup_words.specs.Words.{AllAnswer, Answers, WordGives, WordsGive, bad_word, fault_at, good_word, no_word, server_text}
+use Rattle.dns_lookup_words.specs.Words.{AllAnswer, Answers, WordGives, WordsGive, bad_word, behind, fault_at, good_word, no_word}
 
-none_at : (b : Bool) (c : ℕ) (text : List ℕ) → (c == 64) ≡ b → c ∷ text ≢ 64 ∷ text → None ≡ (if b then Some text else None)
-none_at true c text e h = absurd (h (let is : c ≡ 64 = grind (arith, nat_tests) in ap (λ k. k ∷ text) is))
-none_at false c text e h = refl
+none_at : (sign : ℕ) (b : Bool) (c : ℕ) (text : List ℕ) → (c == sign) ≡ b → c ∷ text ≢ sign ∷ text → None ≡ (if b then Some text else None)
+none_at sign true c text e h = absurd (h (let is : c ≡ sign = grind (arith, nat_tests) in ap (λ k. k ∷ text) is))
+none_at sign false c text e h = refl
 
-none_is : (word : List ℕ) → ((text : List ℕ) → word ≢ 64 ∷ text) → None ≡ server_text word
-none_is [] h = refl
-none_is (c ∷ text) h = none_at (c == 64) c text refl (h text)
+none_is : (sign : ℕ) (word : List ℕ) → ((text : List ℕ) → word ≢ sign ∷ text) → None ≡ behind sign word
+none_is sign [] h = refl
+none_is sign (c ∷ text) h = none_at sign (c == sign) c text refl (h text)
 
--- the text behind an at sign, as a prefix that is taken off leaves it
-pub server_text_is : (word : List ℕ) (r : Option (Bor (List ℕ))) → MatchOption r ((text : List ℕ) → word ≢ 64 ∷ text) (λ x. word ≡ 64 ∷ x.now) → option_copied r ≡ server_text word
-server_text_is word None h = none_is word h
-server_text_is word (Some x) h = sym (ap server_text h)
+same_is : (sign : ℕ) (text : List ℕ) → behind sign (sign ∷ text) ≡ Some text
+same_is sign text = let is : (sign == sign) ≡ true = grind (arith, nat_tests) in ap (λ b. if b then Some text else None) is
+
+-- the text behind a sign, as a prefix that is taken off leaves it
+pub behind_is : (sign : ℕ) (word : List ℕ) (r : Option (Bor (List ℕ))) → MatchOption r ((text : List ℕ) → word ≢ sign ∷ text) (λ x. word ≡ sign ∷ x.now) → option_copied r ≡ behind sign word
+behind_is sign word None h = none_is sign word h
+behind_is sign word (Some x) h = sym (ap (behind sign) h ∙ same_is sign x.now)
 
 abbrev pub Words : Type 0
 Words = List (String Global)

@@ -1,2 +1,4 @@
+pub mod Options
+pub mod Types
 pub mod Words
 pub mod Sentences

@@ -1,6 +1,6 @@
--- The words of a lookup, in dig's habits: `[@SERVER ..] [-p PORT] (-x ADDRESS | NAME [TYPE]) [+tcp] [+dnssec] [+short] [+time=SECONDS]`.
-use Rattle.std.specs.Prelude.{◌≡◌, ℕ, ◌+◌, ◌==◌, ◌||◌, Bool, true, false, if◌then◌else◌, List, [], ◌∷◌, ◌++◌, length, codes, nat_lt, Option, None, Some, option_and_then, String, Result, Ok, Err}
-use Rattle.std.specs.List.{position_or_len, before_first, after_first}
+-- The words of a lookup, in dig's habits: `[@SERVER ..] [-p PORT] (-x ADDRESS | [-q] NAME) [[-c] CLASS] [[-t] TYPE] [+OPTION ..]`, in any order.
+use Rattle.std.specs.Prelude.{◌≡◌, ℕ, ◌+◌, ◌==◌, ◌||◌, not, Bool, true, false, if◌then◌else◌, List, [], ◌∷◌, ◌++◌, length, codes, nat_lt, Option, None, Some, option_and_then, String, Result, Ok, Err}
+use Rattle.std.specs.List.{after_first, before_first, list_any, position_or_len}
 use Rattle.std.specs.Result.{result_ok}
 use Rattle.std.specs.Str.{bytes_eq}
 use Rattle.std.specs.String.{string_bytes}
@@ -9,11 +9,15 @@ use Rattle.dns_names.specs.Name.{Labels}
 use Rattle.dns_names.specs.Reverse.{reverse_labels}
 use Rattle.dns_names.specs.Text.{name_of_text}
 use Rattle.dns_values.specs.Address.{IsAddressText}
-use Rattle.dns_values.specs.NumberNames.{type_of_text}
+use Rattle.dns_values.specs.NumberNames.{class_of_text}
 use Rattle.dns_values.specs.declared.address.IpAddr.{IpAddr}
 use Rattle.dns_values.specs.declared.numbers.Rtype.{Rtype}
 use Rattle.resolv_conf.specs.Number.{number_of}
+use Rattle.dns_lookup_words.specs.Options.{is_off, plus_options, sets_of, without_no}
+use Rattle.dns_lookup_words.specs.Types.{type_number}
 use Rattle.dns_lookup_words.specs.declared.lookup.Lookup.{Lookup}
+use Rattle.dns_lookup_words.specs.declared.options.Sets.{Sets}
+use Rattle.dns_lookup_words.specs.declared.options.Sets.TheVariants as sets
 use Rattle.dns_lookup_words.specs.declared.said.Next.{Next}
 use Rattle.dns_lookup_words.specs.declared.said.Next.TheVariants as next
 use Rattle.dns_lookup_words.specs.declared.said.Said.{Said}
@@ -21,6 +25,8 @@ use Rattle.dns_lookup_words.specs.declared.wrong.Fault.{Fault}
 use Rattle.dns_lookup_words.specs.declared.wrong.Fault.TheVariants as faults
 use Rattle.dns_lookup_words.specs.declared.wrong.Refusal.{Refusal}
 use Rattle.dns_lookup_words.specs.declared.wrong.Refusal.TheVariants as refusals
+use Rattle.dns_lookup_words.specs.declared.wrong.Value.{Value}
+use Rattle.dns_lookup_words.specs.declared.wrong.Value.TheVariants as values
 use Rattle.dns_lookup_words.specs.declared.wrong.WordFault.{WordFault}
 use Rattle.dns_lookup_words.specs.declared.wrong.WordFault.TheVariants as word_faults
 use Rattle.dns_lookup_words.specs.declared.wrong.Wrong.{Wrong}
@@ -28,7 +34,17 @@ use Rattle.dns_lookup_words.specs.declared.wrong.Wrong.TheVariants as wrongs
 
 -- before the first word
 abbrev pub nothing_said : Said
-nothing_said = record { servers = []; port = None; name = None; rtype = None; tcp = false; dnssec = false; short = false; seconds = None; next = next.Any }
+nothing_said = record { servers = []; port = None; name = None; rtype = None; typed = false; tcp = false; dnssec = false; short = false; seconds = None; next = next.Any }
+
+-- the text behind an octet that stands first
+abbrev pub behind : ℕ → List ℕ → Option (List ℕ)
+behind sign [] = None
+behind sign (c ∷ text) = if c == sign then Some text else None
+
+-- the text behind the first such octet, if there is one
+unfoldable pub behind_first : ℕ → List ℕ → Option (List ℕ)
+behind_first sign text =
+    if nat_lt (position_or_len (λ c. c == sign) text) (length text) then Some (after_first (λ c. c == sign) text) else None
 
 -- a number from 1 to the greatest
 abbrev pub in_range : ℕ → ℕ → Option ℕ
@@ -40,7 +56,7 @@ number_in most word = option_and_then (in_range most) (number_of word)
 -- `-p PORT`, the last of which counts
 abbrev pub port_given : Option ℕ → Said → Result Said Wrong
 port_given None said = Err wrongs.Port
-port_given (Some port) said = Ok (record said { port = Some port; next = next.Any })
+port_given (Some port) said = Ok (record said { port = Some port })
 
 abbrev pub port_said : List ℕ → Said → Result Said Wrong
 port_said word said = port_given (number_in 65535 word) said
@@ -53,86 +69,213 @@ time_given (Some seconds) said = Ok (record said { seconds = Some seconds })
 abbrev pub time_said : List ℕ → Said → Result Said Wrong
 time_said text said = time_given (number_in 600 text) said
 
--- `@SERVER`: an address, behind those that were said before
-abbrev pub with_server : IpAddr → Said → Said
-with_server ip said = record said { servers = said.servers ++ ip ∷ [] }
+-- `@ADDRESS`, behind those that were said before
+abbrev pub with_server : IpAddr → Option ℕ → Said → Said
+with_server ip port said = record said { servers = said.servers ++ ip ∷ []; port = port }
+
+-- what is wrong with what stands where an address must: it is none, or has a scope behind a percent sign
+abbrev pub wrong_server : List ℕ → Wrong
+wrong_server text = if list_any (λ c. c == 37) text then wrongs.Scope else wrongs.Server
+
+abbrev pub ServerAt : List ℕ → Option ℕ → Said → Result Said Wrong → Type 0
+ServerAt text port said (Ok new) = (ip : IpAddr) × IsAddressText text ip × (new ≡ with_server ip port said)
+ServerAt text port said (Err wrong) = ((ip : IpAddr) → ¬ (IsAddressText text ip)) × (wrong ≡ wrong_server text)
+
+-- Behind an address `#PORT` is the port of all servers, so it is no other than one that was said before.
+abbrev pub is_other : Option ℕ → ℕ → Bool
+is_other None port = false
+is_other (Some said) port = not (said == port)
+
+abbrev pub ServerAtSame : Bool → ℕ → List ℕ → Said → Result Said Wrong → Type 0
+ServerAtSame true port text said answer = answer ≡ Err wrongs.OtherPort
+ServerAtSame false port text said answer = ServerAt text (Some port) said answer
+
+abbrev pub ServerAtNumber : Option ℕ → List ℕ → Said → Result Said Wrong → Type 0
+ServerAtNumber None text said answer = answer ≡ Err wrongs.ServerPort
+ServerAtNumber (Some port) text said answer = ServerAtSame (is_other said.port port) port text said answer
+
+abbrev pub ServerAtText : Option (List ℕ) → List ℕ → Said → Result Said Wrong → Type 0
+ServerAtText None text said answer = ServerAt text said.port said answer
+ServerAtText (Some port) text said answer = ServerAtNumber (number_in 65535 port) text said answer
+
+-- the text between brackets, which may stand around an address
+unfoldable pub within : List ℕ → Option (List ℕ)
+within text =
+    if nat_lt (position_or_len (λ c. c == 93) text) (length text)
+    then (if bytes_eq (after_first (λ c. c == 93) text) (codes "") then Some (before_first (λ c. c == 93) text) else None)
+    else None
+
+abbrev pub or_text : Option (List ℕ) → List ℕ → List ℕ
+or_text None text = text
+or_text (Some inner) text = inner
+
+abbrev pub bare : List ℕ → List ℕ
+bare text = or_text (option_and_then within (behind 91 text)) text
 
 abbrev pub ServerGives : List ℕ → Said → Result Said Wrong → Type 0
-ServerGives text said (Ok new) = (ip : IpAddr) × IsAddressText text ip × (new ≡ with_server ip said)
-ServerGives text said (Err wrong) = ((ip : IpAddr) → ¬ (IsAddressText text ip)) × (wrong ≡ wrongs.Server)
+ServerGives text said answer = ServerAtText (behind_first 35 text) (bare (before_first (λ c. c == 35) text)) said answer
 
--- `-x ADDRESS`: the name that maps the address to names, and the type PTR
+-- `-x ADDRESS`: the name that maps the address to names, and the type PTR where none was said before
+abbrev pub or_ptr : Option Rtype → Option Rtype
+or_ptr None = Some (record { 0 = 12 })
+or_ptr (Some rtype) = Some rtype
+
 abbrev pub with_address : IpAddr → Said → Said
-with_address ip said = record said { name = Some (reverse_labels ip); rtype = Some (record { 0 = 12 }); next = next.Any }
+with_address ip said = record said { name = Some (reverse_labels ip); rtype = or_ptr said.rtype }
 
 abbrev pub AddressGives : Option Labels → List ℕ → Said → Result Said Wrong → Type 0
-AddressGives (Some name) word said answer = answer ≡ Err wrongs.More
+AddressGives (Some name) word said answer = answer ≡ Err wrongs.Second
 AddressGives None word said (Ok new) = (ip : IpAddr) × IsAddressText word ip × (new ≡ with_address ip said)
 AddressGives None word said (Err wrong) = ((ip : IpAddr) → ¬ (IsAddressText word ip)) × (wrong ≡ wrongs.Address)
 
--- NAME
-abbrev pub name_given : Option Labels → Said → Result Said Wrong
-name_given None said = Err wrongs.Name
-name_given (Some name) said = Ok (record said { name = Some name })
+-- NAME: of one that is none it is told whether it has letters past ASCII (RFC 5890 2.3.2.1)
+abbrev pub wrong_name : List ℕ → Wrong
+wrong_name word = if list_any (λ c. nat_lt 127 c) word then wrongs.Idn else wrongs.Name
+
+abbrev pub name_given : Option Labels → List ℕ → Said → Result Said Wrong
+name_given None word said = Err (wrong_name word)
+name_given (Some name) word said = Ok (record said { name = Some name })
+
+-- where there is a name, this is wrong with another
+abbrev pub name_at : Option Labels → Wrong → List ℕ → Said → Result Said Wrong
+name_at (Some name) wrong word said = Err wrong
+name_at None wrong word said = name_given (result_ok (name_of_text word)) word said
 
 -- TYPE, of which AXFR is none: no one message answers it
+abbrev pub type_set : ℕ → Said → Result Said Wrong
+type_set n said = if n == 252 then Err wrongs.Transfer else Ok (record said { rtype = Some (record { 0 = n }) })
+
+-- `-t TYPE`, behind which a word alone is no type
 abbrev pub type_given : Option ℕ → Said → Result Said Wrong
 type_given None said = Err wrongs.Type
-type_given (Some n) said = if n == 252 then Err wrongs.Transfer else Ok (record said { rtype = Some (record { 0 = n }) })
+type_given (Some n) said = type_set n (record said { typed = true })
 
--- A word that is no option is the name. The next such word is the type, and there are no others.
-abbrev pub plain_at : Option Labels → Option Rtype → List ℕ → Said → Result Said Wrong
-plain_at None rtype word said = name_given (result_ok (name_of_text word)) said
-plain_at (Some name) None word said = type_given (type_of_text word) said
-plain_at (Some name) (Some rtype) word said = Err wrongs.More
+abbrev pub type_said : List ℕ → Said → Result Said Wrong
+type_said word said = type_given (type_number word) said
+
+-- CLASS, of which IN alone is asked
+abbrev pub class_set : ℕ → Said → Result Said Wrong
+class_set n said = if n == 1 then Ok said else Err wrongs.OtherClass
+
+abbrev pub class_given : Option ℕ → Said → Result Said Wrong
+class_given None said = Err wrongs.Class
+class_given (Some n) said = class_set n said
+
+-- A word that is no option is a type or a class where it names one, and else the name.
+abbrev pub plain_at : Option ℕ → Option ℕ → List ℕ → Said → Result Said Wrong
+plain_at (Some n) class word said = type_set n said
+plain_at None (Some n) word said = class_set n said
+plain_at None None word said = name_at said.name wrongs.More word said
+
+abbrev pub open_type : Bool → List ℕ → Option ℕ
+open_type true word = None
+open_type false word = type_number word
 
 abbrev pub plain_said : List ℕ → Said → Result Said Wrong
-plain_said word said = plain_at said.name said.rtype word said
+plain_said word said = plain_at (open_type said.typed word) (class_of_text word) word said
 
--- options of one word, and those whose value is the next word
-unfoldable pub flagged : List ℕ → Said → Option Said
-flagged word said =
-    if bytes_eq word (codes "+tcp") then Some (record said { tcp = true })
-    else if bytes_eq word (codes "+dnssec") then Some (record said { dnssec = true })
-    else if bytes_eq word (codes "+short") then Some (record said { short = true })
-    else if bytes_eq word (codes "-p") then Some (record said { next = next.Port })
-    else if bytes_eq word (codes "-x") then Some (record said { next = next.Address })
-    else None
+-- The value of an option of one letter.
+abbrev pub ValueGives : Value → List ℕ → Said → Result Said Wrong → Type 0
+ValueGives values.Port text said answer = answer ≡ port_said text said
+ValueGives values.Address text said answer = AddressGives said.name text said answer
+ValueGives values.Type text said answer = answer ≡ type_said text said
+ValueGives values.Class text said answer = answer ≡ class_given (class_of_text text) said
+ValueGives values.Name text said answer = answer ≡ name_at said.name wrongs.Second text said
 
--- the text behind the `@` of a server
-abbrev pub server_text : List ℕ → Option (List ℕ)
-server_text [] = None
-server_text (c ∷ text) = if c == 64 then Some text else None
+-- It is glued to the letter, or else the next word.
+abbrev pub GluedGives : Bool → Value → List ℕ → Said → Result Said Wrong → Type 0
+GluedGives true value text said answer = answer ≡ Ok (record said { next = next.Value value })
+GluedGives false value text said answer = ValueGives value text said answer
 
--- words that begin with a hyphen or a plus are options
-abbrev pub begins_option : List ℕ → Bool
-begins_option [] = false
-begins_option (c ∷ text) = c == 45 || c == 43
+-- letters of dig's options that are not among those of a lookup: 4 6 b f i k m r u y
+abbrev pub is_absent : List ℕ → Bool
+is_absent [] = false
+is_absent (c ∷ text) = list_any (λ letter. letter == c) (codes "46bfikmruy")
 
--- the text behind `+time=`
-unfoldable pub time_text : List ℕ → Option (List ℕ)
-time_text word =
-    if nat_lt (position_or_len (λ c. c == 61) word) (length word)
-    then (if bytes_eq (before_first (λ c. c == 61) word) (codes "+time") then Some (after_first (λ c. c == 61) word) else None)
-    else None
+-- `--` says that no word behind it is an option
+abbrev pub dash_said : List ℕ → Said → Result Said Wrong
+dash_said text said =
+    if bytes_eq text (codes "-") then Ok (record said { next = next.Plain })
+    else if is_absent text then Err wrongs.Lacking
+    else Err wrongs.Option
 
-abbrev pub option_or_plain : Option Said → List ℕ → Said → Result Said Wrong
-option_or_plain (Some new) word said = Ok new
-option_or_plain None word said = if begins_option word then Err wrongs.Option else plain_said word said
+-- the options that have a value, each by its letter, and the text behind that
+abbrev pub tagged : Value → Option (List ℕ) → Option (Value × List ℕ) → Option (Value × List ℕ)
+tagged value (Some text) others = Some (value, text)
+tagged value None others = others
 
-abbrev pub other_said : Option (List ℕ) → List ℕ → Said → Result Said Wrong
-other_said (Some text) word said = time_said text said
-other_said None word said = option_or_plain (flagged word said) word said
+abbrev pub valued : List ℕ → Option (Value × List ℕ)
+valued text =
+    tagged values.Port (behind 112 text)
+    (tagged values.Address (behind 120 text)
+    (tagged values.Type (behind 116 text)
+    (tagged values.Class (behind 99 text)
+    (tagged values.Name (behind 113 text) None))))
 
-abbrev pub AnyGives : Option (List ℕ) → List ℕ → Said → Result Said Wrong → Type 0
-AnyGives (Some text) word said answer = ServerGives text said answer
-AnyGives None word said answer = answer ≡ other_said (time_text word) word said
+abbrev pub ValuedGives : Option (Value × List ℕ) → List ℕ → Said → Result Said Wrong → Type 0
+ValuedGives (Some v) text said answer = GluedGives (length v.1 == 0) v.0 v.1 said answer
+ValuedGives None text said answer = answer ≡ dash_said text said
+
+abbrev pub DashGives : List ℕ → Said → Result Said Wrong → Type 0
+DashGives text said answer = ValuedGives (valued text) text said answer
+
+-- what is always done can be asked for, and what never is can be left
+abbrev pub only_on : Bool → Said → Result Said Wrong
+only_on on said = if on then Ok said else Err wrongs.Lacking
+
+abbrev pub only_off : Bool → Said → Result Said Wrong
+only_off on said = if on then Err wrongs.Lacking else Ok said
+
+-- an option without a value
+abbrev pub set_bare : Sets → Bool → Said → Result Said Wrong
+set_bare sets.Tcp on said = Ok (record said { tcp = on })
+set_bare sets.Dnssec on said = Ok (record said { dnssec = on })
+set_bare sets.Short on said = Ok (record said { short = on })
+set_bare sets.Time on said = Err wrongs.Time
+set_bare sets.Already on said = only_on on said
+set_bare sets.Never on said = only_off on said
+set_bare sets.Absent on said = Err wrongs.Lacking
+
+-- and with one, which time alone has
+abbrev pub time_valued : Bool → List ℕ → Said → Result Said Wrong
+time_valued on text said = if on then time_said text said else Err wrongs.Time
+
+abbrev pub set_valued : Sets → Bool → List ℕ → Said → Result Said Wrong
+set_valued sets.Tcp on text said = Err wrongs.Valued
+set_valued sets.Dnssec on text said = Err wrongs.Valued
+set_valued sets.Short on text said = Err wrongs.Valued
+set_valued sets.Time on text said = time_valued on text said
+set_valued sets.Already on text said = Err wrongs.Valued
+set_valued sets.Never on text said = Err wrongs.Lacking
+set_valued sets.Absent on text said = Err wrongs.Lacking
+
+abbrev pub set_by : Sets → Bool → Option (List ℕ) → Said → Result Said Wrong
+set_by s on None said = set_bare s on said
+set_by s on (Some text) said = set_valued s on text said
+
+abbrev pub plus_at : Option Sets → Bool → Option (List ℕ) → Said → Result Said Wrong
+plus_at None on value said = Err wrongs.Option
+plus_at (Some s) on value said = set_by s on value said
+
+-- `+[no]NAME` or `+NAME=VALUE`, by the table of names
+abbrev pub plus_named : (name : List ℕ) → Option (List ℕ) → Said → Result Said Wrong
+plus_named name value said = plus_at (sets_of plus_options (without_no name)) (not (is_off name)) value said
+
+abbrev pub plus_said : List ℕ → Said → Result Said Wrong
+plus_said text said = plus_named (before_first (λ c. c == 61) text) (behind_first 61 text) said
+
+-- A word is a server behind `@`, an option behind a plus or a hyphen, or else plain.
+abbrev pub SignGives : Option (List ℕ) → Option (List ℕ) → Option (List ℕ) → List ℕ → Said → Result Said Wrong → Type 0
+SignGives (Some text) plus dash word said answer = ServerGives text said answer
+SignGives None (Some text) dash word said answer = answer ≡ plus_said text said
+SignGives None None (Some text) word said answer = DashGives text said answer
+SignGives None None None word said answer = answer ≡ plain_said word said
 
 -- What a word makes of what is said: more is said, or the word is wrong.
 abbrev pub GivesAt : Next → List ℕ → Said → Result Said Wrong → Type 0
-GivesAt next.Any word said answer = AnyGives (server_text word) word said answer
-GivesAt next.Port word said answer = answer ≡ port_said word said
-GivesAt next.Address word said answer = AddressGives said.name word said answer
+GivesAt next.Any word said answer = SignGives (behind 64 word) (behind 43 word) (behind 45 word) word said answer
+GivesAt next.Plain word said answer = answer ≡ plain_said word said
+GivesAt (next.Value value) word said answer = ValueGives value word (record said { next = next.Any }) answer
 
 abbrev pub WordGives : List ℕ → Said → Result Said Wrong → Type 0
 WordGives word said answer = GivesAt said.next word said answer
@@ -162,11 +305,9 @@ AllAnswer Gives (Err (faults.Refused refusal)) new = Gives (Err refusal)
 AllAnswer Gives (Err faults.NoMemory) new = Unit {0}
 
 -- the lookup that is said: a name, and no value is due
-abbrev pub asked_at : Next → Option Labels → Said → Result Lookup Refusal
-asked_at next.Port name said = Err refusals.NoPort
-asked_at next.Address name said = Err refusals.NoAddress
-asked_at next.Any None said = Err refusals.NoName
-asked_at next.Any (Some name) said = Ok (record {
+abbrev pub named : Option Labels → Said → Result Lookup Refusal
+named None said = Err refusals.NoName
+named (Some name) said = Ok (record {
   servers = said.servers;
   port = said.port;
   name = name;
@@ -177,8 +318,13 @@ asked_at next.Any (Some name) said = Ok (record {
   seconds = said.seconds;
 })
 
+abbrev pub asked_at : Next → Said → Result Lookup Refusal
+asked_at (next.Value value) said = Err (refusals.NoValue value)
+asked_at next.Any said = named said.name said
+asked_at next.Plain said = named said.name said
+
 abbrev pub asked : Said → Result Lookup Refusal
-asked said = asked_at said.next said.name said
+asked said = asked_at said.next said
 
 -- What the words are, which do not hold the program's own name: a lookup, or refused for the first that is wrong.
 pub data LookupGives (words : List (String Global)) (answer : Result Lookup Refusal) : Type 0 where

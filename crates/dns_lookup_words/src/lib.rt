@@ -12,12 +12,15 @@
 mod laws;
 mod lookup;
 mod number;
+mod options;
+mod parts;
 mod said;
 mod taking;
 mod telling;
+mod types;
 mod wrong;
 
 pub use laws::lookup_laws;
 pub use lookup::{Lookup, lookup_of};
 pub use telling::sentence;
-pub use wrong::{Fault, Refusal, Wrong};
+pub use wrong::{Fault, Refusal, Value, Wrong};

@@ -1,7 +1,7 @@
 //! What words ask.
 
 ghost use Rattle.std.specs.Prelude.{MatchResult, ◌≡◌, Ok, Err};
-ghost use Rattle.dns_lookup_words.specs.Words.{IsJudged, IsSaidBy, asked};
+ghost use Rattle.dns_lookup_words.specs.Words.{IsJudged, IsSaidBy, asked, named};
 
 use crate::said::{Next, Said};
 use crate::wrong::{Fault, Refusal};
@@ -30,26 +30,25 @@ pub struct Lookup {
     pub seconds: Option<u64>,
 }
 
-/// The lookup that is said: a name, and no value is due.
-fn asked(said: Said) -> Result<Lookup, Refusal>
-    ensures { result ≡ asked said }
+/// The lookup of what is said, where there is a name.
+fn named(said: Said) -> Result<Lookup, Refusal>
+    ensures { result ≡ named said.name said }
 {
     let Said {
         servers,
         port,
         name,
         rtype,
+        typed: _,
         tcp,
         dnssec,
         short,
         seconds,
-        next,
+        next: _,
     } = said;
-    match (next, name) {
-        (Next::Port, _) => Err(Refusal::NoPort),
-        (Next::Address, _) => Err(Refusal::NoAddress),
-        (Next::Any, None) => Err(Refusal::NoName),
-        (Next::Any, Some(name)) => Ok(Lookup {
+    match name {
+        None => Err(Refusal::NoName),
+        Some(name) => Ok(Lookup {
             servers,
             port,
             name,
@@ -59,6 +58,17 @@ fn asked(said: Said) -> Result<Lookup, Refusal>
             short,
             seconds,
         }),
+    }
+}
+
+/// The lookup that is said: a name, and no value is due.
+fn asked(said: Said) -> Result<Lookup, Refusal>
+    ensures { result ≡ asked said }
+{
+    match said.next {
+        Next::Value(value) => Err(Refusal::NoValue(value)),
+        Next::Any => named(said),
+        Next::Plain => named(said),
     }
 }
 
@@ -75,9 +85,11 @@ fn said_by(alloc: Global, words: &[String]) -> Result<Said, Fault>
 
 /// The lookup of the words, which do not hold the program's own name.
 ///
-/// A word that begins with `@` names a server by its address, one that begins with a hyphen or a plus is an option, and of the
-/// others the first is the name and the second the type, in any case. Options may stand anywhere, and of several ports or
-/// times the last counts. `Refused` names the first word that is wrong, or says which value or that the name is missing.
+/// A word that begins with `@` names a server by its address, in brackets or not, with `#PORT` behind it or not. One that begins
+/// with a plus is an option of `dig` or the first letters of one, `no` turns it off; one that begins with a hyphen is an option of one
+/// letter, whose value is glued to it or the next word. Behind `--` no word is an option. Any other word is the type, or the class
+/// IN, where it names one, and else the name. The words stand in any order, and of several ports, types or times the last counts.
+/// `Refused` names the first word that is wrong, or says which value or that the name is missing.
 pub fn lookup_of(alloc: Global, words: &[String]) -> Result<Lookup, Fault>
     ensures { IsJudged words.now result }
 {

@@ -3,6 +3,7 @@
 ghost use Rattle.std.specs.Prelude.{◌≡◌};
 ghost use Rattle.dns_lookup_words.specs.Words.{nothing_said};
 
+use crate::wrong::Value;
 use dns_names::Name;
 use dns_values::{IpAddr, Rtype, Seq};
 use std::alloc::Global;
@@ -10,12 +11,12 @@ use std::alloc::Global;
 /// What the next word is.
 #[derive(Clone, Copy)]
 pub(crate) enum Next {
-    /// A server, an option, the name or the type.
+    /// A server, an option, the name, the class or the type.
     Any,
-    /// The port.
-    Port,
-    /// The address whose names are asked for.
-    Address,
+    /// No option: `--` stands before it.
+    Plain,
+    /// The value of an option.
+    Value(Value),
 }
 
 /// What words say so far.
@@ -25,6 +26,8 @@ pub(crate) struct Said {
     pub(crate) port: Option<u16>,
     pub(crate) name: Option<Name>,
     pub(crate) rtype: Option<Rtype>,
+    /// Whether the type was said behind `-t`, so that a word alone is none.
+    pub(crate) typed: bool,
     pub(crate) tcp: bool,
     pub(crate) dnssec: bool,
     pub(crate) short: bool,
@@ -42,6 +45,7 @@ impl Said {
             port: None,
             name: None,
             rtype: None,
+            typed: false,
             tcp: false,
             dnssec: false,
             short: false,

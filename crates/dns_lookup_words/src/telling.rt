@@ -2,9 +2,9 @@
 
 ghost use Rattle.std.specs.Prelude.{◌≡◌, IfOk};
 ghost use Rattle.std.specs.String.{string_bytes};
-ghost use Rattle.dns_lookup_words.specs.Sentences.{sentence, word_at, word_sentence, wrong_text};
+ghost use Rattle.dns_lookup_words.specs.Sentences.{due_sentence, sentence, word_at, word_sentence, wrong_text};
 
-use crate::wrong::{Refusal, Wrong};
+use crate::wrong::{Refusal, Value, Wrong};
 use dns_values::NoMemory;
 use std::alloc::Global;
 
@@ -13,14 +13,29 @@ fn wrong_text(wrong: Wrong) -> &'static str
 {
     match wrong {
         Wrong::Server => "names no server, which only an address does",
+        Wrong::Scope => {
+            "has a scope behind its %, and no server of one interface alone is asked"
+        }
+        Wrong::ServerPort => "names no port from 1 to 65535 behind its #",
+        Wrong::OtherPort => {
+            "names another port than was said before, and all servers are asked at one"
+        }
         Wrong::Port => "is no port",
         Wrong::Address => "is no address",
         Wrong::Name => "is no name",
+        Wrong::Idn => {
+            "is no name, since it has letters past ASCII; its form that begins with xn-- is"
+        }
+        Wrong::Second => "would be a second name, and one is asked for at a time",
         Wrong::Type => "is neither a known type nor TYPE with a number",
         Wrong::Transfer => "is no type that one message answers",
+        Wrong::Class => "is no class",
+        Wrong::OtherClass => "is another class than IN, which alone is asked",
         Wrong::Time => "gives no seconds from 1 to 600",
         Wrong::Option => "is no option",
-        Wrong::More => "is one word too many",
+        Wrong::Lacking => "asks for what dig does and dns_lookup does not",
+        Wrong::Valued => "has a value, and its option takes none",
+        Wrong::More => "is neither a type nor a class, and a name stands before it",
     }
 }
 
@@ -42,14 +57,26 @@ fn word_sentence(alloc: Global, word: &str, wrong: Wrong) -> Result<String, NoMe
     Ok(format!(in alloc; "dns_lookup: {word} {text}; see dns_lookup --help\n")?)
 }
 
+/// The sentence of a value that is due.
+fn due_sentence(value: Value) -> &'static str
+    ensures { result.now ≡ due_sentence value }
+{
+    match value {
+        Value::Port => "dns_lookup: no port stands behind -p; see dns_lookup --help\n",
+        Value::Address => "dns_lookup: no address stands behind -x; see dns_lookup --help\n",
+        Value::Type => "dns_lookup: no type stands behind -t; see dns_lookup --help\n",
+        Value::Class => "dns_lookup: no class stands behind -c; see dns_lookup --help\n",
+        Value::Name => "dns_lookup: no name stands behind -q; see dns_lookup --help\n",
+    }
+}
+
 /// The sentence that tells why these words are no lookup: one line, which names the wrong word as it was given.
 pub fn sentence(alloc: Global, words: &[String], refusal: Refusal) -> Result<String, NoMemory>
     ensures { IfOk result (λ s. string_bytes s ≡ sentence words.now refusal) }
 {
     let text = match refusal {
         Refusal::Word { at, wrong } => return word_sentence(alloc, word_at(words, at), wrong),
-        Refusal::NoPort => "dns_lookup: no port stands behind -p; see dns_lookup --help\n",
-        Refusal::NoAddress => "dns_lookup: no address stands behind -x; see dns_lookup --help\n",
+        Refusal::NoValue(value) => due_sentence(value),
         Refusal::NoName => "dns_lookup: no name is asked for; see dns_lookup --help\n",
     };
     Ok(String::from_str(alloc, text)?)

@@ -9,22 +9,55 @@ use dns_values::NoMemory;
 pub enum Wrong {
     /// What stands behind its `@` is no address.
     Server,
+    /// What stands behind its `@` has a percent sign, behind which a scope stands (RFC 4007 11).
+    Scope,
+    /// What stands behind the `#` of its server is no number from 1 to 65535.
+    ServerPort,
+    /// What stands behind the `#` of its server is another port than one that was said before.
+    OtherPort,
     /// It stands where a port must, and is no number from 1 to 65535.
     Port,
     /// It stands where an address must, and is none.
     Address,
     /// It stands where the name must, and is none: outside the grammar of names, or too long.
     Name,
-    /// It stands where the type must, and is none.
+    /// It stands where the name must, and has octets past ASCII, as names of people's languages do (RFC 5890 2.3.2.1).
+    Idn,
+    /// It stands where a name or an address must, and a name stands before it.
+    Second,
+    /// It stands where a type must, and is none.
     Type,
-    /// It stands where the type must, and is AXFR, which no one message answers.
+    /// It is AXFR, which no one message answers.
     Transfer,
+    /// It stands where a class must, and is none.
+    Class,
+    /// It is a class, and not IN.
+    OtherClass,
     /// What stands behind its `+time=` is no number from 1 to 600.
     Time,
     /// It begins as an option does, and is none.
     Option,
-    /// A name and a type, or an address, stand before it.
+    /// It is an option that dig has, and that is not to be had here.
+    Lacking,
+    /// A value stands in it, and its option has none.
+    Valued,
+    /// It is no option, no type and no class, and a name stands before it.
     More,
+}
+
+/// What stands behind an option of one letter.
+#[derive(Clone, Copy, Debug, PartialEq, Eq)]
+pub enum Value {
+    /// The port of all servers, behind `-p`.
+    Port,
+    /// The address whose names are asked for, behind `-x`.
+    Address,
+    /// The type, behind `-t`.
+    Type,
+    /// The class, behind `-c`.
+    Class,
+    /// The name, behind `-q`.
+    Name,
 }
 
 /// Why words are no lookup.
@@ -32,10 +65,8 @@ pub enum Wrong {
 pub enum Refusal {
     /// The word of this number, counted from 0, is wrong.
     Word { at: usize, wrong: Wrong },
-    /// `-p` is the last word.
-    NoPort,
-    /// `-x` is the last word.
-    NoAddress,
+    /// The last word is an option whose value must stand behind it.
+    NoValue(Value),
     /// There is no name and no address.
     NoName,
 }
