@@ -14,7 +14,11 @@ import sys
 
 from reference import wire_of
 
-TYPES = [1, 2, 3, 4, 5, 6, 7, 8, 9, 12, 14, 15, 16, 28, 33, 39, 41, 46, 99]
+TYPES = [1, 2, 3, 4, 5, 6, 7, 8, 9, 12, 14, 15, 16, 17, 18, 21, 24, 26, 28, 30, 33, 35, 39, 41, 46, 99]
+
+# Types whose data has octets before, counted strings, names, and whether other octets may stand behind (RFC 3597 4).
+FORMS = {17: (0, 0, 2, False), 18: (2, 0, 1, False), 21: (2, 0, 1, False), 24: (18, 0, 1, True), 26: (2, 0, 2, False),
+         30: (0, 0, 1, True), 35: (4, 3, 1, False)}
 
 
 def expected(wire, line):
@@ -94,6 +98,14 @@ class Writer:
         elif rtype == 33:
             self.octets += rng.randbytes(6)
             self.name()
+        elif rtype in FORMS:
+            before, strings, names, has_rest = FORMS[rtype]
+            self.octets += rng.randbytes(before)
+            for _ in range(strings):
+                self.octets += bytes([count := rng.randrange(4)]) + rng.randbytes(count)
+            for _ in range(names):
+                self.name()
+            self.octets += rng.randbytes(rng.randrange(5) * has_rest)
         elif rtype == 16:
             self.octets += self.strings()
         elif rtype == 41:

@@ -125,6 +125,10 @@ class Writer:
     def name(self):
         return b"".join(number(1, len(l)) + l for l in (self.label() for _ in range(self.rng.randrange(4)))) + b"\0"
 
+    def shortened(self):
+        """A name whose end may be a pointer to that of the question, as in data of the types that RFC 3597 4 names."""
+        return self.name()[:-1] + self.rng.choice([b"\0", b"\xc0\x0c"])
+
     def string(self):
         octets = self.octets(9)
         if self.rng.random() < 0.6:
@@ -180,11 +184,11 @@ class Writer:
             14: lambda: self.name() + self.name(),
             15: lambda: small(2) + self.name(),
             16: self.strings,
-            17: lambda: self.name() + self.name(),
-            18: lambda: small(2) + self.name(),
+            17: lambda: self.shortened() + self.shortened(),
+            18: lambda: small(2) + self.shortened(),
             29: self.location,
             33: lambda: small(6) + self.name(),
-            35: lambda: small(4) + self.string() + self.string() + self.string() + self.name(),
+            35: lambda: small(4) + self.string() + self.string() + self.string() + self.shortened(),
             36: lambda: small(2) + self.name(),
             43: lambda: small(4) + self.octets(32, 1),
             44: lambda: small(2) + self.octets(32, 1),

@@ -1,7 +1,7 @@
 """Compares the traces of the built program dnsq with a reference client.
 
 usage: python3 tests/compare_traces.py REFERENCE_FOLDER PROGRAM [--profile P] [--stage N] [--judge J] [--scripts N]
-           [--events N] [--first SEED]
+           [--events N] [--first SEED] [--leave-out NAME]
 
 REFERENCE_FOLDER holds the package `plain`; PROGRAM is the built dnsq. Without the folder nothing is compared, and that is
 said. Each script is made by the reference's own generator from its number as the seed, so a failure can be made again.
@@ -10,7 +10,8 @@ Profiles: `dgram1`, `dgram2`, `dgram3` and `dgram` have one server by datagrams,
 several, and `all` everything. The stage, how much of the client is built, counts for the generator and for the judge; it
 is the profile's own where none is given. Judges: `check_trace` compares with the reference client step by step,
 `check_right` says whether a trace is right by the reference's reading of the definitions, and `definitions` whether it is by
-those of this folder (`judge_by_definitions.py`).
+those of this folder (`judge_by_definitions.py`). Lines `set` whose name begins with the NAME of a `--leave-out` are left out of
+each script.
 """
 
 import argparse
@@ -31,6 +32,8 @@ def reference(folder, *words, **how):
 def compare(folder, program, seed, options, room):
     made = reference(folder, "plain.fuzz", "--seed", str(seed), "--events", str(options.events),
                      "--profile", options.profile, "--stage", str(options.stage), check=True).stdout
+    heads = tuple(f"set {it}".encode() for it in options.leave_out)
+    made = b"".join(it for it in made.splitlines(keepends=True) if not it.startswith(heads))
     script, trace = os.path.join(room, "script"), os.path.join(room, "trace")
     ran = subprocess.run([program, "replay"], input=made, capture_output=True, timeout=120)
     with open(script, "wb") as it:
@@ -59,6 +62,7 @@ def main():
     parser.add_argument("--events", type=int, default=200)
     parser.add_argument("--first", type=int, default=1)
     parser.add_argument("--judge", default="check_trace", choices=("check_trace", "check_right", "definitions"))
+    parser.add_argument("--leave-out", action="append", default=[])
     options = parser.parse_args()
     if options.stage is None:
         options.stage = STAGES[options.profile]

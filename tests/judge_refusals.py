@@ -27,12 +27,12 @@ def question(rtype="0001"):
     return NAME + rtype + "0001"
 
 
-def ask(moment, flags="00"):
-    return "at %d ask 000001000001000000000000%s 000001%s -" % (moment, question(), flags)
+def ask(moment, flags="00", rtype="0001"):
+    return "at %d ask 000001000001000000000000%s 000001%s -" % (moment, question(rtype), flags)
 
 
-def datagram(ident="0007"):
-    return "%s01000001000000000001%s00002904d0000000000000" % (ident, question())
+def datagram(ident="0007", rtype="0001"):
+    return "%s01000001000000000001%s00002904d0000000000000" % (ident, question(rtype))
 
 
 def frame(ident="0007", length=None):
@@ -43,6 +43,15 @@ def frame(ident="0007", length=None):
 def answer(ident="0007", ttl=100, flags="8180", name=NAME):
     return "%s%s0001000100000000%s00010001c00c00010001000000%02x0004c0000201" % (ident, flags, name, ttl)
 
+
+def named(owner, ttl, rdata):
+    """An answer to a question of AFSDB."""
+    return "123481800001000100000000%s%s00120001000000%02x%04x%s" % (question("0012"), owner, ttl, len(rdata) // 2, rdata)
+
+
+POINTING = named(NAME, 100, "0001046d61696cc025")
+WRITTEN_OUT = named("c00c", 70, "0001046d61696c03636f6d00")
+POINTER_COPIED = named("c00c", 70, "0001046d61696cc025")
 
 OTHER = answer(name="076578616d706c65036f726700")
 CUT = "000783800001000000000000" + question()
@@ -75,10 +84,15 @@ def frame_taken(moment, piece, message):
     return written("at %d bytes 0 %s" % (moment, piece), "> reply 0 ok " + message)
 
 
-def given(*rows):
+def given(*rows, message=answer("1234"), rtype="0001"):
     """The answer of 100 seconds came at 0."""
-    return [ask(0), "> start 0 0 dgram", "> open-dgram 0 0", "at 0 opened 0", "> send 0 0 4660 " + datagram("1234"),
-            "at 0 datagram 0 " + answer("1234"), "> close 0", "> reply 0 ok " + answer("1234"), *rows]
+    return [ask(0, rtype=rtype), "> start 0 0 dgram", "> open-dgram 0 0", "at 0 opened 0", "> send 0 0 4660 " + datagram("1234", rtype),
+            "at 0 datagram 0 " + message, "> close 0", "> reply 0 ok " + message, *rows]
+
+
+def named_given(message):
+    """The answer with a compressed name in its data came at 0, and this is given half a minute later."""
+    return given(ask(30000000, rtype="0012"), "> reply 1 ok " + message, message=POINTING, rtype="0012")
 
 
 def refused(*rows):
@@ -132,6 +146,7 @@ REFUSED = [
     ("bit_z", CONF, given(ask(30000000), "> reply 1 ok " + answer("1234", 70, "81c0")), "H1 row 3"),
     ("past_validity", CONF, given(ask(101000000), "> reply 1 ok " + answer("1234", 0)), "H1 row 3"),
     ("other_flags", CONF, given(ask(30000000, "20"), "> reply 1 ok " + answer("1234", 70)), "H1 row 3"),
+    ("copied_pointers", CONF, named_given(POINTER_COPIED), "H1 row 3"),
     ("error_past_its_time", CONF, refused(ask(30000001), KEPT % 1), "H3 row 2"),
     ("error_from_its_repeat", CONF, refused(ask(30000000), KEPT % 1, ask(31000000), KEPT % 2), "H3 row 3"),
     ("before_all_failed", TWO, [ask(0), "> start 0 1 dgram", "> open-dgram 0 1", "at 0 opened 0", "> send 0 0 0 " + datagram("0000"),
@@ -146,6 +161,7 @@ TAKEN = [
     ("answered", CONF, taken(0, answer())),
     ("answered_by_stream", STREAMS, frame_taken(1, PIECE, answer())),
     ("view", CONF, given(ask(30000000), "> reply 1 ok " + answer("1234", 70))),
+    ("view_of_names", CONF, named_given(WRITTEN_OUT)),
     ("kept_error", CONF, refused(ask(30000000), KEPT % 1)),
     ("stale", STALE, expired("> stale 1", "> reply 1 ok " + answer("1234", 30))),
 ]

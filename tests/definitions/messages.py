@@ -11,6 +11,10 @@ Reading = namedtuple("Reading", "header questions answer authority additional")
 OptFields = namedtuple("OptFields", "udp_payload_size ext_rcode version flags options")
 
 ONE_NAME = frozenset((2, 3, 4, 5, 7, 8, 9, 12, 39))
+# Seven types more have names that may be compressed (RFC 3597 4): how many octets and counted strings stand before them, how many names, and
+# whether other octets may stand behind. RP, AFSDB, RT, SIG, PX, NXT, NAPTR.
+FORMS = {17: (0, 0, 2, False), 18: (2, 0, 1, False), 21: (2, 0, 1, False), 24: (18, 0, 1, True), 26: (2, 0, 2, False), 30: (0, 0, 1, True),
+         35: (4, 3, 1, False)}
 UNREAD = object()
 
 
@@ -145,6 +149,27 @@ def after_numbers(word, count, octets, at, end):
     return None if name is None else (word, octets[at:at + count], name)
 
 
+def named_to(form, octets, at, end):
+    """Names between octets. They are no data where no record could hold it with its names spelled out."""
+    count, strings, names, has_rest = form
+    start, at, found = at, at + count, []
+    for _ in range(strings):
+        at = at + 1 + octets[at] if at < end else end + 1
+    if at > end:
+        return None
+    before = octets[start:at]
+    for _ in range(names):
+        name = name_at(octets, at)
+        if name is None:
+            return None
+        found.append(name.labels)
+        at = name.end
+    if at > end or (at < end and not has_rest):
+        return None
+    data = ("Named", before, *found, octets[at:end])
+    return data if data_size(data) <= 65535 else None
+
+
 def data_at(rtype, octets, at, end):
     """Data between two places, whose parts fill it exactly; nothing where it isn't read."""
     data = octets[at:end]
@@ -167,7 +192,7 @@ def data_at(rtype, octets, at, end):
         return ("Txt", data) if are_strings(data) else None
     if rtype == 41:
         return ("Opt", data) if are_options(data) else None
-    return ("Other", data)
+    return named_to(FORMS[rtype], octets, at, end) if rtype in FORMS else ("Other", data)
 
 
 def lowered_data(data):

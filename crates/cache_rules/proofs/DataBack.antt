@@ -5,7 +5,8 @@ use Rattle.dns_names.specs.Name.{name_at}
 use Rattle.dns_names.proofs.Heads.{then_ok, none_some, chosen}
 use Rattle.std.proofs.lemmas.Option.{some_pair_parts}
 use Rattle.dns_base.specs.Numbers.{u16_at, u32_at, ◌>>=◌}
-use Rattle.dns_base.specs.Data.{Data, A, Aaaa, One, Minfo, Mx, StartOfAuthority, Service, Txt, Opt, Other, is_one_name, are_strings, are_options, octets_to, name_to, minfo_to, mx_to, soa_to, srv_to, srv_with, whole, data_at}
+use Rattle.dns_base.specs.Forms.{Form, form_of, named_to}
+use Rattle.dns_base.specs.Data.{Data, A, Aaaa, One, Minfo, Mx, StartOfAuthority, Service, Named, Txt, Opt, Other, is_one_name, are_strings, are_options, octets_to, name_to, minfo_to, mx_to, soa_to, srv_to, srv_with, whole, formed_to, data_at}
 use Rattle.dns_base.specs.Message.{Entry, Known, record_at}
 use Rattle.dns_base.specs.Knowing.{lowered_data}
 use Rattle.dns_base.specs.DataReading.{DataReadsAs}
@@ -21,6 +22,7 @@ octets_in (Minfo first second) = None
 octets_in (Mx preference name) = None
 octets_in (StartOfAuthority soa) = None
 octets_in (Service srv) = None
+octets_in (Named it) = None
 octets_in (Txt octets) = Some octets
 octets_in (Opt octets) = Some octets
 octets_in (Other octets) = Some octets
@@ -78,6 +80,10 @@ module _ (d : Data) (os : Octets) (kept : octets_in d ≡ Some os) where
       let same : xs ≡ ys = cc in
       subst (λ zs. Some (Other zs) ≡ Some d) same e
 
+  formed : (form : Option Form) (o p : Octets) (at end from to : ℕ) → slice_range p from to ≡ os → formed_to form o at end ≡ Some d → formed_to form p from to ≡ Some d
+  formed (Some form) o p at end from to is = parted _ _ (map_shows_none Named (named_to form o at end) (λ x. refl))
+  formed None o p at end from to is = otherwise (slice_range o at end) (slice_range p from to) is
+
   -- the same octets at another place are read as the same data
   again : (rtype : ℕ) (o p : Octets) (at end from to : ℕ) → slice_range p from to ≡ os → data_at rtype o at end ≡ Some d → data_at rtype p from to ≡ Some d
   unfolding data_at
@@ -91,7 +97,7 @@ module _ (d : Data) (os : Octets) (kept : octets_in d ≡ Some os) where
       (step (rtype == 33) _ _ _ _ (parted _ _ (srv_shows_none o at end))
       (step (rtype == 16) _ _ _ _ (wholly are_strings Txt (λ x. refl) (slice_range o at end) (slice_range p from to) is)
       (step (rtype == 41) _ _ _ _ (wholly are_options Opt (λ x. refl) (slice_range o at end) (slice_range p from to) is)
-      (otherwise (slice_range o at end) (slice_range p from to) is)))))))))
+      (formed (form_of rtype) o p at end from to is)))))))))
       e
 
 -- the data of a record lies between two places of these octets
@@ -159,6 +165,7 @@ meant o k (Minfo a b) lies comes e = by_parts k (Minfo a b) e
 meant o k (Mx p n) lies comes e = by_parts k (Mx p n) e
 meant o k (StartOfAuthority s) lies comes e = by_parts k (StartOfAuthority s) e
 meant o k (Service s) lies comes e = by_parts k (Service s) e
+meant o k (Named x) lies comes e = by_parts k (Named x) e
 meant o k (Txt x) lies comes e = by_octets o k (Txt x) x refl lies comes e
 meant o k (Opt x) lies comes e = by_octets o k (Opt x) x refl lies comes e
 meant o k (Other x) lies comes e = by_octets o k (Other x) x refl lies comes e

@@ -230,7 +230,7 @@ met_of_read c m r e = go (tc_of m && not c.cache_truncated) refl
 -- a message that is not read
 
 -- a section of which each TTL is met is read
-read_of_least : (s : Section) (section : Option (List (Result Known ParseError))) (n v : ℕ) → least_in s section n ≡ Some v → (ks : List Known) × (option_and_then all_read section ≡ Some ks)
+pub read_of_least : (s : Section) (section : Option (List (Result Known ParseError))) (n v : ℕ) → least_in s section n ≡ Some v → (ks : List Known) × (option_and_then all_read section ≡ Some ks)
 read_of_least s None n v e = none_some e
 read_of_least s (Some items) n v e = let found = some_inside (λ ks. least n (having_ttl s ks)) (all_read items) v (sym (least_read s items n) ∙ e) in (found.0, found.1)
 

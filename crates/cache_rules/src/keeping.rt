@@ -1,6 +1,6 @@
 //! How long a result may be kept (RFC 2308 3, 5).
 
-ghost use Rattle.std.specs.Prelude.{◌≡◌, ◌≤◌, ℕ, length, false, Some, None, IsTrue, MatchResult, min};
+ghost use Rattle.std.specs.Prelude.{◌≡◌, ◌≤◌, length, [], Some, None, IfSome, IsSome, IsTrue, MatchResult, min};
 ghost use Rattle.dns_base.specs.Message.{first_question};
 ghost use Rattle.client_request.specs.Composed.{section_items};
 ghost use Rattle.right_trace.specs.Validity.{validity_of_message};
@@ -43,20 +43,16 @@ fn meets(records: RecordSection<'_>, rtype: Rtype, class: Class) -> bool
     false
 }
 
-/// Whether a section counts no record. None is met there then, whether those before it are read or not.
-#[tactic(auto, using(crate::proofs::EmptySections::none_in_answer, crate::proofs::EmptySections::none_in_authority, crate::proofs::EmptySections::none_in_additional))]
+/// Whether a section counts no record. Nothing is met there then, where those before it are read.
+#[tactic(auto, using(crate::proofs::EmptySections::none_in))]
 fn is_empty(message: &Message, section: Section) -> bool
-    ensures { IsTrue result → (t c : ℕ) → spec.section_meets t c (section_items section message.now) ≡ false }
+    ensures { IsTrue result → IfSome (section_items section message.now) (λ items. items ≡ []) }
 {
-    let counts = message.header_counts();
-    match section {
-        Section::Answer => counts.ancount() == 0,
-        Section::Authority => counts.nscount() == 0,
-        Section::Additional => counts.arcount() == 0,
-    }
+    message.has_no_records_in(section)
 }
 
 /// Whether such a record is met in a section, where those before it are read.
+#[tactic(auto, using(crate::proofs::EmptySections::nothing_met))]
 fn section_meets(message: &Message, section: Section, rtype: Rtype, class: Class) -> bool
     ensures { result ≡ spec.section_meets rtype.0 class.0 (section_items section message.now) }
 {
@@ -158,20 +154,38 @@ fn least_ttl(
     Ok(least)
 }
 
-/// The same of a section. Refused exactly where it or one before it can't be read.
+/// The least TTL of a section and what was found before. Refused exactly where it or a section before it can't be read.
 fn least_in(message: &Message, section: Section, before: Duration) -> Result<Duration, ParseError>
     ensures { MatchResult result (λ n. spec.least_in section (section_items section message.now) before ≡ Some n) (λ _. spec.least_in section (section_items section message.now) before ≡ None) }
 {
     least_ttl(section, section_of(message, section)?, before)
 }
 
+/// The least TTL of a section behind those that are read, and what was found before. One that counts no record is not
+/// looked for.
+#[tactic(auto, using(crate::proofs::EmptySections::nothing_less))]
+fn least_behind(
+    message: &Message,
+    section: Section,
+    before: Duration,
+) -> Result<Duration, ParseError>
+    requires { IsSome (section_items section message.now) }
+    ensures { MatchResult result (λ n. spec.least_in section (section_items section message.now) before ≡ Some n) (λ _. spec.least_in section (section_items section message.now) before ≡ None) }
+{
+    if is_empty(message, section) {
+        return Ok(before);
+    }
+    least_in(message, section, before)
+}
+
 /// The least TTL of a message and what was found before. Refused exactly where it can't be read.
+#[tactic(auto, using(crate::proofs::EmptySections::authority_behind_least, crate::proofs::EmptySections::additional_behind_least))]
 fn least_of(message: &Message, before: Duration) -> Result<Duration, ParseError>
     ensures { MatchResult result (λ n. spec.least_of message.now before ≡ Some n) (λ _. spec.least_of message.now before ≡ None) }
 {
     let least = least_in(message, Section::Answer, before)?;
-    let least = least_in(message, Section::Authority, least)?;
-    least_in(message, Section::Additional, least)
+    let least = least_behind(message, Section::Authority, least)?;
+    least_behind(message, Section::Additional, least)
 }
 
 /// Whether each of these records is read, and its data by its type.
@@ -190,7 +204,7 @@ fn are_known(records: RecordSection<'_>) -> bool
     true
 }
 
-/// The same of a section, where those before it are read.
+/// Whether each record of a section is read, and its data by its type, where those before it are read.
 fn section_is_known(message: &Message, section: Section) -> bool
     ensures { result ≡ spec.section_is_known (section_items section message.now) }
 {
@@ -200,13 +214,23 @@ fn section_is_known(message: &Message, section: Section) -> bool
     }
 }
 
+/// The same of a section behind those that are read. One that counts no record is not looked for.
+#[tactic(auto, using(crate::proofs::EmptySections::nothing_unknown))]
+fn is_known_behind(message: &Message, section: Section) -> bool
+    requires { IsSome (section_items section message.now) }
+    ensures { result ≡ spec.section_is_known (section_items section message.now) }
+{
+    is_empty(message, section) || section_is_known(message, section)
+}
+
 /// Whether the data of each record of a message is read by its type.
+#[tactic(auto, using(crate::proofs::EmptySections::authority_behind_known, crate::proofs::EmptySections::additional_behind_known))]
 fn is_known(message: &Message) -> bool
     ensures { result ≡ spec.is_known message.now }
 {
     section_is_known(message, Section::Answer)
-        && section_is_known(message, Section::Authority)
-        && section_is_known(message, Section::Additional)
+        && is_known_behind(message, Section::Authority)
+        && is_known_behind(message, Section::Additional)
 }
 
 /// The validity of a message by what it says; or 0, where the data of a record can't be read. What is 0 already is not

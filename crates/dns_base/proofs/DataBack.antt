@@ -6,13 +6,15 @@ use Rattle.std.proofs.lemmas.Bool.{le-leb, eqb-true}
 use Rattle.dns_names.specs.Name.{Labels, name_at, IsLegal, spelling, octet_count, lowered}
 use Rattle.dns_names.proofs.NameLaws.{spelled_length}
 use Rattle.dns_base.specs.Numbers.{u16_at, u32_at, ◌>>=◌}
-use Rattle.dns_base.specs.Data.{Data, A, Aaaa, One, Minfo, Mx, StartOfAuthority, Service, Txt, Opt, Other, Soa, Srv, is_one_name, is_of_type, name_to, octets_to, minfo_to, mx_to, soa_to, srv_to, data_at, data_spelling}
+use Rattle.dns_base.specs.Data.{Data, A, Aaaa, One, Minfo, Mx, StartOfAuthority, Service, Named, Txt, Opt, Other, Soa, Srv, is_one_name, is_of_type, name_to, octets_to, minfo_to, mx_to, soa_to, srv_to, data_at, data_spelling, data_size}
+use Rattle.dns_base.specs.Forms.{form_of}
 use Rattle.dns_base.specs.Message.{Known}
 use Rattle.dns_base.specs.Knowing.{lowered_data}
 use Rattle.dns_base.specs.Holding.{IsWritableData, IsPlace, ArePlaces}
 use Rattle.dns_base.specs.DataReading.{DataReadsAs}
 use Rattle.dns_base.specs.Compression.{Compressed, with_name, with_octets, with_u16, with_u32, with_numbers, with_data}
 use Rattle.dns_base.proofs.Compressing.{continues_on}
+use Rattle.dns_base.proofs.Named.{named_back, formed_read}
 use Rattle.dns_base.proofs.Stands.{Stands, first_stands, second_stands, range_stands, stands_within, number_stands, wide_stands, name_stands, Shows, shows_before, shows_added}
 use Rattle.dns_base.proofs.Places.{NameRead, name_read, name_remembered, octets_remembered, octets_shown}
 use Rattle.dns_base.proofs.Sizes.{appended_long, named_continues, appended_continues, begins_long}
@@ -171,28 +173,28 @@ plain_range : (octets : List ℕ) (n : ℕ) (c : Compressed) (o : List ℕ) → 
 plain_range octets n c o long s = range_stands o octets (length c.octets) _ (octets_shown octets n c o long s) (sym (appended_long octets c))
 
 -- The data of a record, read between where it was begun and where it ended.
-pub data_reads_as : (content : Data) (rtype n : ℕ) (c : Compressed) (o : List ℕ) (known : Known) → IsTrue (is_of_type rtype content) → IsWritableData content → n ≤ length c.octets
+pub data_reads_as : (content : Data) (rtype n : ℕ) (c : Compressed) (o : List ℕ) (known : Known) → IsTrue (is_of_type rtype content) → IsWritableData content → data_size content < 2 ^ 16 → n ≤ length c.octets
     → ArePlaces c.octets o c.places → Shows n (with_data content c).octets o → known.entry.octets ≡ slice_range o (length c.octets) (length (with_data content c).octets)
     → known.says ≡ data_at rtype o (length c.octets) (length (with_data content c).octets) → DataReadsAs known content
 unfolding data_at with_data data_spelling
-data_reads_as (A address) rtype n c o known t h long places s e says =
+data_reads_as (A address) rtype n c o known t h few long places s e says =
     let is : rtype ≡ 1 = eqb-true rtype 1 t in
     let there = octets_shown address n c o long s in
     let read : data_at rtype o (length c.octets) (length (with_octets address c).octets) ≡ Some (A address) = rw (is, octets_fill o address (length c.octets) _ 4 there h (sym (appended_long address c))) refl in
     ap (option_map lowered_data) (says ∙ read)
-data_reads_as (Aaaa address) rtype n c o known t h long places s e says =
+data_reads_as (Aaaa address) rtype n c o known t h few long places s e says =
     let is : rtype ≡ 28 = eqb-true rtype 28 t in
     let there = octets_shown address n c o long s in
     let read : data_at rtype o (length c.octets) (length (with_octets address c).octets) ≡ Some (Aaaa address) = rw (is, octets_fill o address (length c.octets) _ 16 there h (sym (appended_long address c))) refl in
     ap (option_map lowered_data) (says ∙ read)
-data_reads_as (One one name) rtype n c o known t h long places s e says =
+data_reads_as (One one name) rtype n c o known t h few long places s e says =
     let typed = both (is_one_name one) (rtype == one) t in
     let is : rtype ≡ one = eqb-true rtype one typed.1 in
     let end : ℕ = length (with_data (One one name) c).octets in
     let r : NameRead o (length c.octets) end name = one_back (one == 39) name n c o long h places s in
     let read : data_at rtype o (length c.octets) end ≡ Some (One one r.back) = ap (λ t. data_at t o (length c.octets) end) is ∙ one_name_read one o name (length c.octets) end typed.0 r in
     ap (option_map lowered_data) (says ∙ read) ∙ ap (λ l. Some (One one l)) r.same
-data_reads_as (Minfo first second) rtype n c o known t h long places s e says =
+data_reads_as (Minfo first second) rtype n c o known t h few long places s e says =
     let is : rtype ≡ 14 = eqb-true rtype 14 t in
     let c1 : Compressed = with_name first c in
     let c2 : Compressed = with_name second c1 in
@@ -203,7 +205,7 @@ data_reads_as (Minfo first second) rtype n c o known t h long places s e says =
     let read : data_at rtype o (length c.octets) (length c2.octets) ≡ Some (Minfo a.back b.back) = rw is (minfo_read o first second (length c.octets) (length c1.octets) (length c2.octets) a b) in
     let low : Some (Minfo (lowered a.back) (lowered b.back)) ≡ Some (Minfo (lowered first) (lowered second)) = rw (a.same, b.same) refl in
     ap (option_map lowered_data) (says ∙ read) ∙ low
-data_reads_as (Mx preference name) rtype n c o known t h long places s e says =
+data_reads_as (Mx preference name) rtype n c o known t h few long places s e says =
     let is : rtype ≡ 15 = eqb-true rtype 15 t in
     let c1 : Compressed = with_u16 preference c in
     let c2 : Compressed = with_name name c1 in
@@ -214,7 +216,7 @@ data_reads_as (Mx preference name) rtype n c o known t h long places s e says =
     let read : data_at rtype o (length c.octets) (length c2.octets) ≡ Some (Mx preference r.back) =
     rw is (mx_read o preference name (length c.octets) (length c1.octets) (length c2.octets) (octets_shown (to_be_bytes w16 preference) n c o long s1) h.0 next more r) in
     ap (option_map lowered_data) (says ∙ read) ∙ ap (λ l. Some (Mx preference l)) r.same
-data_reads_as (StartOfAuthority soa) rtype n c o known t h long places s e says =
+data_reads_as (StartOfAuthority soa) rtype n c o known t h few long places s e says =
     let is : rtype ≡ 6 = eqb-true rtype 6 t in
     let c1 : Compressed = with_name soa.mname c in
     let c2 : Compressed = with_name soa.rname c1 in
@@ -229,14 +231,20 @@ data_reads_as (StartOfAuthority soa) rtype n c o known t h long places s e says 
     let read : data_at rtype o (length c.octets) (length c3.octets) ≡ Some (StartOfAuthority (record soa { mname = m.back; rname = r.back })) =
     rw is (soa_read o soa (length c.octets) (length c1.octets) (length c2.octets) (length c3.octets) m r numbers (sym (numbers_long soa c2))) in
     ap (option_map lowered_data) (says ∙ read) ∙ ap (λ l. Some (StartOfAuthority (record soa { mname = l; rname = lowered r.back }))) m.same ∙ ap (λ l. Some (StartOfAuthority (record soa { mname = lowered soa.mname; rname = l }))) r.same
-data_reads_as (Service srv) rtype n c o known t h long places s e says =
+data_reads_as (Service srv) rtype n c o known t h few long places s e says =
     let is : rtype ≡ 33 = eqb-true rtype 33 t in
     let S : List ℕ = data_spelling (Service srv) in
     let read : data_at rtype o (length c.octets) (length (with_octets S c).octets) ≡ Some (Service srv) = rw is (srv_read o srv (length c.octets) _ (octets_shown S n c o long s) h (sym (appended_long S c))) in
     ap (option_map lowered_data) (says ∙ read)
-data_reads_as (Txt content) rtype n c o known t h long places s e says = e ∙ plain_range content n c o long s
-data_reads_as (Opt content) rtype n c o known t h long places s e says = e ∙ plain_range content n c o long s
-data_reads_as (Other content) rtype n c o known t h long places s e says = e ∙ plain_range content n c o long s
+data_reads_as (Named it) rtype n c o known t h few long places s e says =
+    let S : List ℕ = data_spelling (Named it) in
+    let end : ℕ = length (with_octets S c).octets in
+    let read : data_at rtype o (length c.octets) end ≡ Some (Named it) =
+    formed_read rtype it o (length c.octets) end t ∙ named_back (form_of rtype) o it (length c.octets) end (octets_shown S n c o long s) h.0 h.1 t few (sym (appended_long S c)) in
+    ap (option_map lowered_data) (says ∙ read)
+data_reads_as (Txt content) rtype n c o known t h few long places s e says = e ∙ plain_range content n c o long s
+data_reads_as (Opt content) rtype n c o known t h few long places s e says = e ∙ plain_range content n c o long s
+data_reads_as (Other content) rtype n c o known t h few long places s e says = e ∙ plain_range content n c o long s
 
 pub data_remembered : (content : Data) (n : ℕ) (c : Compressed) (o : List ℕ) → IsWritableData content → n ≤ length c.octets → ArePlaces c.octets o c.places → Shows n (with_data content c).octets o
     → ArePlaces (with_data content c).octets o (with_data content c).places
@@ -260,6 +268,7 @@ data_remembered (StartOfAuthority soa) n c o h long places s =
 data_remembered (A octets) n c o h long places s = octets_remembered octets c o places
 data_remembered (Aaaa octets) n c o h long places s = octets_remembered octets c o places
 data_remembered (Service srv) n c o h long places s = octets_remembered _ c o places
+data_remembered (Named it) n c o h long places s = octets_remembered _ c o places
 data_remembered (Txt octets) n c o h long places s = octets_remembered octets c o places
 data_remembered (Opt octets) n c o h long places s = octets_remembered octets c o places
 data_remembered (Other octets) n c o h long places s = octets_remembered octets c o places

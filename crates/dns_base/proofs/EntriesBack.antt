@@ -187,7 +187,7 @@ record_back w n c o long h places s =
         rtype = refl;
         class = refl;
         ttl = refl;
-        content = data_reads_as w.content w.rtype (length base.octets) base o known h.typed h.content (omega arith) remembered content
+        content = data_reads_as w.content w.rtype (length base.octets) base o known h.typed h.content h.short (omega arith) remembered content
             (ap (λ k. slice_range o k last) (sym at)) (ap (λ k. data_at w.rtype o k last) (sym at));
       };
     }

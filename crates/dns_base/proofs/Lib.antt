@@ -8,6 +8,7 @@ pub mod Holding
 pub mod Indexed
 pub mod Lists
 pub mod NameKeys
+pub mod Named
 pub mod Neighbours
 pub mod OtherLabels
 pub mod Places
@@ -19,3 +20,4 @@ pub mod Stands
 pub mod Steps
 pub mod Whole
 pub mod Worked
+pub mod WorkedForms

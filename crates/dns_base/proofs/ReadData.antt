@@ -13,7 +13,9 @@ use Rattle.dns_base.specs.Message.{Known}
 use Rattle.dns_base.specs.Knowing.{lowered_data}
 use Rattle.dns_base.specs.DataReading.{DataReadsAs}
 use Rattle.dns_base.specs.Numbers.{u16_at, u32_at, ◌>>=◌}
-use Rattle.dns_base.specs.Data.{Data, A, Aaaa, One, Minfo, Mx, StartOfAuthority, Service, Txt, Opt, Other, Soa, Srv, srv_with, whole, is_one_name, is_of_type, are_strings, are_options, name_to, octets_to, minfo_to, mx_to, soa_to, srv_to, data_at, data_size}
+use Rattle.dns_base.specs.Data.{Data, A, Aaaa, One, Minfo, Mx, StartOfAuthority, Service, Named, Txt, Opt, Other, Soa, Srv, srv_with, whole, is_one_name, is_of_type, are_strings, are_options, name_to, octets_to, minfo_to, mx_to, soa_to, srv_to, formed_to, data_at, data_size}
+use Rattle.dns_base.specs.Forms.{Form, form_of, named_to, has_form}
+use Rattle.dns_base.proofs.Named.{named_formed}
 
 -- Data that is kept as octets is all the octets.
 abbrev IsAll : List ℕ → Data → Type 0
@@ -131,6 +133,16 @@ soa_fits rtype octets at end d t e =
       | inr p ↦ none_some p.1
     ]
 
+formed_fits : (rtype : ℕ) (f : Option Form) (octets : List ℕ) (at end : ℕ) (d : Data) → form_of rtype ≡ f → end < at + 65536 → formed_to f octets at end ≡ Some d → Fits rtype (slice_range octets at end) d
+formed_fits rtype None octets at end d is h e =
+    let same : Other (slice_range octets at end) ≡ d = cc in
+    subst (Fits rtype (slice_range octets at end)) same (record { typed = refl; short = range_short octets at end h; all = refl })
+formed_fits rtype (Some form) octets at end d is h e =
+    let x = some_inside Named (named_to form octets at end) d e in
+    let formed = named_formed form octets at end x.0 x.1 in
+    let typed : has_form (form_of rtype) x.0 ≡ true = rw is formed.shaped in
+    subst (Fits rtype (slice_range octets at end)) x.2 (record { typed = typed; short = formed.short; all = tt })
+
 step : (P : Type 0) (d : Data) (b : Bool) (x y : Option Data) → (b ≡ true → x ≡ Some d → P) → (y ≡ Some d → P) → cond b x y ≡ Some d → P
 step P d true x y f g e = f refl e
 step P d false x y f g e = g e
@@ -148,7 +160,7 @@ data_fits rtype octets at end d h e =
     (step P d (rtype == 33) _ _ (λ t e. srv_fits rtype octets at end d t e)
     (step P d (rtype == 16) _ _ (λ t e. whole_fits are_strings Txt (λ _. refl) rtype octets at end d h (λ _. t) (λ _. refl) e)
     (step P d (rtype == 41) _ _ (λ t e. whole_fits are_options Opt (λ _. refl) rtype octets at end d h (λ _. t) (λ _. refl) e)
-    (λ e. let same : Other (slice_range octets at end) ≡ d = cc in subst (Fits rtype (slice_range octets at end)) same (record { typed = refl; short = range_short octets at end h; all = refl }))))))))))
+    (λ e. formed_fits rtype (form_of rtype) octets at end d refl h e)))))))))
     e
 
 pub typed_if_read : (r : Result RecordData ParseError) (rtype : ℕ) (octets : List ℕ) (at end : ℕ) → end < at + 65536
@@ -169,6 +181,7 @@ says_itself known (Minfo first second) e all = ap (option_map lowered_data) e
 says_itself known (Mx preference name) e all = ap (option_map lowered_data) e
 says_itself known (StartOfAuthority soa) e all = ap (option_map lowered_data) e
 says_itself known (Service srv) e all = ap (option_map lowered_data) e
+says_itself known (Named it) e all = ap (option_map lowered_data) e
 says_itself known (Txt content) e all = all
 says_itself known (Opt content) e all = all
 says_itself known (Other content) e all = all

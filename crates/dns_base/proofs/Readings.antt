@@ -1,13 +1,13 @@
 -- The parts of a message are what the readers of its sections meet.
-use Rattle.std.proofs.Common.{◌≡◌, ℕ, ◌≤◌, List, length, refl, ap, sym, ◌∙◌, subst, inl, inr}
+use Rattle.std.proofs.Common.{◌≡◌, ℕ, ◌≤◌, List, [], length, refl, ap, sym, ◌∙◌, subst, inl, inr}
 use Rattle.std.specs.Prelude.{Option, Some, None, option_and_then, option_map, nat_lt}
 use Rattle.std.proofs.lemmas.Bool.{le-ltb}
 use Rattle.dns_names.proofs.Heads.{then_ok, none_some, chosen}
 use Rattle.dns_base.specs.Numbers.{u16_at, ◌>>=◌}
 use Rattle.dns_base.specs.Header.{counts_of}
-use Rattle.dns_base.specs.Message.{Asked, Known, Reading, reads, header_of, all_read, question_at, record_at, list_at, items_at, questions_of, answer_of, authority_of, additional_of, answer_items, authority_items, additional_items}
+use Rattle.dns_base.specs.Message.{Asked, Known, Reading, reads, header_of, all_read, question_at, record_at, list_at, items_at, questions_of, answer_of, authority_of, additional_of, items_behind, answer_items, authority_items, additional_items}
 use Rattle.dns_base.specs.Answering.{question_items}
-use Rattle.dns_base.specs.ReadingLaws.{ItemsAre, AreCounted, ReadingLaws}
+use Rattle.dns_base.specs.ReadingLaws.{ItemsAre, AreCounted, AreEmpty, ReadingLaws}
 use Rattle.dns_base.proofs.Lists.{items_are_list, list_length}
 
 abbrev firsts : {A : Type 0} → Option (List A × ℕ) → Option (List A)
@@ -114,5 +114,18 @@ read_is_items octets questions answer authority additional long items =
     let d = first_of (additional_of octets) additional (sym (additional_met octets) ∙ items.additional_is) in
     rw (le-ltb (length octets) 12 long, q.1, a.1, u.1, d.1) refl
 
+none_behind : {A : Type 0} → (octets : List ℕ) (count : ℕ) (o : Option (List A × ℕ)) (xs : List A) → firsts o ≡ Some xs → count ≡ 0 → items_behind octets count o ≡ Some []
+unfolding items_at
+none_behind octets count None xs e n = none_some e
+none_behind octets count (Some x) xs e n = rw n refl
+
+are_empty : (octets : List ℕ) → AreEmpty octets
+unfolding answer_items authority_items additional_items
+are_empty octets = record {
+  answer = λ questions e n. none_behind octets (u16_at octets 6) (questions_of octets) questions (sym (questions_met octets) ∙ e) n;
+  authority = λ answer e n. none_behind octets (u16_at octets 8) (answer_of octets) answer (sym (answer_met octets) ∙ e) n;
+  additional = λ authority e n. none_behind octets (u16_at octets 10) (authority_of octets) authority (sym (authority_met octets) ∙ e) n;
+}
+
 pub reading_laws : ReadingLaws
-reading_laws = record { are_counted = are_counted; items_are_read = items_are_read; read_is_items = read_is_items }
+reading_laws = record { are_empty = are_empty; are_counted = are_counted; items_are_read = items_are_read; read_is_items = read_is_items }

@@ -2,12 +2,13 @@
 use Rattle.std.proofs.Common.{◌≡◌, ℕ, ◌+◌, ◌-◌, ◌<◌, ◌≤◌, List, [], ◌∷◌, ◌++◌, take, drop, length, refl, arith, ap, sym, ◌∙◌, subst, length-append, Bool, true, false}
 use Rattle.std.proofs.lemmas.List.{take-append-le, length-take, length-take-le, length-drop, take_at, take-take}
 use Rattle.std.proofs.Math.Seq.{take-append_seam}
+use Rattle.dns_base.proofs.Named.{named_long}
 use Rattle.dns_base.proofs.Compressing.{begins_itself, continues_on}
 use Rattle.std.specs.Prelude.{Option, Some, None, ◌==◌, if◌then◌else◌}
 use Rattle.std.specs.Int.{w16, w32, to_be_bytes}
 use Rattle.dns_names.specs.Name.{Labels, octet_count, spelling}
 use Rattle.dns_names.proofs.NameLaws.{spelled_length}
-use Rattle.dns_base.specs.Data.{Data, A, Aaaa, One, Minfo, Mx, StartOfAuthority, Service, Txt, Opt, Other, Srv, data_spelling, data_size}
+use Rattle.dns_base.specs.Data.{Data, A, Aaaa, One, Minfo, Mx, StartOfAuthority, Service, Named, Txt, Opt, Other, Srv, data_spelling, data_size}
 use Rattle.dns_base.specs.Message.{Asked, Written}
 use Rattle.dns_base.specs.Compression.{Compressed, found_at, pointer_or, name_octets, name_places, with_name, with_u16, with_u32, with_octets, with_data, with_numbers, with_fields, with_question, with_counted_data, with_record, counted, count_behind, Begins, Continues}
 use Rattle.dns_base.specs.Draft.{Draft, IsWithin, cleared, question_size, record_size}
@@ -62,6 +63,7 @@ data_long (StartOfAuthority soa) =
     let N : List ℕ = to_be_bytes w32 soa.minimum in
     omega (arith, length-append (M ++ R ++ S ++ F ++ T ++ X) N, length-append (M ++ R ++ S ++ F ++ T) X, length-append (M ++ R ++ S ++ F) T, length-append (M ++ R ++ S) F, length-append (M ++ R) S, length-append M R, spelled_length soa.mname, spelled_length soa.rname)
 data_long (Service srv) = srv_long srv
+data_long (Named it) = named_long it
 data_long (Txt octets) = refl
 data_long (Opt octets) = refl
 data_long (Other octets) = refl
@@ -82,6 +84,7 @@ data_at_most (StartOfAuthority soa) c =
 data_at_most (A octets) c = omega (arith, appended_long (data_spelling (A octets)) c, data_long (A octets))
 data_at_most (Aaaa octets) c = omega (arith, appended_long (data_spelling (Aaaa octets)) c, data_long (Aaaa octets))
 data_at_most (Service srv) c = omega (arith, appended_long (data_spelling (Service srv)) c, srv_long srv)
+data_at_most (Named it) c = omega (arith, appended_long (data_spelling (Named it)) c, data_long (Named it))
 data_at_most (Txt octets) c = omega (arith, appended_long (data_spelling (Txt octets)) c, data_long (Txt octets))
 data_at_most (Opt octets) c = omega (arith, appended_long (data_spelling (Opt octets)) c, data_long (Opt octets))
 data_at_most (Other octets) c = omega (arith, appended_long (data_spelling (Other octets)) c, data_long (Other octets))
@@ -137,6 +140,7 @@ data_continues (StartOfAuthority soa) c =
 data_continues (A octets) c = appended_continues octets c
 data_continues (Aaaa octets) c = appended_continues octets c
 data_continues (Service srv) c = appended_continues _ c
+data_continues (Named it) c = appended_continues _ c
 data_continues (Txt octets) c = appended_continues octets c
 data_continues (Opt octets) c = appended_continues octets c
 data_continues (Other octets) c = appended_continues octets c

@@ -6,10 +6,10 @@ use Rattle.dns_base.specs.Data.{A, One, Mx, Service, Opt, data_at, data_spelling
 use Rattle.dns_base.specs.Compression.{Compressed, found_at, name_octets, remembered, with_name, with_octets, with_data, with_question, with_fields, counted, with_counted_data, with_record}
 use Rattle.dns_base.specs.Message.{question_at, record_at, list_at, questions_of, answer_of, authority_of, additional_of, reads}
 
-abbrev example : List (List ℕ)
+abbrev pub example : List (List ℕ)
 example = (101 ∷ 120 ∷ 97 ∷ 109 ∷ 112 ∷ 108 ∷ 101 ∷ []) ∷ (99 ∷ 111 ∷ 109 ∷ []) ∷ []
 
-abbrev q : List ℕ
+abbrev pub q : List ℕ
 q = 7 ∷ 101 ∷ 120 ∷ 97 ∷ 109 ∷ 112 ∷ 108 ∷ 101 ∷ 3 ∷ 99 ∷ 111 ∷ 109 ∷ 0 ∷ 0 ∷ 1 ∷ 0 ∷ 1 ∷ []
 
 abbrev a_1234 : List ℕ
@@ -83,7 +83,7 @@ under_one = refl
 
 -- Names that are compressed (RFC 1035 4.1.4).
 
-abbrev top : Labels
+abbrev pub top : Labels
 top = (99 ∷ 111 ∷ 109 ∷ []) ∷ []
 
 abbrev mail : Labels
@@ -92,7 +92,7 @@ mail = (109 ∷ 97 ∷ 105 ∷ 108 ∷ []) ∷ example
 abbrev blank : Compressed
 blank = record { octets = replicate 12 0; places = [] }
 
-abbrev asked : Compressed
+abbrev pub asked : Compressed
 asked = record { octets = replicate 12 0 ++ q; places = 12 ∷ 20 ∷ [] }
 
 -- The first name is written out, and its labels are remembered.

@@ -68,7 +68,7 @@ with_u32 n c = with_octets (to_be_bytes w32 n) c
 unfoldable pub with_numbers : Soa → Compressed → Compressed
 with_numbers soa c = with_u32 soa.minimum (with_u32 soa.expire (with_u32 soa.retry (with_u32 soa.refresh (with_u32 soa.serial c))))
 
--- Names are compressed in the data of the types of RFC 1035 alone (RFC 3597 4): not in DNAME's and SRV's.
+-- Names are compressed in the data of the types of RFC 1035 alone (RFC 3597 4): not in DNAME's, in SRV's, and in those that have a form.
 unfoldable pub with_data : Data → Compressed → Compressed
 with_data (One rtype name) c = if rtype == 39 then with_octets (spelling name) c else with_name name c
 with_data (Minfo first second) c = with_name second (with_name first c)

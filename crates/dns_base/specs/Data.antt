@@ -1,8 +1,9 @@
--- What the data of a record says by its type: RFC 1035 3.3, and for the later types RFC 2782, RFC 3596, RFC 6672 and RFC 6891.
+-- What the data of a record says by its type: RFC 1035 3.3, and for the later types RFC 2782, RFC 3596, RFC 3597 4, RFC 6672 and RFC 6891.
 use Rattle.std.specs.Prelude.{ℕ, zero, suc, ◌+◌, ◌*◌, List, [], ◌∷◌, ◌++◌, length, Option, Some, None, option_and_then, option_map, slice_range, nat_le, ◌==◌, ◌||◌, ◌&&◌, Bool, true, false, if◌then◌else◌}
 use Rattle.std.specs.Int.{w16, w32, to_be_bytes}
 use Rattle.dns_names.specs.Name.{Labels, Found, name_at, spelling, octet_count}
 use Rattle.dns_base.specs.Numbers.{u16_at, u32_at, ◌>>=◌}
+use Rattle.dns_base.specs.Forms.{Form, NamedData, form_of, named_to, named_spelling, named_size, has_form}
 
 pub record Soa : Type 0 where
   pub mname : Labels
@@ -28,6 +29,7 @@ pub data Data : Type 0 where
   Mx : ℕ → Labels → Data
   StartOfAuthority : Soa → Data
   Service : Srv → Data
+  Named : NamedData → Data
   Txt : List ℕ → Data
   Opt : List ℕ → Data
   Other : List ℕ → Data
@@ -107,6 +109,11 @@ srv_to octets at end = if nat_le (at + 6) end then option_map (srv_with octets a
 abbrev pub whole : (List ℕ → Bool) → (List ℕ → Data) → List ℕ → Option Data
 whole is_whole as_data octets = if is_whole octets then Some (as_data octets) else None
 
+-- data of a form, if its type has one, or octets that are not looked into
+abbrev pub formed_to : Option Form → List ℕ → ℕ → ℕ → Option Data
+formed_to (Some form) octets at end = option_map Named (named_to form octets at end)
+formed_to None octets at end = Some (Other (slice_range octets at end))
+
 -- data of a type between two places, whose parts fill it exactly
 unfoldable pub data_at : ℕ → List ℕ → ℕ → ℕ → Option Data
 data_at rtype octets at end =
@@ -119,7 +126,7 @@ data_at rtype octets at end =
     else if rtype == 33 then srv_to octets at end
     else if rtype == 16 then whole are_strings Txt (slice_range octets at end)
     else if rtype == 41 then whole are_options Opt (slice_range octets at end)
-    else Some (Other (slice_range octets at end))
+    else formed_to (form_of rtype) octets at end
 
 -- the octets of data, with its names spelled out
 unfoldable pub data_spelling : Data → List ℕ
@@ -132,6 +139,7 @@ data_spelling (StartOfAuthority soa) =
     spelling soa.mname ++ spelling soa.rname ++ to_be_bytes w32 soa.serial ++ to_be_bytes w32 soa.refresh ++ to_be_bytes w32 soa.retry
     ++ to_be_bytes w32 soa.expire ++ to_be_bytes w32 soa.minimum
 data_spelling (Service srv) = to_be_bytes w16 srv.priority ++ to_be_bytes w16 srv.weight ++ to_be_bytes w16 srv.port ++ spelling srv.target
+data_spelling (Named it) = named_spelling it
 data_spelling (Txt octets) = octets
 data_spelling (Opt octets) = octets
 data_spelling (Other octets) = octets
@@ -145,6 +153,7 @@ data_size (Minfo first second) = octet_count first + octet_count second
 data_size (Mx preference name) = 2 + octet_count name
 data_size (StartOfAuthority soa) = octet_count soa.mname + octet_count soa.rname + 20
 data_size (Service srv) = 6 + octet_count srv.target
+data_size (Named it) = named_size it
 data_size (Txt octets) = length octets
 data_size (Opt octets) = length octets
 data_size (Other octets) = length octets
@@ -158,6 +167,7 @@ is_of_type rtype (Minfo _ _) = rtype == 14
 is_of_type rtype (Mx _ _) = rtype == 15
 is_of_type rtype (StartOfAuthority _) = rtype == 6
 is_of_type rtype (Service _) = rtype == 33
+is_of_type rtype (Named it) = has_form (form_of rtype) it
 is_of_type rtype (Txt _) = rtype == 16
 is_of_type rtype (Opt _) = rtype == 41
 is_of_type rtype (Other _) = true

@@ -6,7 +6,7 @@ use Rattle.dns_values.specs.declared.numbers.Section.TheVariants.{Answer, Author
 use Rattle.dns_names.specs.Name.{Labels, Found, IsLegal, lowered, name_at}
 use Rattle.dns_base.specs.Numbers.{◌>>=◌}
 use Rattle.dns_base.specs.Header.{Counts}
-use Rattle.dns_base.specs.Data.{Data, A, Aaaa, One, Minfo, Mx, StartOfAuthority, Service, Txt, Opt, Other, data_size, is_of_type}
+use Rattle.dns_base.specs.Data.{Data, A, Aaaa, One, Minfo, Mx, StartOfAuthority, Service, Named, Txt, Opt, Other, data_size, is_of_type}
 use Rattle.dns_base.specs.Message.{Asked, Written, Known, Reading, question_at, record_at, list_at}
 use Rattle.dns_base.specs.Knowing.{lowered_asked}
 use Rattle.dns_base.specs.DataReading.{DataReadsAs}
@@ -36,6 +36,10 @@ pub record IsAskable (q : Asked) : Type 0 where
   pub rtype : q.rtype < 2 ^ 16
   pub class : q.class < 2 ^ 16
 
+abbrev pub IsLegalSecond : Option Labels → Type 0
+IsLegalSecond None = Unit {0}
+IsLegalSecond (Some name) = IsLegal name
+
 -- data that can be written
 abbrev pub IsWritableData : Data → Type 0
 IsWritableData (A octets) = length octets ≡ 4
@@ -47,6 +51,7 @@ IsWritableData (StartOfAuthority soa) =
     IsLegal soa.mname × IsLegal soa.rname
     × ((soa.serial < 2 ^ 32) × (soa.refresh < 2 ^ 32) × (soa.retry < 2 ^ 32) × (soa.expire < 2 ^ 32) × (soa.minimum < 2 ^ 32))
 IsWritableData (Service srv) = (srv.priority < 2 ^ 16) × (srv.weight < 2 ^ 16) × (srv.port < 2 ^ 16) × IsLegal srv.target
+IsWritableData (Named it) = IsLegal it.first × IsLegalSecond it.second
 IsWritableData (Txt octets) = Unit {0}
 IsWritableData (Opt octets) = Unit {0}
 IsWritableData (Other octets) = Unit {0}

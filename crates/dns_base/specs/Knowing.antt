@@ -2,7 +2,8 @@
 use Rattle.std.specs.Prelude.{◌≡◌, ℕ, List, [], ◌∷◌, Option, Some, None, option_and_then, option_map, map}
 use Rattle.dns_names.specs.Name.{Labels, lowered}
 use Rattle.dns_base.specs.Numbers.{◌>>=◌}
-use Rattle.dns_base.specs.Data.{Data, A, Aaaa, One, Minfo, Mx, StartOfAuthority, Service, Txt, Opt, Other}
+use Rattle.dns_base.specs.Forms.{lowered_named}
+use Rattle.dns_base.specs.Data.{Data, A, Aaaa, One, Minfo, Mx, StartOfAuthority, Service, Named, Txt, Opt, Other}
 use Rattle.dns_base.specs.Message.{Asked, Written, Known, reads}
 
 pub record Knowing : Type 0 where
@@ -55,6 +56,7 @@ lowered_data (Minfo first second) = Minfo (lowered first) (lowered second)
 lowered_data (Mx preference name) = Mx preference (lowered name)
 lowered_data (StartOfAuthority soa) = StartOfAuthority (record soa { mname = lowered soa.mname; rname = lowered soa.rname })
 lowered_data (Service srv) = Service (record srv { target = lowered srv.target })
+lowered_data (Named it) = Named (lowered_named it)
 lowered_data (Txt octets) = Txt octets
 lowered_data (Opt octets) = Opt octets
 lowered_data (Other octets) = Other octets

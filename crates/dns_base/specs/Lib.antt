@@ -1,6 +1,7 @@
 pub mod Numbers
 pub mod Header
 pub mod Sections
+pub mod Forms
 pub mod Data
 pub mod Message
 pub mod Answering

@@ -1,7 +1,9 @@
 -- What the data of a record says, without where it lies in memory.
 use Rattle.dns_base.specs.declared.record_data.RecordData.{RecordData}
 use Rattle.dns_base.specs.declared.record_data.RecordData.TheVariants as variants
-use Rattle.dns_base.specs.Data.{Data, A, Aaaa, One, Minfo, Mx, StartOfAuthority, Service, Txt, Opt, Other}
+use Rattle.dns_base.specs.declared.named_data.Form as declared
+use Rattle.dns_base.specs.Forms.{Form}
+use Rattle.dns_base.specs.Data.{Data, A, Aaaa, One, Minfo, Mx, StartOfAuthority, Service, Named, Txt, Opt, Other}
 
 abbrev pub data_view : RecordData → Data
 data_view (variants.A address) = A address
@@ -27,6 +29,11 @@ data_view (variants.Soa mname rname serial refresh retry expire minimum) = Start
   minimum = minimum.0;
 })
 data_view (variants.Srv priority weight port target) = Service (record { priority = priority; weight = weight; port = port; target = target })
+data_view (variants.Named before first second behind) = Named (record { before = before.now; first = first; second = second; behind = behind.now })
 data_view (variants.Txt octets) = Txt octets.now
 data_view (variants.Opt octets) = Opt octets.now
 data_view (variants.Other octets) = Other octets.now
+
+-- the form that a form of the code is
+abbrev pub form_view : declared.Form → Form
+form_view it = record { octets = it.octets; strings = it.strings; has_second = it.has_second; has_rest = it.has_rest }

@@ -10,6 +10,7 @@ mod header;
 mod laws;
 mod lookups;
 mod message;
+mod named_data;
 mod numbers;
 mod opt_record;
 mod place;

@@ -1,15 +1,16 @@
 //! Messages, read where they lie.
 
-ghost use Rattle.std.specs.Prelude.{◌≡◌, ◌≤◌, ◌<◌, ◌↔◌, ℕ, List, ◌++◌, length, drop, option_map, IfOk, OnOk, OnErr, IsErr, MatchOption, MatchResult, None, Some};
+ghost use Rattle.std.specs.Prelude.{◌≡◌, ◌≤◌, ◌<◌, ◌↔◌, ℕ, List, ◌++◌, length, drop, option_map, IfOk, OnOk, OnErr, IsErr, IsTrue, MatchOption, MatchResult, None, Some};
 ghost use Rattle.dns_base.specs.Header.{counts_of};
 ghost use Rattle.dns_base.specs.Numbers.{u16_at};
+ghost use Rattle.dns_base.specs.Sections.{entries_in};
 ghost use Rattle.dns_base.specs.Message.{question_at, items_at, list_at, record_at, questions_of, answer_of, authority_of, first_question, sole_question, answer_items, authority_items, additional_items, header_of};
 
 use crate::header::{Header, HeaderCounts};
 use crate::numbers::u16_at;
 use crate::question::{Question, QuestionSection};
 use crate::record::{Record, RecordSection};
-use dns_values::{NoMemory, Octets, ParseError, ShortMessage};
+use dns_values::{NoMemory, Octets, ParseError, Section, ShortMessage};
 use std::alloc::Global;
 use std::marker::Model;
 
@@ -81,6 +82,13 @@ impl Message {
         ensures { result ≡ counts_of self.now }
     {
         HeaderCounts::of(self.as_slice())
+    }
+
+    /// Whether a section counts no record.
+    pub fn has_no_records_in(&self, section: Section) -> bool
+        ensures { IsTrue result ↔ (entries_in section (counts_of self.now) ≡ 0) }
+    {
+        self.header_counts().records_in(section) == 0
     }
 
     /// Sets the id and the flags. Where memory runs out the message is as it was.

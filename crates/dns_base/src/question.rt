@@ -6,7 +6,7 @@ ghost use Rattle.dns_values.specs.declared.error.ParseError.{ParseError};
 ghost use Rattle.dns_base.specs.Message.{Asked, question_at, items_at};
 
 use crate::numbers::u16_at;
-use dns_names::ParsedName;
+use dns_names::{ParsedName, ToName};
 use dns_values::{Class, ParseError, Rtype};
 use std::marker::Model;
 
@@ -25,6 +25,17 @@ impl<'a> Model for Question<'a> {
 }
 
 impl<'a> Question<'a> {
+    /// The question for the records of a type that a name has, of class IN (RFC 1035 4.1.2).
+    pub fn new<N: ToName>(name: &'a N, rtype: Rtype) -> Question<'a>
+        ensures { result ≡ record { name = N.labels_of name.now; rtype = rtype.0; class = 1 } }
+    {
+        Question {
+            qname: name.parsed(),
+            qtype: rtype,
+            qclass: Class::IN,
+        }
+    }
+
     /// The name that is asked for.
     pub fn qname(&self) -> ParsedName<'a>
         ensures { result ≡ self.now.name }

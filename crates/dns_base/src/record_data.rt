@@ -4,6 +4,7 @@ ghost use Rattle.std.specs.Prelude.{◌≡◌, ◌+◌, ◌≤◌, length, Match
 ghost use Rattle.dns_base.specs.Data.{are_strings, are_options, octets_to, name_to, minfo_to, mx_to, soa_to, srv_to, data_at};
 ghost use Rattle.dns_base.specs.RecordData.{data_view};
 
+use crate::named_data::{form_of, named_to};
 use crate::numbers::{u16_at, u32_at};
 use dns_names::ParsedName;
 use dns_values::{ParseError, Rtype, Serial, Ttl};
@@ -53,6 +54,14 @@ pub enum RecordData<'a> {
         weight: u16,
         port: u16,
         target: ParsedName<'a>,
+    },
+    /// Data of RP, AFSDB, RT, SIG, PX, NXT or NAPTR, whose names may be compressed too (RFC 3597 4): the octets before the
+    /// first name, the second name where the type has two, and the octets behind.
+    Named {
+        before: &'a [u8],
+        first: ParsedName<'a>,
+        second: Option<ParsedName<'a>>,
+        behind: &'a [u8],
     },
     /// Counted strings (RFC 1035 3.3.14).
     Txt(&'a [u8]),
@@ -247,6 +256,9 @@ pub(crate) fn data_at(
                 Err(ParseError)
             }
         }
-        _ => Ok(RecordData::Other(&octets[at..end])),
+        _ => match form_of(rtype) {
+            Some(form) => named_to(form, octets, at, end).ok_or(ParseError),
+            None => Ok(RecordData::Other(&octets[at..end])),
+        },
     }
 }

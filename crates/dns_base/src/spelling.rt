@@ -1,10 +1,11 @@
 //! Names and data of records with their names spelled out.
 
-ghost use Rattle.std.specs.Prelude.{◌≡◌, ◌≤◌, ◌<◌, ◌^◌, ◌++◌, length, IfOk, OnOk, IsTrue};
+ghost use Rattle.std.specs.Prelude.{◌≡◌, ◌+◌, ◌≤◌, ◌<◌, ◌^◌, ◌++◌, length, IfOk, OnOk, IsTrue};
 ghost use Rattle.std.specs.Int.{w16, w32, to_be_bytes};
 ghost use Rattle.dns_names.specs.Name.{spelling, octet_count, IsLegal};
 ghost use Rattle.dns_base.specs.Data.{data_spelling, data_size};
-ghost use Rattle.dns_base.specs.Holding.{IsWritableData};
+ghost use Rattle.dns_base.specs.Forms.{second_size, second_spelling};
+ghost use Rattle.dns_base.specs.Holding.{IsWritableData, IsLegalSecond};
 ghost use Rattle.dns_base.specs.RecordData.{data_view};
 ghost use Rattle.dns_base.specs.Compression.{Begins};
 
@@ -91,8 +92,45 @@ fn octets_size(octets: &[u8]) -> usize
     octets.len()
 }
 
+/// How many octets a second name has, if there is one.
+fn second_size(second: &Option<ParsedName<'_>>) -> usize
+    ensures all { result ≡ second_size second.now }
+    ensures few { result ≤ 255 }
+{
+    match second {
+        Some(name) => name_size(name),
+        None => 0,
+    }
+}
+
+/// How many octets data with names has.
+pub(crate) fn named_size(
+    before: &[u8],
+    first: &ParsedName<'_>,
+    second: &Option<ParsedName<'_>>,
+    behind: &[u8],
+) -> usize
+    requires { length before.now + length behind.now < 2 ^ 63 }
+    ensures { result ≡ length before.now + octet_count first.now + second_size second.now + length behind.now }
+{
+    before.len() + name_size(first) + second_size(second) + behind.len()
+}
+
+/// Appends a second name, if there is one.
+fn put_second(octets: &mut Vec<u8>, second: &Option<ParsedName<'_>>) -> Result<(), NoMemory>
+    ensures kept { Begins octets.old.items octets.new.items }
+    ensures items { OnOk result (octets.new.items ≡ octets.old.items ++ second_spelling second.now) }
+    ensures legal { OnOk result (IsLegalSecond second.now) }
+{
+    match second {
+        Some(name) => put_name(octets, name),
+        None => Ok(()),
+    }
+}
+
 /// How many octets data has.
 pub(crate) fn data_size(rdata: &RecordData<'_>) -> usize
+    requires { data_size (data_view rdata.now) < 65536 }
     ensures { result ≡ data_size (data_view rdata.now) }
 {
     match rdata {
@@ -111,6 +149,12 @@ pub(crate) fn data_size(rdata: &RecordData<'_>) -> usize
         RecordData::Mx(_, exchange) => 2 + name_size(exchange),
         RecordData::Soa { mname, rname, .. } => name_size(mname) + name_size(rname) + 20,
         RecordData::Srv { target, .. } => 6 + name_size(target),
+        RecordData::Named {
+            before,
+            first,
+            second,
+            behind,
+        } => named_size(before, first, second, behind),
         RecordData::Txt(octets) | RecordData::Opt(octets) | RecordData::Other(octets) =>
             octets.len(),
     }
@@ -170,6 +214,17 @@ pub(crate) fn put_data(octets: &mut Vec<u8>, rdata: &RecordData<'_>) -> Result<(
             put_u16(octets, *weight)?;
             put_u16(octets, *port)?;
             put_name(octets, target)
+        }
+        RecordData::Named {
+            before,
+            first,
+            second,
+            behind,
+        } => {
+            put_octets(octets, before)?;
+            put_name(octets, first)?;
+            put_second(octets, second)?;
+            put_octets(octets, behind)
         }
         RecordData::Txt(content) | RecordData::Opt(content) | RecordData::Other(content) => {
             put_octets(octets, content)

@@ -80,6 +80,7 @@ impl Compressor {
             | RecordData::Aaaa(_)
             | RecordData::Dname(_)
             | RecordData::Srv { .. }
+            | RecordData::Named { .. }
             | RecordData::Txt(_)
             | RecordData::Opt(_)
             | RecordData::Other(_) => self.put_spelled(rdata),

@@ -5,8 +5,9 @@ use Rattle.std.specs.Net.Addr.{segments_of}
 use Rattle.std.specs.Net.Text.{ipv4_text, ipv6_text}
 use Rattle.dns_values.specs.NumberNames.{class_text, type_text}
 use Rattle.dns_base.specs.Message.{Asked, Entry, Known}
-use Rattle.dns_base.specs.Data.{Data, Soa, Srv, A, Aaaa, One, Minfo, Mx, StartOfAuthority, Service, Txt, Opt, Other}
+use Rattle.dns_base.specs.Data.{Data, Soa, Srv, A, Aaaa, One, Minfo, Mx, StartOfAuthority, Service, Named, Txt, Opt, Other}
 use Rattle.dns_presentation.specs.Generic.{generic_text}
+use Rattle.dns_presentation.specs.Named.{named_text}
 use Rattle.dns_presentation.specs.Names.{absolute_text}
 
 -- the name, the class and the type, with tabs between
@@ -24,9 +25,9 @@ srv_text srv = decimal srv.priority ++ 32 ∷ decimal srv.weight ++ 32 ∷ decim
 -- types of which a message's reader looks into no data, and which have a form here
 abbrev pub has_form : ℕ → Bool
 has_form rtype =
-    rtype == 13 || rtype == 17 || rtype == 18 || rtype == 29 || rtype == 35 || rtype == 36 || rtype == 43 || rtype == 44 || rtype == 46
-    || rtype == 47 || rtype == 48 || rtype == 50 || rtype == 51 || rtype == 52 || rtype == 53 || rtype == 59 || rtype == 60 || rtype == 61
-    || rtype == 64 || rtype == 65 || rtype == 99 || rtype == 256 || rtype == 257
+    rtype == 13 || rtype == 29 || rtype == 36 || rtype == 43 || rtype == 44 || rtype == 46 || rtype == 47 || rtype == 48 || rtype == 50
+    || rtype == 51 || rtype == 52 || rtype == 53 || rtype == 59 || rtype == 60 || rtype == 61 || rtype == 64 || rtype == 65 || rtype == 99
+    || rtype == 256 || rtype == 257
 
 -- octets that a message's reader doesn't look into
 abbrev pub octets_text : ℕ → List ℕ → Option (List ℕ)
@@ -39,16 +40,21 @@ numbered_text whole (Service srv) = Some (srv_text srv)
 numbered_text whole (Opt octets) = Some (generic_text whole)
 numbered_text whole other = None
 
--- The text of data of a type, of which some octets are the whole. Of strings, and of the types above, it says nothing.
+-- Of strings, and of octets of the types above, it says nothing.
+abbrev pub typed_text : ℕ → List ℕ → Data → Option (List ℕ)
+typed_text rtype whole (Named it) = named_text rtype it
+typed_text rtype whole (Txt octets) = None
+typed_text rtype whole (Other octets) = octets_text rtype octets
+typed_text rtype whole other = numbered_text whole other
+
+-- the text of data of a type, of which some octets are the whole
 abbrev pub data_text : ℕ → List ℕ → Data → Option (List ℕ)
 data_text rtype whole (A octets) = Some (ipv4_text octets)
 data_text rtype whole (Aaaa octets) = Some (ipv6_text (segments_of octets))
 data_text rtype whole (One _ name) = Some (absolute_text name)
 data_text rtype whole (Minfo first second) = Some (absolute_text first ++ 32 ∷ absolute_text second)
 data_text rtype whole (Mx preference name) = Some (decimal preference ++ 32 ∷ absolute_text name)
-data_text rtype whole (Txt octets) = None
-data_text rtype whole (Other octets) = octets_text rtype octets
-data_text rtype whole other = numbered_text whole other
+data_text rtype whole other = typed_text rtype whole other
 
 -- data that can't be read is generic
 abbrev pub says_text : Entry → Option Data → Option (List ℕ)

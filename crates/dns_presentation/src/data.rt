@@ -1,15 +1,17 @@
 //! The data of records as text, by its type.
 
-ghost use Rattle.std.specs.Prelude.{◌≡◌};
+ghost use Rattle.std.specs.Prelude.{◌≡◌, ◌<◌};
 ghost use Rattle.std.specs.Fmt.{DisplaysOnOk};
+ghost use Rattle.dns_base.specs.Data.{data_size};
 ghost use Rattle.dns_base.specs.RecordData.{data_view};
-ghost use Rattle.dns_presentation.specs.Records.{has_form, octets_text, numbered_text, data_text, known_text};
+ghost use Rattle.dns_presentation.specs.Records.{has_form, octets_text, numbered_text, typed_text, data_text, known_text};
 
 use crate::base64::Base64;
 use crate::generic::Generic;
 use crate::location::Location;
+use crate::named::{NamedParts, write_named};
 use crate::names::Absolute;
-use crate::plain::{Caa, Naptr, Preferred, Sshfp, Strings, Tlsa, TwoNames, Uri, read_hinfo};
+use crate::plain::{Caa, Preferred, Sshfp, Strings, Tlsa, Uri, read_hinfo};
 use crate::security::{Dnskey, Ds, Hashing, Nsec, Nsec3, Rrsig};
 use crate::service::Service;
 use dns_base::{IpAddr, Record, RecordData, Rtype};
@@ -50,7 +52,7 @@ fn has_form(rtype: Rtype) -> bool
     ensures { result ≡ has_form rtype.0 }
 {
     match rtype {
-        Rtype::HINFO | Rtype::RP | Rtype::AFSDB | Rtype::LOC | Rtype::NAPTR | Rtype::KX => true,
+        Rtype::HINFO | Rtype::LOC | Rtype::KX => true,
         Rtype::DS | Rtype::SSHFP | Rtype::RRSIG | Rtype::NSEC | Rtype::DNSKEY => true,
         Rtype::NSEC3 | Rtype::NSEC3PARAM | Rtype::TLSA | Rtype::SMIMEA | Rtype::CDS => true,
         Rtype::CDNSKEY | Rtype::OPENPGPKEY | Rtype::SVCB | Rtype::HTTPS => true,
@@ -68,10 +70,8 @@ fn write_form<W: fmt::Write>(
     match rtype {
         Rtype::SPF => write_read(Strings::read(octets), octets, f),
         Rtype::HINFO => write_read(read_hinfo(octets), octets, f),
-        Rtype::RP => write_read(TwoNames::read(octets), octets, f),
-        Rtype::AFSDB | Rtype::KX => write_read(Preferred::read(octets), octets, f),
         Rtype::LOC => write_read(Location::read(octets), octets, f),
-        Rtype::NAPTR => write_read(Naptr::read(octets), octets, f),
+        Rtype::KX => write_read(Preferred::read(octets), octets, f),
         Rtype::SSHFP => write_read(Sshfp::read(octets), octets, f),
         Rtype::TLSA | Rtype::SMIMEA => write_read(Tlsa::read(octets), octets, f),
         Rtype::OPENPGPKEY if !octets.is_empty() => f.write(Base64(octets)),
@@ -129,6 +129,38 @@ fn write_numbered<W: fmt::Write>(
     }
 }
 
+/// Data with names of seven types more, strings, octets that aren't looked into, and data of types with numbers.
+#[tactic(auto, unfolding(dns_base::specs::Data::data_size))]
+fn write_typed<W: fmt::Write>(
+    rtype: Rtype,
+    known: &RecordData<'_>,
+    whole: &[u8],
+    f: &mut fmt::Formatter<W>,
+) -> fmt::Result
+    requires { data_size (data_view known.now) < 65536 }
+    ensures { DisplaysOnOk W.Write.write_str_gives f.old result (typed_text rtype.0 whole.now (data_view known.now)) f.new }
+{
+    match known {
+        RecordData::Named {
+            before,
+            first,
+            second,
+            behind,
+        } => {
+            let named = NamedParts {
+                before,
+                first,
+                second,
+                behind,
+            };
+            write_named(rtype, &named, f)
+        }
+        RecordData::Txt(strings) => write_read(Strings::read(strings), whole, f),
+        RecordData::Other(octets) => write_octets(rtype, octets, f),
+        _ => write_numbered(known, whole, f),
+    }
+}
+
 /// The data of a type.
 fn write_known<W: fmt::Write>(
     rtype: Rtype,
@@ -136,6 +168,7 @@ fn write_known<W: fmt::Write>(
     whole: &[u8],
     f: &mut fmt::Formatter<W>,
 ) -> fmt::Result
+    requires { data_size (data_view known.now) < 65536 }
     ensures { DisplaysOnOk W.Write.write_str_gives f.old result (data_text rtype.0 whole.now (data_view known.now)) f.new }
 {
     match known {
@@ -154,14 +187,12 @@ fn write_known<W: fmt::Write>(
             write!(f, "{} {}", Absolute(first), Absolute(second))
         }
         RecordData::Mx(preference, exchange) => write!(f, "{preference} {}", Absolute(exchange)),
-        RecordData::Txt(strings) => write_read(Strings::read(strings), whole, f),
-        RecordData::Other(octets) => write_octets(rtype, octets, f),
-        _ => write_numbered(known, whole, f),
+        _ => write_typed(rtype, known, whole, f),
     }
 }
 
 /// The data of a record alone, as it prints behind its type. Data of a type without a form here, or that can't be read
-/// by its type, is generic (RFC 3597 5).
+/// by its type, is generic (RFC 3597 5); names that are read stand there without compression.
 #[derive(Clone, Copy)]
 pub struct ShownData<'s, 'a>(pub &'s Record<'a>);
 

@@ -7,6 +7,7 @@ mod generic;
 mod laws;
 mod location;
 mod message;
+mod named;
 mod names;
 mod octets;
 mod options;

@@ -20,7 +20,7 @@ fn hex_digit(number: u8) -> u8
 
 /// An octet as two hexadecimal digits.
 #[derive(Clone, Copy)]
-struct HexOctet(u8);
+pub(crate) struct HexOctet(pub(crate) u8);
 
 impl Display for HexOctet {
     ghost output = { λ o. Some (hex_octet o.0) };

@@ -22,14 +22,6 @@ pub(crate) fn u32_front(data: &[u8]) -> Option<(u32, &[u8])> {
     }
 }
 
-/// So many octets.
-pub(crate) fn octets_front(data: &[u8], count: usize) -> Option<(&[u8], &[u8])> {
-    if data.len() < count {
-        return None;
-    }
-    Some(data.split_at(count))
-}
-
 /// Octets behind an octet that counts them (RFC 1035 3.3).
 pub(crate) fn string_front(whole: &[u8]) -> Option<(&[u8], &[u8])>
     ensures short { IfSome result (λ r. length r.0.now < 256) }

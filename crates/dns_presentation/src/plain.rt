@@ -50,30 +50,7 @@ pub(crate) fn read_hinfo(data: &[u8]) -> Option<Strings<'_>> {
     }
 }
 
-/// Two names: a mailbox and where there is text on it (RFC 1183 2.2).
-#[derive(Drop)]
-pub(crate) struct TwoNames<'a> {
-    first: ParsedName<'a>,
-    second: ParsedName<'a>,
-}
-
-impl<'a> TwoNames<'a> {
-    pub(crate) fn read(data: &'a [u8]) -> Option<TwoNames<'a>> {
-        let (first, rest) = parts::name_front(data)?;
-        let second = parts::sole_name(rest)?;
-        Some(TwoNames { first, second })
-    }
-}
-
-impl Display for TwoNames<'_> {
-    fn fmt<W: fmt::Write>(&self, f: &mut fmt::Formatter<W>) -> fmt::Result {
-        let first = Absolute(&self.first);
-        let second = Absolute(&self.second);
-        write!(f, "{first} {second}")
-    }
-}
-
-/// A preference and a name, of AFSDB (RFC 1183 1) and KX (RFC 2230 3).
+/// A preference and a name, of KX (RFC 2230 3).
 #[derive(Drop)]
 pub(crate) struct Preferred<'a> {
     preference: u16,
@@ -191,50 +168,6 @@ impl Display for Sshfp<'_> {
         let kind = self.kind;
         let fingerprint = Hex(self.fingerprint);
         write!(f, "{algorithm} {kind} {fingerprint}")
-    }
-}
-
-/// A rule that rewrites a name (RFC 3403 4.1).
-#[derive(Drop)]
-pub(crate) struct Naptr<'a> {
-    order: u16,
-    preference: u16,
-    strings: Strings<'a>,
-    replacement: ParsedName<'a>,
-}
-
-/// Three strings at the front, and what is behind them.
-fn three_strings(data: &[u8]) -> Option<(Strings<'_>, &[u8])> {
-    let (flags, rest) = parts::string_front(data)?;
-    let (services, rest) = parts::string_front(rest)?;
-    let (rule, _) = parts::string_front(rest)?;
-    let count = 3 + flags.len() + services.len() + rule.len();
-    let (strings, behind) = parts::octets_front(data, count)?;
-    Some((Strings(strings), behind))
-}
-
-impl<'a> Naptr<'a> {
-    pub(crate) fn read(data: &'a [u8]) -> Option<Naptr<'a>> {
-        let (order, rest) = parts::u16_front(data)?;
-        let (preference, rest) = parts::u16_front(rest)?;
-        let (strings, rest) = three_strings(rest)?;
-        let replacement = parts::sole_name(rest)?;
-        Some(Naptr {
-            order,
-            preference,
-            strings,
-            replacement,
-        })
-    }
-}
-
-impl Display for Naptr<'_> {
-    fn fmt<W: fmt::Write>(&self, f: &mut fmt::Formatter<W>) -> fmt::Result {
-        let order = self.order;
-        let preference = self.preference;
-        let strings = self.strings;
-        let replacement = Absolute(&self.replacement);
-        write!(f, "{order} {preference} {strings} {replacement}")
     }
 }
 

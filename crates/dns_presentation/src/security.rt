@@ -79,9 +79,9 @@ impl Display for Dnskey<'_> {
     }
 }
 
-/// What a signature covers, and when it holds (RFC 4034 3.1).
+/// What a signature covers, and when it holds (RFC 2535 4.1, RFC 4034 3.1).
 #[derive(Clone, Copy)]
-struct Signed {
+pub(crate) struct Signed {
     covered: Rtype,
     algorithm: u8,
     labels: u8,
@@ -92,7 +92,7 @@ struct Signed {
 }
 
 impl Signed {
-    fn front(data: &[u8]) -> Option<(Signed, &[u8])> {
+    pub(crate) fn front(data: &[u8]) -> Option<(Signed, &[u8])> {
         let (covered, rest) = parts::u16_front(data)?;
         let [algorithm, labels, rest @ ..] = rest else {
             return None;

@@ -81,3 +81,14 @@ impl Display for TypeSet<'_> {
         Ok(())
     }
 }
+
+/// Types below 128 by bits, the highest bit of the first octet for type 0, each of which prints with a blank before it (RFC
+/// 2535 5.2).
+#[derive(Clone, Copy)]
+pub(crate) struct TypeBits<'a>(pub(crate) &'a [u8]);
+
+impl Display for TypeBits<'_> {
+    fn fmt<W: fmt::Write>(&self, f: &mut fmt::Formatter<W>) -> fmt::Result {
+        write_window(0, self.0, f)
+    }
+}

@@ -1,13 +1,14 @@
 -- A record of the question's name, written by a pointer to it: its own octets.
 use Rattle.std.proofs.Common.{◌≡◌, ℕ, suc, ◌+◌, ◌-◌, ◌<◌, ◌≤◌, inl, inr, List, [], ◌∷◌, ◌++◌, length, take, drop, refl, ap, ◌∙◌, arith, length-append, append_assoc, append-nil, Bool, true, false, ◌==◌, ◌||◌, ◌&&◌}
-use Rattle.std.specs.Prelude.{Option, Some, None, option_map, slice_range, slice_index, nat_le, if◌then◌else◌}
+use Rattle.std.specs.Prelude.{Option, Some, None, is_some, option_map, slice_range, slice_index, nat_le, if◌then◌else◌}
 use Rattle.std.specs.Int.{w16, w32, from_be_bytes, to_be_bytes}
 use Rattle.std.proofs.lemmas.Bool.{leb-true, eqb-true, not-true}
 use Rattle.std.proofs.lemmas.List.{take_at, drop_at}
 use Rattle.dns_names.proofs.Heads.{chosen, none_some}
 use Rattle.dns_names.specs.Name.{Labels}
 use Rattle.dns_base.specs.Compression.{Compressed, found_at, with_name, with_octets, with_u16, with_data, with_fields, with_counted_data, with_record, counted}
-use Rattle.dns_base.specs.Data.{Data, A, Aaaa, One, Txt, Opt, Other, is_one_name, are_options, are_strings, data_at, data_spelling, minfo_to, mx_to, name_to, soa_to, srv_to, whole}
+use Rattle.dns_base.specs.Data.{Data, A, Aaaa, One, Txt, Opt, Other, is_one_name, are_options, are_strings, data_at, data_spelling, minfo_to, mx_to, name_to, soa_to, srv_to, whole, formed_to}
+use Rattle.dns_base.specs.Forms.{Form, form_of}
 use Rattle.dns_base.specs.Message.{Entry, Written}
 use Rattle.dns_base.specs.Numbers.{u16_at}
 use Rattle.client_request.proofs.Writable.{AreOctets}
@@ -107,16 +108,21 @@ raw_copies : (octets : List ℕ) (c : Compressed) → with_data (Other octets) c
 unfolding with_data data_spelling
 raw_copies octets c = refl
 
+formed_copies : (entry : Entry) (form : Option Form) (m : List ℕ) (at end : ℕ) → is_some form ≡ false → Copies entry (slice_range m at end) (formed_to form m at end)
+formed_copies entry None m at end e = raw_copies (slice_range m at end)
+formed_copies entry (Some form) m at end e = absurd cc
+
 pub data_copies : (entry : Entry) (rtype : ℕ) (m : List ℕ) (at end : ℕ) → is_copied rtype ≡ true → entry.octets ≡ slice_range m at end
     → Copies entry (slice_range m at end) (data_at rtype m at end)
 unfolding data_at
 data_copies entry rtype m at end kind e =
     let octets : List ℕ = slice_range m at end in
-    let t1 = neither (is_one_name rtype) (rtype == 6 || (rtype == 14 || (rtype == 15 || (rtype == 33 || rtype == 41)))) (not-true _ kind) in
-    let t2 = neither (rtype == 6) (rtype == 14 || (rtype == 15 || (rtype == 33 || rtype == 41))) t1.1 in
-    let t3 = neither (rtype == 14) (rtype == 15 || (rtype == 33 || rtype == 41)) t2.1 in
-    let t4 = neither (rtype == 15) (rtype == 33 || rtype == 41) t3.1 in
-    let t5 = neither (rtype == 33) (rtype == 41) t4.1 in
+    let t1 = neither (is_one_name rtype) _ (not-true _ kind) in
+    let t2 = neither (rtype == 6) _ t1.1 in
+    let t3 = neither (rtype == 14) _ t2.1 in
+    let t4 = neither (rtype == 15) _ t3.1 in
+    let t5 = neither (rtype == 33) _ t4.1 in
+    let t6 = neither (rtype == 41) (is_some (form_of rtype)) t5.1 in
     either_copies entry octets (rtype == 1) _ _ (λ _. address_copies entry octets A (at + 4 == end) e (a_copies octets)) (λ _.
     either_copies entry octets (rtype == 28) _ _ (λ _. address_copies entry octets Aaaa (at + 16 == end) e (aaaa_copies octets)) (λ _.
     either_copies entry octets (is_one_name rtype) _ _ (never entry octets _ (option_map (λ x. One rtype x) (name_to m at end)) t1.0) (λ _.
@@ -125,7 +131,7 @@ data_copies entry rtype m at end kind e =
     either_copies entry octets (rtype == 6) _ _ (never entry octets _ (soa_to m at end) t2.0) (λ _.
     either_copies entry octets (rtype == 33) _ _ (never entry octets _ (srv_to m at end) t5.0) (λ _.
     either_copies entry octets (rtype == 16) _ _ (λ _. either_copies entry octets (are_strings octets) _ _ (λ _. txt_copies octets) (λ _. other_copies entry octets e)) (λ _.
-    either_copies entry octets (rtype == 41) _ _ (never entry octets _ (whole are_options Opt octets) t5.1) (λ _. raw_copies octets)))))))))
+    either_copies entry octets (rtype == 41) _ _ (never entry octets _ (whole are_options Opt octets) t6.0) (λ _. formed_copies entry (form_of rtype) m at end t6.1)))))))))
 
 -- A name that stands at place 12 is written as a pointer.
 pub pointed : (c : Compressed) (name : Labels) → 0 < length name → found_at c.octets c.places name ≡ Some 12 → with_name name c ≡ record c { octets = c.octets ++ (192 ∷ 12 ∷ []) }

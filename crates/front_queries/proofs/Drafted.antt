@@ -1,6 +1,6 @@
 -- What is composed of simple records: the draft grows by their own octets.
-use Rattle.std.proofs.Common.{◌≡◌, ℕ, zero, suc, ◌+◌, ◌<◌, ◌≤◌, List, [], ◌∷◌, ◌++◌, length, take, drop, refl, ap, sym, subst, ◌∙◌, arith, append_assoc, Bool, true, false, ◌==◌, ◌||◌}
-use Rattle.std.specs.Prelude.{Some, None, Ok, slice_range, slice_get, replicate, if◌then◌else◌}
+use Rattle.std.proofs.Common.{◌≡◌, ℕ, zero, suc, ◌+◌, ◌<◌, ◌≤◌, List, [], ◌∷◌, ◌++◌, length, take, drop, refl, ap, sym, subst, ◌∙◌, arith, append_assoc, Bool, true, false, ◌==◌}
+use Rattle.std.specs.Prelude.{Some, None, is_some, Ok, slice_range, slice_get, replicate, if◌then◌else◌}
 use Rattle.std.specs.Option.{option_or}
 use Rattle.std.specs.Int.{w16, to_be_bytes}
 use Rattle.std.specs.Cmp.Lexicographic.{pointwise}
@@ -19,7 +19,8 @@ use Rattle.dns_names.specs.Name.{Labels, IsLegal, at_pointer, lowered, name_at, 
 use Rattle.dns_base.proofs.Lists.{list_step}
 use Rattle.dns_base.proofs.Stands.{name_stands}
 use Rattle.dns_base.specs.Compression.{Compressed, found_at, stands_at, with_record}
-use Rattle.dns_base.specs.Data.{data_at}
+use Rattle.dns_base.specs.Data.{is_one_name, data_at}
+use Rattle.dns_base.specs.Forms.{form_of}
 use Rattle.dns_base.specs.Draft.{Draft, counts_in, pushed_record, refusal}
 use Rattle.dns_base.specs.Header.{Counts}
 use Rattle.dns_base.specs.Message.{Known, items_at, list_at, record_at}
@@ -155,12 +156,12 @@ one_in Additional counts = refl
 
 is_no_opt : (rtype : ℕ) → is_copied rtype ≡ true → (rtype == 41) ≡ false
 is_no_opt rtype kind =
-    let t1 = neither _ (rtype == 6 || (rtype == 14 || (rtype == 15 || (rtype == 33 || rtype == 41)))) (not-true _ kind) in
-    let t2 = neither (rtype == 6) (rtype == 14 || (rtype == 15 || (rtype == 33 || rtype == 41))) t1.1 in
-    let t3 = neither (rtype == 14) (rtype == 15 || (rtype == 33 || rtype == 41)) t2.1 in
-    let t4 = neither (rtype == 15) (rtype == 33 || rtype == 41) t3.1 in
-    let t5 = neither (rtype == 33) (rtype == 41) t4.1 in
-    t5.1
+    let t1 = neither (is_one_name rtype) _ (not-true _ kind) in
+    let t2 = neither (rtype == 6) _ t1.1 in
+    let t3 = neither (rtype == 14) _ t2.1 in
+    let t4 = neither (rtype == 15) _ t3.1 in
+    let t5 = neither (rtype == 33) _ t4.1 in
+    (neither (rtype == 41) (is_some (form_of rtype)) t5.1).0
 
 stays : (section : Section) (known : Known) → (known.entry.rtype == 41) ≡ false → is_replaced section known ≡ false
 stays Answer known e = refl

@@ -1,8 +1,9 @@
 -- Replies whose own octets are what is composed of them, but for their id and their OPT record.
-use Rattle.std.specs.Prelude.{ℕ, zero, suc, ◌+◌, ◌-◌, ◌==◌, ◌&&◌, ◌||◌, not, nat_le, nat_lt, Bool, List, [], ◌++◌, length, Option, Some, None, option_map, option_and_then, slice_index, slice_range, if◌then◌else◌}
+use Rattle.std.specs.Prelude.{ℕ, zero, suc, ◌+◌, ◌-◌, ◌==◌, ◌&&◌, ◌||◌, not, nat_le, nat_lt, Bool, List, [], ◌++◌, length, Option, Some, None, is_some, option_map, option_and_then, slice_index, slice_range, if◌then◌else◌}
 use Rattle.std.specs.Cmp.Lexicographic.{pointwise}
 use Rattle.dns_names.specs.Name.{spelling}
 use Rattle.dns_base.specs.Data.{is_one_name}
+use Rattle.dns_base.specs.Forms.{form_of}
 use Rattle.dns_base.specs.Header.{Counts, id_of, with_id}
 use Rattle.dns_base.specs.Message.{header_of}
 use Rattle.dns_base.specs.Numbers.{u16_at}
@@ -15,7 +16,7 @@ use Rattle.front_queries.specs.declared.simple.Simple.{Simple}
 
 -- Data of this type is written as its octets stand: no name is looked for in it. An OPT record is not written.
 abbrev pub is_copied : (rtype : ℕ) → Bool
-is_copied rtype = not (is_one_name rtype || (rtype == 6 || (rtype == 14 || (rtype == 15 || (rtype == 33 || rtype == 41)))))
+is_copied rtype = not (is_one_name rtype || (rtype == 6 || (rtype == 14 || (rtype == 15 || (rtype == 33 || (rtype == 41 || is_some (form_of rtype)))))))
 
 -- Fourteen bits of a pointer name the place of the question's name, at which its first two octets say so; the data is written as it stands.
 abbrev pub is_of_question : List ℕ → ℕ → Bool

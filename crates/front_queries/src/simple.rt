@@ -1,6 +1,7 @@
 //! Replies whose own octets are what is composed of them, but for their id and their OPT record.
 
-ghost use Rattle.std.specs.Prelude.{◌≡◌, ◌+◌, ◌≤◌, ◌<◌, ℕ, length, slice_index, IfSome, IfOk, Ok, Some};
+ghost use Rattle.std.specs.Prelude.{◌≡◌, ◌+◌, ◌≤◌, ◌<◌, ℕ, length, is_some, slice_index, IfSome, IfOk, Ok, Some};
+ghost use Rattle.dns_base.specs.Forms.{form_of};
 ghost use Rattle.dns_base.specs.Header.{id_of, with_id};
 ghost use Rattle.dns_base.specs.Message.{header_of};
 ghost use Rattle.dns_base.specs.Numbers.{u16_at};
@@ -31,14 +32,22 @@ fn u16_at(octets: &[u8], at: usize) -> u16
     u16::from_be_bytes([octets[at], octets[at + 1]])
 }
 
+/// Whether data of a type has names that are read out of it, though it is none of RFC 1035 (RFC 3597 4).
+fn has_form(rtype: u16) -> bool
+    ensures { result ≡ is_some (form_of rtype) }
+{
+    matches!(rtype, 17 | 18 | 21 | 24 | 26 | 30 | 35)
+}
+
 /// Whether data of a type is written as its octets stand: no name is in it that is written anew.
 fn is_copied(rtype: u16) -> bool
     ensures { result ≡ spec.is_copied rtype }
 {
-    !matches!(
-        rtype,
-        2 | 3 | 4 | 5 | 7 | 8 | 9 | 12 | 39 | 6 | 14 | 15 | 33 | 41
-    )
+    !has_form(rtype)
+        && !matches!(
+            rtype,
+            2 | 3 | 4 | 5 | 7 | 8 | 9 | 12 | 39 | 6 | 14 | 15 | 33 | 41
+        )
 }
 
 /// Whether a record at a place belongs to the question's name, and its data is written as it stands.

@@ -5,7 +5,7 @@ use Rattle.std.specs.List.{AllZip, filter}
 use Rattle.dns_values.specs.declared.error.ParseError.{ParseError}
 use Rattle.dns_values.specs.declared.numbers.Section.{Section}
 use Rattle.dns_names.specs.Name.{same_name, lowered}
-use Rattle.dns_base.specs.Data.{Data, A, Aaaa, One, Minfo, Mx, StartOfAuthority, Service, Txt, Opt, Other}
+use Rattle.dns_base.specs.Data.{Data, A, Aaaa, One, Minfo, Mx, StartOfAuthority, Service, Named, Txt, Opt, Other}
 use Rattle.dns_base.specs.DataReading.{DataReadsAs}
 use Rattle.dns_base.specs.Knowing.{lowered_asked, lowered_data}
 use Rattle.dns_base.specs.Message.{Asked, Known, Written, all_read}
@@ -39,6 +39,7 @@ data_reads k (Minfo a b) e = says k.says (Minfo a b) e
 data_reads k (Mx p n) e = says k.says (Mx p n) e
 data_reads k (StartOfAuthority s) e = says k.says (StartOfAuthority s) e
 data_reads k (Service s) e = says k.says (Service s) e
+data_reads k (Named it) e = says k.says (Named it) e
 
 data_read : (k : Known) (d : Data) → DataReadsAs k d → data_reads_as k d ≡ true
 data_read k (Txt o) e = same_octets_are k.entry.octets o e
@@ -51,6 +52,7 @@ data_read k (Minfo a b) e = said k.says (Minfo a b) e
 data_read k (Mx p n) e = said k.says (Mx p n) e
 data_read k (StartOfAuthority s) e = said k.says (StartOfAuthority s) e
 data_read k (Service s) e = said k.says (Service s) e
+data_read k (Named it) e = said k.says (Named it) e
 
 reads : (k : Known) (w : Written) → reads_as k w ≡ true → ReadsAs k w
 reads k w e =

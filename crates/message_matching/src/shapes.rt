@@ -1,6 +1,7 @@
 //! The data of a record in its parts.
 
 ghost use Rattle.std.specs.Prelude.{◌≡◌, None, Some, [], option_copied};
+ghost use Rattle.dns_base.specs.Data.{Named};
 ghost use Rattle.dns_base.specs.RecordData.{data_view};
 ghost use Rattle.message_matching.specs.Shapes as spec;
 
@@ -12,6 +13,7 @@ use std::marker::Model;
 pub(crate) struct DataShape<'a> {
     kind: u8,
     octets: &'a [u8],
+    behind: &'a [u8],
     numbers: [u32; 5],
     first: Option<ParsedName<'a>>,
     second: Option<ParsedName<'a>>,
@@ -22,15 +24,16 @@ impl<'a> Model for DataShape<'a> {
 
     ghost Value = { Shape };
 
-    ghost view = { λ s. record { kind = s.kind; octets = s.octets.now; numbers = s.numbers; first = s.first; second = s.second } };
+    ghost view = { λ s. record { kind = s.kind; octets = s.octets.now; behind = s.behind.now; numbers = s.numbers; first = s.first; second = s.second } };
 }
 
 fn of_octets<'a>(kind: u8, octets: &'a [u8]) -> DataShape<'a>
-    ensures { result ≡ record { kind = kind; octets = octets.now; numbers = spec.five 0 0 0 0 0; first = None; second = None } }
+    ensures { result ≡ record { kind = kind; octets = octets.now; behind = []; numbers = spec.five 0 0 0 0 0; first = None; second = None } }
 {
     DataShape {
         kind,
         octets,
+        behind: &[],
         numbers: [0; 5],
         first: None,
         second: None,
@@ -39,11 +42,12 @@ fn of_octets<'a>(kind: u8, octets: &'a [u8]) -> DataShape<'a>
 
 /// Data that is one name behind its numbers.
 fn of_name<'a>(kind: u8, numbers: [u32; 5], name: &ParsedName<'a>) -> DataShape<'a>
-    ensures { result ≡ record { kind = kind; octets = []; numbers = numbers; first = Some name.now; second = None } }
+    ensures { result ≡ record { kind = kind; octets = []; behind = []; numbers = numbers; first = Some name.now; second = None } }
 {
     DataShape {
         kind,
         octets: &[],
+        behind: &[],
         numbers,
         first: Some(name.again()),
         second: None,
@@ -57,11 +61,12 @@ fn of_names<'a>(
     first: &ParsedName<'a>,
     second: &ParsedName<'a>,
 ) -> DataShape<'a>
-    ensures { result ≡ record { kind = kind; octets = []; numbers = numbers; first = Some first.now; second = Some second.now } }
+    ensures { result ≡ record { kind = kind; octets = []; behind = []; numbers = numbers; first = Some first.now; second = Some second.now } }
 {
     DataShape {
         kind,
         octets: &[],
+        behind: &[],
         numbers,
         first: Some(first.again()),
         second: Some(second.again()),
@@ -70,9 +75,38 @@ fn of_names<'a>(
 
 /// Data that is one name, of a type.
 fn of_one<'a>(rtype: u32, name: &ParsedName<'a>) -> DataShape<'a>
-    ensures { result ≡ record { kind = 2; octets = []; numbers = spec.five rtype 0 0 0 0; first = Some name.now; second = None } }
+    ensures { result ≡ record { kind = 2; octets = []; behind = []; numbers = spec.five rtype 0 0 0 0; first = Some name.now; second = None } }
 {
     of_name(2, [rtype, 0, 0, 0, 0], name)
+}
+
+/// A name again, if there is one.
+fn found_again<'a>(name: &Option<ParsedName<'a>>) -> Option<ParsedName<'a>>
+    ensures { result ≡ name.now }
+{
+    match name {
+        Some(name) => Some(name.again()),
+        None => None,
+    }
+}
+
+/// Data that is one name or two between octets.
+fn of_named<'a>(
+    before: &'a [u8],
+    first: &ParsedName<'a>,
+    second: &Option<ParsedName<'a>>,
+    behind: &'a [u8],
+) -> DataShape<'a>
+    ensures { result ≡ spec.shape_of (Named (record { before = before.now; first = first.now; second = second.now; behind = behind.now })) }
+{
+    DataShape {
+        kind: 10,
+        octets: before,
+        behind,
+        numbers: [0; 5],
+        first: Some(first.again()),
+        second: found_again(second),
+    }
 }
 
 /// The parts of data.
@@ -125,6 +159,12 @@ fn shape_of<'a>(content: &'a RecordData<'a>) -> DataShape<'a>
             ],
             target,
         ),
+        RecordData::Named {
+            before,
+            first,
+            second,
+            behind,
+        } => of_named(before, first, second, behind),
         RecordData::Txt(octets) => of_octets(7, octets),
         RecordData::Opt(octets) => of_octets(8, octets),
         RecordData::Other(octets) => of_octets(9, octets),
@@ -160,6 +200,7 @@ fn is_same_shape(a: &DataShape<'_>, b: &DataShape<'_>) -> bool
 {
     a.kind == b.kind
         && a.octets == b.octets
+        && a.behind == b.behind
         && a.numbers == b.numbers
         && is_same_found(&a.first, &b.first)
         && is_same_found(&a.second, &b.second)

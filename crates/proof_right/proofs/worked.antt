@@ -5,6 +5,7 @@ pub mod Servers
 pub mod Resting
 pub mod Runs
 pub mod Rightness
+pub mod Names
 pub mod Hits
 pub mod Deferred
 pub mod Dgrams

@@ -3,6 +3,7 @@ pub mod Rows
 pub mod Dgrams
 pub mod Streams
 pub mod Cache
+pub mod Names
 pub mod Stale
 pub mod Servers
 pub mod Wrong

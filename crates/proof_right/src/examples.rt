@@ -5,6 +5,7 @@ ghost use Rattle.right_trace.specs.Right.{Right};
 ghost use Rattle.right_trace.specs.Timely.{Timely};
 ghost use Rattle.proof_right.specs.examples.Dgrams.{WorkedDatagrams};
 ghost use Rattle.right_trace.specs.Settings.{first_settings};
+ghost use Rattle.proof_right.specs.examples.Names.{named_again};
 ghost use Rattle.proof_right.specs.examples.Rows.{by_datagrams, deferring, two_servers};
 ghost use Rattle.proof_right.specs.examples.Hits.{WorkedHit};
 ghost use Rattle.proof_right.specs.examples.Runs.{IsARun};
@@ -27,6 +28,12 @@ pub fn worked_streams()
 /// Views at 30 and 100 seconds, a signed answer for requests with other flags, a kept error, and no server.
 pub fn worked_cache()
     ensures { WorkedCache }
+{}
+
+/// A name that the server compressed in the data of an AFSDB record stands written out when the request is asked again
+/// (RFC 3597 4).
+pub fn worked_names()
+    ensures { Right by_datagrams first_settings named_again × Timely by_datagrams named_again }
 {}
 
 /// A request that is asked again is answered from the cache, and all that makes this a hit holds.

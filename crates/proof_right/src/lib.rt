@@ -6,15 +6,16 @@ mod laws;
 mod refusals;
 
 pub use examples::{
-    slot_is_given_on, worked_cache, worked_datagrams, worked_hit, worked_servers, worked_stale,
-    worked_streams, worked_traces_are_runs,
+    slot_is_given_on, worked_cache, worked_datagrams, worked_hit, worked_names, worked_servers,
+    worked_stale, worked_streams, worked_traces_are_runs,
 };
 pub use laws::{
     composing_composes, every_cached_run_hits, every_cached_run_serves_stale, every_run_is_right,
     headers_have_all_bits, runs_of_one_server_are_runs,
 };
 pub use refusals::{
-    carried_can_be_composed, missed_hits_are_refused, short_bases_are_refused,
-    wrong_datagrams_are_refused, wrong_places_are_refused, wrong_replies_are_refused,
-    wrong_sends_are_refused, wrong_stale_replies_are_refused, wrong_streams_are_refused,
+    carried_can_be_composed, copied_pointers_are_refused, missed_hits_are_refused,
+    short_bases_are_refused, wrong_datagrams_are_refused, wrong_places_are_refused,
+    wrong_replies_are_refused, wrong_sends_are_refused, wrong_stale_replies_are_refused,
+    wrong_streams_are_refused,
 };

@@ -22,6 +22,7 @@ ghost use Rattle.right_trace.specs.Timely.{Timely};
 ghost use Rattle.right_trace.specs.Trace.{Conf, History};
 ghost use Rattle.proof_right.specs.examples.Messages.{answer, answer_with_z, plain_request, ad_request};
 ghost use Rattle.proof_right.specs.examples.Hits.{missed};
+ghost use Rattle.proof_right.specs.examples.Names.{renamed};
 ghost use Rattle.proof_right.specs.examples.Rows.{by_datagrams, deferring, two_servers};
 ghost use Rattle.proof_right.specs.examples.Wrong.{IsItsAnswer, IsItsFrame, asked_then, blamed_unsent, blamed_when_closed, closed_again, closed_for_nothing, closed_twice, closed_unopened, failing_at_once, frame_passed_over, frame_taken, invented, nothing_sent, nothing_written, opened_twice, passed_over, refused_again, refused_thrice, replied_twice, second_while_open, second_while_opening, sent_at_once, sent_elsewhere, sent_nowhere, sent_too_soon, started_unasked, still_waiting, stream_closed_for_nothing, taken, taken_unwritten, taken_when_closed, timed_out_early, written, wrong_without_frame};
 ghost use Rattle.proof_right.specs.examples.Stale.{marked_alone, not_served, serving_stale, stale_at_once, unmarked_stale};
@@ -109,6 +110,11 @@ pub fn wrong_replies_are_refused()
     ensures error_past_its_time { (c : Conf) → Right c first_settings (refused_again 30000001) → ⊥ }
     ensures error_from_its_repeat { (c : Conf) → Right c first_settings refused_thrice → ⊥ }
     ensures before_all_failed { Right two_servers deferring failing_at_once → ⊥ }
+{}
+
+/// A view in which the pointer that stood in the data of an AFSDB record is copied: it names something else there.
+pub fn copied_pointers_are_refused()
+    ensures { (c : Conf) (s : Settings) → Right c s renamed → ⊥ }
 {}
 
 /// With an expired message: one that is given when no server failed, one without its mark, a mark without its reply, and

@@ -1,8 +1,9 @@
 //! How many entries a base has in each section, and how many octets the message of a request has without compression.
 
-ghost use Rattle.std.specs.Prelude.{◌≡◌, ◌≤◌, length, MatchResult, Some, None};
+ghost use Rattle.std.specs.Prelude.{◌≡◌, ◌≤◌, ◌<◌, ◌+◌, length, MatchResult, Some, None};
 ghost use Rattle.dns_names.specs.Name.{octet_count};
 ghost use Rattle.dns_base.specs.Data.{data_size};
+ghost use Rattle.dns_base.specs.Forms.{second_size};
 ghost use Rattle.dns_base.specs.RecordData.{data_view};
 ghost use Rattle.client_request.specs.Composed.{content_of, is_replaced, section_items};
 ghost use Rattle.request_validity.specs.Sizes as spec;
@@ -59,14 +60,39 @@ fn name_size(name: &ParsedName<'_>) -> usize
     count
 }
 
+/// How many octets a second name has, if there is one.
+fn second_size(second: &Option<ParsedName<'_>>) -> usize
+    ensures all { result ≡ second_size second.now }
+    ensures few { result ≤ 255 }
+{
+    match second {
+        Some(name) => name_size(name),
+        None => 0,
+    }
+}
+
 fn count_octets(octets: &[u8]) -> usize
     ensures { result ≡ length octets.now }
 {
     octets.len()
 }
 
+/// How many octets data with names between octets has.
+fn named_size(
+    before: &[u8],
+    first: &ParsedName<'_>,
+    second: &Option<ParsedName<'_>>,
+    behind: &[u8],
+) -> usize
+    requires { length before.now + length behind.now < 65536 }
+    ensures { result ≡ length before.now + octet_count first.now + second_size second.now + length behind.now }
+{
+    before.len() + name_size(first) + second_size(second) + behind.len()
+}
+
 /// How many octets data has with its names spelled out.
 fn data_size(content: &RecordData<'_>) -> usize
+    requires { data_size (data_view content.now) < 65536 }
     ensures { result ≡ data_size (data_view content.now) }
 {
     match content {
@@ -85,6 +111,12 @@ fn data_size(content: &RecordData<'_>) -> usize
         RecordData::Mx(_, name) => 2 + name_size(name),
         RecordData::Soa { mname, rname, .. } => name_size(mname) + name_size(rname) + 20,
         RecordData::Srv { target, .. } => 6 + name_size(target),
+        RecordData::Named {
+            before,
+            first,
+            second,
+            behind,
+        } => named_size(before, first, second, behind),
         RecordData::Txt(octets) | RecordData::Opt(octets) | RecordData::Other(octets) => {
             octets.len()
         }

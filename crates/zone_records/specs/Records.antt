@@ -5,7 +5,8 @@ use Rattle.std.specs.declared.cmp.Ordering.TheVariants.{Equal}
 use Rattle.std.specs.Cmp.{IsTotalOrder, nat_cmp_total, on_total, then_total}
 use Rattle.std.specs.Cmp.Lexicographic.{lists_total, slice_cmp}
 use Rattle.std.specs.Ordering.{nat_cmp, on, then_cmp}
-use Rattle.dns_base.specs.Data.{Data, A, Aaaa, One, Minfo, Mx, StartOfAuthority, Service, Txt, Opt, Other, data_spelling}
+use Rattle.dns_base.specs.Data.{Data, A, Aaaa, One, Minfo, Mx, StartOfAuthority, Service, Named, Txt, Opt, Other, data_spelling}
+use Rattle.dns_base.specs.Forms.{lowered_named}
 use Rattle.dns_base.specs.Message.{Known}
 use Rattle.dns_names.specs.Name.{Labels, lowered, same_name, spelling}
 use Rattle.zone_reading.specs.declared.steps.Entry.{Entry}
@@ -47,6 +48,7 @@ lowered_data (Minfo first second) = Minfo (lowered first) (lowered second)
 lowered_data (Mx preference name) = Mx preference (lowered name)
 lowered_data (StartOfAuthority soa) = StartOfAuthority (record soa { mname = lowered soa.mname; rname = lowered soa.rname })
 lowered_data (Service srv) = Service (record srv { target = lowered srv.target })
+lowered_data (Named it) = Named (lowered_named it)
 lowered_data (Txt octets) = Txt octets
 lowered_data (Opt octets) = Opt octets
 lowered_data (Other octets) = Other octets

@@ -1,9 +1,10 @@
 //! Names and data as a zone keeps them: without compression, names in lower case (RFC 4034 6.2).
 
-ghost use Rattle.std.specs.Prelude.{◌≡◌, ◌++◌, map, length, IfOk, OnOk};
+ghost use Rattle.std.specs.Prelude.{◌≡◌, ◌++◌, map, length, option_map, IfOk, OnOk};
 ghost use Rattle.std.specs.Char.{to_ascii_lowercase};
 ghost use Rattle.std.specs.Int.{w16, w32, to_be_bytes};
 ghost use Rattle.dns_base.specs.Data.{data_spelling};
+ghost use Rattle.dns_base.specs.Forms.{second_spelling};
 ghost use Rattle.dns_base.specs.RecordData.{data_view};
 ghost use Rattle.dns_names.specs.Name.{spelling, lowered};
 ghost use Rattle.zone_records.specs.Records.{lowered_data};
@@ -32,6 +33,16 @@ fn put_name(octets: &mut Vec<u8>, name: &ParsedName<'_>) -> Result<(), NoMemory>
     }
     octets.push(0)?;
     Ok(())
+}
+
+/// Appends a second name, if there is one.
+fn put_second(octets: &mut Vec<u8>, second: &Option<ParsedName<'_>>) -> Result<(), NoMemory>
+    ensures { OnOk result (octets.new.items ≡ octets.old.items ++ second_spelling (option_map lowered second.now)) }
+{
+    match second {
+        Some(name) => put_name(octets, name),
+        None => Ok(()),
+    }
 }
 
 /// Appends two octets, the highest first.
@@ -109,6 +120,17 @@ fn put_data(octets: &mut Vec<u8>, rdata: &RecordData<'_>) -> Result<(), NoMemory
             put_u16(octets, *weight)?;
             put_u16(octets, *port)?;
             put_name(octets, target)
+        }
+        RecordData::Named {
+            before,
+            first,
+            second,
+            behind,
+        } => {
+            put_octets(octets, before)?;
+            put_name(octets, first)?;
+            put_second(octets, second)?;
+            put_octets(octets, behind)
         }
         RecordData::Txt(content) | RecordData::Opt(content) | RecordData::Other(content) => {
             put_octets(octets, content)

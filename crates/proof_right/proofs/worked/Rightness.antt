@@ -34,7 +34,7 @@ all_octets (x ∷ xs) = nat_lt x 256 && all_octets xs
 lt_of : (x : ℕ) → nat_lt x 256 ≡ true → x < 256
 lt_of x e = grind (arith, nat_tests)
 
-are_octets : (xs : List ℕ) → all_octets xs ≡ true → (i : ℕ) → slice_index xs i < 256
+pub are_octets : (xs : List ℕ) → all_octets xs ≡ true → (i : ℕ) → slice_index xs i < 256
 are_octets [] e i = lt_of 0 refl
 are_octets (x ∷ xs) e zero = lt_of x (and_left (nat_lt x 256) (all_octets xs) e)
   where

@@ -560,7 +560,7 @@ kept_first : outcome first_settings 0 plain_request (Ok (answer 18 52 100)) ≡ 
 unfolding name_at walk head_at data_at data_spelling question_at record_at list_at items_at questions_of answer_of authority_of additional_of answer_items authority_items additional_items first_question sole_question reads knows opt_of opt_rcode contents_of base_is_read truncated question_of key_of is_cacheable read_parts known_parts second validity_of_message
 kept_first = refl
 
-is_final : (m : Octets) → waits_for_others first_settings (Ok m) ≡ false
+pub is_final : (m : Octets) → waits_for_others first_settings (Ok m) ≡ false
 unfolding is_deferred
 is_final m = refl
 

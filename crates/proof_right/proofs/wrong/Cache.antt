@@ -1,5 +1,5 @@
 -- Traces with the cache, and with two servers, that are not right.
-use Rattle.std.proofs.Common.{◌≡◌, ℕ, ◌+◌, ◌≤◌, Bool, true, false, inl, inr, Option, Some, None, List, [], ◌∷◌, refl, arith, sym, ap, subst, subst₂, ◌∙◌}
+use Rattle.std.proofs.Common.{◌≡◌, ℕ, ◌+◌, ◌≤◌, Bool, true, false, inl, inr, Option, Some, None, List, [], ◌∷◌, ◌++◌, refl, arith, sym, ap, subst, subst₂, ◌∙◌}
 use Rattle.std.specs.Prelude.{min, option_map, Ok, Err}
 use Rattle.dns_names.specs.Name.{name_at, walk, head_at}
 use Rattle.dns_base.specs.Data.{Data, data_at, data_spelling}
@@ -24,9 +24,9 @@ use Rattle.right_trace.specs.Replies.{InThisRow, Deferred, OkIsRight, Fresh, Vie
 use Rattle.right_trace.specs.Causes.{ServerCause, NotOpened, NotSent, SentShort, NotReceived, NoAnswer, WrongReply, StreamSilence, NotRead, NotComposed}
 use Rattle.right_trace.specs.Errors.{DirectCause, Deadline, NoServer, ByServer, NoValidity, Here, Earlier, IsErrorReply, HasCause, Own, Kept}
 use Rattle.right_trace.specs.Right.{Right}
-use Rattle.proof_right.specs.examples.Messages.{plain_request, ad_request, answer, answer_with_z, failing}
-use Rattle.proof_right.specs.examples.Rows.{so_far, two_servers, deferring}
-use Rattle.proof_right.specs.examples.Cache.{asked_again, refused_twice}
+use Rattle.proof_right.specs.examples.Messages.{plain_request, ad_request, as_datagram, answer, answer_with_z, failing}
+use Rattle.proof_right.specs.examples.Rows.{at, so_far, two_servers, deferring}
+use Rattle.proof_right.specs.examples.Cache.{answered_at_once, refused_twice}
 use Rattle.proof_right.specs.examples.Servers.{failing_server}
 use Rattle.proof_right.specs.examples.Wrong.{invented, asked_then, refused_again, refused_thrice, failing_at_once}
 use Rattle.proof_right.proofs.client.Promptness.{none_first}
@@ -52,12 +52,13 @@ invents c s r m h = not_invented c s r m (unmarked c s 0 m _ _ _ refl h.0.outs.0
 abbrev first_answer : Octets
 first_answer = answer 18 52 100
 
-abbrev then_asked : ℕ → Request → History
-then_asked n r = Came (record { moment = record { 0 = n }; what = Ask r }) ∷ so_far 3 asked_again
+-- a request that was sent as these octets got this answer; then another one is asked, and has a reply
+module _ (q : Request) (o first : Octets) (c : Conf) (s : Settings) (n : ℕ) (r : Request) (m : Octets) where
+  abbrev then_asked : History
+  then_asked = Came (record { moment = record { 0 = n }; what = Ask r }) ∷ so_far 3 (answered_at_once q o first)
 
-module _ (c : Conf) (s : Settings) (n : ℕ) (r : Request) (m : Octets) where
   -- nothing came for the second request before it was asked
-  is_view : OkIsRight c s 1 m (so_far 3 asked_again) (Ask r) (then_asked n r) → IsView c s 1 m (then_asked n r)
+  is_view : OkIsRight c s 1 m (so_far 3 (answered_at_once q o first)) (Ask r) then_asked → IsView c s 1 m then_asked
   is_view (Fresh (InThisRow f) d) = absurd (none_first f.via f.id m f.matches.comes.first)
   is_view (Fresh (Deferred d (inl z)) g) = absurd (let y = z.matches.comes.is_open.stands.asked.1 in cc)
   is_view (Fresh (Deferred d (inr (inl z))) g) = absurd (none_first z.via z.id m z.matches.comes.first)
@@ -70,9 +71,9 @@ module _ (c : Conf) (s : Settings) (n : ℕ) (r : Request) (m : Octets) where
   same_put a b x y g h e = cc
 
   -- the one message that was given before
-  the_message : (k : ℕ) (x : Octets) (t : ℕ) → Ever (IsFreshReply c s k x t) (then_asked n r) → (first_answer ≡ x) × (0 ≡ t)
-  the_message k x t (inl y) = absurd (let z : Path History (then_asked n r) (Put (Reply k (Ok x)) ∷ y.before) = y.put in cc)
-  the_message k x t (inr (inl y)) = (same_put 0 k first_answer x _ y.before y.put, y.at)
+  the_message : (k : ℕ) (x : Octets) (t : ℕ) → Ever (IsFreshReply c s k x t) then_asked → (first ≡ x) × (0 ≡ t)
+  the_message k x t (inl y) = absurd (let z : Path History then_asked (Put (Reply k (Ok x)) ∷ y.before) = y.put in cc)
+  the_message k x t (inr (inl y)) = (same_put 0 k first x _ y.before y.put, y.at)
   the_message k x t (inr (inr (inl y))) = absurd (let z = y.put in cc)
   the_message k x t (inr (inr (inr (inl y)))) = absurd (let z = y.put in cc)
   the_message k x t (inr (inr (inr (inr (inl y))))) = absurd (let z = y.put in cc)
@@ -85,27 +86,27 @@ module _ (c : Conf) (s : Settings) (n : ℕ) (r : Request) (m : Octets) where
   -- the view is one of that message, for this request, at this age
   pub record IsOfIt : Type 0 where
     pub parts : Parts Data
-    pub known : known_parts first_answer ≡ Some parts
-    pub covers : Covers plain_request r
-    pub in_time : n ≤ view_validity s plain_request r parts
-    pub says : Says m (view_of plain_request r n parts)
+    pub known : known_parts first ≡ Some parts
+    pub covers : Covers q r
+    pub in_time : n ≤ view_validity s q r parts
+    pub says : Says m (view_of q r n parts)
 
-  of_it : IsView c s 1 m (then_asked n r) → IsOfIt
+  of_it : IsView c s 1 m then_asked → IsOfIt
   of_it v =
       let g = the_message v.supplied.number v.message v.supplied.moment v.supplied.got in
       let low : v.supplied.number ≡ 0 = (let lt = v.supplied.earlier.below in omega arith) in
-      let first : plain_request ≡ v.first = same_asked plain_request v.first 0 v.supplied.earlier.first_asked.0 (subst (λ k. asking k (then_asked n r) ≡ Some (record { request = v.first; moment = v.supplied.earlier.first_asked.0 })) low v.supplied.earlier.first_asked.1) in
-      let asked : r ≡ v.request = same_asked r v.request (now (then_asked n r)) v.supplied.earlier.asked.0 v.supplied.earlier.asked.1 in
+      let asked_first : q ≡ v.first = same_asked q v.first 0 v.supplied.earlier.first_asked.0 (subst (λ k. asking k then_asked ≡ Some (record { request = v.first; moment = v.supplied.earlier.first_asked.0 })) low v.supplied.earlier.first_asked.1) in
+      let asked : r ≡ v.request = same_asked r v.request (now then_asked) v.supplied.earlier.asked.0 v.supplied.earlier.asked.1 in
       let age : v.age ≡ n = (let a = v.supplied.is_age in let b = g.1 in omega arith) in
       record {
         parts = v.parts;
         known = ap known_parts g.0 ∙ v.valid.known;
-        covers = subst₂ (λ q r. Covers q r) (sym first) (sym asked) v.supplied.earlier.covering;
-        in_time = subst (λ a. a ≤ view_validity s plain_request r v.parts) age (subst₂ (λ q r. v.age ≤ view_validity s q r v.parts) (sym first) (sym asked) v.valid.in_time);
-        says = subst (λ a. Says m (view_of plain_request r a v.parts)) age (subst₂ (λ q r. Says m (view_of q r v.age v.parts)) (sym first) (sym asked) v.says);
+        covers = subst₂ (λ p r. Covers p r) (sym asked_first) (sym asked) v.supplied.earlier.covering;
+        in_time = subst (λ a. a ≤ view_validity s q r v.parts) age (subst₂ (λ p r. v.age ≤ view_validity s p r v.parts) (sym asked_first) (sym asked) v.valid.in_time);
+        says = subst (λ a. Says m (view_of q r a v.parts)) age (subst₂ (λ p r. Says m (view_of p r v.age v.parts)) (sym asked_first) (sym asked) v.says);
       }
 
-  pub is_of_it : Right c s (asked_then n r m) → IsOfIt
+  pub is_of_it : Right c s (answered_at_once q o first ++ at n (Ask r) (Reply 1 (Ok m) ∷ []) ∷ []) → IsOfIt
   is_of_it h = of_it (is_view (unmarked c s 1 m _ _ _ refl h.1.1.1.0.outs.0.1))
 
 -- the TTL of the first record, as it is read
@@ -149,7 +150,7 @@ other_ttl x known says =
 
 -- its first TTLs half a minute later
 pub first_ttls : (c : Conf) (s : Settings) → Right c s (asked_then 30000000 plain_request first_answer) → ⊥
-first_ttls c s h = (let x = is_of_it c s 30000000 plain_request first_answer h in other_ttl x.parts x.known x.says)
+first_ttls c s h = (let x = is_of_it plain_request (as_datagram 18 52) first_answer c s 30000000 plain_request first_answer h in other_ttl x.parts x.known x.says)
 
 other_z : (x : Parts Data) → known_parts first_answer ≡ Some x → Says (answer_with_z 18 52 70) (view_of plain_request plain_request 30000000 x) → ⊥
 other_z x known says =
@@ -161,7 +162,7 @@ other_z x known says =
 
 -- the view of that moment, but for bit Z
 pub with_z : (c : Conf) (s : Settings) → Right c s (asked_then 30000000 plain_request (answer_with_z 18 52 70)) → ⊥
-with_z c s h = (let x = is_of_it c s 30000000 plain_request (answer_with_z 18 52 70) h in other_z x.parts x.known x.says)
+with_z c s h = (let x = is_of_it plain_request (as_datagram 18 52) first_answer c s 30000000 plain_request (answer_with_z 18 52 70) h in other_z x.parts x.known x.says)
 
 too_old : (s : Settings) (x : Parts Data) → known_parts first_answer ≡ Some x → 101000000 ≤ view_validity s plain_request plain_request x → ⊥
 too_old s x known le =
@@ -171,7 +172,7 @@ too_old s x known le =
 
 -- a view past its validity
 pub past_validity : (c : Conf) (s : Settings) (m : Octets) → Right c s (asked_then 101000000 plain_request m) → ⊥
-past_validity c s m h = (let x = is_of_it c s 101000000 plain_request m h in too_old s x.parts x.known x.in_time)
+past_validity c s m h = (let x = is_of_it plain_request (as_datagram 18 52) first_answer c s 101000000 plain_request m h in too_old s x.parts x.known x.in_time)
 
 not_for_ad : Covers plain_request ad_request → ⊥
 unfolding key_of
@@ -179,7 +180,7 @@ not_for_ad x = (let z : false ≡ true = x.keys.flags in cc)
 
 -- a view for a request that asks for more
 pub other_flags : (c : Conf) (s : Settings) (n : ℕ) (m : Octets) → Right c s (asked_then n ad_request m) → ⊥
-other_flags c s n m h = not_for_ad (is_of_it c s n ad_request m h).covers
+other_flags c s n m h = not_for_ad (is_of_it plain_request (as_datagram 18 52) first_answer c s n ad_request m h).covers
 
 -- Kept errors
 

@@ -1,5 +1,5 @@
 -- Worked traces with the cache: views at several ages, requests that differ in their flags, and a kept error.
-use Rattle.std.specs.Prelude.{◌≡◌, true, false, Some, List, [], ◌∷◌, Ok, Err, option_map}
+use Rattle.std.specs.Prelude.{◌≡◌, true, false, Some, List, [], ◌∷◌, ◌++◌, Ok, Err, option_map}
 use Rattle.client_request.specs.declared.error.Error.TheVariants as errors
 use Rattle.client_request.specs.declared.error.Error.TheVariants.{NoTransportAvailable}
 use Rattle.client_request.specs.declared.error.QueryError.TheVariants as query
@@ -8,7 +8,8 @@ use Rattle.client_request.specs.declared.event.What.TheVariants.{Ask, Opened, Op
 use Rattle.client_request.specs.declared.event.Out.TheVariants.{Start, OpenDgram, Send, Close, Reply}
 use Rattle.client_request.specs.declared.event.Row.{Row}
 use Rattle.client_request.specs.declared.event.Via.TheVariants.{Dgram, Stream}
-use Rattle.right_trace.specs.Messages.{CarriesBy, answers, is_valid}
+use Rattle.client_request.specs.Request.{Request}
+use Rattle.right_trace.specs.Messages.{Octets, CarriesBy, answers, is_valid}
 use Rattle.right_trace.specs.Keys.{Do, Ad, Plain, Covers, key_of, is_cacheable}
 use Rattle.right_trace.specs.Parts.{known_parts, lowered_parts}
 use Rattle.right_trace.specs.Validity.{validity_of_message}
@@ -20,13 +21,19 @@ use Rattle.proof_right.specs.examples.Messages.{plain_request, ad_request, cd_re
 use Rattle.right_trace.specs.Settings.{first_settings}
 use Rattle.proof_right.specs.examples.Rows.{at, so_far, by_datagrams}
 
+-- a request is sent as these octets, and has this answer at once
+abbrev pub answered_at_once : Request → (octets message : Octets) → List Row
+answered_at_once r octets message =
+    at 0 (Ask r) (Start 0 0 Dgram ∷ OpenDgram 0 0 ∷ [])
+    ∷ at 0 (Opened 0) (Send 0 0 4660 octets ∷ [])
+    ∷ at 0 (Datagram 0 message) (Close 0 ∷ Reply 0 (Ok message) ∷ [])
+    ∷ []
+
 -- a request has its answer, of 100 seconds; it is asked again after 30 and after 100 seconds, and then, too late, after 101
 abbrev pub asked_again : List Row
 asked_again =
-    at 0 (Ask plain_request) (Start 0 0 Dgram ∷ OpenDgram 0 0 ∷ [])
-    ∷ at 0 (Opened 0) (Send 0 0 4660 (as_datagram 18 52) ∷ [])
-    ∷ at 0 (Datagram 0 (answer 18 52 100)) (Close 0 ∷ Reply 0 (Ok (answer 18 52 100)) ∷ [])
-    ∷ at 30000000 (Ask plain_request) (Reply 1 (Ok (answer 18 52 70)) ∷ [])
+    answered_at_once plain_request (as_datagram 18 52) (answer 18 52 100)
+    ++ at 30000000 (Ask plain_request) (Reply 1 (Ok (answer 18 52 70)) ∷ [])
     ∷ at 100000000 (Ask plain_request) (Reply 2 (Ok (answer 18 52 0)) ∷ [])
     ∷ at 101000000 (Ask plain_request) (Start 3 0 Dgram ∷ OpenDgram 1 0 ∷ [])
     ∷ []

@@ -20,8 +20,11 @@ returns-in-A-clause-ok c =
           | inr i ↦ elim i [
             | inl p ↦ subst P (sym p.4) refl
             | inr i ↦ elim i [
-              | inl p ↦ subst P (sym p.1) refl
-              | inr i ↦ elim i [ inl p ↦ subst P (sym p.1) refl | inr p ↦ subst P (sym p.1) refl ]
+              | inl p ↦ subst P (sym p.4) refl
+              | inr i ↦ elim i [
+                | inl p ↦ subst P (sym p.1) refl
+                | inr i ↦ elim i [ inl p ↦ subst P (sym p.1) refl | inr p ↦ subst P (sym p.1) refl ]
+              ]
             ]
           ]
         ]
