@@ -1,4 +1,5 @@
-"""Writes the stored run of `tool_front`: queries of DNS clients as they come, odd ones among them, and what becomes of each.
+"""Writes the stored run of `tool_front`: queries of DNS clients as they come, odd ones among them, and what becomes of each; and
+scenes of a forwarder.
 
 usage: python3 tests/front_table.py [--check]
 
@@ -203,10 +204,68 @@ def alike():
         replied(head(0x0100, 1, 0, 0, 1) + question() + opt(size=4096), head(0x8180, 1, 1, number=0x1234) + raw, asks(), *both(datagram, whole))
 
 
+STREAM = 1 << 62
+
+
+def asked(number, rclass=1):
+    return head(0x0100, 1, number=number) + question("h.example", rclass=rclass)
+
+
+def scene(test, about, quiet, told, *steps, serves="asks", puts="reply"):
+    """A forwarder whose client puts something out after so many events. A step has what happens, and what is put out for it; the client was told
+    `told` events in the end."""
+    lines.extend((f"# front {test}: {about}", f"scene {quiet} {serves} {puts}"))
+    for count, (what, *outs) in enumerate(steps, told - len(steps) + 1):
+        lines.append("tells " + what)
+        answers.extend((*outs, f"told {count}"))
+
+
+def by(word, peer, octets=b""):
+    return f"{word} {peer} {octets.hex() or '-'}"
+
+
+def gets(peer, octets):
+    return f"answer {peer} {octets.hex()}"
+
+
+def scenes():
+    """What a forwarder does with queries that wait, and with streams."""
+    never = 2 ** 64 - 1
+
+    def reply(number):
+        return head(0x8183, 1, number=number) + question("h.example")
+
+    def frame(message):
+        return struct.pack(">H", len(message)) + message
+
+    whole = frame(asked(5))
+    first, tick, close = by("accepted", STREAM), "tick -", "close 1"
+    scene("events_and_outs_are_copied", "a tick, of which a close comes, and an octet of a stream", 0, 2, (tick, close), (by("bytes", 7, b"\3"),), puts="close")
+    scene("the_quietest_of_100_streams_is_dropped", "the first one gave an octet", never, 102,
+          ("streams 100",), (by("bytes", STREAM, b"\0"),), (by("accepted", STREAM + 100), f"drop {STREAM + 1}"))
+    scene("another_opcode_is_refused", "and time goes on for the client", 9, 1, (by("datagram", 7, head(0x2800, number=1)), gets(7, head(0xA804, number=1))))
+    scene("equal_questions_are_asked_once", "each gets the reply under its own id", 2, 3,
+          (by("datagram", 7, asked(7)),), (by("datagram", 8, asked(3)),), (tick, gets(7, reply(7)), gets(8, reply(3))))
+    scene("a_query_that_comes_in_pieces_is_answered", "by a stream, in two pieces", 2, 3,
+          (first,), (by("bytes", STREAM, whole[:6]),), (by("bytes", STREAM, whole[6:]), gets(STREAM, frame(reply(5)))))
+    scene("a_stream_that_is_gone_is_not_answered", "it goes before its reply", 3, 4,
+          (first,), (by("bytes", STREAM, whole),), (by("gone", STREAM),), (tick,))
+    scene("what_is_no_query_drops_its_stream", "and what comes behind it counts for nothing", 9, 3,
+          (first,), (by("bytes", STREAM, b"\0\1\x09\0\1\x09"), f"drop {STREAM}"), (by("bytes", STREAM, b"\0\1\x09"),))
+    scene("an_event_of_the_other_kind_counts_as_time", "numbers of streams are none of datagrams", 0, 3,
+          (by("datagram", STREAM, asked(1)),), (by("accepted", 7),), (by("bytes", 7, frame(asked(1))),))
+    scene("too_many_queries_are_turned_away", "10000 wait: one more, and one that asks the same as one that waits, get a header alone", never, 10002,
+          ("crowd 10000",), (by("datagram", 70000, asked(5, 10000)), gets(70000, head(0x8102, number=5))),
+          (by("datagram", 80000, asked(6)), gets(80000, head(0x8102, number=6))))
+    scene("a_crowd_keeps_no_hit_away", "what the client serves at once is asked all the same", never, 10001,
+          ("crowd 10000",), (by("datagram", 10000, asked(1, 10000)),), serves="serves")
+
+
 def main():
     odd()
     answered()
     alike()
+    scenes()
     files = {"stdin": lines, "stdout": answers}
     bad = 0
     for file, rows in files.items():

@@ -3,7 +3,8 @@
 usage: python3 tests/replay_tables.py REFERENCE_FOLDER [--check]
 
 REFERENCE_FOLDER holds the package `plain`, a reference client: what is to be written comes from it alone. The tables are
-written into crates/tool_replays/stdin and stdout; with --check they are compared with what stands there.
+written into crates/tool_replays/stdin and stdout; with --check they are compared with what stands there. The scripts behind the
+first line `# ..`, with traces that are judged, stay as they are.
 
 Three worked scripts are taken: one question by a datagram; one whose answer is truncated, so that it goes on by a stream; and
 two questions that share a stream. Of each there is a script for each fault, at each place and before each event, and at the
@@ -26,6 +27,7 @@ NAME = "076578616d706c6503636f6d00"
 ASK = "ask 000001000001000000000000%s00010001 00000100 -" % NAME
 ASK_MORE = "ask 000001000001000000000000%s001c0001 00000100 -" % NAME
 ADDRESS = "c00c00010001000000640004c0000201"
+JUDGED = "script judged by an end\n"
 FAULTS = ("open-failed %d refused", "send-failed %d refused", "short-send %d", "recv-failed %d reset", "wrote %d 0",
           "write-failed %d reset", "read-failed %d broken", "ended %d")
 
@@ -258,10 +260,12 @@ def main():
     for rtype, first in ((rtype, first) for rtype in (1, 46) for first in LOOKUPS):
         if not are_served(traces[looked_up(rtype, first)], rtype, first):
             sys.exit("%s: the reference client serves others" % looked_up(rtype, first))
-    for file, text in (("stdin", "".join(told)), ("stdout", "".join(due))):
+    for file, text, judged in (("stdin", "".join(told), "# "), ("stdout", "".join(due), JUDGED)):
+        stands = (TABLES / file).read_text()
+        behind = stands.index("\n" + judged) + 1
         if "--check" not in sys.argv:
-            (TABLES / file).write_text(text)
-        elif (TABLES / file).read_text() != text:
+            (TABLES / file).write_text(text + stands[behind:])
+        elif stands[:behind] != text:
             sys.exit("%s is not what the reference client gives" % file)
     print("%d scripts" % len(told))
 

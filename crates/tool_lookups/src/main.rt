@@ -3,16 +3,37 @@
 //! `addr ANSWER` prints the names of an address. `host ANSWER ANSWER` prints what is found of a host, by the answers to the
 //! questions for AAAA and for A records. `srv WORDS ANSWER` prints the servers of the service _s._tcp at example.com, whose order
 //! is drawn by words between commas. An answer is a message in hexadecimal digits, and `-` stands for none.
+//!
+//! `answer ANSWER` prints what an answer says of itself. `asked ANSWER` prints the questions of `addr`. `lookup A AAAA` looks a host up,
+//! `search SUFFIXES ANSWER..` searches it. `service SERVICE WORDS ANSWER` looks a service up, `resolve LISTING ANSWER..` its first
+//! server, and `merge LISTING LISTING` orders servers together. `late` stands for an answer that comes too late. A line that begins
+//! with `#`, or is empty, prints nothing.
 #![tactic(auto)]
 
+mod answers;
 mod given;
 mod hosts;
 mod names;
 mod servers;
+mod services;
 mod trouble;
 
 use std::alloc::Global;
 use trouble::Trouble;
+
+/// What is printed of a lookup.
+fn looked_up(alloc: Global, kind: &str, rest: &str) -> Option<String> {
+    match kind {
+        "answer" => answers::text_of(alloc, rest),
+        "asked" => names::asked(alloc, rest),
+        "lookup" => hosts::lookup_text(alloc, rest),
+        "search" => hosts::search_text(alloc, rest),
+        "service" => services::service_text(alloc, rest),
+        "resolve" => services::resolved_text(alloc, rest),
+        "merge" => services::merged_text(alloc, rest),
+        _ => None,
+    }
+}
 
 /// What is printed for a line.
 fn text_of(alloc: Global, line: &str) -> Result<String, Trouble> {
@@ -21,13 +42,22 @@ fn text_of(alloc: Global, line: &str) -> Result<String, Trouble> {
         "addr" => names::text_of(alloc, rest),
         "host" => hosts::text_of(alloc, rest),
         "srv" => servers::text_of(alloc, rest),
-        _ => Err(Trouble::Usage),
+        _ => looked_up(alloc, kind, rest).ok_or(Trouble::Usage),
     }
+}
+
+/// Whether a line prints nothing.
+fn is_silent(line: &str) -> bool {
+    line.is_empty() || line.starts_with('#')
 }
 
 fn main(rt: HostRuntime) -> Result<(), Trouble> {
     for line in rt.lines(rt.alloc()) {
-        let text = text_of(rt.alloc(), line?.as_str())?;
+        let line = line?;
+        if is_silent(line.as_str()) {
+            continue;
+        }
+        let text = text_of(rt.alloc(), line.as_str())?;
         println!(rt; "{text}end")?;
     }
     Ok(())

@@ -1,6 +1,6 @@
 //! The names of an address.
 
-use crate::given::answer;
+use crate::given::{answer, asked_text, results};
 use crate::trouble::Trouble;
 use dns_base::{IpAddr, ToName};
 use resolv_lookup::{ListResolver, lookup_addr};
@@ -22,4 +22,12 @@ pub fn text_of(alloc: Global, digits: &str) -> Result<String, Trouble> {
         Err(fault) => text.push_str(format!(in alloc; "fault {fault}\n")?.as_str())?,
     }
     Ok(text)
+}
+
+/// The questions that a lookup of an address asks, by what they get.
+pub fn asked(alloc: Global, rest: &str) -> Option<String> {
+    let mut resolver = ListResolver::new(alloc, results(alloc, rest)?);
+    let found = lookup_addr(alloc, &mut resolver, IpAddr::V4([192, 0, 2, 1])).is_ok();
+    let asked = asked_text(alloc, &resolver)?;
+    format!(in alloc; "{asked}found {found}\n").ok()
 }

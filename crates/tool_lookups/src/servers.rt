@@ -33,8 +33,20 @@ fn found_text(alloc: Global, mut found: FoundSrvs) -> Result<String, Trouble> {
     Ok(text)
 }
 
+/// The lines of what a lookup finds, or of why it finds nothing.
+pub fn all_text(
+    alloc: Global,
+    found: Result<Option<FoundSrvs>, SrvError>,
+) -> Result<String, Trouble> {
+    match found {
+        Ok(Some(found)) => found_text(alloc, found),
+        Ok(None) => Ok(String::from_str(alloc, "absent\n")?),
+        Err(error) => Ok(format!(in alloc; "fault {error}\n")?),
+    }
+}
+
 /// What the lookup of the service finds, where its question gets an answer.
-fn lookup(
+pub fn lookup(
     alloc: Global,
     drawn: &str,
     digits: &str,
@@ -51,9 +63,5 @@ fn lookup(
 /// The lines of what an answer gives of the service, by these words.
 pub fn text_of(alloc: Global, rest: &str) -> Result<String, Trouble> {
     let (drawn, digits) = rest.split_once(' ').ok_or(Trouble::Usage)?;
-    match lookup(alloc, drawn, digits)? {
-        Ok(Some(found)) => found_text(alloc, found),
-        Ok(None) => Ok(String::from_str(alloc, "absent\n")?),
-        Err(error) => Ok(format!(in alloc; "fault {error}\n")?),
-    }
+    all_text(alloc, lookup(alloc, drawn, digits)?)
 }

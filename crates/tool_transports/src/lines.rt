@@ -1,0 +1,57 @@
+//! What is printed for a line.
+//!
+//! A line is led by a word, which says what is shown; the modules say of theirs what stands behind it. `let NAME TEXT` lets a name
+//! stand for a text in the lines behind it. In each line a word may be put together of texts and names by `+`, and
+//! `TEXT*COUNT` is a text so many times. Things that are shown stand between commas, and `-` where there is nothing.
+
+use crate::lets::Lets;
+use crate::reading::first_word;
+use crate::{asked, boards, errors, servers, settings, sockets, telling, timers};
+use std::alloc::Global;
+
+/// Says what a line shows of what transports are made of.
+fn show_part(alloc: Global, word: &str, rest: &str, said: &mut String) -> Option<()> {
+    match word {
+        "timers" => timers::show(alloc, rest, said),
+        "board" => boards::show(alloc, rest, said),
+        "limits" => settings::show_limits(rest, said),
+        "settings" => settings::show(rest, said),
+        "error" => errors::show(alloc, rest, said),
+        "copy-error" => errors::show_of_copy(rest, said),
+        "connector" => sockets::show_connector(alloc, rest, said),
+        "socket" => sockets::show(alloc, rest, said),
+        _ => servers::show(alloc, word, rest, said),
+    }
+}
+
+fn show(alloc: Global, word: &str, rest: &str, said: &mut String) -> Option<()> {
+    match word {
+        "dgram" | "fallback" | "choice" | "balancer" => telling::show(alloc, word, rest, said),
+        "request" | "recorded" | "transfer" => asked::show(alloc, word, rest, said),
+        _ => show_part(alloc, word, rest, said),
+    }
+}
+
+/// The line of what a line shows, whose names are spelled out.
+fn shown(alloc: Global, line: &str) -> Option<String> {
+    let (word, rest) = first_word(line);
+    let mut said = String::new(alloc);
+    show(alloc, word, rest, &mut said)?;
+    if said.is_empty() {
+        said.push_str("-").ok()?;
+    }
+    said.push_str("\n").ok()?;
+    Some(said)
+}
+
+/// What a line prints.
+pub fn text_of(alloc: Global, lets: &mut Lets, line: &str) -> Option<String> {
+    let spelled = lets.spelled(line)?;
+    match spelled.as_str().strip_prefix("let ") {
+        None => shown(alloc, spelled.as_str()),
+        Some(put) => {
+            lets.put(put)?;
+            Some(String::new(alloc))
+        }
+    }
+}

@@ -1,0 +1,125 @@
+//! What is said: things between commas.
+
+use client_request::{Error, Out, Part};
+use dns_base::{Message, OptRecord};
+use std::fmt::{Debug, Display, Write};
+
+/// Puts a comma behind what was said before.
+fn go_on(said: &mut String) -> Option<()> {
+    if said.is_empty() {
+        Some(())
+    } else {
+        said.push_str(", ").ok()
+    }
+}
+
+pub fn say(said: &mut String, word: &str) -> Option<()> {
+    go_on(said)?;
+    said.push_str(word).ok()
+}
+
+/// Says a value as it is printed.
+pub fn say_value<T: Display>(said: &mut String, value: &T) -> Option<()> {
+    go_on(said)?;
+    write!(said, "{value}").ok()
+}
+
+/// Says a value by its name in the code.
+pub fn say_name<T: Debug>(said: &mut String, value: &T) -> Option<()> {
+    go_on(said)?;
+    write!(said, "{value:?}").ok()
+}
+
+/// Says the error of a call, and nothing where it has none.
+pub fn say_outcome(said: &mut String, outcome: Result<(), Error>) -> Option<()> {
+    match outcome {
+        Ok(()) => Some(()),
+        Err(error) => say_name(said, &error),
+    }
+}
+
+fn push_octets(said: &mut String, octets: &[u8]) -> Option<()> {
+    for octet in octets {
+        write!(said, "{octet:02x}").ok()?;
+    }
+    Some(())
+}
+
+pub fn say_octets(said: &mut String, octets: &[u8]) -> Option<()> {
+    go_on(said)?;
+    push_octets(said, octets)
+}
+
+/// Says the payload size of an OPT record, and the octets of its options.
+pub fn say_opt(said: &mut String, opt: Option<OptRecord<'_>>) -> Option<()> {
+    let Some(opt) = opt else {
+        return say(said, "none");
+    };
+    let size = opt.udp_payload_size();
+    go_on(said)?;
+    write!(said, "opt {size} ").ok()?;
+    if opt.data().is_empty() {
+        return said.push_str("-").ok();
+    }
+    push_octets(said, opt.data())
+}
+
+/// Writes the first four octets of a message that is given (its id, its flags and its response code), the end of a
+/// transfer, or an error.
+fn push_part(said: &mut String, part: &Part) -> Option<()> {
+    match part {
+        Ok(Some(message)) => push_octets(said, &message.header().to_octets()),
+        Ok(None) => said.push_str("end").ok(),
+        Err(error) => write!(said, "{error:?}").ok(),
+    }
+}
+
+/// Says the result of a request, by how many were asked before.
+pub fn say_reply(said: &mut String, number: usize, part: &Part) -> Option<()> {
+    go_on(said)?;
+    write!(said, "reply {number} ").ok()?;
+    push_part(said, part)
+}
+
+/// Says what stands for a result that was asked for.
+pub fn say_given(said: &mut String, given: &Result<Message, Error>) -> Option<()> {
+    match given {
+        Ok(message) => say_octets(said, &message.header().to_octets()),
+        Err(error) => say_name(said, error),
+    }
+}
+
+/// Writes what happens at a place of an open connection.
+fn push_sent(said: &mut String, out: &Out) -> Option<()> {
+    match out {
+        Out::Send {
+            place,
+            request,
+            id,
+            ..
+        } => write!(said, "send {place} {request} {id}").ok(),
+        Out::Write {
+            place,
+            request,
+            id,
+            ..
+        } => write!(said, "write {place} {request} {id}").ok(),
+        Out::Close { place } => write!(said, "close {place}").ok(),
+        _ => said.push_str("other").ok(),
+    }
+}
+
+/// Says what is put out: of a place its number, and behind it the server's, or the request's and the id.
+pub fn say_out(said: &mut String, out: &Out) -> Option<()> {
+    go_on(said)?;
+    match out {
+        Out::Start {
+            request,
+            server,
+            ..
+        } => write!(said, "start {request} {server}").ok(),
+        Out::OpenDgram { place, server } => write!(said, "open-dgram {place} {server}").ok(),
+        Out::OpenStream { place, server } => write!(said, "open-stream {place} {server}").ok(),
+        _ => push_sent(said, out),
+    }
+}
