@@ -6,7 +6,7 @@
 # All but `dgram` and `shared` are runs of `dnsq replay`: on the script crates/dnsq/stdin; on one that asks 101 times where 100 may be at
 # work and then opens one place in vain; and on examples/NAME.script, where a truncated datagram goes on by a stream, where
 # two requests share a stream, and where streams fail and others are opened. Status 6 and no output are wanted, and status 0
-# and the trace of that example past the last allocation. `dgram` is the test of test_dgram that runs three requests over
+# and the trace of that example past the last allocation. `dgram` is the test of test_sockets that runs three requests over
 # two slots: it passes where the want of memory was told and each later call answers `Failed`. `shared` is the test of test_threads
 # in which two callers share a client: it passes where one of them was told of the want, and each later call of either answers
 # `Failed` where the call was lost, and what it should where it was not. That other tests of these crates then fail is of no
@@ -52,7 +52,7 @@ case $what in
     flood) run=replay && flood > "$work/script" && cd dnsq ;;
     fallback | use_vc | back_off)
         run=replay && cp "../examples/$what.script" "$work/script" && cp "../examples/$what.trace" "$work/trace" && cd dnsq ;;
-    dgram) run=dgram && cd test_dgram ;;
+    dgram) run=dgram && cd test_sockets ;;
     shared) run=shared && cd test_threads ;;
     *) false ;;
 esac && [ $# -gt 1 ] || { echo "usage: bash tests/fail_alloc.sh example|flood|fallback|use_vc|back_off|dgram|shared N.." >&2; exit 2; }

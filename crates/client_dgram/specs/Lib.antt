@@ -1,3 +1,2 @@
-pub mod Settings
 pub mod Plain
 pub mod Sockets

@@ -20,7 +20,7 @@ use Rattle.client_request.specs.declared.fault.Fault.TheVariants as fault
 use Rattle.client_request.specs.declared.event.Out.TheVariants.{OpenDgram, Send, Close}
 use Rattle.client_request.specs.declared.event.What.{What}
 use Rattle.client_request.specs.declared.event.What.TheVariants.{Opened, OpenFailed, Datagram, SendFailed, ShortSend, RecvFailed}
-use Rattle.client_dgram.specs.Settings.{Settings}
+use Rattle.client_settings.specs.Dgram.{Settings}
 use Rattle.client_dgram.specs.declared.job.Job.{Job}
 use Rattle.client_dgram.specs.declared.job.Stage.{Stage}
 use Rattle.client_dgram.specs.declared.job.Stage.TheVariants.{Queued, Opening, Sent}

@@ -2,14 +2,14 @@
 
 ghost use Rattle.std.specs.Prelude.{◌≡◌, true, false, IsOkAnd};
 ghost use Rattle.client_dgram.specs.Plain as plain;
-ghost use Rattle.client_dgram.specs.Settings.{default_settings};
+ghost use Rattle.client_settings.specs.Dgram.{default_settings};
 
-use crate::config::Config;
 use crate::steps::{give_up, hear, take_on};
 use crate::tables::Tables;
 use client_request::{
     ComposeRequest, Cx, Error, GetResponse, Latch, Pending, SendRequest, Signal, Words,
 };
+use client_settings::dgram::Config;
 use dns_base::NoMemory;
 use std::alloc::Global;
 use std::marker::Model;

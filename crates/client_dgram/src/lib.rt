@@ -10,7 +10,6 @@
 //! of it.
 #![tactic(auto)]
 
-mod config;
 mod connection;
 mod job;
 mod list_sockets;
@@ -19,7 +18,7 @@ mod steps;
 mod tables;
 
 pub use client_request::{Pending as Request, QueryError, QueryErrorKind};
-pub use config::Config;
+pub use client_settings::dgram::Config;
 pub use connection::Connection;
 pub use job::{Job, Stage};
 pub use list_sockets::{ListConnect, ListDgram};

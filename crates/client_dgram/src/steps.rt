@@ -5,12 +5,12 @@ ghost use Rattle.client_request.specs.Calls.{Follows};
 ghost use Rattle.client_request.specs.Cx.{view_of, heard};
 ghost use Rattle.client_dgram.specs.Plain as plain;
 
-use crate::config::Config;
 use crate::job::{Job, Stage};
 use crate::tables::{Tables, answer_in, forget_sent, number_at, stage_at};
 use client_request::{
     ComposeRequest, Cx, Error, Fault, Out, Part, QueryError, Signal, TimerId, What, Words,
 };
+use client_settings::dgram::Config;
 use dns_base::Octets;
 
 /// The next try of a job opens a place.

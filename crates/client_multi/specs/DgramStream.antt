@@ -1,12 +1,12 @@
 -- One server by datagrams and streams: its settings, and the machine over that of its datagrams and that of its streams.
 use Rattle.std.specs.Prelude.{ℕ}
 use Rattle.client_dgram.specs.Plain as dgram
-use Rattle.client_dgram.specs.Settings as dgram_settings
+use Rattle.client_settings.specs.Dgram as dgram_settings
 use Rattle.client_stream.specs.Plain as stream
 use Rattle.client_multi.specs.Fallback as fallback
 use Rattle.client_multi.specs.Links.{Link}
 use Rattle.client_multi.specs.MultiStream as multi_stream
-use Rattle.client_multi.specs.Settings as stream_settings
+use Rattle.client_settings.specs.MultiStream as stream_settings
 
 pub record Settings : Type 0 where
   pub dgram : dgram_settings.Settings

@@ -3,4 +3,3 @@ pub mod Fallback
 pub mod Links
 pub mod MultiStream
 pub mod Retry
-pub mod Settings

@@ -24,9 +24,9 @@ use Rattle.client_request.specs.declared.event.Out.TheVariants.{OpenStream}
 use Rattle.client_request.specs.declared.event.What.{What}
 use Rattle.client_request.specs.declared.event.What.TheVariants.{Opened, OpenFailed, Bytes, Wrote, WriteFailed, ReadFailed, Ended}
 use Rattle.client_stream.specs.Plain.{Asked, asked}
-use Rattle.client_stream.specs.Settings.{Settings as StreamSettings}
+use Rattle.client_settings.specs.Stream.{Settings as StreamSettings}
 use Rattle.client_multi.specs.Retry.{retry_time}
-use Rattle.client_multi.specs.Settings.{Settings}
+use Rattle.client_settings.specs.MultiStream.{Settings}
 use Rattle.client_multi.specs.declared.multi_stream.job.Job.{Job}
 use Rattle.client_multi.specs.declared.multi_stream.job.Stage.{Stage}
 use Rattle.client_multi.specs.declared.multi_stream.job.Stage.TheVariants.{Waiting, Resting, Held}

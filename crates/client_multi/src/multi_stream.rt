@@ -1,7 +1,6 @@
 //! Reconnection: requests go to the newest stream that is open and has room, and back off where none
 //! can be opened.
 
-mod config;
 mod connection;
 mod job;
 mod one_stream;
@@ -10,7 +9,7 @@ mod steps;
 mod tables;
 
 pub use client_request::Pending as Request;
-pub use config::Config;
+pub use client_settings::multi_stream::Config;
 pub use connection::{Connection, Transport};
 pub use job::{Job, Stage};
 pub use one_stream::{Link, OneStream};

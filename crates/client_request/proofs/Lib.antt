@@ -9,5 +9,6 @@ pub mod TimerMoves
 pub mod TimerTable
 pub mod TimerTop
 pub mod TimerKept
+pub mod NoRecords
 pub mod Verdicts
 pub mod WordLists

@@ -6,13 +6,14 @@ use Rattle.std.proofs.lemmas.Bool.{eqb-true, leb-true}
 use Rattle.std.proofs.lemmas.List.{get_or-drop}
 use Rattle.std.proofs.lemmas.Option.{some_pair_parts}
 use Rattle.std.proofs.lemmas.List.Edits.{length-between}
-use Rattle.dns_names.specs.Name.{Labels, name_at, IsLegal}
+use Rattle.dns_names.specs.Name.{Labels, Found, name_at, IsLegal}
 use Rattle.dns_names.proofs.Heads.{then_ok, chosen, none_some}
 use Rattle.dns_names.proofs.NameLaws.{read_legal}
 use Rattle.dns_base.specs.Numbers.{u16_at, u32_at, ◌>>=◌}
-use Rattle.dns_base.specs.Data.{Data, A, Aaaa, One, is_one_name, is_of_type, are_strings, are_options, octets_to, name_to, srv_with, data_at, data_size}
+use Rattle.dns_base.specs.Forms.{Form, NamedData, Second, form_of, size_before, second_at, ends_so, parts_to, named_size, named_to}
+use Rattle.dns_base.specs.Data.{Data, A, Aaaa, One, Named, is_one_name, is_of_type, are_strings, are_options, octets_to, name_to, srv_with, formed_to, data_at, data_size}
 use Rattle.dns_base.specs.Message.{Asked, Entry, Known, question_at, record_at}
-use Rattle.dns_base.specs.Holding.{IsAskable, IsWritable, IsWritableData}
+use Rattle.dns_base.specs.Holding.{IsAskable, IsLegalSecond, IsWritable, IsWritableData}
 use Rattle.dns_base.proofs.ReadData.{data_fits}
 use Rattle.client_request.specs.Composed.{content_of, written_from}
 
@@ -78,6 +79,59 @@ address_long count octets at end a within e =
       | inr p ↦ none_some p.1
     ]
 
+-- names between octets
+abbrev HasLegalNames : NamedData → Type 0
+HasLegalNames it = IsLegal it.first × IsLegalSecond it.second
+
+second_legal : (has_second : Bool) (octets : List ℕ) (at : ℕ) → IfSome (second_at has_second octets at) (λ second. IsLegalSecond second.name)
+second_legal false octets at = tt
+second_legal true octets at = by (name_at octets at) (λ found e. read_legal octets at found e)
+  where
+    by : (o : Option Found) → ((found : Found) → o ≡ Some found → IsLegal found.labels)
+        → IfSome {T = Second} (option_map (λ found. record { name = Some found.labels; end = found.end }) o) (λ second. IsLegalSecond second.name)
+    by None h = tt
+    by (Some found) h = h found refl
+
+parts_legal : (form : Form) (octets : List ℕ) (at end : ℕ) → IfSome (parts_to form octets at end) HasLegalNames
+parts_legal form octets at end = sized (size_before form (slice_range octets at end))
+  where
+    closed : (b : Bool) (it : NamedData) → HasLegalNames it → IfSome (if b then Some it else None) HasLegalNames
+    closed true it h = h
+    closed false it h = tt
+
+    parts : (from : ℕ) (first : Found) (second : Second) → NamedData
+    parts from first second = record { before = slice_range octets at from; first = first.labels; second = second.name; behind = slice_range octets second.end end }
+
+    ended : (from : ℕ) (first : Found) → IsLegal first.labels → (o : Option Second) → IfSome o (λ second. IsLegalSecond second.name)
+        → IfSome (o >>= λ second. if ends_so form.has_rest second.end end then Some (parts from first second) else None) HasLegalNames
+    ended from first h None g = tt
+    ended from first h (Some second) g = closed (ends_so form.has_rest second.end end) (parts from first second) (h, g)
+
+    named : (from : ℕ) (o : Option Found) → ((found : Found) → o ≡ Some found → IsLegal found.labels)
+        → IfSome (o >>= λ first. second_at form.has_second octets first.end >>= λ second. if ends_so form.has_rest second.end end then Some (parts from first second) else None) HasLegalNames
+    named from None h = tt
+    named from (Some first) h = ended from first (h first refl) (second_at form.has_second octets first.end) (second_legal form.has_second octets first.end)
+
+    sized : (o : Option ℕ) → IfSome (o >>= λ size. name_at octets (at + size) >>= λ first. second_at form.has_second octets first.end
+        >>= λ second. if ends_so form.has_rest second.end end then Some (parts (at + size) first second) else None) HasLegalNames
+    sized None = tt
+    sized (Some size) = named (at + size) (name_at octets (at + size)) (λ found e. read_legal octets (at + size) found e)
+
+named_writable : (form : Form) (octets : List ℕ) (at end : ℕ) → Sound (option_map Named (named_to form octets at end))
+named_writable form octets at end = short (parts_to form octets at end) (parts_legal form octets at end)
+  where
+    kept : (b : Bool) (it : NamedData) → HasLegalNames it → Sound (option_map Named (if b then Some it else None))
+    kept true it h = h
+    kept false it h = tt
+
+    short : (o : Option NamedData) → IfSome o HasLegalNames → Sound (option_map Named (o >>= λ it. if nat_le (named_size it) 65535 then Some it else None))
+    short None h = tt
+    short (Some it) h = kept (nat_le (named_size it) 65535) it h
+
+formed_writable : (o : Option Form) (octets : List ℕ) (at end : ℕ) → Sound (formed_to o octets at end)
+formed_writable (Some form) octets at end = named_writable form octets at end
+formed_writable None octets at end = tt
+
 data_writable : (rtype : ℕ) (octets : List ℕ) (at end : ℕ) → AreOctets octets → end ≤ length octets → IfSome (data_at rtype octets at end) IsWritableData
 unfolding data_at
 data_writable rtype octets at end h within =
@@ -97,7 +151,7 @@ data_writable rtype octets at end h within =
     (u16_small octets at h, u16_small octets (at + 2) h, u16_small octets (at + 4) h, name_legal octets (at + 6) end name e))) (λ _. tt))
     (λ _. either_way (rtype == 16) _ _ (λ _. either_way (are_strings (slice_range octets at end)) _ None (λ _. tt) (λ _. tt))
     (λ _. either_way (rtype == 41) _ _ (λ _. either_way (are_options (slice_range octets at end)) _ None (λ _. tt) (λ _. tt))
-    (λ _. tt)))))))))
+    (λ _. formed_writable (form_of rtype) octets at end)))))))))
 
 -- entries
 

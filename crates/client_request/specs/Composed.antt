@@ -80,6 +80,10 @@ each_found section (Some items) d = each (copies section) items d
 abbrev pub copies_section : Section → List ℕ → Draft → Copied
 copies_section section base d = each_found section (section_items section base) d
 
+-- the records of the base in order
+abbrev pub copies_records : List ℕ → Draft → Copied
+copies_records base d = copies_section Answer base d >> copies_section Authority base >> copies_section Additional base
+
 abbrev pub adds_opt : Option OptFields → Draft → Copied
 adds_opt None d = Ok d
 adds_opt (Some opt) d = adds Additional (opt_written opt) d

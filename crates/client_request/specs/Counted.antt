@@ -34,6 +34,10 @@ counts_found section (Some items) counts = each (counts_known section) items cou
 abbrev pub counts_section : Section → List ℕ → Counts → Counted
 counts_section section base counts = counts_found section (section_items section base) counts
 
+-- the records of the base in order
+abbrev pub counts_records : List ℕ → Counts → Counted
+counts_records base counts = counts_section Answer base counts >> counts_section Authority base >> counts_section Additional base
+
 abbrev pub counts_opt : Option OptFields → Counts → Counted
 counts_opt None counts = Ok counts
 counts_opt (Some opt) counts = counts_record Additional counts

@@ -17,3 +17,4 @@ pub mod Composing
 pub mod Requests
 pub mod Limits
 pub mod Copies
+pub mod Peers

@@ -1,10 +1,12 @@
 //! A request's message, appended to a builder.
 
-ghost use Rattle.std.specs.Prelude.{◌≡◌, OnErr, MatchResult, Some, None};
-ghost use Rattle.dns_base.specs.Sections.{HasNoneAfter};
+ghost use Rattle.std.specs.Prelude.{◌≡◌, ◌↔◌, IsTrue, true, is_some, OnErr, MatchResult, Some, None};
+ghost use Rattle.dns_base.specs.Header.{counts_of};
+ghost use Rattle.dns_base.specs.Message.{questions_of};
+ghost use Rattle.dns_base.specs.Sections.{HasNoRecords, HasNoneAfter};
 ghost use Rattle.dns_base.specs.Draft.{counts_in, cleared};
 ghost use Rattle.client_request.specs.Request.{opt_written};
-ghost use Rattle.client_request.specs.Composed.{section_items, copies_section, adds_opt, copies_all, appended, IsCopied, HoldsNothing};
+ghost use Rattle.client_request.specs.Composed.{section_items, copies_section, copies_records, adds_opt, copies_all, appended, IsCopied, HoldsNothing};
 
 use crate::copying::{copy_questions, copy_records};
 use crate::error::CopyRecordsError;
@@ -68,6 +70,29 @@ fn add_opt(
     Ok(())
 }
 
+/// Whether no section counts a record.
+pub(crate) fn has_no_records(base: &Message) -> bool
+    ensures { IsTrue result ↔ HasNoRecords (counts_of base.now) }
+{
+    let counts = base.header_counts();
+    counts.ancount() == 0 && counts.nscount() == 0 && counts.arcount() == 0
+}
+
+/// Copies the records of a base, whose questions are read.
+fn copy_all_records(base: &Message, target: &mut Builder) -> Result<(), CopyRecordsError>
+    requires read { is_some (questions_of base.now) ≡ true }
+    requires order { HasNoRecords (counts_in target.old) }
+    ensures copied { IsCopied (copies_records base.now target.old) result target.new }
+    ensures head { cleared target.new ≡ cleared target.old }
+{
+    if has_no_records(base) {
+        return Ok(());
+    }
+    copy_section(Section::Answer, base, target)?;
+    copy_section(Section::Authority, base, target)?;
+    copy_section(Section::Additional, base, target)
+}
+
 fn append_all(
     alloc: Global,
     base: &Message,
@@ -79,9 +104,7 @@ fn append_all(
     ensures head { cleared target.new ≡ cleared target.old }
 {
     copy_questions(base.question(), target)?;
-    copy_section(Section::Answer, base, target)?;
-    copy_section(Section::Authority, base, target)?;
-    copy_section(Section::Additional, base, target)?;
+    copy_all_records(base, target)?;
     add_opt(alloc, opt, target)
 }
 

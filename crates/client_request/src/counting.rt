@@ -1,12 +1,13 @@
 //! Whether the entries of a request have room in a message: they are read and counted, and none is written.
 
-ghost use Rattle.std.specs.Prelude.{◌≡◌};
+ghost use Rattle.std.specs.Prelude.{◌≡◌, true, is_some};
+ghost use Rattle.dns_base.specs.Message.{questions_of};
 ghost use Rattle.dns_base.specs.Sections.{no_entries};
 ghost use Rattle.client_request.specs.Composed.{each, composed};
 ghost use Rattle.client_request.specs.Composing.{without_message};
-ghost use Rattle.client_request.specs.Counted.{counts_question, counts_record, counts_known, counts_section, counts_opt, counts_all, IsCounted};
+ghost use Rattle.client_request.specs.Counted.{counts_question, counts_record, counts_known, counts_section, counts_records, counts_opt, counts_all, IsCounted};
 
-use crate::append::section_of;
+use crate::append::{has_no_records, section_of};
 use crate::copying::is_replaced;
 use crate::error::{CopyRecordsError, Error};
 use dns_base::{
@@ -86,6 +87,19 @@ fn count_section(
     count_records(section, section_of(base, section)?, counts)
 }
 
+/// Counts the records of a base, whose questions are read.
+fn count_all_records(base: &Message, counts: &mut HeaderCounts) -> Result<(), CopyRecordsError>
+    requires { is_some (questions_of base.now) ≡ true }
+    ensures { IsCounted (counts_records base.now counts.old) result counts.new }
+{
+    if has_no_records(base) {
+        return Ok(());
+    }
+    count_section(Section::Answer, base, counts)?;
+    count_section(Section::Authority, base, counts)?;
+    count_section(Section::Additional, base, counts)
+}
+
 fn count_opt(opt: Option<OptRecord<'_>>, counts: &mut HeaderCounts) -> Result<(), CopyRecordsError>
     ensures { IsCounted (counts_opt opt.entry counts.old) result counts.new }
 {
@@ -103,9 +117,7 @@ fn count_all(
     ensures { IsCounted (counts_all base.now opt.entry counts.old) result counts.new }
 {
     count_questions(base.question(), counts)?;
-    count_section(Section::Answer, base, counts)?;
-    count_section(Section::Authority, base, counts)?;
-    count_section(Section::Additional, base, counts)?;
+    count_all_records(base, counts)?;
     count_opt(opt, counts)
 }
 

@@ -1,6 +1,7 @@
 //! Requests that one message answers.
 
-ghost use Rattle.std.specs.Prelude.{◌≡◌, ◌↔◌, IfOk, IfErr, IsErrOf, IsOk, IsTrue, None, false};
+ghost use Rattle.std.specs.Prelude.{◌≡◌, ◌↔◌, ◌⊎◌, IfOk, IfErr, IsErrOf, IsOk, IsTrue, OnOk, None, false};
+ghost use Rattle.dns_base.specs.Query.{query_octets};
 ghost use Rattle.client_request.specs.Request as spec;
 ghost use Rattle.client_request.specs.Requests.{for_one};
 ghost use Rattle.client_request.specs.Carries.{IsOfOctets};
@@ -10,7 +11,7 @@ ghost use Rattle.client_request.specs.declared.error.Error.TheVariants as errors
 use crate::compose::{Compose, ComposeRequest};
 use crate::error::{CopyRecordsError, Error};
 use crate::recorded::Recorded;
-use dns_base::{Builder, Header, Message, NoMemory, Opcode, OptRecord, Question, Rtype};
+use dns_base::{Builder, Header, Message, NoMemory, Opcode, OptRecord, Question, Rtype, ToName};
 use std::alloc::Global;
 use std::marker::Model;
 
@@ -65,6 +66,18 @@ impl RequestMessage {
         Ok(RequestMessage {
             recorded: Recorded::from_base(alloc, msg),
         })
+    }
+
+    /// A request for the records of a type that a name has, of class IN, with recursion desired (RFC 1035 4.1.1).
+    /// `FormError` for a whole zone, which several messages answer, and `NoMemory`.
+    pub fn query<N: ToName>(alloc: Global, name: &N, rtype: Rtype) -> Result<RequestMessage, Error>
+        ensures made { IfOk result (λ r. r ≡ spec.recorded_from (query_octets (N.labels_of name.now) rtype.0)) }
+        ensures formed { OnOk result (spec.is_misformed (query_octets (N.labels_of name.now) rtype.0) ≡ false) }
+        ensures misformed { IsErrOf result errors.FormError → IsTrue (spec.is_misformed (query_octets (N.labels_of name.now) rtype.0)) }
+        ensures refused { IfErr result (λ e. (e ≡ errors.FormError) ⊎ (e ≡ errors.NoMemory)) }
+    {
+        let message = Message::query(alloc, name, rtype)?;
+        RequestMessage::new(alloc, message)
     }
 
     /// The request with another header and another OPT record, or none, which takes no memory.

@@ -14,9 +14,10 @@ pub record RedundantSettings : Type 0 where
 abbrev pub default_redundant : RedundantSettings
 default_redundant = record { defer_transport_error = false; defer_refused = false; defer_servfail = false }
 
--- how many answers are kept, for how long each kind of them, and whether truncated ones are kept
+-- how many answers are kept, how many octets they may weigh together, for how long each kind of them, and whether truncated ones are kept
 pub record CacheSettings : Type 0 where
   pub max_cache_entries : ℕ
+  pub max_cache_octets : ℕ
   pub max_validity : ℕ
   pub transport_failure_duration : ℕ
   pub misc_error_duration : ℕ
@@ -26,10 +27,15 @@ pub record CacheSettings : Type 0 where
   pub cache_truncated : Bool
   pub stale_for : ℕ
 
+-- the greatest number of 64 bits: no bound by octets
+abbrev pub no_bound : ℕ
+no_bound = 18446744073709551615
+
 -- a week at most; half a minute for failures, an hour for what is not there
 abbrev pub default_cache : CacheSettings
 default_cache = record {
   max_cache_entries = 1000;
+  max_cache_octets = no_bound;
   max_validity = seconds 604800;
   transport_failure_duration = seconds 30;
   misc_error_duration = seconds 30;

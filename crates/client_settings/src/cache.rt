@@ -3,7 +3,7 @@
 ghost use Rattle.std.specs.Prelude.{◌≡◌, ◌≤◌, Ok};
 ghost use Rattle.std.specs.Ordering.{nat_cmp};
 ghost use Rattle.client_request.specs.Limits.{limited};
-ghost use Rattle.client_settings.specs.Settings.{default_cache, seconds};
+ghost use Rattle.client_settings.specs.Settings.{default_cache, no_bound, seconds};
 
 use client_request::DefMinMax;
 use dns_base::{Duration, NoMemory};
@@ -24,6 +24,12 @@ fn max_cache_entries_limits() -> DefMinMax<u64>
     ensures { result ≡ record { def = 1000; min = 1; max = 1000000000 } }
 {
     DefMinMax::new(1000, 1, 1_000_000_000)
+}
+
+fn max_cache_octets_limits() -> DefMinMax<u64>
+    ensures { result ≡ record { def = no_bound; min = 65536; max = no_bound } }
+{
+    DefMinMax::new(u64::MAX, 65_536, u64::MAX)
 }
 
 fn max_validity_limits() -> DefMinMax<Duration>
@@ -72,6 +78,7 @@ fn stale_for_limits() -> DefMinMax<Duration>
 #[derive(Clone, Debug, PartialEq, Eq, Drop)]
 pub struct Config {
     max_cache_entries: u64,
+    max_cache_octets: u64,
     max_validity: Duration,
     transport_failure_duration: Duration,
     misc_error_duration: Duration,
@@ -90,6 +97,7 @@ impl Model for Config {
 
     ghost view = { λ c. record {
       max_cache_entries = c.max_cache_entries;
+      max_cache_octets = c.max_cache_octets;
       max_validity = c.max_validity;
       transport_failure_duration = c.transport_failure_duration;
       misc_error_duration = c.misc_error_duration;
@@ -102,6 +110,7 @@ impl Model for Config {
 
     ghost inverse = { λ s. record {
       max_cache_entries = s.max_cache_entries;
+      max_cache_octets = s.max_cache_octets;
       max_validity = s.max_validity;
       transport_failure_duration = s.transport_failure_duration;
       misc_error_duration = s.misc_error_duration;
@@ -123,13 +132,14 @@ impl Config {
         let _ = &self.max_validity;
     }
 
-    /// 1000 answers, a week at most; failures for half a minute, names and data that are not there for
+    /// 1000 answers, whatever they weigh, a week at most; failures for half a minute, names and data that are not there for
     /// an hour, delegations for 1000000 seconds; truncated answers not at all, and none once it has expired.
     pub fn new() -> Config
         ensures { result ≡ default_cache }
     {
         Config {
             max_cache_entries: max_cache_entries_limits().default(),
+            max_cache_octets: max_cache_octets_limits().default(),
             max_validity: max_validity_limits().default(),
             transport_failure_duration: transport_failure_duration_limits().default(),
             misc_error_duration: misc_error_duration_limits().default(),
@@ -153,6 +163,20 @@ impl Config {
         ensures { self.new ≡ record self.old { max_cache_entries = limited nat_cmp 1 1000000000 value } }
     {
         self.max_cache_entries = max_cache_entries_limits().limit(value);
+    }
+
+    /// How much the answers that are kept may weigh together: of each 1024 and twice the octets of its message.
+    pub fn max_cache_octets(&self) -> u64
+        ensures { result ≡ self.now.max_cache_octets }
+    {
+        self.max_cache_octets
+    }
+
+    /// 65536 to the greatest `u64`.
+    pub fn set_max_cache_octets(&mut self, value: u64)
+        ensures { self.new ≡ record self.old { max_cache_octets = limited nat_cmp 65536 no_bound value } }
+    {
+        self.max_cache_octets = max_cache_octets_limits().limit(value);
     }
 
     /// How long an answer is kept at most, whatever its records say.

@@ -1,4 +1,4 @@
-//! The settings of a choice among servers and of a cache.
+//! The settings of a client: of its choice among servers, of its cache, and of its transports.
 //!
 //! They are values alone: what they have an effect on, the transports and the cache, stands in crates
 //! above, and so does what reads them from a script. A setter cuts its value into the setting's limits.
@@ -12,4 +12,10 @@
 #![tactic(auto)]
 
 pub mod cache;
+pub mod dgram;
+pub mod multi_stream;
 pub mod redundant;
+mod settings;
+pub mod stream;
+
+pub use settings::{Settings, Transports};

@@ -13,7 +13,7 @@ use Rattle.client_choice.specs.Redundant as choosing
 use Rattle.client_choice.specs.Redundant.{Redundant}
 use Rattle.client_multi.specs.DgramStream as dgram_stream
 use Rattle.client_multi.specs.MultiStream as multi_stream
-use Rattle.client_multi.specs.Settings as stream_settings
+use Rattle.client_settings.specs.MultiStream as stream_settings
 use Rattle.client_request.specs.View.{Transport as Plain}
 use Rattle.client_settings.specs.Settings.{CacheSettings, RedundantSettings}
 use Rattle.client_steps.specs.Client as plain

@@ -21,7 +21,7 @@ use Rattle.client_stream.specs.IdTable.{IdTable, next_id, inserted, inserted_at,
 use Rattle.client_stream.specs.Ids.{frame_heard, Act, asks_for, hears_of, gives_up_on, is_write, writes_of, writes_id, has_id, frame_told, frame_taken_by, is_held, open_after, does, WritesFreeIds, IdsLaw}
 use Rattle.client_stream.specs.Plain as plain
 use Rattle.client_stream.specs.Plain.{Line, Stream, After, AfterAll, has_ended, message_id, started}
-use Rattle.client_stream.specs.Settings.{Settings}
+use Rattle.client_settings.specs.Stream.{Settings}
 use Rattle.client_stream.specs.declared.request.AnyRequest.{AnyRequest}
 use Rattle.client_stream.specs.declared.request.AnyRequest.TheVariants.{Single, Transfer}
 use Rattle.client_stream.specs.declared.request.QueuedRequest.{QueuedRequest}

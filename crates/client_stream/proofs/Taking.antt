@@ -9,7 +9,7 @@ use Rattle.client_transfer.specs.declared.state.XfrState.{XfrState}
 use Rattle.client_stream.specs.IdTable.{IdTable, removed}
 use Rattle.client_stream.specs.Plain as plain
 use Rattle.client_stream.specs.Plain.{Line, After, message_id}
-use Rattle.client_stream.specs.Settings.{Settings}
+use Rattle.client_settings.specs.Stream.{Settings}
 use Rattle.client_stream.specs.declared.request.AnyRequest.{AnyRequest}
 use Rattle.client_stream.specs.declared.request.AnyRequest.TheVariants.{Single, Transfer}
 use Rattle.client_stream.specs.declared.request.Holder.{Holder}

@@ -9,7 +9,7 @@ use Rattle.client_request.specs.declared.event.What.{What}
 use Rattle.client_request.specs.declared.event.What.TheVariants.{Bytes}
 use Rattle.client_stream.specs.Frames.{first_frame}
 use Rattle.client_stream.specs.Plain.{Line, Stream, AfterAll, has_ended, message_id, started, plain_send, plain_step, plain_cancel}
-use Rattle.client_stream.specs.Settings.{Settings}
+use Rattle.client_settings.specs.Stream.{Settings}
 use Rattle.client_stream.specs.declared.request.AnyRequest.{AnyRequest}
 
 -- a call of a connection: a request is taken on, something is heard, or the request with a ticket is given up

@@ -33,7 +33,7 @@ use Rattle.client_transfer.specs.declared.state.XfrState.TheVariants.{AxfrInit, 
 use Rattle.client_stream.specs.Frames.{first_frame, behind_frame, has_frame, is_in_body}
 use Rattle.client_stream.specs.IdTable.{IdTable, no_ids, next_id, inserted, inserted_at, removed, items_of}
 use Rattle.client_stream.specs.Keepalive.{idle_time_told}
-use Rattle.client_stream.specs.Settings.{Settings}
+use Rattle.client_settings.specs.Stream.{Settings}
 use Rattle.client_stream.specs.declared.request.AnyRequest.{AnyRequest}
 use Rattle.client_stream.specs.declared.request.AnyRequest.TheVariants.{Single, Transfer}
 use Rattle.client_stream.specs.declared.request.QueuedRequest.{QueuedRequest}

@@ -6,9 +6,8 @@ ghost use Rattle.client_request.specs.Cx.{view_of, heard};
 ghost use Rattle.client_request.specs.Response.{response_of, IsRefusal};
 ghost use Rattle.client_stream.specs.Plain as plain;
 ghost use Rattle.client_stream.specs.declared.request.AnyRequest.TheVariants as any;
-ghost use Rattle.client_stream.specs.Settings.{default_settings};
+ghost use Rattle.client_settings.specs.Stream.{default_settings};
 
-use crate::config::Config;
 use crate::framer::Framer;
 use crate::hearing::hear_frame;
 use crate::line::{Line, end_by_timer, end_with, give_up};
@@ -18,6 +17,7 @@ use client_request::{
     ComposeRequest, ComposeRequestMulti, Cx, Error, Fault, GetResponse, GetResponseMulti, Latch,
     Pending, SendRequest, SendRequestMulti, Signal, What, Words,
 };
+use client_settings::stream::Config;
 use dns_base::NoMemory;
 use std::alloc::Global;
 use std::marker::Model;
@@ -50,6 +50,9 @@ impl<Req: Drop, ReqMulti: Drop> Drop for Connection<Req, ReqMulti> {
         } = self;
     }
 }
+
+/// Another name of `Connection`: what runs a connection and what asks by it are one value here.
+pub type Transport<Req, ReqMulti> = Connection<Req, ReqMulti>;
 
 impl<Req, ReqMulti> Model for Connection<Req, ReqMulti> {
     ghost use Rattle.client_stream.specs.Plain.{Stream};

@@ -3,7 +3,6 @@
 #![tactic(auto)]
 
 mod composing;
-mod config;
 mod connection;
 mod framer;
 mod hearing;
@@ -16,9 +15,9 @@ mod transfer;
 mod writing;
 
 pub use client_request::Pending as Request;
+pub use client_settings::stream::Config;
 pub use client_transfer::{XfrState, check_stream};
-pub use config::Config;
-pub use connection::Connection;
+pub use connection::{Connection, Transport};
 pub use framer::Framer;
 pub use laws::{cutting_law, frames_law, ids_law, transfer_law};
 pub use line::{Line, LineStage};

@@ -6,10 +6,10 @@ ghost use Rattle.client_request.specs.Cx.{view_of, LendsTheSame};
 ghost use Rattle.client_request.specs.View.{sets_timer};
 ghost use Rattle.client_stream.specs.Plain as plain;
 
-use crate::config::Config;
 use crate::queries::Queries;
 use crate::request::{AnyRequest, Holder, QueuedRequest};
 use client_request::{Board, ComposeRequest, ComposeRequestMulti, Cx, Error, Out, TimerId, Words};
+use client_settings::stream::Config;
 use dns_base::{Duration, NoMemory, Octets};
 use number_table::NumberTable;
 use std::alloc::Global;

@@ -8,11 +8,11 @@ ghost use Rattle.client_stream.specs.declared.request.AnyRequest.TheVariants as 
 ghost use Rattle.client_stream.specs.Plain as plain;
 
 use crate::composing::prepare_frame;
-use crate::config::Config;
 use crate::line::{Line, become_active_for, end_with, timeout_by};
 use crate::request::{AnyRequest, Holder, QueuedRequest};
 use crate::transfer::first_state;
 use client_request::{ComposeRequest, ComposeRequestMulti, Cx, Error, Fault, Out, Words};
+use client_settings::stream::Config;
 use client_transfer::XfrState;
 use dns_base::{NoMemory, Octets};
 

@@ -1,24 +1,17 @@
 //! Numbers among the words of a command line.
 
 ghost use Rattle.std.specs.Prelude.{◌≡◌, ◌≤◌, IfSome};
-ghost use Rattle.resolv_conf.specs.Number.{number_of};
 ghost use Rattle.command_parts.specs.Numbers.{is_plain, number_in};
 
-/// The number that a text writes, where a plus may stand first.
-#[tactic(auto, using(resolv_conf::proofs::Numbers::number_is))]
-fn number(text: &str) -> Option<usize>
-    ensures { result ≡ number_of text.now }
-{
-    text.parse::<usize>().ok()
-}
+use dns_values::decimal_number;
 
-/// Whether neither a plus nor a zero stands before more.
+/// Whether no zero stands before more.
 fn is_plain(word: &[u8]) -> bool
     ensures { result ≡ is_plain word.now }
 {
     match word {
         [] | [_] => true,
-        [first, ..] => *first != b'+' && *first != b'0',
+        [first, ..] => *first != b'0',
     }
 }
 
@@ -27,13 +20,10 @@ pub fn number_in(least: u64, greatest: u64, text: &str) -> Option<u64>
     ensures value { result ≡ number_in least greatest text.now }
     ensures range { IfSome result (λ n. (least ≤ n) × (n ≤ greatest)) }
 {
-    if !is_plain(text.as_bytes()) {
+    let word = text.as_bytes();
+    if !is_plain(word) {
         return None;
     }
-    let number = number(text)? as u64;
-    if number < least || greatest < number {
-        None
-    } else {
-        Some(number)
-    }
+    let number = decimal_number(greatest, word)?;
+    if number < least { None } else { Some(number) }
 }

@@ -2,6 +2,7 @@ pub mod Chains
 pub mod Drafts
 pub mod Grammars
 pub mod Heads
+pub mod LowerNames
 pub mod NameLaws
 pub mod Names
 pub mod NameTexts

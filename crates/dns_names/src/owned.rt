@@ -1,6 +1,6 @@
 //! Names that own their octets, and what has the labels of a name.
 
-ghost use Rattle.std.specs.Prelude.{◌≡◌, ◌↔◌, ◌<◌, ◌++◌, [], ◌∷◌, length, IfOk, OnOk, IsTrue, Bool, true, fold, map};
+ghost use Rattle.std.specs.Prelude.{◌≡◌, ◌↔◌, ◌<◌, ◌++◌, [], ◌∷◌, length, IfOk, OnErr, OnOk, IsTrue, Bool, true, fold, map};
 ghost use Rattle.std.specs.Char.{to_ascii_lowercase};
 ghost use Rattle.std.specs.Hash as fed;
 ghost use Rattle.dns_names.specs.NameHash.{name_hash, same_hash};
@@ -81,6 +81,27 @@ impl Name {
         let mut octets = Vec::new(alloc);
         octets.extend_from_slice(self.as_octets())?;
         Ok(Name { octets })
+    }
+
+    /// Becomes the same name with its ASCII letters in lower case (RFC 4343 3.2).
+    pub fn lower(&mut self)
+        ensures { self.new ≡ lowered self.old }
+    {
+        self.octets.make_ascii_lowercase();
+    }
+
+    /// Becomes the name that these octets spell uncompressed, with the root's (RFC 1035 3.1).
+    ///
+    /// It takes memory only where it has room for fewer octets. After `NoMemory` it is the root.
+    pub fn respell(&mut self, octets: &[u8]) -> Result<(), NoMemory>
+        requires { Spells octets.now }
+        ensures spelled { OnOk result (spelling self.new ≡ octets.now) }
+        ensures named { OnOk result ((labels : Labels) → IsLegal labels → octets.now ≡ spelling labels → self.new ≡ labels) }
+        ensures no_memory { OnErr result (self.new ≡ []) }
+    {
+        self.octets.clear();
+        self.octets.extend_from_slice(octets)?;
+        Ok(())
     }
 }
 

@@ -1,10 +1,10 @@
 -- Addresses and their texts, by what std proves of its own.
-use Rattle.std.proofs.Common.{◌≡◌, ℕ, List, ap, refl}
+use Rattle.std.proofs.Common.{◌≡◌, ℕ, List, ap}
 use Rattle.std.specs.declared.net.ip_addr.IpAddr as Std
 use Rattle.std.specs.declared.net.ip_addr.IpAddr.TheVariants as Ip
 use Rattle.std.specs.declared.net.ipv4_addr.Ipv4Addr.{Ipv4Addr}
 use Rattle.std.specs.declared.net.ipv6_addr.Ipv6Addr.{Ipv6Addr}
-use Rattle.std.specs.Net.Grammar.{IsDotted, IsColonHex, IsIpText}
+use Rattle.std.specs.Net.Grammar.{IsIpText}
 use Rattle.std.proofs.NetLemmas.Texts.{IsDotted-ipv4_text, IsColonHex-ipv6_text}
 use Rattle.std.proofs.NetLemmas.Theorems.{IsIpv4Text_unique, IsIpv6Text_unique}
 use Rattle.std.proofs.NetLemmas.Ipv6.{IsDotted-not_colon_hex}

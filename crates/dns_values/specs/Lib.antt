@@ -5,3 +5,4 @@ pub mod StdEdge
 pub mod ErrorText
 pub mod NumberNames
 pub mod NameTable
+pub mod Decimal

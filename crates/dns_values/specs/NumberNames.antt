@@ -1,7 +1,7 @@
 -- The names of types, classes and codes, as they are registered with IANA (RFC 6895).
-use Rattle.std.specs.Prelude.{◌≡◌, ◌<◌, ◌^◌, ◌+◌, ◌-◌, ◌*◌, ◌==◌, ◌&&◌, ℕ, Bool, true, List, [], ◌∷◌, ◌++◌, length, take, drop, codes, decimal, nat_lt, nat_le, Option, Some, None, option_and_then, unwrap_or, if◌then◌else◌}
-use Rattle.std.specs.Char.{is_ascii_digit}
+use Rattle.std.specs.Prelude.{◌≡◌, ◌<◌, ◌==◌, ◌&&◌, ℕ, Bool, true, List, [], ◌∷◌, ◌++◌, length, take, drop, codes, decimal, nat_le, Option, Some, None, unwrap_or, if◌then◌else◌}
 use Rattle.std.specs.Str.{str_eq_ignore_ascii_case}
+use Rattle.dns_values.specs.Decimal.{decimal_number}
 
 -- types (RFC 1035 3.2.2 and later)
 unfoldable pub type_names : List (ℕ × List ℕ)
@@ -128,27 +128,10 @@ number_of [] text = None
 number_of (entry ∷ entries) text =
     if str_eq_ignore_ascii_case entry.1 text then Some entry.0 else number_of entries text
 
--- whether each number is below the end
-abbrev pub are_below : ℕ → List (ℕ × List ℕ) → Bool
-are_below end [] = true
-are_below end (entry ∷ entries) = nat_lt entry.0 end && are_below end entries
-
--- a number with one more digit, where it is below the end
-abbrev pub with_digit : ℕ → ℕ → ℕ → Option ℕ
-with_digit end number digit =
-    if is_ascii_digit digit && nat_lt (10 * number + (digit - 48)) end
-    then Some (10 * number + (digit - 48))
-    else None
-
-abbrev pub with_digits : ℕ → ℕ → List ℕ → Option ℕ
-with_digits end number [] = Some number
-with_digits end number (digit ∷ digits) =
-    option_and_then (λ more. with_digits end more digits) (with_digit end number digit)
-
--- one decimal digit or more, which write a number below the end
-abbrev pub decimal_number : ℕ → List ℕ → Option ℕ
-decimal_number end [] = None
-decimal_number end (digit ∷ digits) = with_digits end 0 (digit ∷ digits)
+-- whether each number is at most the greatest
+abbrev pub are_within : ℕ → List (ℕ × List ℕ) → Bool
+are_within greatest [] = true
+are_within greatest (entry ∷ entries) = nat_le entry.0 greatest && are_within greatest entries
 
 -- whether a text begins with a word, in any case
 abbrev pub begins_with : List ℕ → List ℕ → Bool
@@ -156,10 +139,10 @@ begins_with word text =
     nat_le (length word) (length text) && str_eq_ignore_ascii_case (take (length word) text) word
 
 -- The number that a text stands for: that of a name, in any case, or the decimal number behind a
--- word, as in TYPE123 (RFC 3597 5). It is below the end.
+-- word, as in TYPE123 (RFC 3597 5). It is at most the greatest.
 unfoldable pub number_of_text : List (ℕ × List ℕ) → List ℕ → ℕ → List ℕ → Option ℕ
-number_of_text names word end text =
-    if begins_with word text then decimal_number end (drop (length word) text)
+number_of_text names word greatest text =
+    if begins_with word text then decimal_number greatest (drop (length word) text)
     else number_of names text
 
 -- The text of a number: its name, or the word and the number where it has none.
@@ -170,34 +153,34 @@ abbrev pub type_text : ℕ → List ℕ
 type_text number = text_of_number type_names (codes "TYPE") number
 
 abbrev pub type_of_text : List ℕ → Option ℕ
-type_of_text text = number_of_text type_names (codes "TYPE") 65536 text
+type_of_text text = number_of_text type_names (codes "TYPE") 65535 text
 
 abbrev pub class_text : ℕ → List ℕ
 class_text number = text_of_number class_names (codes "CLASS") number
 
 abbrev pub class_of_text : List ℕ → Option ℕ
-class_of_text text = number_of_text class_names (codes "CLASS") 65536 text
+class_of_text text = number_of_text class_names (codes "CLASS") 65535 text
 
 -- of four bits
 abbrev pub opcode_text : ℕ → List ℕ
 opcode_text number = text_of_number opcode_names (codes "OPCODE") number
 
 abbrev pub opcode_of_text : List ℕ → Option ℕ
-opcode_of_text text = number_of_text opcode_names (codes "OPCODE") 16 text
+opcode_of_text text = number_of_text opcode_names (codes "OPCODE") 15 text
 
 -- of four bits
 abbrev pub rcode_text : ℕ → List ℕ
 rcode_text number = text_of_number rcode_names (codes "RCODE") number
 
 abbrev pub rcode_of_text : List ℕ → Option ℕ
-rcode_of_text text = number_of_text rcode_names (codes "RCODE") 16 text
+rcode_of_text text = number_of_text rcode_names (codes "RCODE") 15 text
 
 -- of twelve bits
 abbrev pub extended_rcode_text : ℕ → List ℕ
 extended_rcode_text number = text_of_number extended_rcode_names (codes "RCODE") number
 
 abbrev pub extended_rcode_of_text : List ℕ → Option ℕ
-extended_rcode_of_text text = number_of_text extended_rcode_names (codes "RCODE") 4096 text
+extended_rcode_of_text text = number_of_text extended_rcode_names (codes "RCODE") 4095 text
 
 -- The laws of the texts of numbers: what is printed is read as the same number, and so is the
 -- number behind the word where it has a name too.

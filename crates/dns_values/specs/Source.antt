@@ -6,6 +6,10 @@ use Rattle.std.specs.List.{list_any}
 abbrev pub last_count : ℕ
 last_count = 18446744073709551615
 
+-- the most octets that are read of a configuration, or of a script
+abbrev pub most_text : ℕ
+most_text = 16777216
+
 -- the count rose; where it stands at its last value, it stays there
 abbrev pub Rose : ℕ → ℕ → Type 0
 Rose old new = (old ≤ new) × (old ≢ last_count → old < new)

@@ -25,7 +25,7 @@ impl Opcode {
     pub fn from_text(text: &str) -> Result<Opcode, ParseError>
         ensures { option_map (λ c. c.0) (result_ok result) ≡ opcode_of_text text.now }
     {
-        match number_of_text(&OPCODE_NAMES, "OPCODE", 16, text) {
+        match number_of_text(&OPCODE_NAMES, "OPCODE", 15, text) {
             Some(number) => Ok(Opcode(number as u8)),
             None => Err(ParseError),
         }
@@ -64,7 +64,7 @@ impl Rcode {
     pub fn from_text(text: &str) -> Result<Rcode, ParseError>
         ensures { option_map (λ c. c.0) (result_ok result) ≡ rcode_of_text text.now }
     {
-        match number_of_text(&RCODE_NAMES, "RCODE", 16, text) {
+        match number_of_text(&RCODE_NAMES, "RCODE", 15, text) {
             Some(number) => Ok(Rcode(number as u8)),
             None => Err(ParseError),
         }
@@ -105,7 +105,7 @@ impl OptRcode {
     pub fn from_text(text: &str) -> Result<OptRcode, ParseError>
         ensures { option_map (λ c. c.0) (result_ok result) ≡ extended_rcode_of_text text.now }
     {
-        match number_of_text(&EXTENDED_RCODE_NAMES, "RCODE", 4096, text) {
+        match number_of_text(&EXTENDED_RCODE_NAMES, "RCODE", 4095, text) {
             Some(number) => Ok(OptRcode(number)),
             None => Err(ParseError),
         }

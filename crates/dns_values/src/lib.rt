@@ -3,6 +3,7 @@
 
 mod address;
 mod code_names;
+mod decimal;
 mod duration;
 mod error;
 mod error_text;
@@ -18,6 +19,7 @@ mod streams;
 mod type_names;
 
 pub use address::{IpAddr, SocketAddr};
+pub use decimal::decimal_number;
 pub use duration::Duration;
 pub use error::{Failed, LongName, LongOptData, NoMemory, ParseError, ShortMessage};
 pub use laws::{address_laws, number_name_laws};
@@ -27,4 +29,4 @@ pub use seq::Seq;
 pub use sink::{MemSink, Sink, SinkFault, SureSink};
 pub use source::{MemSource, Source, SureSource, copy_front};
 pub use std_edge::{StdSink, StdSource};
-pub use streams::{ReadFault, read_to_end, write_all};
+pub use streams::{MOST_TEXT, ReadFault, read_to_end, write_all};

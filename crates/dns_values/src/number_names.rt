@@ -1,11 +1,12 @@
 //! Numbers that have names: what they print, and what is read as one.
 
-ghost use Rattle.std.specs.Prelude.{◌≡◌, ◌<◌, ◌≤◌, ◌^◌, length, IfSome, IsTrue, option_copied};
+ghost use Rattle.std.specs.Prelude.{◌≡◌, ◌≤◌, length, IfSome, IsTrue, option_copied};
 ghost use Rattle.std.specs.Fmt.{WritesOnOk};
 ghost use Rattle.std.specs.Str.{str_eq_ignore_ascii_case};
-ghost use Rattle.dns_values.specs.NumberNames.{are_below, name_of, number_of, with_digit, decimal_number, begins_with, number_of_text, text_of_number};
+ghost use Rattle.dns_values.specs.NumberNames.{are_within, name_of, number_of, begins_with, number_of_text, text_of_number};
 ghost use Rattle.dns_values.specs.NameTable.{told};
 
+use crate::decimal::decimal_number;
 use std::fmt;
 
 /// A number and its name.
@@ -42,35 +43,6 @@ fn number_of(names: &[Named], text: &str) -> Option<u16>
     None
 }
 
-/// A number with one more digit, where it is below the end.
-fn with_digit(end: u32, number: u32, digit: u8) -> Option<u32>
-    requires { number < 2 ^ 16 }
-    ensures value { result ≡ with_digit end number digit }
-    ensures below { IfSome result (λ n. n < end) }
-{
-    if !digit.is_ascii_digit() {
-        return None;
-    }
-    let more = 10 * number + u32::from(digit - b'0');
-    if more < end { Some(more) } else { None }
-}
-
-/// The number below the end that decimal digits write.
-fn decimal_number(end: u32, digits: &[u8]) -> Option<u16>
-    requires { end ≤ 2 ^ 16 }
-    ensures value { result ≡ decimal_number end digits.now }
-    ensures below { IfSome result (λ n. n < end) }
-{
-    if digits.is_empty() {
-        return None;
-    }
-    let mut number = 0;
-    for digit in digits {
-        number = with_digit(end, number, *digit)?;
-    }
-    Some(number as u16)
-}
-
 /// Whether a text begins with a word, in any case.
 fn begins_with(word: &str, text: &[u8]) -> bool
     ensures value { result ≡ begins_with word.now text.now }
@@ -81,14 +53,14 @@ fn begins_with(word: &str, text: &[u8]) -> bool
 
 /// The number that a text stands for: that of a name, or the one behind a word.
 #[tactic(auto, unfolding(crate::specs::NumberNames::number_of_text))]
-pub(crate) fn number_of_text(names: &[Named], word: &str, end: u32, text: &str) -> Option<u16>
-    requires { end ≤ 2 ^ 16 }
-    ensures value { result ≡ number_of_text (told names.now) word.now end text.now }
-    ensures below { IsTrue (are_below end (told names.now)) → IfSome result (λ n. n < end) }
+pub(crate) fn number_of_text(names: &[Named], word: &str, greatest: u16, text: &str) -> Option<u16>
+    ensures value { result ≡ number_of_text (told names.now) word.now greatest text.now }
+    ensures within { IsTrue (are_within greatest (told names.now)) → IfSome result (λ n. n ≤ greatest) }
 {
     let octets = text.as_bytes();
     if begins_with(word, octets) {
-        decimal_number(end, &octets[word.len()..])
+        let number = decimal_number(u64::from(greatest), &octets[word.len()..])?;
+        Some(number as u16)
     } else {
         number_of(names, text)
     }

@@ -40,6 +40,9 @@ impl From<AllocError> for ReadFault {
     }
 }
 
+/// The most octets that are read of a configuration, or of a script: 16 MiB.
+pub const MOST_TEXT: usize = 16_777_216;
+
 /// The octets of a source, to its end.
 ///
 /// No octet past the one after `most` is read. `ReadFault::TooLong` where there are more than

@@ -75,7 +75,7 @@ impl Rtype {
     pub fn from_text(text: &str) -> Result<Rtype, ParseError>
         ensures { option_map (λ t. t.0) (result_ok result) ≡ type_of_text text.now }
     {
-        match number_of_text(&TYPE_NAMES, "TYPE", 65536, text) {
+        match number_of_text(&TYPE_NAMES, "TYPE", 65535, text) {
             Some(number) => Ok(Rtype(number)),
             None => Err(ParseError),
         }
@@ -102,7 +102,7 @@ impl Class {
     pub fn from_text(text: &str) -> Result<Class, ParseError>
         ensures { option_map (λ c. c.0) (result_ok result) ≡ class_of_text text.now }
     {
-        match number_of_text(&CLASS_NAMES, "CLASS", 65536, text) {
+        match number_of_text(&CLASS_NAMES, "CLASS", 65535, text) {
             Some(number) => Ok(Class(number)),
             None => Err(ParseError),
         }

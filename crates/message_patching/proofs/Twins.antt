@@ -1,22 +1,22 @@
 -- Two drafts that differ in octets from which no name is read: what is pushed on both is the same.
-use Rattle.std.proofs.Common.{◌≡◌, ℕ, ◌+◌, ◌-◌, ◌≤◌, List, [], ◌∷◌, ◌++◌, length, take, drop, refl, ap, sym, subst, ◌∙◌, arith, Bool, true, false, length-append, append_assoc, append-nil}
+use Rattle.std.proofs.Common.{◌≡◌, ℕ, ◌+◌, ◌≤◌, List, [], ◌∷◌, ◌++◌, length, take, drop, refl, ap, sym, subst, ◌∙◌, arith, Bool, true, false, length-append, append_assoc, append-nil}
 use Rattle.std.specs.Prelude.{Option, Some, None, if◌then◌else◌, ◌==◌}
 use Rattle.std.specs.Int.{w16, w32, to_be_bytes}
-use Rattle.std.proofs.Math.Seq.{drop-append_seam, drop-append-add, take-append-add, take-append_seam}
-use Rattle.std.proofs.lemmas.List.{take-append-drop, length-take-le, take-append-le}
-use Rattle.std.specs.Prelude.{nat_lt, map}
+use Rattle.std.proofs.Math.Seq.{drop-append_seam, drop-append-add, take-append-add}
+use Rattle.std.proofs.lemmas.List.{length-take-le}
+use Rattle.std.specs.Prelude.{map}
 use Rattle.std.specs.List.{AllByRecursion}
 use Rattle.std.specs.Char.{to_ascii_lowercase}
-use Rattle.dns_names.specs.Name.{Labels, Found, IsName, IsLabel, IsLegal, spelling, lowered, octet_count, name_at, same_name}
+use Rattle.dns_names.specs.Name.{Labels, Found, IsLegal, spelling, lowered, octet_count, name_at}
 use Rattle.dns_names.proofs.NameLaws.{read_more}
-use Rattle.dns_base.specs.Data.{Data, A, Aaaa, One, Minfo, Mx, StartOfAuthority, Service, Txt, Opt, Other, data_spelling}
+use Rattle.dns_base.specs.Data.{Data, A, Aaaa, One, Minfo, Mx, StartOfAuthority, Service, Named, Txt, Opt, Other}
 use Rattle.dns_base.specs.Message.{Asked, Written}
 use Rattle.dns_base.specs.Compression.{Compressed, stands_at, found_at, pointer_or, name_octets, name_places, none_if_found, remembered, with_name, with_octets, with_u16, with_u32, with_numbers, with_data, with_fields, count_behind, counted, with_counted_data, with_record, with_question}
 use Rattle.dns_base.specs.Holding.{IsPlace, ArePlaces, IsWritable, IsWritableData, IsAskable}
 use Rattle.dns_base.proofs.Stands.{Stands, Shows}
-use Rattle.dns_base.proofs.Sizes.{begins_long, appended_long, appended_continues, counted_long, data_continues, data_behind}
+use Rattle.dns_base.proofs.Sizes.{appended_long, appended_continues, data_continues, data_behind}
 use Rattle.dns_base.proofs.Compressing.{continues_on}
-use Rattle.dns_base.proofs.Places.{name_remembered, octets_remembered, NameBack, name_back, back_count}
+use Rattle.dns_base.proofs.Places.{name_remembered, octets_remembered, name_back, back_count}
 use Rattle.message_patching.proofs.Labels.{name_label, back_read, remembered_are, shorter, rest_stands}
 use Rattle.dns_base.proofs.DataBack.{data_remembered}
 use Rattle.dns_base.proofs.EntriesBack.{places_across}
@@ -118,6 +118,7 @@ both_data (StartOfAuthority soa) c d p q h b =
 both_data (A octets) c d p q h b = both_octets _ c d p q b
 both_data (Aaaa octets) c d p q h b = both_octets _ c d p q b
 both_data (Service srv) c d p q h b = both_octets _ c d p q b
+both_data (Named it) c d p q h b = both_octets _ c d p q b
 both_data (Txt octets) c d p q h b = both_octets _ c d p q b
 both_data (Opt octets) c d p q h b = both_octets _ c d p q b
 both_data (Other octets) c d p q h b = both_octets _ c d p q b
@@ -486,6 +487,7 @@ twins_data (StartOfAuthority soa) c d p q h b =
 twins_data (A octets) c d p q h b = twins_octets _ c d p q b
 twins_data (Aaaa octets) c d p q h b = twins_octets _ c d p q b
 twins_data (Service srv) c d p q h b = twins_octets _ c d p q b
+twins_data (Named it) c d p q h b = twins_octets _ c d p q b
 twins_data (Txt octets) c d p q h b = twins_octets _ c d p q b
 twins_data (Opt octets) c d p q h b = twins_octets _ c d p q b
 twins_data (Other octets) c d p q h b = twins_octets _ c d p q b

@@ -8,6 +8,7 @@
 mod laws;
 mod places;
 mod template;
+mod ttl_places;
 mod writes;
 
 pub use laws::views_are_patched;

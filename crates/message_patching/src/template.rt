@@ -5,13 +5,14 @@ ghost use Rattle.std.specs.List.{AllByRecursion};
 ghost use Rattle.dns_names.specs.Name.{IsLegal};
 ghost use Rattle.message_patching.specs.Patching as spec;
 ghost use Rattle.message_patching.specs.Laws.{GivesViews, IsViewOfEach};
+ghost use Rattle.message_patching.specs.TtlPlaces.{places_of, AreWithin};
 
 use crate::places::{places_in, u16_at};
+use crate::ttl_places::TtlPlaces;
 use crate::writes::{put_name, put_over, put_ttls};
 use cache_rules::{AdDo, Ttls, is_viewable, view_under};
 use client_request::Error;
 use dns_base::{Header, Message, Name, NoMemory, Octets};
-use smallvec::SmallVec;
 use std::alloc::Global;
 use std::marker::Model;
 
@@ -35,20 +36,28 @@ fn is_long(composed: &Message, message: &Message) -> bool
 }
 
 /// The octets of a message that was composed, and the places of its question's name and of its TTLs.
-#[derive(Drop)]
 pub struct Template {
     octets: Vec<u8>,
     is_named: bool,
-    /// Most messages have no more TTLs than stand here itself.
-    ttls: SmallVec<u32, 4>,
+    ttls: TtlPlaces,
+}
+
+impl Drop for Template {
+    fn drop(self) {
+        let Template {
+            octets: _,
+            is_named: _,
+            ttls: _,
+        } = self;
+    }
 }
 
 impl Model for Template {
     ghost Value = { spec.Template };
 
-    ghost view = { λ t. record { octets = t.octets.items; is_named = t.is_named; ttls = t.ttls.items } };
+    ghost view = { λ t. record { octets = t.octets.items; is_named = t.is_named; ttls = places_of t.ttls } };
 
-    ghost invariant = { λ t. (12 ≤ length t.octets.items) × AllByRecursion (spec.IsTtlIn (length t.octets.items)) t.ttls.items };
+    ghost invariant = { λ t. (12 ≤ length t.octets.items) × AllByRecursion (spec.IsTtlIn (length t.octets.items)) (places_of t.ttls) × AreWithin t.ttls };
 }
 
 impl Template {
@@ -65,7 +74,7 @@ impl Template {
             Some(places) => {
                 let is_named = u16_at(message.as_slice(), 4) == 1;
                 let octets = Vec::from_slice(alloc, message.as_slice())?;
-                let ttls = SmallVec::from_slice(alloc, &places)?;
+                let ttls = TtlPlaces::of(alloc, &places)?;
                 Ok(Some(Template {
                     octets,
                     is_named,

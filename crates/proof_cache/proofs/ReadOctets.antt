@@ -10,7 +10,8 @@ use Rattle.dns_names.specs.Name.{Labels, Found, IsName, at_root, at_label, at_po
 use Rattle.dns_names.proofs.Heads.{then_ok, chosen, none_some}
 use Rattle.dns_names.proofs.NameLaws.{read_is_name, read_legal}
 use Rattle.dns_base.specs.Numbers.{u16_at, u32_at, ◌>>=◌}
-use Rattle.dns_base.specs.Data.{Data, A, Aaaa, One, Minfo, Mx, StartOfAuthority, Service, Soa, Srv, is_one_name, are_strings, are_options, octets_to, name_to, srv_with, data_at, data_spelling}
+use Rattle.dns_base.specs.Forms.{Form, NamedData, Second, form_of, size_before, second_at, second_spelling, ends_so, parts_to, named_to, named_size, named_spelling}
+use Rattle.dns_base.specs.Data.{Data, A, Aaaa, One, Minfo, Mx, StartOfAuthority, Service, Named, Soa, Srv, is_one_name, are_strings, are_options, octets_to, name_to, srv_with, formed_to, data_at, data_spelling}
 use Rattle.dns_base.specs.Message.{Entry, Known, record_at}
 use Rattle.proof_cache.proofs.Octets.{OfOctets, joined, ranged, four, two_before}
 
@@ -61,20 +62,28 @@ alike_octets a b same h = name_raised a (subst AreOctets (sym same) (name_lowere
 
 -- ---- data
 
+-- what is found has a property
+
+either_has : {T : Type 0} (P : T → Type 0) (b : Bool) (x y : Option T) → IfSome x P → IfSome y P → IfSome (if b then x else y) P
+either_has P true x y f g = f
+either_has P false x y f g = g
+
+followed_has : {S T : Type 0} (P : T → Type 0) (f : S → Option T) (o : Option S) → ((x : S) → o ≡ Some x → IfSome (f x) P) → IfSome (o >>= f) P
+followed_has P f None h = tt
+followed_has P f (Some x) h = h x refl
+
 abbrev SpellsOctets : Option Data → Type 0
 SpellsOctets o = IfSome o (λ d. OfOctets (data_spelling d))
 
 either_way : (b : Bool) (x y : Option Data) → SpellsOctets x → SpellsOctets y → SpellsOctets (if b then x else y)
-either_way true x y f g = f
-either_way false x y f g = g
+either_way b x y f g = either_has (λ d. OfOctets (data_spelling d)) b x y f g
 
 mapped : {T : Type 0} (f : T → Data) (o : Option T) → ((x : T) → o ≡ Some x → OfOctets (data_spelling (f x))) → SpellsOctets (option_map f o)
 mapped f None h = tt
 mapped f (Some x) h = h x refl
 
 followed : {T : Type 0} (f : T → Option Data) (o : Option T) → ((x : T) → o ≡ Some x → SpellsOctets (f x)) → SpellsOctets (o >>= f)
-followed f None h = tt
-followed f (Some x) h = h x refl
+followed f o h = followed_has (λ d. OfOctets (data_spelling d)) f o h
 
 -- four octets more
 four_more : (xs : List ℕ) (n : ℕ) → OfOctets xs → OfOctets (xs ++ to_be_bytes w32 n)
@@ -117,6 +126,39 @@ module _ (o : List ℕ) (octets : OfOctets o) where
     | inr p ↦ none_some p.1
   ]
 
+  abbrev SpellsSecond : Second → Type 0
+  SpellsSecond second = OfOctets (second_spelling second.name)
+
+  second_spelled : (has_second : Bool) (at : ℕ) → IfSome (second_at has_second o at) SpellsSecond
+  second_spelled false at = tt
+  second_spelled true at = found (name_at o at) refl
+    where
+      found : (f : Option Found) → name_at o at ≡ f → IfSome (option_map (λ (found : Found). record { name = Some found.labels; end = found.end }) f) SpellsSecond
+      found None e = tt
+      found (Some f) e = name_there at f e
+
+  abbrev SpellsNamed : NamedData → Type 0
+  SpellsNamed it = OfOctets (named_spelling it)
+
+  parts_spelled : (form : Form) (at end : ℕ) → IfSome (parts_to form o at end) SpellsNamed
+  parts_spelled form at end =
+      followed_has SpellsNamed _ (size_before form (slice_range o at end)) (λ size s.
+      followed_has SpellsNamed _ (name_at o (at + size)) (λ first f.
+      followed_has SpellsNamed _ (second_at form.has_second o first.end) (λ second e.
+      either_has SpellsNamed (ends_so form.has_rest second.end end) _ None
+      (joined _ _ (joined _ _ (joined _ _ (ranged o at (at + size) octets) (name_there (at + size) first f))
+      (subst (λ x. IfSome x SpellsSecond) e (second_spelled form.has_second first.end))) (ranged o second.end end octets)) tt)))
+
+  named_spelled : (form : Form) (at end : ℕ) → IfSome (named_to form o at end) SpellsNamed
+  named_spelled form at end =
+      followed_has SpellsNamed _ (parts_to form o at end) (λ it e.
+      either_has SpellsNamed (nat_le (named_size it) 65535) (Some it) None (subst (λ x. IfSome x SpellsNamed) e (parts_spelled form at end)) tt)
+
+  formed_spelled : (form : Option Form) (at end : ℕ) → SpellsOctets (formed_to form o at end)
+  unfolding data_spelling
+  formed_spelled None at end = ranged o at end octets
+  formed_spelled (Some form) at end = mapped Named (named_to form o at end) (λ it e. subst (λ x. IfSome x SpellsNamed) e (named_spelled form at end))
+
   data_octets : (rtype at end : ℕ) → IfSome (data_at rtype o at end) (λ d. OfOctets (data_spelling d))
   unfolding data_at data_spelling
   data_octets rtype at end =
@@ -132,7 +174,7 @@ module _ (o : List ℕ) (octets : OfOctets o) where
       srv_spelled _ (last_name (at + 6) end name e))) tt)
       (either_way (rtype == 16) _ _ (either_way (are_strings (slice_range o at end)) _ None (ranged o at end octets) tt)
       (either_way (rtype == 41) _ _ (either_way (are_options (slice_range o at end)) _ None (ranged o at end octets) tt)
-      (ranged o at end octets)))))))))
+      (formed_spelled (form_of rtype) at end)))))))))
 
   -- a record whose name and data are spelled with octets
   pub record ReadsSpelled (k : Known) : Type 0 where

@@ -10,7 +10,7 @@ use Rattle.dns_values.specs.declared.numbers.Section.{Section}
 use Rattle.dns_names.specs.Name.{Labels, spelling}
 use Rattle.dns_base.specs.Header.{Counts}
 use Rattle.dns_base.specs.Sections.{counts_spelling}
-use Rattle.dns_base.specs.Data.{Data, A, Aaaa, One, Minfo, Mx, StartOfAuthority, Service, Txt, Opt, Other, Soa, data_spelling}
+use Rattle.dns_base.specs.Data.{Data, A, Aaaa, One, Minfo, Mx, StartOfAuthority, Service, Named, Txt, Opt, Other, Soa, data_spelling}
 use Rattle.dns_base.specs.Message.{Asked, Written}
 use Rattle.dns_base.specs.Compression.{Compressed, found_at, pointer_to, pointer_or, name_octets, remembered, none_if_found, name_places, with_name, with_octets, with_u16, with_u32, with_numbers, with_data, with_question, with_fields, count_behind, counted, with_counted_data, with_record}
 use Rattle.dns_base.specs.Draft.{Draft, fresh, with_header, pushed_question, pushed_record, finished}
@@ -114,6 +114,7 @@ data_sound (Mx preference name) c s h =
     name_sound (with_u16 preference c) (u16_sound c s preference) name (parted (to_be_bytes w16 preference) (spelling name) h).1
 data_sound (StartOfAuthority soa) c s h = soa_sound soa c s h
 data_sound (Service srv) c s h = octets_sound c s (data_spelling (Service srv)) h
+data_sound (Named it) c s h = octets_sound c s (data_spelling (Named it)) h
 data_sound (Txt octets) c s h = octets_sound c s octets h
 data_sound (Opt octets) c s h = octets_sound c s octets h
 data_sound (Other octets) c s h = octets_sound c s octets h

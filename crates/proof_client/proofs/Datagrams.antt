@@ -1,7 +1,7 @@
 -- The transport of a server by datagrams, which goes on by stream where an answer was cut, is tied to its part, and leaves alone what is none of its own.
 use Rattle.std.proofs.Common.{◌≡◌, ℕ, zero, suc, List, [], ◌∷◌, map, Some, None, refl}
 use Rattle.client_multi.specs.MultiStream.{started}
-use Rattle.client_multi.specs.Settings.{default_settings}
+use Rattle.client_settings.specs.MultiStream.{default_settings}
 use Rattle.right_trace.specs.Orderly.{use_at}
 use Rattle.right_trace.specs.Trace.{Conf, Use, ByDatagrams, ByStreams}
 use Rattle.proof_dgram.specs.Fallback.{AreStreams}

@@ -11,7 +11,7 @@ use Rattle.client_multi.specs.DgramStream as dgram_stream
 use Rattle.client_multi.specs.DgramStream.{DgramStream}
 use Rattle.client_multi.specs.Fallback as fallback
 use Rattle.client_multi.specs.MultiStream as multi_stream
-use Rattle.client_multi.specs.Settings as stream_settings
+use Rattle.client_settings.specs.MultiStream as stream_settings
 use Rattle.right_trace.specs.Orderly.{use_at}
 use Rattle.right_trace.specs.Trace.{Conf, Use, ByDatagrams, ByStreams}
 use Rattle.proof_right.specs.machine.Served.{Served, served}

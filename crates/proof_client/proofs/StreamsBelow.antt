@@ -2,7 +2,7 @@
 use Rattle.std.proofs.Common.{◌≡◌, ℕ, inl, false, true, List, [], Some, None, refl, subst, ◌∙◌}
 use Rattle.client_request.specs.declared.event.What.{What}
 use Rattle.client_multi.specs.MultiStream.{started}
-use Rattle.client_multi.specs.Settings.{default_settings}
+use Rattle.client_settings.specs.MultiStream.{default_settings}
 use Rattle.right_trace.specs.Messages.{Octets}
 use Rattle.right_trace.specs.Orderly.{use_at}
 use Rattle.right_trace.specs.Trace.{Conf, ByStreams}

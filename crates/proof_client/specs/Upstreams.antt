@@ -8,7 +8,7 @@ use Rattle.client_request.specs.declared.event.Via.TheVariants as via
 use Rattle.client_dgram.specs.Plain as dgram
 use Rattle.client_multi.specs.DgramStream as dgram_stream
 use Rattle.client_multi.specs.MultiStream as multi_stream
-use Rattle.client_multi.specs.Settings as stream_settings
+use Rattle.client_settings.specs.MultiStream as stream_settings
 use Rattle.right_trace.specs.Orderly.{use_at}
 use Rattle.right_trace.specs.Trace.{Conf, Use, ByDatagrams, ByStreams}
 use Rattle.proof_right.specs.machine.Served.{Served}

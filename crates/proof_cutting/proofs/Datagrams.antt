@@ -9,7 +9,7 @@ use Rattle.client_request.specs.declared.error.QueryError.TheVariants as query
 use Rattle.client_request.specs.declared.event.Out.{Out}
 use Rattle.client_request.specs.declared.event.Out.TheVariants.{OpenDgram, Close}
 use Rattle.client_dgram.specs.Plain.{Tables, After, closes, leaves, tries_at, tries, gives_job, gives_to, at_ticket, at_job, gives_on, finishes, again, late_stage, late, drops_stage, drops, takes_at, newcomer, Dgram, with_tables, plain_send, plain_cancel, plain_step, transport}
-use Rattle.client_dgram.specs.Settings.{Settings}
+use Rattle.client_settings.specs.Dgram.{Settings}
 use Rattle.client_dgram.specs.declared.job.Job.{Job}
 use Rattle.client_dgram.specs.declared.job.Stage.{Stage}
 use Rattle.client_dgram.specs.declared.job.Stage.TheVariants.{Queued, Opening, Sent}

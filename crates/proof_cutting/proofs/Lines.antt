@@ -21,7 +21,7 @@ use Rattle.client_stream.specs.IdTable.{inserted, removed}
 use Rattle.client_stream.specs.Keepalive.{idle_time_told}
 use Rattle.client_stream.specs.Plain as plain
 use Rattle.client_stream.specs.Plain.{Line, After, has_ended, timer_at, message_id}
-use Rattle.client_stream.specs.Settings.{Settings}
+use Rattle.client_settings.specs.Stream.{Settings}
 use Rattle.client_stream.specs.declared.request.AnyRequest.{AnyRequest}
 use Rattle.client_stream.specs.declared.request.AnyRequest.TheVariants.{Single, Transfer}
 use Rattle.client_stream.specs.declared.request.Holder.{Holder}

@@ -18,7 +18,7 @@ use Rattle.client_multi.specs.Links.{Link}
 use Rattle.client_multi.specs.MultiStream as multi
 use Rattle.client_multi.specs.MultiStream.{is_result, lent, taken_back, taken, with_room}
 use Rattle.client_multi.specs.Retry.{retry_time}
-use Rattle.client_multi.specs.Settings.{Settings}
+use Rattle.client_settings.specs.MultiStream.{Settings}
 use Rattle.client_multi.specs.declared.multi_stream.job.Job.{Job}
 use Rattle.client_multi.specs.declared.multi_stream.job.Stage.{Stage}
 use Rattle.client_multi.specs.declared.multi_stream.job.Stage.TheVariants.{Waiting, Resting, Held}

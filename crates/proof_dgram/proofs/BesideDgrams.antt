@@ -4,7 +4,7 @@ use Rattle.std.specs.Prelude.{option_map}
 use Rattle.client_request.specs.Request.{Request}
 use Rattle.client_request.specs.View.{View, Transport}
 use Rattle.client_dgram.specs.Plain as dgram
-use Rattle.client_dgram.specs.Settings as dgram_settings
+use Rattle.client_settings.specs.Dgram as dgram_settings
 use Rattle.client_stream.specs.Plain as stream
 use Rattle.client_multi.specs.Fallback.{Parts, onto, with_tables, collects, gives_rest, with_parts}
 use Rattle.client_multi.specs.declared.dgram_stream.job.Job.{Job}

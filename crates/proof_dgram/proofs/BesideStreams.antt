@@ -6,7 +6,7 @@ use Rattle.client_request.specs.Requests.{for_one}
 use Rattle.client_request.specs.View.{View, Transport}
 use Rattle.client_request.specs.declared.board.Posted.{Posted}
 use Rattle.client_dgram.specs.Plain as dgram
-use Rattle.client_dgram.specs.Settings as dgram_settings
+use Rattle.client_settings.specs.Dgram as dgram_settings
 use Rattle.client_stream.specs.Plain as stream
 use Rattle.client_multi.specs.Fallback.{Parts, onto, gives_all, gives_rest, settles_stream, with_parts}
 use Rattle.client_multi.specs.declared.dgram_stream.job.Job.{Job}

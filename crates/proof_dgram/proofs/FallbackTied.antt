@@ -6,7 +6,7 @@ use Rattle.client_request.specs.View.{View, Transport, told}
 use Rattle.client_request.specs.declared.event.Via.TheVariants as via
 use Rattle.client_request.specs.declared.event.What.{What}
 use Rattle.client_dgram.specs.Plain as dgram
-use Rattle.client_dgram.specs.Settings as dgram_settings
+use Rattle.client_settings.specs.Dgram as dgram_settings
 use Rattle.client_stream.specs.Plain as stream
 use Rattle.client_multi.specs.Fallback as fallback
 use Rattle.client_multi.specs.Fallback.{onto, with_parts, hears_stream}

@@ -8,7 +8,7 @@ use Rattle.client_request.specs.declared.event.Event.{Event}
 use Rattle.client_request.specs.declared.event.What.{What}
 use Rattle.client_request.specs.declared.event.What.TheVariants.{Ask, Tick}
 use Rattle.client_dgram.specs.Plain as dgram
-use Rattle.client_dgram.specs.Settings as dgram_settings
+use Rattle.client_settings.specs.Dgram as dgram_settings
 use Rattle.client_stream.specs.Plain as stream
 use Rattle.client_multi.specs.Fallback as fallback
 use Rattle.client_multi.specs.declared.dgram_stream.job.Job.{Job}

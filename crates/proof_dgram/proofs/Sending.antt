@@ -11,7 +11,7 @@ use Rattle.client_request.specs.declared.error.Error.{Error}
 use Rattle.client_request.specs.declared.event.What.TheVariants.{Opened}
 use Rattle.client_request.specs.declared.event.Out.TheVariants.{Send}
 use Rattle.client_dgram.specs.Plain.{Tables, sent_at, sends_composed}
-use Rattle.client_dgram.specs.Settings.{default_settings}
+use Rattle.client_settings.specs.Dgram.{default_settings}
 use Rattle.client_dgram.specs.declared.job.Job.{Job}
 use Rattle.client_dgram.specs.declared.job.Stage.TheVariants as at
 use Rattle.right_trace.specs.Messages.{Octets, under}

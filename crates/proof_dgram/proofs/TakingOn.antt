@@ -9,7 +9,7 @@ use Rattle.client_request.specs.Timers.{can_draw}
 use Rattle.client_request.specs.View.{View}
 use Rattle.client_request.specs.declared.event.Out.TheVariants.{OpenDgram}
 use Rattle.client_dgram.specs.Plain.{Tables, tries_at, takes_at, takes}
-use Rattle.client_dgram.specs.Settings.{default_settings}
+use Rattle.client_settings.specs.Dgram.{default_settings}
 use Rattle.client_dgram.specs.declared.job.Job.{Job}
 use Rattle.client_dgram.specs.declared.job.Stage.TheVariants as at
 use Rattle.proof_right.specs.machine.Streams as multi

@@ -19,7 +19,7 @@ use Rattle.client_request.specs.declared.error.Error.TheVariants as errors
 use Rattle.client_request.specs.declared.error.QueryError.TheVariants as query
 use Rattle.client_request.specs.declared.fault.Fault.TheVariants as fault
 use Rattle.client_dgram.specs.Plain.{Tables, After, at_place, at_ticket, at_job, opened_stage, open_failed_stage, ends_stage, comes_answer, comes_stage, tells}
-use Rattle.client_dgram.specs.Settings.{default_settings}
+use Rattle.client_settings.specs.Dgram.{default_settings}
 use Rattle.client_dgram.specs.declared.job.Job.{Job}
 use Rattle.client_dgram.specs.declared.job.Stage.{Stage}
 use Rattle.client_dgram.specs.declared.job.Stage.TheVariants as at

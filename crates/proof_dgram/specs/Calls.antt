@@ -10,7 +10,7 @@ use Rattle.client_request.specs.declared.board.Posted.{Posted}
 use Rattle.client_request.specs.declared.event.Out.TheVariants.{Close}
 use Rattle.client_request.specs.declared.event.What.{What}
 use Rattle.client_dgram.specs.Plain.{Tables, late, takes, drops, tells}
-use Rattle.client_dgram.specs.Settings.{default_settings}
+use Rattle.client_settings.specs.Dgram.{default_settings}
 use Rattle.right_trace.specs.Messages.{Octets, truncated}
 use Rattle.proof_right.specs.machine.Part.{Act}
 use Rattle.proof_right.specs.machine.Served.{IsSettled}

@@ -12,7 +12,7 @@ use Rattle.client_request.specs.declared.event.What.TheVariants.{Ask, Opened, Op
 use Rattle.client_stream.specs.declared.request.QueuedRequest.{QueuedRequest as Queued}
 use Rattle.client_multi.specs.Links.{Link}
 use Rattle.client_multi.specs.MultiStream.{started}
-use Rattle.client_multi.specs.Settings.{default_settings}
+use Rattle.client_settings.specs.MultiStream.{default_settings}
 use Rattle.client_multi.specs.declared.multi_stream.job.Job.{Job}
 use Rattle.client_multi.specs.declared.multi_stream.job.Stage.{Stage}
 use Rattle.right_trace.specs.Messages.{Octets}

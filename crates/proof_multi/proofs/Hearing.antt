@@ -10,10 +10,10 @@ use Rattle.client_request.specs.declared.event.Out.{Out}
 use Rattle.client_request.specs.declared.event.What.{What}
 use Rattle.client_request.specs.declared.event.What.TheVariants.{Ask, Opened, OpenFailed, SendFailed, ShortSend, Datagram, RecvFailed, Wrote, WriteFailed, Bytes, ReadFailed, Ended, Tick}
 use Rattle.client_stream.specs.Plain.{has_ended}
-use Rattle.client_stream.specs.Settings.{Settings as StreamSettings}
+use Rattle.client_settings.specs.Stream.{Settings as StreamSettings}
 use Rattle.client_multi.specs.Links.{Link, one_stream}
 use Rattle.client_multi.specs.MultiStream.{tells, returns, taken, lent}
-use Rattle.client_multi.specs.Settings.{Settings, default_settings}
+use Rattle.client_settings.specs.MultiStream.{Settings, default_settings}
 use Rattle.right_trace.specs.Messages.{Octets}
 use Rattle.right_trace.specs.Time.{response_timeout, stream_timeout}
 use Rattle.right_trace.specs.Trace.{Conf}

@@ -5,7 +5,7 @@ use Rattle.client_request.specs.Request.{Request}
 use Rattle.client_request.specs.Requests.{for_one}
 use Rattle.client_request.specs.View.{View, drawn, word}
 use Rattle.client_stream.specs.Plain.{started}
-use Rattle.client_stream.specs.Settings.{default_settings as default_stream}
+use Rattle.client_settings.specs.Stream.{default_settings as default_stream}
 use Rattle.client_multi.specs.Links.{Link, one_stream}
 use Rattle.client_multi.specs.MultiStream.{opened, refused, each, hands, backs_off}
 use Rattle.client_multi.specs.Retry.{retry_time}

@@ -9,7 +9,7 @@ use Rattle.client_request.specs.Timers.{with_timer, can_draw}
 use Rattle.client_request.specs.View.{View}
 use Rattle.client_multi.specs.Links.{Link, one_stream}
 use Rattle.client_multi.specs.MultiStream.{takes, hands}
-use Rattle.client_multi.specs.Settings.{default_settings}
+use Rattle.client_settings.specs.MultiStream.{default_settings}
 use Rattle.client_multi.specs.declared.multi_stream.job.Job.{Job}
 use Rattle.client_multi.specs.declared.multi_stream.job.Stage.TheVariants.{Waiting}
 use Rattle.right_trace.specs.Messages.{Octets}

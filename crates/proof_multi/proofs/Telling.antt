@@ -16,10 +16,10 @@ use Rattle.client_request.specs.declared.event.Out.{Out}
 use Rattle.client_request.specs.declared.event.Out.TheVariants.{Close, Resume}
 use Rattle.client_stream.specs.Frames.{is_in_body}
 use Rattle.client_stream.specs.Plain.{has_ended, end_error, ends_with, wrote, octets_left}
-use Rattle.client_stream.specs.Settings.{default_settings as default_stream}
+use Rattle.client_settings.specs.Stream.{default_settings as default_stream}
 use Rattle.client_multi.specs.Links.{Link, one_stream}
 use Rattle.client_multi.specs.MultiStream.{tells, hears_at, calls, returns, taken, lent, is_number, each, hands, opened, refused, backs_off, open_fails, is_open as plain_open}
-use Rattle.client_multi.specs.Settings.{default_settings}
+use Rattle.client_settings.specs.MultiStream.{default_settings}
 use Rattle.right_trace.specs.Messages.{Octets}
 use Rattle.right_trace.specs.Places.{is_told}
 use Rattle.proof_right.specs.machine.Served.{place_after, outs_of, posts_of}

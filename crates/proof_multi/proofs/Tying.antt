@@ -12,7 +12,7 @@ use Rattle.client_request.specs.declared.event.What.{What}
 use Rattle.client_stream.specs.Plain.{Asked}
 use Rattle.client_multi.specs.Links.{one_stream}
 use Rattle.client_multi.specs.MultiStream.{due, drops, with_job, drops_job, takes}
-use Rattle.client_multi.specs.Settings.{Settings, default_settings}
+use Rattle.client_settings.specs.MultiStream.{Settings, default_settings}
 use Rattle.client_multi.specs.declared.multi_stream.job.Job.{Job}
 use Rattle.right_trace.specs.Orderly.{use_at}
 use Rattle.right_trace.specs.Trace.{Conf, ByStreams}

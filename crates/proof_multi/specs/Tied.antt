@@ -8,7 +8,7 @@ use Rattle.client_request.specs.declared.event.What.{What}
 use Rattle.client_stream.specs.Plain.{Asked}
 use Rattle.client_multi.specs.Links.{Link, one_stream}
 use Rattle.client_multi.specs.MultiStream.{MultiStream, started, transport}
-use Rattle.client_multi.specs.Settings.{default_settings}
+use Rattle.client_settings.specs.MultiStream.{default_settings}
 use Rattle.right_trace.specs.Messages.{Octets}
 use Rattle.right_trace.specs.Orderly.{use_at}
 use Rattle.right_trace.specs.Trace.{Conf, ByStreams}

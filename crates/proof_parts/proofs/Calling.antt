@@ -10,7 +10,7 @@ use Rattle.client_request.specs.View.{View}
 use Rattle.client_request.specs.declared.error.Error.TheVariants as errors
 use Rattle.client_stream.specs.IdTable.{removed, inserted_at}
 use Rattle.client_stream.specs.Plain.{has_ended, pumps, takes_on, gives_up, gives_up_id, leaves_id as plain_leaves_id}
-use Rattle.client_stream.specs.Settings.{Settings}
+use Rattle.client_settings.specs.Stream.{Settings}
 use Rattle.client_stream.specs.declared.request.AnyRequest.TheVariants.{Single}
 use Rattle.client_stream.specs.declared.request.Holder.{Holder}
 use Rattle.client_stream.specs.declared.request.Holder.TheVariants.{Waits, GivenUp}

@@ -7,7 +7,7 @@ use Rattle.client_request.specs.View.{View}
 use Rattle.client_request.specs.declared.board.Posted.{Posted}
 use Rattle.client_request.specs.declared.event.Out.{Out}
 use Rattle.client_stream.specs.Plain.{takes_queued, pumps}
-use Rattle.client_stream.specs.Settings.{Settings}
+use Rattle.client_settings.specs.Stream.{Settings}
 use Rattle.client_stream.specs.declared.request.QueuedRequest.{QueuedRequest}
 use Rattle.right_trace.specs.Time.{response_timeout}
 use Rattle.proof_right.specs.machine.Part.{Post}

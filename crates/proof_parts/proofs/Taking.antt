@@ -11,7 +11,7 @@ use Rattle.client_request.specs.declared.error.Error.TheVariants as errors
 use Rattle.client_request.specs.declared.event.Out.TheVariants.{Write}
 use Rattle.client_stream.specs.IdTable.{IdTable, next_id, inserted, removed}
 use Rattle.client_stream.specs.Plain.{takes_queued, prepares, becomes_active_for, timeout_by, takes_free_id, writes, frame_of, readied, had_by}
-use Rattle.client_stream.specs.Settings.{Settings}
+use Rattle.client_settings.specs.Stream.{Settings}
 use Rattle.client_stream.specs.declared.request.AnyRequest.TheVariants.{Single}
 use Rattle.client_stream.specs.declared.request.Holder.{Holder}
 use Rattle.client_stream.specs.declared.request.Holder.TheVariants.{Waits, GivenUp}

@@ -9,7 +9,7 @@ use Rattle.client_request.specs.declared.fault.Fault.TheVariants as fault
 use Rattle.client_request.specs.declared.event.What.TheVariants.{Wrote}
 use Rattle.client_request.specs.declared.event.Out.TheVariants.{Resume, Close}
 use Rattle.client_stream.specs.Plain.{pumps, wrote, wrote_of, ends_with}
-use Rattle.client_stream.specs.Settings.{Settings}
+use Rattle.client_settings.specs.Stream.{Settings}
 use Rattle.right_trace.specs.Time.{response_timeout}
 use Rattle.proof_right.specs.machine.Streams as multi
 use Rattle.proof_right.specs.machine.Streams.{Conn, Multi, set_conn, end_at, wrote_on, heard_on, Puts, Nothing, Takes}

@@ -12,7 +12,7 @@ use Rattle.client_request.specs.declared.error.Error.TheVariants.{WrongReplyForQ
 use Rattle.client_request.specs.declared.event.Out.TheVariants.{Close, Resume}
 use Rattle.client_request.specs.declared.event.What.TheVariants.{Wrote}
 use Rattle.client_stream.specs.Plain.{ends_with, ended, takes_on, frame_comes, wrote, gives_up, fires}
-use Rattle.client_stream.specs.Settings.{Settings}
+use Rattle.client_settings.specs.Stream.{Settings}
 use Rattle.client_stream.specs.declared.request.AnyRequest.TheVariants.{Single}
 use Rattle.client_stream.specs.declared.request.QueuedRequest.{QueuedRequest}
 use Rattle.client_stream.specs.declared.line.LineStage.{LineStage}

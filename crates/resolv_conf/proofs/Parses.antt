@@ -1,10 +1,11 @@
 -- What taking the lines of a text answers.
 use Rattle.std.proofs.Common.{◌≡◌, ◌≤◌, ◌+◌, ℕ, List, [], ◌∷◌, length, refl, sym, subst, Option, Some, None, IfSome, Result, Ok, Err, inr, arith}
+use Rattle.dns_values.specs.Source.{most_text}
 use Rattle.resolv_conf.specs.declared.conf.ResolvConf.{ResolvConf}
 use Rattle.resolv_conf.specs.declared.error.Error.{Error}
 use Rattle.resolv_conf.specs.declared.error.Error.TheVariants.{ParseError, Io, TooLong, NoMemory}
 use Rattle.resolv_conf.specs.declared.error.IoFault.TheVariants.{Read, NotUtf8}
-use Rattle.resolv_conf.specs.Parse.{LineAnswers, LinesAnswer, ParseAnswers, most_octets, no_line, bad_line, good_line}
+use Rattle.resolv_conf.specs.Parse.{LineAnswers, LinesAnswer, ParseAnswers, no_line, bad_line, good_line}
 use Rattle.resolv_conf.specs.Words.{lines_of}
 
 abbrev Taken : Result (Unit {0}) Error → Type 0
@@ -37,7 +38,7 @@ pub not_unread : (n : ℕ) (lines : List (List ℕ)) (conf new : ResolvConf) (an
     → LinesAnswer n lines conf answer new → answer ≡ Err (Io Read) → ⊥
 not_unread n lines conf new answer h e = subst Taken e (taken n lines conf answer new h)
 
-answered : (text : List ℕ) (conf new : ResolvConf) (answer : Result (Unit {0}) Error) → length text ≤ most_octets
+answered : (text : List ℕ) (conf new : ResolvConf) (answer : Result (Unit {0}) Error) → length text ≤ most_text
     → LinesAnswer 1 (lines_of text) conf answer new → ParseAnswers text conf answer new
 answered text conf new (Ok u) h l = (h, l)
 answered text conf new (Err (ParseError n)) h l = (h, l)
@@ -47,7 +48,7 @@ answered text conf new (Err TooLong) h l = absurd (not_long 1 (lines_of text) co
 answered text conf new (Err NoMemory) h l = inr l
 
 pub told_answer : (left after : Option (List ℕ)) (text : List ℕ) (conf new : ResolvConf) (answer : Result (Unit {0}) Error)
-    → length text ≤ most_octets → IfSome left (λ xs. (text ≡ xs) × (after ≡ Some []))
+    → length text ≤ most_text → IfSome left (λ xs. (text ≡ xs) × (after ≡ Some []))
     → LinesAnswer 1 (lines_of text) conf answer new → IfSome left (λ xs. ParseAnswers xs conf answer new)
 told_answer None after text conf new answer h told l = tt
 told_answer (Some xs) after text conf new answer h told l =

@@ -1,16 +1,13 @@
 -- What a text makes of a configuration.
 use Rattle.std.specs.Prelude.{◌≡◌, ◌⊎◌, ◌<◌, ◌≤◌, ◌+◌, ℕ, List, [], ◌∷◌, length, Result, Ok, Err}
 use Rattle.std.specs.Str.{IsUtf8}
+use Rattle.dns_values.specs.Source.{most_text}
 use Rattle.resolv_conf.specs.declared.conf.ResolvConf.{ResolvConf}
 use Rattle.resolv_conf.specs.declared.error.Error.{Error}
 use Rattle.resolv_conf.specs.declared.error.Error.TheVariants.{ParseError, Io, TooLong, NoMemory}
 use Rattle.resolv_conf.specs.declared.error.IoFault.TheVariants.{Read, NotUtf8}
 use Rattle.resolv_conf.specs.Line.{LineGives, takes, refuses}
 use Rattle.resolv_conf.specs.Words.{lines_of}
-
--- the most octets that a text may have
-abbrev pub most_octets : ℕ
-most_octets = 16777216
 
 -- What one line, of this number, answers, and the configuration then.
 abbrev pub LineAnswers : ℕ → List ℕ → ResolvConf → Result (Unit {0}) Error → ResolvConf → Type 0
@@ -33,7 +30,7 @@ pub data LinesAnswer : ℕ → List (List ℕ) → ResolvConf → Result (Unit {
 -- What reading a text answers. It is read before a line is taken, so a text that is too long or
 -- isn't read to its end changes nothing.
 abbrev pub ParseAnswers : List ℕ → ResolvConf → Result (Unit {0}) Error → ResolvConf → Type 0
-ParseAnswers text conf (Err TooLong) new = (most_octets < length text) × (new ≡ conf)
+ParseAnswers text conf (Err TooLong) new = (most_text < length text) × (new ≡ conf)
 ParseAnswers text conf (Err (Io Read)) new = new ≡ conf
 ParseAnswers text conf (Err NoMemory) new = (new ≡ conf) ⊎ LinesAnswer 1 (lines_of text) conf (Err NoMemory) new
-ParseAnswers text conf answer new = (length text ≤ most_octets) × LinesAnswer 1 (lines_of text) conf answer new
+ParseAnswers text conf answer new = (length text ≤ most_text) × LinesAnswer 1 (lines_of text) conf answer new

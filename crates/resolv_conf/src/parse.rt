@@ -8,12 +8,9 @@ ghost use Rattle.resolv_conf.specs.Words.{lines_of};
 use crate::conf::ResolvConf;
 use crate::error::{Error, IoFault};
 use crate::fault::LineFault;
-use dns_values::{Source, read_to_end};
+use dns_values::{MOST_TEXT, Source, read_to_end};
 use std::alloc::Global;
 use std::str;
-
-/// The most octets that are read.
-const MOST_OCTETS: usize = 16_777_216;
 
 impl ResolvConf {
     /// Reads a source to its end, or to octet 16777217, and then takes its lines in order, up to
@@ -31,7 +28,7 @@ impl ResolvConf {
         ensures failed { result ≡ Err (Error.Io IoFault.Read) → Rose (S.faults source.old) (S.faults source.new) }
         ensures count { S.faults source.old ≤ S.faults source.new }
     {
-        let text = read_to_end(alloc, source, MOST_OCTETS)?;
+        let text = read_to_end(alloc, source, MOST_TEXT)?;
         self.take_lines(alloc, &text)
     }
 

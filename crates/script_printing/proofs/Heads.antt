@@ -1,11 +1,11 @@
 -- The lines before the first event are plain.
-use Rattle.std.proofs.Common.{◌≡◌, ◌<◌, ◌/◌, ◌^◌, ℕ, Bool, true, false, ◌&&◌, nat_le, List, [], ◌∷◌, ◌++◌, map, refl, arith, codes, decimal}
+use Rattle.std.proofs.Common.{◌≡◌, ◌<◌, ◌/◌, ◌^◌, ◌==◌, ℕ, Bool, true, false, ◌&&◌, nat_le, List, [], ◌∷◌, ◌++◌, map, refl, arith, codes, decimal}
 use Rattle.std.specs.List.{AllByRecursion, join_with_byte}
 use Rattle.std.proofs.lemmas.Bool.{and_parts, leb-true}
-use Rattle.client_settings.specs.Settings.{CacheSettings}
+use Rattle.client_settings.specs.Settings.{CacheSettings, no_bound}
 use Rattle.resolv_conf.specs.declared.server.ServerConf.{ServerConf}
 use Rattle.dns_script.specs.declared.script.Script.{Script}
-use Rattle.script_printing.specs.CanBeTold.{AreAddresses, AreWordsInRange, CanBeTold, IsInRange, are_told_limits, are_told_settings, is_told_time}
+use Rattle.script_printing.specs.CanBeTold.{AreAddresses, AreWordsInRange, CanBeTold, IsInRange, are_told_limits, are_told_settings, are_told_times, is_told_time}
 use Rattle.script_printing.specs.Texts.{cache_lines, choice_lines, conf_lines, entries_line, head_lines, option_lines, server_line, shown, switch_line, time_line, time_lines, word_lines}
 use Rattle.script_printing.proofs.Confs.{address_is_word}
 use Rattle.script_printing.proofs.Plain.{IsPlain, IsWord, decimal_word, joined_plain, plain_append, plain_text, word_plain, word_text}
@@ -38,7 +38,8 @@ time_plain name def v n h = setting_plain _ name (decimal (v / 1000000)) n (deci
 cache_plain : (c : CacheSettings) → are_told_settings c ≡ true → ArePlain (cache_lines c)
 cache_plain c told =
     let p0 = and_parts (nat_le 1 c.max_cache_entries && nat_le c.max_cache_entries 1000000000) _ told in
-    let p1 = and_parts (is_told_time 60 6048000 c.max_validity) _ p0.1 in
+    let po = and_parts (c.max_cache_octets == no_bound) (are_told_times c) p0.1 in
+    let p1 = and_parts (is_told_time 60 6048000 c.max_validity) _ po.1 in
     let p2 = and_parts (is_told_time 1 300 c.transport_failure_duration) _ p1.1 in
     let p3 = and_parts (is_told_time 1 300 c.misc_error_duration) (are_told_limits c) p2.1 in
     let q1 = and_parts (is_told_time 60 86400 c.max_nxdomain_validity) _ p3.1 in

@@ -1,18 +1,18 @@
 -- The lines of settings and of words are taken as them.
-use Rattle.std.proofs.Common.{◌≡◌, ◌<◌, ◌≤◌, ◌/◌, ◌%◌, ◌^◌, ◌==◌, ℕ, Bool, true, false, not, ◌&&◌, cond, nat_le, nat_lt, List, [], ◌∷◌, ◌++◌, map, Some, refl, sym, ap, ◌∙◌, arith, codes, decimal}
+use Rattle.std.proofs.Common.{◌≡◌, ◌<◌, ◌≤◌, ◌/◌, ◌%◌, ◌^◌, ◌==◌, ℕ, Bool, true, false, not, ◌&&◌, cond, nat_le, nat_lt, List, [], ◌∷◌, ◌++◌, map, Some, refl, subst, sym, ap, ◌∙◌, arith, codes, decimal}
 use Rattle.std.specs.List.{join_with_byte}
 use Rattle.std.specs.Ordering.{nat_cmp}
 use Rattle.std.specs.declared.cmp.Ordering.TheVariants.{Less, Equal, Greater}
 use Rattle.std.proofs.lemmas.Bool.{and_parts, eq-eqb, eqb-true, le-ltb, leb-true, ltb-false}
 use Rattle.client_request.specs.Limits.{greater_by, lesser_by, limited}
-use Rattle.client_settings.specs.Settings.{CacheSettings, RedundantSettings, default_cache, default_redundant, seconds}
+use Rattle.client_settings.specs.Settings.{CacheSettings, RedundantSettings, default_cache, default_redundant, no_bound, seconds}
 use Rattle.resolv_conf.specs.declared.conf.ResolvConf.{ResolvConf}
 use Rattle.dns_script.specs.Reading.{number_of, numbers_of}
 use Rattle.dns_script.specs.ScriptReading.{TakesLines}
 use Rattle.dns_script.specs.Settings.{sets}
 use Rattle.dns_script.proofs.Decimals.{decimal_is_number}
 use Rattle.dns_script.proofs.Joined.{words_of_joined}
-use Rattle.script_printing.specs.CanBeTold.{AreWordsInRange, are_told_limits, are_told_settings, is_told_time, is_whole}
+use Rattle.script_printing.specs.CanBeTold.{AreWordsInRange, are_told_limits, are_told_settings, are_told_times, is_told_time, is_whole}
 use Rattle.script_printing.specs.Texts.{cache_lines, choice_lines, entries_line, shown, switch_line, time_line, time_lines, word_lines}
 use Rattle.script_printing.proofs.Lines.{Settings, not_skipped, reader_at, takes_more, takes_named, takes_one}
 use Rattle.script_printing.proofs.Plain.{AreWords, IsWord, decimal_word, joined_plain, word_above, words_above, word_text}
@@ -168,7 +168,8 @@ choice_taken conf a b d ws =
 cache_taken : (conf : ResolvConf) (r : RedundantSettings) (c : CacheSettings) (ws : List ℕ) → are_told_settings c ≡ true → TakesLines (cache_lines c) (reader_at conf (with_cache r default_cache) ws) (reader_at conf (with_cache r c) ws)
 cache_taken conf r c ws told =
     let p0 = and_parts (nat_le 1 c.max_cache_entries && nat_le c.max_cache_entries 1000000000) _ told in
-    let p1 = and_parts (is_told_time 60 6048000 c.max_validity) _ p0.1 in
+    let po = and_parts (c.max_cache_octets == no_bound) (are_told_times c) p0.1 in
+    let p1 = and_parts (is_told_time 60 6048000 c.max_validity) _ po.1 in
     let p2 = and_parts (is_told_time 1 300 c.transport_failure_duration) _ p1.1 in
     let p3 = and_parts (is_told_time 1 300 c.misc_error_duration) (are_told_limits c) p2.1 in
     let q1 = and_parts (is_told_time 60 86400 c.max_nxdomain_validity) _ p3.1 in
@@ -182,10 +183,12 @@ cache_taken conf r c ws told =
     let c6 : CacheSettings = record c5 { max_nodata_validity = c.max_nodata_validity } in
     let c7 : CacheSettings = record c6 { max_delegation_validity = c.max_delegation_validity } in
     let c8 : CacheSettings = record c7 { stale_for = c.stale_for } in
+    let c9 : CacheSettings = record c { max_cache_octets = no_bound } in
+    let same : c9 ≡ c = ap (λ k. record c { max_cache_octets = k }) (sym (eqb-true c.max_cache_octets no_bound po.0)) in
     let s : CacheSettings → _ = λ x. reader_at conf (with_cache r x) ws in
-    takes_more (entries_line c.max_cache_entries) (time_lines c ++ switch_line (codes "cache-truncated") c.cache_truncated) (s default_cache) (s c1) (s c)
+    subst (λ x. TakesLines (cache_lines c) (s default_cache) (s x)) same (takes_more (entries_line c.max_cache_entries) (time_lines c ++ switch_line (codes "cache-truncated") c.cache_truncated) (s default_cache) (s c1) (s c9)
     (entries_taken c.max_cache_entries conf r default_cache ws refl p0.0)
-    (takes_more (time_lines c) (switch_line (codes "cache-truncated") c.cache_truncated) (s c1) (s c8) (s c)
+    (takes_more (time_lines c) (switch_line (codes "cache-truncated") c.cache_truncated) (s c1) (s c8) (s c9)
     (takes_more (time_line (codes "max-validity") 604800 c.max_validity) _ (s c1) (s c2) (s c8) (max_validity conf r c1 ws c.max_validity refl p1.0)
     (takes_more (time_line (codes "transport-failure-duration") 30 c.transport_failure_duration) _ (s c2) (s c3) (s c8) (transport_failure conf r c2 ws c.transport_failure_duration refl p2.0)
     (takes_more (time_line (codes "misc-error-duration") 30 c.misc_error_duration) _ (s c3) (s c4) (s c8) (misc_error conf r c3 ws c.misc_error_duration refl p3.0)
@@ -193,8 +196,8 @@ cache_taken conf r c ws told =
     (takes_more (time_line (codes "max-nodata-validity") 3600 c.max_nodata_validity) _ (s c5) (s c6) (s c8) (max_nodata conf r c5 ws c.max_nodata_validity refl q2.0)
     (takes_more (time_line (codes "max-delegation-validity") 1000000 c.max_delegation_validity) _ (s c6) (s c7) (s c8) (max_delegation conf r c6 ws c.max_delegation_validity refl q3.0)
     (stale_for conf r c7 ws c.stale_for refl q3.1)))))))
-    (switch_taken (codes "cache-truncated") c.cache_truncated conf (with_cache r c8) (with_cache r c) ws (word_text (codes "cache-truncated") refl)
-    (λ e. ap (λ x. with_cache r (record c8 { cache_truncated = x })) e) (λ e. ap (λ x. Some (with_cache r (record c8 { cache_truncated = x }))) (sym e))))
+    (switch_taken (codes "cache-truncated") c.cache_truncated conf (with_cache r c8) (with_cache r c9) ws (word_text (codes "cache-truncated") refl)
+    (λ e. ap (λ x. with_cache r (record c8 { cache_truncated = x })) e) (λ e. ap (λ x. Some (with_cache r (record c8 { cache_truncated = x }))) (sym e)))))
 
 -- the lines of settings that can be told are taken as these
 pub settings_taken : (conf : ResolvConf) (r : RedundantSettings) (c : CacheSettings) (ws : List ℕ) → are_told_settings c ≡ true

@@ -2,7 +2,7 @@
 use Rattle.std.specs.Prelude.{◌≡◌, ℕ, ◌<◌, ◌/◌, ◌%◌, ◌^◌, ◌==◌, nat_le, Bool, true, false, not, ◌&&◌, List, length}
 use Rattle.std.specs.List.{AllByRecursion, list_all}
 use Rattle.client_request.specs.declared.event.Event.{Event}
-use Rattle.client_settings.specs.Settings.{CacheSettings, seconds}
+use Rattle.client_settings.specs.Settings.{CacheSettings, no_bound, seconds}
 use Rattle.dns_script.specs.TextLaws.{IsU64, IsWhat}
 use Rattle.dns_script.specs.Told.{tells_well}
 use Rattle.dns_script.specs.declared.script.Script.{Script}
@@ -49,10 +49,15 @@ are_told_limits c =
     is_told_time 60 86400 c.max_nxdomain_validity
     && (is_told_time 60 86400 c.max_nodata_validity && (is_told_time 60 1000000000 c.max_delegation_validity && is_told_time 0 604800 c.stale_for))
 
+abbrev pub are_told_times : CacheSettings → Bool
+are_told_times c =
+    is_told_time 60 6048000 c.max_validity && (is_told_time 1 300 c.transport_failure_duration && (is_told_time 1 300 c.misc_error_duration && are_told_limits c))
+
+-- A script names no bound by octets.
 abbrev pub are_told_settings : CacheSettings → Bool
 are_told_settings c =
     (nat_le 1 c.max_cache_entries && nat_le c.max_cache_entries 1000000000)
-    && (is_told_time 60 6048000 c.max_validity && (is_told_time 1 300 c.transport_failure_duration && (is_told_time 1 300 c.misc_error_duration && are_told_limits c)))
+    && (c.max_cache_octets == no_bound && are_told_times c)
 
 -- whether each event is one that a socket or the application tells
 abbrev pub are_told_events : List Event → Bool

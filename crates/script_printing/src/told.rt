@@ -3,7 +3,7 @@
 ghost use Rattle.std.specs.Prelude.{◌≡◌};
 ghost use Rattle.std.specs.List.{list_all};
 ghost use Rattle.dns_script.specs.Told.{is_of_socket, tells_well};
-ghost use Rattle.script_printing.specs.CanBeTold.{are_counts_default, are_first_flags_default, are_last_flags_default, are_told_events, are_told_limits, are_told_options, are_told_settings, is_told_server, is_told_time, is_whole};
+ghost use Rattle.script_printing.specs.CanBeTold.{are_counts_default, are_first_flags_default, are_last_flags_default, are_told_events, are_told_limits, are_told_options, are_told_settings, are_told_times, is_told_server, is_told_time, is_whole};
 
 use client_request::{Event, Fault, What};
 use client_settings::cache;
@@ -103,15 +103,22 @@ fn limits_are_told(c: &cache::Config) -> bool
         && is_told_time(0, 604_800, c.stale_for())
 }
 
-/// Whether each setting of a cache lies within its limits, and each time is a whole number of seconds.
+fn times_are_told(c: &cache::Config) -> bool
+    ensures { result ≡ are_told_times c.now }
+{
+    is_told_time(60, 6_048_000, c.max_validity())
+        && is_told_time(1, 300, c.transport_failure_duration())
+        && is_told_time(1, 300, c.misc_error_duration())
+        && limits_are_told(c)
+}
+
+/// Whether each setting of a cache lies within its limits, each time is a whole number of seconds, and the cache is not bounded by octets.
 pub fn settings_are_told(c: &cache::Config) -> bool
     ensures { result ≡ are_told_settings c.now }
 {
     (1 <= c.max_cache_entries() && c.max_cache_entries() <= 1_000_000_000)
-        && is_told_time(60, 6_048_000, c.max_validity())
-        && is_told_time(1, 300, c.transport_failure_duration())
-        && is_told_time(1, 300, c.misc_error_duration())
-        && limits_are_told(c)
+        && c.max_cache_octets() == u64::MAX
+        && times_are_told(c)
 }
 
 /// Whether a fault is of a socket; the client itself finds the others.

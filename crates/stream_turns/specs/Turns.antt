@@ -14,7 +14,7 @@ use Rattle.client_steps.specs.Client.{Machine, nothing_asked}
 use Rattle.client_steps.specs.Machines.{machine_of}
 use Rattle.client_stream.specs.Plain as stream
 use Rattle.client_stream.specs.Plain.{Asked}
-use Rattle.client_stream.specs.Settings.{default_settings}
+use Rattle.client_settings.specs.Stream.{default_settings}
 use Rattle.client_stream.specs.declared.request.AnyRequest.TheVariants.{Transfer}
 use Rattle.stream_turns.specs.Apart.{on_own_board, transport, stale}
 use Rattle.stream_turns.specs.declared.apart.Apart.{Apart}

@@ -3,8 +3,8 @@
 ghost use Rattle.std.specs.Prelude.{◌≡◌, Ok};
 ghost use Rattle.std.specs.Borrow.{Lends, sem};
 ghost use Rattle.client_multi.specs.DgramStream.{default_settings, with_dgram, with_stream};
-ghost use Rattle.client_dgram.specs.contracts.config.Config.{the_row as dgram_row};
-ghost use Rattle.client_multi.specs.contracts.multi_stream.config.Config.{the_row as stream_row};
+ghost use Rattle.client_settings.specs.contracts.dgram.Config.{the_row as dgram_row};
+ghost use Rattle.client_settings.specs.contracts.multi_stream.Config.{the_row as stream_row};
 ghost use Rattle.client_multi.specs.contracts.dgram_stream.config.Config.{the_row};
 
 use crate::multi_stream;

@@ -7,15 +7,15 @@ ghost use Rattle.client_request.specs.Response.{IsRefusal};
 ghost use Rattle.client_stream.specs.Plain.{asked};
 ghost use Rattle.client_multi.specs.Links.{one_stream};
 ghost use Rattle.client_multi.specs.MultiStream as plain;
-ghost use Rattle.client_multi.specs.Settings.{default_settings};
+ghost use Rattle.client_settings.specs.MultiStream.{default_settings};
 
-use crate::multi_stream::config::Config;
 use crate::multi_stream::one_stream::Link;
 use crate::multi_stream::steps::{give_up, hear, take_on};
 use crate::multi_stream::tables::Tables;
 use client_request::{
     ComposeRequest, Cx, Error, GetResponse, Latch, Pending, SendRequest, Signal, Words,
 };
+use client_settings::multi_stream::Config;
 use dns_base::NoMemory;
 use std::alloc::Global;
 use std::marker::Model;

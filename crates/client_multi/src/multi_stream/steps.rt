@@ -5,7 +5,6 @@ ghost use Rattle.client_request.specs.Calls.{Follows};
 ghost use Rattle.client_request.specs.Cx.{heard};
 ghost use Rattle.client_multi.specs.MultiStream as plain;
 
-use crate::multi_stream::config::Config;
 use crate::multi_stream::job::{Job, Stage};
 use crate::multi_stream::one_stream::OneStream;
 use crate::multi_stream::retry::retry_due;
@@ -13,6 +12,7 @@ use crate::multi_stream::tables::{
     Tables, await_opening, back_off, keep_connection, put_back, take_at,
 };
 use client_request::{ComposeRequest, Cx, Error, GetResponse, Out, Signal, TimerId, What, Words};
+use client_settings::multi_stream::Config;
 use std::alloc::Global;
 use std::collections::BTreeSet;
 use std::mem;

@@ -167,7 +167,7 @@ dns_lookup: 192.0.2.53:53 (UDP): connection refused
 dns_lookup: 192.0.2.53:53 (UDP): connection refused
 ";
 
-const RUNS: [Run; 19] = [
+const RUNS: [Run; 24] = [
     Run {
         words: "@192.0.2.53 example.com A",
         answers: true,
@@ -260,11 +260,11 @@ const RUNS: [Run; 19] = [
         said: "dns_lookup: no address stands behind -x; see dns_lookup --help\n",
     },
     Run {
-        words: "-x 192.0.2.1 A",
+        words: "-x 192.0.2.1 example.com",
         answers: true,
         status: 2,
         written: "",
-        said: "dns_lookup: A is one word too many; see dns_lookup --help\n",
+        said: "dns_lookup: example.com is neither a type nor a class, and a name stands before it; see dns_lookup --help\n",
     },
     Run {
         words: "example..com",
@@ -274,11 +274,46 @@ const RUNS: [Run; 19] = [
         said: "dns_lookup: example..com is no name; see dns_lookup --help\n",
     },
     Run {
-        words: "example.com NOTYPE",
+        words: "-t NOTYPE example.com",
         answers: true,
         status: 2,
         written: "",
         said: "dns_lookup: NOTYPE is neither a known type nor TYPE with a number; see dns_lookup --help\n",
+    },
+    Run {
+        words: "-q",
+        answers: true,
+        status: 2,
+        written: "",
+        said: "dns_lookup: no name stands behind -q; see dns_lookup --help\n",
+    },
+    Run {
+        words: "@fe80::1%eth0 example.com",
+        answers: true,
+        status: 2,
+        written: "",
+        said: "dns_lookup: @fe80::1%eth0 has a scope behind its %, and no server of one interface alone is asked; see dns_lookup --help\n",
+    },
+    Run {
+        words: "CH TXT version.bind",
+        answers: true,
+        status: 2,
+        written: "",
+        said: "dns_lookup: CH is another class than IN, which alone is asked; see dns_lookup --help\n",
+    },
+    Run {
+        words: "-tA IN -q example.com @[192.0.2.53]#53 +SHORT +nodo",
+        answers: true,
+        status: 0,
+        written: "192.0.2.1\n",
+        said: "",
+    },
+    Run {
+        words: "example.com NOTYPE",
+        answers: true,
+        status: 2,
+        written: "",
+        said: "dns_lookup: NOTYPE is neither a type nor a class, and a name stands before it; see dns_lookup --help\n",
     },
     Run {
         words: "example.com axfr",
@@ -299,7 +334,7 @@ const RUNS: [Run; 19] = [
         answers: true,
         status: 2,
         written: "",
-        said: "dns_lookup: +trace is no option; see dns_lookup --help\n",
+        said: "dns_lookup: +trace asks for what dig does and dns_lookup does not; see dns_lookup --help\n",
     },
 ];
 

@@ -6,7 +6,7 @@ use Rattle.client_request.specs.Requests.{Requests}
 use Rattle.client_request.specs.View.{View}
 use Rattle.client_stream.specs.Plain as plain
 use Rattle.client_stream.specs.Plain.{Line}
-use Rattle.client_stream.specs.Settings.{Settings}
+use Rattle.client_settings.specs.Stream.{Settings}
 use Rattle.client_stream.specs.declared.request.QueuedRequest.{QueuedRequest}
 use Rattle.client_stream.proofs.Taking.{with_queue, goes_on}
 use Rattle.client_stream.proofs.writing.pump.Goals as goal

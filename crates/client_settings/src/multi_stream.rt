@@ -4,10 +4,11 @@ ghost use Rattle.std.specs.Prelude.{◌≡◌, Ok};
 ghost use Rattle.std.specs.Borrow.{Lends, sem};
 ghost use Rattle.std.specs.Ordering.{nat_cmp};
 ghost use Rattle.client_request.specs.Limits.{limited};
-ghost use Rattle.client_stream.specs.contracts.config.Config.{the_row as stream_row};
-ghost use Rattle.client_multi.specs.contracts.multi_stream.config.Config.{the_row};
-ghost use Rattle.client_multi.specs.Settings.{default_settings, over_stream, with_stream};
+ghost use Rattle.client_settings.specs.contracts.stream.Config.{the_row as stream_row};
+ghost use Rattle.client_settings.specs.contracts.multi_stream.Config.{the_row};
+ghost use Rattle.client_settings.specs.MultiStream.{default_settings, over_stream, with_stream};
 
+use crate::stream;
 use client_request::DefMinMax;
 use dns_base::{Duration, NoMemory};
 use std::marker::Model;
@@ -27,11 +28,11 @@ fn response_timeout_limits() -> DefMinMax<Duration>
 #[derive(Debug, Drop)]
 pub struct Config {
     response_timeout: Duration,
-    stream: client_stream::Config,
+    stream: stream::Config,
 }
 
 impl Model for Config {
-    ghost use Rattle.client_multi.specs.Settings.{Settings};
+    ghost use Rattle.client_settings.specs.MultiStream.{Settings};
 
     ghost Value = { Settings };
 
@@ -46,10 +47,10 @@ impl Default for Config {
     }
 }
 
-impl From<client_stream::Config> for Config {
+impl From<stream::Config> for Config {
     ghost from_gives = { λ stream c. c ≡ over_stream stream };
 
-    fn from(stream: client_stream::Config) -> Config {
+    fn from(stream: stream::Config) -> Config {
         Config {
             response_timeout: response_timeout_limits().default(),
             stream,
@@ -64,7 +65,7 @@ impl Config {
     {
         Config {
             response_timeout: response_timeout_limits().default(),
-            stream: client_stream::Config::new(),
+            stream: stream::Config::new(),
         }
     }
 
@@ -93,14 +94,14 @@ impl Config {
     }
 
     /// The settings of each connection.
-    pub fn stream(&self) -> &client_stream::Config
+    pub fn stream(&self) -> &stream::Config
         ensures { result.now ≡ self.now.stream }
     {
         &self.stream
     }
 
     /// The settings of each connection, to be changed. A connection that is open keeps its own.
-    pub fn stream_mut(&mut self) -> &mut client_stream::Config
+    pub fn stream_mut(&mut self) -> &mut stream::Config
         ensures* writes_back { sem 𝓛 (Lends the_row stream_row self.entry result (with_stream self.old)) }
         ensures value { result.now ≡ self.old.stream }
     {

@@ -3,7 +3,7 @@
 ghost use Rattle.std.specs.Prelude.{◌≡◌, Option, Some, Ok};
 ghost use Rattle.std.specs.Ordering.{nat_cmp};
 ghost use Rattle.client_request.specs.Limits.{limited};
-ghost use Rattle.client_dgram.specs.Settings.{Settings, default_settings};
+ghost use Rattle.client_settings.specs.Dgram.{Settings, default_settings};
 
 use client_request::DefMinMax;
 use dns_base::{Duration, NoMemory};
@@ -45,7 +45,7 @@ pub struct Config {
 }
 
 impl Model for Config {
-    ghost use Rattle.client_dgram.specs.Settings.{Settings};
+    ghost use Rattle.client_settings.specs.Dgram.{Settings};
 
     ghost Value = { Settings };
 

@@ -3,7 +3,7 @@
 ghost use Rattle.std.specs.Prelude.{◌≡◌, ℕ, Ok};
 ghost use Rattle.std.specs.Ordering.{nat_cmp};
 ghost use Rattle.client_request.specs.Limits.{limited};
-ghost use Rattle.client_stream.specs.Settings.{Settings, default_settings};
+ghost use Rattle.client_settings.specs.Stream.{Settings, default_settings};
 
 use client_request::DefMinMax;
 use dns_base::{Duration, NoMemory};
@@ -40,7 +40,7 @@ pub struct Config {
 }
 
 impl Model for Config {
-    ghost use Rattle.client_stream.specs.Settings.{Settings};
+    ghost use Rattle.client_settings.specs.Stream.{Settings};
 
     ghost Value = { Settings };
 

@@ -1,6 +1,6 @@
 -- The settings of reconnection: the time in microseconds, and those of each connection.
 use Rattle.std.specs.Prelude.{ℕ}
-use Rattle.client_stream.specs.Settings.{Settings as StreamSettings, default_settings as default_stream}
+use Rattle.client_settings.specs.Stream.{Settings as StreamSettings, default_settings as default_stream}
 
 pub record Settings : Type 0 where
   pub response_timeout : ℕ
