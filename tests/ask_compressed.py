@@ -7,7 +7,8 @@ DNS_FORWARD and ZONE_FETCH are built programs. RFC 3597 4 lets the data of RP, A
 receiver reads out. The server here answers each type with two addresses whose owners are written whole, and then data whose names
 end in pointers: copied into a message that is composed anew, they would name something else. What kdig and dig (where they are
 installed) print of the forwarder's answer must be what they print of the server's own: asked first, asked again, a second later,
-with DO and without, by datagram and by stream. A zone of such records, fetched by `zone_fetch --text`, must load into
+with DO and without, by datagram and by stream. Data of these types that can't be read must come as it was sent, and is not kept: the server
+is asked again. A zone of such records, fetched by `zone_fetch --text`, must load into
 named-checkzone, which then prints the records of kdig's AXFR. Prints the first that differs, or how many were the same.
 """
 
@@ -22,6 +23,8 @@ import threading
 import time
 
 TYPES = {"RP": 17, "AFSDB": 18, "RT": 21, "SIG": 24, "PX": 26, "NXT": 30, "NAPTR": 35}
+# Data that its type's form doesn't read: names that are cut or lack, a signature's front that is, strings that are.
+UNREAD = {17: b"\4mail", 18: b"\0\1\4mail", 21: b"\0\1", 24: bytes(17), 26: b"\0\x0a\1a\0", 30: b"\4nex", 35: b"\0\x64\0\x0a\1u\7E2U+sip\5re"}
 WAYS = ([], [], ["+dnssec"], ["+tcp"], ["+tcp", "+dnssec"])
 
 
@@ -41,6 +44,9 @@ def data_of(rtype, pointer):
     if rtype == 30:
         return name(b"next") + b"\x62\0\0\x08"
     return b"\0\x64\0\x0a" + b"\1u" + b"\7E2U+sip" + b"\0" + name(b"replace")
+
+
+ASKED = []
 
 
 def record(owner, rtype, data):
@@ -65,6 +71,9 @@ def answer(query, longest):
     rtype = struct.unpack(">H", query[end + 1:end + 3])[0]
     if rtype == 252:
         return zone(query, question)
+    if qname.startswith(b"\3cut"):
+        ASKED.append(rtype)
+        return query[:2] + b"\x84\0" + struct.pack(">4H", 1, 1, 0, 0) + question + record(b"\xc0\x0c", rtype, UNREAD[rtype])
     out = query[:2] + b"\x84\0" + struct.pack(">4H", 1, 3, 0, 0) + question
     for last in (4, 5):
         place = len(out)
@@ -103,6 +112,23 @@ def printed(tool, port, name, rtype, way):
     words = [tool, "@127.0.0.1", "-p", str(port), name, "-t", f"TYPE{TYPES[rtype]}", "+noall", "+answer", *way]
     text = subprocess.run(words, capture_output=True, text=True, timeout=30).stdout
     return [re.sub(r"\t\d+\t|\s+\d+\s+IN\s+", " ", line, count=1) for line in text.splitlines() if line and line[0] != ";"]
+
+
+def unread(port):
+    """Whether data that can't be read comes as it was sent, and is asked for each time."""
+    for rtype, data in UNREAD.items():
+        query = struct.pack(">6H", 4711, 0x0100, 1, 0, 0, 0) + b"\3cut\4good\4test\0" + struct.pack(">HH", rtype, 1)
+        with socket.socket(socket.AF_INET, socket.SOCK_DGRAM) as it:
+            it.connect(("127.0.0.1", port))
+            it.settimeout(5)
+            for turn in (1, 2):
+                it.send(query)
+                got = it.recv(4096)
+                if not got.endswith(struct.pack(">H", len(data)) + data) or ASKED.count(rtype) != turn:
+                    print(f"type {rtype}, asked {turn} times: the server was asked {ASKED.count(rtype)} times, and it came", got.hex(), sep="\n")
+                    return False
+    print(f"unread data of {len(UNREAD)} types came as it was sent, and was not kept")
+    return True
 
 
 def loaded(text):
@@ -160,6 +186,8 @@ def main():
                         print(f"{tool} {rtype} {' '.join(way)}, time {turn}: the server's answer and the forwarder's", wanted, got, sep="\n")
                         return 1
                     same += 1
+        if not unread(port):
+            return 1
     finally:
         forwarder.kill()
     print(f"{same} answers were the same")
