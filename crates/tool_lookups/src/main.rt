@@ -6,13 +6,18 @@
 //!
 //! `answer ANSWER` prints what an answer says of itself. `asked ANSWER` prints the questions of `addr`. `lookup A AAAA` looks a host up,
 //! `search SUFFIXES ANSWER..` searches it. `service SERVICE WORDS ANSWER` looks a service up, `resolve LISTING ANSWER..` its first
-//! server, and `merge LISTING LISTING` orders servers together. `late` stands for an answer that comes too late. A line that begins
-//! with `#`, or is empty, prints nothing.
+//! server, and `merge LISTING LISTING` orders servers together. `late` stands for an answer that comes too late.
+//!
+//! What a cache makes of messages: `view FROM TO CLEARS SECONDS MESSAGE` and `under MESSAGE` print as what one is given later, `validity
+//! TRUNCATED MESSAGE` for how long it may be kept, `key FLAGS DO MESSAGE` and `asking FLAGS DO MESSAGE` the key of a request, and `same`
+//! and `changed` whether two keys with a slash between them are the same. A line that begins with `#`, or is empty, prints nothing.
 #![tactic(auto)]
 
 mod answers;
 mod given;
 mod hosts;
+mod kept;
+mod keys;
 mod names;
 mod servers;
 mod services;
@@ -31,6 +36,20 @@ fn looked_up(alloc: Global, kind: &str, rest: &str) -> Option<String> {
         "service" => services::service_text(alloc, rest),
         "resolve" => services::resolved_text(alloc, rest),
         "merge" => services::merged_text(alloc, rest),
+        _ => kept_text(alloc, kind, rest),
+    }
+}
+
+/// What is printed of what a cache keeps.
+fn kept_text(alloc: Global, kind: &str, rest: &str) -> Option<String> {
+    match kind {
+        "view" => kept::view_text(alloc, rest),
+        "under" => kept::under_text(alloc, rest),
+        "validity" => kept::validity_text(alloc, rest),
+        "key" => keys::key_text(alloc, rest),
+        "asking" => keys::asking_text(alloc, rest),
+        "same" => keys::same_text(alloc, rest),
+        "changed" => keys::changed_text(alloc, rest),
         _ => None,
     }
 }
